@@ -1,0 +1,2 @@
+pub mod Tri
+pub mod Name

@@ -1,0 +1,44 @@
+ghost use Rattle.std.specs.Prelude.{◌≡◌, ◌≤◌, ◌<◌, IfOk, length};
+ghost use Rattle.std.specs.List.{All};
+ghost use Rattle.dft_base.specs.Name.{IsName};
+
+use std::alloc::{AllocError, Global};
+use std::marker::Model;
+
+/// The name of a net, a port, a cell, an instance or a signal: at least one byte, each of 33 to 126.
+/// A clause sees it as its bytes.
+#[derive(Debug, Drop)]
+pub struct Name {
+    bytes: Vec<u8>,
+}
+
+impl Model for Name {
+    ghost use Rattle.std.specs.Prelude.{List, ℕ};
+    ghost use Rattle.dft_base.specs.Name.{IsName};
+
+    ghost Value = { List ℕ };
+
+    ghost view = { λ n. n.bytes.items };
+
+    ghost invariant = { λ n. IsName n.bytes.items };
+}
+
+impl Name {
+    /// The name with these bytes.
+    pub fn from_slice(alloc: Global, bytes: &[u8]) -> Result<Name, AllocError>
+        requires { IsName bytes.now }
+        ensures { IfOk result (λ name. name ≡ bytes.now) }
+    {
+        Ok(Name {
+            bytes: Vec::from_slice(alloc, bytes)?,
+        })
+    }
+
+    /// Its bytes.
+    pub fn as_slice(&self) -> &[u8]
+        ensures bytes { result.now ≡ self.now }
+        ensures name { IsName self.now }
+    {
+        &self.bytes
+    }
+}
