@@ -1,0 +1,10 @@
+//! Cells: their kinds, what a pin is for, and what each kind's outputs are.
+#![tactic(auto)]
+
+mod cell;
+mod kind;
+mod laws;
+
+pub use cell::{Cell, CellId, Pin, Pins};
+pub use kind::{Kind, Role};
+pub use laws::{completions_are_above, next_values_are_above};
