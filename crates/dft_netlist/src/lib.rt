@@ -1,0 +1,12 @@
+//! Gate-level netlists: their parts, what drives each net, settled values, events and runs.
+#![tactic(auto)]
+
+mod ids;
+mod instance;
+mod pins;
+mod port;
+
+pub use ids::{InstanceId, NetId, PortId};
+pub use instance::{CellRef, Instance, Join, Signal};
+pub use pins::PinSignals;
+pub use port::{Dir, NetIds, Port};

@@ -1,0 +1,48 @@
+ghost use Rattle.std.specs.Prelude.{◌≡◌, ◌++◌, ◌∷◌, [], OnOk, OnErr};
+
+use crate::instance::Signal;
+use smallvec::SmallVec;
+use std::alloc::{AllocError, Global};
+use std::marker::Model;
+
+/// What the pins of an instance are joined to, in the order of its cell's pins. A clause sees it as a list.
+#[derive(Debug, Drop)]
+pub struct PinSignals {
+    signals: SmallVec<Signal, 6>,
+}
+
+impl Model for PinSignals {
+    ghost use Rattle.std.specs.Prelude.{List};
+    ghost use Rattle.dft_netlist.specs.declared.instance.Signal.{Signal};
+
+    ghost Value = { List Signal };
+
+    ghost view = { λ p. p.signals.items };
+}
+
+impl PinSignals {
+    /// No pin yet.
+    pub fn new(alloc: Global) -> PinSignals
+        ensures { result ≡ [] }
+    {
+        PinSignals {
+            signals: SmallVec::new(alloc),
+        }
+    }
+
+    /// Adds a pin at the end.
+    pub fn push(&mut self, signal: Signal) -> Result<(), AllocError>
+        ensures ok { OnOk result (self.new ≡ self.old ++ signal ∷ []) }
+        ensures err { OnErr result (self.new ≡ self.old) }
+    {
+        self.signals.push(signal)?;
+        Ok(())
+    }
+
+    /// What the pins are joined to.
+    pub fn as_slice(&self) -> &[Signal]
+        ensures { result.now ≡ self.now }
+    {
+        self.signals.as_slice()
+    }
+}

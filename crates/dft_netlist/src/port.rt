@@ -1,0 +1,65 @@
+ghost use Rattle.std.specs.Prelude.{◌≡◌, ◌++◌, ◌∷◌, [], OnOk, OnErr};
+
+use crate::ids::NetId;
+use dft_base::{Name, Range};
+use std::alloc::{AllocError, Global};
+use std::marker::Model;
+
+/// Which way a port goes (IEEE 1364 `input` and `output`).
+#[derive(Clone, Copy, Debug, PartialEq, Eq)]
+pub enum Dir {
+    Input,
+    Output,
+}
+
+/// Nets in order. A clause sees them as a list.
+#[derive(Debug, Drop)]
+pub struct NetIds {
+    nets: Vec<NetId>,
+}
+
+impl Model for NetIds {
+    ghost use Rattle.std.specs.Prelude.{List};
+    ghost use Rattle.dft_netlist.specs.declared.ids.NetId.{NetId};
+
+    ghost Value = { List NetId };
+
+    ghost view = { λ n. n.nets.items };
+}
+
+impl NetIds {
+    /// No net yet.
+    pub fn new(alloc: Global) -> NetIds
+        ensures { result ≡ [] }
+    {
+        NetIds {
+            nets: Vec::new(alloc),
+        }
+    }
+
+    /// Adds a net at the end.
+    pub fn push(&mut self, net: NetId) -> Result<(), AllocError>
+        ensures ok { OnOk result (self.new ≡ self.old ++ net ∷ []) }
+        ensures err { OnErr result (self.new ≡ self.old) }
+    {
+        self.nets.push(net)?;
+        Ok(())
+    }
+
+    /// The nets.
+    pub fn as_slice(&self) -> &[NetId]
+        ensures { result.now ≡ self.now }
+    {
+        &self.nets
+    }
+}
+
+/// A port of a design, with the nets of its bits, leftmost first.
+#[derive(Debug, Drop)]
+pub struct Port {
+    pub name: Name,
+    pub dir: Dir,
+    /// The range of a vector; a scalar port has none, and one bit.
+    pub range: Option<Range>,
+    pub bits: NetIds,
+}
