@@ -2,3 +2,8 @@ pub use Rattle.dft_base.specs.Tri
 pub use Rattle.dft_cells.specs.Gates
 pub use Rattle.dft_cells.specs.FlipFlops
 pub mod Netlist
+pub mod Drivers
+pub mod Traces
+pub mod Logic
+pub mod Settled
+pub mod Runs

@@ -1,0 +1,161 @@
+-- What a design does, for given clock ports and reset ports: what each net's bit is, and what each flip-flop takes.
+use Rattle.std.specs.Prelude.{ℕ, Bool, true, false, List, [], ◌∷◌, Option, None, Some, if◌then◌else◌}
+use Rattle.dft_cells.specs.declared.kind.Kind.{Kind}
+use Rattle.dft_cells.specs.declared.kind.Role.{Role}
+use Rattle.dft_cells.specs.declared.kind.Role.TheVariants as role
+use Rattle.dft_netlist.specs.Netlist.{Netlist}
+use Rattle.dft_netlist.specs.Drivers.{Source, Net, Tied, Loose, Driver, Connection, source_of, pins_of, driver, nets_of, AreBelow}
+use Rattle.dft_netlist.specs.Drivers as drivers
+use Rattle.dft_netlist.specs.Traces.{Root, Port, Constant, Other, root_of}
+
+-- which input ports' bits are clocks, and which are resets or sets, by their nets
+pub record Ports : Type 0 where
+  pub is_clock : ℕ → Bool
+  pub is_reset : ℕ → Bool
+
+-- ---- what the laws see
+
+pub data Meaning : Type 0 where
+  -- an input port's bit that is no clock
+  Input : Meaning
+  -- a clock port's bit
+  Clock : Meaning
+  Gate : (kind : Kind) → (inputs : List Source) → Meaning
+  Joined : (source : Source) → Meaning
+  -- a modelled flip-flop's bit, or its inverse
+  Flop : (cell : ℕ) → (inverted : Bool) → Meaning
+  -- a lock-up, by the net of the clock port that its clock traces to
+  Lockup : (domain : ℕ) → (source : Source) → Meaning
+  -- any bit at any moment
+  Free : Meaning
+
+-- a reset (value 0) or a set (value 1), by the net of the port that is 0 where it acts
+pub record Force : Type 0 where
+  pub port : ℕ
+  pub value : Bool
+
+pub record Scan : Type 0 where
+  pub enable : Source
+  pub input : Source
+
+-- a modelled flip-flop. Its domain is the net of the clock port that its clock traces to.
+pub record Cell : Type 0 where
+  pub domain : ℕ
+  pub input : Source
+  pub scan : Option Scan
+  pub force : Option Force
+
+-- The meaning of each net, and the flip-flop of each instance. An instance that is no modelled flip-flop has a cell that no net shows.
+pub record Logic : Type 0 where
+  pub net : ℕ → Meaning
+  pub cell : ℕ → Cell
+
+-- ---- what a design is for the laws
+
+abbrev pub same_role : Role → Role → Bool
+same_role role.Input role.Input = true
+same_role role.Clock role.Clock = true
+same_role role.Din role.Din = true
+same_role role.Reset role.Reset = true
+same_role role.Preset role.Preset = true
+same_role role.ScanIn role.ScanIn = true
+same_role role.ScanEnable role.ScanEnable = true
+same_role role.Output role.Output = true
+same_role role.Inverted role.Inverted = true
+same_role _ _ = false
+
+-- where the first pin of a role takes its bit from
+abbrev pub pin_of : Role → (instance : ℕ) → List Connection → Option Source
+pin_of r i [] = None
+pin_of r i (c ∷ cs) = if same_role r c.role then Some (source_of i c.pin c.to) else pin_of r i cs
+
+-- a pin that a cell has not is as one that is not connected
+abbrev pub or_loose : (instance : ℕ) → Option Source → Source
+or_loose i None = Loose i 0
+or_loose i (Some source) = source
+
+-- the clock port that a root is
+abbrev pub domain_of : Ports → Root → Option ℕ
+domain_of ports (Port net) = if ports.is_clock net then Some net else None
+domain_of ports (Constant bit) = None
+domain_of ports Other = None
+
+abbrev pub domain_at : Netlist → Ports → Option Source → Option ℕ
+domain_at n ports None = None
+domain_at n ports (Some source) = domain_of ports (root_of n source)
+
+-- What a reset or set is, by its root: None where it keeps its flip-flop from being modelled, Some None where it never acts.
+abbrev pub force_of : Ports → (value : Bool) → Root → Option (Option Force)
+force_of ports value (Port net) = if ports.is_reset net then Some (Some (record { port = net; value = value })) else None
+force_of ports value (Constant true) = Some None
+force_of ports value (Constant false) = None
+force_of ports value Other = None
+
+-- the reset of a flip-flop, or its set, if it has one
+abbrev pub forcing : Netlist → Ports → (reset preset : Option Source) → Option (Option Force)
+forcing n ports (Some reset) preset = force_of ports false (root_of n reset)
+forcing n ports None (Some preset) = force_of ports true (root_of n preset)
+forcing n ports None None = Some None
+
+abbrev pub scan_of : (enable input : Option Source) → Option Scan
+scan_of (Some enable) (Some input) = Some (record { enable = enable; input = input })
+scan_of (Some enable) None = None
+scan_of None input = None
+
+-- a flip-flop is modelled where its clock traces to a clock port, and its reset or set to a reset port or to constant 1
+abbrev pub modelled : Option ℕ → Option (Option Force) → (input : Source) → Option Scan → Option Cell
+modelled (Some domain) (Some force) input scan = Some (record { domain = domain; input = input; scan = scan; force = force })
+modelled (Some domain) None input scan = None
+modelled None force input scan = None
+
+abbrev pub flip_flop : Netlist → Ports → (instance : ℕ) → Option Cell
+flip_flop n ports i =
+    let pins = pins_of n i in
+    modelled (domain_at n ports (pin_of role.Clock i pins)) (forcing n ports (pin_of role.Reset i pins) (pin_of role.Preset i pins))
+    (or_loose i (pin_of role.Din i pins)) (scan_of (pin_of role.ScanEnable i pins) (pin_of role.ScanIn i pins))
+
+-- the cell of an instance that is no modelled flip-flop
+abbrev pub no_cell : (instance : ℕ) → Cell
+no_cell i = record { domain = 0; input = Loose i 0; scan = None; force = None }
+
+abbrev pub cell_or_none : (instance : ℕ) → Option Cell → Cell
+cell_or_none i None = no_cell i
+cell_or_none i (Some cell) = cell
+
+abbrev pub flop_meaning : (instance : ℕ) → (inverted : Bool) → Option Cell → Meaning
+flop_meaning i inverted None = Free
+flop_meaning i inverted (Some cell) = Flop i inverted
+
+abbrev pub lockup_meaning : Option ℕ → Source → Meaning
+lockup_meaning None source = Free
+lockup_meaning (Some domain) source = Lockup domain source
+
+abbrev pub meaning_of : Netlist → Ports → (net : ℕ) → Driver → Meaning
+meaning_of n ports net drivers.Input = if ports.is_clock net then Clock else Input
+meaning_of n ports net (drivers.Gate kind inputs) = Gate kind inputs
+meaning_of n ports net (drivers.Joined source) = Joined source
+meaning_of n ports net (drivers.Flop i inverted) = flop_meaning i inverted (flip_flop n ports i)
+meaning_of n ports net (drivers.Lockup i) = lockup_meaning (domain_at n ports (pin_of role.Clock i (pins_of n i))) (or_loose i (pin_of role.Din i (pins_of n i)))
+meaning_of n ports net drivers.Free = Free
+
+abbrev pub logic_of : Netlist → Ports → Logic
+logic_of n ports = record {
+  net = λ net. meaning_of n ports net (driver n net);
+  cell = λ i. cell_or_none i (flip_flop n ports i);
+}
+
+-- ---- an order of the nets of a logic
+
+-- the nets that a net's bit is settled from
+abbrev pub reads : Meaning → List ℕ
+reads Input = []
+reads Clock = []
+reads (Gate kind inputs) = nets_of inputs
+reads (Joined source) = nets_of (source ∷ [])
+reads (Flop cell inverted) = []
+reads (Lockup domain source) = nets_of (source ∷ [])
+reads Free = []
+
+-- each net stands after those that it is settled from
+abbrev pub IsRanked : Logic → (rank : ℕ → ℕ) → Type 0
+IsRanked l rank = (net : ℕ) → AreBelow rank (rank net) (reads (l.net net))
