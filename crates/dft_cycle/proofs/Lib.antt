@@ -1,0 +1,3 @@
+pub mod Strobe
+pub mod Pulses
+pub mod Turns
