@@ -1,2 +1,5 @@
 pub mod Meanings
 pub mod Steps
+pub mod Ranks
+pub mod OneSettled
+pub mod Walks

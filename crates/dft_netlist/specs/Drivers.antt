@@ -1,5 +1,5 @@
 -- What drives each net of a design.
-use Rattle.std.specs.Prelude.{ℕ, zero, suc, ◌+◌, ◌<◌, Bool, true, false, List, [], ◌∷◌, ◌++◌, Option, None, Some, map, slice_get, if◌then◌else◌, ◌==◌}
+use Rattle.std.specs.Prelude.{ℕ, zero, suc, ◌+◌, ◌<◌, ◌≤◌, length, Bool, true, false, List, [], ◌∷◌, ◌++◌, Option, None, Some, map, slice_get, if◌then◌else◌, ◌==◌}
 use Rattle.dft_cells.specs.declared.kind.Kind.{Kind}
 use Rattle.dft_cells.specs.declared.kind.Kind.TheVariants.{Buf, Inv, And, Nand, Or, Nor, Xor, Xnor, Mux2, Table, Tie0, Tie1, Dff, Dffr, Dffs, Sdff, Sdffr, Sdffs, Opaque}
 use Rattle.dft_cells.specs.declared.kind.Kind.TheVariants as kind
@@ -229,6 +229,7 @@ abbrev pub AreBelow : (rank : ℕ → ℕ) → ℕ → List ℕ → Type 0
 AreBelow rank r [] = Unit {0}
 AreBelow rank r (net ∷ nets) = (rank net < r) × AreBelow rank r nets
 
--- an order of the nets: each stands after the nets that its driver reads
-abbrev pub IsOrdered : Netlist → (rank : ℕ → ℕ) → Type 0
-IsOrdered n rank = (net : ℕ) → AreBelow rank (rank net) (nets_read n (driver n net))
+-- an order of the nets, by the place of each: it stands after the nets that its driver reads
+pub record IsOrdered (n : Netlist) (rank : ℕ → ℕ) : Type 0 where
+  pub after : (net : ℕ) → AreBelow rank (rank net) (nets_read n (driver n net))
+  pub within : (net : ℕ) → rank net ≤ length n.nets

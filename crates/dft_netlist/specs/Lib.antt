@@ -7,3 +7,4 @@ pub mod Traces
 pub mod Logic
 pub mod Settled
 pub mod Runs
+pub mod Laws

@@ -3,10 +3,12 @@
 
 mod ids;
 mod instance;
+mod laws;
 mod pins;
 mod port;
 
 pub use ids::{InstanceId, NetId, PortId};
 pub use instance::{CellRef, Instance, Join, Signal};
+pub use laws::{settled_is_one, traces_are_exact};
 pub use pins::PinSignals;
 pub use port::{Dir, NetIds, Port};

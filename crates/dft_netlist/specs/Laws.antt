@@ -1,0 +1,34 @@
+-- Laws of designs: an order gives one settled assignment, and walks find the roots.
+use Rattle.std.specs.Prelude.{ℕ, Bool, ◌≡◌}
+use Rattle.dft_base.specs.declared.tri.Tri.{Tri}
+use Rattle.dft_netlist.specs.Netlist.{Netlist}
+use Rattle.dft_netlist.specs.Drivers.{Source, Net, IsOrdered}
+use Rattle.dft_netlist.specs.Traces.{Root, Port, Constant, Traces, root_of}
+use Rattle.dft_netlist.specs.Logic.{Logic, Ports, logic_of, IsRanked}
+use Rattle.dft_netlist.specs.Settled.{Sources, bit_from, IsSettled}
+
+-- An order of a design's nets is one of what they mean, whatever its clock and reset ports.
+abbrev pub OrderIsRank : Type 0
+OrderIsRank = (n : Netlist) (ports : Ports) (rank : ℕ → ℕ) → IsOrdered n rank → IsRanked (logic_of n ports) rank
+
+-- There is exactly one settled assignment.
+abbrev pub SettledIsOne : Type 0
+SettledIsOne = (l : Logic) (rank : ℕ → ℕ) (s : Sources) → IsRanked l rank →
+    (bits : ℕ → Bool) × (IsSettled l s bits × ((others : ℕ → Bool) → IsSettled l s others → (net : ℕ) → others net ≡ bits net))
+
+-- The walk back gives the root that a source traces to, and a root that it gives is one.
+abbrev pub WalkFindsRoot : Type 0
+WalkFindsRoot = (n : Netlist) (rank : ℕ → ℕ) (source : Source) (root : Root) → IsOrdered n rank → Traces n source root → root_of n source ≡ root
+
+abbrev pub PortIsFound : Type 0
+PortIsFound = (n : Netlist) (source : Source) (net : ℕ) → root_of n source ≡ Port net → Traces n source (Port net)
+
+abbrev pub ConstantIsFound : Type 0
+ConstantIsFound = (n : Netlist) (source : Source) (bit : Bool) → root_of n source ≡ Constant bit → Traces n source (Constant bit)
+
+-- What traces to a port has the port's bit, and what traces to a constant is it.
+abbrev pub TracedBit : Type 0
+TracedBit = (n : Netlist) (ports : Ports) (s : Sources) (bits : ℕ → Bool) (source : Source) (net : ℕ) → IsSettled (logic_of n ports) s bits → Traces n source (Port net) → bit_from s bits source ≡ bits net
+
+abbrev pub TracedConstant : Type 0
+TracedConstant = (n : Netlist) (ports : Ports) (s : Sources) (bits : ℕ → Bool) (source : Source) (bit : Bool) → IsSettled (logic_of n ports) s bits → Traces n source (Constant bit) → bit_from s bits source ≡ bit

@@ -1,0 +1,18 @@
+//! Laws about designs, as contracts of functions that do nothing.
+
+ghost use Rattle.dft_netlist.specs.Laws.{OrderIsRank, SettledIsOne, WalkFindsRoot, PortIsFound, ConstantIsFound, TracedBit, TracedConstant};
+
+/// A design with an order has exactly one settled assignment for given sources.
+pub fn settled_is_one()
+    ensures order { OrderIsRank }
+    ensures one { SettledIsOne }
+{}
+
+/// Walks back find the roots that nets trace to, and what traces to a port has its bit.
+pub fn traces_are_exact()
+    ensures finds { WalkFindsRoot }
+    ensures port { PortIsFound }
+    ensures constant { ConstantIsFound }
+    ensures bit { TracedBit }
+    ensures constant_bit { TracedConstant }
+{}
