@@ -1,0 +1,121 @@
+ghost use Rattle.std.specs.Prelude.{◌≡◌, [], Some, OnOk, OnErr, option_map, string_bytes};
+ghost use Rattle.std.specs.List.{position};
+ghost use Rattle.std.specs.Str.{bytes_eq};
+ghost use Rattle.dft_base.specs.Outside.{file_at};
+ghost use Rattle.dft_base.specs.Entries.{held_of};
+ghost use Rattle.dft_base.specs.Store.{with_file, called, read_failed, write_failed, Loads, Saves};
+ghost use Rattle.dft_base.specs.Store as store;
+
+use crate::failing::{Failing, kept_at};
+use crate::outside::{LoadError, SaveError};
+use std::alloc::{AllocError, Global};
+use std::marker::Model;
+
+/// Files in memory that tell what they hold, with calls that fail on demand.
+#[derive(Drop)]
+pub struct MemoryFiles {
+    entries: Vec<(String, Vec<u8>)>,
+    failing: Vec<Failing>,
+    calls: u64,
+    failed: String,
+    read_faults: u64,
+    write_faults: u64,
+    taken: u64,
+}
+
+impl Model for MemoryFiles {
+    ghost use Rattle.dft_base.specs.Store.{Store};
+
+    ghost Value = { Store };
+
+    ghost use Rattle.dft_base.specs.StoreShown.{store_of};
+
+    ghost view = { store_of };
+}
+
+impl MemoryFiles {
+    /// Files with these entries. The calls of load and save are counted together, from 0, and those of `failing` fail.
+    pub fn new(alloc: Global, entries: Vec<(String, Vec<u8>)>, failing: Vec<Failing>) -> MemoryFiles
+        ensures held { result.held ≡ held_of entries.items }
+        ensures failing { result.failing ≡ failing.items }
+        ensures calls { result.calls ≡ 0 }
+        ensures failed { result.failed ≡ [] }
+        ensures read_faults { result.read_faults ≡ 0 }
+        ensures write_faults { result.write_faults ≡ 0 }
+        ensures taken { result.taken ≡ 0 }
+    {
+        MemoryFiles {
+            entries,
+            failing,
+            calls: 0,
+            failed: String::new(alloc),
+            read_faults: 0,
+            write_faults: 0,
+            taken: 0,
+        }
+    }
+
+    /// The bytes of the file of this name, where it is held.
+    pub fn file(&self, name: &str) -> Option<&[u8]>
+        ensures { option_map (λ b. b.now) result ≡ file_at name.now self.now.held }
+    {
+        for entry in self.entries.iter() {
+            if name == entry.0.as_str() {
+                return Some(entry.1.as_slice());
+            }
+        }
+        None
+    }
+}
+
+// The parts of a call. Each changes what the model shows in one way.
+impl MemoryFiles {
+    // Counts a call, and says how many bytes it keeps where it is to fail.
+    fn count_call(&mut self) -> Option<u32>
+        ensures kept { result ≡ store.kept_at self.old.failing self.old.calls }
+        ensures counted { self.new ≡ called self.old }
+    {
+        let kept = kept_at(&self.failing, self.calls);
+        self.calls = self.calls.saturating_add(1);
+        kept
+    }
+
+    // Notes that a load of this name failed.
+    fn note_load(&mut self, name: String) -> LoadError
+        ensures error { result ≡ LoadError.Failed }
+        ensures noted { self.new ≡ read_failed (string_bytes name) self.old }
+    {
+        self.failed = name;
+        self.read_faults = self.read_faults.saturating_add(1);
+        LoadError::Failed
+    }
+
+    // Notes that a save of this name failed.
+    fn note_save(&mut self, name: String) -> SaveError
+        ensures error { result ≡ SaveError.Failed }
+        ensures noted { self.new ≡ write_failed (string_bytes name) self.old }
+    {
+        self.failed = name;
+        self.write_faults = self.write_faults.saturating_add(1);
+        SaveError::Failed
+    }
+}
+
+// The place of the first entry of this name.
+fn place_of(entries: &[(String, Vec<u8>)], name: &str) -> Option<usize>
+    ensures { result ≡ position (λ e. bytes_eq name.now (string_bytes e.0)) entries.entry.now }
+{
+    entries.iter().position(|e| name == e.0.as_str())
+}
+
+// Puts the bytes at the name, in place of its file or behind the others.
+fn put_file(entries: &mut Vec<(String, Vec<u8>)>, name: String, bytes: Vec<u8>) -> Result<(), AllocError>
+    ensures ok { OnOk result (held_of entries.new.items ≡ with_file (string_bytes name) bytes.items (held_of entries.old.items)) }
+    ensures err { OnErr result (entries.new.items ≡ entries.old.items) }
+{
+    match place_of(entries, name.as_str()) {
+        Some(at) => entries[at].1 = bytes,
+        None => entries.push((name, bytes))?,
+    }
+    Ok(())
+}
