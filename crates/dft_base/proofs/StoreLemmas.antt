@@ -90,3 +90,6 @@ pub held_of-push : (name bytes : List ℕ) (entries : List Entry) → position (
     → held_of entries ++ (name, bytes) ∷ [] ≡ with_file name bytes (held_of entries)
 held_of-push name bytes entries none =
     sym (with_file-push name bytes entries 0 (sym (position_from-zero (has_name name) entries) ∙ none))
+
+-- what new bytes at a name mean for it and for the others
+pub ruleset saves = (file_at-with_file, KeepsOthers-with_file)

@@ -1,5 +1,5 @@
 -- Files in memory, with calls that fail on demand.
-use Rattle.std.specs.Prelude.{◌≡◌, ◌==◌, ◌+◌, ◌-◌, ◌^◌, ◌<◌, ◌⊎◌, ℕ, min, List, [], ◌∷◌, length, take, find, Bool, if◌then◌else◌, Option, Some, None, option_map, IsSome, IsSomeAnd, Result, Ok, Err, Vec}
+use Rattle.std.specs.Prelude.{◌≡◌, ◌==◌, ◌+◌, ◌-◌, ◌^◌, ◌<◌, ◌≤◌, ◌⊎◌, ℕ, min, List, [], ◌∷◌, length, take, find, Bool, if◌then◌else◌, Option, Some, None, option_map, IsSome, IsSomeAnd, Result, Ok, Err, Vec}
 use Rattle.std.specs.Str.{bytes_eq}
 use Rattle.std.specs.declared.alloc.Global.{Global}
 use Rattle.dft_base.specs.declared.failing.Failing.{Failing}
@@ -55,7 +55,8 @@ left name bytes s = record s { held = with_file name bytes s.held }
 -- a load fails exactly where it is to fail or the name is not held, and reads the file in all other calls
 abbrev pub Loads : List ℕ → ℕ → Store → Result (Vec ℕ Global) LoadError → Store → Type 0
 Loads name limit old (Ok v) new =
-    (kept_at old.failing old.calls ≡ None) × (file_at name old.held ≡ Some v.items) × (new ≡ took v.items (called old))
+    (kept_at old.failing old.calls ≡ None) × (file_at name old.held ≡ Some v.items)
+    × (length v.items ≤ limit) × (new ≡ took v.items (called old))
 Loads name limit old (Err load.TooLong) new =
     (kept_at old.failing old.calls ≡ None) × IsSomeAnd (file_at name old.held) (λ b. limit < length b) × (new ≡ called old)
 Loads name limit old (Err load.Failed) new =

@@ -1,13 +1,13 @@
-ghost use Rattle.std.specs.Prelude.{◌≡◌, [], Some, OnOk, OnErr, option_map, string_bytes};
+ghost use Rattle.std.specs.Prelude.{◌≡◌, ◌≤◌, [], Some, Err, OnOk, OnErr, option_map, string_bytes};
 ghost use Rattle.std.specs.List.{position};
 ghost use Rattle.std.specs.Str.{bytes_eq};
-ghost use Rattle.dft_base.specs.Outside.{file_at};
+ghost use Rattle.dft_base.specs.Outside.{KeepsOthers, LeavesPart, file_at};
 ghost use Rattle.dft_base.specs.Entries.{held_of};
-ghost use Rattle.dft_base.specs.Store.{with_file, called, read_failed, write_failed, Loads, Saves};
+ghost use Rattle.dft_base.specs.Store.{with_file, called, read_failed, write_failed, left, Loads, Saves};
 ghost use Rattle.dft_base.specs.Store as store;
 
 use crate::failing::{Failing, kept_at};
-use crate::outside::{LoadError, SaveError};
+use crate::outside::{Files, LoadError, SaveError};
 use std::alloc::{AllocError, Global};
 use std::marker::Model;
 
@@ -68,6 +68,59 @@ impl MemoryFiles {
     }
 }
 
+impl Files for MemoryFiles {
+    ghost held = { λ f. Some f.held };
+
+    ghost read_faults = { λ f. f.read_faults };
+
+    ghost write_faults = { λ f. f.write_faults };
+
+    ghost failed = { λ f. f.failed };
+
+    ghost taken = { λ f. f.taken };
+
+    fn load(&mut self, alloc: Global, name: &str, limit: u32) -> Result<Vec<u8>, LoadError>
+        ensures loads { Loads name.now limit self.old result self.new }
+        ensures read_faults { self.old.read_faults ≤ self.new.read_faults }
+        ensures taken { self.old.taken ≤ self.new.taken }
+    {
+        let kept = self.count_call();
+        let own_name = String::from_str(alloc, name)?;
+        if kept.is_some() {
+            return Err(self.note_load(own_name));
+        }
+        let bytes = match self.file(name) {
+            Some(bytes) => bytes.to_vec(alloc)?,
+            None => return Err(self.note_load(own_name)),
+        };
+        if bytes.len() > limit as usize {
+            return Err(LoadError::TooLong);
+        }
+        self.taken = self.taken.saturating_add(bytes.len() as u64);
+        Ok(bytes)
+    }
+
+    #[tactic(auto, using(crate::proofs::StoreLemmas::saves))]
+    fn save(&mut self, alloc: Global, name: &str, bytes: &[u8]) -> Result<(), SaveError>
+        ensures saves { Saves name.now bytes.now self.old result self.new }
+        ensures saved { OnOk result (file_at name.now self.new.held ≡ Some bytes.now) }
+        ensures others { KeepsOthers name.now self.old.held self.new.held }
+        ensures part { result ≡ Err SaveError.Failed →
+            LeavesPart bytes.now (file_at name.now self.old.held) (file_at name.now self.new.held) }
+        ensures write_faults { self.old.write_faults ≤ self.new.write_faults }
+    {
+        let kept = self.count_call();
+        let own_name = String::from_str(alloc, name)?;
+        let Some(kept) = kept else {
+            self.leave(alloc, name, bytes)?;
+            return Ok(());
+        };
+        let kept = bytes.len().min(kept as usize);
+        self.leave(alloc, name, &bytes[..kept])?;
+        Err(self.note_save(own_name))
+    }
+}
+
 // The parts of a call. Each changes what the model shows in one way.
 impl MemoryFiles {
     // Counts a call, and says how many bytes it keeps where it is to fail.
@@ -84,6 +137,7 @@ impl MemoryFiles {
     fn note_load(&mut self, name: String) -> LoadError
         ensures error { result ≡ LoadError.Failed }
         ensures noted { self.new ≡ read_failed (string_bytes name) self.old }
+        ensures grows { self.old.read_faults ≤ self.new.read_faults }
     {
         self.failed = name;
         self.read_faults = self.read_faults.saturating_add(1);
@@ -94,10 +148,21 @@ impl MemoryFiles {
     fn note_save(&mut self, name: String) -> SaveError
         ensures error { result ≡ SaveError.Failed }
         ensures noted { self.new ≡ write_failed (string_bytes name) self.old }
+        ensures grows { self.old.write_faults ≤ self.new.write_faults }
     {
         self.failed = name;
         self.write_faults = self.write_faults.saturating_add(1);
         SaveError::Failed
+    }
+
+    // Puts these bytes at the name.
+    fn leave(&mut self, alloc: Global, name: &str, bytes: &[u8]) -> Result<(), AllocError>
+        ensures ok { OnOk result (self.new ≡ left name.now bytes.now self.old) }
+        ensures err { OnErr result (self.new ≡ self.old) }
+    {
+        let name = String::from_str(alloc, name)?;
+        let bytes = bytes.to_vec(alloc)?;
+        put_file(&mut self.entries, name, bytes)
     }
 }
 

@@ -33,6 +33,36 @@ pub enum PutError {
     Memory(AllocError),
 }
 
+impl From<AllocError> for LoadError {
+    ghost use Rattle.dft_base.specs.declared.outside.LoadError.TheVariants.{Memory};
+
+    ghost from_gives = { λ a e. e ≡ Memory a };
+
+    fn from(error: AllocError) -> LoadError {
+        LoadError::Memory(error)
+    }
+}
+
+impl From<AllocError> for SaveError {
+    ghost use Rattle.dft_base.specs.declared.outside.SaveError.TheVariants.{Memory};
+
+    ghost from_gives = { λ a e. e ≡ Memory a };
+
+    fn from(error: AllocError) -> SaveError {
+        SaveError::Memory(error)
+    }
+}
+
+impl From<AllocError> for PutError {
+    ghost use Rattle.dft_base.specs.declared.outside.PutError.TheVariants.{Memory};
+
+    ghost from_gives = { λ a e. e ≡ Memory a };
+
+    fn from(error: AllocError) -> PutError {
+        PutError::Memory(error)
+    }
+}
+
 /// Named files. An implementation tells what files it holds, or tells nothing of them.
 /// It counts its failed calls, each count up to the last value of a u64.
 pub trait Files {
