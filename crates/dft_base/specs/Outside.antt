@@ -1,5 +1,5 @@
 -- Named files outside the program, and the counts of what failed there.
-use Rattle.std.specs.Prelude.{◌≡◌, ◌+◌, ◌-◌, ◌^◌, ◌≤◌, ◌⊎◌, ℕ, min, List, take, Bool, false, Result, Ok, Err, Option, Some, None, Vec}
+use Rattle.std.specs.Prelude.{◌≡◌, ◌+◌, ◌-◌, ◌^◌, ◌≤◌, ◌⊎◌, ℕ, min, List, [], ◌∷◌, take, Bool, false, Result, Ok, Err, Option, Some, None, Vec}
 use Rattle.std.specs.Map.{lookup}
 use Rattle.std.specs.Str.{bytes_eq}
 use Rattle.std.specs.declared.alloc.Global.{Global}
@@ -13,6 +13,11 @@ Held = List (List ℕ × List ℕ)
 -- the bytes of the file of this name, where one is held
 abbrev pub file_at : List ℕ → Held → Option (List ℕ)
 file_at name held = lookup (bytes_eq name) held
+
+-- no name is there twice
+abbrev pub HasDistinctNames : Held → Type 0
+HasDistinctNames [] = Unit {0}
+HasDistinctNames (e ∷ es) = (file_at e.0 es ≡ None) × HasDistinctNames es
 
 -- every other name has its file as before
 abbrev pub KeepsOthers : List ℕ → Held → Held → Type 0

@@ -6,6 +6,8 @@ mod memory_files;
 mod name;
 mod outside;
 mod place;
+#[cfg(test)]
+mod tests;
 mod tri;
 
 pub use failing::Failing;

@@ -1,7 +1,7 @@
-ghost use Rattle.std.specs.Prelude.{◌≡◌, ◌≤◌, [], Some, Err, OnOk, OnErr, option_map, string_bytes};
+ghost use Rattle.std.specs.Prelude.{◌≡◌, ◌≤◌, [], Some, Err, OnOk, OnErr, IsSome, option_map, string_bytes};
 ghost use Rattle.std.specs.List.{position};
 ghost use Rattle.std.specs.Str.{bytes_eq};
-ghost use Rattle.dft_base.specs.Outside.{KeepsOthers, LeavesPart, file_at};
+ghost use Rattle.dft_base.specs.Outside.{HasDistinctNames, KeepsOthers, LeavesPart, file_at};
 ghost use Rattle.dft_base.specs.Entries.{held_of};
 ghost use Rattle.dft_base.specs.Store.{with_file, called, read_failed, write_failed, left, Loads, Saves};
 ghost use Rattle.dft_base.specs.Store as store;
@@ -36,6 +36,7 @@ impl Model for MemoryFiles {
 impl MemoryFiles {
     /// Files with these entries. The calls of load and save are counted together, from 0, and those of `failing` fail.
     pub fn new(alloc: Global, entries: Vec<(String, Vec<u8>)>, failing: Vec<Failing>) -> MemoryFiles
+        requires { HasDistinctNames (held_of entries.items) }
         ensures held { result.held ≡ held_of entries.items }
         ensures failing { result.failing ≡ failing.items }
         ensures calls { result.calls ≡ 0 }
@@ -83,6 +84,7 @@ impl Files for MemoryFiles {
         ensures loads { Loads name.now limit self.old result self.new }
         ensures read_faults { self.old.read_faults ≤ self.new.read_faults }
         ensures taken { self.old.taken ≤ self.new.taken }
+        ensures none_failing { self.old.failing ≡ [] → IsSome (file_at name.now self.old.held) → self.new.read_faults ≡ self.old.read_faults }
     {
         let kept = self.count_call();
         let own_name = String::from_str(alloc, name)?;
@@ -108,6 +110,7 @@ impl Files for MemoryFiles {
         ensures part { result ≡ Err SaveError.Failed →
             LeavesPart bytes.now (file_at name.now self.old.held) (file_at name.now self.new.held) }
         ensures write_faults { self.old.write_faults ≤ self.new.write_faults }
+        ensures none_failing { self.old.failing ≡ [] → self.new.write_faults ≡ self.old.write_faults }
     {
         let kept = self.count_call();
         let own_name = String::from_str(alloc, name)?;
