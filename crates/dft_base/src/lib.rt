@@ -6,6 +6,7 @@ mod memory_files;
 mod name;
 mod outside;
 mod place;
+mod sinks;
 #[cfg(test)]
 mod tests;
 mod tri;
@@ -15,4 +16,5 @@ pub use memory_files::MemoryFiles;
 pub use name::Name;
 pub use outside::{Files, LoadError, PutError, SaveError, Sink};
 pub use place::{Place, Range};
+pub use sinks::{MemorySink, NeverFails};
 pub use tri::Tri;
