@@ -1,2 +1,10 @@
 pub mod Tri
 pub mod Name
+pub mod Outside
+pub mod Put
+pub mod Basin
+pub mod BasinShown
+pub mod Entries
+pub mod Store
+pub mod StoreShown
+pub mod Parser

@@ -1,10 +1,20 @@
 //! What every crate of the tool speaks of: three-valued bits, names, places in texts, and the outside.
 #![tactic(auto)]
 
+mod failing;
+mod memory_files;
 mod name;
+mod outside;
 mod place;
+mod sinks;
+#[cfg(test)]
+mod tests;
 mod tri;
 
+pub use failing::Failing;
+pub use memory_files::MemoryFiles;
 pub use name::Name;
+pub use outside::{Files, LoadError, PutError, SaveError, Sink};
 pub use place::{Place, Range};
+pub use sinks::{MemorySink, NeverFails};
 pub use tri::Tri;
