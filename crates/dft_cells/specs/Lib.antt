@@ -5,3 +5,4 @@ pub mod FlipFlops
 pub mod Laws
 pub mod Standard
 pub mod Cells
+pub mod WellFormed

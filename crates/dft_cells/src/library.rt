@@ -1,6 +1,7 @@
-ghost use Rattle.std.specs.Prelude.{◌≡◌, ◌<◌, ◌≤◌, IfOk, MatchOption, Some, length, slice_get};
+ghost use Rattle.std.specs.Prelude.{◌≡◌, ◌<◌, ◌≤◌, IfOk, IsSome, MatchOption, Some, length, slice_get};
 ghost use Rattle.dft_cells.specs.Cells.{find_cell, NoneNamed, IsNamed, NoneBefore, IsFirstOf};
 ghost use Rattle.dft_cells.specs.Standard.{standard_cells};
+ghost use Rattle.dft_cells.specs.WellFormed.{IsWellFormed};
 
 use crate::cell::{Cell, CellId};
 use crate::kind::Kind;
@@ -18,15 +19,15 @@ pub struct Library {
 }
 
 impl Model for Library {
-    ghost use Rattle.std.specs.Prelude.{List, ◌≤◌, length};
+    ghost use Rattle.std.specs.Prelude.{List};
     ghost use Rattle.dft_cells.specs.declared.cell.Cell.{Cell};
-    ghost use Rattle.dft_cells.specs.declared.library.TheConstants.{MAX_CELLS};
+    ghost use Rattle.dft_cells.specs.WellFormed.{IsWellFormed};
 
     ghost Value = { List Cell };
 
     ghost view = { λ l. l.cells.items };
 
-    ghost invariant = { λ l. length l.cells.items ≤ MAX_CELLS };
+    ghost invariant = { λ l. IsWellFormed l.cells.items };
 }
 
 impl Library {
@@ -34,23 +35,23 @@ impl Library {
     pub fn standard(alloc: Global) -> Result<Library, AllocError>
         ensures { IfOk result (λ library. library ≡ standard_cells) }
     {
-        let mut cells = Vec::new(alloc);
-        standard::add_and_gates(alloc, &mut cells)?;
-        standard::add_buffer_and_clock_gate(alloc, &mut cells)?;
-        standard::add_flip_flops(alloc, &mut cells)?;
-        standard::add_inverter_to_mux(alloc, &mut cells)?;
-        standard::add_nand_gates(alloc, &mut cells)?;
-        standard::add_nor_gates(alloc, &mut cells)?;
-        standard::add_or_gates(alloc, &mut cells)?;
-        standard::add_scan_flip_flops(alloc, &mut cells)?;
-        standard::add_tie_to_xor(alloc, &mut cells)?;
+        let cells = standard::cells(alloc)?;
         Ok(Library { cells })
+    }
+
+    /// All cells.
+    pub fn cells(&self) -> &[Cell]
+        ensures cells { result.now ≡ self.now }
+        ensures well_formed { IsWellFormed self.now }
+    {
+        &self.cells
     }
 
     /// The cell with this name.
     pub fn find(&self, name: &[u8]) -> Option<CellId>
         ensures value { result ≡ find_cell self.now name.now }
         ensures named { MatchOption result (NoneNamed self.now name.now) (IsNamed self.now name.now) }
+        ensures well_formed { IsWellFormed self.now }
     {
         find_in(&self.cells, name)
     }
@@ -58,14 +59,18 @@ impl Library {
     /// The cell of this number.
     pub fn cell(&self, id: CellId) -> &Cell
         requires { id.0 < length self.now }
-        ensures { slice_get self.now id.0 ≡ Some result.now }
+        ensures cell { slice_get self.now id.0 ≡ Some result.now }
+        ensures well_formed { IsWellFormed self.now }
     {
         &self.cells[id.0 as usize]
     }
 
     /// The first cell of this kind, in byte order of the names.
     pub fn first_of(&self, kind: Kind) -> Option<CellId>
-        ensures { MatchOption result (NoneBefore self.now kind (length self.now)) (IsFirstOf self.now kind) }
+        ensures first { MatchOption result (NoneBefore self.now kind (length self.now)) (IsFirstOf self.now kind) }
+        ensures dff { kind ≡ Kind.Dff → IsSome result }
+        ensures lockup { kind ≡ Kind.Lockup → IsSome result }
+        ensures well_formed { IsWellFormed self.now }
     {
         first_in(&self.cells, kind)
     }

@@ -120,8 +120,25 @@ fn lockup(alloc: Global) -> Result<Cell, AllocError>
     cell(alloc, b"LOCKUP", Kind::Lockup, pins, None)
 }
 
+/// All standard cells.
+pub fn cells(alloc: Global) -> Result<Vec<Cell>, AllocError>
+    ensures { IfOk result (λ cells. cells.items ≡ spec.standard_cells) }
+{
+    let mut cells = Vec::new(alloc);
+    add_and_gates(alloc, &mut cells)?;
+    add_buffer_and_clock_gate(alloc, &mut cells)?;
+    add_flip_flops(alloc, &mut cells)?;
+    add_inverter_to_mux(alloc, &mut cells)?;
+    add_nand_gates(alloc, &mut cells)?;
+    add_nor_gates(alloc, &mut cells)?;
+    add_or_gates(alloc, &mut cells)?;
+    add_scan_flip_flops(alloc, &mut cells)?;
+    add_tie_to_xor(alloc, &mut cells)?;
+    Ok(cells)
+}
+
 /// Adds AND2 to AND4.
-pub fn add_and_gates(alloc: Global, cells: &mut Vec<Cell>) -> Result<(), AllocError>
+fn add_and_gates(alloc: Global, cells: &mut Vec<Cell>) -> Result<(), AllocError>
     ensures { OnOk result (cells.new.items ≡ cells.old.items ++ spec.and_gates) }
 {
     cells.push(gate(alloc, b"AND2", Kind::And, b"AB")?)?;
@@ -131,7 +148,7 @@ pub fn add_and_gates(alloc: Global, cells: &mut Vec<Cell>) -> Result<(), AllocEr
 }
 
 /// Adds NAND2 to NAND4.
-pub fn add_nand_gates(alloc: Global, cells: &mut Vec<Cell>) -> Result<(), AllocError>
+fn add_nand_gates(alloc: Global, cells: &mut Vec<Cell>) -> Result<(), AllocError>
     ensures { OnOk result (cells.new.items ≡ cells.old.items ++ spec.nand_gates) }
 {
     cells.push(gate(alloc, b"NAND2", Kind::Nand, b"AB")?)?;
@@ -141,7 +158,7 @@ pub fn add_nand_gates(alloc: Global, cells: &mut Vec<Cell>) -> Result<(), AllocE
 }
 
 /// Adds NOR2 to NOR4.
-pub fn add_nor_gates(alloc: Global, cells: &mut Vec<Cell>) -> Result<(), AllocError>
+fn add_nor_gates(alloc: Global, cells: &mut Vec<Cell>) -> Result<(), AllocError>
     ensures { OnOk result (cells.new.items ≡ cells.old.items ++ spec.nor_gates) }
 {
     cells.push(gate(alloc, b"NOR2", Kind::Nor, b"AB")?)?;
@@ -151,7 +168,7 @@ pub fn add_nor_gates(alloc: Global, cells: &mut Vec<Cell>) -> Result<(), AllocEr
 }
 
 /// Adds OR2 to OR4.
-pub fn add_or_gates(alloc: Global, cells: &mut Vec<Cell>) -> Result<(), AllocError>
+fn add_or_gates(alloc: Global, cells: &mut Vec<Cell>) -> Result<(), AllocError>
     ensures { OnOk result (cells.new.items ≡ cells.old.items ++ spec.or_gates) }
 {
     cells.push(gate(alloc, b"OR2", Kind::Or, b"AB")?)?;
@@ -161,7 +178,7 @@ pub fn add_or_gates(alloc: Global, cells: &mut Vec<Cell>) -> Result<(), AllocErr
 }
 
 /// Adds BUF and CKGATE.
-pub fn add_buffer_and_clock_gate(alloc: Global, cells: &mut Vec<Cell>) -> Result<(), AllocError>
+fn add_buffer_and_clock_gate(alloc: Global, cells: &mut Vec<Cell>) -> Result<(), AllocError>
     ensures { OnOk result (cells.new.items ≡ cells.old.items ++ spec.buffer_and_clock_gate) }
 {
     cells.push(gate(alloc, b"BUF", Kind::Buf, b"A")?)?;
@@ -170,7 +187,7 @@ pub fn add_buffer_and_clock_gate(alloc: Global, cells: &mut Vec<Cell>) -> Result
 }
 
 /// Adds DFF to DFFS.
-pub fn add_flip_flops(alloc: Global, cells: &mut Vec<Cell>) -> Result<(), AllocError>
+fn add_flip_flops(alloc: Global, cells: &mut Vec<Cell>) -> Result<(), AllocError>
     ensures { OnOk result (cells.new.items ≡ cells.old.items ++ spec.flip_flops) }
 {
     cells.push(flip_flop(alloc, b"DFF", Kind::Dff, 21)?)?;
@@ -180,7 +197,7 @@ pub fn add_flip_flops(alloc: Global, cells: &mut Vec<Cell>) -> Result<(), AllocE
 }
 
 /// Adds INV to MUX2.
-pub fn add_inverter_to_mux(alloc: Global, cells: &mut Vec<Cell>) -> Result<(), AllocError>
+fn add_inverter_to_mux(alloc: Global, cells: &mut Vec<Cell>) -> Result<(), AllocError>
     ensures { OnOk result (cells.new.items ≡ cells.old.items ++ spec.inverter_to_mux) }
 {
     cells.push(gate(alloc, b"INV", Kind::Inv, b"A")?)?;
@@ -191,7 +208,7 @@ pub fn add_inverter_to_mux(alloc: Global, cells: &mut Vec<Cell>) -> Result<(), A
 }
 
 /// Adds SDFF to SDFFS.
-pub fn add_scan_flip_flops(alloc: Global, cells: &mut Vec<Cell>) -> Result<(), AllocError>
+fn add_scan_flip_flops(alloc: Global, cells: &mut Vec<Cell>) -> Result<(), AllocError>
     ensures { OnOk result (cells.new.items ≡ cells.old.items ++ spec.scan_flip_flops) }
 {
     cells.push(scan_flip_flop(alloc, b"SDFF", Kind::Sdff)?)?;
@@ -201,7 +218,7 @@ pub fn add_scan_flip_flops(alloc: Global, cells: &mut Vec<Cell>) -> Result<(), A
 }
 
 /// Adds TIE0 to XOR2.
-pub fn add_tie_to_xor(alloc: Global, cells: &mut Vec<Cell>) -> Result<(), AllocError>
+fn add_tie_to_xor(alloc: Global, cells: &mut Vec<Cell>) -> Result<(), AllocError>
     ensures { OnOk result (cells.new.items ≡ cells.old.items ++ spec.tie_to_xor) }
 {
     cells.push(gate(alloc, b"TIE0", Kind::Tie0, b"")?)?;
