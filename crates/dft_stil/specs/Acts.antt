@@ -1,0 +1,37 @@
+-- What acts belong to which signals, and the letter of each act.
+use Rattle.std.specs.Prelude.{ℕ, ◌==◌, if◌then◌else◌, Option, Some, None}
+use Rattle.dft_netlist.specs.declared.port.Dir.{Dir}
+use Rattle.dft_netlist.specs.declared.port.Dir.TheVariants.{Input, Output}
+use Rattle.dft_stil.specs.declared.act.Act.{Act}
+use Rattle.dft_stil.specs.declared.act.Act.TheVariants.{Unset, Low, High, Pulse, ExpectLow, ExpectHigh, Ignore}
+
+-- an input is set and an output is compared, if the signal was ever mentioned
+abbrev pub IsActOf : Dir → Act → Type 0
+IsActOf Input ExpectLow = ⊥
+IsActOf Input ExpectHigh = ⊥
+IsActOf Input Ignore = ⊥
+IsActOf Output Low = ⊥
+IsActOf Output High = ⊥
+IsActOf Output Pulse = ⊥
+IsActOf _ _ = Unit {0}
+
+-- the signal was mentioned
+abbrev pub IsTold : Act → Type 0
+IsTold Unset = ⊥
+IsTold _ = Unit {0}
+
+-- The letter of an act (IEEE 1450-1999 leaves the choice to the text's table of waveforms).
+-- Unset has no letter of its own: a set that is written has no such act.
+abbrev pub letter : Act → ℕ
+letter Unset = 45
+letter Low = 48
+letter High = 49
+letter Pulse = 80
+letter ExpectLow = 76
+letter ExpectHigh = 72
+letter Ignore = 88
+
+-- the act of an input, or of an output, that has this letter
+abbrev pub act_of : Dir → ℕ → Option Act
+act_of Input b = if b == 48 then Some Low else (if b == 49 then Some High else (if b == 80 then Some Pulse else None))
+act_of Output b = if b == 76 then Some ExpectLow else (if b == 72 then Some ExpectHigh else (if b == 88 then Some Ignore else None))

@@ -1,0 +1,5 @@
+pub mod Acts
+pub mod Patterns
+pub mod Shown
+pub mod Words
+pub mod Written

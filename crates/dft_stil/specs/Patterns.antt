@@ -1,0 +1,68 @@
+-- Patterns: signals, and vectors of acts at them.
+use Rattle.std.specs.Prelude.{◌≡◌, ◌≢◌, ℕ, ◌<◌, ◌^◌, Bool, true, false, List, [], length, take, drop, get_or, All, AllPairs}
+use Rattle.std.specs.List.{AllZip, prefix_len}
+use Rattle.dft_netlist.specs.declared.port.Dir.{Dir}
+use Rattle.dft_netlist.specs.declared.port.Dir.TheVariants.{Input, Output}
+use Rattle.dft_stil.specs.declared.act.Act.{Act}
+use Rattle.dft_stil.specs.declared.act.Act.TheVariants.{Unset, High, Pulse, Ignore}
+use Rattle.dft_stil.specs.declared.signal.StilSignal.{StilSignal}
+use Rattle.dft_stil.specs.Acts.{IsActOf, IsTold}
+use Rattle.dft_stil.specs.Words.{is_simple}
+
+pub record Patterns : Type 0 where
+  -- in the order of their declarations
+  pub signals : List StilSignal
+  -- in the order of time, each with one act a signal
+  pub vectors : List (List Act)
+
+abbrev pub is_input : Dir → Bool
+is_input Input = true
+is_input Output = false
+
+-- how many inputs stand before the first output
+abbrev pub input_count : List StilSignal → ℕ
+input_count signals = prefix_len (λ s. is_input s.dir) signals
+
+-- the inputs before the first output
+abbrev pub inputs : List StilSignal → List StilSignal
+inputs signals = take (input_count signals) signals
+
+-- the signals from the first output on
+abbrev pub outputs : List StilSignal → List StilSignal
+outputs signals = drop (input_count signals) signals
+
+-- signals that can be written: inputs before outputs, with simple names that all differ
+pub record IsDeclarable (signals : List StilSignal) : Type 0 where
+  pub ordered : All (λ s. s.dir ≡ Output) (outputs signals)
+  pub distinct : AllPairs (λ s t. s.name ≢ t.name) signals
+  pub simple : All (λ s. is_simple s.name ≡ true) signals
+
+-- there is an input and an output
+pub record HasBothWays (signals : List StilSignal) : Type 0 where
+  pub input : 0 < length (inputs signals)
+  pub output : 0 < length (outputs signals)
+
+-- one act for each signal, of its direction
+abbrev pub IsVector : List StilSignal → List Act → Type 0
+IsVector signals acts = AllZip (λ s a. IsActOf s.dir a) signals acts
+
+-- the same, and each signal is mentioned
+abbrev pub IsFullVector : List StilSignal → List Act → Type 0
+IsFullVector signals acts = AllZip (λ s a. IsActOf s.dir a × IsTold a) signals acts
+
+-- patterns that have a written form with both groups
+pub record IsPatterns (p : Patterns) : Type 0 where
+  pub both : HasBothWays p.signals
+  pub declarable : IsDeclarable p.signals
+  pub vectors : All (λ acts. IsFullVector p.signals acts) p.vectors
+
+-- the act of a vector at a signal, both by number
+abbrev pub act_at : Patterns → ℕ → ℕ → Act
+act_at p vector signal = get_or (get_or p.vectors vector []) signal Ignore
+
+-- patterns that can be replayed: a signal that pulses in some vector is High or Unset in none
+pub record IsWellFormed (p : Patterns) : Type 0 where
+  pub distinct : AllPairs (λ s t. s.name ≢ t.name) p.signals
+  pub few : length p.vectors < 2 ^ 32
+  pub fits : All (λ acts. IsVector p.signals acts) p.vectors
+  pub steady : (signal pulsed other : ℕ) → act_at p pulsed signal ≡ Pulse → (act_at p other signal ≢ High) × (act_at p other signal ≢ Unset)

@@ -1,0 +1,12 @@
+//! Pattern texts in the written form (IEEE 1450-1999, a subset), read and written.
+#![tactic(auto)]
+
+mod act;
+mod error;
+mod pattern_set;
+mod signal;
+
+pub use act::{Act, Acts};
+pub use error::StilError;
+pub use pattern_set::PatternSet;
+pub use signal::StilSignal;
