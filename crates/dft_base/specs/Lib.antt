@@ -1,2 +1,3 @@
 pub mod Tri
 pub mod Name
+pub mod Parser
