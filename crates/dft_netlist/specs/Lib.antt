@@ -7,3 +7,6 @@ pub mod Traces
 pub mod Logic
 pub mod Settled
 pub mod Runs
+pub mod Tokens
+pub mod Rules
+pub mod FirstForm
