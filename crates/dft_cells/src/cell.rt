@@ -1,4 +1,4 @@
-ghost use Rattle.std.specs.Prelude.{◌≡◌, ◌++◌, ◌∷◌, [], OnOk, OnErr};
+ghost use Rattle.std.specs.Prelude.{◌≡◌, ◌++◌, ◌∷◌, [], IfOk, OnOk, OnErr};
 
 use crate::kind::{Kind, Role};
 use dft_base::Name;
@@ -50,11 +50,34 @@ impl Pins {
         Ok(())
     }
 
+    /// The same pins once more.
+    pub fn copy(&self, alloc: Global) -> Result<Pins, AllocError>
+        ensures { IfOk result (λ copy. copy ≡ self.now) }
+    {
+        let mut pins = Vec::new(alloc);
+        for pin in &self.pins {
+            pins.push(pin.copy(alloc)?)?;
+        }
+        Ok(Pins { pins })
+    }
+
     /// The pins.
     pub fn as_slice(&self) -> &[Pin]
         ensures { result.now ≡ self.now }
     {
         &self.pins
+    }
+}
+
+impl Pin {
+    /// The same pin once more.
+    pub fn copy(&self, alloc: Global) -> Result<Pin, AllocError>
+        ensures { IfOk result (λ copy. copy ≡ self.now) }
+    {
+        Ok(Pin {
+            name: Name::from_slice(alloc, self.name.as_slice())?,
+            role: self.role,
+        })
     }
 }
 
@@ -66,4 +89,18 @@ pub struct Cell {
     pub pins: Pins,
     /// The cell that replaces a flip-flop in a scan chain, where the library names one.
     pub scan: Option<CellId>,
+}
+
+impl Cell {
+    /// The same cell once more.
+    pub fn copy(&self, alloc: Global) -> Result<Cell, AllocError>
+        ensures { IfOk result (λ copy. copy ≡ self.now) }
+    {
+        Ok(Cell {
+            name: Name::from_slice(alloc, self.name.as_slice())?,
+            kind: self.kind,
+            pins: self.pins.copy(alloc)?,
+            scan: self.scan,
+        })
+    }
 }

@@ -4,7 +4,10 @@
 mod cell;
 mod kind;
 mod laws;
+mod library;
+mod standard;
 
 pub use cell::{Cell, CellId, Pin, Pins};
 pub use kind::{Kind, Role};
 pub use laws::{completions_are_above, next_values_are_above};
+pub use library::{Library, MAX_CELLS};
