@@ -20,6 +20,7 @@ use Rattle.dft_netlist.specs.declared.instance.Signal.TheVariants.{Net, Unconnec
 use Rattle.dft_netlist.specs.declared.instance.CellRef.TheVariants.{Library}
 use Rattle.dft_netlist.specs.declared.instance.Instance.{Instance}
 use Rattle.dft_netlist.specs.Netlist.{Netlist}
+use Rattle.dft_netlist.specs.Building.{scalar_port}
 use Rattle.dft_netlist.specs.Tokens.{Text, tokens}
 use Rattle.dft_netlist.specs.Rules.{Rule, Outcome, left, sees, refuse, expect, eat, take_token, end_of_text, name, needed}
 
@@ -266,14 +267,10 @@ abbrev pub dir_or_input : Option Dir → Dir
 dir_or_input None = Input
 dir_or_input (Some dir) = dir
 
--- the port with this number, name and direction
-abbrev pub scalar_port : ℕ → Text → Dir → Port
-scalar_port place word dir = record { name = word; dir = dir; range = None; bits = record { 0 = place } ∷ [] }
-
 -- ports of these names, the first of which has this number; the net of each has the same number
 abbrev pub ports_from : ℕ → List Text → List (Option Dir) → List Port
 ports_from place [] dirs = []
-ports_from place (word ∷ words) dirs = scalar_port place word (dir_or_input (dir_at dirs place)) ∷ ports_from (place + 1) words dirs
+ports_from place (word ∷ words) dirs = scalar_port word (dir_or_input (dir_at dirs place)) (record { 0 = place }) ∷ ports_from (place + 1) words dirs
 
 abbrev pub id_or_first : Option CellId → CellId
 id_or_first None = record { 0 = 0 }
@@ -286,8 +283,8 @@ dff = id_or_first (find_cell standard_cells (codes "DFF"))
 abbrev pub instance_of : FlipFlop → Instance
 instance_of f = record { name = Some f.name; cell = Library dff; pins = Net f.clock ∷ Net f.data_in ∷ Net f.output ∷ Unconnected ∷ [] }
 
-abbrev pub netlist_of : Draft → Netlist
-netlist_of draft = record {
+abbrev pub flat_netlist : Draft → Netlist
+flat_netlist draft = record {
   name = draft.name;
   library = standard_cells;
   ports = ports_from 0 draft.names draft.dirs;
@@ -301,7 +298,7 @@ abbrev pub most_bytes : ℕ
 most_bytes = 65536
 
 abbrev pub form_of : Outcome Draft → Option Netlist
-form_of (Ok p) = if is_sound p.0 then Some (netlist_of p.0) else None
+form_of (Ok p) = if is_sound p.0 then Some (flat_netlist p.0) else None
 form_of (Err fault) = None
 
 -- the netlist that a text of the first form stands for

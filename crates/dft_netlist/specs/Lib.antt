@@ -7,6 +7,9 @@ pub mod Traces
 pub mod Logic
 pub mod Settled
 pub mod Runs
+pub mod Building
+pub mod Shown
+pub mod BuilderShown
 pub mod Tokens
 pub mod Rules
 pub mod FirstForm
