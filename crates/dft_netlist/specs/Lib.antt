@@ -8,3 +8,9 @@ pub mod Logic
 pub mod Settled
 pub mod Runs
 pub mod Laws
+pub mod Building
+pub mod Shown
+pub mod BuilderShown
+pub mod Tokens
+pub mod Rules
+pub mod FirstForm

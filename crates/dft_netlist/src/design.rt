@@ -1,0 +1,119 @@
+ghost use Rattle.std.specs.Prelude.{◌≡◌, ◌<◌, ◌≤◌, length, vec_len, Some, slice_get};
+
+use crate::ids::NetId;
+use crate::instance::{Instance, Join};
+use crate::port::Port;
+use dft_base::Name;
+use dft_cells::Library;
+use std::marker::Model;
+
+/// The ports that a design may have: as many as there are numbers of ports.
+pub const MAX_PORTS: usize = 65_536;
+
+/// The nets that a design may have.
+pub const MAX_NETS: usize = 524_288;
+
+/// The instances that a design may have.
+pub const MAX_INSTANCES: usize = 262_144;
+
+/// A gate-level netlist: one module over a library of cells (IEEE 1364). A clause sees it as a record of lists.
+#[derive(Debug, Drop)]
+pub struct Design {
+    name: Name,
+    library: Library,
+    ports: Vec<Port>,
+    nets: Vec<Name>,
+    instances: Vec<Instance>,
+    joins: Vec<Join>,
+}
+
+impl Model for Design {
+    ghost use Rattle.dft_netlist.specs.Netlist.{Netlist};
+
+    ghost Value = { Netlist };
+
+    ghost use Rattle.dft_netlist.specs.Shown.{netlist_of, IsDesign};
+
+    ghost view = { netlist_of };
+
+    ghost invariant = { IsDesign };
+}
+
+impl Design {
+    /// The design with these parts.
+    pub(crate) fn from_parts(
+        name: Name,
+        library: Library,
+        ports: Vec<Port>,
+        nets: Vec<Name>,
+        instances: Vec<Instance>,
+        joins: Vec<Join>,
+    ) -> Design
+        requires ports { vec_len ports ≤ MAX_PORTS }
+        requires nets { vec_len nets ≤ MAX_NETS }
+        requires instances { vec_len instances ≤ MAX_INSTANCES }
+        ensures { result ≡ record { name = name; library = library; ports = ports.items; nets = nets.items; instances = instances.items; joins = joins.items } }
+    {
+        Design {
+            name,
+            library,
+            ports,
+            nets,
+            instances,
+            joins,
+        }
+    }
+
+    /// The module's name.
+    pub fn module(&self) -> &Name
+        ensures { result.now ≡ self.now.name }
+    {
+        &self.name
+    }
+
+    /// The cells that its instances may name.
+    pub fn library(&self) -> &Library
+        ensures { result.now ≡ self.now.library }
+    {
+        &self.library
+    }
+
+    /// Its ports, in the order of the module's header. The nets of their bits have the lowest numbers.
+    pub fn ports(&self) -> &[Port]
+        ensures ports { result.now ≡ self.now.ports }
+        ensures few { length self.now.ports ≤ MAX_PORTS }
+    {
+        &self.ports
+    }
+
+    /// Its instances, in the order in which they were added.
+    pub fn instances(&self) -> &[Instance]
+        ensures instances { result.now ≡ self.now.instances }
+        ensures few { length self.now.instances ≤ MAX_INSTANCES }
+    {
+        &self.instances
+    }
+
+    /// Its continuous assignments, one for each bit.
+    pub fn joins(&self) -> &[Join]
+        ensures { result.now ≡ self.now.joins }
+    {
+        &self.joins
+    }
+
+    /// How many nets there are; their numbers are all those below.
+    pub fn net_count(&self) -> u32
+        ensures count { result ≡ length self.now.nets }
+        ensures few { result ≤ MAX_NETS }
+    {
+        self.nets.len() as u32
+    }
+
+    /// The name of this net.
+    pub fn net_name(&self, net: NetId) -> &Name
+        requires { net.0 < length self.now.nets }
+        ensures { slice_get self.now.nets net.0 ≡ Some result.now }
+    {
+        &self.nets[net.0 as usize]
+    }
+}
