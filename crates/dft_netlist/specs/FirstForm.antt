@@ -5,7 +5,7 @@
 --   item       = ( "input" | "output" ) name { "," name } ";"
 --              | "DFF" name "(" connection "," connection "," connection ")" ";"
 --   connection = "." ( "CK" | "D" | "Q" ) "(" name ")"
-use Rattle.std.specs.Prelude.{ℕ, zero, suc, ◌+◌, Bool, true, false, not, ◌==◌, ◌&&◌, ◌||◌, nat_le, List, [], ◌∷◌, ◌++◌, length, map, position, slice_index_or, slice_set, codes, if◌then◌else◌, Option, Some, None, is_some, Ok, Err}
+use Rattle.std.specs.Prelude.{ℕ, zero, suc, ◌+◌, Bool, true, false, not, ◌==◌, ◌&&◌, ◌||◌, nat_le, List, [], ◌∷◌, ◌++◌, length, map, replicate, position, slice_index_or, slice_set, codes, if◌then◌else◌, Option, Some, None, is_some, Ok, Err}
 use Rattle.std.specs.List.{list_any, list_all}
 use Rattle.std.specs.Str.{bytes_eq}
 use Rattle.dft_base.specs.Parser.{◌>>=◌, ◌>>◌, pure}
@@ -80,9 +80,9 @@ header = do
   opens ← eat (codes "(")
   if opens then names_inside else pure []
 
--- no direction yet for any of these names
+-- no direction yet for any of the names
 abbrev pub undeclared : List Text → List (Option Dir)
-undeclared names = map (λ known. None) names
+undeclared words = replicate (length words) None
 
 unfoldable pub heading : Rule Draft
 heading = do

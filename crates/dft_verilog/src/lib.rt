@@ -1,0 +1,15 @@
+//! Reads netlists from Verilog texts (IEEE 1364).
+#![tactic(auto)]
+
+mod draft;
+mod error;
+mod flip_flop;
+mod lex;
+mod reader;
+mod tokens;
+
+pub use error::VerilogError;
+pub use reader::MAX_BYTES;
+pub use draft::Draft;
+pub use flip_flop::{FlipFlop, Joined};
+pub use tokens::Tokens;
