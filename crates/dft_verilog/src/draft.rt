@@ -75,7 +75,8 @@ impl Draft {
 
     /// Gives a header name its direction. It must have none before.
     pub fn declare(&mut self, dir: Dir, word: &[u8]) -> bool
-        ensures { spec.declared dir self.old (spec.place_of self.old.names word.now) ≡ (if result then Some self.new else None) }
+        ensures same { self.new.flip_flops ≡ self.old.flip_flops }
+        ensures value { spec.declared dir self.old (spec.place_of self.old.names word.now) ≡ (if result then Some self.new else None) }
     {
         match place_of(&self.names, word) {
             Some(place) if !is_declared(&self.dirs, place) => {

@@ -4,12 +4,14 @@
 mod draft;
 mod error;
 mod flip_flop;
+mod heading;
+mod items;
 mod lex;
 mod reader;
 mod tokens;
 
 pub use error::VerilogError;
-pub use reader::MAX_BYTES;
+pub use reader::{MAX_BYTES, module_text};
 pub use draft::Draft;
 pub use flip_flop::{FlipFlop, Joined};
 pub use tokens::Tokens;
