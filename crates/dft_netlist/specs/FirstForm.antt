@@ -254,11 +254,21 @@ abbrev pub outputs_driven : List FlipFlop → ℕ → List (Option Dir) → Bool
 outputs_driven fs place [] = true
 outputs_driven fs place (dir ∷ dirs) = (not (is_output dir) || is_driven fs place) && outputs_driven fs (place + 1) dirs
 
--- names are distinct, each header name is declared, there is one clock, and each output has one driver
+-- the header's names are distinct, and each was declared
+abbrev pub are_well_named : List Text → List (Option Dir) → Bool
+are_well_named words dirs = are_distinct words && all_declared words dirs
+
+-- each flip-flop is joined to ports, and all to one clock
+abbrev pub are_clocked : List (Option Dir) → List FlipFlop → Bool
+are_clocked dirs fs = list_all (is_well_joined dirs) fs && have_one_clock fs
+
+-- each output has one driver
+abbrev pub are_driven : List (Option Dir) → List FlipFlop → Bool
+are_driven dirs fs = drive_apart fs && outputs_driven fs 0 dirs
+
+-- the module is of the first form
 abbrev pub is_sound : Draft → Bool
-is_sound draft =
-    are_distinct draft.names && all_declared draft.names draft.dirs && list_all (is_well_joined draft.dirs) draft.flip_flops
-    && have_one_clock draft.flip_flops && drive_apart draft.flip_flops && outputs_driven draft.flip_flops 0 draft.dirs
+is_sound draft = are_well_named draft.names draft.dirs && (are_clocked draft.dirs draft.flip_flops && are_driven draft.dirs draft.flip_flops)
 
 -- ---- the netlist
 
