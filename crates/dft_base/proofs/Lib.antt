@@ -1,3 +1,2 @@
 pub mod StoreLemmas
 pub mod Turns
-pub mod SimpleNames

@@ -8,4 +8,3 @@ pub mod Entries
 pub mod Store
 pub mod StoreShown
 pub mod Parser
-pub mod SimpleName
