@@ -2,6 +2,7 @@
 #![tactic(auto)]
 
 mod failing;
+mod host;
 mod memory_files;
 mod name;
 mod outside;
@@ -12,6 +13,7 @@ mod tests;
 mod tri;
 
 pub use failing::Failing;
+pub use host::{HostFiles, OutSink};
 pub use memory_files::MemoryFiles;
 pub use name::Name;
 pub use outside::{Files, LoadError, PutError, SaveError, Sink};
