@@ -11,6 +11,7 @@ mod sinks;
 #[cfg(test)]
 mod tests;
 mod tri;
+mod words;
 
 pub use failing::Failing;
 pub use host::{HostFiles, OutSink};
@@ -20,3 +21,4 @@ pub use outside::{Files, LoadError, PutError, SaveError, Sink};
 pub use place::{Place, Range};
 pub use sinks::{MemorySink, NeverFails};
 pub use tri::Tri;
+pub use words::{begins_word, continues_word, is_later_reserved, is_reserved, is_simple_name, is_word, needs_escape};
