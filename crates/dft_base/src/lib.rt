@@ -21,4 +21,7 @@ pub use outside::{Files, LoadError, PutError, SaveError, Sink};
 pub use place::{Place, Range};
 pub use sinks::{MemorySink, NeverFails};
 pub use tri::Tri;
-pub use words::{begins_word, continues_word, is_later_reserved, is_reserved, is_simple_name, is_word, needs_escape};
+pub use words::{
+    begins_word, continues_word, is_later_reserved, is_reserved, is_simple_name, is_word,
+    needs_escape,
+};
