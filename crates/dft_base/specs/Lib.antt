@@ -7,4 +7,5 @@ pub mod BasinShown
 pub mod Entries
 pub mod Store
 pub mod StoreShown
+pub mod Words
 pub mod Parser
