@@ -30,14 +30,19 @@ fn are_distinct(names: &[Name]) -> bool
     true
 }
 
-#[tactic(auto, using(crate::proofs::Declared::declared_of_same_length))]
-/// Each of these names was declared: its direction is known.
-fn all_declared(names: &[Name], dirs: &[Option<Dir>]) -> bool
-    requires { length names.now ≡ length dirs.now }
-    ensures { result ≡ spec.all_declared names.now dirs.now }
+fn all_known(dirs: &[Option<Dir>]) -> bool
+    ensures { result ≡ list_all (λ dir. is_some dir) dirs.now }
 {
-    let _names = names;
     dirs.iter().all(|dir| dir.is_some())
+}
+
+#[tactic(auto, using(crate::proofs::Declared::declared_of_same_length))]
+/// Whether each of these names was declared. There is a place for the direction of each.
+fn all_declared(_names: &[Name], dirs: &[Option<Dir>]) -> bool
+    requires { length _names.now ≡ length dirs.now }
+    ensures { result ≡ spec.all_declared _names.now dirs.now }
+{
+    all_known(dirs)
 }
 
 /// The direction of a net's port.

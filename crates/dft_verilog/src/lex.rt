@@ -2,16 +2,16 @@
 
 ghost use Rattle.std.specs.Prelude.{◌≡◌, ◌≤◌, ◌<◌, length};
 ghost use Rattle.std.specs.List.{prefix_len};
-ghost use Rattle.dft_base.specs.SimpleName.{is_name_byte};
+ghost use Rattle.dft_base.specs.Words.{continues_word};
 ghost use Rattle.dft_netlist.specs.Tokens as spec;
 
-use dft_base::is_name_byte;
+use dft_base::continues_word;
 
 fn word_len(text: &[u8]) -> usize
-    ensures value { result ≡ prefix_len is_name_byte text.now }
+    ensures value { result ≡ prefix_len continues_word text.now }
     ensures within { result ≤ length text.now }
 {
-    text.iter().take_while(|byte| is_name_byte(**byte)).count()
+    text.iter().take_while(|byte| continues_word(**byte)).count()
 }
 
 #[tactic(auto, unfolding(dft_netlist::specs::Tokens::cut))]

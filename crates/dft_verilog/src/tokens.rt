@@ -9,7 +9,7 @@ ghost use Rattle.dft_verilog.specs.Reads.{Reads};
 use crate::error::VerilogError;
 use crate::lex::{cut, skip_blank};
 use crate::reader::MAX_BYTES;
-use dft_base::is_free_name;
+use dft_base::needs_escape;
 use std::marker::Model;
 
 /// The tokens that are left. A clause sees them as a list.
@@ -110,13 +110,13 @@ impl<'a> Tokens<'a> {
         Ok(())
     }
 
-    #[tactic(auto, unfolding(dft_netlist::specs::Rules::name))]
+    #[tactic(auto, using(crate::proofs::Names::unescaped_is_name), unfolding(dft_netlist::specs::Rules::name))]
     /// Takes a simple name that is no reserved word.
     pub fn name(&mut self) -> Result<&'a [u8], VerilogError>
         ensures name { Reads (λ bytes. bytes.now) (spec.name self.old) result self.new }
         ensures is_name { IfOk result (λ bytes. IsName bytes.now) }
     {
-        if !is_free_name(self.peek()) {
+        if needs_escape(self.peek()) {
             return Err(VerilogError::NotFirstForm);
         }
         Ok(self.take())
