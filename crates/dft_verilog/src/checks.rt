@@ -36,15 +36,6 @@ fn all_known(dirs: &[Option<Dir>]) -> bool
     dirs.iter().all(|dir| dir.is_some())
 }
 
-#[tactic(auto, using(crate::proofs::Declared::declared_of_same_length))]
-/// Whether each of these names was declared. There is a place for the direction of each.
-fn all_declared(_names: &[Name], dirs: &[Option<Dir>]) -> bool
-    requires { length _names.now ≡ length dirs.now }
-    ensures { result ≡ spec.all_declared _names.now dirs.now }
-{
-    all_known(dirs)
-}
-
 /// The direction of a net's port.
 fn dir_at(dirs: &[Option<Dir>], net: NetId) -> Option<Dir>
     ensures { result ≡ spec.dir_at dirs.now net.0 }
@@ -137,11 +128,12 @@ fn outputs_driven(flip_flops: &[FlipFlop], dirs: &[Option<Dir>]) -> bool
     true
 }
 
-fn are_well_named(names: &[Name], dirs: &[Option<Dir>]) -> bool
-    requires { length names.now ≡ length dirs.now }
-    ensures { result ≡ spec.are_well_named names.now dirs.now }
+#[tactic(auto, using(crate::proofs::Declared::declared_of_same_length))]
+/// Whether the header's names are distinct, and each was declared.
+fn are_well_named(draft: &Draft) -> bool
+    ensures { result ≡ spec.are_well_named draft.now.names draft.now.dirs }
 {
-    are_distinct(names) && all_declared(names, dirs)
+    are_distinct(&draft.names) && all_known(&draft.dirs)
 }
 
 fn are_clocked(dirs: &[Option<Dir>], flip_flops: &[FlipFlop]) -> bool
@@ -162,7 +154,7 @@ fn are_driven(dirs: &[Option<Dir>], flip_flops: &[FlipFlop]) -> bool
 pub fn is_sound(draft: &Draft) -> bool
     ensures { result ≡ spec.is_sound draft.now }
 {
-    are_well_named(&draft.names, &draft.dirs)
+    are_well_named(draft)
         && are_clocked(&draft.dirs, &draft.flip_flops)
         && are_driven(&draft.dirs, &draft.flip_flops)
 }

@@ -8,12 +8,11 @@ mod flip_flop;
 mod heading;
 mod items;
 mod lex;
+mod building;
 mod reader;
+#[cfg(test)]
+mod tests;
 mod tokens;
 
 pub use error::VerilogError;
-pub use reader::{MAX_BYTES, module_text};
-pub use checks::is_sound;
-pub use draft::Draft;
-pub use flip_flop::{FlipFlop, Joined};
-pub use tokens::Tokens;
+pub use reader::{MAX_BYTES, read};
