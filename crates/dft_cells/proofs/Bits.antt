@@ -1,5 +1,5 @@
 -- Gates over bits, one input after the other.
-use Rattle.std.proofs.Common.{ℕ, Bool, true, false, not, List, [], ◌∷◌, ◌≡◌, ◌+◌, ◌*◌, ◌^◌, ◌<◌, ◌≤◌, ◌&&◌, ◌||◌, cond, length, refl, sym, ap, ◌∙◌, drop, get_or, arith}
+use Rattle.std.proofs.Common.{ℕ, Bool, true, false, not, List, ◌≡◌, ◌+◌, ◌*◌, ◌<◌, ◌&&◌, ◌||◌, cond, length, refl, drop, get_or, arith}
 use Rattle.std.proofs.lemmas.List.{drop_more}
 use Rattle.dft_cells.specs.Gates.{all_one, any_one, odd_ones, number_of}
 

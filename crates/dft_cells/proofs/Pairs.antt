@@ -1,12 +1,12 @@
 -- Gates over three values: what all completions share, by the pair tables.
-use Rattle.std.proofs.Common.{ℕ, Bool, true, false, not, List, [], ◌∷◌, ◌≡◌, ◌+◌, ◌-◌, ◌*◌, ◌^◌, ◌<◌, ◌≤◌, take, ◌/◌, ◌%◌, ◌==◌, ◌&&◌, ◌||◌, cond, length, refl, sym, ap, subst, ◌∙◌, drop, get_or, arith}
+use Rattle.std.proofs.Common.{ℕ, Bool, true, false, not, List, [], ◌∷◌, ◌≡◌, ◌+◌, ◌-◌, ◌*◌, ◌^◌, ◌<◌, ◌≤◌, take, length, refl, ap, subst, ◌∙◌, drop, get_or, arith}
 use Rattle.std.proofs.Math.Seq.{take-length}
 use Rattle.std.proofs.lemmas.List.{drop_more}
 use Rattle.std.proofs.Math.Nat.{pow-suc, one-le-pow, mul-le-mul_left}
 use Rattle.dft_base.specs.declared.tri.Tri.{Tri}
 use Rattle.dft_base.specs.declared.tri.Tri.TheVariants.{Zero, One, Unknown}
 use Rattle.dft_base.specs.Tri.{known, join}
-use Rattle.dft_cells.specs.Gates.{all_one, any_one, odd_ones, bit_at, completing, shared, bit_of, bit_of_number, number_of}
+use Rattle.dft_cells.specs.Gates.{all_one, any_one, odd_ones, shared, bit_of, bit_of_number, number_of}
 use Rattle.dft_cells.specs.Tables.{not_tri, and_tri, or_tri, xor_tri, mux_tri}
 use Rattle.dft_cells.specs.declared.kind.Kind.TheVariants.{Buf, Inv, Mux2}
 
@@ -248,8 +248,10 @@ TableAt table place weight bits = bit_of_number table (place + weight * number_o
 -- an unknown input of a table
 pub table_unknown : (table place weight : ℕ) (ts : List Tri) → join (shared (λ bits. bit_of_number table (place + (2 * weight) * number_of bits)) ts) (shared (λ bits. bit_of_number table ((place + weight) + (2 * weight) * number_of bits)) ts) ≡ shared (λ bits. bit_of_number table (place + weight * number_of bits)) (Unknown ∷ ts)
 table_unknown table place weight ts =
-    rw (shared_equal (TableAt table place (2 * weight)) (λ bs. TableAt table place weight (false ∷ bs)) ts (λ bs. ap (bit_of_number table) (omega arith)),
-    shared_equal (TableAt table (place + weight) (2 * weight)) (λ bs. TableAt table place weight (true ∷ bs)) ts (λ bs. ap (bit_of_number table) (omega arith)))
+    rw (
+      shared_equal (TableAt table place (2 * weight)) (λ bs. TableAt table place weight (false ∷ bs)) ts (λ bs. ap (bit_of_number table) (omega arith)),
+      shared_equal (TableAt table (place + weight) (2 * weight)) (λ bs. TableAt table place weight (true ∷ bs)) ts (λ bs. ap (bit_of_number table) (omega arith)),
+    )
 
 -- what stands behind the first element
 behind : (t : Tri) (ts : List Tri) → take (length (t ∷ ts) - 1) (drop 1 (t ∷ ts)) ≡ ts

@@ -26,7 +26,14 @@ pub fn bit_of(kind: Kind, inputs: &[bool]) -> bool
         Kind::Table(table) => bit_of_table(table, inputs),
         Kind::Tie0 => false,
         Kind::Tie1 => true,
-        Kind::Dff | Kind::Dffr | Kind::Dffs | Kind::Sdff | Kind::Sdffr | Kind::Sdffs | Kind::Lockup | Kind::Opaque => unreachable!(),
+        Kind::Dff
+        | Kind::Dffr
+        | Kind::Dffs
+        | Kind::Sdff
+        | Kind::Sdffr
+        | Kind::Sdffs
+        | Kind::Lockup
+        | Kind::Opaque => unreachable!(),
     }
 }
 
@@ -107,7 +114,14 @@ pub fn tri_of(kind: Kind, inputs: &[Tri]) -> Tri
         Kind::Table(table) => tri_of_table(table, inputs, 0, 1),
         Kind::Tie0 => Tri::Zero,
         Kind::Tie1 => Tri::One,
-        Kind::Dff | Kind::Dffr | Kind::Dffs | Kind::Sdff | Kind::Sdffr | Kind::Sdffs | Kind::Lockup | Kind::Opaque => unreachable!(),
+        Kind::Dff
+        | Kind::Dffr
+        | Kind::Dffs
+        | Kind::Sdff
+        | Kind::Sdffr
+        | Kind::Sdffs
+        | Kind::Lockup
+        | Kind::Opaque => unreachable!(),
     }
 }
 
@@ -198,9 +212,18 @@ fn tri_of_table(table: u64, inputs: &[Tri], place: u32, weight: u32) -> Tri
     ensures { result ≡ spec.shared (λ bits. spec.bit_of_number table (place + weight * spec.number_of bits)) inputs.now }
 {
     match inputs {
-        [] => if (table >> place) % 2 == 1 { Tri::One } else { Tri::Zero },
+        [] => if (table >> place) % 2 == 1 {
+            Tri::One
+        } else {
+            Tri::Zero
+        },
         [Tri::Zero, rest @ ..] => tri_of_table(table, rest, place, 2 * weight),
         [Tri::One, rest @ ..] => tri_of_table(table, rest, place + weight, 2 * weight),
-        [Tri::Unknown, rest @ ..] => tri_of_table(table, rest, place, 2 * weight).join(tri_of_table(table, rest, place + weight, 2 * weight)),
+        [Tri::Unknown, rest @ ..] => tri_of_table(table, rest, place, 2 * weight).join(tri_of_table(
+            table,
+            rest,
+            place + weight,
+            2 * weight,
+        )),
     }
 }

@@ -7,6 +7,8 @@ mod kind;
 mod laws;
 mod library;
 mod standard;
+#[cfg(test)]
+mod tests;
 
 pub use cell::{Cell, CellId, Pin, Pins};
 pub use gates::{bit_of, tri_of};

@@ -1,5 +1,5 @@
 -- One input more.
-use Rattle.std.proofs.Common.{◌≡◌, ◌<◌, ◌≤◌, ◌+◌, ◌*◌, ◌^◌, length, drop, get_or, false, ap, ◌∙◌, arith}
+use Rattle.std.proofs.Common.{◌<◌, ◌+◌, ◌*◌, length, drop, get_or, false, ap, ◌∙◌, arith}
 use Rattle.std.proofs.Math.Pow.{pow_mono}
 use Rattle.std.proofs.lemmas.Grind.{pow_more}
 use Rattle.dft_cells.specs.Gates.{number_of}
@@ -12,11 +12,11 @@ loop-input-preserved c =
     let bit = get_or c.args.inputs.now c.loop-input.input-index false in
     let rest = number_of (drop (c.loop-input.input-index + 1) c.args.inputs.now) in
     record {
-        number = c.loop-input.invariant.number
-            ∙ ap (λ n. c.loop-input.number + c.loop-input.weight * n) (number_step c.args.inputs.now c.loop-input.input-index false less)
-            ∙ rw c.weighed-number.ensures (weigh bit c.loop-input.number c.loop-input.weight rest);
-        weight = omega (arith, pow_more 2 c.loop-input.input-index);
-        small = rw c.weighed-number.ensures (weigh_small bit c.loop-input.number c.loop-input.weight c.loop-input.invariant.small)
+      number = c.loop-input.invariant.number
+          ∙ ap (λ n. c.loop-input.number + c.loop-input.weight * n) (number_step c.args.inputs.now c.loop-input.input-index false less)
+          ∙ rw c.weighed-number.ensures (weigh bit c.loop-input.number c.loop-input.weight rest);
+      weight = omega (arith, pow_more 2 c.loop-input.input-index);
+      small = rw c.weighed-number.ensures (weigh_small bit c.loop-input.number c.loop-input.weight c.loop-input.invariant.small);
     }
 
 pub returns-clause-small : goal.returns-clause-small

@@ -7,5 +7,5 @@ abbrev pub invariant-loop-input : goal.invariant-loop-input
 invariant-loop-input l = record {
   number : number_of l.inputs ≡ l.number + l.weight * number_of (drop l.input-index l.inputs);
   weight : l.weight ≡ 2 ^ l.input-index;
-  small : l.number < l.weight
+  small : l.number < l.weight;
 }

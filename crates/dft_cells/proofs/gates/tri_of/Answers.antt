@@ -1,9 +1,8 @@
 -- An inverse goes through completions, and a table starts at place 0 with weight 1.
-use Rattle.std.proofs.Common.{◌≡◌, ◌∙◌, ◌≤◌, sym, ap, length, arith}
+use Rattle.std.proofs.Common.{◌∙◌, ◌≤◌, sym, ap, length, arith}
 use Rattle.std.proofs.Math.Pow.{pow_mono}
 use Rattle.dft_cells.specs.Gates.{all_one, any_one, odd_ones}
 use Rattle.dft_cells.specs.Tables.{not_tri}
-use Rattle.dft_cells.specs.WellFormed.{TakesInputs}
 use Rattle.dft_cells.proofs.Pairs.{shared_not}
 use Rattle.dft_cells.proofs.gates.tri_of.Goals as goal
 
