@@ -8,3 +8,4 @@ pub mod Entries
 pub mod Store
 pub mod StoreShown
 pub mod Parser
+pub mod SimpleName

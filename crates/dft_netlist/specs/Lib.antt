@@ -14,3 +14,4 @@ pub mod BuilderShown
 pub mod Tokens
 pub mod Rules
 pub mod FirstForm
+pub mod Flat

@@ -1,0 +1,36 @@
+-- There is one verdict at most.
+use Rattle.std.proofs.Common.{ℕ, suc, ◌+◌, List, [], ◌∷◌, ◌≡◌, refl, sym, ◌∙◌, length, Option, None, Some, subst}
+use Rattle.dft_base.specs.declared.tri.Tri.{Tri}
+use Rattle.dft_netlist.specs.Logic.{Logic, IsRanked, logic_of}
+use Rattle.dft_netlist.proofs.Ranks.{order_is_rank}
+use Rattle.dft_cycle.specs.Cycle.{Round, after_round, all_unknown}
+use Rattle.dft_cycle.proofs.Least.{round_one}
+use Rattle.dft_replay.specs.declared.verdict.Verdict.{Verdict}
+use Rattle.dft_replay.specs.Rows.{Compared, Row, rows_of, ports_of}
+use Rattle.dft_replay.specs.Verdicts.{decided, Stops, HasVerdictFrom}
+use Rattle.dft_replay.specs.Laws.{VerdictIsOne}
+
+-- values that are the same everywhere are one map
+pub same_map : (a b : ℕ → Tri) → ((k : ℕ) → a k ≡ b k) → a ≡ b
+same_map a b same = λ t k. same k t
+
+stops_same : (d : Option Verdict) (a b : Verdict) (A B : Type 0) → Stops d a A → Stops d b B → (A → B → a ≡ b) → a ≡ b
+stops_same None a b A B p q later = later p q
+stops_same (Some d) a b A B p q later = p ∙ sym q
+
+one_from : (l : Logic) (rank : ℕ → ℕ) (old : ℕ → Tri) (v count : ℕ) (rows : List Row) (a b : Verdict) → IsRanked l rank → HasVerdictFrom l old v count rows a → HasVerdictFrom l old v count rows b → a ≡ b
+one_from l rank old v count [] a b ranked p q = p ∙ sym q
+one_from l rank old v count (x ∷ xs) a b ranked p q =
+    let r : Round = p.0 in
+    let s : Round = q.0 in
+    let one = round_one l rank x.vector old r s ranked p.1.0 q.1.0 in
+    let strobe : s.strobe ≡ r.strobe = same_map s.strobe r.strobe (λ net. sym (one.0 net)) in
+    let after : after_round l x.vector old s ≡ after_round l x.vector old r = same_map _ _ (λ c. sym (one.1 c)) in
+    let count' : ℕ = count + length x.compared in
+    let q' : Stops (decided r.strobe v x.compared) b (HasVerdictFrom l (after_round l x.vector old r) (suc v) count' xs b) =
+    subst (λ (w : ℕ → Tri). Stops (decided w v x.compared) b (HasVerdictFrom l (after_round l x.vector old r) (suc v) count' xs b)) strobe
+    (subst (λ (w : ℕ → Tri). Stops (decided s.strobe v x.compared) b (HasVerdictFrom l w (suc v) count' xs b)) after q.1.1) in
+    stops_same (decided r.strobe v x.compared) a b _ _ p.1.1 q' (one_from l rank (after_round l x.vector old r) (suc v) count' xs a b ranked)
+
+pub verdict_one : VerdictIsOne
+verdict_one n rank p a b order va vb = one_from (logic_of n (ports_of n p)) rank all_unknown 0 0 (rows_of n p) a b (order_is_rank n (ports_of n p) rank order) va vb

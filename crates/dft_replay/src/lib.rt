@@ -1,0 +1,8 @@
+//! The verdict of patterns on a design, and what it says of every run.
+#![tactic(auto)]
+
+mod laws;
+mod verdict;
+
+pub use laws::{mismatch_is_sound, pass_is_sound, verdict_is_one};
+pub use verdict::Verdict;
