@@ -1,2 +1,3 @@
 pub mod StoreLemmas
 pub mod Turns
+pub mod WordLemmas

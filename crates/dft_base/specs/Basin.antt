@@ -1,5 +1,5 @@
 -- A sink in memory, with calls that fail on demand.
-use Rattle.std.specs.Prelude.{◌≡◌, ◌++◌, ℕ, List, take, Option, None, IsSomeAnd, Result, Ok, Err}
+use Rattle.std.specs.Prelude.{◌≡◌, ◌++◌, ℕ, List, take, None, IsSomeAnd, Result, Ok, Err}
 use Rattle.dft_base.specs.declared.failing.Failing.{Failing}
 use Rattle.dft_base.specs.declared.outside.PutError.{PutError}
 use Rattle.dft_base.specs.declared.outside.PutError.TheVariants as put

@@ -7,5 +7,6 @@ pub mod BasinShown
 pub mod Entries
 pub mod Store
 pub mod StoreShown
+pub mod Words
 pub mod Parser
 pub mod SimpleName

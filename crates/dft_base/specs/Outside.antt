@@ -1,5 +1,5 @@
 -- Named files outside the program, and the counts of what failed there.
-use Rattle.std.specs.Prelude.{◌≡◌, ◌+◌, ◌-◌, ◌^◌, ◌≤◌, ◌⊎◌, ℕ, min, List, [], ◌∷◌, take, Bool, false, Result, Ok, Err, Option, Some, None, Vec}
+use Rattle.std.specs.Prelude.{◌≡◌, ◌+◌, ◌-◌, ◌^◌, ◌≤◌, ◌⊎◌, ℕ, min, List, [], ◌∷◌, take, false, Result, Ok, Err, Option, Some, None, Vec}
 use Rattle.std.specs.Map.{lookup}
 use Rattle.std.specs.Str.{bytes_eq}
 use Rattle.std.specs.declared.alloc.Global.{Global}

@@ -1,5 +1,5 @@
 -- Files in memory, with calls that fail on demand.
-use Rattle.std.specs.Prelude.{◌≡◌, ◌==◌, ◌+◌, ◌-◌, ◌^◌, ◌<◌, ◌≤◌, ◌⊎◌, ℕ, min, List, [], ◌∷◌, length, take, find, Bool, if◌then◌else◌, Option, Some, None, option_map, IsSome, IsSomeAnd, Result, Ok, Err, Vec}
+use Rattle.std.specs.Prelude.{◌≡◌, ◌==◌, ◌+◌, ◌-◌, ◌^◌, ◌<◌, ◌≤◌, ◌⊎◌, ℕ, min, List, [], ◌∷◌, length, take, find, if◌then◌else◌, Option, Some, None, option_map, IsSome, IsSomeAnd, Result, Ok, Err, Vec}
 use Rattle.std.specs.Str.{bytes_eq}
 use Rattle.std.specs.declared.alloc.Global.{Global}
 use Rattle.dft_base.specs.declared.failing.Failing.{Failing}

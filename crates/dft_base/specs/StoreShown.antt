@@ -1,19 +1,17 @@
 -- What `MemoryFiles` shows.
-use Rattle.std.specs.Prelude.{ℕ, List, map, String, Vec, string_bytes}
-use Rattle.std.specs.declared.alloc.Global.{Global}
+use Rattle.std.specs.Prelude.{string_bytes}
 use Rattle.dft_base.specs.declared.memory_files.MemoryFiles.TheInside.{Inside}
-use Rattle.dft_base.specs.Outside.{Held}
 use Rattle.dft_base.specs.Entries.{held_of}
 use Rattle.dft_base.specs.Store.{Store}
 
 -- its files, the calls that are to fail, and what has come to pass
 abbrev pub store_of : Inside → Store
 store_of f = record {
-    held = held_of f.entries.items;
-    failing = f.failing.items;
-    calls = f.calls;
-    failed = string_bytes f.failed;
-    read_faults = f.read_faults;
-    write_faults = f.write_faults;
-    taken = f.taken
+  held = held_of f.entries.items;
+  failing = f.failing.items;
+  calls = f.calls;
+  failed = string_bytes f.failed;
+  read_faults = f.read_faults;
+  write_faults = f.write_faults;
+  taken = f.taken;
 }

@@ -2,6 +2,7 @@
 #![tactic(auto)]
 
 mod failing;
+mod host;
 mod memory_files;
 mod name;
 mod outside;
@@ -10,11 +11,17 @@ mod sinks;
 #[cfg(test)]
 mod tests;
 mod tri;
+mod words;
 
 pub use failing::Failing;
+pub use host::{HostFiles, OutSink};
 pub use memory_files::MemoryFiles;
 pub use name::Name;
 pub use outside::{Files, LoadError, PutError, SaveError, Sink};
 pub use place::{Place, Range};
 pub use sinks::{MemorySink, NeverFails};
 pub use tri::Tri;
+pub use words::{
+    begins_word, continues_word, is_later_reserved, is_reserved, is_simple_name, is_word,
+    needs_escape,
+};

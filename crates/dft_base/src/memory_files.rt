@@ -177,7 +177,11 @@ fn place_of(entries: &[(String, Vec<u8>)], name: &str) -> Option<usize>
 }
 
 // Puts the bytes at the name, in place of its file or behind the others.
-fn put_file(entries: &mut Vec<(String, Vec<u8>)>, name: String, bytes: Vec<u8>) -> Result<(), AllocError>
+fn put_file(
+    entries: &mut Vec<(String, Vec<u8>)>,
+    name: String,
+    bytes: Vec<u8>,
+) -> Result<(), AllocError>
     ensures ok { OnOk result (held_of entries.new.items ≡ with_file (string_bytes name) bytes.items (held_of entries.old.items)) }
     ensures err { OnErr result (entries.new.items ≡ entries.old.items) }
 {

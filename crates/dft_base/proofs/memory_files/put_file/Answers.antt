@@ -1,4 +1,4 @@
-use Rattle.std.proofs.Common.{rules, ◌≡◌, List, ◌∷◌, [], ◌++◌, Some, None, set, ap, sym, ◌∙◌, string_bytes}
+use Rattle.std.proofs.Common.{rules, ◌≡◌, List, ◌∷◌, [], Some, None, set, ap, ◌∙◌, string_bytes}
 use Rattle.std.proofs.lemmas.List.{map-append}
 use Rattle.std.specs.List.{position}
 use Rattle.dft_base.proofs.StoreLemmas.{Entry, has_name, held_of-set, held_of-push}
