@@ -8,18 +8,19 @@ use Rattle.std.proofs.lemmas.Option.{slice_get-map}
 use Rattle.std.proofs.lemmas.Slice.Eq.{bytes_eq-Decides}
 use Rattle.dft_cells.specs.declared.cell.Cell.{Cell}
 use Rattle.dft_cells.specs.Standard.{standard_cells}
+use Rattle.dft_cells.specs.FlipFlops.{is_flip_flop}
 use Rattle.dft_cells.specs.declared.kind.Role.TheVariants as role
 use Rattle.dft_netlist.specs.declared.port.Dir.{Dir}
 use Rattle.dft_netlist.specs.declared.port.Dir.TheVariants as dir
 use Rattle.dft_netlist.specs.declared.instance.Instance.{Instance}
 use Rattle.dft_netlist.specs.declared.instance.Signal.TheVariants as signal
 use Rattle.dft_netlist.specs.Netlist.{Netlist}
-use Rattle.dft_netlist.specs.Drivers.{Driver, Driven, Input, Flop, Free, Source, Net, Connection, driver_in, driven_by, driven_by_bits, driven_by_ports, driven_by_instances, all_driven, driver, connections_of, pins_at, pins_of, nets_read, AreBelow}
+use Rattle.dft_netlist.specs.Drivers.{Driver, Driven, Input, Flop, Free, Source, Net, Connection, driver_in, driven_by, driven_by_bits, driven_by_ports, driven_by_instances, all_driven, driver, connections_of, pins_at, pins_of, kind_of, kind_at, nets_read, AreBelow}
 use Rattle.dft_netlist.specs.FirstForm.{FlipFlop, Draft, dir_at, instance_of, is_well_joined, have_one_clock, is_driven, drive_apart, outputs_driven, all_declared, are_distinct, is_input, is_output, is_sound, dir_or_input, ports_from, flat_netlist, form_of, first_form, module_text, most_bytes}
 use Rattle.dft_netlist.specs.Rules.{Outcome}
 use Rattle.dft_netlist.specs.Tokens.{tokens}
 use Rattle.dft_netlist.specs.Traces.{Root, Port, root_of}
-use Rattle.dft_netlist.specs.Logic.{Ports, domain_of, domain_at, forcing, scan_of, or_loose, pin_of, modelled, flip_flop}
+use Rattle.dft_netlist.specs.Logic.{Ports, domain_of, domain_at, forcing, scan_of, or_loose, pin_of, modelled, modelled_of, flip_flop}
 use Rattle.dft_netlist.specs.Logic as Logic
 use Rattle.dft_netlist.specs.Flat.{IsOutputOf, IsJoined, flat_cell, IsFlat, FirstFormIsFlat, FlatIsOrdered}
 
@@ -290,14 +291,20 @@ joined_at draft i f s there =
 pins_here : (draft : Draft) (i : ℕ) (f : FlipFlop) → slice_get draft.flip_flops i ≡ Some f → pins_of (flat_netlist draft) i ≡ connections_of standard_cells (instance_of f)
 pins_here draft i f there = ap (pins_at standard_cells) (slice_get-map instance_of draft.flip_flops i ∙ ap (option_map instance_of) there)
 
-pins_past : (draft : Draft) (i : ℕ) → slice_get draft.flip_flops i ≡ None → pins_of (flat_netlist draft) i ≡ []
-pins_past draft i none = ap (pins_at standard_cells) (slice_get-map instance_of draft.flip_flops i ∙ ap (option_map instance_of) none)
+-- an instance is a flip-flop, and past the end there is none
+kind_here : (draft : Draft) (i : ℕ) (f : FlipFlop) → slice_get draft.flip_flops i ≡ Some f → is_flip_flop (kind_at (flat_netlist draft) i) ≡ true
+kind_here draft i f there = ap (λ (o : Option Instance). is_flip_flop (kind_of standard_cells o)) (slice_get-map instance_of draft.flip_flops i ∙ ap (option_map instance_of) there)
 
--- a flip-flop with these pins
-abbrev flip_flop_with : Netlist → Ports → ℕ → List Connection → Option Logic.Cell
-flip_flop_with n ports i pins =
-    modelled (domain_at n ports (pin_of role.Clock i pins)) (forcing n ports (pin_of role.Reset i pins) (pin_of role.Preset i pins))
-    (or_loose i (pin_of role.Din i pins)) (scan_of (pin_of role.ScanEnable i pins) (pin_of role.ScanIn i pins))
+kind_past : (draft : Draft) (i : ℕ) → slice_get draft.flip_flops i ≡ None → is_flip_flop (kind_at (flat_netlist draft) i) ≡ false
+kind_past draft i none = ap (λ (o : Option Instance). is_flip_flop (kind_of standard_cells o)) (slice_get-map instance_of draft.flip_flops i ∙ ap (option_map instance_of) none)
+
+where_true : (b : Bool) (x : Option Logic.Cell) → b ≡ true → (if b then x else None) ≡ x
+where_true true x h = refl
+where_true false x h = absurd cc
+
+where_false : (b : Bool) (x : Option Logic.Cell) → b ≡ false → (if b then x else None) ≡ None
+where_false true x h = absurd cc
+where_false false x h = refl
 
 modelled_if : (b : Bool) (clock : ℕ) (input : Source) → modelled (if b then Some clock else None) (Some None) input None ≡ (if b then Some (record { domain = clock; input = input; scan = None; force = None }) else None)
 modelled_if true clock input = refl
@@ -310,13 +317,14 @@ modelled_at : (draft : Draft) (ports : Ports) (i : ℕ) (f : FlipFlop) → Says 
 modelled_at draft ports i f s there =
     let n : Netlist = flat_netlist draft in
     let clock = one_clock draft.flip_flops i f s.clock there in
-    ap (flip_flop_with n ports i) (pins_here draft i f there) ∙
+    where_true (is_flip_flop (kind_at n i)) (modelled_of n ports i (pins_of n i)) (kind_here draft i f there) ∙
+    ap (modelled_of n ports i) (pins_here draft i f there) ∙
     ap (λ (root : Root). modelled (domain_of ports root) (Some None) (Net f.data_in.0) None) (root_here n f.clock.0 (input_driver draft f.clock.0 s (joins draft i f s there).clock)) ∙
     modelled_if (ports.is_clock f.clock.0) f.clock.0 (Net f.data_in.0) ∙
     ap (λ (k : ℕ). if ports.is_clock k then Some (record { domain = k; input = Net f.data_in.0; scan = None; force = None }) else None) clock
 
 modelled_past : (draft : Draft) (ports : Ports) (i : ℕ) → slice_get draft.flip_flops i ≡ None → flip_flop (flat_netlist draft) ports i ≡ None
-modelled_past draft ports i none = ap (flip_flop_with (flat_netlist draft) ports i) (pins_past draft i none)
+modelled_past draft ports i none = where_false (is_flip_flop (kind_at (flat_netlist draft) i)) (modelled_of (flat_netlist draft) ports i (pins_of (flat_netlist draft) i)) (kind_past draft i none)
 
 -- ---- names
 
