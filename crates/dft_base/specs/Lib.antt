@@ -9,4 +9,3 @@ pub mod Store
 pub mod StoreShown
 pub mod Words
 pub mod Parser
-pub mod SimpleName

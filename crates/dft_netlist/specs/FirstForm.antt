@@ -5,7 +5,7 @@
 --   item       = ( "input" | "output" ) name { "," name } ";"
 --              | "DFF" name "(" connection "," connection "," connection ")" ";"
 --   connection = "." ( "CK" | "D" | "Q" ) "(" name ")"
-use Rattle.std.specs.Prelude.{ℕ, zero, suc, ◌+◌, Bool, true, false, not, ◌==◌, ◌&&◌, ◌||◌, nat_le, List, [], ◌∷◌, ◌++◌, length, map, position, slice_index_or, slice_set, codes, if◌then◌else◌, Option, Some, None, is_some, Ok, Err}
+use Rattle.std.specs.Prelude.{ℕ, zero, suc, ◌+◌, Bool, true, false, not, ◌==◌, ◌&&◌, ◌||◌, nat_le, List, [], ◌∷◌, ◌++◌, length, map, replicate, position, slice_index_or, slice_set, codes, if◌then◌else◌, Option, Some, None, is_some, Ok, Err}
 use Rattle.std.specs.List.{list_any, list_all}
 use Rattle.std.specs.Str.{bytes_eq}
 use Rattle.dft_base.specs.Parser.{◌>>=◌, ◌>>◌, pure}
@@ -80,9 +80,9 @@ header = do
   opens ← eat (codes "(")
   if opens then names_inside else pure []
 
--- no direction yet for any of these names
+-- no direction yet for any of the names
 abbrev pub undeclared : List Text → List (Option Dir)
-undeclared names = map (λ known. None) names
+undeclared words = replicate (length words) None
 
 unfoldable pub heading : Rule Draft
 heading = do
@@ -254,11 +254,21 @@ abbrev pub outputs_driven : List FlipFlop → ℕ → List (Option Dir) → Bool
 outputs_driven fs place [] = true
 outputs_driven fs place (dir ∷ dirs) = (not (is_output dir) || is_driven fs place) && outputs_driven fs (place + 1) dirs
 
--- names are distinct, each header name is declared, there is one clock, and each output has one driver
+-- the header's names are distinct, and each was declared
+abbrev pub are_well_named : List Text → List (Option Dir) → Bool
+are_well_named words dirs = are_distinct words && all_declared words dirs
+
+-- each flip-flop is joined to ports, and all to one clock
+abbrev pub are_clocked : List (Option Dir) → List FlipFlop → Bool
+are_clocked dirs fs = list_all (is_well_joined dirs) fs && have_one_clock fs
+
+-- each output has one driver
+abbrev pub are_driven : List (Option Dir) → List FlipFlop → Bool
+are_driven dirs fs = drive_apart fs && outputs_driven fs 0 dirs
+
+-- the module is of the first form
 abbrev pub is_sound : Draft → Bool
-is_sound draft =
-    are_distinct draft.names && all_declared draft.names draft.dirs && list_all (is_well_joined draft.dirs) draft.flip_flops
-    && have_one_clock draft.flip_flops && drive_apart draft.flip_flops && outputs_driven draft.flip_flops 0 draft.dirs
+is_sound draft = are_well_named draft.names draft.dirs && (are_clocked draft.dirs draft.flip_flops && are_driven draft.dirs draft.flip_flops)
 
 -- ---- the netlist
 

@@ -1,7 +1,7 @@
 -- The steps of the rules of netlist texts. A rule looks at the next token; a text has no fault but that it is not of the form.
 use Rattle.std.specs.Prelude.{ℕ, Bool, true, false, List, [], ◌∷◌, if◌then◌else◌, Option, Some, None, Result, Ok, Err}
 use Rattle.std.specs.Str.{bytes_eq}
-use Rattle.dft_base.specs.SimpleName.{is_free_name}
+use Rattle.dft_base.specs.Words.{needs_escape}
 use Rattle.dft_base.specs.Parser as parser
 use Rattle.dft_netlist.specs.Tokens.{Text, Token}
 
@@ -62,9 +62,9 @@ is_end (t ∷ ts) = false
 unfoldable pub end_of_text : Rule (Unit {0})
 end_of_text = λ ts. if is_end ts then Ok (tt, ts) else refuse ts
 
--- takes a simple name that is no reserved word
+-- takes a simple name that no list of reserved words has
 unfoldable pub name : Rule Text
-name = λ ts. if is_free_name (bytes ts) then Ok (bytes ts, next ts) else refuse ts
+name = λ ts. if needs_escape (bytes ts) then refuse ts else Ok (bytes ts, next ts)
 
 -- what must be there
 abbrev pub needed : {A : Type 0} → Option A → Rule A

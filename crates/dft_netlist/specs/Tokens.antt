@@ -1,7 +1,7 @@
 -- The tokens of a netlist text (IEEE 1364): words, and single bytes that stand for themselves.
 use Rattle.std.specs.Prelude.{ℕ, zero, suc, ◌-◌, Bool, List, [], ◌∷◌, length, take, ◌==◌, ◌||◌, if◌then◌else◌}
 use Rattle.std.specs.List.{prefix_len}
-use Rattle.dft_base.specs.SimpleName.{is_name_byte}
+use Rattle.dft_base.specs.Words.{continues_word}
 
 -- a text, as its bytes
 abbrev pub Text : Type 0
@@ -12,10 +12,10 @@ pub record Token : Type 0 where
   pub bytes : Text
   pub left : ℕ
 
--- how many bytes the token at the front has: a word takes all name bytes, any other byte stands alone
+-- how many bytes the token at the front has: a word takes all bytes that may stand in a word, any other byte stands alone
 unfoldable pub cut : Text → ℕ
 cut [] = 0
-cut (b ∷ text) = if prefix_len is_name_byte (b ∷ text) == 0 then 1 else prefix_len is_name_byte (b ∷ text)
+cut (b ∷ text) = if prefix_len continues_word (b ∷ text) == 0 then 1 else prefix_len continues_word (b ∷ text)
 
 -- a space or a line's end
 abbrev pub is_blank : ℕ → Bool
