@@ -1,0 +1,3 @@
+pub mod Outcomes
+pub mod DeclarationLemmas
+pub mod VectorLemmas

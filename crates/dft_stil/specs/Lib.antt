@@ -3,3 +3,4 @@ pub mod Patterns
 pub mod Shown
 pub mod Words
 pub mod Written
+pub mod Rules
