@@ -1,3 +1,4 @@
 pub mod Outcomes
 pub mod DeclarationLemmas
 pub mod VectorLemmas
+pub mod WrittenLemmas

@@ -2,5 +2,6 @@ pub mod Acts
 pub mod Patterns
 pub mod Shown
 pub mod Words
+pub mod Laws
 pub mod Written
 pub mod Rules

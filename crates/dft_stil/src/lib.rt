@@ -3,10 +3,12 @@
 
 mod act;
 mod error;
+mod laws;
 mod pattern_set;
 mod signal;
 
 pub use act::{Act, Acts};
 pub use error::StilError;
+pub use laws::one_reading;
 pub use pattern_set::PatternSet;
 pub use signal::StilSignal;
