@@ -2,10 +2,14 @@
 #![tactic(auto)]
 
 mod act;
+mod cursor;
+mod declarations;
 mod error;
 mod laws;
 mod pattern_set;
 mod signal;
+mod vectors;
+mod words;
 
 pub use act::{Act, Acts};
 pub use error::StilError;

@@ -1,0 +1,84 @@
+ghost use Rattle.std.specs.Prelude.{◌≡◌, ℕ, List, IfOk, true, length, drop, if◌then◌else◌};
+ghost use Rattle.dft_stil.specs.Rules as spec;
+ghost use Rattle.dft_stil.specs.Words.{is_simple};
+ghost use Rattle.dft_stil.specs.Reads.{Reads};
+
+use crate::error::StilError;
+use crate::words::is_simple;
+use std::marker::Model;
+
+/// The part of a text that is left to read. A clause sees it as its bytes.
+#[derive(Drop)]
+pub struct Cursor<'a> {
+    ahead: &'a [u8],
+}
+
+impl<'a> Model for Cursor<'a> {
+    ghost Value = { List ℕ };
+
+    ghost view = { λ c. c.ahead.now };
+}
+
+impl<'a> Cursor<'a> {
+    /// At the beginning of a text.
+    pub fn new(text: &'a [u8]) -> Cursor<'a>
+        ensures { result ≡ text.now }
+    {
+        Cursor { ahead: text }
+    }
+
+    /// Whether nothing is left.
+    pub fn is_at_end(&self) -> bool
+        ensures { result ≡ (length self.now == 0) }
+    {
+        self.ahead.is_empty()
+    }
+
+    /// Whether these bytes come next.
+    pub fn begins(&self, literal: &[u8]) -> bool
+        ensures { result ≡ spec.begins literal.now self.now }
+    {
+        self.ahead.starts_with(literal)
+    }
+
+    #[tactic(auto, unfolding(crate::specs::Rules::expect))]
+    /// Takes exactly these bytes.
+    pub fn expect(&mut self, literal: &[u8]) -> Result<(), StilError>
+        ensures { Reads (λ _. tt) (spec.expect literal.now self.old) result self.new }
+    {
+        if !self.begins(literal) {
+            return Err(StilError::NotWritten);
+        }
+        self.ahead = &self.ahead[literal.len()..];
+        Ok(())
+    }
+
+    #[tactic(auto, unfolding(crate::specs::Rules::byte))]
+    /// Takes any byte.
+    pub fn byte(&mut self) -> Result<u8, StilError>
+        ensures { Reads (λ b. b) (spec.byte self.old) result self.new }
+    {
+        match self.ahead {
+            [] => Err(StilError::NotWritten),
+            [byte, rest @ ..] => {
+                self.ahead = rest;
+                Ok(*byte)
+            }
+        }
+    }
+
+    #[tactic(auto, unfolding(crate::specs::Rules::name))]
+    /// Takes a simple name, up to a quote.
+    pub fn name(&mut self) -> Result<&'a [u8], StilError>
+        ensures reads { Reads (λ n. n.now) (spec.name self.old) result self.new }
+        ensures simple { IfOk result (λ n. is_simple n.now ≡ true) }
+    {
+        let len = self.ahead.iter().take_while(|byte| **byte != b'"').count();
+        let (name, rest) = self.ahead.split_at(len);
+        if !is_simple(name) {
+            return Err(StilError::NotWritten);
+        }
+        self.ahead = rest;
+        Ok(name)
+    }
+}
