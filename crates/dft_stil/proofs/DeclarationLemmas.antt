@@ -5,41 +5,25 @@ use Rattle.dft_base.specs.Parser.{and_then}
 use Rattle.dft_netlist.specs.declared.port.Dir.{Dir}
 use Rattle.dft_netlist.specs.declared.port.Dir.TheVariants.{Input, Output}
 use Rattle.dft_stil.specs.declared.signal.StilSignal.{StilSignal}
-use Rattle.dft_stil.specs.Words.{is_simple, continues_name}
+use Rattle.dft_stil.specs.Words.{is_simple_name, continues_word}
 use Rattle.dft_stil.specs.Written.{way, declaration}
 use Rattle.dft_stil.specs.Rules.{begins, expect, name, name_len, direction, declared}
+use Rattle.dft_stil.proofs.NameLemmas.{no_quote, simple_continues, first_continues, rest_continues}
 use Rattle.dft_stil.proofs.Outcomes.{Gives, then_from, if_from, begins_at, begins_from, expect_at, expect_from, given_once}
 
 -- ---- names
-
-no_quote : (t : Bool) (b : ℕ) → eqb b 34 ≡ t → continues_name b ≡ true → t ≡ false
-no_quote false b e h = refl
-no_quote true b e h = absurd (true≢false (sym h ∙ ap continues_name (eqb-true b 34 e)))
-
-and_left : (t u : Bool) → (t && u) ≡ true → t ≡ true
-and_left true u e = refl
-and_left false u e = e
-
-and_right : (t u : Bool) → (t && u) ≡ true → u ≡ true
-and_right true u e = e
-and_right false u e = absurd (true≢false (sym e))
 
 len_more : (t : Bool) (n m : ℕ) → t ≡ false → n ≡ m → cond (not t) (1 + n) 0 ≡ 1 + m
 len_more false n m e h = ap (λ n. 1 + n) h
 len_more true n m e h = absurd (true≢false e)
 
-name_len_at : (n rest : List ℕ) → list_all continues_name n ≡ true → name_len (n ++ 34 ∷ rest) ≡ length n
+name_len_at : (n rest : List ℕ) → list_all continues_word n ≡ true → name_len (n ++ 34 ∷ rest) ≡ length n
 name_len_at [] rest h = refl
 name_len_at (b ∷ n) rest h =
-    let more = name_len_at n rest (and_right (continues_name b) _ h) in
-    len_more (eqb b 34) _ _ (no_quote _ b refl (and_left (continues_name b) _ h)) more ∙ omega arith
+    let more = name_len_at n rest (rest_continues b n h) in
+    len_more (eqb b 34) _ _ (no_quote b (first_continues b n h)) more ∙ omega arith
 
-simple_continues : (n : List ℕ) → is_simple n ≡ true → list_all continues_name n ≡ true
-unfolding is_simple
-simple_continues [] h = absurd (true≢false (sym h))
-simple_continues (b ∷ n) h = grind (arith, h)
-
-pub name_at : (n rest : List ℕ) → is_simple n ≡ true → Gives (name (n ++ 34 ∷ rest)) n (34 ∷ rest)
+pub name_at : (n rest : List ℕ) → is_simple_name n ≡ true → Gives (name (n ++ 34 ∷ rest)) n (34 ∷ rest)
 unfolding name
 name_at n rest h =
     let len = name_len_at n rest (simple_continues n h) in
@@ -47,11 +31,11 @@ name_at n rest h =
     let back : drop (name_len (n ++ 34 ∷ rest)) (n ++ 34 ∷ rest) ≡ 34 ∷ rest = drop_at n (34 ∷ rest) _ (sym len) in
     rw front (rw back (rw h refl))
 
-pub name_from : (text n rest : List ℕ) → Gives (name text) n rest → (text ≡ n ++ rest) × (is_simple n ≡ true)
+pub name_from : (text n rest : List ℕ) → Gives (name text) n rest → (text ≡ n ++ rest) × (is_simple_name n ≡ true)
 unfolding name
 name_from text n rest e =
-    let s = if_from (is_simple (take (name_len text) text)) (take (name_len text) text) n (drop (name_len text) text) rest e in
-    (sym (take-append-drop (name_len text) text) ∙ ap (λ x. x ++ drop (name_len text) text) s.1 ∙ ap (λ x. n ++ x) s.2, sym (ap is_simple s.1) ∙ s.0)
+    let s = if_from (is_simple_name (take (name_len text) text)) (take (name_len text) text) n (drop (name_len text) text) rest e in
+    (sym (take-append-drop (name_len text) text) ∙ ap (λ x. x ++ drop (name_len text) text) s.1 ∙ ap (λ x. n ++ x) s.2, sym (ap is_simple_name s.1) ∙ s.0)
 
 -- ---- directions
 
@@ -79,11 +63,11 @@ way_begins : (d : Dir) (rest : List ℕ) → (x : List ℕ) × (way d ++ rest �
 way_begins Input rest = (_, refl)
 way_begins Output rest = (_, refl)
 
-name_before : (n : List ℕ) (d : Dir) (rest : List ℕ) → is_simple n ≡ true → Gives (name (n ++ (way d ++ rest))) n (way d ++ rest)
+name_before : (n : List ℕ) (d : Dir) (rest : List ℕ) → is_simple_name n ≡ true → Gives (name (n ++ (way d ++ rest))) n (way d ++ rest)
 name_before n Input rest h = name_at n _ h
 name_before n Output rest h = name_at n _ h
 
-pub declared_at : (s : StilSignal) (rest : List ℕ) → is_simple s.name ≡ true → Gives (declared (declaration s ++ rest)) s rest
+pub declared_at : (s : StilSignal) (rest : List ℕ) → is_simple_name s.name ≡ true → Gives (declared (declaration s ++ rest)) s rest
 unfolding declared
 declared_at s rest h =
     let e = expect_at (codes "\"") (s.name ++ (way s.dir ++ rest)) in
@@ -91,7 +75,7 @@ declared_at s rest h =
     let d = direction_at s.dir rest in
     rw (append_assoc s.name (way s.dir) rest) (rw e (rw n (rw d refl)))
 
-pub declared_from : (text rest : List ℕ) (s : StilSignal) → Gives (declared text) s rest → (text ≡ declaration s ++ rest) × (is_simple s.name ≡ true)
+pub declared_from : (text rest : List ℕ) (s : StilSignal) → Gives (declared text) s rest → (text ≡ declaration s ++ rest) × (is_simple_name s.name ≡ true)
 unfolding declared
 declared_from text rest s e =
     let one = then_from (expect (codes "\"") text) _ s rest e in
@@ -102,4 +86,4 @@ declared_from text rest s e =
     let same : one.1 ≡ two.0 ++ (way three.0 ++ three.1) = n.0 ∙ ap (λ x. two.0 ++ x) (direction_from two.1 three.1 three.0 three.2) in
     let whole : text ≡ declaration (record { name = two.0; dir = three.0 }) ++ three.1 =
         expect_from (codes "\"") text one.1 one.2 ∙ ap (λ x. 34 ∷ x) (same ∙ sym (append_assoc two.0 (way three.0) three.1)) in
-    (whole ∙ ap (λ s. declaration s ++ three.1) end.0 ∙ ap (λ x. declaration s ++ x) end.1, ap (λ s. is_simple s.name) (sym end.0) ∙ n.1)
+    (whole ∙ ap (λ s. declaration s ++ three.1) end.0 ∙ ap (λ x. declaration s ++ x) end.1, ap (λ s. is_simple_name s.name) (sym end.0) ∙ n.1)

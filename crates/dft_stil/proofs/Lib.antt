@@ -1,4 +1,6 @@
 pub mod Outcomes
+pub mod NameLemmas
 pub mod DeclarationLemmas
 pub mod VectorLemmas
 pub mod WrittenLemmas
+pub mod LineLemmas

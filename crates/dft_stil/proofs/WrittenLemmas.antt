@@ -4,17 +4,14 @@ use Rattle.std.specs.Bool.{⊤}
 use Rattle.std.proofs.lemmas.List.{append_cancel_left}
 use Rattle.dft_stil.specs.declared.act.Act.{Act}
 use Rattle.dft_stil.specs.declared.signal.StilSignal.{StilSignal}
-use Rattle.dft_stil.specs.Words.{is_simple}
-use Rattle.dft_stil.specs.Patterns.{Patterns, IsPatterns, IsFullVector, inputs, outputs, input_count}
+use Rattle.dft_stil.specs.Words.{is_simple_name}
+use Rattle.dft_stil.specs.Patterns.{Patterns, IsPatterns, IsSimple, IsFullVector, inputs, outputs, input_count}
 use Rattle.dft_stil.specs.Written.{declaration, middle, head, vector_line, written}
 use Rattle.dft_stil.specs.Rules.{Rule, expect, declared, vector}
 use Rattle.dft_stil.specs.Laws.{HasOneReading}
 use Rattle.dft_stil.proofs.Outcomes.{Gives, lines_once}
 use Rattle.dft_stil.proofs.DeclarationLemmas.{declared_at}
 use Rattle.dft_stil.proofs.VectorLemmas.{vector_at}
-
-abbrev pub IsSimple : StilSignal → Type 0
-IsSimple s = is_simple s.name ≡ true
 
 -- a brace begins no declaration and no vector
 pub no_declaration : (rest : List ℕ) → declared (125 ∷ rest) ≡ Err tt

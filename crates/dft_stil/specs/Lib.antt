@@ -3,6 +3,7 @@ pub mod Patterns
 pub mod Shown
 pub mod Words
 pub mod Laws
+pub mod Lines
 pub mod Reads
 pub mod Written
 pub mod Rules

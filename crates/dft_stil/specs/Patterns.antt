@@ -7,7 +7,7 @@ use Rattle.dft_stil.specs.declared.act.Act.{Act}
 use Rattle.dft_stil.specs.declared.act.Act.TheVariants.{Unset, High, Pulse, Ignore}
 use Rattle.dft_stil.specs.declared.signal.StilSignal.{StilSignal}
 use Rattle.dft_stil.specs.Acts.{IsActOf, IsTold}
-use Rattle.dft_stil.specs.Words.{is_simple}
+use Rattle.dft_stil.specs.Words.{is_simple_name}
 
 pub record Patterns : Type 0 where
   -- in the order of their declarations
@@ -31,11 +31,15 @@ inputs signals = take (input_count signals) signals
 abbrev pub outputs : List StilSignal → List StilSignal
 outputs signals = drop (input_count signals) signals
 
+-- the name needs no quoting anywhere
+abbrev pub IsSimple : StilSignal → Type 0
+IsSimple s = is_simple_name s.name ≡ true
+
 -- signals that can be written: inputs before outputs, with simple names that all differ
 pub record IsDeclarable (signals : List StilSignal) : Type 0 where
   pub ordered : All (λ s. s.dir ≡ Output) (outputs signals)
   pub distinct : AllPairs (λ s t. s.name ≢ t.name) signals
-  pub simple : All (λ s. is_simple s.name ≡ true) signals
+  pub simple : All IsSimple signals
 
 -- there is an input and an output
 pub record HasBothWays (signals : List StilSignal) : Type 0 where

@@ -7,7 +7,7 @@ use Rattle.dft_netlist.specs.declared.port.Dir.TheVariants.{Input, Output}
 use Rattle.dft_stil.specs.declared.act.Act.{Act}
 use Rattle.dft_stil.specs.declared.signal.StilSignal.{StilSignal}
 use Rattle.dft_stil.specs.Acts.{act_of}
-use Rattle.dft_stil.specs.Words.{is_simple}
+use Rattle.dft_stil.specs.Words.{is_simple_name}
 use Rattle.dft_stil.specs.Written.{way}
 
 abbrev pub Rule : Type 0 → Type 0
@@ -37,7 +37,7 @@ name_len text = prefix_len (λ b. not (b == 34)) text
 
 -- a simple name, up to a quote
 unfoldable pub name : Rule (List ℕ)
-name = λ text. if is_simple (take (name_len text) text) then Ok (take (name_len text) text, drop (name_len text) text) else Err tt
+name = λ text. if is_simple_name (take (name_len text) text) then Ok (take (name_len text) text, drop (name_len text) text) else Err tt
 
 -- what follows the name in a declaration
 unfoldable pub direction : Rule Dir

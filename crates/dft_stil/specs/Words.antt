@@ -1,16 +1,20 @@
 -- Simple names.
 use Rattle.std.specs.Prelude.{ℕ, Bool, false, List, [], ◌∷◌, ◌==◌, ◌||◌, ◌&&◌}
 use Rattle.std.specs.List.{list_all}
-use Rattle.std.specs.Char.{is_ascii_alphabetic, is_ascii_digit}
+use Rattle.std.specs.Char.{is_ascii_alphabetic, is_ascii_alphanumeric}
 
--- a letter or an underscore
-abbrev pub begins_name : ℕ → Bool
-begins_name b = is_ascii_alphabetic b || b == 95
+-- a letter or `_`
+abbrev pub begins_word : ℕ → Bool
+begins_word byte = is_ascii_alphabetic byte || byte == 95
 
--- a letter, a digit, an underscore or a dollar sign
-abbrev pub continues_name : ℕ → Bool
-continues_name b = begins_name b || is_ascii_digit b || b == 36
+-- a letter, a digit, `_` or `$`
+abbrev pub continues_word : ℕ → Bool
+continues_word byte = is_ascii_alphanumeric byte || byte == 95 || byte == 36
 
-unfoldable pub is_simple : List ℕ → Bool
-is_simple [] = false
-is_simple (b ∷ bs) = begins_name b && list_all continues_name bs
+-- the shape of a word: a letter or `_`, then letters, digits, `_` and `$`
+abbrev pub is_word : List ℕ → Bool
+is_word [] = false
+is_word (first ∷ rest) = begins_word first && list_all continues_word rest
+
+abbrev pub is_simple_name : List ℕ → Bool
+is_simple_name bytes = is_word bytes

@@ -1,10 +1,10 @@
-ghost use Rattle.std.specs.Prelude.{◌≡◌, ℕ, List, IfOk, true, length, drop, if◌then◌else◌};
+ghost use Rattle.std.specs.Prelude.{◌≡◌, ◌==◌, ◌≤◌, ℕ, List, IfOk, true, length, drop, if◌then◌else◌};
 ghost use Rattle.dft_stil.specs.Rules as spec;
-ghost use Rattle.dft_stil.specs.Words.{is_simple};
+ghost use Rattle.dft_stil.specs.Words.{is_simple_name};
 ghost use Rattle.dft_stil.specs.Reads.{Reads};
 
 use crate::error::StilError;
-use crate::words::is_simple;
+use crate::words::is_simple_name;
 use std::marker::Model;
 
 /// The part of a text that is left to read. A clause sees it as its bytes.
@@ -41,16 +41,28 @@ impl<'a> Cursor<'a> {
         self.ahead.starts_with(literal)
     }
 
+    /// Takes these bytes, if they come next.
+    pub fn eat(&mut self, literal: &[u8]) -> bool
+        ensures found { result ≡ spec.begins literal.now self.old }
+        ensures rest { self.new ≡ if spec.begins literal.now self.old then drop (length literal.now) self.old else self.old }
+    {
+        let found = self.begins(literal);
+        if found {
+            self.ahead = &self.ahead[literal.len()..];
+        }
+        found
+    }
+
     #[tactic(auto, unfolding(crate::specs::Rules::expect))]
     /// Takes exactly these bytes.
     pub fn expect(&mut self, literal: &[u8]) -> Result<(), StilError>
         ensures { Reads (λ _. tt) (spec.expect literal.now self.old) result self.new }
     {
-        if !self.begins(literal) {
-            return Err(StilError::NotWritten);
+        if self.eat(literal) {
+            Ok(())
+        } else {
+            Err(StilError::NotWritten)
         }
-        self.ahead = &self.ahead[literal.len()..];
-        Ok(())
     }
 
     #[tactic(auto, unfolding(crate::specs::Rules::byte))]
@@ -71,14 +83,21 @@ impl<'a> Cursor<'a> {
     /// Takes a simple name, up to a quote.
     pub fn name(&mut self) -> Result<&'a [u8], StilError>
         ensures reads { Reads (λ n. n.now) (spec.name self.old) result self.new }
-        ensures simple { IfOk result (λ n. is_simple n.now ≡ true) }
+        ensures simple { IfOk result (λ n. is_simple_name n.now ≡ true) }
     {
-        let len = self.ahead.iter().take_while(|byte| **byte != b'"').count();
-        let (name, rest) = self.ahead.split_at(len);
-        if !is_simple(name) {
+        let (name, rest) = self.ahead.split_at(name_len(self.ahead));
+        if !is_simple_name(name) {
             return Err(StilError::NotWritten);
         }
         self.ahead = rest;
         Ok(name)
     }
+}
+
+// How many bytes stand before the first quote.
+fn name_len(text: &[u8]) -> usize
+    ensures value { result ≡ spec.name_len text.now }
+    ensures within { result ≤ length text.now }
+{
+    text.iter().take_while(|byte| **byte != b'"').count()
 }

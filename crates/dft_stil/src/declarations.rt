@@ -1,6 +1,10 @@
 //! The lines that declare signals.
 
-ghost use Rattle.std.specs.Prelude.{◌≡◌};
+ghost use Rattle.std.specs.Prelude.{◌≡◌, Err, IfOk};
+ghost use Rattle.dft_stil.specs.declared.error.StilError.TheVariants.{NotWritten};
+ghost use Rattle.dft_stil.specs.Lines.{IsLines, HasNoLines};
+ghost use Rattle.dft_stil.specs.Patterns.{IsSimple};
+ghost use Rattle.dft_stil.specs.Written as form;
 ghost use Rattle.dft_stil.specs.Rules as spec;
 ghost use Rattle.dft_stil.specs.Reads.{Reads};
 
@@ -15,15 +19,14 @@ use std::alloc::Global;
 fn direction(text: &mut Cursor<'_>) -> Result<Dir, StilError>
     ensures { Reads (λ d. d) (spec.direction text.old) result text.new }
 {
-    if text.begins(b"\" In;\n") {
-        text.expect(b"\" In;\n")?;
+    if text.eat(b"\" In;\n") {
         return Ok(Dir::Input);
     }
     text.expect(b"\" Out;\n")?;
     Ok(Dir::Output)
 }
 
-#[tactic(auto, unfolding(crate::specs::Rules::declared))]
+#[tactic(auto, unfolding(crate::specs::Rules::declared), using(crate::proofs::NameLemmas::simple_is_name))]
 fn declaration(alloc: Global, text: &mut Cursor<'_>) -> Result<StilSignal, StilError>
     ensures { Reads (λ s. s) (spec.declared text.old) result text.new }
 {
@@ -34,4 +37,17 @@ fn declaration(alloc: Global, text: &mut Cursor<'_>) -> Result<StilSignal, StilE
         name: Name::from_slice(alloc, name)?,
         dir,
     })
+}
+
+// The lines up to the first brace.
+fn declarations(alloc: Global, text: &mut Cursor<'_>) -> Result<Vec<StilSignal>, StilError>
+    ensures lines { IfOk result (λ signals. IsLines form.declaration IsSimple signals.items text.new text.old) }
+    ensures all { IfOk result (λ _. spec.declared text.new ≡ Err tt) }
+    ensures err { result ≡ Err NotWritten → HasNoLines form.declaration IsSimple text.old }
+{
+    let mut signals = Vec::new(alloc);
+    while !text.begins(b"}") {
+        signals.push(declaration(alloc, text)?)?;
+    }
+    Ok(signals)
 }

@@ -1,3 +1,6 @@
+ghost use Rattle.std.specs.Prelude.{◌≡◌, ◌≤◌, length};
+ghost use Rattle.dft_stil.specs.Patterns as spec;
+
 use dft_base::Name;
 use dft_netlist::Dir;
 
@@ -6,4 +9,18 @@ use dft_netlist::Dir;
 pub struct StilSignal {
     pub name: Name,
     pub dir: Dir,
+}
+
+/// How many inputs stand before the first output.
+pub fn input_count(signals: &[StilSignal]) -> usize
+    ensures value { result ≡ spec.input_count signals.now }
+    ensures within { result ≤ length signals.now }
+{
+    signals.iter().take_while(|signal| is_input(signal.dir)).count()
+}
+
+fn is_input(dir: Dir) -> bool
+    ensures { result ≡ spec.is_input dir }
+{
+    matches!(dir, Dir::Input)
 }

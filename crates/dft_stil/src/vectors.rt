@@ -1,14 +1,18 @@
 //! The lines of vectors.
 
-ghost use Rattle.std.specs.Prelude.{◌≡◌};
+ghost use Rattle.std.specs.Prelude.{◌≡◌, Err, IfOk};
 ghost use Rattle.dft_stil.specs.Acts as letters;
+ghost use Rattle.dft_stil.specs.declared.error.StilError.TheVariants.{NotWritten};
+ghost use Rattle.dft_stil.specs.Lines.{IsLines, HasNoLines};
+ghost use Rattle.dft_stil.specs.Patterns.{IsFullVector, input_count};
+ghost use Rattle.dft_stil.specs.Written as form;
 ghost use Rattle.dft_stil.specs.Rules as spec;
 ghost use Rattle.dft_stil.specs.Reads.{Reads};
 
 use crate::act::{Act, Acts};
 use crate::cursor::Cursor;
 use crate::error::StilError;
-use crate::signal::StilSignal;
+use crate::signal::{StilSignal, input_count};
 use dft_netlist::Dir;
 use std::alloc::Global;
 
@@ -70,4 +74,21 @@ fn vector(
     assigned(b"; outs = ", outs, &mut all, text)?;
     text.expect(b"; }\n")?;
     Ok(all)
+}
+
+/// The lines up to the first brace, each a vector of these signals.
+pub fn vectors(
+    alloc: Global,
+    signals: &[StilSignal],
+    text: &mut Cursor<'_>,
+) -> Result<Vec<Acts>, StilError>
+    ensures lines { IfOk result (λ vectors. IsLines (form.vector_line (input_count signals.now)) (IsFullVector signals.now) vectors.items text.new text.old) }
+    ensures err { result ≡ Err NotWritten → HasNoLines (form.vector_line (input_count signals.now)) (IsFullVector signals.now) text.old }
+{
+    let (ins, outs) = signals.split_at(input_count(signals));
+    let mut vectors = Vec::new(alloc);
+    while !text.begins(b"}") {
+        vectors.push(vector(alloc, ins, outs, text)?)?;
+    }
+    Ok(vectors)
 }
