@@ -4,3 +4,4 @@ pub mod DeclarationLemmas
 pub mod VectorLemmas
 pub mod WrittenLemmas
 pub mod LineLemmas
+pub mod Refusals

@@ -1,5 +1,5 @@
 -- Loops that read lines up to a brace.
-use Rattle.std.proofs.Common.{◌≡◌, ℕ, zero, suc, ◌+◌, ◌<◌, Bool, true, false, true≢false, List, [], ◌∷◌, ◌++◌, flat_map, length, drop, get_or, All, Err, refl, sym, ap, ◌∙◌, append_assoc, append-nil, length-append, arith}
+use Rattle.std.proofs.Common.{◌≡◌, ℕ, zero, suc, ◌+◌, ◌<◌, Bool, true, false, true≢false, List, [], ◌∷◌, ◌++◌, flat_map, length, drop, get_or, All, Err, refl, sym, ap, ap₂, ◌∙◌, append_assoc, append-nil, length-append, arith}
 use Rattle.std.specs.Bool.{⊤}
 use Rattle.std.proofs.lemmas.List.Sums.{prefix_len-le-length}
 use Rattle.dft_stil.specs.declared.act.Act.{Act}
@@ -59,16 +59,20 @@ declarations_end ahead b = ap declared (begins_from (125 ∷ []) ahead b) ∙ no
 
 -- ---- vectors
 
-pub vector_more : (ss : List StilSignal) (items : List (List Act)) (item : List Act) (ahead rest text : List ℕ)
-    → IsLines (vector_line (input_count ss)) (IsFullVector ss) items ahead text → Gives (vector_of ss ahead) item rest → IsLines (vector_line (input_count ss)) (IsFullVector ss) (items ++ item ∷ []) rest text
-vector_more ss items item ahead rest text h e = let f = vector_from ss (input_count ss) item ahead rest (prefix_len-le-length _ ss) e in line_more (vector_line (input_count ss)) (IsFullVector ss) items item ahead rest text h f.0 f.1
+-- the rule of the vectors of these signals, where they are split into inputs and outputs
+pub vector_more : (ss ins outs : List StilSignal) (items : List (List Act)) (item : List Act) (ahead rest text : List ℕ) → ins ≡ inputs ss → outs ≡ outputs ss
+    → IsLines (vector_line (input_count ss)) (IsFullVector ss) items ahead text → Gives (vector ins outs ahead) item rest → IsLines (vector_line (input_count ss)) (IsFullVector ss) (items ++ item ∷ []) rest text
+vector_more ss ins outs items item ahead rest text i o h e =
+    let f = vector_from ss (input_count ss) item ahead rest (prefix_len-le-length _ ss) (sym (ap₂ (λ i o. vector i o ahead) i o) ∙ e) in
+    line_more (vector_line (input_count ss)) (IsFullVector ss) items item ahead rest text h f.0 f.1
 
-pub vector_shorter : (ss : List StilSignal) (item : List Act) (ahead rest : List ℕ) → Gives (vector_of ss ahead) item rest → length rest < length ahead
+pub vector_shorter : (ss ins outs : List StilSignal) (item : List Act) (ahead rest : List ℕ) → ins ≡ inputs ss → outs ≡ outputs ss → Gives (vector ins outs ahead) item rest → length rest < length ahead
 unfolding vector_line
-vector_shorter ss item ahead rest e =
-    let f = vector_from ss (input_count ss) item ahead rest (prefix_len-le-length _ ss) e in
+vector_shorter ss ins outs item ahead rest i o e =
+    let f = vector_from ss (input_count ss) item ahead rest (prefix_len-le-length _ ss) (sym (ap₂ (λ i o. vector i o ahead) i o) ∙ e) in
     omega (arith, ap length f.1, length-append (vector_line (input_count ss) item) rest)
 
-pub vectors_stuck : (ss : List StilSignal) (items : List (List Act)) (ahead text : List ℕ) → IsLines (vector_line (input_count ss)) (IsFullVector ss) items ahead text → vector_of ss ahead ≡ Err tt → begins (125 ∷ []) ahead ≡ false → HasNoLines (vector_line (input_count ss)) (IsFullVector ss) text
-vectors_stuck ss items ahead text h e b others rest v f =
-    brace_ahead rest ahead (vectors_once ss items others ahead (125 ∷ rest) h.valid v e (no_vector (inputs ss) (outputs ss) rest) (h.lines ∙ sym f)).1 b
+pub vectors_stuck : (ss ins outs : List StilSignal) (items : List (List Act)) (ahead text : List ℕ) → ins ≡ inputs ss → outs ≡ outputs ss
+    → IsLines (vector_line (input_count ss)) (IsFullVector ss) items ahead text → vector ins outs ahead ≡ Err tt → begins (125 ∷ []) ahead ≡ false → HasNoLines (vector_line (input_count ss)) (IsFullVector ss) text
+vectors_stuck ss ins outs items ahead text i o h e b others rest v f =
+    brace_ahead rest ahead (vectors_once ss items others ahead (125 ∷ rest) h.valid v (sym (ap₂ (λ i o. vector i o ahead) i o) ∙ e) (no_vector (inputs ss) (outputs ss) rest) (h.lines ∙ sym f)).1 b

@@ -11,8 +11,16 @@ pub struct StilSignal {
     pub dir: Dir,
 }
 
-/// How many inputs stand before the first output.
-pub fn input_count(signals: &[StilSignal]) -> usize
+/// The inputs before the first output, and the signals from there on.
+pub fn groups(signals: &[StilSignal]) -> (&[StilSignal], &[StilSignal])
+    ensures ins { result.0.now ≡ spec.inputs signals.now }
+    ensures outs { result.1.now ≡ spec.outputs signals.now }
+{
+    signals.split_at(input_count(signals))
+}
+
+// How many inputs stand before the first output.
+fn input_count(signals: &[StilSignal]) -> usize
     ensures value { result ≡ spec.input_count signals.now }
     ensures within { result ≤ length signals.now }
 {

@@ -12,7 +12,7 @@ ghost use Rattle.dft_stil.specs.Reads.{Reads};
 use crate::act::{Act, Acts};
 use crate::cursor::Cursor;
 use crate::error::StilError;
-use crate::signal::{StilSignal, input_count};
+use crate::signal::{StilSignal, groups};
 use dft_netlist::Dir;
 use std::alloc::Global;
 
@@ -77,6 +77,7 @@ fn vector(
 }
 
 /// The lines up to the first brace, each a vector of these signals.
+#[tactic(auto, using(crate::proofs::LineLemmas::no_lines_yet, crate::proofs::LineLemmas::vector_shorter))]
 pub fn vectors(
     alloc: Global,
     signals: &[StilSignal],
@@ -85,9 +86,9 @@ pub fn vectors(
     ensures lines { IfOk result (λ vectors. IsLines (form.vector_line (input_count signals.now)) (IsFullVector signals.now) vectors.items text.new text.old) }
     ensures err { result ≡ Err NotWritten → HasNoLines (form.vector_line (input_count signals.now)) (IsFullVector signals.now) text.old }
 {
-    let (ins, outs) = signals.split_at(input_count(signals));
+    let (ins, outs) = groups(signals);
     let mut vectors = Vec::new(alloc);
-    while !text.begins(b"}") {
+    'lines: while !text.begins(b"}") {
         vectors.push(vector(alloc, ins, outs, text)?)?;
     }
     Ok(vectors)

@@ -4,8 +4,8 @@ use Rattle.dft_stil.specs.Patterns.{IsSimple}
 use Rattle.dft_stil.specs.Written as form
 use Rattle.dft_stil.proofs.declarations.declarations.Given as goal
 
-abbrev pub invariant-loop-not-begins : goal.invariant-loop-not-begins
-invariant-loop-not-begins l = IsLines form.declaration IsSimple l.signals.items l.text l.fn.text
+abbrev pub invariant-lines : goal.invariant-lines
+invariant-lines l = IsLines form.declaration IsSimple l.signals.items l.text l.fn.text
 
-abbrev pub decreases-loop-not-begins : goal.decreases-loop-not-begins
-decreases-loop-not-begins l = length l.text
+abbrev pub decreases-lines : goal.decreases-lines
+decreases-lines l = length l.text
