@@ -4,4 +4,5 @@ pub mod DeclarationLemmas
 pub mod VectorLemmas
 pub mod WrittenLemmas
 pub mod LineLemmas
+pub mod SignalLemmas
 pub mod Refusals

@@ -2,6 +2,7 @@ pub mod Acts
 pub mod Patterns
 pub mod Shown
 pub mod Words
+pub mod Heads
 pub mod Laws
 pub mod Lines
 pub mod Reads

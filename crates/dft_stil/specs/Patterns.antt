@@ -1,6 +1,7 @@
 -- Patterns: signals, and vectors of acts at them.
-use Rattle.std.specs.Prelude.{◌≡◌, ◌≢◌, ℕ, ◌<◌, ◌^◌, Bool, true, false, List, [], length, take, drop, get_or, All, AllPairs}
-use Rattle.std.specs.List.{AllZip, prefix_len}
+use Rattle.std.specs.Prelude.{◌≡◌, ◌≢◌, ℕ, ◌<◌, ◌^◌, Bool, true, false, not, ◌&&◌, List, [], ◌∷◌, length, take, drop, get_or, All, AllPairs}
+use Rattle.std.specs.List.{AllZip, prefix_len, list_any, list_all}
+use Rattle.std.specs.Str.{bytes_eq}
 use Rattle.dft_netlist.specs.declared.port.Dir.{Dir}
 use Rattle.dft_netlist.specs.declared.port.Dir.TheVariants.{Input, Output}
 use Rattle.dft_stil.specs.declared.act.Act.{Act}
@@ -34,6 +35,19 @@ outputs signals = drop (input_count signals) signals
 -- the name needs no quoting anywhere
 abbrev pub IsSimple : StilSignal → Type 0
 IsSimple s = is_simple_name s.name ≡ true
+
+-- some signal has this name
+abbrev pub is_named : List StilSignal → List ℕ → Bool
+is_named signals name = list_any (λ s. bytes_eq s.name name) signals
+
+-- no name stands twice
+abbrev pub are_distinct : List StilSignal → Bool
+are_distinct [] = true
+are_distinct (s ∷ signals) = not (is_named signals s.name) && are_distinct signals
+
+-- no input is among them
+abbrev pub are_outputs : List StilSignal → Bool
+are_outputs signals = list_all (λ s. not (is_input s.dir)) signals
 
 -- signals that can be written: inputs before outputs, with simple names that all differ
 pub record IsDeclarable (signals : List StilSignal) : Type 0 where

@@ -10,6 +10,7 @@ mod pattern_set;
 mod signal;
 mod vectors;
 mod words;
+mod writer;
 
 pub use act::{Act, Acts};
 pub use error::StilError;
