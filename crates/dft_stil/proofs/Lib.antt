@@ -4,5 +4,8 @@ pub mod DeclarationLemmas
 pub mod VectorLemmas
 pub mod WrittenLemmas
 pub mod LineLemmas
+pub mod HeadLemmas
+pub mod ReadLemmas
+pub mod GroupLemmas
 pub mod SignalLemmas
 pub mod Refusals

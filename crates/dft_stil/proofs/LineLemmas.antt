@@ -76,3 +76,6 @@ pub vectors_stuck : (ss ins outs : List StilSignal) (items : List (List Act)) (a
     → IsLines (vector_line (input_count ss)) (IsFullVector ss) items ahead text → vector ins outs ahead ≡ Err tt → begins (125 ∷ []) ahead ≡ false → HasNoLines (vector_line (input_count ss)) (IsFullVector ss) text
 vectors_stuck ss ins outs items ahead text i o h e b others rest v f =
     brace_ahead rest ahead (vectors_once ss items others ahead (125 ∷ rest) h.valid v (sym (ap₂ (λ i o. vector i o ahead) i o) ∙ e) (no_vector (inputs ss) (outputs ss) rest) (h.lines ∙ sym f)).1 b
+
+pub vectors_end : (ins outs : List StilSignal) (ahead : List ℕ) → begins (125 ∷ []) ahead ≡ true → vector ins outs ahead ≡ Err tt
+vectors_end ins outs ahead b = ap (vector ins outs) (begins_from (125 ∷ []) ahead b) ∙ no_vector ins outs (drop 1 ahead)

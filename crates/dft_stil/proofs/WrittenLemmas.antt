@@ -34,11 +34,11 @@ pub vectors_once : (ss : List StilSignal) (vs ws : List (List Act)) (x y : List 
     → flat_map (vector_line (input_count ss)) vs ++ x ≡ flat_map (vector_line (input_count ss)) ws ++ y → (vs ≡ ws) × (x ≡ y)
 vectors_once ss = lines_once (vector_line (input_count ss)) (vector_of ss) (IsFullVector ss) (vector_at ss (input_count ss))
 
-no_declaration_in_middle : (ins outs : List StilSignal) (rest : List ℕ) → declared (middle ins outs ++ rest) ≡ Err tt
+pub no_declaration_in_middle : (ins outs : List StilSignal) (rest : List ℕ) → declared (middle ins outs ++ rest) ≡ Err tt
 unfolding middle declared expect
 no_declaration_in_middle ins outs rest = refl
 
-head_parts : (ss : List StilSignal) (x : List ℕ) → head ss ++ x ≡ codes "STIL 1.0;\nSignals {\n" ++ (flat_map declaration ss ++ (middle (inputs ss) (outputs ss) ++ x))
+pub head_parts : (ss : List StilSignal) (x : List ℕ) → head ss ++ x ≡ codes "STIL 1.0;\nSignals {\n" ++ (flat_map declaration ss ++ (middle (inputs ss) (outputs ss) ++ x))
 unfolding head
 head_parts ss x = ap (λ x. codes "STIL 1.0;\nSignals {\n" ++ x) (append_assoc (flat_map declaration ss) (middle (inputs ss) (outputs ss)) x)
 

@@ -1,4 +1,4 @@
-ghost use Rattle.std.specs.Prelude.{◌≡◌, ◌==◌, ◌≤◌, ℕ, List, IfOk, true, length, drop, if◌then◌else◌};
+ghost use Rattle.std.specs.Prelude.{◌≡◌, ◌≤◌, Decides, ℕ, List, IfOk, true, length, drop, if◌then◌else◌};
 ghost use Rattle.dft_stil.specs.Rules as spec;
 ghost use Rattle.dft_stil.specs.Words.{is_simple_name};
 ghost use Rattle.dft_stil.specs.Reads.{Reads};
@@ -27,11 +27,11 @@ impl<'a> Cursor<'a> {
         Cursor { ahead: text }
     }
 
-    /// Whether nothing is left.
-    pub fn is_at_end(&self) -> bool
-        ensures { result ≡ (length self.now == 0) }
+    /// Whether these bytes are all that is left.
+    pub fn is(&self, bytes: &[u8]) -> bool
+        ensures { Decides result (self.now ≡ bytes.now) }
     {
-        self.ahead.is_empty()
+        self.ahead == bytes
     }
 
     /// Whether these bytes come next.

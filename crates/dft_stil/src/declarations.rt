@@ -39,9 +39,9 @@ fn declaration(alloc: Global, text: &mut Cursor<'_>) -> Result<StilSignal, StilE
     })
 }
 
-// The lines up to the first brace.
+/// The lines up to the first brace, each of which declares a signal.
 #[tactic(auto, using(crate::proofs::LineLemmas::no_lines_yet, crate::proofs::LineLemmas::declaration_shorter, crate::proofs::LineLemmas::declarations_end))]
-fn declarations(alloc: Global, text: &mut Cursor<'_>) -> Result<Vec<StilSignal>, StilError>
+pub fn declarations(alloc: Global, text: &mut Cursor<'_>) -> Result<Vec<StilSignal>, StilError>
     ensures lines { IfOk result (λ signals. IsLines form.declaration IsSimple signals.items text.new text.old) }
     ensures all { IfOk result (λ _. spec.declared text.new ≡ Err tt) }
     ensures err { result ≡ Err NotWritten → HasNoLines form.declaration IsSimple text.old }

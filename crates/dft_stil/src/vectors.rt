@@ -4,7 +4,7 @@ ghost use Rattle.std.specs.Prelude.{◌≡◌, Err, IfOk};
 ghost use Rattle.dft_stil.specs.Acts as letters;
 ghost use Rattle.dft_stil.specs.declared.error.StilError.TheVariants.{NotWritten};
 ghost use Rattle.dft_stil.specs.Lines.{IsLines, HasNoLines};
-ghost use Rattle.dft_stil.specs.Patterns.{IsFullVector, input_count};
+ghost use Rattle.dft_stil.specs.Patterns.{IsFullVector, input_count, inputs, outputs};
 ghost use Rattle.dft_stil.specs.Written as form;
 ghost use Rattle.dft_stil.specs.Rules as spec;
 ghost use Rattle.dft_stil.specs.Reads.{Reads};
@@ -77,13 +77,14 @@ fn vector(
 }
 
 /// The lines up to the first brace, each a vector of these signals.
-#[tactic(auto, using(crate::proofs::LineLemmas::no_lines_yet, crate::proofs::LineLemmas::vector_shorter))]
+#[tactic(auto, using(crate::proofs::LineLemmas::no_lines_yet, crate::proofs::LineLemmas::vector_shorter, crate::proofs::LineLemmas::vectors_end))]
 pub fn vectors(
     alloc: Global,
     signals: &[StilSignal],
     text: &mut Cursor<'_>,
 ) -> Result<Vec<Acts>, StilError>
     ensures lines { IfOk result (λ vectors. IsLines (form.vector_line (input_count signals.now)) (IsFullVector signals.now) vectors.items text.new text.old) }
+    ensures all { IfOk result (λ _. spec.vector (inputs signals.now) (outputs signals.now) text.new ≡ Err tt) }
     ensures err { result ≡ Err NotWritten → HasNoLines (form.vector_line (input_count signals.now)) (IsFullVector signals.now) text.old }
 {
     let (ins, outs) = groups(signals);
