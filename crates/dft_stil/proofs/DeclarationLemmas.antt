@@ -5,7 +5,7 @@ use Rattle.dft_base.specs.Parser.{and_then}
 use Rattle.dft_netlist.specs.declared.port.Dir.{Dir}
 use Rattle.dft_netlist.specs.declared.port.Dir.TheVariants.{Input, Output}
 use Rattle.dft_stil.specs.declared.signal.StilSignal.{StilSignal}
-use Rattle.dft_stil.specs.Words.{is_simple_name, continues_word}
+use Rattle.dft_base.specs.Words.{is_simple_name, continues_word}
 use Rattle.dft_stil.specs.Written.{way, declaration}
 use Rattle.dft_stil.specs.Rules.{begins, expect, name, name_len, direction, declared}
 use Rattle.dft_stil.proofs.NameLemmas.{no_quote, simple_continues, first_continues, rest_continues}
@@ -85,5 +85,5 @@ declared_from text rest s e =
     let n = name_from one.1 two.0 two.1 two.2 in
     let same : one.1 ≡ two.0 ++ (way three.0 ++ three.1) = n.0 ∙ ap (λ x. two.0 ++ x) (direction_from two.1 three.1 three.0 three.2) in
     let whole : text ≡ declaration (record { name = two.0; dir = three.0 }) ++ three.1 =
-        expect_from (codes "\"") text one.1 one.2 ∙ ap (λ x. 34 ∷ x) (same ∙ sym (append_assoc two.0 (way three.0) three.1)) in
+    expect_from (codes "\"") text one.1 one.2 ∙ ap (λ x. 34 ∷ x) (same ∙ sym (append_assoc two.0 (way three.0) three.1)) in
     (whole ∙ ap (λ s. declaration s ++ three.1) end.0 ∙ ap (λ x. declaration s ++ x) end.1, ap (λ s. is_simple_name s.name) (sym end.0) ∙ n.1)

@@ -37,7 +37,7 @@ only_signals : (text ahead behind : List ℕ) (read : List StilSignal) → Gives
     → (ss : List StilSignal) (rest : List ℕ) → AreWritable ss → head ss ++ rest ≡ text → (read ≡ ss) × (behind ≡ middle (inputs ss) (outputs ss) ++ rest)
 only_signals text ahead behind read o l e ss rest w h =
     declarations_once read ss behind (middle (inputs ss) (outputs ss) ++ rest) l.valid w.declarable.simple e (no_declaration_in_middle (inputs ss) (outputs ss) rest)
-        (l.lines ∙ sym (after_opening ss rest ahead text o h))
+    (l.lines ∙ sym (after_opening ss rest ahead text o h))
 
 pub not_writable : (text ahead behind : List ℕ) (read : List StilSignal) (t : Bool) → Gives (expect opening text) tt ahead → IsLines declaration IsSimple read behind ahead → declared behind ≡ Err tt
     → Decides t (AreWritable read) → t ≡ false → HasNoHead text
@@ -57,7 +57,7 @@ pub head_read : (text ahead behind rest : List ℕ) (read ins outs : List StilSi
 head_read text ahead behind rest read ins outs bytes t o l i u m f d w = record {
   writable = d.0 w;
   begins =
-    head_parts read rest
-    ∙ ap (λ x. opening ++ x) (ap (λ x. flat_map declaration read ++ x) (ap (λ x. x ++ rest) (sym (m ∙ ap₂ middle i u)) ∙ sym (expect_from bytes behind rest f)) ∙ l.lines)
-    ∙ sym (expect_from opening text ahead o);
+      head_parts read rest
+      ∙ ap (λ x. opening ++ x) (ap (λ x. flat_map declaration read ++ x) (ap (λ x. x ++ rest) (sym (m ∙ ap₂ middle i u)) ∙ sym (expect_from bytes behind rest f)) ∙ l.lines)
+      ∙ sym (expect_from opening text ahead o);
 }

@@ -4,7 +4,7 @@ use Rattle.std.specs.List.{list_all, AllByRecursion}
 use Rattle.std.proofs.lemmas.List.Elements.{All-from_recursion}
 use Rattle.std.proofs.lemmas.Bool.Decides.{nat_tests}
 use Rattle.dft_base.specs.Name.{IsName}
-use Rattle.dft_stil.specs.Words.{begins_word, continues_word, is_word, is_simple_name}
+use Rattle.dft_base.specs.Words.{begins_word, continues_word, is_word, is_simple_name}
 
 and_left : (t u : Bool) → (t && u) ≡ true → t ≡ true
 and_left true u e = refl
@@ -15,7 +15,7 @@ and_right true u e = e
 and_right false u e = absurd (true≢false (sym e))
 
 is_simple_word : (n : List ℕ) → is_simple_name n ≡ true → is_word n ≡ true
-is_simple_word n h = h
+is_simple_word n h = and_left (is_word n) _ h
 
 no_quote' : (t : Bool) (b : ℕ) → eqb b 34 ≡ t → continues_word b ≡ true → t ≡ false
 no_quote' false b e h = refl

@@ -44,6 +44,7 @@ pub patterns_read : (text ahead behind : List ℕ) (ss shown : List StilSignal) 
     → behind ≡ codes "}\n" → IsPatterns (record { signals = ss; vectors = vs }) × (written (record { signals = ss; vectors = vs }) ≡ text)
 unfolding written
 patterns_read text ahead behind ss shown vs b s l g =
-    let k = subst (λ ss. IsLines (vector_line (input_count ss)) (IsFullVector ss) vs behind ahead) s l in
-    (record { both = b.writable.both; declarable = b.writable.declarable; vectors = k.valid },
-     ap (λ x. head ss ++ x) (ap (λ x. flat_map (vector_line (input_count ss)) vs ++ x) (sym g) ∙ k.lines) ∙ b.begins)
+    let k = subst (λ ss. IsLines (vector_line (input_count ss)) (IsFullVector ss) vs behind ahead) s l in (
+      record { both = b.writable.both; declarable = b.writable.declarable; vectors = k.valid },
+      ap (λ x. head ss ++ x) (ap (λ x. flat_map (vector_line (input_count ss)) vs ++ x) (sym g) ∙ k.lines) ∙ b.begins,
+    )

@@ -84,6 +84,7 @@ all_outputs (s ∷ ss) h = ap (λ d. not (is_input d) && are_outputs ss) (h 0 s 
 -- ---- both
 
 pub declarable_told : (ss outs : List StilSignal) (t : Bool) → outs ≡ outputs ss → All IsSimple ss → t ≡ (are_outputs outs && are_distinct ss) → Decides t (IsDeclarable ss)
-declarable_told ss outs t o simple e =
-    ((λ h. let b = and_true (are_outputs outs) (are_distinct ss) (sym e ∙ h) in record { ordered = outputs_all (outputs ss) (sym (ap are_outputs o) ∙ b.0); distinct = distinct_pairs ss b.1; simple = simple }),
-     (λ d. e ∙ ap (λ t. t && are_distinct ss) (ap are_outputs o ∙ all_outputs (outputs ss) d.ordered) ∙ pairs_distinct ss d.distinct))
+declarable_told ss outs t o simple e = (
+  (λ h. let b = and_true (are_outputs outs) (are_distinct ss) (sym e ∙ h) in record { ordered = outputs_all (outputs ss) (sym (ap are_outputs o) ∙ b.0); distinct = distinct_pairs ss b.1; simple = simple }),
+  (λ d. e ∙ ap (λ t. t && are_distinct ss) (ap are_outputs o ∙ all_outputs (outputs ss) d.ordered) ∙ pairs_distinct ss d.distinct),
+)

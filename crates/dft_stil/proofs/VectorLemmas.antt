@@ -82,9 +82,12 @@ acts_from (s ∷ ss) so_far all text rest e =
     let two = then_from (given (act_of s.dir one.0) one.1) _ all rest one.3 in
     let g = given_from _ two.0 one.1 two.1 two.2 in
     let fits = spelled s.dir one.0 two.0 g.0 in
-    let more = acts_from ss (so_far ++ two.0 ∷ []) all two.1 rest two.3 in
-    (two.0 ∷ more.0, more.1 ∙ append_assoc so_far (two.0 ∷ []) more.0, (fits.1, more.2),
-     byte_from text one.1 one.0 one.2 ∙ ap (λ x. one.0 ∷ x) (g.1 ∙ more.3) ∙ ap (λ b. b ∷ (map letter more.0 ++ rest)) (sym fits.0))
+    let more = acts_from ss (so_far ++ two.0 ∷ []) all two.1 rest two.3 in (
+      two.0 ∷ more.0,
+      more.1 ∙ append_assoc so_far (two.0 ∷ []) more.0,
+      (fits.1, more.2),
+      byte_from text one.1 one.0 one.2 ∙ ap (λ x. one.0 ∷ x) (g.1 ∙ more.3) ∙ ap (λ b. b ∷ (map letter more.0 ++ rest)) (sym fits.0),
+    )
 
 -- ---- assignments
 
@@ -164,6 +167,7 @@ vector_from ss n all text rest short e =
     let front : take n all ≡ f.0 = ap (take n) whole ∙ take_at f.0 b.0 n len in
     let back : drop n all ≡ b.0 = ap (drop n) whole ∙ drop_at f.0 b.0 n len in
     let parts : text ≡ codes "V { " ++ (assignment (codes "ins = ") f.0 ++ (assignment (codes "; outs = ") b.0 ++ (codes "; }\n" ++ rest))) =
-        expect_from (codes "V { ") text one.1 one.2 ∙ ap (λ x. codes "V { " ++ x) (f.3 ∙ ap (λ x. assignment (codes "ins = ") f.0 ++ x) (b.3 ∙ ap (λ x. assignment (codes "; outs = ") b.0 ++ x) (expect_from (codes "; }\n") three.1 four.1 four.2 ∙ ap (λ x. codes "; }\n" ++ x) end.1))) in
-    (subst (λ ss. IsFullVector ss all) (take-append-drop n ss) (subst (IsFullVector (take n ss ++ drop n ss)) (sym whole) (zip_append _ (take n ss) (drop n ss) f.0 b.0 f.2 b.2)),
-     rw front (rw back (parts ∙ sym (line_parts (assignment (codes "ins = ") f.0) (assignment (codes "; outs = ") b.0) rest))))
+    expect_from (codes "V { ") text one.1 one.2 ∙ ap (λ x. codes "V { " ++ x) (f.3 ∙ ap (λ x. assignment (codes "ins = ") f.0 ++ x) (b.3 ∙ ap (λ x. assignment (codes "; outs = ") b.0 ++ x) (expect_from (codes "; }\n") three.1 four.1 four.2 ∙ ap (λ x. codes "; }\n" ++ x) end.1))) in (
+      subst (λ ss. IsFullVector ss all) (take-append-drop n ss) (subst (IsFullVector (take n ss ++ drop n ss)) (sym whole) (zip_append _ (take n ss) (drop n ss) f.0 b.0 f.2 b.2)),
+      rw front (rw back (parts ∙ sym (line_parts (assignment (codes "ins = ") f.0) (assignment (codes "; outs = ") b.0) rest))),
+    )

@@ -4,7 +4,7 @@ use Rattle.std.specs.Bool.{⊤}
 use Rattle.std.proofs.lemmas.List.{append_cancel_left}
 use Rattle.dft_stil.specs.declared.act.Act.{Act}
 use Rattle.dft_stil.specs.declared.signal.StilSignal.{StilSignal}
-use Rattle.dft_stil.specs.Words.{is_simple_name}
+use Rattle.dft_base.specs.Words.{is_simple_name}
 use Rattle.dft_stil.specs.Patterns.{Patterns, IsPatterns, IsSimple, IsFullVector, inputs, outputs, input_count}
 use Rattle.dft_stil.specs.Written.{declaration, middle, head, vector_line, written}
 use Rattle.dft_stil.specs.Rules.{Rule, expect, declared, vector}
@@ -46,14 +46,14 @@ pub head_once : (ss ts : List StilSignal) (x y : List ℕ) → All IsSimple ss �
 head_once ss ts x y vs vt e =
     let rest = append_cancel_left (codes "STIL 1.0;\nSignals {\n") _ _ (sym (head_parts ss x) ∙ e ∙ head_parts ts y) in
     let s = declarations_once ss ts (middle (inputs ss) (outputs ss) ++ x) (middle (inputs ts) (outputs ts) ++ y) vs vt
-        (no_declaration_in_middle (inputs ss) (outputs ss) x) (no_declaration_in_middle (inputs ts) (outputs ts) y) rest in
+    (no_declaration_in_middle (inputs ss) (outputs ss) x) (no_declaration_in_middle (inputs ts) (outputs ts) y) rest in
     (s.0, append_cancel_left (middle (inputs ss) (outputs ss)) x y (s.1 ∙ ap (λ ss. middle (inputs ss) (outputs ss) ++ y) (sym s.0)))
 
 same_vectors : (ss ts : List StilSignal) (vs ws : List (List Act)) → ss ≡ ts → All (IsFullVector ss) vs → All (IsFullVector ts) ws
     → flat_map (vector_line (input_count ss)) vs ++ codes "}\n" ≡ flat_map (vector_line (input_count ts)) ws ++ codes "}\n" → vs ≡ ws
 same_vectors ss ts vs ws s hv hw e =
     (vectors_once ss vs ws (codes "}\n") (codes "}\n") hv (subst (λ ss. All (IsFullVector ss) ws) (sym s) hw) (no_vector (inputs ss) (outputs ss) _) (no_vector (inputs ss) (outputs ss) _)
-        (e ∙ ap (λ ss. flat_map (vector_line (input_count ss)) ws ++ codes "}\n") (sym s))).0
+    (e ∙ ap (λ ss. flat_map (vector_line (input_count ss)) ws ++ codes "}\n") (sym s))).0
 
 pub written_once : HasOneReading
 unfolding written

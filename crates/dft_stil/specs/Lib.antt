@@ -1,7 +1,7 @@
+pub use Rattle.dft_base.specs.Words
 pub mod Acts
 pub mod Patterns
 pub mod Shown
-pub mod Words
 pub mod Heads
 pub mod Laws
 pub mod Lines

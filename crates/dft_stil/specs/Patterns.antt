@@ -8,7 +8,7 @@ use Rattle.dft_stil.specs.declared.act.Act.{Act}
 use Rattle.dft_stil.specs.declared.act.Act.TheVariants.{Unset, High, Pulse, Ignore}
 use Rattle.dft_stil.specs.declared.signal.StilSignal.{StilSignal}
 use Rattle.dft_stil.specs.Acts.{IsActOf, IsTold}
-use Rattle.dft_stil.specs.Words.{is_simple_name}
+use Rattle.dft_base.specs.Words.{is_simple_name}
 
 pub record Patterns : Type 0 where
   -- in the order of their declarations

@@ -7,7 +7,7 @@ use Rattle.dft_netlist.specs.declared.port.Dir.TheVariants.{Input, Output}
 use Rattle.dft_stil.specs.declared.act.Act.{Act}
 use Rattle.dft_stil.specs.declared.signal.StilSignal.{StilSignal}
 use Rattle.dft_stil.specs.Acts.{act_of}
-use Rattle.dft_stil.specs.Words.{is_simple_name}
+use Rattle.dft_base.specs.Words.{is_simple_name}
 use Rattle.dft_stil.specs.Written.{way}
 
 abbrev pub Rule : Type 0 → Type 0

@@ -1,10 +1,10 @@
 ghost use Rattle.std.specs.Prelude.{◌≡◌, ◌≤◌, Decides, ℕ, List, IfOk, true, length, drop, if◌then◌else◌};
 ghost use Rattle.dft_stil.specs.Rules as spec;
-ghost use Rattle.dft_stil.specs.Words.{is_simple_name};
+ghost use Rattle.dft_base.specs.Words.{is_simple_name};
 ghost use Rattle.dft_stil.specs.Reads.{Reads};
 
 use crate::error::StilError;
-use crate::words::is_simple_name;
+use dft_base::is_simple_name;
 use std::marker::Model;
 
 /// The part of a text that is left to read. A clause sees it as its bytes.

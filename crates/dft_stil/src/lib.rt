@@ -10,8 +10,9 @@ mod laws;
 mod pattern_set;
 mod reader;
 mod signal;
+#[cfg(test)]
+mod tests;
 mod vectors;
-mod words;
 mod writer;
 
 pub use act::{Act, Acts};

@@ -26,7 +26,10 @@ fn input_count(signals: &[StilSignal]) -> usize
     ensures value { result ≡ spec.input_count signals.now }
     ensures within { result ≤ length signals.now }
 {
-    signals.iter().take_while(|signal| is_input(signal.dir)).count()
+    signals
+        .iter()
+        .take_while(|signal| is_input(signal.dir))
+        .count()
 }
 
 fn is_input(dir: Dir) -> bool

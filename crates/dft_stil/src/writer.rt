@@ -67,11 +67,7 @@ fn add_output_waves(out: &mut Vec<u8>, signals: &[StilSignal]) -> Result<(), All
 
 #[tactic(auto, unfolding(crate::specs::Written::middle))]
 /// All between the declarations and the vectors.
-pub fn middle(
-    alloc: Global,
-    ins: &[StilSignal],
-    outs: &[StilSignal],
-) -> Result<Vec<u8>, AllocError>
+pub fn middle(alloc: Global, ins: &[StilSignal], outs: &[StilSignal]) -> Result<Vec<u8>, AllocError>
     ensures { IfOk result (λ bytes. bytes.items ≡ form.middle ins.now outs.now) }
 {
     let mut out = Vec::new(alloc);
@@ -81,6 +77,8 @@ pub fn middle(
     out.extend_from_slice(b"}\nTiming {\nWaveformTable w {\nPeriod '100ns';\nWaveforms {\n")?;
     add_input_waves(&mut out, ins)?;
     add_output_waves(&mut out, outs)?;
-    out.extend_from_slice(b"}\n}\n}\nPatternBurst b { PatList { p; } }\nPatternExec { PatternBurst b; }\nPattern p {\nW w;\n")?;
+    out.extend_from_slice(
+        b"}\n}\n}\nPatternBurst b { PatList { p; } }\nPatternExec { PatternBurst b; }\nPattern p {\nW w;\n",
+    )?;
     Ok(out)
 }

@@ -24,7 +24,7 @@ returns-in_err-expect-2-clause-err c = λ e.
     let ins = c.groups.ensures.ins ∙ ap inputs c.deref-2.ensures.value in
     let outs = c.groups.ensures.outs ∙ ap outputs c.deref-2.ensures.value in
     no_middle c.args.text.now _ _ _ _ _ _ c.in_ok-expect.ensures c.in_ok-signals.ensures.lines c.in_ok-signals.ensures.all ins outs (c.deref-3.ensures.value ∙ c.in_ok-middle.ensures)
-        (refused (λ (u : Unit {0}). tt) _ _ _ _ c.from_residual-in_err-expect-2.ensures.1 e c.in_err-expect-2.ensures)
+    (refused (λ (u : Unit {0}). tt) _ _ _ _ c.from_residual-in_err-expect-2.ensures.1 e c.in_err-expect-2.ensures)
 
 pub returns-clause-ok : goal.returns-clause-ok
 returns-clause-ok c =

@@ -15,16 +15,16 @@ returns-in_err-signals-clause-err c = λ e.
 pub returns-in_err-vectors-clause-err : goal.returns-in_err-vectors-clause-err
 returns-in_err-vectors-clause-err c = λ e.
     no_vectors c.args.bytes.now _ _ _ (subst (IsHead _ _) c.new-text.ensures c.in_ok-signals.ensures.ok) c.deref.ensures.value
-        (c.in_err-vectors.ensures.err (ap Err (same_error _ _ c.from_residual-in_err-vectors.ensures.1 e)))
+    (c.in_err-vectors.ensures.err (ap Err (same_error _ _ c.from_residual-in_err-vectors.ensures.1 e)))
 
 pub returns-then-not-is-clause-err : goal.returns-then-not-is-clause-err
 returns-then-not-is-clause-err c = λ e.
     no_end c.args.bytes.now _ _ _ _ _ (subst (IsHead _ _) c.new-text.ensures c.in_ok-signals.ensures.ok) c.deref.ensures.value
-        c.in_ok-vectors.ensures.lines c.in_ok-vectors.ensures.all (λ g. true≢false (sym (c.is.ensures.1 g) ∙ c.if-not-is.true))
+    c.in_ok-vectors.ensures.lines c.in_ok-vectors.ensures.all (λ g. true≢false (sym (c.is.ensures.1 g) ∙ c.if-not-is.true))
 
 pub returns-clause-ok : goal.returns-clause-ok
 returns-clause-ok c =
     subst₂ (λ (s : List StilSignal) (v : List (List Act)). IsPatterns (record { signals = s; vectors = v }) × (written (record { signals = s; vectors = v }) ≡ c.args.bytes.now))
-        (sym c.new.ensures.signals) (sym c.new.ensures.vectors)
-        (patterns_read c.args.bytes.now _ _ _ _ _ (subst (IsHead _ _) c.new-text.ensures c.in_ok-signals.ensures.ok) c.deref.ensures.value
-            c.in_ok-vectors.ensures.lines (c.is.ensures.0 c.if-not-is.false))
+    (sym c.new.ensures.signals) (sym c.new.ensures.vectors)
+    (patterns_read c.args.bytes.now _ _ _ _ _ (subst (IsHead _ _) c.new-text.ensures c.in_ok-signals.ensures.ok) c.deref.ensures.value
+    c.in_ok-vectors.ensures.lines (c.is.ensures.0 c.if-not-is.false))
