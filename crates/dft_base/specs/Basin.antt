@@ -20,9 +20,9 @@ poured bytes s = record s { bytes = s.bytes ++ bytes; calls = count_up s.calls 1
 abbrev pub put_failed : Basin → Basin
 put_failed s = record s { faults = count_up s.faults 1 }
 
--- a call fails exactly where it is to fail, and then puts the first bytes; else it puts them all
+-- a call fails exactly where it is to fail, and then puts the first bytes, else all of them; where memory runs out it leaves all as it was
 abbrev pub Puts : List ℕ → Basin → Result Unit PutError → Basin → Type 0
 Puts bytes old (Ok u) new = (kept_at old.failing old.calls ≡ None) × (new ≡ poured bytes old)
 Puts bytes old (Err put.Failed) new =
     IsSomeAnd (kept_at old.failing old.calls) (λ kept. new ≡ put_failed (poured (take kept bytes) old))
-Puts bytes old (Err (put.Memory e)) new = new ≡ record old { calls = count_up old.calls 1 }
+Puts bytes old (Err (put.Memory e)) new = new ≡ old

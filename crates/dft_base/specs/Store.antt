@@ -52,7 +52,7 @@ took bytes s = record s { taken = count_up s.taken (length bytes) }
 abbrev pub left : List ℕ → List ℕ → Store → Store
 left name bytes s = record s { held = with_file name bytes s.held }
 
--- a load fails exactly where it is to fail or the name is not held, and reads the file in all other calls
+-- a load fails exactly where it is to fail or the name is not held, and reads the file in all other calls; where memory runs out it leaves all as it was
 abbrev pub Loads : List ℕ → ℕ → Store → Result (Vec ℕ Global) LoadError → Store → Type 0
 Loads name limit old (Ok v) new =
     (kept_at old.failing old.calls ≡ None) × (file_at name old.held ≡ Some v.items)
@@ -61,11 +61,11 @@ Loads name limit old (Err load.TooLong) new =
     (kept_at old.failing old.calls ≡ None) × IsSomeAnd (file_at name old.held) (λ b. limit < length b) × (new ≡ called old)
 Loads name limit old (Err load.Failed) new =
     (IsSome (kept_at old.failing old.calls) ⊎ (file_at name old.held ≡ None)) × (new ≡ read_failed name (called old))
-Loads name limit old (Err (load.Memory e)) new = new ≡ called old
+Loads name limit old (Err (load.Memory e)) new = new ≡ old
 
--- a save fails exactly where it is to fail, and then leaves the first bytes; else it leaves them all
+-- a save fails exactly where it is to fail, and then leaves the first bytes, else all of them; where memory runs out it leaves all as it was
 abbrev pub Saves : List ℕ → List ℕ → Store → Result Unit SaveError → Store → Type 0
 Saves name bytes old (Ok u) new = (kept_at old.failing old.calls ≡ None) × (new ≡ left name bytes (called old))
 Saves name bytes old (Err save.Failed) new =
     IsSomeAnd (kept_at old.failing old.calls) (λ kept. new ≡ write_failed name (left name (take kept bytes) (called old)))
-Saves name bytes old (Err (save.Memory e)) new = new ≡ called old
+Saves name bytes old (Err (save.Memory e)) new = new ≡ old

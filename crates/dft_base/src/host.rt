@@ -19,10 +19,10 @@ pub struct HostFiles<'a, R: std::rt::Files> {
 impl<'a, R: std::rt::Files> HostFiles<'a, R> {
     /// The files of the host, with no call made.
     pub fn new(rt: &'a R, alloc: Global) -> HostFiles<'a, R>
-        ensures failed { string_bytes result.failed ≡ [] }
-        ensures read_faults { result.read_faults ≡ 0 }
-        ensures write_faults { result.write_faults ≡ 0 }
-        ensures taken { result.taken ≡ 0 }
+        ensures failed { ⟦<HostFiles<'a, R> as Files>⟧.failed result ≡ [] }
+        ensures read_faults { ⟦<HostFiles<'a, R> as Files>⟧.read_faults result ≡ 0 }
+        ensures write_faults { ⟦<HostFiles<'a, R> as Files>⟧.write_faults result ≡ 0 }
+        ensures taken { ⟦<HostFiles<'a, R> as Files>⟧.taken result ≡ 0 }
     {
         HostFiles {
             rt,
@@ -130,7 +130,7 @@ pub struct OutSink<'a, R: Print> {
 impl<'a, R: Print> OutSink<'a, R> {
     /// Standard output, with no call made.
     pub fn new(rt: &'a R) -> OutSink<'a, R>
-        ensures { result.faults ≡ 0 }
+        ensures { ⟦<OutSink<'a, R> as Sink>⟧.faults result ≡ 0 }
     {
         OutSink { rt, faults: 0 }
     }

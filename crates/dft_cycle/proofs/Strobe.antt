@@ -13,7 +13,7 @@ pub record SourcesAbove (s : Sources) (t : TriSources) (values : ℕ → Tri) : 
   pub clocks : (e : ℕ) → Above (t.clocks e) (s.high e)
   pub flops : (c : ℕ) → Above (t.flops c) (s.flops c)
   pub low : (e : ℕ) → s.high e ≡ false
-  pub wires : (e : ℕ) (source : Source) → t.lockups e source ≡ value_from values source
+  pub wires : (c e : ℕ) (source : Source) → t.lockups c e source ≡ value_from values source
 
 above_within : (l : Logic) (rank : ℕ → ℕ) (s : Sources) (t : TriSources) (bits : ℕ → Bool) (values : ℕ → Tri) → IsRanked l rank → IsSettled l s bits → IsTriSettled l t values → SourcesAbove s t values →
     (fuel net : ℕ) → rank net < fuel → Above (values net) (bits net)
@@ -22,7 +22,7 @@ above_within l rank s t bits values ranked settled tri_settled a (suc fuel) net 
     let ih : (k : ℕ) → rank k < rank net → Above (values k) (bits k) = λ k below. above_within l rank s t bits values ranked settled tri_settled a fuel k (omega arith) in
     at_net _ _ _ _ (tri_settled net) (settled net)
     (meaning_above rank s t bits values net a.ports a.clocks a.flops (l.net net) (ranked net) ih
-    (λ e source is below. rw (a.low e, a.wires e source) (source_above rank (rank net) s bits values source below ih)))
+    (λ c e source is below. rw (a.low e, a.wires c e source) (source_above rank (rank net) s bits values source below ih)))
 
 pub strobe_above : (l : Logic) (rank : ℕ → ℕ) (s : Sources) (t : TriSources) (bits : ℕ → Bool) (values : ℕ → Tri) → IsRanked l rank → IsSettled l s bits → IsTriSettled l t values → SourcesAbove s t values →
     (net : ℕ) → Above (values net) (bits net)

@@ -31,7 +31,7 @@ strobe_stands l rank x old values now t ranked stands turn settled net =
       clocks = λ e. rw (stands.low e) tt;
       flops = set_above l x old now t stands;
       low = stands.low;
-      wires = λ e source. refl;
+      wires = λ c e source. refl;
     } in
     strobe_above l rank (sources_of (at_strobe l x now t)) (strobe_sources l x old values) t.strobe.seen values ranked turn.steps.0 settled a net
 

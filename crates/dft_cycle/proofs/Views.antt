@@ -15,25 +15,25 @@ use Rattle.dft_cycle.specs.Laws.{ClosedExists, StrobeExists}
 pub given_same : (rank : ℕ → ℕ) (t s : TriSources) (a b : ℕ → Tri) (net : ℕ) (m : Meaning) →
     ((k : ℕ) → t.ports k ≡ s.ports k) → ((e : ℕ) → t.clocks e ≡ s.clocks e) → ((c : ℕ) → t.flops c ≡ s.flops c) →
     AreBelow rank (rank net) (reads m) → ((k : ℕ) → rank k < rank net → a k ≡ b k) →
-    ((e : ℕ) (source : Source) → m ≡ Lockup e source → AreBelow rank (rank net) (nets_of (source ∷ [])) → t.lockups e source ≡ s.lockups e source) →
+    ((c e : ℕ) (source : Source) → m ≡ Lockup c e source → AreBelow rank (rank net) (nets_of (source ∷ [])) → t.lockups c e source ≡ s.lockups c e source) →
     value_given t a net m ≡ value_given s b net m
 given_same rank t s a b net Input ports clocks flops below same lockups = ports net
 given_same rank t s a b net Clock ports clocks flops below same lockups = clocks net
 given_same rank t s a b net (Gate kind inputs) ports clocks flops below same lockups = ap (tri_of kind) (inputs_same rank (rank net) a b inputs below same)
 given_same rank t s a b net (Joined source) ports clocks flops below same lockups = source_same rank (rank net) a b source below same
 given_same rank t s a b net (Flop c inverted) ports clocks flops below same lockups = rw (flops c) refl
-given_same rank t s a b net (Lockup e source) ports clocks flops below same lockups = lockups e source refl below
+given_same rank t s a b net (Lockup c e source) ports clocks flops below same lockups = lockups c e source refl below
 given_same rank t s a b net Free ports clocks flops below same lockups = refl
 
 -- sources that differ by lock-ups alone, which read one of a family of assignments
 abbrev pub with_lockups : (ℕ → TriSources) → (ℕ → ℕ → ℕ) → (ℕ → ℕ → Tri) → ℕ → TriSources
-with_lockups base through w d = record { ports = (base d).ports; clocks = (base d).clocks; flops = (base d).flops; lockups = λ e source. value_from (w (through d e)) source }
+with_lockups base through w d = record { ports = (base d).ports; clocks = (base d).clocks; flops = (base d).flops; lockups = λ c e source. value_from (w (through d e)) source }
 
 family_same : (rank : ℕ → ℕ) (base : ℕ → TriSources) (through : ℕ → ℕ → ℕ) (a b : ℕ → ℕ → Tri) (d net : ℕ) (m : Meaning) → AreBelow rank (rank net) (reads m) → ((k : ℕ) → rank k < rank net → (e : ℕ) → a e k ≡ b e k) →
     value_given (with_lockups base through a d) (a d) net m ≡ value_given (with_lockups base through b d) (b d) net m
 family_same rank base through a b d net m below same =
     given_same rank (with_lockups base through a d) (with_lockups base through b d) (a d) (b d) net m (λ k. refl) (λ e. refl) (λ c. refl) below (λ k less. same k less d)
-    (λ e source is source_below. source_same rank (rank net) (a (through d e)) (b (through d e)) source source_below (λ k less. same k less (through d e)))
+    (λ c e source is source_below. source_same rank (rank net) (a (through d e)) (b (through d e)) source source_below (λ k less. same k less (through d e)))
 
 -- the values from so many levels of drivers
 view_by : Logic → (ℕ → TriSources) → (ℕ → ℕ → ℕ) → ℕ → ℕ → ℕ → Tri
@@ -73,16 +73,16 @@ strobe_exists l rank x old ranked =
 
 same_within : (l : Logic) (rank : ℕ → ℕ) (t s : TriSources) (a b : ℕ → Tri) → IsRanked l rank → IsTriSettled l t a → IsTriSettled l s b →
     ((k : ℕ) → t.ports k ≡ s.ports k) → ((e : ℕ) → t.clocks e ≡ s.clocks e) → ((c : ℕ) → t.flops c ≡ s.flops c) →
-    ((net e : ℕ) (source : Source) → l.net net ≡ Lockup e source → ((k : ℕ) → rank k < rank net → a k ≡ b k) → AreBelow rank (rank net) (nets_of (source ∷ [])) → t.lockups e source ≡ s.lockups e source) →
+    ((net c e : ℕ) (source : Source) → l.net net ≡ Lockup c e source → ((k : ℕ) → rank k < rank net → a k ≡ b k) → AreBelow rank (rank net) (nets_of (source ∷ [])) → t.lockups c e source ≡ s.lockups c e source) →
     (fuel net : ℕ) → rank net < fuel → a net ≡ b net
 same_within l rank t s a b ranked ta sb ports clocks flops lockups zero net less = absurd (omega arith)
 same_within l rank t s a b ranked ta sb ports clocks flops lockups (suc fuel) net less =
     let ih : (k : ℕ) → rank k < rank net → a k ≡ b k = λ k below. same_within l rank t s a b ranked ta sb ports clocks flops lockups fuel k (omega arith) in
-    ta net ∙ given_same rank t s a b net (l.net net) ports clocks flops (ranked net) ih (λ e source is below. lockups net e source is ih below) ∙ sym (sb net)
+    ta net ∙ given_same rank t s a b net (l.net net) ports clocks flops (ranked net) ih (λ c e source is below. lockups net c e source is ih below) ∙ sym (sb net)
 
 -- sources that agree settle to the same values
 pub settled_same : (l : Logic) (rank : ℕ → ℕ) (t s : TriSources) (a b : ℕ → Tri) → IsRanked l rank → IsTriSettled l t a → IsTriSettled l s b →
     ((k : ℕ) → t.ports k ≡ s.ports k) → ((e : ℕ) → t.clocks e ≡ s.clocks e) → ((c : ℕ) → t.flops c ≡ s.flops c) →
-    ((net e : ℕ) (source : Source) → l.net net ≡ Lockup e source → ((k : ℕ) → rank k < rank net → a k ≡ b k) → AreBelow rank (rank net) (nets_of (source ∷ [])) → t.lockups e source ≡ s.lockups e source) →
+    ((net c e : ℕ) (source : Source) → l.net net ≡ Lockup c e source → ((k : ℕ) → rank k < rank net → a k ≡ b k) → AreBelow rank (rank net) (nets_of (source ∷ [])) → t.lockups c e source ≡ s.lockups c e source) →
     (net : ℕ) → a net ≡ b net
 settled_same l rank t s a b ranked ta sb ports clocks flops lockups net = same_within l rank t s a b ranked ta sb ports clocks flops lockups (suc (rank net)) net (omega arith)

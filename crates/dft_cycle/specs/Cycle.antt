@@ -36,7 +36,7 @@ view_sources l p poss view d = record {
   ports = p.ports;
   clocks = λ e. if p.pulsed e then (if e == d then Zero else Unknown) else Zero;
   flops = λ c. if p.pulsed (l.cell c).domain then (if (l.cell c).domain == d then p.old c else poss c) else p.old c;
-  lockups = λ e source. value_from (view e) source;
+  lockups = λ c e source. value_from (view e) source;
 }
 
 -- the view of each domain
@@ -72,7 +72,7 @@ pulse_of l x old = record { ports = x.ports; pulsed = x.pulsed; old = λ c. tri_
 
 -- for a strobe clocks are 0, flip-flops have their values and lock-ups are wires
 abbrev pub strobe_sources : Logic → Vector → (old values : ℕ → Tri) → TriSources
-strobe_sources l x old values = record { ports = x.ports; clocks = λ e. Zero; flops = (pulse_of l x old).old; lockups = λ e source. value_from values source }
+strobe_sources l x old values = record { ports = x.ports; clocks = λ e. Zero; flops = (pulse_of l x old).old; lockups = λ c e source. value_from values source }
 
 -- the values of a vector: those of its strobe, the map, and the views of its pulse
 pub record Round : Type 0 where

@@ -52,7 +52,7 @@ RoundIsOne =
 -- ---- where one domain pulses
 
 abbrev pub HasNoLockup : Logic → Type 0
-HasNoLockup l = (net e : ℕ) (source : Source) → l.net net ≡ Lockup e source → ⊥
+HasNoLockup l = (net c e : ℕ) (source : Source) → l.net net ≡ Lockup c e source → ⊥
 
 -- the next value of a flip-flop from the values of the strobe
 abbrev pub next_from : Logic → Vector → (values : ℕ → Tri) → (cell : ℕ) → Tri

@@ -3,3 +3,4 @@ pub mod Steps
 pub mod Ranks
 pub mod OneSettled
 pub mod Walks
+pub mod Flats

@@ -24,7 +24,7 @@ given_same rank s v w net Clock below same = refl
 given_same rank s v w net (Gate kind inputs) below same = ap (bit_of kind) (bits_same rank (rank net) s v w inputs below same)
 given_same rank s v w net (Joined source) below same = bit_same rank (rank net) s v w source below same
 given_same rank s v w net (Flop c inverted) below same = refl
-given_same rank s v w net (Lockup domain source) below same = ap (λ (b : Bool). if s.high domain then s.held net else b) (bit_same rank (rank net) s v w source below same)
+given_same rank s v w net (Lockup c domain source) below same = ap (λ (b : Bool). if s.high domain then s.held net else b) (bit_same rank (rank net) s v w source below same)
 given_same rank s v w net Free below same = refl
 
 -- the bit of a net from so many levels of drivers

@@ -39,9 +39,9 @@ data_below : (rank : ℕ → ℕ) (r i : ℕ) (pins : List Connection) → AreBe
 data_below rank r i [] below = tt
 data_below rank r i (c ∷ pins) below = data_step rank r i c.role (source_of i c.pin c.to) (lockup_inputs i pins) (pin_of Din i pins) (data_below rank r i pins) below
 
-lockup_below : (rank : ℕ → ℕ) (r : ℕ) (domain : Option ℕ) (source : Source) → AreBelow rank r (nets_of (source ∷ [])) → AreBelow rank r (reads (lockup_meaning domain source))
-lockup_below rank r None source below = tt
-lockup_below rank r (Some domain) source below = below
+lockup_below : (rank : ℕ → ℕ) (r i : ℕ) (domain : Option ℕ) (source : Source) → AreBelow rank r (nets_of (source ∷ [])) → AreBelow rank r (reads (lockup_meaning i domain source))
+lockup_below rank r i None source below = tt
+lockup_below rank r i (Some domain) source below = below
 
 flop_below : (rank : ℕ → ℕ) (r i : ℕ) (inverted : Bool) (cell : Option Cell) → AreBelow rank r (reads (flop_meaning i inverted cell))
 flop_below rank r i inverted None = tt
@@ -57,7 +57,7 @@ meaning_below n ports rank net (drivers.Gate kind inputs) below = below
 meaning_below n ports rank net (drivers.Joined source) below = below
 meaning_below n ports rank net (drivers.Flop i inverted) below = flop_below rank (rank net) i inverted (flip_flop n ports i)
 meaning_below n ports rank net (drivers.Lockup i) below =
-    lockup_below rank (rank net) (domain_at n ports (pin_of Clock i (pins_of n i))) (or_loose i (pin_of Din i (pins_of n i))) (data_below rank (rank net) i (pins_of n i) below)
+    lockup_below rank (rank net) i (domain_at n ports (pin_of Clock i (pins_of n i))) (or_loose i (pin_of Din i (pins_of n i))) (data_below rank (rank net) i (pins_of n i) below)
 meaning_below n ports rank net drivers.Free below = tt
 
 pub order_is_rank : OrderIsRank

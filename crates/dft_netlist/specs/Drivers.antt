@@ -215,6 +215,14 @@ pins_at library (Some instance) = connections_of library instance
 abbrev pub pins_of : Netlist → (instance : ℕ) → List Connection
 pins_of n i = pins_at n.library (slice_get n.instances i)
 
+-- the kind of the instance with this number; a number past the end is as a cell that is not modelled
+abbrev pub kind_of : List Cell → Option Instance → Kind
+kind_of library None = Opaque
+kind_of library (Some instance) = (shape_of library instance.cell).kind
+
+abbrev pub kind_at : Netlist → (instance : ℕ) → Kind
+kind_at n i = kind_of n.library (slice_get n.instances i)
+
 -- the nets that a driver reads at the same moment; flip-flops and opaque cells read none
 abbrev pub nets_read : Netlist → Driver → List ℕ
 nets_read n Input = []

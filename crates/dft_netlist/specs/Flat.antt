@@ -1,9 +1,9 @@
 -- Flat netlists: scalar ports, and flip-flops of one clock that join them.
 use Rattle.std.specs.Prelude.{ℕ, ◌<◌, ◌≤◌, ◌≡◌, ◌⊎◌, Bool, false, List, [], ◌∷◌, length, map, Option, None, Some, slice_get, slice_index_or, if◌then◌else◌}
 use Rattle.dft_netlist.specs.Netlist.{Netlist}
-use Rattle.dft_netlist.specs.Drivers.{Driver, Input, Flop, Free, Net, driver}
+use Rattle.dft_netlist.specs.Drivers.{Driver, Input, Flop, Free, Net, driver, IsOrdered}
 use Rattle.dft_netlist.specs.Logic.{Ports, Cell, flip_flop}
-use Rattle.dft_netlist.specs.FirstForm.{FlipFlop, instance_of}
+use Rattle.dft_netlist.specs.FirstForm.{FlipFlop, instance_of, first_form}
 
 -- the output of some flip-flop, which has this number
 pub record IsOutputOf (n : Netlist) (cells : List FlipFlop) (net instance : ℕ) (f : FlipFlop) : Type 0 where
@@ -34,3 +34,11 @@ pub record IsFlat (n : Netlist) (clock : ℕ) (cells : List FlipFlop) : Type 0 w
   pub past : (ports : Ports) (i : ℕ) → slice_get cells i ≡ None → flip_flop n ports i ≡ None
   -- names of nets differ
   pub names : (a b : ℕ) → a < length n.nets → b < length n.nets → slice_index_or n.nets a [] ≡ slice_index_or n.nets b [] → a ≡ b
+
+-- every text of the first form stands for a flat netlist
+abbrev pub FirstFormIsFlat : Type 0
+FirstFormIsFlat = (text : List ℕ) (n : Netlist) → first_form text ≡ Some n → (clock : ℕ) × (cells : List FlipFlop) × IsFlat n clock cells
+
+-- a flat netlist has an order: no net is settled from another
+abbrev pub FlatIsOrdered : Type 0
+FlatIsOrdered = (n : Netlist) (clock : ℕ) (cells : List FlipFlop) → IsFlat n clock cells → IsOrdered n (λ net. 0)

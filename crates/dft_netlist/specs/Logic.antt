@@ -3,8 +3,9 @@ use Rattle.std.specs.Prelude.{ℕ, Bool, true, false, List, [], ◌∷◌, Optio
 use Rattle.dft_cells.specs.declared.kind.Kind.{Kind}
 use Rattle.dft_cells.specs.declared.kind.Role.{Role}
 use Rattle.dft_cells.specs.declared.kind.Role.TheVariants as role
+use Rattle.dft_cells.specs.FlipFlops.{is_flip_flop}
 use Rattle.dft_netlist.specs.Netlist.{Netlist}
-use Rattle.dft_netlist.specs.Drivers.{Source, Net, Tied, Loose, Driver, Connection, source_of, pins_of, driver, nets_of, AreBelow}
+use Rattle.dft_netlist.specs.Drivers.{Source, Net, Tied, Loose, Driver, Connection, source_of, pins_of, kind_at, driver, nets_of, AreBelow}
 use Rattle.dft_netlist.specs.Drivers as drivers
 use Rattle.dft_netlist.specs.Traces.{Root, Port, Constant, Other, root_of}
 
@@ -24,8 +25,8 @@ pub data Meaning : Type 0 where
   Joined : (source : Source) → Meaning
   -- a modelled flip-flop's bit, or its inverse
   Flop : (cell : ℕ) → (inverted : Bool) → Meaning
-  -- a lock-up, by the net of the clock port that its clock traces to
-  Lockup : (domain : ℕ) → (source : Source) → Meaning
+  -- a lock-up, by its instance and the net of the clock port that its clock traces to
+  Lockup : (cell domain : ℕ) → (source : Source) → Meaning
   -- any bit at any moment
   Free : Meaning
 
@@ -108,11 +109,14 @@ modelled (Some domain) (Some force) input scan = Some (record { domain = domain;
 modelled (Some domain) None input scan = None
 modelled None force input scan = None
 
-abbrev pub flip_flop : Netlist → Ports → (instance : ℕ) → Option Cell
-flip_flop n ports i =
-    let pins = pins_of n i in
+abbrev pub modelled_of : Netlist → Ports → (instance : ℕ) → List Connection → Option Cell
+modelled_of n ports i pins =
     modelled (domain_at n ports (pin_of role.Clock i pins)) (forcing n ports (pin_of role.Reset i pins) (pin_of role.Preset i pins))
     (or_loose i (pin_of role.Din i pins)) (scan_of (pin_of role.ScanEnable i pins) (pin_of role.ScanIn i pins))
+
+-- the modelled flip-flop that an instance is, if it is one
+abbrev pub flip_flop : Netlist → Ports → (instance : ℕ) → Option Cell
+flip_flop n ports i = if is_flip_flop (kind_at n i) then modelled_of n ports i (pins_of n i) else None
 
 -- the cell of an instance that is no modelled flip-flop
 abbrev pub no_cell : (instance : ℕ) → Cell
@@ -126,16 +130,16 @@ abbrev pub flop_meaning : (instance : ℕ) → (inverted : Bool) → Option Cell
 flop_meaning i inverted None = Free
 flop_meaning i inverted (Some cell) = Flop i inverted
 
-abbrev pub lockup_meaning : Option ℕ → Source → Meaning
-lockup_meaning None source = Free
-lockup_meaning (Some domain) source = Lockup domain source
+abbrev pub lockup_meaning : (instance : ℕ) → Option ℕ → Source → Meaning
+lockup_meaning i None source = Free
+lockup_meaning i (Some domain) source = Lockup i domain source
 
 abbrev pub meaning_of : Netlist → Ports → (net : ℕ) → Driver → Meaning
 meaning_of n ports net drivers.Input = if ports.is_clock net then Clock else Input
 meaning_of n ports net (drivers.Gate kind inputs) = Gate kind inputs
 meaning_of n ports net (drivers.Joined source) = Joined source
 meaning_of n ports net (drivers.Flop i inverted) = flop_meaning i inverted (flip_flop n ports i)
-meaning_of n ports net (drivers.Lockup i) = lockup_meaning (domain_at n ports (pin_of role.Clock i (pins_of n i))) (or_loose i (pin_of role.Din i (pins_of n i)))
+meaning_of n ports net (drivers.Lockup i) = lockup_meaning i (domain_at n ports (pin_of role.Clock i (pins_of n i))) (or_loose i (pin_of role.Din i (pins_of n i)))
 meaning_of n ports net drivers.Free = Free
 
 abbrev pub logic_of : Netlist → Ports → Logic
@@ -153,7 +157,7 @@ reads Clock = []
 reads (Gate kind inputs) = nets_of inputs
 reads (Joined source) = nets_of (source ∷ [])
 reads (Flop cell inverted) = []
-reads (Lockup domain source) = nets_of (source ∷ [])
+reads (Lockup cell domain source) = nets_of (source ∷ [])
 reads Free = []
 
 -- each net stands after those that it is settled from

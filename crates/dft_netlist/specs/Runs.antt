@@ -74,7 +74,7 @@ pub data Event : Type 0 where
 
 -- what a lock-up's net holds after the rise of a domain: its input's bit from just before
 abbrev pub held_after : (domain : ℕ) → Now → (old : Bool) → Meaning → Bool
-held_after d now old (Lockup domain source) = if domain == d then bit_from (sources_of now) now.moment.seen source else old
+held_after d now old (Lockup cell domain source) = if domain == d then bit_from (sources_of now) now.moment.seen source else old
 held_after d now old Input = old
 held_after d now old Clock = old
 held_after d now old (Gate kind inputs) = old

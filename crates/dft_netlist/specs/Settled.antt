@@ -35,7 +35,7 @@ bit_given s bits net Clock = s.high net
 bit_given s bits net (Gate kind inputs) = bit_of kind (map (bit_from s bits) inputs)
 bit_given s bits net (Joined source) = bit_from s bits source
 bit_given s bits net (Flop cell inverted) = if inverted then not (s.flops cell) else s.flops cell
-bit_given s bits net (Lockup domain source) = if s.high domain then s.held net else bit_from s bits source
+bit_given s bits net (Lockup cell domain source) = if s.high domain then s.held net else bit_from s bits source
 bit_given s bits net Free = s.free net
 
 -- every net has its driver's bit
@@ -48,8 +48,8 @@ pub record TriSources : Type 0 where
   pub ports : ℕ → Tri
   pub clocks : ℕ → Tri
   pub flops : ℕ → Tri
-  -- the value of a lock-up, by its domain and what its input is joined to
-  pub lockups : ℕ → Source → Tri
+  -- the value of a lock-up, by its instance, its domain and what its input is joined to
+  pub lockups : (cell domain : ℕ) → Source → Tri
 
 abbrev pub value_from : (ℕ → Tri) → Source → Tri
 value_from values (Net net) = values net
@@ -67,7 +67,7 @@ value_given s values net Clock = s.clocks net
 value_given s values net (Gate kind inputs) = tri_of kind (map (value_from values) inputs)
 value_given s values net (Joined source) = value_from values source
 value_given s values net (Flop cell inverted) = if inverted then inverse (s.flops cell) else s.flops cell
-value_given s values net (Lockup domain source) = s.lockups domain source
+value_given s values net (Lockup cell domain source) = s.lockups cell domain source
 value_given s values net Free = Unknown
 
 abbrev pub IsTriSettled : Logic → TriSources → (ℕ → Tri) → Type 0

@@ -13,6 +13,6 @@ pub use builder::DesignBuilder;
 pub use design::{Design, MAX_INSTANCES, MAX_NETS, MAX_PORTS};
 pub use ids::{InstanceId, NetId, PortId};
 pub use instance::{CellRef, Instance, Join, Signal};
-pub use laws::{settled_is_one, traces_are_exact};
+pub use laws::{first_form_is_flat, settled_is_one, traces_are_exact};
 pub use pins::PinSignals;
 pub use port::{Dir, NetIds, Port};

@@ -1,0 +1,11 @@
+pub mod Outcomes
+pub mod NameLemmas
+pub mod DeclarationLemmas
+pub mod VectorLemmas
+pub mod WrittenLemmas
+pub mod LineLemmas
+pub mod HeadLemmas
+pub mod ReadLemmas
+pub mod GroupLemmas
+pub mod SignalLemmas
+pub mod Refusals

@@ -1,5 +1,10 @@
+pub use Rattle.dft_base.specs.Words
 pub mod Acts
 pub mod Patterns
 pub mod Shown
-pub mod Words
+pub mod Heads
+pub mod Laws
+pub mod Lines
+pub mod Reads
 pub mod Written
+pub mod Rules

@@ -44,13 +44,13 @@ output_waves (s ∷ ss) = codes "outs { L { '0ns' X; '40ns' L; } H { '0ns' X; '4
 unfoldable pub middle : List StilSignal → List StilSignal → List ℕ
 middle ins outs = concat (
     codes "}\nSignalGroups {\n"
-  ∷ group (codes "ins") ins
-  ∷ group (codes "outs") outs
-  ∷ codes "}\nTiming {\nWaveformTable w {\nPeriod '100ns';\nWaveforms {\n"
-  ∷ input_waves ins
-  ∷ output_waves outs
-  ∷ codes "}\n}\n}\nPatternBurst b { PatList { p; } }\nPatternExec { PatternBurst b; }\nPattern p {\nW w;\n"
-  ∷ [])
+    ∷ group (codes "ins") ins
+    ∷ group (codes "outs") outs
+    ∷ codes "}\nTiming {\nWaveformTable w {\nPeriod '100ns';\nWaveforms {\n"
+    ∷ input_waves ins
+    ∷ output_waves outs
+    ∷ codes "}\n}\n}\nPatternBurst b { PatList { p; } }\nPatternExec { PatternBurst b; }\nPattern p {\nW w;\n"
+    ∷ [])
 
 -- all before the vectors
 unfoldable pub head : List StilSignal → List ℕ

@@ -2,11 +2,22 @@
 #![tactic(auto)]
 
 mod act;
+mod cursor;
+mod declarations;
 mod error;
+mod head;
+mod laws;
 mod pattern_set;
+mod reader;
 mod signal;
+#[cfg(test)]
+mod tests;
+mod vectors;
+mod writer;
 
 pub use act::{Act, Acts};
 pub use error::StilError;
+pub use laws::one_reading;
 pub use pattern_set::PatternSet;
+pub use reader::read;
 pub use signal::StilSignal;

@@ -1,7 +1,4 @@
 -- A search by name, judged by its definition.
-use Rattle.std.proofs.Common.{MatchOption, Option, subst, sym}
-use Rattle.dft_cells.specs.declared.cell.CellId.{CellId}
-use Rattle.dft_cells.specs.Cells.{NoneNamed, IsNamed}
 use Rattle.dft_cells.proofs.Finding.{found_named}
 use Rattle.dft_cells.proofs.library.Library.find.Goals as goal
 

@@ -1,0 +1,50 @@
+-- What the keys of a table hold.
+use Rattle.std.specs.Prelude.{ℕ, ℤ, Bool, true, false, ◌&&◌, ◌||◌, List, [], ◌∷◌, ◌++◌, map, length, Option, Some, None, option_map, option_and_then, nat_le, nat_lt, if◌then◌else◌}
+use Rattle.std.specs.Str.{bytes_eq}
+use Rattle.toml.specs.Data.{Data, Items, no_items, item, Members, no_members, member, get_member, as_str, as_integer, as_array, as_table}
+
+-- whether a byte is printed and no blank
+abbrev pub is_printed : ℕ → Bool
+is_printed byte = nat_le 33 byte && nat_le byte 126
+
+-- whether each byte is
+abbrev pub all_printed : List ℕ → Bool
+all_printed [] = true
+all_printed (byte ∷ bytes) = is_printed byte && all_printed bytes
+
+-- whether the bytes are a name: at least one byte, each printed and no blank
+abbrev pub is_name : List ℕ → Bool
+is_name bytes = nat_lt 0 (length bytes) && all_printed bytes
+
+-- the name with these bytes, where they are one
+abbrev pub name_of : List ℕ → Option (List ℕ)
+name_of bytes = if is_name bytes then Some bytes else None
+
+-- a byte as it is shown: itself where it is printed, otherwise `?`
+abbrev pub shown : ℕ → ℕ
+shown byte = if is_printed byte then byte else 63
+
+-- bytes as they are shown in a refusal; no byte at all is shown as `?`
+abbrev pub printable : List ℕ → List ℕ
+printable [] = 63 ∷ []
+printable (byte ∷ bytes) = map shown (byte ∷ bytes)
+
+-- the text, the number or the name at a key
+abbrev pub text_at : List ℕ → Members → Option (List ℕ)
+text_at key table = option_and_then as_str (get_member key table)
+
+abbrev pub integer_at : List ℕ → Members → Option ℤ
+integer_at key table = option_and_then as_integer (get_member key table)
+
+abbrev pub name_at : List ℕ → Members → Option (List ℕ)
+name_at key table = option_and_then name_of (text_at key table)
+
+-- whether a word stands among these
+abbrev pub has_word : List (List ℕ) → List ℕ → Bool
+has_word [] word = false
+has_word (other ∷ words) word = bytes_eq other word || has_word words word
+
+-- whether each key of a table is one of these words
+abbrev pub has_only : List (List ℕ) → Members → Bool
+has_only words no_members = true
+has_only words (member key value rest) = has_word words key && has_only words rest

@@ -1,0 +1,12 @@
+//! Reading TOML: the table that a text stands for, and what its keys hold.
+#![tactic(auto)]
+
+mod keys;
+mod lookup;
+mod name;
+mod text;
+
+pub use keys::has_only;
+pub use lookup::{integer_at, name_at, text_at};
+pub use name::{is_name, name_of, printable};
+pub use text::{TableError, read_table};

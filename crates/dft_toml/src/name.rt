@@ -1,0 +1,60 @@
+ghost use Rattle.std.specs.Prelude.{◌≡◌, IfOk, ℕ};
+ghost use Rattle.dft_toml.specs.Values as spec;
+
+use dft_base::Name;
+use std::alloc::{AllocError, Global};
+
+/// Whether these bytes are a name: at least one, each of 33 to 126.
+pub fn is_name(bytes: &[u8]) -> bool
+    ensures { result ≡ spec.is_name bytes.now }
+{
+    !bytes.is_empty() && are_printed(bytes)
+}
+
+fn are_printed(bytes: &[u8]) -> bool
+    ensures { result ≡ spec.all_printed bytes.now }
+{
+    for byte in bytes {
+        if !is_printed(*byte) {
+            return false;
+        }
+    }
+    true
+}
+
+fn is_printed(byte: u8) -> bool
+    ensures { result ≡ spec.is_printed byte }
+{
+    33 <= byte && byte <= 126
+}
+
+/// The name with these bytes, where they are one.
+pub fn name_of(alloc: Global, bytes: &[u8]) -> Result<Option<Name>, AllocError>
+    ensures { IfOk result (λ found. found ≡ spec.name_of bytes.now) }
+{
+    if is_name(bytes) {
+        Ok(Some(Name::from_slice(alloc, bytes)?))
+    } else {
+        Ok(None)
+    }
+}
+
+/// The bytes as a refusal shows them: `?` for each that is not printed, and for no byte at all.
+pub fn printable(alloc: Global, bytes: &[u8]) -> Result<Name, AllocError>
+    ensures { IfOk result (λ name. name ≡ spec.printable bytes.now) }
+{
+    if bytes.is_empty() {
+        return Name::from_slice(alloc, b"?");
+    }
+    let mut shown_bytes = Vec::new(alloc);
+    for byte in bytes {
+        shown_bytes.push(shown(*byte))?;
+    }
+    Name::from_slice(alloc, &shown_bytes)
+}
+
+fn shown(byte: u8) -> u8
+    ensures { result ≡ spec.shown byte }
+{
+    if is_printed(byte) { byte } else { b'?' }
+}
