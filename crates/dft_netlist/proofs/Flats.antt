@@ -16,7 +16,7 @@ use Rattle.dft_netlist.specs.declared.instance.Instance.{Instance}
 use Rattle.dft_netlist.specs.declared.instance.Signal.TheVariants as signal
 use Rattle.dft_netlist.specs.Netlist.{Netlist}
 use Rattle.dft_netlist.specs.Drivers.{Driver, Driven, Input, Flop, Free, Source, Net, Connection, driver_in, driven_by, driven_by_bits, driven_by_ports, driven_by_instances, all_driven, driver, connections_of, pins_at, pins_of, kind_of, kind_at, nets_read, AreBelow}
-use Rattle.dft_netlist.specs.FirstForm.{FlipFlop, Draft, dir_at, instance_of, is_well_joined, have_one_clock, is_driven, drive_apart, outputs_driven, all_declared, are_distinct, is_input, is_output, is_sound, dir_or_input, ports_from, flat_netlist, form_of, first_form, module_text, most_bytes}
+use Rattle.dft_netlist.specs.FirstForm.{FlipFlop, Draft, dir_at, instance_of, is_well_joined, have_one_clock, is_driven, drive_apart, outputs_driven, all_declared, are_distinct, is_input, is_output, are_well_named, are_clocked, are_driven, is_sound, dir_or_input, ports_from, flat_netlist, form_of, first_form, module_text, most_bytes}
 use Rattle.dft_netlist.specs.Rules.{Outcome}
 use Rattle.dft_netlist.specs.Tokens.{tokens}
 use Rattle.dft_netlist.specs.Traces.{Root, Port, root_of}
@@ -145,12 +145,12 @@ pub record Says (draft : Draft) : Type 0 where
 
 says : (draft : Draft) → is_sound draft ≡ true → Says draft
 says draft sound =
-    let e = both _ (outputs_driven draft.flip_flops 0 draft.dirs) sound in
-    let d = both _ (drive_apart draft.flip_flops) e.0 in
-    let c = both _ (have_one_clock draft.flip_flops) d.0 in
-    let b = both _ (list_all (is_well_joined draft.dirs) draft.flip_flops) c.0 in
-    let a = both (are_distinct draft.names) (all_declared draft.names draft.dirs) b.0 in
-    record { distinct = a.0; declared = a.1; joined = b.1; clock = c.1; apart = d.1; outputs = e.1 }
+    let whole = both (are_well_named draft.names draft.dirs) (are_clocked draft.dirs draft.flip_flops && are_driven draft.dirs draft.flip_flops) sound in
+    let named = both (are_distinct draft.names) (all_declared draft.names draft.dirs) whole.0 in
+    let rest = both (are_clocked draft.dirs draft.flip_flops) (are_driven draft.dirs draft.flip_flops) whole.1 in
+    let clocked = both (list_all (is_well_joined draft.dirs) draft.flip_flops) (have_one_clock draft.flip_flops) rest.0 in
+    let driven = both (drive_apart draft.flip_flops) (outputs_driven draft.flip_flops 0 draft.dirs) rest.1 in
+    record { distinct = named.0; declared = named.1; joined = clocked.0; clock = clocked.1; apart = driven.0; outputs = driven.1 }
 
 all_at : (p : FlipFlop → Bool) (fs : List FlipFlop) (j : ℕ) (f : FlipFlop) → list_all p fs ≡ true → slice_get fs j ≡ Some f → p f ≡ true
 all_at p [] j f all there = absurd cc
