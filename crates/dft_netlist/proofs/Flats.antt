@@ -242,11 +242,15 @@ driven_as : (draft : Draft) (net : ℕ) (d : Option Dir) → Says draft → dir_
 driven_as draft net (Some dir.Input) s is = inl (input_driver draft net s is)
 driven_as draft net (Some dir.Output) s is =
     let found = driver_place draft.flip_flops net (ap (is_driven draft.flip_flops) (let e : net ≡ 0 + net = omega arith in e) ∙ output_driven draft.flip_flops 0 draft.dirs net s.outputs is) in
-    inr (inl (found.0, found.1, record {
-      there = found.2.0;
-      output = found.2.1;
-      driven = ap (driver (flat_netlist draft)) (sym found.2.1) ∙ output_driver draft found.0 found.1 s found.2.0;
-    }))
+    inr (inl (
+      found.0,
+      found.1,
+      record {
+        there = found.2.0;
+        output = found.2.1;
+        driven = ap (driver (flat_netlist draft)) (sym found.2.1) ∙ output_driver draft found.0 found.1 s found.2.0;
+      },
+    ))
 driven_as draft net None s is =
     let past = declared_here draft.names draft.dirs net s.declared is in
     inr (inr (past, other_driver draft net (λ live. absurd (omega arith)) ∙ flops_pass 0 draft.flip_flops net (not_driven draft net s is)))

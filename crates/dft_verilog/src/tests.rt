@@ -11,6 +11,8 @@ fn the_least_netlist_is_read(rt: HostRuntime) -> Result<(), Fail> {
     assert_eq!(rt; design.ports().len(), 3);
     assert_eq!(rt; design.instances().len(), 1);
     assert_eq!(rt; design.joins().len(), 0);
+    assert_eq!(rt; design.net_name(NetId(2)).as_slice(), b"q".as_slice());
+    assert!(rt; design.library().find(b"DFF").is_some());
     for (port, (name, dir)) in design.ports().iter().zip([
         (b"c", Dir::Input),
         (b"d", Dir::Input),
