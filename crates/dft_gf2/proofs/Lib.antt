@@ -1,2 +1,3 @@
-pub mod Sums
 pub mod Echelons
+pub mod Restorations
+pub mod Sums

@@ -76,3 +76,9 @@ last_of n c f (inr less) zero_at ih = ap (λ (b : Bool). xor b (sum_to n f)) (ze
 pub sum_last : (n c : ℕ) (f : ℕ → Bool) → c < n → ((d : ℕ) → c < d → f d ≡ false) → sum_to n f ≡ xor (f c) (sum_to c f)
 sum_last zero c f h rest = absurd (omega arith)
 sum_last (suc n) c f h rest = last_of n c f (cases_last c n h) (rest n) (λ less. sum_last n c f less rest)
+
+pub xor_back : (a b : Bool) → xor (xor a b) b ≡ a
+xor_back = grind arith
+
+pub xor_cancel : (a b c : Bool) → xor a b ≡ xor c b → a ≡ c
+xor_cancel = grind arith

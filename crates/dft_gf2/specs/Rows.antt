@@ -65,11 +65,12 @@ abbrev pub Means : ℕ → List Equation → Row → List Bool → Bool → Type
 Means n kept row set bit =
     ((c : ℕ) → c < n → bit_at set c ≡ xor (bit_at row.set c) (odd_at (bit_at row.sums) kept c)) × (bit ≡ xor row.bit (odd_bits (bit_at row.sums) kept))
 
--- rows were added to it: it is as wide, has the same id, and means the same
+-- rows were added to it: it is as wide, has the same id, names no place that neither it nor they named, and means the same
 pub record IsReduced (rows : List Row) (places : List (Option ℕ)) (old new : Row) : Type 0 where
   pub set_size : length new.set ≡ length old.set
   pub sums_size : length new.sums ≡ length old.sums
   pub id_is : new.id ≡ old.id
+  pub later : (j : ℕ) → ((c i : ℕ) → place_at places c ≡ Some i → bit_at (row_at rows i).sums j ≡ false) → bit_at old.sums j ≡ false → bit_at new.sums j ≡ false
   pub means : (kept : List Equation) (set : List Bool) (bit : Bool) → AreSums (length places) kept rows places → Means (length places) kept old set bit → Means (length places) kept new set bit
 
 -- the column is cleared, and those after it that were clear still are; or it leads no row, and nothing changed
