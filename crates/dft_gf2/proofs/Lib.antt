@@ -1,3 +1,4 @@
 pub mod Echelons
 pub mod Restorations
 pub mod Sums
+pub mod Reductions
