@@ -2,3 +2,4 @@ pub mod Echelons
 pub mod Restorations
 pub mod Sums
 pub mod Reductions
+pub mod Outcomes
