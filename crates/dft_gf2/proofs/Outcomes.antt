@@ -6,7 +6,7 @@ use Rattle.std.specs.List.{count_by}
 use Rattle.std.proofs.lemmas.Bool.{cases_lt, cases_eq, and_left}
 use Rattle.std.proofs.lemmas.List.{get_or_past}
 use Rattle.dft_base.specs.Solutions.{xor, sum_to, bit_at, sum_over, Equation, equation_at, Solves, IsSolvable, odd_at, odd_bits, IsSumOf, IsSum, AllGive, NoneGives}
-use Rattle.dft_gf2.specs.Rows.{row_at, place_at, IsWide, IsStarted, IsLedBy, IsZero, IsNew, IsSumRow, AreSums, Means, IsReduced, with_own, restored, kept_to}
+use Rattle.dft_gf2.specs.Rows.{row_at, place_at, IsWide, IsStarted, IsLedBy, AreLed, IsZero, IsNew, IsSumRow, AreSums, Means, IsReduced, with_own, restored, kept_to}
 use Rattle.dft_gf2.specs.Inside.{IsEchelon}
 use Rattle.dft_gf2.specs.declared.row.Row.{Row}
 use Rattle.dft_gf2.specs.declared.system.Outcome.{Outcome}
@@ -188,3 +188,30 @@ pub told_conflict : (n : ℕ) (rows : List Row) (places : List (Option ℕ)) (k 
 told_conflict n rows places k set bit id trial e stood clear one =
     tells_conflict n (kept_to n rows k) set bit (bit_at trial.sums, zero_sums n (kept_to n rows k) trial set bit clear stood.means) (kept_solvable n rows places k e)
     (zero_refuses n (kept_to n rows k) trial set bit clear one stood.means)
+
+pub kept_fits : (n : ℕ) (rows : List Row) (places : List (Option ℕ)) (k : ℕ) → IsEchelon n rows places k → k ≤ n
+kept_fits n rows places k e = let fits = count_by-le-length is_some places in omega (arith, e.count, e.columns)
+
+pub are_led : (n : ℕ) (rows : List Row) (places : List (Option ℕ)) (k : ℕ) → IsEchelon n rows places k → AreLed rows places
+are_led n rows places k e c i is = (let fits = kept_fits n rows places k e in let below : i < k = (e.led c i is).0 in omega (arith, e.wide.0), (e.led c i is).1)
+
+-- the trial's own place is none of those that its meaning reads
+own_means : (n k : ℕ) (kept : List Equation) (row : List Bool) (bit : Bool) (trial : Row) → length kept ≡ k → Means n kept trial row bit → Means n kept (with_own k trial) row bit
+own_means n k kept row bit trial size means = (
+    λ c less. means.0 c less ∙ ap (xor (bit_at trial.set c)) (same (λ (e : Equation). bit_at e.row c)),
+    means.1 ∙ ap (xor trial.bit) (same (λ (e : Equation). e.bit))
+) where
+    same : (f : Equation → Bool) → odd (bit_at trial.sums) f kept ≡ odd (bit_at (slice_set trial.sums k true)) f kept
+    same f = odd_same (bit_at trial.sums) (bit_at (slice_set trial.sums k true)) f kept (λ j less. sym (get_or-set_other trial.sums k j true false (λ equal. omega arith)))
+
+-- the equations that are kept after the trial is written
+pub kept_after : (n : ℕ) (rows : List Row) (places : List (Option ℕ)) (k c : ℕ) (row : List Bool) (bit : Bool) (id : ℕ) (trial : Row) → IsEchelon n rows places k → length row ≡ n → Stands n rows k row bit id trial → IsNew places trial c →
+    kept_to n (slice_set rows k (with_own k trial)) (k + 1) ≡ kept_to n rows k ++ record { row = row; bit = bit; id = id } ∷ []
+kept_after n rows places k c row bit id trial e size stood new =
+    let written : List Row = slice_set rows k (with_own k trial) in
+    let inside : k < length rows = rw e.wide.0 (room n rows places k c trial e new) in
+    let before : kept_to n written k ≡ kept_to n rows k = kept_same n written rows k (λ i less. get_or-set_other rows k i (with_own k trial) _ (λ same. omega arith)) in
+    let last : row_at written k ≡ with_own k trial = get_or-set_same rows k (with_own k trial) _ inside in
+    let own : restored n (kept_to n rows k) (with_own k trial) ≡ record { row = row; bit = bit; id = id } =
+        restored_is n (kept_to n rows k) (with_own k trial) row bit id size (own_means n k (kept_to n rows k) row bit trial (length_kept n rows k) stood.means) stood.id_is in
+    kept_more n written k ∙ (λ t. before t ++ restored n (before t) (last t) ∷ []) ∙ ap (λ (e : Equation). kept_to n rows k ++ e ∷ []) own

@@ -177,3 +177,23 @@ rows_sum n rows (suc k) own later i less =
     (λ under. sum_row_more n k kept e (row_at rows i) (length_kept n rows k) (later i k less under)
      (rows_sum n rows k (λ j h. own j (omega arith)) (λ j m h. later j m (omega arith)) i under))
     (sum_row_own n k kept e (row_at rows k) (length_kept n rows k) (own k (omega arith)) (restored_means n kept (row_at rows k)))
+
+restored_id : (n : ℕ) (kept : List Equation) (row : Row) → (restored n kept row).id ≡ row.id
+unfolding restored
+restored_id n kept row = refl
+
+push_id : (kept : List Equation) (e : Equation) (k j id : ℕ) → length kept ≡ k → j < suc k → (j < k → (equation_at kept j).id ≡ id) → (k ≡ j → e.id ≡ id) → (equation_at (kept ++ e ∷ []) j).id ≡ id
+push_id kept e k j id size less before last = at (cases_lt j k) where
+    at : (j < k) ⊎ (k ≤ j) → (equation_at (kept ++ e ∷ []) j).id ≡ id
+    at (inl under) = ap (λ (d : Equation). d.id) (push_at kept e j (omega arith)) ∙ before under
+    at (inr past) = let same : k ≡ j = omega arith in ap (λ (d : Equation). d.id) (get_or_push kept e (record { row = []; bit = false; id = 0 }) j (size ∙ same)) ∙ last same
+
+-- an equation has the id of the row that it began
+pub kept_id : (n : ℕ) (rows : List Row) (k j : ℕ) → j < k → (equation_at (kept_to n rows k) j).id ≡ (row_at rows j).id
+unfolding kept_to
+kept_id n rows zero j less = absurd (omega arith)
+kept_id n rows (suc k) j less =
+    let kept = kept_to n rows k in
+    let e = restored n kept (row_at rows k) in
+    push_id (kept_to n rows k) e k j (row_at rows j).id (length_kept n rows k) less (kept_id n rows k j)
+    (λ same. restored_id n kept (row_at rows k) ∙ ap (λ (m : ℕ). (row_at rows m).id) same)
