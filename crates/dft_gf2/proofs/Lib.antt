@@ -3,3 +3,4 @@ pub mod Restorations
 pub mod Sums
 pub mod Reductions
 pub mod Outcomes
+pub mod Certificates

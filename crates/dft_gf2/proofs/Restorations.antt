@@ -13,7 +13,7 @@ use Rattle.dft_gf2.proofs.Echelons.{IsMet}
 abbrev pub odd : (ℕ → Bool) → (Equation → Bool) → List Equation → Bool
 odd p f es = sum_to (length es) (λ j. p j && f (equation_at es j))
 
-push_at : (es : List Equation) (e : Equation) (j : ℕ) → j < length es → equation_at (es ++ e ∷ []) j ≡ equation_at es j
+pub push_at : (es : List Equation) (e : Equation) (j : ℕ) → j < length es → equation_at (es ++ e ∷ []) j ≡ equation_at es j
 push_at es e j less = get_or_append_left es (e ∷ []) _ j less
 
 pub odd_push : (p : ℕ → Bool) (f : Equation → Bool) (es : List Equation) (e : Equation) → odd p f (es ++ e ∷ []) ≡ xor (p (length es) && f e) (odd p f es)
@@ -178,7 +178,7 @@ rows_sum n rows (suc k) own later i less =
      (rows_sum n rows k (λ j h. own j (omega arith)) (λ j m h. later j m (omega arith)) i under))
     (sum_row_own n k kept e (row_at rows k) (length_kept n rows k) (own k (omega arith)) (restored_means n kept (row_at rows k)))
 
-restored_id : (n : ℕ) (kept : List Equation) (row : Row) → (restored n kept row).id ≡ row.id
+pub restored_id : (n : ℕ) (kept : List Equation) (row : Row) → (restored n kept row).id ≡ row.id
 unfolding restored
 restored_id n kept row = refl
 

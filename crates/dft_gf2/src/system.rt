@@ -1,5 +1,5 @@
-ghost use Rattle.std.specs.Prelude.{◌≡◌, ℕ, ◌<◌, ◌≤◌, ◌↔◌, Bool, List, [], Option, Some, None, length, IfOk, IfSome, IsSome, MatchOption, slice_set};
-ghost use Rattle.dft_base.specs.Solutions.{bit_at, Equation, IsSum, AllGive, NoneGives, Contradicts, IsChosen, Solves};
+ghost use Rattle.std.specs.Prelude.{◌≡◌, ℕ, ◌<◌, ◌≤◌, ◌↔◌, Bool, List, [], ◌∷◌, ◌++◌, Option, Some, None, length, IfOk, IfSome, IsSome, MatchOption, slice_set};
+ghost use Rattle.dft_base.specs.Solutions.{bit_at, Equation, IsSum, AllGive, NoneGives, Certifies, Contradicts, IsChosen, Solves};
 ghost use Rattle.dft_gf2.specs.Elimination.{Elimination, After};
 ghost use Rattle.dft_gf2.specs.Like.{AnswersLike};
 ghost use Rattle.dft_gf2.specs.Rows.{row_at, AreWide, AreLed, IsCleared, IsZero, IsNew, IsReduced, IsWide, with_own};
@@ -88,7 +88,8 @@ impl System {
     /// Why the last equation was a conflict: the ids of the kept equations whose sets sum to its set, in order, and then its own.
     pub fn certificate(&self, alloc: Global) -> Result<Vec<u32>, AllocError>
         requires { IsSome self.now.refused }
-        ensures { IfSome self.now.refused (λ e. IfOk result (λ ids. Contradicts self.now.columns self.now.kept e ids.items)) }
+        ensures stated { IfSome self.now.refused (λ e. IfOk result (λ ids. Contradicts self.now.columns self.now.kept e ids.items)) }
+        ensures sums { IfSome self.now.refused (λ e. IfOk result (λ ids. Certifies self.now.columns (self.now.kept ++ e ∷ []) ids.items)) }
     {
         let mut ids = Vec::new(alloc);
         for place in 0..self.kept {
