@@ -33,7 +33,7 @@ sum_led n c row x h led =
     sum_last n c (λ d. bit_at row.set d && x d) h (λ d above. and_left (bit_at row.set d) (x d) (led.1 d above))
     ∙ ap (λ (b : Bool). xor (b && x c) (sum_over c row.set x)) led.0
 
-sums_agree : (k : ℕ) (set : List Bool) (x y : ℕ → Bool) → ((d : ℕ) → d < k → y d ≡ x d) → sum_over k set y ≡ sum_over k set x
+pub sums_agree : (k : ℕ) (set : List Bool) (x y : ℕ → Bool) → ((d : ℕ) → d < k → y d ≡ x d) → sum_over k set y ≡ sum_over k set x
 sums_agree k set x y agree = sum_same k (λ d. bit_at set d && y d) (λ d. bit_at set d && x d) (λ d less. ap (λ (b : Bool). bit_at set d && b) (agree d less))
 
 -- a row that a column before k leads is met alike by tables that agree there

@@ -4,3 +4,4 @@ pub mod Sums
 pub mod Reductions
 pub mod Outcomes
 pub mod Certificates
+pub mod Choices
