@@ -10,8 +10,18 @@ pub record Elimination : Type 0 where
   pub kept : List Equation
   pub refused : Option Equation
 
--- what the system is after it answered so to the equation
+-- the kept equations after this outcome of the equation
+abbrev pub kept_after : Equation → List Equation → Outcome → List Equation
+kept_after e kept Kept = kept ++ e ∷ []
+kept_after e kept Implied = kept
+kept_after e kept Conflict = kept
+
+-- the refused equation after this outcome
+abbrev pub refused_after : Equation → Outcome → Option Equation
+refused_after e Kept = None
+refused_after e Implied = None
+refused_after e Conflict = Some e
+
+-- what the system is after this outcome of the equation
 abbrev pub After : Equation → Outcome → Elimination → Elimination
-After e Kept s = record { columns = s.columns; kept = s.kept ++ e ∷ []; refused = None }
-After e Implied s = record { columns = s.columns; kept = s.kept; refused = None }
-After e Conflict s = record { columns = s.columns; kept = s.kept; refused = Some e }
+After e outcome s = record { columns = s.columns; kept = kept_after e s.kept outcome; refused = refused_after e outcome }

@@ -1,4 +1,4 @@
-ghost use Rattle.std.specs.Prelude.{◌≡◌, ℕ, ◌<◌, ◌≤◌, ◌↔◌, Bool, List, [], ◌∷◌, ◌++◌, Option, Some, None, length, IfOk, IfSome, IsSome, MatchOption, slice_set};
+ghost use Rattle.std.specs.Prelude.{◌≡◌, ℕ, ◌<◌, ◌≤◌, ◌↔◌, Bool, List, [], ◌∷◌, ◌++◌, Option, Some, None, length, IfOk, IfSome, IsSome, IsTrue, MatchOption, slice_set};
 ghost use Rattle.dft_base.specs.Solutions.{bit_at, Equation, IsSum, AllGive, NoneGives, Certifies, Contradicts, IsChosen, Solves};
 ghost use Rattle.dft_gf2.specs.Elimination.{Elimination, After};
 ghost use Rattle.dft_gf2.specs.Like.{AnswersLike};
@@ -57,6 +57,20 @@ impl System {
             trial: Row::blank(alloc, columns as usize)?,
             refused: false,
         })
+    }
+
+    /// The number of columns.
+    pub fn columns(&self) -> u32
+        ensures { result ≡ self.now.columns }
+    {
+        self.columns
+    }
+
+    /// Whether the last equation was a conflict.
+    pub fn has_conflict(&self) -> bool
+        ensures { IsTrue result ↔ IsSome self.now.refused }
+    {
+        self.refused
     }
 
     /// Adds the equation that gives a set of columns the sum `bit`, unless the kept ones already tell its sum.
