@@ -75,6 +75,10 @@ abbrev pub ids_to : ℕ → (ℕ → Bool) → List Equation → List ℕ
 ids_to zero picks es = []
 ids_to (suc m) picks es = ids_to m picks es ++ (if picks m then (equation_at es m).id ∷ [] else [])
 
+-- the ids name a certificate of the equations, in their order
+abbrev pub Certifies : ℕ → List Equation → List ℕ → Type 0
+Certifies n es ids = (picks : ℕ → Bool) × (IsCertificate n es picks × (ids ≡ ids_to (length es) picks es))
+
 -- no solution of the kept equations has the bit of this one; the ids name the kept ones whose sets sum to its set, and then it
 pub record Contradicts (n : ℕ) (kept : List Equation) (e : Equation) (ids : List ℕ) : Type 0 where
   pub picks : ℕ → Bool

@@ -1,10 +1,10 @@
 -- Certificates: their ids in order, and that they sum to 0 = 1.
-use Rattle.std.proofs.Common.{ℕ, zero, suc, Bool, true, false, List, [], ◌∷◌, ◌++◌, ◌≡◌, ◌==◌, ◌+◌, ◌<◌, ◌≤◌, ◌≢◌, length, refl, sym, ap, arith, rules, ◌∙◌, Option, Some, None}
-use Rattle.std.specs.Prelude.{◌&&◌, not, if◌then◌else◌, IsSome, IfSome}
+use Rattle.std.proofs.Common.{ℕ, zero, suc, Bool, true, false, List, [], ◌∷◌, ◌++◌, ◌≡◌, ◌==◌, ◌+◌, ◌<◌, length, refl, sym, ap, arith, rules, ◌∙◌, Some, None}
+use Rattle.std.specs.Prelude.{◌&&◌, not, if◌then◌else◌, IfSome}
 use Rattle.std.proofs.lemmas.Bool.{eq-eqb, ne_eqb}
 use Rattle.std.proofs.lemmas.List.{length_push, get_or_push, append-nil}
-use Rattle.dft_base.specs.Solutions.{xor, bit_at, Equation, equation_at, odd_at, odd_bits, IsSumOf, IsCertificate, Certifies, Contradicts, ids_to}
-use Rattle.dft_gf2.specs.Rows.{IsZero, Means, restored}
+use Rattle.dft_base.specs.Solutions.{xor, bit_at, Equation, equation_at, odd_at, odd_bits, IsSumOf, Certifies, Contradicts, ids_to}
+use Rattle.dft_gf2.specs.Rows.{IsZero, restored}
 use Rattle.dft_gf2.specs.declared.row.Row.{Row}
 use Rattle.dft_gf2.proofs.Sums.{xor_self}
 use Rattle.dft_gf2.proofs.Restorations.{odd, odd_push, odd_same, push_at, restored_means, restored_id}
@@ -46,7 +46,7 @@ odd_last es e p f = odd_push (and_last es p) f es e ∙ (λ t. xor (picks_last e
 ids_last : (es : List Equation) (e : Equation) (p : ℕ → Bool) → ids_to (length es) p es ++ e.id ∷ [] ≡ ids_to (length (es ++ e ∷ [])) (and_last es p) (es ++ e ∷ [])
 ids_last es e p =
     let before : ids_to (length es) p es ≡ ids_to (length es) (and_last es p) (es ++ e ∷ []) =
-        ids_same (length es) p (and_last es p) es (es ++ e ∷ []) (λ j less. sym (picks_before es p j less)) (λ j less. sym (push_at es e j less)) in
+    ids_same (length es) p (and_last es p) es (es ++ e ∷ []) (λ j less. sym (picks_before es p j less)) (λ j less. sym (push_at es e j less)) in
     let last : equation_at (es ++ e ∷ []) (length es) ≡ e = get_or_push es e _ (length es) refl in
     ids_taken (and_last es p) (es ++ e ∷ []) (length es) (ids_to (length es) p es) e.id before (picks_last es p) (sym (ap (λ (d : Equation). d.id) last))
     ∙ ap (λ (k : ℕ). ids_to k (and_last es p) (es ++ e ∷ [])) (sym (length_push es e))
@@ -56,10 +56,16 @@ xor_not = grind arith
 
 -- a set that is a sum of kept sets, with the other bit than theirs
 pub certifies_last : (n : ℕ) (kept : List Equation) (e : Equation) (p : ℕ → Bool) → IsSumOf n p kept e.row → e.bit ≡ not (odd_bits p kept) → Certifies n (kept ++ e ∷ []) (ids_to (length kept) p kept ++ e.id ∷ [])
-certifies_last n kept e p sums other = (and_last kept p, (record {
-  even = λ c less. odd_last kept e p (λ (d : Equation). bit_at d.row c) ∙ ap (λ (b : Bool). xor b (odd_at p kept c)) (sums c less) ∙ xor_self (odd_at p kept c);
-  odd = odd_last kept e p (λ (d : Equation). d.bit) ∙ ap (λ (b : Bool). xor b (odd_bits p kept)) other ∙ xor_not (odd_bits p kept);
-}, ids_last kept e p))
+certifies_last n kept e p sums other = (
+  and_last kept p,
+  (
+    record {
+      even = λ c less. odd_last kept e p (λ (d : Equation). bit_at d.row c) ∙ ap (λ (b : Bool). xor b (odd_at p kept c)) (sums c less) ∙ xor_self (odd_at p kept c);
+      odd = odd_last kept e p (λ (d : Equation). d.bit) ∙ ap (λ (b : Bool). xor b (odd_bits p kept)) other ∙ xor_not (odd_bits p kept);
+    },
+    ids_last kept e p,
+  ),
+)
 
 -- what is left of a refused equation gives its certificate
 pub contradicts : (n : ℕ) (kept : List Equation) (trial : Row) (ids : List ℕ) → IsZero trial → trial.bit ≡ true → ids ≡ ids_to (length kept) (bit_at trial.sums) kept ++ trial.id ∷ [] →
@@ -75,8 +81,8 @@ pub certifies : (n : ℕ) (kept : List Equation) (trial : Row) (ids : List ℕ) 
     Certifies n (kept ++ restored n kept trial ∷ []) ids
 certifies n kept trial ids clear one named =
     let all : Certifies n (kept ++ restored n kept trial ∷ []) (ids_to (length kept) (bit_at trial.sums) kept ++ (restored n kept trial).id ∷ []) =
-        certifies_last n kept (restored n kept trial) (bit_at trial.sums) (zero_sums n kept trial _ _ clear (restored_means n kept trial))
-        ((restored_means n kept trial).1 ∙ ap (λ (b : Bool). xor b (odd_bits (bit_at trial.sums) kept)) one) in
+    certifies_last n kept (restored n kept trial) (bit_at trial.sums) (zero_sums n kept trial _ _ clear (restored_means n kept trial))
+    ((restored_means n kept trial).1 ∙ ap (λ (b : Bool). xor b (odd_bits (bit_at trial.sums) kept)) one) in
     (all.0, (all.1.0, named ∙ ap (λ (m : ℕ). ids_to (length kept) (bit_at trial.sums) kept ++ m ∷ []) (sym (restored_id n kept trial)) ∙ all.1.1))
 
 -- what holds of the refused equation, where there is one

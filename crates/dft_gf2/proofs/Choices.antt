@@ -1,9 +1,9 @@
 -- The bits that a fill chooses, column by column.
-use Rattle.std.proofs.Common.{ℕ, zero, suc, Bool, true, false, List, [], ◌∷◌, ◌++◌, ◌≡◌, ◌+◌, ◌<◌, ◌≤◌, length, get_or, refl, sym, ap, arith, ◌∙◌, ◌⊎◌, inl, inr, Option, Some, None}
+use Rattle.std.proofs.Common.{ℕ, Bool, true, false, List, [], ◌∷◌, ◌++◌, ◌≡◌, ◌+◌, ◌<◌, ◌≤◌, length, get_or, refl, sym, ap, arith, ◌∙◌, ◌⊎◌, inl, inr, Option, Some, None}
 use Rattle.std.specs.Prelude.{not}
 use Rattle.std.proofs.lemmas.Bool.{cases_lt}
 use Rattle.std.proofs.lemmas.List.{length_push, get_or_append_left, get_or_push, get_or_read}
-use Rattle.dft_base.specs.Solutions.{xor, bit_at, sum_over, Solves, CanTake, IsChosen}
+use Rattle.dft_base.specs.Solutions.{xor, bit_at, sum_over, Solves, IsChosen}
 use Rattle.dft_gf2.specs.Rows.{row_at, place_at, IsLedBy, kept_to}
 use Rattle.dft_gf2.specs.Inside.{IsEchelon}
 use Rattle.dft_gf2.specs.declared.row.Row.{Row}
@@ -30,15 +30,17 @@ fills_more n rows places kept fill bits k bit e before next = record {
   solved = solved_more n rows places (bit_at bits) (bit_at (bits ++ bit ∷ [])) k (leads_of n rows places kept e) same (λ i is. last ∙ next.forced i is) before.solved;
   filled = λ c less free. filled c free (cases_lt c k) less;
 } where
-    same : (d : ℕ) → d < k → bit_at (bits ++ bit ∷ []) d ≡ bit_at bits d
-    same d less = get_or_append_left bits (bit ∷ []) false d (let size = before.size in omega arith)
-    last : bit_at (bits ++ bit ∷ []) k ≡ bit
-    last = get_or_push bits bit false k before.size
-    filled : (c : ℕ) → place_at places c ≡ None → (c < k) ⊎ (k ≤ c) → c < k + 1 → bit_at (bits ++ bit ∷ []) c ≡ bit_at fill c
-    filled c free (inl under) less = same c under ∙ before.filled c under free
-    filled c free (inr past) less =
-        let here : k ≡ c = omega arith in
-        ap (bit_at (bits ++ bit ∷ [])) (sym here) ∙ last ∙ next.filled (ap (place_at places) here ∙ free) ∙ ap (bit_at fill) here
+  same : (d : ℕ) → d < k → bit_at (bits ++ bit ∷ []) d ≡ bit_at bits d
+  same d less = get_or_append_left bits (bit ∷ []) false d (let size = before.size in omega arith)
+
+  last : bit_at (bits ++ bit ∷ []) k ≡ bit
+  last = get_or_push bits bit false k before.size
+
+  filled : (c : ℕ) → place_at places c ≡ None → (c < k) ⊎ (k ≤ c) → c < k + 1 → bit_at (bits ++ bit ∷ []) c ≡ bit_at fill c
+  filled c free (inl under) less = same c under ∙ before.filled c under free
+  filled c free (inr past) less =
+      let here : k ≡ c = omega arith in
+      ap (bit_at (bits ++ bit ∷ [])) (sym here) ∙ last ∙ next.filled (ap (place_at places) here ∙ free) ∙ ap (bit_at fill) here
 
 -- two tables that meet a row and agree before its last column agree there
 forced_same : (n c : ℕ) (row : Row) (x y : ℕ → Bool) → c < n → IsLedBy row c → IsMet n x row → IsMet n y row → ((d : ℕ) → d < c → x d ≡ y d) → x c ≡ y c
@@ -88,4 +90,4 @@ next_forced n rows places kept fill bits k i row bit e leads read size is = reco
 }
 
 pub next_filled : (rows : List Row) (places : List (Option ℕ)) (fill bits : List Bool) (k : ℕ) (bit : Bool) → place_at places k ≡ None → bit ≡ bit_at fill k → IsNext rows places fill bits k bit
-next_filled rows places fill bits k bit free is = record { forced = λ i other. absurd cc; filled = λ none. is; }
+next_filled rows places fill bits k bit free is = record { forced = λ i other. absurd cc; filled = λ none. is }

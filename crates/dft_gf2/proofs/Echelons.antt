@@ -1,9 +1,9 @@
 -- Rows in echelon form: a row is solved by its last column, so the rows are solved in column order.
-use Rattle.std.proofs.Common.{ℕ, zero, suc, Bool, true, false, List, ◌≡◌, ◌==◌, ◌+◌, ◌<◌, ◌≤◌, length, get_or, refl, sym, ap, arith, ◌∙◌, ◌⊎◌, inl, inr, Option, Some, None, if◌then◌else◌, cond}
+use Rattle.std.proofs.Common.{ℕ, zero, suc, Bool, false, List, ◌≡◌, ◌==◌, ◌+◌, ◌<◌, ◌≤◌, length, refl, sym, ap, arith, ◌∙◌, ◌⊎◌, inl, inr, Option, Some, None, if◌then◌else◌}
 use Rattle.std.specs.Prelude.{◌&&◌}
-use Rattle.std.proofs.lemmas.Bool.{cases_lt, and_left, eqb-true, eq-eqb, ne_eqb}
+use Rattle.std.proofs.lemmas.Bool.{cases_lt, and_left, eq-eqb, ne_eqb}
 use Rattle.std.proofs.lemmas.List.{get_or_past}
-use Rattle.dft_base.specs.Solutions.{xor, sum_to, bit_at, sum_over}
+use Rattle.dft_base.specs.Solutions.{xor, bit_at, sum_over}
 use Rattle.dft_gf2.specs.Rows.{row_at, place_at, IsLedBy}
 use Rattle.dft_gf2.specs.Inside.{IsEchelon}
 use Rattle.dft_gf2.specs.declared.row.Row.{Row}
@@ -23,9 +23,9 @@ Leads n rows places = (c i : ℕ) → place_at places c ≡ Some i → (c < n) �
 
 pub some_below : (places : List (Option ℕ)) (c i : ℕ) → place_at places c ≡ Some i → c < length places
 some_below places c i h = below (cases_lt c (length places)) where
-    below : (c < length places) ⊎ (length places ≤ c) → c < length places
-    below (inl less) = less
-    below (inr past) = let none = get_or_past places c None past in absurd cc
+  below : (c < length places) ⊎ (length places ≤ c) → c < length places
+  below (inl less) = less
+  below (inr past) = let none = get_or_past places c None past in absurd cc
 
 -- the sum over a set ends at its last column
 pub sum_led : (n c : ℕ) (row : Row) (x : ℕ → Bool) → c < n → IsLedBy row c → sum_over n row.set x ≡ xor (x c) (sum_over c row.set x)
@@ -55,12 +55,12 @@ pub solved_more : (n : ℕ) (rows : List Row) (places : List (Option ℕ)) (x y 
     ((d : ℕ) → d < k → y d ≡ x d) → ((i : ℕ) → place_at places k ≡ Some i → y k ≡ xor (row_at rows i).bit (sum_over k (row_at rows i).set x)) →
     AreSolvedTo n rows places x k → AreSolvedTo n rows places y (k + 1)
 solved_more n rows places x y k leads agree forced solved c i less is = step (cases_lt c k) where
-    step : (c < k) ⊎ (k ≤ c) → IsMet n y (row_at rows i)
-    step (inl before) = met_before n k c (row_at rows i) x y (leads c i is).0 before (leads c i is).1 agree (solved c i before is)
-    step (inr last) =
-        let same : c ≡ k = omega arith in
-        let here : place_at places k ≡ Some i = ap (place_at places) (sym same) ∙ is in
-        met_here n k (row_at rows i) x y (leads k i here).0 (leads k i here).1 agree (forced i here)
+  step : (c < k) ⊎ (k ≤ c) → IsMet n y (row_at rows i)
+  step (inl before) = met_before n k c (row_at rows i) x y (leads c i is).0 before (leads c i is).1 agree (solved c i before is)
+  step (inr last) =
+      let same : c ≡ k = omega arith in
+      let here : place_at places k ≡ Some i = ap (place_at places) (sym same) ∙ is in
+      met_here n k (row_at rows i) x y (leads k i here).0 (leads k i here).1 agree (forced i here)
 
 -- the bit at a column, after the bits before it
 next : List Row → (ℕ → Bool) → ℕ → Option ℕ → Bool
@@ -87,8 +87,8 @@ solution_solves : (n : ℕ) (rows : List Row) (places : List (Option ℕ)) (k : 
 solution_solves n rows places zero leads = λ c i less is. absurd (omega arith)
 solution_solves n rows places (suc k) leads =
     let more : AreSolvedTo n rows places (solution rows places (suc k)) (k + 1) =
-        solved_more n rows places (solution rows places k) (solution rows places (suc k)) k leads
-        (λ d less. solution_before rows places k d less) (λ i is. solution_here rows places k i is) (solution_solves n rows places k leads)
+    solved_more n rows places (solution rows places k) (solution rows places (suc k)) k leads
+    (λ d less. solution_before rows places k d less) (λ i is. solution_here rows places k i is) (solution_solves n rows places k leads)
     in λ c i less is. more c i (omega arith) is
 
 pub leads_of : (n : ℕ) (rows : List Row) (places : List (Option ℕ)) (kept : ℕ) → IsEchelon n rows places kept → Leads n rows places

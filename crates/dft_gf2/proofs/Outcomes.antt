@@ -1,12 +1,11 @@
 -- What an equation is to the kept ones, by the row that is left of it.
-use Rattle.std.proofs.Common.{ℕ, zero, suc, Bool, true, false, List, [], ◌∷◌, ◌++◌, ◌≡◌, ◌+◌, ◌<◌, ◌≤◌, ◌≢◌, ◌↔◌, length, get_or, refl, sym, ap, arith, ◌∙◌, ◌⊎◌, inl, inr, subst, Option, Some, None, length-set, get_or-set_same, get_or-set_other}
+use Rattle.std.proofs.Common.{ℕ, Bool, true, false, List, [], ◌∷◌, ◌++◌, ◌≡◌, ◌+◌, ◌<◌, ◌≤◌, ◌≢◌, ◌↔◌, length, refl, sym, ap, arith, ◌∙◌, ◌⊎◌, inl, inr, subst, Option, Some, None, length-set, get_or-set_same, get_or-set_other}
 use Rattle.std.specs.Prelude.{◌&&◌, not, is_some, slice_set, cond}
 use Rattle.std.proofs.lemmas.List.Sums.{count_by-le-length, sum_by-set}
 use Rattle.std.specs.List.{count_by}
-use Rattle.std.proofs.lemmas.Bool.{cases_lt, cases_eq, and_left}
-use Rattle.std.proofs.lemmas.List.{get_or_past}
-use Rattle.dft_base.specs.Solutions.{xor, sum_to, bit_at, sum_over, Equation, equation_at, Solves, IsSolvable, odd_at, odd_bits, IsSumOf, IsSum, AllGive, NoneGives}
-use Rattle.dft_gf2.specs.Rows.{row_at, place_at, IsWide, IsStarted, IsLedBy, AreLed, IsZero, IsNew, IsSumRow, AreSums, Means, IsReduced, with_own, restored, kept_to}
+use Rattle.std.proofs.lemmas.Bool.{cases_eq, and_left}
+use Rattle.dft_base.specs.Solutions.{xor, bit_at, sum_over, Equation, equation_at, Solves, IsSolvable, odd_at, odd_bits, IsSumOf, IsSum, AllGive, NoneGives}
+use Rattle.dft_gf2.specs.Rows.{row_at, place_at, IsWide, IsStarted, IsLedBy, AreLed, IsZero, IsNew, AreSums, Means, IsReduced, with_own, restored, kept_to}
 use Rattle.dft_gf2.specs.Inside.{IsEchelon}
 use Rattle.dft_gf2.specs.declared.row.Row.{Row}
 use Rattle.dft_gf2.specs.declared.system.Outcome.{Outcome}
@@ -24,11 +23,11 @@ pub record Stands (n : ℕ) (rows : List Row) (k : ℕ) (set : List Bool) (bit :
 
 start_means : (n : ℕ) (kept : List Equation) (set : List Bool) (bit : Bool) (id : ℕ) (old start : Row) → IsStarted set bit id old start → Means n kept start set bit
 start_means n kept set bit id old start is = (
-    λ c less. sym (ap (xor (bit_at start.set c)) (none (λ (e : Equation). bit_at e.row c)) ∙ xor_false (bit_at start.set c) ∙ ap (λ (s : List Bool). bit_at s c) is.set),
-    sym (ap (xor start.bit) (none (λ (e : Equation). e.bit)) ∙ xor_false start.bit ∙ is.bit_is)
+  λ c less. sym (ap (xor (bit_at start.set c)) (none (λ (e : Equation). bit_at e.row c)) ∙ xor_false (bit_at start.set c) ∙ ap (λ (s : List Bool). bit_at s c) is.set),
+  sym (ap (xor start.bit) (none (λ (e : Equation). e.bit)) ∙ xor_false start.bit ∙ is.bit_is),
 ) where
-    none : (f : Equation → Bool) → odd (bit_at start.sums) f kept ≡ false
-    none f = sum_zero (length kept) (λ j. bit_at start.sums j && f (equation_at kept j)) (λ j less. and_left (bit_at start.sums j) (f (equation_at kept j)) (is.sums j))
+  none : (f : Equation → Bool) → odd (bit_at start.sums) f kept ≡ false
+  none f = sum_zero (length kept) (λ j. bit_at start.sums j && f (equation_at kept j)) (λ j less. and_left (bit_at start.sums j) (f (equation_at kept j)) (is.sums j))
 
 pub stands : (n : ℕ) (rows : List Row) (places : List (Option ℕ)) (k : ℕ) (set : List Bool) (bit : Bool) (id : ℕ) (old start trial : Row) →
     IsEchelon n rows places k → IsWide n old → length set ≡ n → IsStarted set bit id old start → IsReduced rows places start trial → Stands n rows k set bit id trial
@@ -52,16 +51,16 @@ count_set places c v less free =
 -- what holds of the row written at k, and of the other rows
 at_set : (P : Row → Type 0) (rows : List Row) (k i : ℕ) (row : Row) → k < length rows → (i ≡ k → P row) → (i ≢ k → P (row_at rows i)) → P (row_at (slice_set rows k row) i)
 at_set P rows k i row less here other = at (cases_eq i k) where
-    at : (i ≡ k) ⊎ (i ≡ k → ⊥) → P (row_at (slice_set rows k row) i)
-    at (inl same) = rw same (let found : row_at (slice_set rows k row) k ≡ row = get_or-set_same rows k row _ less in rw found (here same))
-    at (inr apart) = let found : row_at (slice_set rows k row) i ≡ row_at rows i = get_or-set_other rows k i row _ apart in rw found (other apart)
+  at : (i ≡ k) ⊎ (i ≡ k → ⊥) → P (row_at (slice_set rows k row) i)
+  at (inl same) = rw same (let found : row_at (slice_set rows k row) k ≡ row = get_or-set_same rows k row _ less in rw found (here same))
+  at (inr apart) = let found : row_at (slice_set rows k row) i ≡ row_at rows i = get_or-set_other rows k i row _ apart in rw found (other apart)
 
 place_set : (places : List (Option ℕ)) (c k d i : ℕ) → c < length places → place_at (slice_set places c (Some k)) d ≡ Some i → ((d ≡ c) × (i ≡ k)) ⊎ (place_at places d ≡ Some i)
 place_set places c k d i less is = at (cases_eq d c) where
-    at : (d ≡ c) ⊎ (d ≡ c → ⊥) → ((d ≡ c) × (i ≡ k)) ⊎ (place_at places d ≡ Some i)
-    at (inl same) = let found : place_at (slice_set places c (Some k)) c ≡ Some k = get_or-set_same places c (Some k) None less in
-        let there : place_at (slice_set places c (Some k)) d ≡ place_at (slice_set places c (Some k)) c = ap (place_at (slice_set places c (Some k))) same in inl (same, cc)
-    at (inr apart) = let found : place_at (slice_set places c (Some k)) d ≡ place_at places d = get_or-set_other places c d (Some k) None apart in inr (sym found ∙ is)
+  at : (d ≡ c) ⊎ (d ≡ c → ⊥) → ((d ≡ c) × (i ≡ k)) ⊎ (place_at places d ≡ Some i)
+  at (inl same) = let found : place_at (slice_set places c (Some k)) c ≡ Some k = get_or-set_same places c (Some k) None less in
+      let there : place_at (slice_set places c (Some k)) d ≡ place_at (slice_set places c (Some k)) c = ap (place_at (slice_set places c (Some k))) same in inl (same, cc)
+  at (inr apart) = let found : place_at (slice_set places c (Some k)) d ≡ place_at places d = get_or-set_other places c d (Some k) None apart in inr (sym found ∙ is)
 
 -- there is room for one row more
 pub room : (n : ℕ) (rows : List Row) (places : List (Option ℕ)) (k c : ℕ) (trial : Row) → IsEchelon n rows places k → IsNew places trial c → k < n
@@ -79,15 +78,21 @@ echelon_more n rows places k c trial e wide later new =
     let inside : k < length rows = rw e.wide.0 below in
     let own : bit_at (slice_set trial.sums k true) k ≡ true = get_or-set_same trial.sums k true false (rw wide.1 below) in
     record {
-      wide = (length-set rows k (with_own k trial) ∙ e.wide.0,
-          λ i less. at_set (IsWide n) rows k i (with_own k trial) inside (λ same. (wide.0, length-set trial.sums k true ∙ wide.1)) (λ apart. e.wide.1 i less));
+      wide = (
+        length-set rows k (with_own k trial) ∙ e.wide.0,
+        λ i less. at_set (IsWide n) rows k i (with_own k trial) inside (λ same. (wide.0, length-set trial.sums k true ∙ wide.1)) (λ apart. e.wide.1 i less),
+      );
       columns = length-set places c (Some k) ∙ e.columns;
       count = count_set places c k new.0 new.1 ∙ ap (λ (m : ℕ). m + 1) e.count;
       led = λ d i is. elim (place_set places c k d i new.0 is) [
-        | inl here ↦ (omega (arith, here.1),
-            at_set (λ (r : Row). IsLedBy r d) rows k i (with_own k trial) inside (λ same. subst (λ (m : ℕ). IsLedBy trial m) (sym here.0) new.2) (λ apart. absurd (apart here.1)))
-        | inr before ↦ (let under : i < k = (e.led d i before).0 in omega arith,
-            at_set (λ (r : Row). IsLedBy r d) rows k i (with_own k trial) inside (λ same. absurd (let under : i < k = (e.led d i before).0 in omega arith)) (λ apart. (e.led d i before).1))
+        | inl here ↦ (
+          omega (arith, here.1),
+          at_set (λ (r : Row). IsLedBy r d) rows k i (with_own k trial) inside (λ same. subst (λ (m : ℕ). IsLedBy trial m) (sym here.0) new.2) (λ apart. absurd (apart here.1)),
+        )
+        | inr before ↦ (
+          let under : i < k = (e.led d i before).0 in omega arith,
+          at_set (λ (r : Row). IsLedBy r d) rows k i (with_own k trial) inside (λ same. absurd (let under : i < k = (e.led d i before).0 in omega arith)) (λ apart. (e.led d i before).1),
+        )
       ];
       leads = λ i less. elim (cases_eq i k) [
         | inl same ↦ (c, get_or-set_same places c (Some k) None new.0 ∙ ap (λ (m : ℕ). Some m) (sym same))
@@ -108,10 +113,10 @@ both_given n rows places k c set bit id trial e stood new b =
     let inside : k < length rows = rw e.wide.0 (room n rows places k c trial e new) in
     let solved = echelon_solved n (slice_set rows k (with_own k other)) (slice_set places c (Some k)) (k + 1) (echelon_more n rows places k c other e stood.wide stood.later new) in
     let last : IsMet n solved.0 (with_own k other) =
-        (let found : row_at (slice_set rows k (with_own k other)) k ≡ with_own k other = get_or-set_same rows k (with_own k other) _ inside in subst (IsMet n solved.0) found (solved.1 k (omega arith))) in
+    (let found : row_at (slice_set rows k (with_own k other)) k ≡ with_own k other = get_or-set_same rows k (with_own k other) _ inside in subst (IsMet n solved.0) found (solved.1 k (omega arith))) in
     let solves : Solves n solved.0 (kept_to n rows k) =
-        kept_solved n rows k solved.0 (λ i less. let found : row_at (slice_set rows k (with_own k other)) i ≡ row_at rows i = get_or-set_other rows k i (with_own k other) _ (λ same. omega arith) in
-            subst (IsMet n solved.0) found (solved.1 i (omega arith))) in
+    kept_solved n rows k solved.0 (λ i less. let found : row_at (slice_set rows k (with_own k other)) i ≡ row_at rows i = get_or-set_other rows k i (with_own k other) _ (λ same. omega arith) in
+    subst (IsMet n solved.0) found (solved.1 i (omega arith))) in
     (solved.0, (solves, sum_meant n (kept_to n rows k) trial set solved.0 stood.means.0 solves ∙ ap (λ (a : Bool). xor a odds) last ∙ xor_back b odds))
 
 -- the sum over a sum of kept sets is the sum of their bits
@@ -136,10 +141,10 @@ tells_kept n kept set bit given = record {
   implied_is = ((λ same. absurd cc), (λ all. absurd (other_bit bit (sym (all (given (not bit)).0 (given (not bit)).1.0) ∙ (given (not bit)).1.1))));
   conflict_is = ((λ same. absurd cc), (λ none. absurd (free none.0)));
 } where
-    free : IsSum n kept set → ⊥
-    free sum =
-        let some = given (not (odd_bits sum.0 kept)) in
-        other_bit (odd_bits sum.0 kept) (sym (sum_of_sum n kept set sum.0 some.0 sum.1 some.1.0) ∙ some.1.1)
+  free : IsSum n kept set → ⊥
+  free sum =
+      let some = given (not (odd_bits sum.0 kept)) in
+      other_bit (odd_bits sum.0 kept) (sym (sum_of_sum n kept set sum.0 some.0 sum.1 some.1.0) ∙ some.1.1)
 
 -- where all solutions give the sum, or all give the other
 tells_implied : (n : ℕ) (kept : List Equation) (set : List Bool) (bit : Bool) → IsSum n kept set → IsSolvable n kept → AllGive n kept set bit → Tells n kept set bit Implied
@@ -198,11 +203,11 @@ are_led n rows places k e c i is = (let fits = kept_fits n rows places k e in le
 -- the trial's own place is none of those that its meaning reads
 own_means : (n k : ℕ) (kept : List Equation) (row : List Bool) (bit : Bool) (trial : Row) → length kept ≡ k → Means n kept trial row bit → Means n kept (with_own k trial) row bit
 own_means n k kept row bit trial size means = (
-    λ c less. means.0 c less ∙ ap (xor (bit_at trial.set c)) (same (λ (e : Equation). bit_at e.row c)),
-    means.1 ∙ ap (xor trial.bit) (same (λ (e : Equation). e.bit))
+  λ c less. means.0 c less ∙ ap (xor (bit_at trial.set c)) (same (λ (e : Equation). bit_at e.row c)),
+  means.1 ∙ ap (xor trial.bit) (same (λ (e : Equation). e.bit)),
 ) where
-    same : (f : Equation → Bool) → odd (bit_at trial.sums) f kept ≡ odd (bit_at (slice_set trial.sums k true)) f kept
-    same f = odd_same (bit_at trial.sums) (bit_at (slice_set trial.sums k true)) f kept (λ j less. sym (get_or-set_other trial.sums k j true false (λ equal. omega arith)))
+  same : (f : Equation → Bool) → odd (bit_at trial.sums) f kept ≡ odd (bit_at (slice_set trial.sums k true)) f kept
+  same f = odd_same (bit_at trial.sums) (bit_at (slice_set trial.sums k true)) f kept (λ j less. sym (get_or-set_other trial.sums k j true false (λ equal. omega arith)))
 
 -- the equations that are kept after the trial is written
 pub kept_after : (n : ℕ) (rows : List Row) (places : List (Option ℕ)) (k c : ℕ) (row : List Bool) (bit : Bool) (id : ℕ) (trial : Row) → IsEchelon n rows places k → length row ≡ n → Stands n rows k row bit id trial → IsNew places trial c →
@@ -213,5 +218,5 @@ kept_after n rows places k c row bit id trial e size stood new =
     let before : kept_to n written k ≡ kept_to n rows k = kept_same n written rows k (λ i less. get_or-set_other rows k i (with_own k trial) _ (λ same. omega arith)) in
     let last : row_at written k ≡ with_own k trial = get_or-set_same rows k (with_own k trial) _ inside in
     let own : restored n (kept_to n rows k) (with_own k trial) ≡ record { row = row; bit = bit; id = id } =
-        restored_is n (kept_to n rows k) (with_own k trial) row bit id size (own_means n k (kept_to n rows k) row bit trial (length_kept n rows k) stood.means) stood.id_is in
+    restored_is n (kept_to n rows k) (with_own k trial) row bit id size (own_means n k (kept_to n rows k) row bit trial (length_kept n rows k) stood.means) stood.id_is in
     kept_more n written k ∙ (λ t. before t ++ restored n (before t) (last t) ∷ []) ∙ ap (λ (e : Equation). kept_to n rows k ++ e ∷ []) own

@@ -1,10 +1,10 @@
 -- The equations that rows began from: each row is a sum of them, and a table solves them where it meets the rows.
-use Rattle.std.proofs.Common.{ℕ, zero, suc, Bool, true, false, List, [], ◌∷◌, ◌++◌, ◌≡◌, ◌+◌, ◌<◌, ◌≤◌, ◌≢◌, length, get_or, set, refl, sym, ap, arith, ◌∙◌, ◌⊎◌, inl, inr, subst}
-use Rattle.std.specs.Prelude.{◌&&◌, slice_set}
+use Rattle.std.proofs.Common.{ℕ, zero, suc, Bool, true, false, List, [], ◌∷◌, ◌++◌, ◌≡◌, ◌+◌, ◌<◌, ◌≤◌, length, set, refl, sym, ap, arith, ◌∙◌, ◌⊎◌, inl, inr, subst}
+use Rattle.std.specs.Prelude.{◌&&◌}
 use Rattle.std.proofs.lemmas.Bool.{cases_lt}
-use Rattle.std.proofs.lemmas.List.{get_or_append_left, get_or_push, length_push, ext_get_or, get_or-set_other}
+use Rattle.std.proofs.lemmas.List.{get_or_append_left, get_or_push, length_push, ext_get_or}
 use Rattle.dft_base.specs.Solutions.{xor, sum_to, bit_at, Equation, equation_at, sum_over, Holds, Solves, odd_at, odd_bits}
-use Rattle.dft_gf2.specs.Rows.{row_at, IsSumRow, Means, with_own, bits_to, restored, kept_to}
+use Rattle.dft_gf2.specs.Rows.{row_at, IsSumRow, Means, bits_to, restored, kept_to}
 use Rattle.dft_gf2.specs.declared.row.Row.{Row}
 use Rattle.dft_gf2.proofs.Sums.{xor_back, xor_cancel, sum_same, sum_add_left, sum_over_sum}
 use Rattle.dft_gf2.proofs.Echelons.{IsMet}
@@ -21,8 +21,8 @@ odd_push p f es e =
     let size : length (es ++ e ∷ []) ≡ suc (length es) = length_push es e ∙ omega arith in
     ap (λ m. sum_to m (λ j. p j && f (equation_at (es ++ e ∷ []) j))) size
     ∙ (λ t. xor (p (length es) && f (get_or_push es e (record { row = []; bit = false; id = 0 }) (length es) refl t))
-       (sum_same (length es) (λ j. p j && f (equation_at (es ++ e ∷ []) j)) (λ j. p j && f (equation_at es j))
-        (λ j less. ap (λ (d : Equation). p j && f d) (push_at es e j less)) t))
+    (sum_same (length es) (λ j. p j && f (equation_at (es ++ e ∷ []) j)) (λ j. p j && f (equation_at es j))
+    (λ j less. ap (λ (d : Equation). p j && f d) (push_at es e j less)) t))
 
 -- only the picks at places of the list count
 pub odd_same : (p q : ℕ → Bool) (f : Equation → Bool) (es : List Equation) → ((j : ℕ) → j < length es → p j ≡ q j) → odd p f es ≡ odd q f es
@@ -30,12 +30,12 @@ odd_same p q f es same = sum_same (length es) (λ j. p j && f (equation_at es j)
 
 pub solves_push : (n : ℕ) (x : ℕ → Bool) (es : List Equation) (e : Equation) → Solves n x es → Holds n x e → Solves n x (es ++ e ∷ [])
 solves_push n x es e all one j less = at (cases_lt j (length es)) where
-    at : (j < length es) ⊎ (length es ≤ j) → Holds n x (equation_at (es ++ e ∷ []) j)
-    at (inl before) = let same = push_at es e j before in rw same (all j before)
-    at (inr past) =
-        let size = length_push es e in
-        let last : length es ≡ j = omega arith in
-        let same : equation_at (es ++ e ∷ []) j ≡ e = get_or_push es e _ j last in rw same one
+  at : (j < length es) ⊎ (length es ≤ j) → Holds n x (equation_at (es ++ e ∷ []) j)
+  at (inl before) = let same = push_at es e j before in rw same (all j before)
+  at (inr past) =
+      let size = length_push es e in
+      let last : length es ≡ j = omega arith in
+      let same : equation_at (es ++ e ∷ []) j ≡ e = get_or_push es e _ j last in rw same one
 
 pub solves_front : (n : ℕ) (x : ℕ → Bool) (es : List Equation) (e : Equation) → Solves n x (es ++ e ∷ []) → Solves n x es
 solves_front n x es e all j less =
@@ -56,9 +56,9 @@ length_bits (suc n) f = let size = length_push (bits_to n f) (f n) in let ih = l
 
 bits_push : (n : ℕ) (f : ℕ → Bool) (bits : List Bool) → length bits ≡ n → (c : ℕ) → c < suc n → (c < n → bit_at bits c ≡ f c) → bit_at (bits ++ f n ∷ []) c ≡ f c
 bits_push n f bits size c less before = at (cases_lt c n) where
-    at : (c < n) ⊎ (n ≤ c) → bit_at (bits ++ f n ∷ []) c ≡ f c
-    at (inl under) = get_or_append_left bits (f n ∷ []) false c (omega arith) ∙ before under
-    at (inr past) = (let same : n ≡ c = omega arith in get_or_push bits (f n) false c (size ∙ same) ∙ ap f same)
+  at : (c < n) ⊎ (n ≤ c) → bit_at (bits ++ f n ∷ []) c ≡ f c
+  at (inl under) = get_or_append_left bits (f n ∷ []) false c (omega arith) ∙ before under
+  at (inr past) = (let same : n ≡ c = omega arith in get_or_push bits (f n) false c (size ∙ same) ∙ ap f same)
 
 bits_at : (n : ℕ) (f : ℕ → Bool) (c : ℕ) → c < n → bit_at (bits_to n f) c ≡ f c
 unfolding bits_to
@@ -76,8 +76,8 @@ unfolding restored
 restored_is n kept row set bit id size means same =
     let f : ℕ → Bool = λ c. xor (bit_at row.set c) (odd_at (bit_at row.sums) kept c) in
     let rows : bits_to n f ≡ set =
-        ext_get_or false (bits_to n f) set (length_bits n f ∙ sym size)
-        (λ c less. (let long = length_bits n f in bits_at n f c (omega arith)) ∙ sym (means.0 c (let long = length_bits n f in omega arith)))
+    ext_get_or false (bits_to n f) set (length_bits n f ∙ sym size)
+    (λ c less. (let long = length_bits n f in bits_at n f c (omega arith)) ∙ sym (means.0 c (let long = length_bits n f in omega arith)))
     in λ t. record { row = rows t; bit = sym means.1 t; id = same t }
 
 pub length_kept : (n : ℕ) (rows : List Row) (k : ℕ) → length (kept_to n rows k) ≡ k
@@ -137,9 +137,9 @@ row_met_last n kept row x solves =
 -- what holds of the rows before k, and of the row k
 all_below : (P : Row → Type 0) (rows : List Row) (k i : ℕ) → i < suc k → (i < k → P (row_at rows i)) → P (row_at rows k) → P (row_at rows i)
 all_below P rows k i less before last = at (cases_lt i k) where
-    at : (i < k) ⊎ (k ≤ i) → P (row_at rows i)
-    at (inl under) = before under
-    at (inr past) = let same : k ≡ i = omega arith in subst (λ (m : ℕ). P (row_at rows m)) same last
+  at : (i < k) ⊎ (k ≤ i) → P (row_at rows i)
+  at (inl under) = before under
+  at (inr past) = let same : k ≡ i = omega arith in subst (λ (m : ℕ). P (row_at rows m)) same last
 
 -- a table that solves the equations meets the rows
 pub rows_met : (n : ℕ) (rows : List Row) (k : ℕ) (x : ℕ → Bool) → Solves n x (kept_to n rows k) → (i : ℕ) → i < k → IsMet n x (row_at rows i)
@@ -153,17 +153,17 @@ rows_met n rows (suc k) x solves i less =
 -- one equation more after a row that does not name it
 sum_row_more : (n k : ℕ) (kept : List Equation) (e : Equation) (row : Row) → length kept ≡ k → bit_at row.sums k ≡ false → IsSumRow n kept row → IsSumRow n (kept ++ e ∷ []) row
 sum_row_more n k kept e row size free sum = (λ c less. sum.0 c less ∙ sym (same (λ (d : Equation). bit_at d.row c)), sum.1 ∙ sym (same (λ (d : Equation). d.bit))) where
-    same : (f : Equation → Bool) → odd (bit_at row.sums) f (kept ++ e ∷ []) ≡ odd (bit_at row.sums) f kept
-    same f = odd_push (bit_at row.sums) f kept e ∙ ap (λ (b : Bool). xor (b && f e) (odd (bit_at row.sums) f kept)) (ap (bit_at row.sums) size ∙ free)
+  same : (f : Equation → Bool) → odd (bit_at row.sums) f (kept ++ e ∷ []) ≡ odd (bit_at row.sums) f kept
+  same f = odd_push (bit_at row.sums) f kept e ∙ ap (λ (b : Bool). xor (b && f e) (odd (bit_at row.sums) f kept)) (ap (bit_at row.sums) size ∙ free)
 
 -- the row's own equation
 sum_row_own : (n k : ℕ) (kept : List Equation) (e : Equation) (row : Row) → length kept ≡ k → bit_at row.sums k ≡ true → Means n kept row e.row e.bit → IsSumRow n (kept ++ e ∷ []) row
 sum_row_own n k kept e row size own means = (
-    λ c less. sym (both (λ (d : Equation). bit_at d.row c) ∙ ap (λ (b : Bool). xor b (odd_at (bit_at row.sums) kept c)) (means.0 c less) ∙ xor_back (bit_at row.set c) (odd_at (bit_at row.sums) kept c)),
-    sym (both (λ (d : Equation). d.bit) ∙ ap (λ (b : Bool). xor b (odd_bits (bit_at row.sums) kept)) means.1 ∙ xor_back row.bit (odd_bits (bit_at row.sums) kept))
+  λ c less. sym (both (λ (d : Equation). bit_at d.row c) ∙ ap (λ (b : Bool). xor b (odd_at (bit_at row.sums) kept c)) (means.0 c less) ∙ xor_back (bit_at row.set c) (odd_at (bit_at row.sums) kept c)),
+  sym (both (λ (d : Equation). d.bit) ∙ ap (λ (b : Bool). xor b (odd_bits (bit_at row.sums) kept)) means.1 ∙ xor_back row.bit (odd_bits (bit_at row.sums) kept)),
 ) where
-    both : (f : Equation → Bool) → odd (bit_at row.sums) f (kept ++ e ∷ []) ≡ xor (f e) (odd (bit_at row.sums) f kept)
-    both f = odd_push (bit_at row.sums) f kept e ∙ ap (λ (b : Bool). xor (b && f e) (odd (bit_at row.sums) f kept)) (ap (bit_at row.sums) size ∙ own)
+  both : (f : Equation → Bool) → odd (bit_at row.sums) f (kept ++ e ∷ []) ≡ xor (f e) (odd (bit_at row.sums) f kept)
+  both f = odd_push (bit_at row.sums) f kept e ∙ ap (λ (b : Bool). xor (b && f e) (odd (bit_at row.sums) f kept)) (ap (bit_at row.sums) size ∙ own)
 
 -- each row is the sum of the equations that it names
 pub rows_sum : (n : ℕ) (rows : List Row) (k : ℕ) → ((i : ℕ) → i < k → bit_at (row_at rows i).sums i ≡ true) → ((i j : ℕ) → i < k → i < j → bit_at (row_at rows i).sums j ≡ false) →
@@ -175,7 +175,7 @@ rows_sum n rows (suc k) own later i less =
     let e = restored n kept (row_at rows k) in
     all_below (IsSumRow n (kept ++ e ∷ [])) rows k i less
     (λ under. sum_row_more n k kept e (row_at rows i) (length_kept n rows k) (later i k less under)
-     (rows_sum n rows k (λ j h. own j (omega arith)) (λ j m h. later j m (omega arith)) i under))
+    (rows_sum n rows k (λ j h. own j (omega arith)) (λ j m h. later j m (omega arith)) i under))
     (sum_row_own n k kept e (row_at rows k) (length_kept n rows k) (own k (omega arith)) (restored_means n kept (row_at rows k)))
 
 pub restored_id : (n : ℕ) (kept : List Equation) (row : Row) → (restored n kept row).id ≡ row.id
@@ -184,9 +184,9 @@ restored_id n kept row = refl
 
 push_id : (kept : List Equation) (e : Equation) (k j id : ℕ) → length kept ≡ k → j < suc k → (j < k → (equation_at kept j).id ≡ id) → (k ≡ j → e.id ≡ id) → (equation_at (kept ++ e ∷ []) j).id ≡ id
 push_id kept e k j id size less before last = at (cases_lt j k) where
-    at : (j < k) ⊎ (k ≤ j) → (equation_at (kept ++ e ∷ []) j).id ≡ id
-    at (inl under) = ap (λ (d : Equation). d.id) (push_at kept e j (omega arith)) ∙ before under
-    at (inr past) = let same : k ≡ j = omega arith in ap (λ (d : Equation). d.id) (get_or_push kept e (record { row = []; bit = false; id = 0 }) j (size ∙ same)) ∙ last same
+  at : (j < k) ⊎ (k ≤ j) → (equation_at (kept ++ e ∷ []) j).id ≡ id
+  at (inl under) = ap (λ (d : Equation). d.id) (push_at kept e j (omega arith)) ∙ before under
+  at (inr past) = let same : k ≡ j = omega arith in ap (λ (d : Equation). d.id) (get_or_push kept e (record { row = []; bit = false; id = 0 }) j (size ∙ same)) ∙ last same
 
 -- an equation has the id of the row that it began
 pub kept_id : (n : ℕ) (rows : List Row) (k j : ℕ) → j < k → (equation_at (kept_to n rows k) j).id ≡ (row_at rows j).id

@@ -1,7 +1,7 @@
 -- Sums over GF(2).
-use Rattle.std.proofs.Common.{ℕ, zero, suc, Bool, true, false, List, [], ◌∷◌, ◌++◌, ◌≡◌, ◌+◌, ◌<◌, ◌≤◌, length, get_or, refl, sym, ap, arith, ◌∙◌, ◌⊎◌, inl, inr}
+use Rattle.std.proofs.Common.{ℕ, zero, suc, Bool, true, false, ◌≡◌, ◌<◌, refl, sym, ap, arith, ◌∙◌, ◌⊎◌, inl, inr}
 use Rattle.std.proofs.lemmas.Bool.{cases_lt}
-use Rattle.std.specs.Prelude.{◌&&◌, not}
+use Rattle.std.specs.Prelude.{◌&&◌}
 use Rattle.dft_base.specs.Solutions.{xor, sum_to}
 
 pub xor_false : (a : Bool) → xor a false ≡ a
@@ -63,7 +63,7 @@ sum_over_sum n m p a x =
     sum_same n (λ c. sum_to m (λ j. p j && a j c) && x c) (λ c. sum_to m (λ j. (p j && a j c) && x c)) (λ c less. sum_and_right m (x c) (λ j. p j && a j c))
     ∙ sum_swap n m (λ c j. (p j && a j c) && x c)
     ∙ sum_same m (λ j. sum_to n (λ c. (p j && a j c) && x c)) (λ j. p j && sum_to n (λ c. a j c && x c))
-      (λ j less. sum_same n (λ c. (p j && a j c) && x c) (λ c. p j && (a j c && x c)) (λ c h. and_assoc (p j) (a j c) (x c)) ∙ sum_and n (p j) (λ c. a j c && x c))
+    (λ j less. sum_same n (λ c. (p j && a j c) && x c) (λ c. p j && (a j c && x c)) (λ c h. and_assoc (p j) (a j c) (x c)) ∙ sum_and n (p j) (λ c. a j c && x c))
 
 cases_last : (c n : ℕ) → c < suc n → (c ≡ n) ⊎ (c < n)
 cases_last c n h = elim (cases_lt c n) [ inl less ↦ inr less | inr least ↦ inl (omega arith) ]

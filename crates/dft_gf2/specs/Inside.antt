@@ -1,5 +1,5 @@
 -- What a system's fields stand for, and what is true of them.
-use Rattle.std.specs.Prelude.{ℕ, ◌+◌, ◌^◌, Bool, true, false, ◌≡◌, ◌<◌, ◌≤◌, if◌then◌else◌, List, Option, Some, None, length, is_some}
+use Rattle.std.specs.Prelude.{ℕ, true, false, ◌≡◌, ◌<◌, if◌then◌else◌, List, Option, Some, None, length, is_some}
 use Rattle.std.specs.List.{count_by}
 use Rattle.dft_base.specs.Solutions.{bit_at}
 use Rattle.dft_gf2.specs.Elimination.{Elimination}

@@ -1,5 +1,5 @@
 -- Rows of an echelon form: what one sums, which column leads it, and the equations that the rows stand for.
-use Rattle.std.specs.Prelude.{ℕ, zero, suc, Bool, true, false, ◌&&◌, ◌≡◌, ◌<◌, List, [], ◌∷◌, ◌++◌, Option, Some, None, length, get_or, slice_set}
+use Rattle.std.specs.Prelude.{ℕ, zero, suc, Bool, true, false, ◌≡◌, ◌<◌, List, [], ◌∷◌, ◌++◌, Option, Some, None, length, get_or, slice_set}
 use Rattle.dft_base.specs.Solutions.{xor, bit_at, Equation, odd_at, odd_bits}
 use Rattle.dft_gf2.specs.declared.row.Row.{Row}
 

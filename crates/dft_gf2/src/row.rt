@@ -38,6 +38,14 @@ impl Row {
         self.id = id;
     }
 
+    /// Whether the row sums the kept equation at this place.
+    pub fn names(&self, place: usize) -> bool
+        requires { place < length self.now.sums }
+        ensures { result ≡ bit_at self.now.sums place }
+    {
+        self.sums.get(place)
+    }
+
     /// Adds another row.
     pub fn add(&mut self, other: &Row)
         requires set { length other.now.set ≡ length self.old.set }

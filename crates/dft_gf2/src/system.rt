@@ -79,22 +79,30 @@ impl System {
         requires { length row.now ≡ self.old.columns }
         ensures kept { result ≡ Outcome.Kept ↔ (IsSum self.old.columns self.old.kept row.now → ⊥) }
         ensures implied { result ≡ Outcome.Implied ↔ AllGive self.old.columns self.old.kept row.now bit }
-        ensures conflict {
-            result ≡ Outcome.Conflict ↔ (IsSum self.old.columns self.old.kept row.now × NoneGives self.old.columns self.old.kept row.now bit)
-        }
+        ensures conflict { result ≡ Outcome.Conflict ↔ (IsSum self.old.columns self.old.kept row.now × NoneGives self.old.columns self.old.kept row.now bit) }
         ensures after { self.new ≡ After (record { row = row.now; bit = bit; id = id }) result self.old }
     {
         self.trial.start(row, bit, id);
         match reduce(&mut self.trial, &self.rows, &self.row_of) {
             Some(column) => {
-                keep(&mut self.trial, &mut self.rows, &mut self.row_of, self.kept, column);
+                keep(
+                    &mut self.trial,
+                    &mut self.rows,
+                    &mut self.row_of,
+                    self.kept,
+                    column,
+                );
                 self.kept += 1;
                 self.refused = false;
                 Outcome::Kept
             }
             None => {
                 self.refused = self.trial.bit;
-                if self.trial.bit { Outcome::Conflict } else { Outcome::Implied }
+                if self.trial.bit {
+                    Outcome::Conflict
+                } else {
+                    Outcome::Implied
+                }
             }
         }
     }
@@ -107,7 +115,7 @@ impl System {
     {
         let mut ids = Vec::new(alloc);
         for place in 0..self.kept {
-            if self.trial.sums.get(place) {
+            if self.trial.names(place) {
                 ids.push(self.rows[place].id)?;
             }
         }
@@ -116,7 +124,11 @@ impl System {
     }
 
     /// The solution that takes each fill bit that it can, in column order.
-    pub fn solve<F: Fn(u32) -> bool>(&self, alloc: Global, fill: &Fill<'_, F>) -> Result<Vec<bool>, AllocError>
+    pub fn solve<F: Fn(u32) -> bool>(
+        &self,
+        alloc: Global,
+        fill: &Fill<'_, F>,
+    ) -> Result<Vec<bool>, AllocError>
         requires answers { AnswersLike (F.pre fill.now.answer) (F.post fill.now.answer) fill.now.like.now }
         requires columns { length fill.now.like.now ≡ self.now.columns }
         ensures chosen { IfOk result (λ bits. IsChosen self.now.columns self.now.kept fill.now.like.now bits.items) }
@@ -183,7 +195,13 @@ fn reduce(trial: &mut Row, rows: &[Row], row_of: &[Option<usize>]) -> Option<usi
 }
 
 // Puts the trial at a place of the rows, as the one that the column leads.
-fn keep(trial: &mut Row, rows: &mut [Row], row_of: &mut [Option<usize>], place: usize, column: usize)
+fn keep(
+    trial: &mut Row,
+    rows: &mut [Row],
+    row_of: &mut [Option<usize>],
+    place: usize,
+    column: usize,
+)
     requires place { place < length rows.old }
     requires column { column < length row_of.old }
     requires sums { place < length trial.old.sums }

@@ -1,5 +1,5 @@
 -- The row that the column leads is added.
-use Rattle.std.proofs.Common.{rules, ◌<◌, ◌≡◌, ◌∙◌, length, refl, sym}
+use Rattle.std.proofs.Common.{rules, ◌<◌, ◌≡◌, ◌∙◌, length, sym}
 use Rattle.std.proofs.lemmas.List.{get_or_read}
 use Rattle.dft_gf2.specs.Rows.{row_at, IsWide}
 use Rattle.dft_gf2.proofs.Reductions.{reduced_added, cleared_added}

@@ -1,11 +1,9 @@
 -- A column that leads a row takes the bit that the row forces, and another its fill bit.
-use Rattle.std.proofs.Common.{ℕ, Bool, List, Option, Some, None, ◌≡◌, ◌∙◌, ◌<◌, ◌≤◌, arith, ap, refl, sym, length, rules}
-use Rattle.std.proofs.lemmas.List.{get_or_read}
+use Rattle.std.proofs.Common.{Bool, List, Some, ◌≡◌, ◌∙◌, ◌<◌, arith, ap, sym, length, rules}
 use Rattle.dft_base.specs.Solutions.{bit_at, xor, sum_over}
 use Rattle.dft_gf2.specs.Rows.{row_at, place_at, IsWide}
-use Rattle.dft_gf2.specs.declared.row.Row.{Row}
-use Rattle.dft_gf2.proofs.Outcomes.{are_led, kept_fits}
-use Rattle.dft_gf2.proofs.Choices.{IsNext, Fills, fills_more, fills_solve, fills_choose, place_read, row_read, next_forced, next_filled}
+use Rattle.dft_gf2.proofs.Outcomes.{are_led}
+use Rattle.dft_gf2.proofs.Choices.{IsNext, fills_more, fills_solve, fills_choose, place_read, row_read, next_forced, next_filled}
 use Rattle.dft_gf2.proofs.system.System.solve.Goals as goal
 use Rattle.dft_gf2.proofs.system.System.solve.Goals.{in-Some, in-None}
 
@@ -29,11 +27,11 @@ pub loop-column-preserved : goal.loop-column-preserved
 loop-column-preserved g c =
     let read : c.index.result.now ≡ place_at c.self.inside.row_of.items c.loop-column.column = place_read _ _ _ _ c.loop-column.column c.index.result.now c.self.invariant.echelon c.loop-column-test.true c.index.ensures in
     let next : IsNext c.self.inside.rows.items c.self.inside.row_of.items c.args.fill.now.like.now c.loop-column.bits.items c.loop-column.column c.match-index.bit =
-        elim c.match-index.branch [
-          | in-Some w ↦ next_forced _ _ _ _ _ c.loop-column.bits.items _ w.in-Some.place w.index-in-Some.result.now _ c.self.invariant.echelon (sym read ∙ w.in-Some.is) w.index-in-Some.ensures c.loop-column.invariant.size
-              (w.bit-is ∙ w.forced-bit.ensures ∙ ap (λ (bits : List Bool). xor w.index-in-Some.result.now.bit (sum_over (length bits) w.index-in-Some.result.now.set (bit_at bits))) w.deref.ensures.value)
-          | in-None w ↦ next_filled _ _ _ _ _ _ (sym read ∙ w.in-None.is) (w.bit-is ∙ w.bit-bit.ensures)
-        ] in
+    elim c.match-index.branch [
+      | in-Some w ↦ next_forced _ _ _ _ _ c.loop-column.bits.items _ w.in-Some.place w.index-in-Some.result.now _ c.self.invariant.echelon (sym read ∙ w.in-Some.is) w.index-in-Some.ensures c.loop-column.invariant.size
+          (w.bit-is ∙ w.forced-bit.ensures ∙ ap (λ (bits : List Bool). xor w.index-in-Some.result.now.bit (sum_over (length bits) w.index-in-Some.result.now.set (bit_at bits))) w.deref.ensures.value)
+      | in-None w ↦ next_filled _ _ _ _ _ _ (sym read ∙ w.in-None.is) (w.bit-is ∙ w.bit-bit.ensures)
+    ] in
     rw c.in_ok-push.ensures.items (fills_more _ _ _ _ _ _ _ c.match-index.bit c.self.invariant.echelon c.loop-column.invariant next)
 
 pub returns-clause-chosen : goal.returns-clause-chosen

@@ -1,14 +1,13 @@
 -- The trial stands for the equation, and the outcome follows from what is left of it.
-use Rattle.std.proofs.Common.{ℕ, Bool, List, Option, Some, ◌≡◌, ◌∙◌, ◌<◌, ◌+◌, None, arith, ap, refl, sym, length, rules}
+use Rattle.std.proofs.Common.{ℕ, List, Option, Some, ◌≡◌, ◌∙◌, ◌+◌, None, ap, sym, length, rules}
 use Rattle.std.specs.Prelude.{slice_set, if◌then◌else◌}
 use Rattle.std.specs.Vec.{with_items}
 use Rattle.std.proofs.lemmas.List.{with_items_is}
 use Rattle.dft_gf2.specs.declared.row.Row.{Row}
 use Rattle.dft_gf2.specs.Rows.{IsNew, IsReduced, IsWide, IsZero, restored, row_at, with_own, kept_to}
 use Rattle.dft_gf2.specs.Inside.{IsEchelon}
-use Rattle.dft_gf2.proofs.Outcomes.{Stands, Tells, stands, room, echelon_more, told_kept, told_implied, told_conflict, are_led, kept_after}
+use Rattle.dft_gf2.proofs.Outcomes.{Stands, stands, room, echelon_more, told_kept, told_implied, told_conflict, are_led, kept_after}
 use Rattle.dft_gf2.proofs.Restorations.{restored_is}
-use Rattle.dft_gf2.specs.declared.system.Outcome.TheVariants.{Kept, Implied, Conflict}
 use Rattle.dft_gf2.proofs.system.System.try_add.Goals as goal
 use Rattle.dft_gf2.proofs.system.System.try_add.Goals.{then-self, else-self}
 
@@ -26,7 +25,7 @@ keep-requires-clause-sums c =
     let reduced : IsReduced c.self.inside.rows.items c.self.inside.row_of.items c.start.new.self c.reduce.new.trial = rw c.deref.ensures.value at (rw c.deref-2.ensures.value at c.in-Some.ensures.reduced) in
     let size : length c.args.row.now ≡ c.self.inside.columns = c.requires ∙ sym (ap (λ s. s.columns) c.self.view_is) in
     let stood : Stands c.self.inside.columns c.self.inside.rows.items c.self.inside.kept c.args.row.now c.args.bit c.args.id c.reduce.new.trial =
-        stands _ _ _ _ c.args.row.now c.args.bit c.args.id _ _ _ c.self.invariant.echelon c.self.invariant.trial size c.start.ensures reduced in
+    stands _ _ _ _ c.args.row.now c.args.bit c.args.id _ _ _ c.self.invariant.echelon c.self.invariant.trial size c.start.ensures reduced in
     rw stood.wide.1 (room _ _ _ _ _ c.reduce.new.trial c.self.invariant.echelon new)
 
 pub invariant_of-self : goal.invariant_of-self
@@ -35,18 +34,18 @@ invariant_of-self c =
     let reduced : IsReduced c.self.inside.rows.items c.self.inside.row_of.items c.start.new.self c.reduce.new.trial = rw c.deref.ensures.value at (rw c.deref-2.ensures.value at c.in-Some.ensures.reduced) in
     let size : length c.args.row.now ≡ c.self.inside.columns = c.requires ∙ sym (ap (λ s. s.columns) c.self.view_is) in
     let stood : Stands c.self.inside.columns c.self.inside.rows.items c.self.inside.kept c.args.row.now c.args.bit c.args.id c.reduce.new.trial =
-        stands _ _ _ _ c.args.row.now c.args.bit c.args.id _ _ _ c.self.invariant.echelon c.self.invariant.trial size c.start.ensures reduced in
+    stands _ _ _ _ c.args.row.now c.args.bit c.args.id _ _ _ c.self.invariant.echelon c.self.invariant.trial size c.start.ensures reduced in
     let rows_is : (with_items c.self.inside.rows c.keep.new.rows).items ≡ slice_set c.self.inside.rows.items c.self.inside.kept (with_own c.self.inside.kept c.reduce.new.trial) =
-        with_items_is c.self.inside.rows c.keep.new.rows (search rules)
-        ∙ c.keep.ensures.rows ∙ ap (λ (rows : List Row). slice_set rows c.self.inside.kept (with_own c.self.inside.kept c.reduce.new.trial)) c.deref_mut.ensures.value in
+    with_items_is c.self.inside.rows c.keep.new.rows (search rules)
+    ∙ c.keep.ensures.rows ∙ ap (λ (rows : List Row). slice_set rows c.self.inside.kept (with_own c.self.inside.kept c.reduce.new.trial)) c.deref_mut.ensures.value in
     let places_is : (with_items c.self.inside.row_of c.keep.new.row_of).items ≡ slice_set c.self.inside.row_of.items c.in-Some.column (Some c.self.inside.kept) =
-        with_items_is c.self.inside.row_of c.keep.new.row_of (search rules)
-        ∙ c.keep.ensures.row_of ∙ ap (λ (places : List (Option ℕ)). slice_set places c.in-Some.column (Some c.self.inside.kept)) c.deref_mut-in-Some.ensures.value in
+    with_items_is c.self.inside.row_of c.keep.new.row_of (search rules)
+    ∙ c.keep.ensures.row_of ∙ ap (λ (places : List (Option ℕ)). slice_set places c.in-Some.column (Some c.self.inside.kept)) c.deref_mut-in-Some.ensures.value in
     let more : IsEchelon c.self.inside.columns (slice_set c.self.inside.rows.items c.self.inside.kept (with_own c.self.inside.kept c.reduce.new.trial))
-        (slice_set c.self.inside.row_of.items c.in-Some.column (Some c.self.inside.kept)) (c.self.inside.kept + 1) =
-        echelon_more _ _ _ _ _ c.reduce.new.trial c.self.invariant.echelon stood.wide stood.later new in
+    (slice_set c.self.inside.row_of.items c.in-Some.column (Some c.self.inside.kept)) (c.self.inside.kept + 1) =
+    echelon_more _ _ _ _ _ c.reduce.new.trial c.self.invariant.echelon stood.wide stood.later new in
     let spare : IsWide c.self.inside.columns (row_at c.self.inside.rows.items c.self.inside.kept) =
-        c.self.invariant.echelon.wide.1 c.self.inside.kept (room _ _ _ _ _ c.reduce.new.trial c.self.invariant.echelon new) in
+    c.self.invariant.echelon.wide.1 c.self.inside.kept (room _ _ _ _ _ c.reduce.new.trial c.self.invariant.echelon new) in
     record {
       echelon = rw (rows_is, places_is) more;
       trial = rw (c.keep.ensures.trial, c.deref_mut.ensures.value) spare;
@@ -59,7 +58,7 @@ returns-in-Some-clause-kept c =
     let reduced : IsReduced c.self.inside.rows.items c.self.inside.row_of.items c.start.new.self c.reduce.new.trial = rw c.deref.ensures.value at (rw c.deref-2.ensures.value at c.in-Some.ensures.reduced) in
     let size : length c.args.row.now ≡ c.self.inside.columns = c.requires ∙ sym (ap (λ s. s.columns) c.self.view_is) in
     let stood : Stands c.self.inside.columns c.self.inside.rows.items c.self.inside.kept c.args.row.now c.args.bit c.args.id c.reduce.new.trial =
-        stands _ _ _ _ c.args.row.now c.args.bit c.args.id _ _ _ c.self.invariant.echelon c.self.invariant.trial size c.start.ensures reduced in
+    stands _ _ _ _ c.args.row.now c.args.bit c.args.id _ _ _ c.self.invariant.echelon c.self.invariant.trial size c.start.ensures reduced in
     rw (← c.self.view_is) (told_kept _ _ _ _ _ c.args.row.now c.args.bit c.args.id _ c.self.invariant.echelon stood new).kept_is
 
 pub returns-in-Some-clause-implied : goal.returns-in-Some-clause-implied
@@ -68,7 +67,7 @@ returns-in-Some-clause-implied c =
     let reduced : IsReduced c.self.inside.rows.items c.self.inside.row_of.items c.start.new.self c.reduce.new.trial = rw c.deref.ensures.value at (rw c.deref-2.ensures.value at c.in-Some.ensures.reduced) in
     let size : length c.args.row.now ≡ c.self.inside.columns = c.requires ∙ sym (ap (λ s. s.columns) c.self.view_is) in
     let stood : Stands c.self.inside.columns c.self.inside.rows.items c.self.inside.kept c.args.row.now c.args.bit c.args.id c.reduce.new.trial =
-        stands _ _ _ _ c.args.row.now c.args.bit c.args.id _ _ _ c.self.invariant.echelon c.self.invariant.trial size c.start.ensures reduced in
+    stands _ _ _ _ c.args.row.now c.args.bit c.args.id _ _ _ c.self.invariant.echelon c.self.invariant.trial size c.start.ensures reduced in
     rw (← c.self.view_is) (told_kept _ _ _ _ _ c.args.row.now c.args.bit c.args.id _ c.self.invariant.echelon stood new).implied_is
 
 pub returns-in-Some-clause-conflict : goal.returns-in-Some-clause-conflict
@@ -77,7 +76,7 @@ returns-in-Some-clause-conflict c =
     let reduced : IsReduced c.self.inside.rows.items c.self.inside.row_of.items c.start.new.self c.reduce.new.trial = rw c.deref.ensures.value at (rw c.deref-2.ensures.value at c.in-Some.ensures.reduced) in
     let size : length c.args.row.now ≡ c.self.inside.columns = c.requires ∙ sym (ap (λ s. s.columns) c.self.view_is) in
     let stood : Stands c.self.inside.columns c.self.inside.rows.items c.self.inside.kept c.args.row.now c.args.bit c.args.id c.reduce.new.trial =
-        stands _ _ _ _ c.args.row.now c.args.bit c.args.id _ _ _ c.self.invariant.echelon c.self.invariant.trial size c.start.ensures reduced in
+    stands _ _ _ _ c.args.row.now c.args.bit c.args.id _ _ _ c.self.invariant.echelon c.self.invariant.trial size c.start.ensures reduced in
     rw (← c.self.view_is) (told_kept _ _ _ _ _ c.args.row.now c.args.bit c.args.id _ c.self.invariant.echelon stood new).conflict_is
 
 pub returns-in-Some-clause-after : goal.returns-in-Some-clause-after
@@ -86,10 +85,10 @@ returns-in-Some-clause-after c =
     let reduced : IsReduced c.self.inside.rows.items c.self.inside.row_of.items c.start.new.self c.reduce.new.trial = rw c.deref.ensures.value at (rw c.deref-2.ensures.value at c.in-Some.ensures.reduced) in
     let size : length c.args.row.now ≡ c.self.inside.columns = c.requires ∙ sym (ap (λ s. s.columns) c.self.view_is) in
     let stood : Stands c.self.inside.columns c.self.inside.rows.items c.self.inside.kept c.args.row.now c.args.bit c.args.id c.reduce.new.trial =
-        stands _ _ _ _ c.args.row.now c.args.bit c.args.id _ _ _ c.self.invariant.echelon c.self.invariant.trial size c.start.ensures reduced in
+    stands _ _ _ _ c.args.row.now c.args.bit c.args.id _ _ _ c.self.invariant.echelon c.self.invariant.trial size c.start.ensures reduced in
     let rows_is : (with_items c.self.inside.rows c.keep.new.rows).items ≡ slice_set c.self.inside.rows.items c.self.inside.kept (with_own c.self.inside.kept c.reduce.new.trial) =
-        with_items_is c.self.inside.rows c.keep.new.rows (search rules)
-        ∙ c.keep.ensures.rows ∙ ap (λ (rows : List Row). slice_set rows c.self.inside.kept (with_own c.self.inside.kept c.reduce.new.trial)) c.deref_mut.ensures.value in
+    with_items_is c.self.inside.rows c.keep.new.rows (search rules)
+    ∙ c.keep.ensures.rows ∙ ap (λ (rows : List Row). slice_set rows c.self.inside.kept (with_own c.self.inside.kept c.reduce.new.trial)) c.deref_mut.ensures.value in
     rw (← c.self.view_is, rows_is) (λ t. record {
       columns = c.self.inside.columns;
       kept = kept_after _ _ _ _ _ c.args.row.now c.args.bit c.args.id _ c.self.invariant.echelon size stood new t;
@@ -101,7 +100,7 @@ returns-after-self-clause-kept c =
     let reduced : IsReduced c.self.inside.rows.items c.self.inside.row_of.items c.start.new.self c.reduce.new.trial = rw c.deref.ensures.value at (rw c.deref-2.ensures.value at c.in-None.ensures.reduced) in
     let size : length c.args.row.now ≡ c.self.inside.columns = c.requires ∙ sym (ap (λ s. s.columns) c.self.view_is) in
     let stood : Stands c.self.inside.columns c.self.inside.rows.items c.self.inside.kept c.args.row.now c.args.bit c.args.id c.reduce.new.trial =
-        stands _ _ _ _ c.args.row.now c.args.bit c.args.id _ _ _ c.self.invariant.echelon c.self.invariant.trial size c.start.ensures reduced in
+    stands _ _ _ _ c.args.row.now c.args.bit c.args.id _ _ _ c.self.invariant.echelon c.self.invariant.trial size c.start.ensures reduced in
     let clear : IsZero c.reduce.new.trial = c.in-None.ensures.end in
     elim c.if-self.branch [
       | then-self w ↦ rw (← c.self.view_is, w.result-is) (told_conflict _ _ _ _ c.args.row.now c.args.bit c.args.id _ c.self.invariant.echelon stood clear w.if-self.true).kept_is
@@ -113,7 +112,7 @@ returns-after-self-clause-implied c =
     let reduced : IsReduced c.self.inside.rows.items c.self.inside.row_of.items c.start.new.self c.reduce.new.trial = rw c.deref.ensures.value at (rw c.deref-2.ensures.value at c.in-None.ensures.reduced) in
     let size : length c.args.row.now ≡ c.self.inside.columns = c.requires ∙ sym (ap (λ s. s.columns) c.self.view_is) in
     let stood : Stands c.self.inside.columns c.self.inside.rows.items c.self.inside.kept c.args.row.now c.args.bit c.args.id c.reduce.new.trial =
-        stands _ _ _ _ c.args.row.now c.args.bit c.args.id _ _ _ c.self.invariant.echelon c.self.invariant.trial size c.start.ensures reduced in
+    stands _ _ _ _ c.args.row.now c.args.bit c.args.id _ _ _ c.self.invariant.echelon c.self.invariant.trial size c.start.ensures reduced in
     let clear : IsZero c.reduce.new.trial = c.in-None.ensures.end in
     elim c.if-self.branch [
       | then-self w ↦ rw (← c.self.view_is, w.result-is) (told_conflict _ _ _ _ c.args.row.now c.args.bit c.args.id _ c.self.invariant.echelon stood clear w.if-self.true).implied_is
@@ -125,7 +124,7 @@ returns-after-self-clause-conflict c =
     let reduced : IsReduced c.self.inside.rows.items c.self.inside.row_of.items c.start.new.self c.reduce.new.trial = rw c.deref.ensures.value at (rw c.deref-2.ensures.value at c.in-None.ensures.reduced) in
     let size : length c.args.row.now ≡ c.self.inside.columns = c.requires ∙ sym (ap (λ s. s.columns) c.self.view_is) in
     let stood : Stands c.self.inside.columns c.self.inside.rows.items c.self.inside.kept c.args.row.now c.args.bit c.args.id c.reduce.new.trial =
-        stands _ _ _ _ c.args.row.now c.args.bit c.args.id _ _ _ c.self.invariant.echelon c.self.invariant.trial size c.start.ensures reduced in
+    stands _ _ _ _ c.args.row.now c.args.bit c.args.id _ _ _ c.self.invariant.echelon c.self.invariant.trial size c.start.ensures reduced in
     let clear : IsZero c.reduce.new.trial = c.in-None.ensures.end in
     elim c.if-self.branch [
       | then-self w ↦ rw (← c.self.view_is, w.result-is) (told_conflict _ _ _ _ c.args.row.now c.args.bit c.args.id _ c.self.invariant.echelon stood clear w.if-self.true).conflict_is
@@ -137,9 +136,9 @@ returns-after-self-clause-after c =
     let reduced : IsReduced c.self.inside.rows.items c.self.inside.row_of.items c.start.new.self c.reduce.new.trial = rw c.deref.ensures.value at (rw c.deref-2.ensures.value at c.in-None.ensures.reduced) in
     let size : length c.args.row.now ≡ c.self.inside.columns = c.requires ∙ sym (ap (λ s. s.columns) c.self.view_is) in
     let stood : Stands c.self.inside.columns c.self.inside.rows.items c.self.inside.kept c.args.row.now c.args.bit c.args.id c.reduce.new.trial =
-        stands _ _ _ _ c.args.row.now c.args.bit c.args.id _ _ _ c.self.invariant.echelon c.self.invariant.trial size c.start.ensures reduced in
+    stands _ _ _ _ c.args.row.now c.args.bit c.args.id _ _ _ c.self.invariant.echelon c.self.invariant.trial size c.start.ensures reduced in
     let own : restored c.self.inside.columns (kept_to c.self.inside.columns c.self.inside.rows.items c.self.inside.kept) c.reduce.new.trial ≡ record { row = c.args.row.now; bit = c.args.bit; id = c.args.id } =
-        restored_is _ _ c.reduce.new.trial c.args.row.now c.args.bit c.args.id size stood.means stood.id_is in
+    restored_is _ _ c.reduce.new.trial c.args.row.now c.args.bit c.args.id size stood.means stood.id_is in
     elim c.if-self.branch [
       | then-self w ↦ rw (← c.self.view_is, w.result-is) (λ t. record { columns = c.self.inside.columns; kept = kept_to c.self.inside.columns c.self.inside.rows.items c.self.inside.kept; refused = if w.if-self.true t then Some (own t) else None })
       | else-self w ↦ rw (← c.self.view_is, w.result-is) (λ t. record { columns = c.self.inside.columns; kept = kept_to c.self.inside.columns c.self.inside.rows.items c.self.inside.kept; refused = if w.if-self.false t then Some (own t) else None })
