@@ -8,7 +8,7 @@ use crate::cursor::Cursor;
 use crate::declarations::declarations;
 use crate::error::StilError;
 use crate::signal::{StilSignal, are_writable, groups};
-use crate::writer::middle;
+use crate::middle::middle;
 use std::alloc::Global;
 
 /// The signals, up to the first vector.
