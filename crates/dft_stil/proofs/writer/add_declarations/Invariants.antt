@@ -1,5 +1,4 @@
-use Rattle.std.proofs.Common.{◌≡◌, ◌++◌, flat_map, map, drop}
-use Rattle.dft_stil.specs.Acts as letters
+use Rattle.std.proofs.Common.{◌≡◌, ◌++◌, flat_map, drop}
 use Rattle.dft_stil.specs.Written as form
 use Rattle.dft_stil.proofs.writer.add_declarations.Given as goal
 
