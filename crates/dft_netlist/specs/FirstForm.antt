@@ -282,6 +282,11 @@ abbrev pub ports_from : ℕ → List Text → List (Option Dir) → List Port
 ports_from place [] dirs = []
 ports_from place (word ∷ words) dirs = scalar_port word (dir_or_input (dir_at dirs place)) (record { 0 = place }) ∷ ports_from (place + 1) words dirs
 
+-- the netlist with the next port of these, and its net
+abbrev pub with_port : Netlist → Text → Option Dir → Netlist
+with_port n word dir = record n { ports = n.ports ++ scalar_port word (dir_or_input dir) (record { 0 = length n.nets }) ∷ []; nets = n.nets ++ word ∷ [] }
+
+-- the number, or that of the first cell
 abbrev pub id_or_first : Option CellId → CellId
 id_or_first None = record { 0 = 0 }
 id_or_first (Some id) = id

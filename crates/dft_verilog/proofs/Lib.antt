@@ -1,3 +1,4 @@
 pub mod Lexing
 pub mod Names
 pub mod Declared
+pub mod Ports

@@ -1,16 +1,14 @@
 //! The netlist that a module stands for.
 
-ghost use Rattle.std.specs.Prelude.{◌≡◌, ◌≤◌, ◌++◌, ◌∷◌, [], length, map, IfOk, OnOk, vec_len};
-ghost use Rattle.dft_cells.specs.Standard.{standard_cells};
+ghost use Rattle.std.specs.Prelude.{◌≡◌, ◌≤◌, ◌<◌, ◌++◌, ◌∷◌, [], length, map, IfOk, OnOk};
 ghost use Rattle.dft_netlist.specs.FirstForm as spec;
 
 use crate::draft::Draft;
-use crate::error::VerilogError;
 use crate::flip_flop::FlipFlop;
 use crate::reader::MAX_BYTES;
 use dft_base::Name;
 use dft_cells::{CellId, Library};
-use dft_netlist::{CellRef, Design, DesignBuilder, Dir, PinSignals, Signal};
+use dft_netlist::{CellRef, Design, DesignBuilder, Dir, MAX_INSTANCES, MAX_NETS, MAX_PORTS, PinSignals, Signal};
 use std::alloc::{AllocError, Global};
 
 /// What the pins CK, D, Q and QN are joined to.
@@ -25,49 +23,65 @@ fn pins(alloc: Global, flip_flop: &FlipFlop) -> Result<PinSignals, AllocError>
     Ok(pins)
 }
 
+/// Adds the port of this name. Each name was declared, so it has a direction.
+fn add_port(alloc: Global, builder: &mut DesignBuilder, name: &Name, dir: Option<Dir>) -> Result<(), AllocError>
+    requires ports { length builder.old.ports < MAX_PORTS }
+    requires nets { length builder.old.nets < MAX_NETS }
+    ensures { OnOk result (builder.new ≡ spec.with_port builder.old name.now dir) }
+{
+    let name = Name::from_slice(alloc, name.as_slice())?;
+    builder.port(name, dir.unwrap_or(Dir::Input))?;
+    Ok(())
+}
+
 /// The ports of these names, with these directions.
-fn add_ports(builder: &mut DesignBuilder, names: Vec<Name>, dirs: &[Option<Dir>]) -> Result<(), AllocError>
+fn add_ports(alloc: Global, builder: &mut DesignBuilder, names: &[Name], dirs: &[Option<Dir>]) -> Result<(), AllocError>
     requires empty { builder.old.ports ≡ [] }
     requires no_nets { builder.old.nets ≡ [] }
-    requires few { vec_len names ≤ MAX_BYTES }
-    requires same { vec_len names ≡ length dirs.now }
-    ensures { OnOk result (builder.new ≡ record builder.old { ports = spec.ports_from 0 names.items dirs.now; nets = names.items }) }
+    requires few { length names.now ≤ MAX_BYTES }
+    requires same { length names.now ≡ length dirs.now }
+    ensures { OnOk result (builder.new ≡ record builder.old { ports = spec.ports_from 0 names.now dirs.now; nets = names.now }) }
 {
-    for (name, dir) in names.into_iter().zip(dirs) {
-        builder.port(name, dir.unwrap_or(Dir::Input))?;
+    for (place, name) in names.iter().enumerate() {
+        add_port(alloc, builder, name, dirs[place])?;
     }
     Ok(())
 }
 
-/// An instance of the cell for each of the flip-flops.
-fn add_flip_flops(alloc: Global, builder: &mut DesignBuilder, cell: CellId, flip_flops: Vec<FlipFlop>) -> Result<(), AllocError>
-    requires empty { builder.old.instances ≡ [] }
-    requires few { vec_len flip_flops ≤ MAX_BYTES }
+/// Adds the instance of a flip-flop.
+fn add_flip_flop(alloc: Global, builder: &mut DesignBuilder, cell: CellId, flip_flop: &FlipFlop) -> Result<(), AllocError>
+    requires few { length builder.old.instances < MAX_INSTANCES }
     requires cell { cell ≡ spec.dff }
-    ensures { OnOk result (builder.new ≡ record builder.old { instances = map spec.instance_of flip_flops.items }) }
+    ensures { OnOk result (builder.new ≡ record builder.old { instances = builder.old.instances ++ spec.instance_of flip_flop.now ∷ [] }) }
+{
+    let name = Name::from_slice(alloc, flip_flop.name.as_slice())?;
+    builder.instance(Some(name), CellRef::Library(cell), pins(alloc, flip_flop)?)?;
+    Ok(())
+}
+
+/// An instance of the cell for each of the flip-flops.
+fn add_flip_flops(alloc: Global, builder: &mut DesignBuilder, cell: CellId, flip_flops: &[FlipFlop]) -> Result<(), AllocError>
+    requires empty { builder.old.instances ≡ [] }
+    requires few { length flip_flops.now ≤ MAX_BYTES }
+    requires cell { cell ≡ spec.dff }
+    ensures { OnOk result (builder.new ≡ record builder.old { instances = map spec.instance_of flip_flops.now }) }
 {
     for flip_flop in flip_flops {
-        let pins = pins(alloc, &flip_flop)?;
-        builder.instance(Some(flip_flop.name), CellRef::Library(cell), pins)?;
+        add_flip_flop(alloc, builder, cell, flip_flop)?;
     }
     Ok(())
 }
 
 /// The netlist of this module over the standard cells.
-pub fn netlist(alloc: Global, draft: Draft) -> Result<Design, AllocError>
-    requires { length draft.flip_flops ≤ MAX_BYTES }
-    ensures { IfOk result (λ design. design ≡ spec.flat_netlist draft) }
+pub fn netlist(alloc: Global, draft: &Draft) -> Result<Design, AllocError>
+    requires { length draft.now.flip_flops ≤ MAX_BYTES }
+    ensures { IfOk result (λ design. design ≡ spec.flat_netlist draft.now) }
 {
     let library = Library::standard(alloc)?;
     let cell = library.find(b"DFF").unwrap_or(CellId(0));
-    let Draft {
-        name,
-        names,
-        dirs,
-        flip_flops,
-    } = draft;
+    let name = Name::from_slice(alloc, draft.name.as_slice())?;
     let mut builder = DesignBuilder::new(alloc, name, library);
-    add_ports(&mut builder, names, &dirs)?;
-    add_flip_flops(alloc, &mut builder, cell, flip_flops)?;
+    add_ports(alloc, &mut builder, &draft.names, &draft.dirs)?;
+    add_flip_flops(alloc, &mut builder, cell, &draft.flip_flops)?;
     Ok(builder.finish())
 }

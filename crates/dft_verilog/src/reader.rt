@@ -43,5 +43,5 @@ pub fn read(alloc: Global, bytes: &[u8]) -> Result<Design, VerilogError>
     if !is_sound(&draft) {
         return Err(VerilogError::NotFirstForm);
     }
-    Ok(netlist(alloc, draft)?)
+    Ok(netlist(alloc, &draft)?)
 }
