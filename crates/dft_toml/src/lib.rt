@@ -4,6 +4,8 @@
 mod keys;
 mod lookup;
 mod name;
+#[cfg(test)]
+mod tests;
 mod text;
 
 pub use keys::has_only;
