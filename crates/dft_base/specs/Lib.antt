@@ -9,3 +9,4 @@ pub mod Store
 pub mod StoreShown
 pub mod Words
 pub mod Parser
+pub mod Solutions

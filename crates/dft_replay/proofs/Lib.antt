@@ -1,2 +1,5 @@
 pub mod Soundness
 pub mod Uniqueness
+pub mod PlainLemmas
+pub mod ExampleLemmas
+pub mod Existence

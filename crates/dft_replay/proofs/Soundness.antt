@@ -1,16 +1,16 @@
 -- Where the abstract values decide, every run agrees.
-use Rattle.std.proofs.Common.{ℕ, suc, ◌+◌, Bool, true, false, not, List, [], ◌∷◌, ◌≡◌, ◌⊎◌, inl, inr, refl, length, Option, None, Some, map}
+use Rattle.std.proofs.Common.{ℕ, suc, ◌+◌, Bool, true, false, not, List, [], ◌∷◌, ◌≡◌, ◌⊎◌, inl, inr, refl, length, Option}
 use Rattle.dft_base.specs.declared.tri.Tri.{Tri}
 use Rattle.dft_base.specs.declared.tri.Tri.TheVariants.{Zero, One, Unknown}
 use Rattle.dft_base.specs.Tri.{Above}
 use Rattle.dft_netlist.specs.Logic.{Logic, IsRanked, logic_of}
-use Rattle.dft_netlist.specs.Runs.{Now, Vector, Turn, AreTurns, after_turn}
+use Rattle.dft_netlist.specs.Runs.{Now, Turn, AreTurns, after_turn}
 use Rattle.dft_netlist.proofs.Ranks.{order_is_rank}
 use Rattle.dft_cycle.specs.Cycle.{Round, after_round, all_unknown}
 use Rattle.dft_cycle.specs.Laws.{Stands}
 use Rattle.dft_cycle.proofs.Turns.{strobe_stands, turn_stands}
 use Rattle.dft_replay.specs.declared.verdict.Verdict.{Verdict}
-use Rattle.dft_replay.specs.declared.verdict.Verdict.TheVariants.{Pass, Mismatch, Undetermined}
+use Rattle.dft_replay.specs.declared.verdict.Verdict.TheVariants.{Pass, Mismatch}
 use Rattle.dft_replay.specs.Rows.{Compared, Row, rows_of, ports_of}
 use Rattle.dft_replay.specs.Verdicts.{decided_by, decided, Stops, HasVerdictFrom}
 use Rattle.dft_replay.specs.Laws.{vectors_of, Shows, AllShow, Breaks, FirstBreak, PassIsSound, MismatchIsSound}

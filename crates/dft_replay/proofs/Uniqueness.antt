@@ -1,12 +1,12 @@
 -- There is one verdict at most.
-use Rattle.std.proofs.Common.{ℕ, suc, ◌+◌, List, [], ◌∷◌, ◌≡◌, refl, sym, ◌∙◌, length, Option, None, Some, subst}
+use Rattle.std.proofs.Common.{ℕ, suc, ◌+◌, List, [], ◌∷◌, ◌≡◌, sym, ◌∙◌, length, Option, None, Some, subst}
 use Rattle.dft_base.specs.declared.tri.Tri.{Tri}
 use Rattle.dft_netlist.specs.Logic.{Logic, IsRanked, logic_of}
 use Rattle.dft_netlist.proofs.Ranks.{order_is_rank}
 use Rattle.dft_cycle.specs.Cycle.{Round, after_round, all_unknown}
 use Rattle.dft_cycle.proofs.Least.{round_one}
 use Rattle.dft_replay.specs.declared.verdict.Verdict.{Verdict}
-use Rattle.dft_replay.specs.Rows.{Compared, Row, rows_of, ports_of}
+use Rattle.dft_replay.specs.Rows.{Row, rows_of, ports_of}
 use Rattle.dft_replay.specs.Verdicts.{decided, Stops, HasVerdictFrom}
 use Rattle.dft_replay.specs.Laws.{VerdictIsOne}
 

@@ -4,3 +4,6 @@ pub mod Rows
 pub mod Verdicts
 pub mod Fits
 pub mod Laws
+pub mod Plain
+pub mod Examples
+pub mod Choices

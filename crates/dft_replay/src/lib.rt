@@ -1,8 +1,12 @@
 //! The verdict of patterns on a design, and what it says of every run.
 #![tactic(auto)]
 
+mod examples;
 mod laws;
 mod verdict;
 
-pub use laws::{mismatch_is_sound, pass_is_sound, verdict_is_one};
+pub use examples::worked_examples;
+pub use laws::{
+    every_choice_runs, mismatch_is_sound, pass_is_sound, verdict_is_one, verdict_is_plain,
+};
 pub use verdict::Verdict;

@@ -1,5 +1,5 @@
 -- The rule of a declaration reads what is written, and nothing else.
-use Rattle.std.proofs.Common.{◌≡◌, ℕ, ◌+◌, Bool, true, false, cond, not, ◌&&◌, eqb, true≢false, List, [], ◌∷◌, ◌++◌, codes, length, take, drop, Ok, Err, refl, sym, ap, ◌∙◌, append_assoc, take-append-drop, take_at, drop_at, arith, eqb-true}
+use Rattle.std.proofs.Common.{◌≡◌, ℕ, ◌+◌, Bool, true, false, cond, not, eqb, true≢false, List, [], ◌∷◌, ◌++◌, codes, length, take, drop, Ok, refl, sym, ap, ◌∙◌, append_assoc, take-append-drop, take_at, drop_at, arith}
 use Rattle.std.specs.List.{list_all}
 use Rattle.dft_base.specs.Parser.{and_then}
 use Rattle.dft_netlist.specs.declared.port.Dir.{Dir}
@@ -9,7 +9,7 @@ use Rattle.dft_base.specs.Words.{is_simple_name, continues_word}
 use Rattle.dft_stil.specs.Written.{way, declaration}
 use Rattle.dft_stil.specs.Rules.{begins, expect, name, name_len, direction, declared}
 use Rattle.dft_stil.proofs.NameLemmas.{no_quote, simple_continues, first_continues, rest_continues}
-use Rattle.dft_stil.proofs.Outcomes.{Gives, then_from, if_from, begins_at, begins_from, expect_at, expect_from, given_once}
+use Rattle.dft_stil.proofs.Outcomes.{Gives, then_from, if_from, begins_from, expect_at, expect_from, given_once}
 
 -- ---- names
 

@@ -1,6 +1,5 @@
 -- Where a text has no signals before its vectors, and where it has.
-use Rattle.std.proofs.Common.{◌≡◌, ℕ, Bool, true, false, true≢false, Decides, List, [], ◌∷◌, ◌++◌, codes, flat_map, All, Err, refl, sym, ap, ap₂, subst, ◌∙◌, append_assoc}
-use Rattle.std.specs.Bool.{⊤}
+use Rattle.std.proofs.Common.{◌≡◌, ℕ, Bool, true, false, true≢false, Decides, List, ◌∷◌, ◌++◌, codes, flat_map, Err, refl, sym, ap, ap₂, subst, ◌∙◌}
 use Rattle.std.proofs.lemmas.List.{append_cancel_left}
 use Rattle.dft_stil.specs.declared.signal.StilSignal.{StilSignal}
 use Rattle.dft_stil.specs.Patterns.{IsSimple, inputs, outputs}

@@ -1,17 +1,16 @@
 -- Loops that read lines up to a brace.
-use Rattle.std.proofs.Common.{◌≡◌, ℕ, zero, suc, ◌+◌, ◌<◌, Bool, true, false, true≢false, List, [], ◌∷◌, ◌++◌, flat_map, length, drop, get_or, All, Err, refl, sym, ap, ap₂, ◌∙◌, append_assoc, append-nil, length-append, arith}
-use Rattle.std.specs.Bool.{⊤}
+use Rattle.std.proofs.Common.{◌≡◌, ℕ, zero, suc, ◌<◌, true, false, true≢false, List, [], ◌∷◌, ◌++◌, flat_map, length, drop, All, Err, refl, sym, ap, ap₂, ◌∙◌, append_assoc, length-append, arith}
 use Rattle.std.proofs.lemmas.List.Sums.{prefix_len-le-length}
 use Rattle.dft_stil.specs.declared.act.Act.{Act}
 use Rattle.dft_stil.specs.declared.signal.StilSignal.{StilSignal}
 use Rattle.dft_stil.specs.Patterns.{IsSimple, IsFullVector, input_count, inputs, outputs}
 use Rattle.dft_stil.specs.Written.{declaration, vector_line}
-use Rattle.dft_stil.specs.Rules.{Rule, begins, declared, vector}
+use Rattle.dft_stil.specs.Rules.{begins, declared, vector}
 use Rattle.dft_stil.specs.Lines.{IsLines, HasNoLines}
-use Rattle.dft_stil.proofs.Outcomes.{Gives, not_both, begins_at, begins_from}
+use Rattle.dft_stil.proofs.Outcomes.{Gives, begins_at, begins_from}
 use Rattle.dft_stil.proofs.DeclarationLemmas.{declared_from}
 use Rattle.dft_stil.proofs.VectorLemmas.{vector_from}
-use Rattle.dft_stil.proofs.WrittenLemmas.{no_declaration, no_vector, declarations_once, vectors_once, vector_of}
+use Rattle.dft_stil.proofs.WrittenLemmas.{no_declaration, no_vector, declarations_once, vectors_once}
 
 pub all_nil : {A : Type 0} (P : A → Type 0) → All P []
 all_nil P k d l = absurd (omega arith)

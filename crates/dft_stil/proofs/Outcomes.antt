@@ -1,5 +1,5 @@
 -- What rules give: a value and the bytes after it, at most one way.
-use Rattle.std.proofs.Common.{◌≡◌, ℕ, suc, ◌<◌, Bool, true, false, cond, true≢false, List, [], ◌∷◌, ◌++◌, length, take, drop, flat_map, All, Result, Ok, Err, is_ok, nat_eq, refl, sym, ap, ◌∙◌, append_assoc, drop_at, arith}
+use Rattle.std.proofs.Common.{◌≡◌, ℕ, suc, Bool, true, false, cond, true≢false, List, [], ◌∷◌, ◌++◌, length, drop, flat_map, All, Result, Ok, Err, is_ok, refl, sym, ap, ◌∙◌, append_assoc, drop_at, arith}
 use Rattle.std.specs.Bool.{⊤}
 use Rattle.std.proofs.lemmas.Bool.Decides.{Decides-eqb}
 use Rattle.std.proofs.lemmas.Slice.Eq.{starts_is}

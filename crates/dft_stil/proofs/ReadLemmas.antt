@@ -1,6 +1,5 @@
 -- Where a text has no patterns, and where it has.
-use Rattle.std.proofs.Common.{◌≡◌, ℕ, true, false, true≢false, Decides, List, [], ◌∷◌, ◌++◌, codes, flat_map, All, Err, refl, sym, ap, subst, ◌∙◌}
-use Rattle.std.specs.Bool.{⊤}
+use Rattle.std.proofs.Common.{◌≡◌, ℕ, List, [], ◌∷◌, ◌++◌, codes, flat_map, All, Err, refl, sym, ap, subst, ◌∙◌}
 use Rattle.dft_stil.specs.declared.act.Act.{Act}
 use Rattle.dft_stil.specs.declared.signal.StilSignal.{StilSignal}
 use Rattle.dft_stil.specs.Patterns.{Patterns, IsPatterns, IsFullVector, inputs, outputs, input_count}
@@ -8,7 +7,7 @@ use Rattle.dft_stil.specs.Written.{head, vector_line, written}
 use Rattle.dft_stil.specs.Rules.{vector}
 use Rattle.dft_stil.specs.Lines.{IsLines, HasNoLines}
 use Rattle.dft_stil.specs.Heads.{AreWritable, IsHead, HasNoHead, HasNoPatterns}
-use Rattle.dft_stil.proofs.WrittenLemmas.{head_once, vectors_once, no_vector, vector_of}
+use Rattle.dft_stil.proofs.WrittenLemmas.{head_once, vectors_once, no_vector}
 
 writable : (p : Patterns) → IsPatterns p → AreWritable p.signals
 writable p h = record { both = h.both; declarable = h.declarable }

@@ -1,13 +1,11 @@
 -- What the tests of signals decide.
 use Rattle.std.proofs.Common.{◌≡◌, ◌≢◌, ℕ, zero, suc, ◌<◌, ◌≤◌, ◌-◌, Bool, true, false, not, ◌&&◌, ◌||◌, true≢false, Decides, List, [], ◌∷◌, length, get_or, take, drop, take_all, All, AllPairs, refl, sym, ap, ◌∙◌, arith}
-use Rattle.std.specs.List.{list_any, list_all}
 use Rattle.std.specs.Str.{bytes_eq}
 use Rattle.std.proofs.lemmas.Slice.Eq.{bytes_eq-Decides}
 use Rattle.dft_netlist.specs.declared.port.Dir.{Dir}
 use Rattle.dft_netlist.specs.declared.port.Dir.TheVariants.{Input, Output}
 use Rattle.dft_stil.specs.declared.signal.StilSignal.{StilSignal}
-use Rattle.dft_stil.specs.Patterns.{IsSimple, IsDeclarable, HasBothWays, is_input, is_named, are_distinct, are_outputs, inputs, outputs}
-use Rattle.dft_stil.specs.Heads.{AreWritable}
+use Rattle.dft_stil.specs.Patterns.{IsSimple, IsDeclarable, is_input, is_named, are_distinct, are_outputs, outputs}
 
 -- ---- names
 

@@ -1,8 +1,7 @@
 -- The rule of a vector reads what is written, and nothing else.
-use Rattle.std.proofs.Common.{◌≡◌, ℕ, zero, suc, ◌≤◌, Bool, true, false, cond, eqb, true≢false, List, [], ◌∷◌, ◌++◌, codes, map, length, take, drop, Option, Some, None, is_some, is_ok, Ok, Err, refl, sym, ap, subst, ◌∙◌, append_assoc, append-nil, take-append-drop, take_at, drop_at, length-take-le, arith, eqb-true}
+use Rattle.std.proofs.Common.{◌≡◌, ℕ, zero, suc, ◌≤◌, Bool, true, false, cond, true≢false, List, [], ◌∷◌, ◌++◌, codes, map, length, take, drop, Option, Some, None, is_some, is_ok, Ok, refl, sym, ap, subst, ◌∙◌, append_assoc, append-nil, take-append-drop, take_at, drop_at, length-take-le, eqb-true}
 use Rattle.std.specs.List.{AllZip}
 use Rattle.std.proofs.lemmas.Slice.Zip.{AllZip-long}
-use Rattle.dft_base.specs.Parser.{and_then}
 use Rattle.dft_netlist.specs.declared.port.Dir.{Dir}
 use Rattle.dft_netlist.specs.declared.port.Dir.TheVariants.{Input, Output}
 use Rattle.dft_stil.specs.declared.act.Act.{Act}
@@ -11,7 +10,7 @@ use Rattle.dft_stil.specs.declared.signal.StilSignal.{StilSignal}
 use Rattle.dft_stil.specs.Acts.{IsActOf, IsTold, letter, act_of}
 use Rattle.dft_stil.specs.Patterns.{IsFullVector}
 use Rattle.dft_stil.specs.Written.{assignment, vector_line}
-use Rattle.dft_stil.specs.Rules.{Rule, expect, byte, given, acts, assigned, vector}
+use Rattle.dft_stil.specs.Rules.{expect, byte, given, acts, assigned, vector}
 use Rattle.dft_stil.proofs.Outcomes.{Gives, then_from, expect_at, expect_from, given_once}
 
 -- ---- letters

@@ -1,15 +1,13 @@
 -- The written form tells the signals and the vectors.
-use Rattle.std.proofs.Common.{◌≡◌, ℕ, true, List, [], ◌∷◌, ◌++◌, codes, flat_map, length, take, drop, All, Ok, Err, refl, sym, ap, subst, ◌∙◌, append_assoc}
-use Rattle.std.specs.Bool.{⊤}
+use Rattle.std.proofs.Common.{◌≡◌, ℕ, List, ◌∷◌, ◌++◌, codes, flat_map, All, Err, refl, sym, ap, subst, ◌∙◌, append_assoc}
 use Rattle.std.proofs.lemmas.List.{append_cancel_left}
 use Rattle.dft_stil.specs.declared.act.Act.{Act}
 use Rattle.dft_stil.specs.declared.signal.StilSignal.{StilSignal}
-use Rattle.dft_base.specs.Words.{is_simple_name}
-use Rattle.dft_stil.specs.Patterns.{Patterns, IsPatterns, IsSimple, IsFullVector, inputs, outputs, input_count}
+use Rattle.dft_stil.specs.Patterns.{IsSimple, IsFullVector, inputs, outputs, input_count}
 use Rattle.dft_stil.specs.Written.{declaration, middle, head, vector_line, written}
 use Rattle.dft_stil.specs.Rules.{Rule, expect, declared, vector}
 use Rattle.dft_stil.specs.Laws.{HasOneReading}
-use Rattle.dft_stil.proofs.Outcomes.{Gives, lines_once}
+use Rattle.dft_stil.proofs.Outcomes.{lines_once}
 use Rattle.dft_stil.proofs.DeclarationLemmas.{declared_at}
 use Rattle.dft_stil.proofs.VectorLemmas.{vector_at}
 

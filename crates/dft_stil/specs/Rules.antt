@@ -1,7 +1,7 @@
 -- The rules that read a pattern text in its written form: each takes bytes from the front, or refuses.
 use Rattle.std.specs.Prelude.{ℕ, Bool, not, List, [], ◌∷◌, ◌++◌, codes, take, drop, length, ◌==◌, nat_eq, if◌then◌else◌, Option, Some, None, Ok, Err, ⊤}
 use Rattle.std.specs.List.{starts_with, prefix_len}
-use Rattle.dft_base.specs.Parser.{Parser, ◌>>=◌, ◌>>◌, pure, and_then}
+use Rattle.dft_base.specs.Parser.{Parser, ◌>>=◌, ◌>>◌, pure}
 use Rattle.dft_netlist.specs.declared.port.Dir.{Dir}
 use Rattle.dft_netlist.specs.declared.port.Dir.TheVariants.{Input, Output}
 use Rattle.dft_stil.specs.declared.act.Act.{Act}

@@ -7,8 +7,8 @@ ghost use Rattle.dft_stil.specs.Heads.{IsHead, HasNoHead};
 use crate::cursor::Cursor;
 use crate::declarations::declarations;
 use crate::error::StilError;
+use crate::middle::middle;
 use crate::signal::{StilSignal, are_writable, groups};
-use crate::writer::middle;
 use std::alloc::Global;
 
 /// The signals, up to the first vector.

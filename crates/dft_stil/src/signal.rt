@@ -21,8 +21,8 @@ pub fn groups(signals: &[StilSignal]) -> (&[StilSignal], &[StilSignal])
     signals.split_at(input_count(signals))
 }
 
-// How many inputs stand before the first output.
-fn input_count(signals: &[StilSignal]) -> usize
+/// How many inputs stand before the first output.
+pub fn input_count(signals: &[StilSignal]) -> usize
     ensures value { result ≡ spec.input_count signals.now }
     ensures within { result ≤ length signals.now }
 {

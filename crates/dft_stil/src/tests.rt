@@ -68,6 +68,11 @@ fn vectors_come_in_order(rt: HostRuntime) -> Result<(), Fail> {
         for (acts, wanted) in set.vectors().iter().zip(wanted.iter()) {
             assert_eq!(rt; acts.as_slice(), wanted.as_slice());
         }
+        assert_eq!(rt;
+            write(rt.alloc(), &set)?,
+            text,
+            "the set is written as it was read"
+        );
     }
     Ok(())
 }

@@ -1,5 +1,5 @@
 -- What the keys of a table hold.
-use Rattle.std.specs.Prelude.{ℕ, ℤ, Bool, true, false, ◌&&◌, ◌||◌, List, [], ◌∷◌, ◌++◌, map, length, Option, Some, None, option_map, option_and_then, nat_le, nat_lt, if◌then◌else◌}
+use Rattle.std.specs.Prelude.{ℕ, ℤ, Bool, true, false, ◌&&◌, ◌||◌, List, [], ◌∷◌, ◌++◌, map, length, Option, Some, None, is_some, option_map, option_and_then, nat_le, nat_lt, if◌then◌else◌}
 use Rattle.std.specs.Str.{bytes_eq}
 use Rattle.toml.specs.Data.{Data, Items, no_items, item, Members, no_members, member, get_member, as_str, as_integer, as_array, as_table}
 
@@ -38,6 +38,32 @@ integer_at key table = option_and_then as_integer (get_member key table)
 
 abbrev pub name_at : List ℕ → Members → Option (List ℕ)
 name_at key table = option_and_then name_of (text_at key table)
+
+-- the name that a value is
+abbrev pub name_in : Data → Option (List ℕ)
+name_in value = option_and_then name_of (as_str value)
+
+-- a first name before the others, where both are there
+abbrev pub with_first : Option (List ℕ) → Option (List (List ℕ)) → Option (List (List ℕ))
+with_first None names = None
+with_first (Some name) names = option_map (λ rest. name ∷ rest) names
+
+-- the names that the items of a list are, where each is one
+abbrev pub names_in : Items → Option (List (List ℕ))
+names_in no_items = Some []
+names_in (item value rest) = with_first (name_in value) (names_in rest)
+
+-- the names of the list at a key
+abbrev pub names_at : List ℕ → Members → Option (List (List ℕ))
+names_at key table = option_and_then names_in (option_and_then as_array (get_member key table))
+
+-- the table at a key
+abbrev pub table_at : List ℕ → Members → Option Members
+table_at key table = option_and_then as_table (get_member key table)
+
+-- whether a table has a key
+abbrev pub has_key : List ℕ → Members → Bool
+has_key key table = is_some (get_member key table)
 
 -- whether a word stands among these
 abbrev pub has_word : List (List ℕ) → List ℕ → Bool

@@ -4,9 +4,11 @@
 mod keys;
 mod lookup;
 mod name;
+#[cfg(test)]
+mod tests;
 mod text;
 
 pub use keys::has_only;
-pub use lookup::{integer_at, name_at, text_at};
-pub use name::{is_name, name_of, printable};
+pub use lookup::{has_key, integer_at, name_at, names_at, table_at, text_at};
+pub use name::{Names, is_name, name_of, printable};
 pub use text::{TableError, read_table};

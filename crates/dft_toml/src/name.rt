@@ -1,8 +1,9 @@
-ghost use Rattle.std.specs.Prelude.{◌≡◌, IfOk, ℕ};
+ghost use Rattle.std.specs.Prelude.{◌≡◌, [], ◌∷◌, ◌++◌, IfOk, OnOk};
 ghost use Rattle.dft_toml.specs.Values as spec;
 
 use dft_base::Name;
 use std::alloc::{AllocError, Global};
+use std::marker::Model;
 
 /// Whether these bytes are a name: at least one, each of 33 to 126.
 pub fn is_name(bytes: &[u8]) -> bool
@@ -36,6 +37,46 @@ pub fn name_of(alloc: Global, bytes: &[u8]) -> Result<Option<Name>, AllocError>
         Ok(Some(Name::from_slice(alloc, bytes)?))
     } else {
         Ok(None)
+    }
+}
+
+/// Names in order. A clause sees them as a list.
+#[derive(Debug, Drop)]
+pub struct Names {
+    names: Vec<Name>,
+}
+
+impl Model for Names {
+    ghost use Rattle.std.specs.Prelude.{List, ℕ};
+
+    ghost Value = { List (List ℕ) };
+
+    ghost view = { λ n. n.names.items };
+}
+
+impl Names {
+    /// No name yet.
+    pub fn new(alloc: Global) -> Names
+        ensures { result ≡ [] }
+    {
+        Names {
+            names: Vec::new(alloc),
+        }
+    }
+
+    /// Adds a name at the end.
+    pub fn push(&mut self, name: Name) -> Result<(), AllocError>
+        ensures { OnOk result (self.new ≡ self.old ++ name ∷ []) }
+    {
+        self.names.push(name)?;
+        Ok(())
+    }
+
+    /// The names.
+    pub fn as_slice(&self) -> &[Name]
+        ensures { result.now ≡ self.now }
+    {
+        &self.names
     }
 }
 

@@ -1,4 +1,4 @@
-use Rattle.std.proofs.Common.{ℕ, length}
+use Rattle.std.proofs.Common.{length}
 use Rattle.dft_stil.specs.Lines.{IsLines}
 use Rattle.dft_stil.specs.Patterns.{IsSimple}
 use Rattle.dft_stil.specs.Written as form

@@ -1,5 +1,4 @@
-use Rattle.std.proofs.Common.{◌≡◌, Err, Decides, subst, ap, ◌∙◌}
-use Rattle.std.specs.Bool.{⊤}
+use Rattle.std.proofs.Common.{Err, Decides, subst, ap, ◌∙◌}
 use Rattle.dft_stil.specs.Patterns.{inputs, outputs}
 use Rattle.dft_stil.specs.Heads.{AreWritable}
 use Rattle.dft_stil.proofs.HeadLemmas.{no_opening, no_declarations, not_writable, no_middle, head_read}

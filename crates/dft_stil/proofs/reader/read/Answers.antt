@@ -1,7 +1,7 @@
 use Rattle.std.proofs.Common.{◌≡◌, List, Err, true≢false, subst, subst₂, sym, ap, ◌∙◌}
 use Rattle.dft_stil.specs.declared.act.Act.{Act}
 use Rattle.dft_stil.specs.declared.signal.StilSignal.{StilSignal}
-use Rattle.dft_stil.specs.Patterns.{Patterns, IsPatterns}
+use Rattle.dft_stil.specs.Patterns.{IsPatterns}
 use Rattle.dft_stil.specs.Written.{written}
 use Rattle.dft_stil.specs.Heads.{HasNoHead, IsHead}
 use Rattle.dft_stil.proofs.ReadLemmas.{no_head, no_vectors, no_end, patterns_read}

@@ -1,6 +1,6 @@
 use Rattle.std.proofs.Common.{◌≡◌, true, ◌∙◌, sym}
 use Rattle.dft_toml.specs.Values.{is_name}
-use Rattle.dft_toml.proofs.Names.{name_tested}
+use Rattle.dft_toml.proofs.NameLemmas.{name_tested}
 use Rattle.dft_toml.proofs.name.name_of.Goals as goal
 
 pub from_slice-requires : goal.from_slice-requires

@@ -1,5 +1,5 @@
 use Rattle.std.proofs.Common.{◌≡◌, ◌==◌, ◌≤◌, false, length, sym, ◌∙◌, arith}
-use Rattle.dft_toml.proofs.Names.{shown_part_name}
+use Rattle.dft_toml.proofs.NameLemmas.{shown_part_name}
 use Rattle.dft_toml.proofs.name.printable.Goals as goal
 
 pub from_slice-requires-2 : goal.from_slice-requires-2

@@ -1,0 +1,10 @@
+//! The configuration of a compiler run: domains, chains, ring, compactor and the names of ports.
+#![tactic(auto)]
+
+mod config;
+mod cycles;
+mod listed;
+
+pub use config::{CompactorConfig, Config, FillRule, Injector, PortNames, RingConfig, Tap};
+pub use cycles::load_cycles;
+pub use listed::Listed;

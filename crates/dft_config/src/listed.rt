@@ -1,0 +1,42 @@
+ghost use Rattle.std.specs.Prelude.{◌≡◌};
+
+use std::marker::Model;
+
+/// Items in order. A clause sees them as a list.
+#[derive(Debug, Drop)]
+pub struct Listed<T> {
+    entries: Vec<T>,
+}
+
+impl<T> Model for Listed<T> {
+    ghost use Rattle.std.specs.Prelude.{List};
+
+    ghost Value = { List T };
+
+    ghost view = { λ l. l.entries.items };
+}
+
+impl<T> Listed<T> {
+    /// The items of a vector.
+    pub fn from_vec(entries: Vec<T>) -> Listed<T>
+        ensures { result ≡ entries.items }
+    {
+        Listed {
+            entries,
+        }
+    }
+
+    /// The items.
+    pub fn as_slice(&self) -> &[T]
+        ensures { result.now ≡ self.now }
+    {
+        &self.entries
+    }
+
+    /// The items as a vector.
+    pub fn into_vec(self) -> Vec<T>
+        ensures { result.items ≡ self }
+    {
+        self.entries
+    }
+}

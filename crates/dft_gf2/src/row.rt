@@ -1,0 +1,71 @@
+ghost use Rattle.std.specs.Prelude.{◌≡◌, ℕ, ◌<◌, ◌≤◌, Bool, false, length, replicate, IfOk};
+ghost use Rattle.dft_base.specs.Solutions.{bit_at, sum_over, xor};
+ghost use Rattle.dft_gf2.specs.Rows.{IsAdded, IsStarted, IsWide};
+
+use crate::bits::Bits;
+use std::alloc::{AllocError, Global};
+
+/// A sum of equations: its set and bit, the places of the kept equations that it sums, and the id of the equation that began it.
+#[derive(Drop)]
+pub struct Row {
+    pub set: Bits,
+    pub bit: bool,
+    pub sums: Bits,
+    pub id: u32,
+}
+
+impl Row {
+    /// A row of so many columns that sums nothing.
+    pub fn blank(alloc: Global, columns: usize) -> Result<Row, AllocError>
+        ensures { IfOk result (IsWide columns) }
+    {
+        Ok(Row {
+            set: Bits::zeros(alloc, columns)?,
+            bit: false,
+            sums: Bits::zeros(alloc, columns)?,
+            id: 0,
+        })
+    }
+
+    /// Becomes this equation alone.
+    pub fn start(&mut self, row: &[bool], bit: bool, id: u32)
+        requires { length row.now ≡ length self.old.set }
+        ensures { IsStarted row.now bit id self.old self.new }
+    {
+        self.set.copy_from(row);
+        self.bit = bit;
+        self.sums.clear();
+        self.id = id;
+    }
+
+    /// Whether the row sums the kept equation at this place.
+    pub fn names(&self, place: usize) -> bool
+        requires { place < length self.now.sums }
+        ensures { result ≡ bit_at self.now.sums place }
+    {
+        self.sums.get(place)
+    }
+
+    /// Adds another row.
+    pub fn add(&mut self, other: &Row)
+        requires set { length other.now.set ≡ length self.old.set }
+        requires sums { length other.now.sums ≡ length self.old.sums }
+        ensures { IsAdded self.old other.now self.new }
+    {
+        self.set.add(&other.set);
+        self.bit ^= other.bit;
+        self.sums.add(&other.sums);
+    }
+
+    /// The bit that the row gives the column after these bits, where that is its last column.
+    pub fn forced(&self, bits: &[bool]) -> bool
+        requires { length bits.now ≤ length self.now.set }
+        ensures { result ≡ xor self.now.bit (sum_over (length bits.now) self.now.set (bit_at bits.now)) }
+    {
+        let mut sum = self.bit;
+        for column in 0..bits.len() {
+            sum ^= self.set.get(column) && bits[column];
+        }
+        sum
+    }
+}

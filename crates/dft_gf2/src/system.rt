@@ -1,0 +1,215 @@
+ghost use Rattle.std.specs.Prelude.{◌≡◌, ℕ, ◌<◌, ◌≤◌, ◌↔◌, Bool, List, [], ◌∷◌, ◌++◌, Option, Some, None, length, IfOk, IfSome, IsSome, IsTrue, MatchOption, slice_set};
+ghost use Rattle.dft_base.specs.Solutions.{bit_at, Equation, IsSum, AllGive, NoneGives, Certifies, Contradicts, IsChosen, Solves};
+ghost use Rattle.dft_gf2.specs.Elimination.{Elimination, After};
+ghost use Rattle.dft_gf2.specs.Like.{AnswersLike};
+ghost use Rattle.dft_gf2.specs.Rows.{row_at, AreWide, AreLed, IsCleared, IsZero, IsNew, IsReduced, IsWide, with_own};
+
+use crate::fill::Fill;
+use crate::row::Row;
+use std::alloc::{AllocError, Global};
+use std::marker::Model;
+
+/// What an equation is to the kept ones.
+#[derive(Clone, Copy, Debug, PartialEq, Eq)]
+pub enum Outcome {
+    /// Its set is no sum of kept sets: it is kept now.
+    Kept,
+    /// Every solution of the kept ones solves it.
+    Implied,
+    /// No solution of the kept ones solves it, and its set is a sum of kept sets.
+    Conflict,
+}
+
+/// A system of equations over GF(2). It keeps those whose sets are independent, in the order in which they came.
+/// A clause sees the number of columns, the kept equations, and the one that was refused last as a conflict.
+#[derive(Drop)]
+pub struct System {
+    columns: u32,
+    kept: usize,
+    rows: Vec<Row>,
+    row_of: Vec<Option<usize>>,
+    trial: Row,
+    refused: bool,
+}
+
+impl Model for System {
+    ghost use Rattle.dft_gf2.specs.Elimination.{Elimination};
+
+    ghost Value = { Elimination };
+
+    ghost use Rattle.dft_gf2.specs.Inside.{elimination, IsEliminated};
+
+    ghost view = { elimination };
+
+    ghost invariant = { IsEliminated };
+}
+
+impl System {
+    /// A system of so many columns, with room for as many equations.
+    pub fn new(alloc: Global, columns: u32) -> Result<System, AllocError>
+        ensures { IfOk result (λ system. system ≡ record { columns = columns; kept = []; refused = None }) }
+    {
+        Ok(System {
+            columns,
+            kept: 0,
+            rows: blank_rows(alloc, columns as usize)?,
+            row_of: vec![in alloc; None; columns as usize]?,
+            trial: Row::blank(alloc, columns as usize)?,
+            refused: false,
+        })
+    }
+
+    /// The number of columns.
+    pub fn columns(&self) -> u32
+        ensures { result ≡ self.now.columns }
+    {
+        self.columns
+    }
+
+    /// Whether the last equation was a conflict.
+    pub fn has_conflict(&self) -> bool
+        ensures { IsTrue result ↔ IsSome self.now.refused }
+    {
+        self.refused
+    }
+
+    /// Adds the equation that gives a set of columns the sum `bit`, unless the kept ones already tell its sum.
+    /// Takes no memory.
+    pub fn try_add(&mut self, row: &[bool], bit: bool, id: u32) -> Outcome
+        requires { length row.now ≡ self.old.columns }
+        ensures kept { result ≡ Outcome.Kept ↔ (IsSum self.old.columns self.old.kept row.now → ⊥) }
+        ensures implied { result ≡ Outcome.Implied ↔ AllGive self.old.columns self.old.kept row.now bit }
+        ensures conflict { result ≡ Outcome.Conflict ↔ (IsSum self.old.columns self.old.kept row.now × NoneGives self.old.columns self.old.kept row.now bit) }
+        ensures after { self.new ≡ After (record { row = row.now; bit = bit; id = id }) result self.old }
+    {
+        self.trial.start(row, bit, id);
+        match reduce(&mut self.trial, &self.rows, &self.row_of) {
+            Some(column) => {
+                keep(
+                    &mut self.trial,
+                    &mut self.rows,
+                    &mut self.row_of,
+                    self.kept,
+                    column,
+                );
+                self.kept += 1;
+                self.refused = false;
+                Outcome::Kept
+            }
+            None => {
+                self.refused = self.trial.bit;
+                if self.trial.bit {
+                    Outcome::Conflict
+                } else {
+                    Outcome::Implied
+                }
+            }
+        }
+    }
+
+    /// Why the last equation was a conflict: the ids of the kept equations whose sets sum to its set, in order, and then its own.
+    pub fn certificate(&self, alloc: Global) -> Result<Vec<u32>, AllocError>
+        requires { IsSome self.now.refused }
+        ensures stated { IfSome self.now.refused (λ e. IfOk result (λ ids. Contradicts self.now.columns self.now.kept e ids.items)) }
+        ensures sums { IfSome self.now.refused (λ e. IfOk result (λ ids. Certifies self.now.columns (self.now.kept ++ e ∷ []) ids.items)) }
+    {
+        let mut ids = Vec::new(alloc);
+        for place in 0..self.kept {
+            if self.trial.names(place) {
+                ids.push(self.rows[place].id)?;
+            }
+        }
+        ids.push(self.trial.id)?;
+        Ok(ids)
+    }
+
+    /// The solution that takes each fill bit that it can, in column order.
+    pub fn solve<F: Fn(u32) -> bool>(
+        &self,
+        alloc: Global,
+        fill: &Fill<'_, F>,
+    ) -> Result<Vec<bool>, AllocError>
+        requires answers { AnswersLike (F.pre fill.now.answer) (F.post fill.now.answer) fill.now.like.now }
+        requires columns { length fill.now.like.now ≡ self.now.columns }
+        ensures chosen { IfOk result (λ bits. IsChosen self.now.columns self.now.kept fill.now.like.now bits.items) }
+        ensures solves { IfOk result (λ bits. Solves self.now.columns (bit_at bits.items) self.now.kept) }
+    {
+        let mut bits = Vec::with_capacity(alloc, self.columns as usize)?;
+        for column in 0..self.columns {
+            let bit = match self.row_of[column as usize] {
+                Some(place) => self.rows[place].forced(&bits),
+                None => fill.bit(column),
+            };
+            bits.push(bit)?;
+        }
+        Ok(bits)
+    }
+}
+
+// As many blank rows as columns.
+fn blank_rows(alloc: Global, columns: usize) -> Result<Vec<Row>, AllocError>
+    ensures { IfOk result (λ rows. AreWide columns rows.items) }
+{
+    let mut rows = Vec::with_capacity(alloc, columns)?;
+    for _ in 0..columns {
+        rows.push(Row::blank(alloc, columns)?)?;
+    }
+    Ok(rows)
+}
+
+// Clears the trial's column by the row that it leads, and says whether that could be done.
+fn clear(trial: &mut Row, rows: &[Row], row_of: &[Option<usize>], column: usize) -> bool
+    requires within { column < length row_of.now }
+    requires wide { IsWide (length row_of.now) trial.old }
+    requires rows { AreWide (length row_of.now) rows.now }
+    requires led { AreLed rows.now row_of.now }
+    ensures reduced { IsReduced rows.now row_of.now trial.old trial.new }
+    ensures cleared { IsCleared row_of.now column trial.old trial.new result }
+{
+    if !trial.set.get(column) {
+        return true;
+    }
+    match row_of[column] {
+        Some(place) => {
+            trial.add(&rows[place]);
+            true
+        }
+        None => false,
+    }
+}
+
+// Clears the trial's columns from the last one on, up to one that leads no row.
+fn reduce(trial: &mut Row, rows: &[Row], row_of: &[Option<usize>]) -> Option<usize>
+    requires wide { IsWide (length row_of.now) trial.old }
+    requires rows { AreWide (length row_of.now) rows.now }
+    requires led { AreLed rows.now row_of.now }
+    ensures reduced { IsReduced rows.now row_of.now trial.old trial.new }
+    ensures end { MatchOption result (IsZero trial.new) (IsNew row_of.now trial.new) }
+{
+    for column in (0..row_of.len()).rev() {
+        if !clear(trial, rows, row_of, column) {
+            return Some(column);
+        }
+    }
+    None
+}
+
+// Puts the trial at a place of the rows, as the one that the column leads.
+fn keep(
+    trial: &mut Row,
+    rows: &mut [Row],
+    row_of: &mut [Option<usize>],
+    place: usize,
+    column: usize,
+)
+    requires place { place < length rows.old }
+    requires column { column < length row_of.old }
+    requires sums { place < length trial.old.sums }
+    ensures rows { rows.new ≡ slice_set rows.old place (with_own place trial.old) }
+    ensures row_of { row_of.new ≡ slice_set row_of.old column (Some place) }
+    ensures trial { trial.new ≡ row_at rows.old place }
+{
+    trial.sums.put(place, true);
+    std::mem::swap(trial, &mut rows[place]);
+    row_of[column] = Some(place);
+}

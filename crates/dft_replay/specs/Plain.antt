@@ -1,0 +1,92 @@
+-- The plain replay: nets are settled by levels of drivers, the map of a pulse rises round by round, bits are compared one by one.
+use Rattle.std.specs.Prelude.{ℕ, zero, suc, ◌+◌, List, [], ◌∷◌, length, Option, None, Some, if◌then◌else◌}
+use Rattle.dft_base.specs.declared.tri.Tri.{Tri}
+use Rattle.dft_base.specs.declared.tri.Tri.TheVariants.{Unknown}
+use Rattle.dft_base.specs.Tri.{join}
+use Rattle.dft_netlist.specs.Netlist.{Netlist}
+use Rattle.dft_netlist.specs.Drivers.{IsOrdered}
+use Rattle.dft_netlist.specs.Logic.{Logic, logic_of}
+use Rattle.dft_netlist.specs.Settled.{value_given}
+use Rattle.dft_netlist.specs.Runs.{Vector}
+use Rattle.dft_cycle.specs.Cycle.{Pulse, view_sources, next_value, after_pulse, pulse_of, strobe_sources}
+use Rattle.dft_stil.specs.Patterns.{Patterns}
+use Rattle.dft_replay.specs.declared.verdict.Verdict.{Verdict}
+use Rattle.dft_replay.specs.declared.verdict.Verdict.TheVariants.{Pass}
+use Rattle.dft_replay.specs.Rows.{Row, rows_of, ports_of}
+use Rattle.dft_replay.specs.Verdicts.{decided, HasVerdict}
+
+-- ---- maps as lists
+
+-- the value at a place; Unknown past the end
+abbrev pub value_at : List Tri → ℕ → Tri
+value_at [] c = Unknown
+value_at (t ∷ ts) zero = t
+value_at (t ∷ ts) (suc c) = value_at ts c
+
+-- the first values of a map, so many
+abbrev pub table : (count : ℕ) → (ℕ → Tri) → List Tri
+table zero f = []
+table (suc count) f = f 0 ∷ table count (λ c. f (suc c))
+
+-- ---- levels
+
+-- the values of a strobe and of the views from so many levels of drivers
+abbrev pub strobe_values : Logic → Vector → (old : ℕ → Tri) → (levels net : ℕ) → Tri
+strobe_values l x old zero net = Unknown
+strobe_values l x old (suc levels) net =
+    value_given (strobe_sources l x old (strobe_values l x old levels)) (strobe_values l x old levels) net (l.net net)
+
+abbrev pub view_values : Logic → Pulse → (poss : ℕ → Tri) → (levels domain net : ℕ) → Tri
+view_values l p poss zero d net = Unknown
+view_values l p poss (suc levels) d net =
+    value_given (view_sources l p poss (view_values l p poss levels) d) (view_values l p poss levels d) net (l.net net)
+
+-- ---- rounds
+
+-- how much is looked at: so many levels of drivers, and the cells below a number
+pub record Size : Type 0 where
+  pub levels : ℕ
+  pub cells : ℕ
+
+-- a cell's value, joined with its next value where its domain pulses
+abbrev pub raised_value : Logic → Pulse → (poss : ℕ → Tri) → (view : ℕ → ℕ → Tri) → (cell : ℕ) → Tri
+raised_value l p poss view c = if p.pulsed (l.cell c).domain then join (poss c) (next_value l p view c) else poss c
+
+abbrev pub raised : Logic → Pulse → Size → List Tri → List Tri
+raised l p s poss = table s.cells (raised_value l p (value_at poss) (view_values l p (value_at poss) s.levels))
+
+-- the map after so many rounds
+abbrev pub raised_by : Logic → Pulse → Size → (rounds : ℕ) → List Tri → List Tri
+raised_by l p s zero poss = poss
+raised_by l p s (suc rounds) poss = raised_by l p s rounds (raised l p s poss)
+
+-- the map of a pulse: no cell rises twice, so there are as many rounds as cells
+abbrev pub plain_map : Logic → Pulse → Size → List Tri
+plain_map l p s = raised_by l p s s.cells (table s.cells p.old)
+
+-- ---- vectors
+
+abbrev pub or_later : Option Verdict → Verdict → Verdict
+or_later None later = later
+or_later (Some d) later = d
+
+-- what a vector comes to at a map, where the vectors after it come to `later` of the values of the flip-flops
+abbrev pub plain_at : Logic → Size → (vector : ℕ) → Row → (old poss : List Tri) → (later : List Tri → Verdict) → Verdict
+plain_at l s v x old poss later =
+    or_later (decided (strobe_values l x.vector (value_at old) s.levels) v x.compared)
+    (later (table s.cells (after_pulse l (pulse_of l x.vector (value_at old)) (view_values l (pulse_of l x.vector (value_at old)) (value_at poss) s.levels))))
+
+abbrev pub plain_from : Logic → Size → (old : List Tri) → (vector compared : ℕ) → List Row → Verdict
+plain_from l s old v compared [] = Pass compared
+plain_from l s old v compared (x ∷ xs) =
+    plain_at l s v x old (plain_map l (pulse_of l x.vector (value_at old)) s) (λ next. plain_from l s next (suc v) (compared + length x.compared) xs)
+
+abbrev pub size_of : Netlist → Size
+size_of n = record { levels = suc (length n.nets); cells = length n.instances }
+
+abbrev pub plain_verdict : Netlist → Patterns → Verdict
+plain_verdict n p = plain_from (logic_of n (ports_of n p)) (size_of n) [] 0 0 (rows_of n p)
+
+-- Patterns have a verdict on every design with an order, and the plain replay gives it.
+abbrev pub VerdictIsPlain : Type 0
+VerdictIsPlain = (n : Netlist) (rank : ℕ → ℕ) (p : Patterns) → IsOrdered n rank → HasVerdict n p (plain_verdict n p)

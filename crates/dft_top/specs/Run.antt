@@ -1,0 +1,74 @@
+-- What a run promises, by its status.
+use Rattle.std.specs.Prelude.{ℕ, ◌≡◌, ◌⊎◌, List, Option, None, Some}
+use Rattle.dft_base.specs.Outside.{Held, Told, Rose}
+use Rattle.dft_base.specs.Put.{Adds, AddsPrefix}
+use Rattle.dft_top.specs.declared.answer.Status.{Status}
+use Rattle.dft_top.specs.declared.answer.Status.TheVariants.{Done, NotPassed, Usage, Refused, ReadFault, WriteFault, OutOfMemory}
+use Rattle.dft_top.specs.declared.answer.Answer.{Answer}
+use Rattle.dft_top.specs.declared.answer.Refusal.{Refusal}
+use Rattle.dft_top.specs.declared.outcome.Outcome.{Outcome}
+use Rattle.dft_top.specs.declared.outcome.Outcome.TheVariants as outcome
+use Rattle.dft_top.specs.Words.{ReplayFiles, files_named}
+use Rattle.dft_top.specs.Outcomes.{IsOutcome, HasTurn, IsNamed, PassesNamed}
+use Rattle.dft_top.specs.Lines.{line_of}
+
+abbrev pub status_of : Outcome → Status
+status_of outcome.Usage = Usage
+status_of (outcome.Refused refusal) = Refused
+status_of (outcome.Passed vectors compared) = Done
+status_of (outcome.Mismatch vector signal) = NotPassed
+status_of (outcome.Undetermined vector signal) = NotPassed
+
+abbrev pub refusal_of : Outcome → Option Refusal
+refusal_of outcome.Usage = None
+refusal_of (outcome.Refused refusal) = Some refusal
+refusal_of (outcome.Passed vectors compared) = None
+refusal_of (outcome.Mismatch vector signal) = None
+refusal_of (outcome.Undetermined vector signal) = None
+
+-- the answer of an outcome
+abbrev pub answer_of : Outcome → Answer
+answer_of o = record { status = status_of o; refusal = refusal_of o }
+
+-- an answer that stands for no outcome
+abbrev pub stopped : Status → Answer
+stopped status = record { status = status; refusal = None }
+
+-- whether words that name files are those of this outcome: Usage is that of the others
+abbrev pub Suits : Option ReplayFiles → Outcome → Type 0
+Suits None o = o ≡ outcome.Usage
+Suits (Some files) o = o ≡ outcome.Usage → ⊥
+
+-- the outcome is that of the words, and of the held files where they are told
+abbrev pub IsOutcomeTold : List (List ℕ) → Option Held → Outcome → Type 0
+IsOutcomeTold words held o = Suits (files_named words) o × Told (λ files. IsOutcome words files o) held
+
+-- the answer is that of the outcome, whose line was put
+abbrev pub Answers : List (List ℕ) → Option Held → (old new : Option (List ℕ)) → Answer → Type 0
+Answers words held old new answer = (o : Outcome) × (IsOutcomeTold words held o × (answer ≡ answer_of o) × Adds (line_of o) old new)
+
+-- a load of a file whose turn came failed, and nothing was printed
+abbrev pub ReadFails : List (List ℕ) → Option Held → (failed : List ℕ) → (faults faults' : ℕ) → (old new : Option (List ℕ)) → Answer → Type 0
+ReadFails words held failed faults faults' old new answer =
+    Rose faults faults' × IsNamed (files_named words) failed × Told (λ files. HasTurn (files_named words) files failed) held × (new ≡ old) × (answer ≡ stopped ReadFault)
+
+-- the line of the outcome could not be put whole
+abbrev pub WriteFails : List (List ℕ) → Option Held → (faults faults' : ℕ) → (old new : Option (List ℕ)) → Answer → Type 0
+WriteFails words held faults faults' old new answer =
+    Rose faults faults' × ((o : Outcome) × (IsOutcomeTold words held o × AddsPrefix (line_of o) old new)) × (answer ≡ stopped WriteFault)
+
+-- memory ran out, and nothing was printed
+abbrev pub RunsOut : (old new : Option (List ℕ)) → Answer → Type 0
+RunsOut old new answer = (new ≡ old) × (answer ≡ stopped OutOfMemory)
+
+-- where patterns pass, every run shows each compared bit as printed
+abbrev pub PassesTold : List (List ℕ) → Option Held → Answer → Type 0
+PassesTold words held answer = answer.status ≡ Done → Told (PassesNamed (files_named words)) held
+
+-- a run ends in one of four ways
+abbrev pub Ends : List (List ℕ) → Option Held → (failed : List ℕ) → (read_faults read_faults' put_faults put_faults' : ℕ) → (old new : Option (List ℕ)) → Answer → Type 0
+Ends words held failed read_faults read_faults' put_faults put_faults' old new answer =
+    Answers words held old new answer
+    ⊎ ReadFails words held failed read_faults read_faults' old new answer
+    ⊎ WriteFails words held put_faults put_faults' old new answer
+    ⊎ RunsOut old new answer

@@ -1,0 +1,17 @@
+use crate::answer::Refusal;
+use dft_base::Name;
+
+/// What a command comes to where nothing outside fails and memory is found. Vectors are numbered from 0.
+#[derive(Debug, Drop)]
+pub enum Outcome {
+    /// The words are no command.
+    Usage,
+    /// A file is refused.
+    Refused(Refusal),
+    /// Every compared bit is known and as printed.
+    Passed { vectors: u32, compared: u64 },
+    /// The first compared bit that is not known to be as printed is the opposite, at this signal.
+    Mismatch { vector: u32, signal: Name },
+    /// The first compared bit that is not known to be as printed is not known, at this signal.
+    Undetermined { vector: u32, signal: Name },
+}
