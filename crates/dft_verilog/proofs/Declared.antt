@@ -1,5 +1,5 @@
 -- Where there are as many directions as names, all names are declared if each direction is known.
-use Rattle.std.proofs.Common.{◌≡◌, ℕ, suc, List, [], ◌∷◌, length, Option, None, Some, is_some, refl, arith}
+use Rattle.std.proofs.Common.{◌≡◌, List, [], ◌∷◌, length, Option, None, Some, is_some, refl, arith}
 use Rattle.std.specs.List.{list_all}
 use Rattle.dft_netlist.specs.declared.port.Dir.{Dir}
 use Rattle.dft_netlist.specs.Tokens.{Text}

@@ -1,6 +1,5 @@
-use Rattle.std.proofs.Common.{rules, ◌≡◌, ◌<◌, length, take, ap, sym, arith}
+use Rattle.std.proofs.Common.{length, take, ap, sym, arith}
 use Rattle.std.proofs.lemmas.Grind.{common_steps}
-use Rattle.dft_netlist.specs.FirstForm as spec
 use Rattle.dft_verilog.proofs.Ports.{length-ports_from, port_added}
 use Rattle.dft_verilog.proofs.building.add_ports.Goals as goal
 
