@@ -4,3 +4,5 @@ pub mod Rows
 pub mod Verdicts
 pub mod Fits
 pub mod Laws
+pub mod Origins
+pub mod Machine

@@ -2,6 +2,9 @@
 #![tactic(auto)]
 
 mod laws;
+mod machine;
+mod origin;
+mod search;
 mod verdict;
 
 pub use laws::{mismatch_is_sound, pass_is_sound, verdict_is_one};
