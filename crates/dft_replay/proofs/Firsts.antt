@@ -1,7 +1,7 @@
 -- The first place in a list that passes a test, and what a vector does at the first signal with a name.
 use Rattle.std.proofs.Common.{ℕ, zero, suc, ◌+◌, ◌<◌, Bool, true, false, not, cond, List, [], ◌∷◌, ◌≡◌, refl, sym, ap, ◌∙◌, length, Option, None, Some, slice_get, arith, subst}
-use Rattle.std.specs.Prelude.{position, if◌then◌else◌}
-use Rattle.std.specs.List.{position_or_len, nat_lt}
+use Rattle.std.specs.Prelude.{position, nat_lt, if◌then◌else◌}
+use Rattle.std.specs.List.{position_or_len}
 use Rattle.std.specs.Str.{bytes_eq}
 use Rattle.std.proofs.lemmas.Bool.{lt-ltb, le-ltb, ltb-true, ltb-false}
 use Rattle.dft_stil.specs.declared.act.Act.{Act}
@@ -16,12 +16,12 @@ later None = None
 later (Some i) = Some (suc i)
 
 position_step : (here : Bool) (rest len : ℕ) → cond (nat_lt (cond (not here) (1 + rest) 0) (suc len)) (Some (cond (not here) (1 + rest) 0)) None ≡ (if here then Some 0 else later (cond (nat_lt rest len) (Some rest) None))
-position_step true rest len = refl
+position_step true rest len = let e : nat_lt 0 (suc len) ≡ true = lt-ltb 0 (suc len) (omega arith) in rw e refl
 position_step false rest len = shifted (nat_lt rest len) refl
   where
     shifted : (b : Bool) → nat_lt rest len ≡ b → cond (nat_lt (1 + rest) (suc len)) (Some (1 + rest)) None ≡ later (cond (nat_lt rest len) (Some rest) None)
-    shifted true h = ?
-    shifted false h = ?
+    shifted true h = let e : nat_lt (1 + rest) (suc len) ≡ true = lt-ltb (1 + rest) (suc len) (omega (arith, ltb-true rest len h)) in let one : 1 + rest ≡ suc rest = omega arith in rw (e, h) (ap (λ (k : ℕ). Some k) one)
+    shifted false h = let e : nat_lt (1 + rest) (suc len) ≡ false = le-ltb (1 + rest) (suc len) (omega (arith, ltb-false rest len h)) in rw (e, h) refl
 
 pub position_more : {X : Type 0} → (p : X → Bool) (x : X) (xs : List X) → position p (x ∷ xs) ≡ (if p x then Some 0 else later (position p xs))
 position_more p x xs = position_step (p x) (position_or_len p xs) (length xs)
@@ -37,12 +37,12 @@ first_more p x xs false (Some i) here ih = ih
 first_more {X} p x xs false None here ih = each
   where
     each : (i : ℕ) (y : X) → slice_get (x ∷ xs) i ≡ Some y → p y ≡ false
-    each zero y at = let e : x ≡ y = cc in rw sym e here
+    each zero y at = let e : x ≡ y = cc in rw (sym e) here
     each (suc i) y at = ih i y at
 
 pub position_is_first : {X : Type 0} → (p : X → Bool) (xs : List X) → IsFirstPlace p xs (position p xs)
 position_is_first p [] = λ i x at. absurd cc
-position_is_first p (x ∷ xs) = rw position_more p x xs (first_more p x xs (p x) (position p xs) refl (position_is_first p xs))
+position_is_first p (x ∷ xs) = rw (position_more p x xs) (first_more p x xs (p x) (position p xs) refl (position_is_first p xs))
 
 -- ---- acts
 
@@ -68,5 +68,5 @@ pub named_is_placed : (name : List ℕ) (signals : List StilSignal) (acts : List
 named_is_placed name [] acts = refl
 named_is_placed name (s ∷ signals) [] = sym (placed_empty (position (λ s. bytes_eq s.name name) (s ∷ signals)))
 named_is_placed name (s ∷ signals) (act ∷ acts) =
-    rw position_more (λ (s : StilSignal). bytes_eq s.name name) s signals
+    rw (position_more (λ (s : StilSignal). bytes_eq s.name name) s signals)
     (named_step (bytes_eq s.name name) (position (λ s. bytes_eq s.name name) signals) (act_named name signals acts) act acts (named_is_placed name signals acts))

@@ -4,8 +4,10 @@
 mod laws;
 mod machine;
 mod origin;
+mod replayer;
 mod search;
 mod verdict;
 
 pub use laws::{mismatch_is_sound, pass_is_sound, verdict_is_one};
+pub use replayer::replay;
 pub use verdict::Verdict;
