@@ -6,7 +6,6 @@ use Rattle.std.specs.Str.{bytes_eq}
 use Rattle.std.proofs.lemmas.Bool.{eqb-true, eq-eqb}
 use Rattle.std.proofs.lemmas.Option.{slice_get-map}
 use Rattle.std.proofs.lemmas.Slice.Eq.{bytes_eq-Decides}
-use Rattle.dft_cells.specs.declared.cell.Cell.{Cell}
 use Rattle.dft_cells.specs.Standard.{standard_cells}
 use Rattle.dft_cells.specs.FlipFlops.{is_flip_flop}
 use Rattle.dft_cells.specs.declared.kind.Role.TheVariants as role
@@ -15,7 +14,7 @@ use Rattle.dft_netlist.specs.declared.port.Dir.TheVariants as dir
 use Rattle.dft_netlist.specs.declared.instance.Instance.{Instance}
 use Rattle.dft_netlist.specs.declared.instance.Signal.TheVariants as signal
 use Rattle.dft_netlist.specs.Netlist.{Netlist}
-use Rattle.dft_netlist.specs.Drivers.{Driver, Driven, Input, Flop, Free, Source, Net, Connection, driver_in, driven_by, driven_by_bits, driven_by_ports, driven_by_instances, all_driven, driver, connections_of, pins_at, pins_of, kind_of, kind_at, nets_read, AreBelow}
+use Rattle.dft_netlist.specs.Drivers.{Driven, Input, Flop, Free, Source, Net, driver_in, driven_by, driven_by_bits, driven_by_ports, driven_by_instances, driver, connections_of, pins_at, pins_of, kind_of, kind_at, nets_read, AreBelow}
 use Rattle.dft_netlist.specs.FirstForm.{FlipFlop, Draft, dir_at, instance_of, is_well_joined, have_one_clock, is_driven, drive_apart, outputs_driven, all_declared, are_distinct, is_input, is_output, are_well_named, are_clocked, are_driven, is_sound, dir_or_input, ports_from, flat_netlist, form_of, first_form, module_text, most_bytes}
 use Rattle.dft_netlist.specs.Rules.{Outcome}
 use Rattle.dft_netlist.specs.Tokens.{tokens}
@@ -242,11 +241,15 @@ driven_as : (draft : Draft) (net : ℕ) (d : Option Dir) → Says draft → dir_
 driven_as draft net (Some dir.Input) s is = inl (input_driver draft net s is)
 driven_as draft net (Some dir.Output) s is =
     let found = driver_place draft.flip_flops net (ap (is_driven draft.flip_flops) (let e : net ≡ 0 + net = omega arith in e) ∙ output_driven draft.flip_flops 0 draft.dirs net s.outputs is) in
-    inr (inl (found.0, found.1, record {
-      there = found.2.0;
-      output = found.2.1;
-      driven = ap (driver (flat_netlist draft)) (sym found.2.1) ∙ output_driver draft found.0 found.1 s found.2.0;
-    }))
+    inr (inl (
+      found.0,
+      found.1,
+      record {
+        there = found.2.0;
+        output = found.2.1;
+        driven = ap (driver (flat_netlist draft)) (sym found.2.1) ∙ output_driver draft found.0 found.1 s found.2.0;
+      },
+    ))
 driven_as draft net None s is =
     let past = declared_here draft.names draft.dirs net s.declared is in
     inr (inr (past, other_driver draft net (λ live. absurd (omega arith)) ∙ flops_pass 0 draft.flip_flops net (not_driven draft net s is)))

@@ -4,7 +4,7 @@ use Rattle.std.specs.Prelude.{if◌then◌else◌}
 use Rattle.dft_base.specs.declared.tri.Tri.{Tri}
 use Rattle.dft_base.specs.declared.tri.Tri.TheVariants.{Zero, One, Unknown}
 use Rattle.dft_base.specs.Tri.{known, Above, AboveTri, completed}
-use Rattle.dft_cells.specs.Gates.{bit_of, tri_of, shared}
+use Rattle.dft_cells.specs.Gates.{bit_of}
 use Rattle.dft_cells.specs.Laws.{AllAbove}
 use Rattle.dft_cells.proofs.Completions.{above_known, shared_above, above_self, AllOver, shared_monotone}
 use Rattle.dft_netlist.specs.Drivers.{Source, Net, Tied, Loose, nets_of, AreBelow}

@@ -1,5 +1,5 @@
 -- Exactly one settled assignment, by the rank of a net.
-use Rattle.std.proofs.Common.{ℕ, Bool, true, false, List, [], ◌∷◌, ◌≡◌, ◌<◌, zero, suc, refl, sym, ap, arith, map, ◌∙◌}
+use Rattle.std.proofs.Common.{ℕ, Bool, false, List, [], ◌∷◌, ◌≡◌, ◌<◌, zero, suc, refl, sym, ap, arith, map, ◌∙◌}
 use Rattle.std.specs.Prelude.{if◌then◌else◌}
 use Rattle.dft_cells.specs.Gates.{bit_of}
 use Rattle.dft_netlist.specs.Drivers.{Source, Net, Tied, Loose, nets_of, AreBelow}

@@ -1,14 +1,13 @@
 -- Walks back, the roots that they find, and the bits there.
-use Rattle.std.proofs.Common.{ℕ, Bool, true, false, List, [], ◌∷◌, ◌≡◌, ◌<◌, zero, suc, refl, sym, ap, arith, map, length, ◌∙◌}
+use Rattle.std.proofs.Common.{ℕ, Bool, List, [], ◌∷◌, ◌≡◌, ◌<◌, zero, suc, refl, ap, arith, map, length, ◌∙◌}
 use Rattle.dft_cells.specs.declared.kind.Kind.{Kind}
-use Rattle.dft_cells.specs.declared.kind.Kind.TheVariants.{Buf, Inv, And, Nand, Or, Nor, Xor, Xnor, Mux2, Table, Tie0, Tie1, Dff, Dffr, Dffs, Sdff, Sdffr, Sdffs, Opaque}
-use Rattle.dft_cells.specs.declared.kind.Kind.TheVariants as kind
+use Rattle.dft_cells.specs.declared.kind.Kind.TheVariants.{Buf, Tie0, Tie1}
 use Rattle.dft_cells.specs.Gates.{bit_of}
 use Rattle.dft_netlist.specs.Netlist.{Netlist}
 use Rattle.dft_netlist.specs.Drivers.{Source, Net, Tied, Loose, Driver, Input, Gate, Joined, Flop, Lockup, Free, driver, nets_of, nets_read, AreBelow, IsOrdered}
 use Rattle.dft_netlist.specs.Traces.{Root, Port, Constant, Other, Passed, From, Bit, Nothing, passed_by_buffer, passed_by_gate, Traces, AtPort, AtConstant, AtTie, ThroughBuffer, ThroughJoin, root_of_passed, root_of_driver, root_within, root_of}
-use Rattle.dft_netlist.specs.Logic.{Ports, meaning_of, logic_of}
-use Rattle.dft_netlist.specs.Settled.{Sources, bit_from, bit_given, IsSettled}
+use Rattle.dft_netlist.specs.Logic.{meaning_of}
+use Rattle.dft_netlist.specs.Settled.{bit_from, bit_given}
 use Rattle.dft_netlist.specs.Laws.{WalkFindsRoot, PortIsFound, ConstantIsFound, TracedBit, TracedConstant}
 
 -- ---- what a gate passes on

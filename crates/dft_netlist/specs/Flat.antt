@@ -1,8 +1,8 @@
 -- Flat netlists: scalar ports, and flip-flops of one clock that join them.
-use Rattle.std.specs.Prelude.{ℕ, ◌<◌, ◌≤◌, ◌≡◌, ◌⊎◌, Bool, false, List, [], ◌∷◌, length, map, Option, None, Some, slice_get, slice_index_or, if◌then◌else◌}
+use Rattle.std.specs.Prelude.{ℕ, ◌<◌, ◌≤◌, ◌≡◌, ◌⊎◌, false, List, [], length, map, Option, None, Some, slice_get, slice_index_or, if◌then◌else◌}
 use Rattle.dft_cells.specs.declared.kind.Role.TheVariants.{Clock}
 use Rattle.dft_netlist.specs.Netlist.{Netlist}
-use Rattle.dft_netlist.specs.Drivers.{Driver, Input, Flop, Free, Net, driver, pins_of, IsOrdered}
+use Rattle.dft_netlist.specs.Drivers.{Input, Flop, Free, Net, driver, pins_of, IsOrdered}
 use Rattle.dft_netlist.specs.Logic.{Ports, Cell, flip_flop, pin_of}
 use Rattle.dft_netlist.specs.FirstForm.{FlipFlop, instance_of, first_form}
 

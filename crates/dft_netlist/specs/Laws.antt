@@ -1,8 +1,7 @@
 -- Laws of designs: an order gives one settled assignment, and walks find the roots.
 use Rattle.std.specs.Prelude.{ℕ, Bool, ◌≡◌}
-use Rattle.dft_base.specs.declared.tri.Tri.{Tri}
 use Rattle.dft_netlist.specs.Netlist.{Netlist}
-use Rattle.dft_netlist.specs.Drivers.{Source, Net, IsOrdered}
+use Rattle.dft_netlist.specs.Drivers.{Source, IsOrdered}
 use Rattle.dft_netlist.specs.Traces.{Root, Port, Constant, Traces, root_of}
 use Rattle.dft_netlist.specs.Logic.{Logic, Ports, logic_of, IsRanked}
 use Rattle.dft_netlist.specs.Settled.{Sources, bit_from, IsSettled}

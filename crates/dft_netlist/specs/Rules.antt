@@ -1,5 +1,5 @@
 -- The steps of the rules of netlist texts. A rule looks at the next token; a text has no fault but that it is not of the form.
-use Rattle.std.specs.Prelude.{ℕ, Bool, true, false, List, [], ◌∷◌, if◌then◌else◌, Option, Some, None, Result, Ok, Err}
+use Rattle.std.specs.Prelude.{ℕ, Bool, true, false, List, [], ◌∷◌, if◌then◌else◌, Option, Some, None, Ok, Err}
 use Rattle.std.specs.Str.{bytes_eq}
 use Rattle.dft_base.specs.Words.{needs_escape}
 use Rattle.dft_base.specs.Parser as parser

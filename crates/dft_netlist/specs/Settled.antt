@@ -1,5 +1,5 @@
 -- Settled assignments: every net has the bit that its driver gives it, over bits and over three-valued bits.
-use Rattle.std.specs.Prelude.{ℕ, Bool, true, false, not, ◌≡◌, if◌then◌else◌, map}
+use Rattle.std.specs.Prelude.{ℕ, Bool, not, ◌≡◌, if◌then◌else◌, map}
 use Rattle.dft_base.specs.declared.tri.Tri.{Tri}
 use Rattle.dft_base.specs.declared.tri.Tri.TheVariants.{Zero, One, Unknown}
 use Rattle.dft_base.specs.Tri.{known}

@@ -73,7 +73,12 @@ impl DesignBuilder {
     }
 
     /// Adds an instance of a cell. Its pins follow the order of the cell's pins.
-    pub fn instance(&mut self, name: Option<Name>, cell: CellRef, pins: PinSignals) -> Result<InstanceId, AllocError>
+    pub fn instance(
+        &mut self,
+        name: Option<Name>,
+        cell: CellRef,
+        pins: PinSignals,
+    ) -> Result<InstanceId, AllocError>
         requires { length self.old.instances < MAX_INSTANCES }
         ensures ok { IfOk result (λ id. WithInstance self.old (record { name = name; cell = cell; pins = pins }) id self.new) }
         ensures err { OnErr result (self.new ≡ self.old) }
@@ -88,6 +93,13 @@ impl DesignBuilder {
     pub fn finish(self) -> Design
         ensures { result ≡ self }
     {
-        Design::from_parts(self.name, self.library, self.ports, self.nets, self.instances, Vec::new(self.alloc))
+        Design::from_parts(
+            self.name,
+            self.library,
+            self.ports,
+            self.nets,
+            self.instances,
+            Vec::new(self.alloc),
+        )
     }
 }

@@ -8,7 +8,9 @@ use crate::flip_flop::FlipFlop;
 use crate::reader::MAX_BYTES;
 use dft_base::Name;
 use dft_cells::{CellId, Library};
-use dft_netlist::{CellRef, Design, DesignBuilder, Dir, MAX_INSTANCES, MAX_NETS, MAX_PORTS, PinSignals, Signal};
+use dft_netlist::{
+    CellRef, Design, DesignBuilder, Dir, MAX_INSTANCES, MAX_NETS, MAX_PORTS, PinSignals, Signal,
+};
 use std::alloc::{AllocError, Global};
 
 /// What the pins CK, D, Q and QN are joined to.
@@ -24,7 +26,12 @@ fn pins(alloc: Global, flip_flop: &FlipFlop) -> Result<PinSignals, AllocError>
 }
 
 /// Adds the port of this name. Each name was declared, so it has a direction.
-fn add_port(alloc: Global, builder: &mut DesignBuilder, name: &Name, dir: Option<Dir>) -> Result<(), AllocError>
+fn add_port(
+    alloc: Global,
+    builder: &mut DesignBuilder,
+    name: &Name,
+    dir: Option<Dir>,
+) -> Result<(), AllocError>
     requires ports { length builder.old.ports < MAX_PORTS }
     requires nets { length builder.old.nets < MAX_NETS }
     ensures { OnOk result (builder.new ≡ spec.with_port builder.old name.now dir) }
@@ -35,7 +42,12 @@ fn add_port(alloc: Global, builder: &mut DesignBuilder, name: &Name, dir: Option
 }
 
 /// The ports of these names, with these directions.
-fn add_ports(alloc: Global, builder: &mut DesignBuilder, names: &[Name], dirs: &[Option<Dir>]) -> Result<(), AllocError>
+fn add_ports(
+    alloc: Global,
+    builder: &mut DesignBuilder,
+    names: &[Name],
+    dirs: &[Option<Dir>],
+) -> Result<(), AllocError>
     requires empty { builder.old.ports ≡ [] }
     requires no_nets { builder.old.nets ≡ [] }
     requires few { length names.now ≤ MAX_BYTES }
@@ -49,7 +61,12 @@ fn add_ports(alloc: Global, builder: &mut DesignBuilder, names: &[Name], dirs: &
 }
 
 /// Adds the instance of a flip-flop.
-fn add_flip_flop(alloc: Global, builder: &mut DesignBuilder, cell: CellId, flip_flop: &FlipFlop) -> Result<(), AllocError>
+fn add_flip_flop(
+    alloc: Global,
+    builder: &mut DesignBuilder,
+    cell: CellId,
+    flip_flop: &FlipFlop,
+) -> Result<(), AllocError>
     requires few { length builder.old.instances < MAX_INSTANCES }
     requires cell { cell ≡ spec.dff }
     ensures { OnOk result (builder.new ≡ record builder.old { instances = builder.old.instances ++ spec.instance_of flip_flop.now ∷ [] }) }
@@ -60,7 +77,12 @@ fn add_flip_flop(alloc: Global, builder: &mut DesignBuilder, cell: CellId, flip_
 }
 
 /// An instance of the cell for each of the flip-flops.
-fn add_flip_flops(alloc: Global, builder: &mut DesignBuilder, cell: CellId, flip_flops: &[FlipFlop]) -> Result<(), AllocError>
+fn add_flip_flops(
+    alloc: Global,
+    builder: &mut DesignBuilder,
+    cell: CellId,
+    flip_flops: &[FlipFlop],
+) -> Result<(), AllocError>
     requires empty { builder.old.instances ≡ [] }
     requires few { length flip_flops.now ≤ MAX_BYTES }
     requires cell { cell ≡ spec.dff }

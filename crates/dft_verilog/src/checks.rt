@@ -71,7 +71,9 @@ fn is_well_joined(dirs: &[Option<Dir>], flip_flop: &FlipFlop) -> bool
 fn are_well_joined(dirs: &[Option<Dir>], flip_flops: &[FlipFlop]) -> bool
     ensures { result ≡ list_all (spec.is_well_joined dirs.now) flip_flops.now }
 {
-    flip_flops.iter().all(|flip_flop| is_well_joined(dirs, flip_flop))
+    flip_flops
+        .iter()
+        .all(|flip_flop| is_well_joined(dirs, flip_flop))
 }
 
 fn have_clock(flip_flops: &[FlipFlop], clock: NetId) -> bool

@@ -61,7 +61,11 @@ fn declared_net(draft: &Draft, tokens: &mut Tokens<'_>) -> Result<NetId, Verilog
 
 #[tactic(auto, unfolding(dft_netlist::specs::FirstForm::connection))]
 /// One pin more is joined to a net.
-fn connection(draft: &Draft, joined: &mut Joined, tokens: &mut Tokens<'_>) -> Result<(), VerilogError>
+fn connection(
+    draft: &Draft,
+    joined: &mut Joined,
+    tokens: &mut Tokens<'_>,
+) -> Result<(), VerilogError>
     ensures { Reads (λ _. joined.new) (spec.connection draft.now joined.old tokens.old) result tokens.new }
 {
     tokens.expect(b".")?;
@@ -102,7 +106,11 @@ fn fresh_name(alloc: Global, draft: &Draft, tokens: &mut Tokens<'_>) -> Result<N
 }
 
 #[tactic(auto, unfolding(dft_netlist::specs::FirstForm::flip_flop_item))]
-fn flip_flop_item(alloc: Global, draft: &mut Draft, tokens: &mut Tokens<'_>) -> Result<(), VerilogError>
+fn flip_flop_item(
+    alloc: Global,
+    draft: &mut Draft,
+    tokens: &mut Tokens<'_>,
+) -> Result<(), VerilogError>
     ensures draft { Reads (λ _. draft.new) (spec.flip_flop_item draft.old tokens.old) result tokens.new }
     ensures more { OnOk result (length draft.new.flip_flops ≤ length draft.old.flip_flops + 1) }
 {

@@ -11,7 +11,9 @@ fn word_len(text: &[u8]) -> usize
     ensures value { result ≡ prefix_len continues_word text.now }
     ensures within { result ≤ length text.now }
 {
-    text.iter().take_while(|byte| continues_word(**byte)).count()
+    text.iter()
+        .take_while(|byte| continues_word(**byte))
+        .count()
 }
 
 #[tactic(auto, unfolding(dft_netlist::specs::Tokens::cut))]

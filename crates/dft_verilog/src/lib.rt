@@ -1,6 +1,7 @@
 //! Reads netlists from Verilog texts (IEEE 1364).
 #![tactic(auto)]
 
+mod building;
 mod checks;
 mod draft;
 mod error;
@@ -8,7 +9,6 @@ mod flip_flop;
 mod heading;
 mod items;
 mod lex;
-mod building;
 mod reader;
 #[cfg(test)]
 mod tests;

@@ -3,12 +3,12 @@ ghost use Rattle.dft_netlist.specs.FirstForm as spec;
 ghost use Rattle.dft_netlist.specs.FirstForm.{first_form};
 ghost use Rattle.dft_verilog.specs.Reads.{Reads};
 
+use crate::building::netlist;
 use crate::checks::is_sound;
 use crate::draft::Draft;
 use crate::error::VerilogError;
 use crate::heading::heading;
 use crate::items::items;
-use crate::building::netlist;
 use crate::tokens::Tokens;
 use dft_netlist::Design;
 use std::alloc::Global;

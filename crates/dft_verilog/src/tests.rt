@@ -5,7 +5,9 @@ use std::test::Fail;
 #[test]
 fn the_least_netlist_is_read(rt: HostRuntime) -> Result<(), Fail> {
     let text = b"module m (c, d, q); input c, d; output q; DFF f (.CK(c), .D(d), .Q(q)); endmodule";
-    let design = read(rt.alloc(), text).ok().ok_or("the text is of the form")?;
+    let design = read(rt.alloc(), text)
+        .ok()
+        .ok_or("the text is of the form")?;
     assert_eq!(rt; design.module().as_slice(), b"m".as_slice());
     assert_eq!(rt; design.net_count(), 3);
     assert_eq!(rt; design.ports().len(), 3);
@@ -19,7 +21,17 @@ fn the_least_netlist_is_read(rt: HostRuntime) -> Result<(), Fail> {
         assert!(rt; port.name.as_slice() == name.as_slice() && port.dir == dir);
     }
     for instance in design.instances() {
-        assert!(rt; matches!(instance.pins.as_slice(), [Signal::Net(NetId(0)), Signal::Net(NetId(1)), Signal::Net(NetId(2)), Signal::Unconnected]));
+        assert!(rt;
+            matches!(
+                instance.pins.as_slice(),
+                [
+                    Signal::Net(NetId(0)),
+                    Signal::Net(NetId(1)),
+                    Signal::Net(NetId(2)),
+                    Signal::Unconnected
+                ]
+            )
+        );
     }
     Ok(())
 }
