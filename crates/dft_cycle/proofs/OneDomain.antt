@@ -1,5 +1,5 @@
 -- Without lock-ups, where one domain pulses at most, its view is the strobe.
-use Rattle.std.proofs.Common.{ℕ, Bool, true, false, List, [], ◌∷◌, ◌≡◌, ◌==◌, ◌⊎◌, inl, inr, refl, sym, ap, ◌∙◌, Option, None, Some}
+use Rattle.std.proofs.Common.{ℕ, Bool, true, false, ◌≡◌, ◌==◌, refl, sym, ap, ◌∙◌, Option, None, Some}
 use Rattle.std.specs.Prelude.{if◌then◌else◌}
 use Rattle.std.proofs.lemmas.Bool.{eq-eqb}
 use Rattle.dft_base.specs.declared.tri.Tri.{Tri}
@@ -8,11 +8,10 @@ use Rattle.dft_base.specs.Tri.{AboveTri, join}
 use Rattle.dft_cells.proofs.Completions.{above_self, join_least, join_over_left, join_over_right}
 use Rattle.dft_netlist.specs.Drivers.{Source, Net, Tied, Loose}
 use Rattle.dft_netlist.specs.Logic.{Logic, Scan, IsRanked}
-use Rattle.dft_netlist.specs.Settled.{TriSources, value_from, IsTriSettled}
+use Rattle.dft_netlist.specs.Settled.{value_from, IsTriSettled}
 use Rattle.dft_netlist.specs.Runs.{Vector}
-use Rattle.dft_cycle.specs.Cycle.{Pulse, tri_forced_by, tri_taken_by, view_sources, AreViews, next_value, IsClosed, after_pulse, pulse_of, strobe_sources, Round}
+use Rattle.dft_cycle.specs.Cycle.{Pulse, tri_forced_by, tri_taken_by, view_sources, AreViews, next_value, pulse_of, strobe_sources, Round}
 use Rattle.dft_cycle.specs.Laws.{HasNoLockup, next_from, OneDomain}
-use Rattle.dft_cycle.proofs.Pulses.{cases}
 use Rattle.dft_cycle.proofs.Views.{views_exist, settled_same}
 
 source_equal : (v w : ℕ → Tri) (source : Source) → ((net : ℕ) → v net ≡ w net) → value_from v source ≡ value_from w source
@@ -80,18 +79,22 @@ one_domain l rank x d old values ranked none one settled =
     let view : ℕ → ℕ → Tri = found.0 in
     let next_at : (other : ℕ → Tri) (its : ℕ → ℕ → Tri) → AreViews l p other its → (c : ℕ) → x.pulsed (l.cell c).domain ≡ true → next_value l p its c ≡ next c =
     λ other its views c pulsed. next_is l x old values its c (λ net. ap (λ (e : ℕ). its e net) (one (l.cell c).domain pulsed) ∙ view_is_strobe l rank x d old values other its ranked none pulses settled views net) in
-    let r : Round = record { strobe = values; poss = poss; view = view } in
-    (r, (refl,
-    record {
-      strobe = settled;
-      least = record {
-        closed = record {
-          views = found.1;
-          old = λ c. raised_old (x.pulsed (l.cell c).domain) (p.old c) (next c);
-          next = λ c pulsed. above_equal _ _ _ (sym (next_at poss view found.1 c pulsed)) (raised_next (x.pulsed (l.cell c).domain) (p.old c) (next c) pulsed);
-        };
-        least = λ other its closed c. raised_least (x.pulsed (l.cell c).domain) (other c) (p.old c) (next c) (closed.old c)
-            (λ pulsed. above_equal _ _ _ (next_at other its closed.views c pulsed) (closed.next c pulsed));
-      };
-    },
-    λ c. chosen_equal (x.pulsed (l.cell c).domain) _ _ _ (next_at poss view found.1 c)))
+    let r : Round = record { strobe = values; poss = poss; view = view } in (
+      r,
+      (
+        refl,
+        record {
+          strobe = settled;
+          least = record {
+            closed = record {
+              views = found.1;
+              old = λ c. raised_old (x.pulsed (l.cell c).domain) (p.old c) (next c);
+              next = λ c pulsed. above_equal _ _ _ (sym (next_at poss view found.1 c pulsed)) (raised_next (x.pulsed (l.cell c).domain) (p.old c) (next c) pulsed);
+            };
+            least = λ other its closed c. raised_least (x.pulsed (l.cell c).domain) (other c) (p.old c) (next c) (closed.old c)
+                (λ pulsed. above_equal _ _ _ (next_at other its closed.views c pulsed) (closed.next c pulsed));
+          };
+        },
+        λ c. chosen_equal (x.pulsed (l.cell c).domain) _ _ _ (next_at poss view found.1 c),
+      ),
+    )

@@ -3,14 +3,13 @@ use Rattle.std.proofs.Common.{ℕ, Bool, true, false, List, [], ◌∷◌, ◌�
 use Rattle.std.specs.Prelude.{if◌then◌else◌}
 use Rattle.std.proofs.lemmas.Bool.{eqb-true, eq-eqb}
 use Rattle.dft_base.specs.declared.tri.Tri.{Tri}
-use Rattle.dft_base.specs.declared.tri.Tri.TheVariants.{Zero, One, Unknown}
-use Rattle.dft_base.specs.Tri.{Above, AboveTri, completed}
-use Rattle.dft_cells.specs.FlipFlops.{forced, chosen, tri_forced, tri_chosen}
+use Rattle.dft_base.specs.declared.tri.Tri.TheVariants.{Zero, Unknown}
+use Rattle.dft_base.specs.Tri.{Above, AboveTri}
 use Rattle.dft_cells.proofs.Completions.{above_self, above_trans, forced_above, chosen_above, forced_again}
-use Rattle.dft_netlist.specs.Drivers.{Source, nets_of, AreBelow}
+use Rattle.dft_netlist.specs.Drivers.{Source}
 use Rattle.dft_netlist.specs.Logic.{Logic, Meaning, Lockup, Force, Scan, IsRanked}
-use Rattle.dft_netlist.specs.Settled.{Sources, bit_from, value_from}
-use Rattle.dft_netlist.specs.Runs.{State, Moment, Now, port_bits, sources_of, IsNow, forced_by, taken_by, next_bit, held_after, rise, at_moment, next_now, after, AreSteps, Edge, rise_step, times}
+use Rattle.dft_netlist.specs.Settled.{bit_from, value_from}
+use Rattle.dft_netlist.specs.Runs.{State, Moment, Now, port_bits, sources_of, IsNow, forced_by, taken_by, held_after, rise, at_moment, next_now, after, AreSteps, Edge, rise_step, times}
 use Rattle.dft_netlist.proofs.Meanings.{completed_above, source_above, source_all, meaning_above, at_net}
 use Rattle.dft_cycle.specs.Cycle.{Pulse, tri_forced_by, tri_taken_by, view_sources, next_value, IsClosed}
 

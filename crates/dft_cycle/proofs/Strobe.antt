@@ -1,5 +1,5 @@
 -- Settled values stand above settled bits while all clocks are low, by the rank of a net.
-use Rattle.std.proofs.Common.{ℕ, Bool, true, false, List, [], ◌∷◌, ◌≡◌, ◌<◌, zero, suc, refl, arith}
+use Rattle.std.proofs.Common.{ℕ, Bool, false, ◌≡◌, ◌<◌, zero, suc, arith}
 use Rattle.dft_base.specs.declared.tri.Tri.{Tri}
 use Rattle.dft_base.specs.Tri.{Above}
 use Rattle.dft_netlist.specs.Drivers.{Source}

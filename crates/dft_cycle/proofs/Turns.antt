@@ -1,16 +1,16 @@
 -- A vector: its strobe, its rises and its falls, in any orders.
-use Rattle.std.proofs.Common.{ℕ, Bool, true, false, List, [], ◌∷◌, ◌++◌, ◌≡◌, ◌+◌, ◌==◌, ◌⊎◌, inl, inr, refl, ap, arith, Option, sym, subst, ◌∙◌, map}
+use Rattle.std.proofs.Common.{ℕ, Bool, true, false, List, [], ◌∷◌, ◌≡◌, ◌==◌, inl, inr, refl, arith, Option, sym, subst, ◌∙◌, map}
 use Rattle.std.specs.Prelude.{if◌then◌else◌}
 use Rattle.dft_base.specs.declared.tri.Tri.{Tri}
 use Rattle.dft_base.specs.Tri.{Above, AboveTri}
 use Rattle.dft_cells.proofs.Completions.{above_trans}
 use Rattle.dft_netlist.specs.Drivers.{Source}
-use Rattle.dft_netlist.specs.Logic.{Logic, Force, IsRanked}
-use Rattle.dft_netlist.specs.Settled.{value_from, IsTriSettled}
-use Rattle.dft_netlist.specs.Runs.{State, Moment, Now, port_bits, sources_of, AreLow, fall, at_moment, next_now, after, AreSteps, Edge, rise_step, fall_step, times, Vector, Turn, set_step, IsTurn, after_turn}
+use Rattle.dft_netlist.specs.Logic.{Logic, Force}
+use Rattle.dft_netlist.specs.Settled.{value_from}
+use Rattle.dft_netlist.specs.Runs.{State, Now, sources_of, next_now, after, Edge, rise_step, fall_step, times, Vector, Turn, set_step}
 use Rattle.dft_netlist.proofs.Meanings.{completed_above}
 use Rattle.dft_netlist.proofs.Steps.{after-append, AreSteps-append}
-use Rattle.dft_cycle.specs.Cycle.{Pulse, tri_forced_by, tri_taken_by, IsClosed, after_pulse, pulse_of, strobe_sources}
+use Rattle.dft_cycle.specs.Cycle.{Pulse, tri_forced_by, tri_taken_by, after_pulse, pulse_of, strobe_sources}
 use Rattle.dft_cycle.specs.Laws.{Stands, StrobeIsAbove, TurnIsAbove}
 use Rattle.dft_cycle.proofs.Strobe.{SourcesAbove, strobe_above}
 use Rattle.dft_cycle.proofs.Pulses.{above_forced, again, tri_choice, cases, Holds, IsForced, rises_above, low_holds}

@@ -1,14 +1,13 @@
 -- Families of settled assignments exist and are unique; so do views at any map, and a closed map.
-use Rattle.std.proofs.Common.{ℕ, Bool, true, false, List, [], ◌∷◌, ◌≡◌, ◌<◌, zero, suc, refl, sym, ap, arith, map, ◌∙◌}
+use Rattle.std.proofs.Common.{ℕ, [], ◌∷◌, ◌≡◌, ◌<◌, zero, suc, refl, sym, ap, arith, ◌∙◌}
 use Rattle.dft_base.specs.declared.tri.Tri.{Tri}
 use Rattle.dft_base.specs.declared.tri.Tri.TheVariants.{Unknown}
 use Rattle.dft_cells.specs.Gates.{tri_of}
 use Rattle.dft_netlist.specs.Drivers.{Source, nets_of, AreBelow}
 use Rattle.dft_netlist.specs.Logic.{Logic, Meaning, Input, Clock, Gate, Joined, Flop, Lockup, Free, reads, IsRanked}
 use Rattle.dft_netlist.specs.Settled.{TriSources, value_from, value_given, IsTriSettled}
-use Rattle.dft_netlist.specs.Runs.{Vector}
 use Rattle.dft_netlist.proofs.Meanings.{source_same, inputs_same}
-use Rattle.dft_cycle.specs.Cycle.{Pulse, view_sources, AreViews, IsClosed, strobe_sources}
+use Rattle.dft_cycle.specs.Cycle.{Pulse, view_sources, AreViews, strobe_sources}
 use Rattle.dft_cycle.specs.Laws.{ClosedExists, StrobeExists}
 
 -- a meaning's value depends on the sources and on what it reads
@@ -50,10 +49,12 @@ stable l rank base through ranked (suc f) (suc g) net hf hg d =
 -- there is a family of settled assignments
 pub family : (l : Logic) (rank : ℕ → ℕ) (base : ℕ → TriSources) (through : ℕ → ℕ → ℕ) → IsRanked l rank → (w : ℕ → ℕ → Tri) × ((d : ℕ) → IsTriSettled l (with_lockups base through w d) (w d))
 unfolding view_by
-family l rank base through ranked =
-    (λ d net. view_by l base through (suc (rank net)) d net, λ d net.
-    family_same rank base through (view_by l base through (rank net)) (λ e k. view_by l base through (suc (rank k)) e k) d net (l.net net) (ranked net)
-    (λ k less e. stable l rank base through ranked (rank net) (suc (rank k)) k less (omega arith) e))
+family l rank base through ranked = (
+  λ d net. view_by l base through (suc (rank net)) d net,
+  λ d net.
+      family_same rank base through (view_by l base through (rank net)) (λ e k. view_by l base through (suc (rank k)) e k) d net (l.net net) (ranked net)
+      (λ k less e. stable l rank base through ranked (rank net) (suc (rank k)) k less (omega arith) e),
+)
 
 -- there are views at any map
 pub views_exist : (l : Logic) (rank : ℕ → ℕ) (p : Pulse) (poss : ℕ → Tri) → IsRanked l rank → (view : ℕ → ℕ → Tri) × AreViews l p poss view

@@ -357,6 +357,7 @@ flat draft sound = let s = says draft sound in record {
   outputs = λ i f. output_driver draft i f s;
   modelled = λ ports i f. modelled_at draft ports i f s;
   past = λ ports i. modelled_past draft ports i;
+  clock_pin = λ i f there. ap (pin_of role.Clock i) (pins_here draft i f there);
   names = λ a b. names_differ draft.names a b s.distinct;
 }
 

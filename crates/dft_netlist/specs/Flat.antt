@@ -1,8 +1,9 @@
 -- Flat netlists: scalar ports, and flip-flops of one clock that join them.
 use Rattle.std.specs.Prelude.{ℕ, ◌<◌, ◌≤◌, ◌≡◌, ◌⊎◌, false, List, [], length, map, Option, None, Some, slice_get, slice_index_or, if◌then◌else◌}
+use Rattle.dft_cells.specs.declared.kind.Role.TheVariants.{Clock}
 use Rattle.dft_netlist.specs.Netlist.{Netlist}
-use Rattle.dft_netlist.specs.Drivers.{Input, Flop, Free, Net, driver, IsOrdered}
-use Rattle.dft_netlist.specs.Logic.{Ports, Cell, flip_flop}
+use Rattle.dft_netlist.specs.Drivers.{Input, Flop, Free, Net, driver, pins_of, IsOrdered}
+use Rattle.dft_netlist.specs.Logic.{Ports, Cell, flip_flop, pin_of}
 use Rattle.dft_netlist.specs.FirstForm.{FlipFlop, instance_of, first_form}
 
 -- the output of some flip-flop, which has this number
@@ -32,6 +33,8 @@ pub record IsFlat (n : Netlist) (clock : ℕ) (cells : List FlipFlop) : Type 0 w
   pub outputs : (i : ℕ) (f : FlipFlop) → slice_get cells i ≡ Some f → driver n f.output.0 ≡ Flop i false
   pub modelled : (ports : Ports) (i : ℕ) (f : FlipFlop) → slice_get cells i ≡ Some f → flip_flop n ports i ≡ flat_cell ports clock f
   pub past : (ports : Ports) (i : ℕ) → slice_get cells i ≡ None → flip_flop n ports i ≡ None
+  -- the pin named CK of each flip-flop is its clock pin
+  pub clock_pin : (i : ℕ) (f : FlipFlop) → slice_get cells i ≡ Some f → pin_of Clock i (pins_of n i) ≡ Some (Net f.clock.0)
   -- names of nets differ
   pub names : (a b : ℕ) → a < length n.nets → b < length n.nets → slice_index_or n.nets a [] ≡ slice_index_or n.nets b [] → a ≡ b
 

@@ -101,6 +101,14 @@ impl Design {
         &self.joins
     }
 
+    /// The names of its nets, by their numbers.
+    pub fn net_names(&self) -> &[Name]
+        ensures names { result.now ≡ self.now.nets }
+        ensures few { length self.now.nets ≤ MAX_NETS }
+    {
+        &self.nets
+    }
+
     /// How many nets there are; their numbers are all those below.
     pub fn net_count(&self) -> u32
         ensures count { result ≡ length self.now.nets }

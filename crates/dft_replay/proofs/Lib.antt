@@ -3,3 +3,9 @@ pub mod Uniqueness
 pub mod PlainLemmas
 pub mod ExampleLemmas
 pub mod Existence
+pub mod Firsts
+pub mod Clocks
+pub mod Values
+pub mod Judging
+pub mod Rounds
+pub mod Steps

@@ -7,3 +7,5 @@ pub mod Laws
 pub mod Plain
 pub mod Examples
 pub mod Choices
+pub mod Origins
+pub mod Machine

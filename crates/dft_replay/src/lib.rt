@@ -3,10 +3,15 @@
 
 mod examples;
 mod laws;
+mod machine;
+mod origin;
+mod replayer;
+mod search;
 mod verdict;
 
 pub use examples::worked_examples;
 pub use laws::{
     every_choice_runs, mismatch_is_sound, pass_is_sound, verdict_is_one, verdict_is_plain,
 };
+pub use replayer::replay;
 pub use verdict::Verdict;
