@@ -1,5 +1,5 @@
 -- A certificate refutes its equations.
-use Rattle.std.proofs.Common.{ℕ, zero, suc, Bool, true, false, List, [], ◌∷◌, ◌++◌, ◌≡◌, ◌+◌, ◌<◌, ◌≤◌, length, refl, sym, ap, arith, ◌∙◌, ◌⊎◌, inl, inr}
+use Rattle.std.proofs.Common.{ℕ, zero, suc, Bool, List, [], ◌∷◌, ◌++◌, ◌<◌, length, sym, arith, ◌∙◌, inl, inr}
 use Rattle.std.specs.Prelude.{◌&&◌}
 use Rattle.std.proofs.lemmas.Bool.{and_left, false≢true}
 use Rattle.dft_base.specs.Solutions.{Equation, equation_at, Holds, Solves, odd_at, StatesFrom}
@@ -14,9 +14,9 @@ certified_unsolvable n es picks certificate solved =
 
 pub solves_cons : (n : ℕ) (x : ℕ → Bool) (e : Equation) (es : List Equation) → Holds n x e → Solves n x es → Solves n x (e ∷ es)
 solves_cons n x e es one all = λ j. at j where
-    at : (j : ℕ) → j < length (e ∷ es) → Holds n x (equation_at (e ∷ es) j)
-    at zero less = one
-    at (suc j) less = all j (omega arith)
+  at : (j : ℕ) → j < length (e ∷ es) → Holds n x (equation_at (e ∷ es) j)
+  at zero less = one
+  at (suc j) less = all j (omega arith)
 
 refuted : (n : ℕ) (kept es : List Equation) (ids : List ℕ) (x : ℕ → Bool) → StatesFrom n kept es ids → Solves n x kept → Solves n x es → ⊥
 refuted n kept [] ids x states before all = states
