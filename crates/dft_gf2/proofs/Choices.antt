@@ -54,7 +54,7 @@ other_of true false apart = refl
 other_of false true apart = refl
 other_of false false apart = absurd (apart refl)
 
-cases_option : (o : Option ℕ) → ((i : ℕ) × (o ≡ Some i)) ⊎ (o ≡ None)
+pub cases_option : (o : Option ℕ) → ((i : ℕ) × (o ≡ Some i)) ⊎ (o ≡ None)
 cases_option (Some i) = inl (i, refl)
 cases_option None = inr refl
 

@@ -5,3 +5,5 @@ pub mod Reductions
 pub mod Outcomes
 pub mod Certificates
 pub mod Choices
+pub mod Unsolvable
+pub mod Stated

@@ -168,7 +168,7 @@ kept_solvable n rows places k e = let solved = echelon_solved n rows places k e 
 pub zero_sums : (n : ℕ) (kept : List Equation) (trial : Row) (set : List Bool) (bit : Bool) → IsZero trial → Means n kept trial set bit → IsSumOf n (bit_at trial.sums) kept set
 zero_sums n kept trial set bit clear means c less = means.0 c less ∙ ap (λ (b : Bool). xor b (odd_at (bit_at trial.sums) kept c)) (clear c)
 
-zero_gives : (n : ℕ) (kept : List Equation) (trial : Row) (set : List Bool) (bit : Bool) → IsZero trial → trial.bit ≡ false → Means n kept trial set bit → AllGive n kept set bit
+pub zero_gives : (n : ℕ) (kept : List Equation) (trial : Row) (set : List Bool) (bit : Bool) → IsZero trial → trial.bit ≡ false → Means n kept trial set bit → AllGive n kept set bit
 zero_gives n kept trial set bit clear plain means x solves =
     sum_of_sum n kept set (bit_at trial.sums) x (zero_sums n kept trial set bit clear means) solves
     ∙ sym (means.1 ∙ ap (λ (b : Bool). xor b (odd_bits (bit_at trial.sums) kept)) plain)

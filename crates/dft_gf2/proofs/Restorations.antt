@@ -49,7 +49,7 @@ solves_last n x es e all =
     let same : equation_at (es ++ e ∷ []) (length es) ≡ e = get_or_push es e _ (length es) refl in
     rw same at (all (length es) (omega arith))
 
-length_bits : (n : ℕ) (f : ℕ → Bool) → length (bits_to n f) ≡ n
+pub length_bits : (n : ℕ) (f : ℕ → Bool) → length (bits_to n f) ≡ n
 unfolding bits_to
 length_bits zero f = refl
 length_bits (suc n) f = let size = length_push (bits_to n f) (f n) in let ih = length_bits n f in omega arith
@@ -60,7 +60,7 @@ bits_push n f bits size c less before = at (cases_lt c n) where
   at (inl under) = get_or_append_left bits (f n ∷ []) false c (omega arith) ∙ before under
   at (inr past) = (let same : n ≡ c = omega arith in get_or_push bits (f n) false c (size ∙ same) ∙ ap f same)
 
-bits_at : (n : ℕ) (f : ℕ → Bool) (c : ℕ) → c < n → bit_at (bits_to n f) c ≡ f c
+pub bits_at : (n : ℕ) (f : ℕ → Bool) (c : ℕ) → c < n → bit_at (bits_to n f) c ≡ f c
 unfolding bits_to
 bits_at zero f c less = absurd (omega arith)
 bits_at (suc n) f c less = bits_push n f (bits_to n f) (length_bits n f) c less (bits_at n f c)

@@ -1,5 +1,6 @@
 pub mod Elimination
 pub mod Inside
+pub mod Laws
 pub mod Like
 pub mod Rows
 pub use Rattle.dft_base.specs.Solutions

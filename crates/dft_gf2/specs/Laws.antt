@@ -1,0 +1,17 @@
+-- What certificates tell of a list of equations.
+use Rattle.std.specs.Prelude.{ℕ, Bool, List, ◌≡◌, ◌<◌, length}
+use Rattle.dft_base.specs.Solutions.{Equation, equation_at, IsSolvable, IsCertificate, StatesCertificate}
+
+-- equations with a certificate have no solution
+abbrev pub CertifiedIsUnsolvable : Type 0
+CertifiedIsUnsolvable = (n : ℕ) (es : List Equation) (picks : ℕ → Bool) → IsCertificate n es picks → IsSolvable n es → ⊥
+
+-- equations with a stated certificate have no solution
+abbrev pub StatedIsUnsolvable : Type 0
+StatedIsUnsolvable = (n : ℕ) (es : List Equation) (ids : List ℕ) → StatesCertificate n es ids → IsSolvable n es → ⊥
+
+-- equations of n columns without solution have a stated certificate
+abbrev pub UnsolvableIsStated : Type 0
+UnsolvableIsStated =
+    (n : ℕ) (es : List Equation) → ((j : ℕ) → j < length es → length (equation_at es j).row ≡ n) → (IsSolvable n es → ⊥) →
+    (ids : List ℕ) × StatesCertificate n es ids

@@ -1,0 +1,16 @@
+ghost use Rattle.dft_gf2.specs.Laws.{CertifiedIsUnsolvable, StatedIsUnsolvable, UnsolvableIsStated};
+
+/// Equations with a certificate have no solution.
+pub fn certified_is_unsolvable()
+    ensures { CertifiedIsUnsolvable }
+{}
+
+/// Equations with a stated certificate have no solution.
+pub fn stated_is_unsolvable()
+    ensures { StatedIsUnsolvable }
+{}
+
+/// Equations without solution have a stated certificate.
+pub fn unsolvable_is_stated()
+    ensures { UnsolvableIsStated }
+{}
