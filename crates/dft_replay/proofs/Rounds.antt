@@ -73,7 +73,7 @@ taken_at (g ∷ fs) [] all acts i f at e = absurd (let q : 0 ≡ suc (length fs)
 taken_at (g ∷ fs) (b ∷ bits) all acts zero f at e = let same : g ≡ f = cc in rw (sym same) refl
 taken_at (g ∷ fs) (b ∷ bits) all acts (suc i) f at e = taken_at fs bits all acts i f at (let q : suc (length bits) ≡ suc (length fs) = e in let r : length bits ≡ length fs = omega arith in r)
 
-untaken : (fs : List Taker) (bits all : List Tri) (acts : List Act) (i : ℕ) → slice_get fs i ≡ None → get_or (map (λ p. next_bit p.0 p.1 all acts) (zip fs bits)) i Unknown ≡ Unknown
+pub untaken : (fs : List Taker) (bits all : List Tri) (acts : List Act) (i : ℕ) → slice_get fs i ≡ None → get_or (map (λ p. next_bit p.0 p.1 all acts) (zip fs bits)) i Unknown ≡ Unknown
 untaken [] bits all acts i at = refl
 untaken (g ∷ fs) [] all acts i at = refl
 untaken (g ∷ fs) (b ∷ bits) all acts zero at = absurd cc
@@ -88,10 +88,10 @@ next_length (g ∷ fs) (b ∷ bits) all acts e = ap suc (next_length fs bits all
 abbrev pub takers : Netlist → List StilSignal → List FlipFlop → List Taker
 takers n signals cells = map (flip_flop_of n signals) (map instance_of cells)
 
-taker_at : (n : Netlist) (signals : List StilSignal) (cells : List FlipFlop) (i : ℕ) → slice_get (takers n signals cells) i ≡ option_map (flip_flop_of n signals) (option_map instance_of (slice_get cells i))
+pub taker_at : (n : Netlist) (signals : List StilSignal) (cells : List FlipFlop) (i : ℕ) → slice_get (takers n signals cells) i ≡ option_map (flip_flop_of n signals) (option_map instance_of (slice_get cells i))
 taker_at n signals cells i = slice_get-map (flip_flop_of n signals) (map instance_of cells) i ∙ ap (option_map (flip_flop_of n signals)) (slice_get-map instance_of cells i)
 
-past_old : (bits : List Tri) (i : ℕ) → length bits ≤ i → get_or bits i Unknown ≡ Unknown
+pub past_old : (bits : List Tri) (i : ℕ) → length bits ≤ i → get_or bits i Unknown ≡ Unknown
 past_old [] i past = refl
 past_old (b ∷ bits) zero past = absurd (let q : suc (length bits) ≤ 0 = past in omega arith)
 past_old (b ∷ bits) (suc i) past = past_old bits i (let q : suc (length bits) ≤ suc i = past in let r : length bits ≤ i = omega arith in r)
@@ -100,7 +100,7 @@ chosen_equal : {A : Type 0} → (a b : Bool) (x y z w : A) → a ≡ b → x ≡
 chosen_equal a b x y z w p q r = rw (p, q, r) refl
 
 -- what a flip-flop's bit is after the vector
-bit_after : (n : Netlist) (clock : ℕ) (cells : List FlipFlop) (signals : List StilSignal) (bits : List Tri) (acts : List Act) (i : ℕ) (f : FlipFlop) → IsFlat n clock cells → AreNamed signals → slice_get cells i ≡ Some f → length bits ≡ length (takers n signals cells) →
+pub bit_after : (n : Netlist) (clock : ℕ) (cells : List FlipFlop) (signals : List StilSignal) (bits : List Tri) (acts : List Act) (i : ℕ) (f : FlipFlop) → IsFlat n clock cells → AreNamed signals → slice_get cells i ≡ Some f → length bits ≡ length (takers n signals cells) →
     get_or (next_bits (takers n signals cells) bits acts) i Unknown ≡ (if (vector_of n signals acts).pulsed clock then values_of n signals bits acts f.data_in.0 else get_or bits i Unknown)
 bit_after n clock cells signals bits acts i f flat named at e =
     let joined = flat.joined i f at in
@@ -115,17 +115,17 @@ both_unknown true t h = h
 both_unknown false t h = refl
 
 -- the same as the law of one domain says, where the flip-flop is modelled and where it is not
-law_after : (n : Netlist) (p : Patterns) (clock : ℕ) (x : Vector) (values : ℕ → Tri) (bits : List Tri) (i : ℕ) (f : FlipFlop) (pulsed : Bool) → pulses n p clock ≡ pulsed → IsQuiet n p clock bits → (pulsed ≡ false → x.pulsed clock ≡ false) →
+pub law_after : (n : Netlist) (p : Patterns) (clock : ℕ) (x : Vector) (values : ℕ → Tri) (bits : List Tri) (i : ℕ) (f : FlipFlop) (pulsed : Bool) → pulses n p clock ≡ pulsed → IsQuiet n p clock bits → (pulsed ≡ false → x.pulsed clock ≡ false) →
     (cell : Option Cell) → cell ≡ flat_cell (ports_of n p) clock f → flip_flop n (ports_of n p) i ≡ cell →
     (if x.pulsed clock then values f.data_in.0 else get_or bits i Unknown)
     ≡ (if x.pulsed ((logic_of n (ports_of n p)).cell i).domain then next_from (logic_of n (ports_of n p)) x values i else (pulse_of (logic_of n (ports_of n p)) x (old_of bits)).old i)
 law_after n p clock x values bits i f true pulsed quiet silent cell is it = rw (it, is, pulsed) refl
 law_after n p clock x values bits i f false pulsed quiet silent cell is it = rw (it, is, pulsed, silent refl) (both_unknown (x.pulsed 0) (get_or bits i Unknown) (quiet pulsed i))
 
-none_after : (n : Netlist) (ports : Ports) (x : Vector) (values : ℕ → Tri) (bits : List Tri) (i : ℕ) → flip_flop n ports i ≡ None → get_or bits i Unknown ≡ Unknown →
+pub none_after : (n : Netlist) (ports : Ports) (x : Vector) (values : ℕ → Tri) (bits : List Tri) (i : ℕ) → flip_flop n ports i ≡ None → get_or bits i Unknown ≡ Unknown →
     Unknown ≡ (if x.pulsed ((logic_of n ports).cell i).domain then next_from (logic_of n ports) x values i else (pulse_of (logic_of n ports) x (old_of bits)).old i)
 none_after n ports x values bits i it unknown = rw (it, unknown) (both_unknown (x.pulsed 0) Unknown refl)
 
 -- no vector of quiet patterns pulses the clock
-silent_vector : (n : Netlist) (p : Patterns) (clock k : ℕ) (acts : List Act) → slice_get p.vectors k ≡ Some acts → pulses n p clock ≡ false → (vector_of n p.signals acts).pulsed clock ≡ false
+pub silent_vector : (n : Netlist) (p : Patterns) (clock k : ℕ) (acts : List Act) → slice_get p.vectors k ≡ Some acts → pulses n p clock ≡ false → (vector_of n p.signals acts).pulsed clock ≡ false
 silent_vector n p clock k acts at quiet = false_from_ne_true _ (λ h. both_ways _ quiet (any_from (λ others. is_pulse (act_named (name_of n clock) p.signals others)) p.vectors k acts at h))

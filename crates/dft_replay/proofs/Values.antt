@@ -137,7 +137,7 @@ abbrev pub old_of : List Tri → ℕ → Tri
 old_of bits i = get_or bits i Unknown
 
 -- a flat design's flip-flops have no reset and no set
-unforced : (ports : Ports) (clock i : ℕ) (f : FlipFlop) (cell : Option Cell) (at : ℕ → Tri) (t : Tri) → cell ≡ flat_cell ports clock f → tri_forced_by (cell_or_none i cell).force at t ≡ t
+pub unforced : (ports : Ports) (clock i : ℕ) (f : FlipFlop) (cell : Option Cell) (at : ℕ → Tri) (t : Tri) → cell ≡ flat_cell ports clock f → tri_forced_by (cell_or_none i cell).force at t ≡ t
 unforced ports clock i f cell at t is = rw is (chosen (ports.is_clock clock))
   where
     chosen : (b : Bool) → tri_forced_by (cell_or_none i (if b then Some (record { domain = clock; input = drivers.Net f.data_in.0; scan = None; force = None }) else None)).force at t ≡ t
