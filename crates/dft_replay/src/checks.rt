@@ -9,7 +9,7 @@ ghost use Rattle.dft_replay.specs.Rows.{name_of, net_named as net_with};
 ghost use Rattle.dft_replay.specs.Origins.{number_of};
 ghost use Rattle.dft_replay.specs.Fits as spec;
 
-use crate::search::{net_at_pin, net_named, CLOCK_PIN};
+use crate::search::{CLOCK_PIN, net_at_pin, net_named};
 use dft_base::Name;
 use dft_netlist::{Design, Dir, NetId, Port};
 use dft_stil::{Act, Acts, PatternSet, StilSignal};
@@ -17,7 +17,6 @@ use std::alloc::{AllocError, Global};
 
 /// Whether these patterns fit the design: each signal is a bit of a port with its direction, the clock alone pulses,
 /// and it is never 1.
-#[tactic(auto, using(crate::proofs::Fitness::fits_as_checked))]
 pub fn fits(alloc: Global, design: &Design, patterns: &PatternSet) -> Result<bool, AllocError>
     requires flat { (clock : ℕ) × (cells : List FlipFlop) × IsFlat design.now clock cells }
     ensures { IfOk result (λ yes. yes ≡ spec.fits design.now patterns.now) }
@@ -102,11 +101,7 @@ fn is_at(design: &Design, clock: Option<NetId>, signal: &StilSignal) -> bool
 }
 
 // Of each signal, whether it is at the clock.
-fn at_clock(
-    alloc: Global,
-    design: &Design,
-    signals: &[StilSignal],
-) -> Result<Vec<bool>, AllocError>
+fn at_clock(alloc: Global, design: &Design, signals: &[StilSignal]) -> Result<Vec<bool>, AllocError>
     requires flat { (clock : ℕ) × (cells : List FlipFlop) × IsFlat design.now clock cells }
     ensures { IfOk result (λ at_clock. at_clock.items ≡ map (spec.is_clock design.now) signals.now) }
 {

@@ -3,8 +3,8 @@
 ghost use Rattle.std.specs.Prelude.{◌≡◌, ◌<◌, ◌^◌, IfOk, count_by, length, map, None};
 ghost use Rattle.dft_replay.specs.Machine as spec;
 
-use crate::origin::{act_at, Origin};
-use crate::search::{pin_origin, signal_origin, CLOCK_PIN, DATA_PIN};
+use crate::origin::{Origin, act_at};
+use crate::search::{CLOCK_PIN, DATA_PIN, pin_origin, signal_origin};
 use crate::verdict::Verdict;
 use dft_base::Tri;
 use dft_netlist::{Design, Instance};

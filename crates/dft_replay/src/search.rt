@@ -48,9 +48,7 @@ fn signal_named(signals: &[StilSignal], name: &[u8]) -> Option<usize>
 fn driver_of(instances: &[Instance], net: NetId) -> Option<usize>
     ensures { result ≡ position (spec.drives net.0) instances.now }
 {
-    instances
-        .iter()
-        .position(|instance| drives(instance, net))
+    instances.iter().position(|instance| drives(instance, net))
 }
 
 /// The net with this name. The search goes over the whole list: this form of design is small.
@@ -93,11 +91,7 @@ pub(crate) fn pin_origin(
 }
 
 /// Where the values of a signal come from.
-pub(crate) fn signal_origin(
-    design: &Design,
-    signals: &[StilSignal],
-    signal: &StilSignal,
-) -> Origin
+pub(crate) fn signal_origin(design: &Design, signals: &[StilSignal], signal: &StilSignal) -> Origin
     ensures { result ≡ spec.signal_origin design.now signals.now signal.now }
 {
     match net_named(design.net_names(), &signal.name) {

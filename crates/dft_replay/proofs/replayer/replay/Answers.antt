@@ -41,7 +41,7 @@ loop-vector-preserved c =
     λ clock cells flat. turn_of n clock cells p v acts bits (fitting_of n clock cells p flat c.requires.patterns c.requires.fits) (c.loop-vector.invariant.bits clock cells flat) less item in
     let next : (clock : ℕ) (cells : List FlipFlop) → IsFlat n clock cells → c.in_ok-bits-2.bits.items ≡ next_bits (takers n p.signals cells) bits acts =
     λ clock cells flat. c.in_ok-bits-2.ensures ∙ next_same c.in_ok-machine.machine.flip_flops.items (takers n p.signals cells) c.deref-in-loop-vector.result.now bits acts
-        (machine_takers n clock cells p c.signals.result.now c.in_ok-machine.machine flat c.in_ok-machine.ensures c.signals.ensures) c.deref-in-loop-vector.ensures.value in
+    (machine_takers n clock cells p c.signals.result.now c.in_ok-machine.machine flat c.in_ok-machine.ensures c.signals.ensures) c.deref-in-loop-vector.ensures.value in
     let judged : judged_from v 0 (map (signal_origin n p.signals) p.signals) bits acts ≡ None =
     sym (judged_same v c.in_ok-machine.machine.signals.items (map (signal_origin n p.signals) p.signals) c.deref.result.now bits acts (machine_signals n p c.signals.result.now c.in_ok-machine.machine c.in_ok-machine.ensures c.signals.ensures) c.deref.ensures.value)
     ∙ sym c.decide.ensures ∙ c.in_default.is in

@@ -14,5 +14,5 @@ abbrev pub invariant-loop-vector : goal.invariant-loop-vector
 invariant-loop-vector l = record {
   bits : (clock : ℕ) (cells : List FlipFlop) → IsFlat l.design clock cells → AreBits l.design clock cells l.patterns l.bits.items;
   rest : (verdict : Verdict) → HasVerdictFrom (logic_of l.design (ports_of l.design l.patterns)) (old_of l.bits.items) l.vector l.compared (map (row_of l.design l.patterns.signals) (drop l.vector l.patterns.vectors)) verdict → HasVerdict l.design l.patterns verdict;
-  few : l.compared ≤ l.vector * length l.patterns.signals
+  few : l.compared ≤ l.vector * length l.patterns.signals;
 }
