@@ -18,7 +18,7 @@ use Rattle.dft_stil.specs.declared.act.Act.{Act}
 use Rattle.dft_stil.specs.declared.act.Act.TheVariants.{Unset, Low, High, Pulse, ExpectLow, ExpectHigh, Ignore}
 use Rattle.dft_stil.specs.declared.signal.StilSignal.{StilSignal}
 use Rattle.dft_stil.specs.Acts.{IsActOf, IsTold}
-use Rattle.dft_stil.specs.Words.{is_simple}
+use Rattle.dft_base.specs.Words.{is_simple_name}
 use Rattle.dft_stil.specs.Patterns.{Patterns, IsPatterns, IsFullVector}
 use Rattle.dft_replay.specs.Rows.{name_of, net_named, or_past, act_named, set_to, is_pulse, pulses}
 use Rattle.dft_replay.specs.Fits.{clock_net, net_at, is_at, is_clock, act_fits, acts_fit, fits}
@@ -177,8 +177,7 @@ vectors_are_good n p patterns fit k acts at = record {
   fit = all_at (acts_fit n p.signals) p.vectors k acts (and_parts _ _ fit).1 at;
 }
 
-not_simple : (name : List ℕ) → name ≡ [] → is_simple name ≡ true → ⊥
-unfolding is_simple
+not_simple : (name : List ℕ) → name ≡ [] → is_simple_name name ≡ true → ⊥
 not_simple [] e h = let q : false ≡ true = h in absurd cc
 not_simple (b ∷ name) e h = absurd cc
 

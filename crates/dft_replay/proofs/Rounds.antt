@@ -45,24 +45,24 @@ flat_below n clock cells net flat = below (flat.nets net)
 pub flat_is_ordered : (n : Netlist) (clock : ℕ) (cells : List FlipFlop) → IsFlat n clock cells → IsOrdered n (λ net. 0)
 flat_is_ordered n clock cells flat = record { after = λ net. flat_below n clock cells net flat; within = λ net. omega arith }
 
-input_no_lockup : (is_clock : Bool) (e : ℕ) (source : Source) → (if is_clock then meanings.Clock else meanings.Input) ≡ meanings.Lockup e source → ⊥
-input_no_lockup true e source h = absurd cc
-input_no_lockup false e source h = absurd cc
+input_no_lockup : (is_clock : Bool) (cell e : ℕ) (source : Source) → (if is_clock then meanings.Clock else meanings.Input) ≡ meanings.Lockup cell e source → ⊥
+input_no_lockup true cell e source h = absurd cc
+input_no_lockup false cell e source h = absurd cc
 
-flop_no_lockup : (i : ℕ) (cell : Option Cell) (e : ℕ) (source : Source) → flop_meaning i false cell ≡ meanings.Lockup e source → ⊥
-flop_no_lockup i None e source h = absurd cc
-flop_no_lockup i (Some cell) e source h = absurd cc
+flop_no_lockup : (i : ℕ) (modelled : Option Cell) (cell e : ℕ) (source : Source) → flop_meaning i false modelled ≡ meanings.Lockup cell e source → ⊥
+flop_no_lockup i None cell e source h = absurd cc
+flop_no_lockup i (Some f) cell e source h = absurd cc
 
-free_no_lockup : (e : ℕ) (source : Source) → meanings.Free ≡ meanings.Lockup e source → ⊥
-free_no_lockup e source h = absurd cc
+free_no_lockup : (cell e : ℕ) (source : Source) → meanings.Free ≡ meanings.Lockup cell e source → ⊥
+free_no_lockup cell e source h = absurd cc
 
 pub flat_has_no_lockup : (n : Netlist) (clock : ℕ) (cells : List FlipFlop) (ports : Ports) → IsFlat n clock cells → HasNoLockup (logic_of n ports)
-flat_has_no_lockup n clock cells ports flat net e source h = none (flat.nets net)
+flat_has_no_lockup n clock cells ports flat net cell e source h = none (flat.nets net)
   where
     none : (driver n net ≡ drivers.Input) ⊎ ((i : ℕ) × (f : FlipFlop) × IsOutputOf n cells net i f) ⊎ ((length n.nets ≤ net) × (driver n net ≡ drivers.Free)) → ⊥
-    none (inl input) = input_no_lockup (ports.is_clock net) e source (ap (meaning_of n ports net) (sym input) ∙ h)
-    none (inr (inl flop)) = flop_no_lockup flop.0 (flip_flop n ports flop.0) e source (ap (meaning_of n ports net) (sym flop.2.driven) ∙ h)
-    none (inr (inr free)) = free_no_lockup e source (ap (meaning_of n ports net) (sym free.1) ∙ h)
+    none (inl input) = input_no_lockup (ports.is_clock net) cell e source (ap (meaning_of n ports net) (sym input) ∙ h)
+    none (inr (inl flop)) = flop_no_lockup flop.0 (flip_flop n ports flop.0) cell e source (ap (meaning_of n ports net) (sym flop.2.driven) ∙ h)
+    none (inr (inr free)) = free_no_lockup cell e source (ap (meaning_of n ports net) (sym free.1) ∙ h)
 
 -- ---- the bits after a vector
 

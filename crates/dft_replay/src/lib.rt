@@ -8,6 +8,8 @@ mod machine;
 mod origin;
 mod replayer;
 mod search;
+#[cfg(test)]
+mod tests;
 mod verdict;
 
 pub use checks::fits;
