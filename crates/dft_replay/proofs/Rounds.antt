@@ -1,12 +1,11 @@
 -- One vector of a flat design: its round, and the bits of the flip-flops after it.
-use Rattle.std.proofs.Common.{ℕ, zero, suc, ◌+◌, ◌<◌, ◌≤◌, ◌==◌, Bool, true, false, List, [], ◌∷◌, ◌≡◌, ◌⊎◌, inl, inr, refl, sym, ap, ◌∙◌, length, Option, None, Some, slice_get, get_or, map, arith, subst}
+use Rattle.std.proofs.Common.{ℕ, zero, suc, ◌≤◌, Bool, true, false, List, [], ◌∷◌, ◌≡◌, ◌⊎◌, inl, inr, refl, sym, ap, ◌∙◌, length, Option, None, Some, slice_get, get_or, map, arith}
 use Rattle.std.specs.Prelude.{zip, if◌then◌else◌}
 use Rattle.std.specs.Option.{option_map}
 use Rattle.std.proofs.lemmas.Bool.{both_ways, false_from_ne_true}
-use Rattle.std.proofs.lemmas.Option.{slice_get-map, slice_get_cases, slice_get_within}
+use Rattle.std.proofs.lemmas.Option.{slice_get-map}
 use Rattle.dft_base.specs.declared.tri.Tri.{Tri}
-use Rattle.dft_base.specs.declared.tri.Tri.TheVariants.{Zero, Unknown}
-use Rattle.dft_netlist.specs.declared.instance.Instance.{Instance}
+use Rattle.dft_base.specs.declared.tri.Tri.TheVariants.{Unknown}
 use Rattle.dft_netlist.specs.Netlist.{Netlist}
 use Rattle.dft_netlist.specs.Drivers.{Driver, Source, driver, nets_read, AreBelow, IsOrdered}
 use Rattle.dft_netlist.specs.Drivers as drivers
@@ -15,22 +14,17 @@ use Rattle.dft_netlist.specs.Logic as meanings
 use Rattle.dft_netlist.specs.Runs.{Vector}
 use Rattle.dft_netlist.specs.FirstForm.{FlipFlop, instance_of}
 use Rattle.dft_netlist.specs.Flat.{IsFlat, IsOutputOf, flat_cell}
-use Rattle.dft_netlist.proofs.Ranks.{order_is_rank}
-use Rattle.dft_cycle.specs.Cycle.{Round, IsRound, after_round, pulse_of}
+use Rattle.dft_cycle.specs.Cycle.{pulse_of}
 use Rattle.dft_cycle.specs.Laws.{HasNoLockup, next_from}
-use Rattle.dft_cycle.proofs.OneDomain.{one_domain}
 use Rattle.dft_stil.specs.declared.act.Act.{Act}
 use Rattle.dft_stil.specs.declared.signal.StilSignal.{StilSignal}
 use Rattle.dft_stil.specs.Patterns.{Patterns}
-use Rattle.dft_replay.specs.declared.verdict.Verdict.{Verdict}
 use Rattle.dft_replay.specs.declared.machine.FlipFlop.{FlipFlop as Taker}
-use Rattle.dft_replay.specs.Rows.{Compared, Row, name_of, act_named, is_pulse, row_of, pulses, ports_of}
-use Rattle.dft_replay.specs.Verdicts.{decided, Stops, HasVerdictFrom}
-use Rattle.dft_replay.specs.Origins.{origin_of, value_of, act_from}
+use Rattle.dft_replay.specs.Rows.{name_of, act_named, is_pulse, pulses, ports_of}
+use Rattle.dft_replay.specs.Origins.{origin_of, act_from}
 use Rattle.dft_replay.specs.Machine.{flip_flop_of, next_bit, next_bits}
-use Rattle.dft_replay.proofs.Uniqueness.{same_map}
-use Rattle.dft_replay.proofs.Clocks.{AreNamed, AreGood, IsGood, any_from, pulsed_is_clock}
-use Rattle.dft_replay.proofs.Values.{values_of, vector_of, IsQuiet, old_of, origin_value, origin_act, unforced, values_settled}
+use Rattle.dft_replay.proofs.Clocks.{AreNamed, any_from}
+use Rattle.dft_replay.proofs.Values.{values_of, vector_of, IsQuiet, old_of, origin_value, origin_act}
 
 -- ---- the order of a flat design, whose nets are not settled from nets
 

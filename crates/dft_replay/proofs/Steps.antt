@@ -1,10 +1,9 @@
 -- One vector of a flat design, as the verdict takes it.
-use Rattle.std.proofs.Common.{ℕ, zero, suc, ◌+◌, ◌<◌, ◌≤◌, Bool, true, false, List, [], ◌∷◌, ◌≡◌, ◌⊎◌, inl, inr, refl, sym, ap, ◌∙◌, length, Option, None, Some, slice_get, get_or, map, drop, arith, subst}
+use Rattle.std.proofs.Common.{ℕ, zero, suc, ◌+◌, ◌≤◌, Bool, List, [], ◌∷◌, ◌≡◌, refl, sym, ap, ◌∙◌, length, Option, None, Some, slice_get, get_or, map, arith, subst}
 use Rattle.std.specs.List.{count_by}
 use Rattle.std.proofs.lemmas.List.{length-map}
 use Rattle.std.specs.Prelude.{replicate, if◌then◌else◌}
 use Rattle.std.specs.Option.{option_map}
-use Rattle.std.proofs.lemmas.Option.{slice_get_within}
 use Rattle.dft_base.specs.declared.tri.Tri.{Tri}
 use Rattle.dft_base.specs.declared.tri.Tri.TheVariants.{Unknown}
 use Rattle.dft_netlist.specs.Netlist.{Netlist}
@@ -20,7 +19,7 @@ use Rattle.dft_stil.specs.declared.act.Act.{Act}
 use Rattle.dft_stil.specs.declared.signal.StilSignal.{StilSignal}
 use Rattle.dft_stil.specs.Patterns.{Patterns}
 use Rattle.dft_replay.specs.declared.verdict.Verdict.{Verdict}
-use Rattle.dft_replay.specs.Rows.{Row, name_of, act_named, is_pulse, row_of, rows_of, pulses, ports_of, compared_from}
+use Rattle.dft_replay.specs.Rows.{Row, row_of, pulses, ports_of, compared_from}
 use Rattle.dft_replay.specs.Verdicts.{decided, Stops, HasVerdictFrom}
 use Rattle.dft_replay.specs.Origins.{signal_origin}
 use Rattle.dft_replay.specs.Machine.{flip_flop_of, next_bits, judged_from, is_compared}

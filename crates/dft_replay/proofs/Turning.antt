@@ -1,7 +1,7 @@
 -- The loop over vectors, turn by turn.
-use Rattle.std.proofs.Common.{ℕ, zero, suc, ◌+◌, ◌*◌, ◌<◌, ◌≤◌, Bool, true, false, List, [], ◌∷◌, ◌≡◌, refl, sym, ap, ◌∙◌, length, Option, None, Some, slice_get, get_or, map, drop, add-one, arith, subst}
+use Rattle.std.proofs.Common.{ℕ, zero, suc, ◌+◌, ◌*◌, ◌<◌, ◌≤◌, true, List, ◌∷◌, ◌≡◌, refl, sym, ap, ◌∙◌, length, Option, None, Some, slice_get, get_or, map, drop, arith, subst}
 use Rattle.std.specs.List.{count_by}
-use Rattle.std.specs.Prelude.{replicate, if◌then◌else◌}
+use Rattle.std.specs.Prelude.{replicate}
 use Rattle.std.proofs.lemmas.List.{at_drop_more, length-map}
 use Rattle.std.proofs.lemmas.List.Sums.{count_by-le-length}
 use Rattle.std.proofs.lemmas.Option.{slice_get_within, slice_get_read, get_or_from_slice_get}
@@ -20,8 +20,8 @@ use Rattle.dft_replay.specs.declared.origin.Origin.{Origin}
 use Rattle.dft_replay.specs.declared.machine.Machine.{Machine}
 use Rattle.dft_replay.specs.declared.machine.FlipFlop.{FlipFlop as Taker}
 use Rattle.dft_replay.specs.Fits.{fits}
-use Rattle.dft_replay.specs.Rows.{Row, row_of, rows_of, ports_of}
-use Rattle.dft_replay.specs.Verdicts.{Stops, HasVerdictFrom, HasVerdict}
+use Rattle.dft_replay.specs.Rows.{Row, row_of, ports_of}
+use Rattle.dft_replay.specs.Verdicts.{Stops, HasVerdictFrom}
 use Rattle.dft_replay.specs.Origins.{signal_origin}
 use Rattle.dft_replay.specs.Machine.{IsMachine, flip_flop_of, next_bits, judged_from, is_compared}
 use Rattle.dft_replay.proofs.Uniqueness.{same_map}
@@ -29,7 +29,7 @@ use Rattle.dft_replay.proofs.Clocks.{vectors_are_good, signals_are_named}
 use Rattle.dft_replay.proofs.Values.{old_of}
 use Rattle.dft_replay.proofs.Judging.{full_length}
 use Rattle.dft_replay.proofs.Rounds.{takers}
-use Rattle.dft_replay.proofs.Steps.{Fitting, AreBits, IsTurn, unknown_each, bits_after, vector_decides}
+use Rattle.dft_replay.proofs.Steps.{Fitting, AreBits, IsTurn, unknown_each, vector_decides}
 
 pub fitting_of : (n : Netlist) (clock : ℕ) (cells : List FlipFlop) (p : Patterns) → IsFlat n clock cells → IsPatterns p → fits n p ≡ true → Fitting n clock cells p
 fitting_of n clock cells p flat patterns fit = record { flat = flat; named = signals_are_named p patterns; good = vectors_are_good n p patterns fit }

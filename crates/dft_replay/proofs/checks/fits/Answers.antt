@@ -1,5 +1,5 @@
 -- The checks say whether the patterns fit.
-use Rattle.std.proofs.Common.{◌≡◌, ap, ◌∙◌, sym, true, List, Bool, map}
+use Rattle.std.proofs.Common.{◌≡◌, ap, ◌∙◌, sym, true, map}
 use Rattle.std.specs.List.{list_all}
 use Rattle.dft_replay.specs.Fits.{is_clock, is_port_bit}
 use Rattle.dft_replay.proofs.Fitness.{fits_as_checked}

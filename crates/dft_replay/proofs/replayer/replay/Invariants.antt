@@ -1,5 +1,5 @@
 -- A verdict on what is left is the verdict on all.
-use Rattle.std.proofs.Common.{ℕ, ◌≡◌, ◌≤◌, ◌*◌, List, length, drop, map}
+use Rattle.std.proofs.Common.{ℕ, ◌≤◌, ◌*◌, List, length, drop, map}
 use Rattle.dft_netlist.specs.FirstForm.{FlipFlop}
 use Rattle.dft_netlist.specs.Flat.{IsFlat}
 use Rattle.dft_netlist.specs.Logic.{logic_of}
