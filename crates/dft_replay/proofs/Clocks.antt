@@ -1,14 +1,12 @@
 -- Where patterns fit a flat design the clock alone pulses, and then it is 0 at each strobe.
-use Rattle.std.proofs.Common.{ℕ, zero, suc, ◌+◌, ◌<◌, ◌≤◌, Bool, true, false, not, List, [], ◌∷◌, ◌≡◌, ◌⊎◌, inl, inr, refl, sym, ap, ◌∙◌, length, Option, None, Some, slice_get, arith, subst}
+use Rattle.std.proofs.Common.{ℕ, zero, suc, ◌<◌, ◌≤◌, Bool, true, false, not, List, [], ◌∷◌, ◌≡◌, ◌⊎◌, inl, inr, refl, sym, ap, ◌∙◌, length, Option, None, Some, slice_get, arith, subst}
 use Rattle.std.specs.Prelude.{position, slice_index_or, if◌then◌else◌}
 use Rattle.std.specs.List.{list_all, list_any}
 use Rattle.std.specs.Str.{bytes_eq}
-use Rattle.std.proofs.lemmas.Bool.{eqb-true, both_ways, and_parts, or_cases, or_right, cases_lt}
-use Rattle.std.proofs.lemmas.Option.{slice_get_within, get_or_from_slice_get, slice_get_past}
+use Rattle.std.proofs.lemmas.Bool.{eqb-true, and_parts, or_cases, or_right, cases_lt}
+use Rattle.std.proofs.lemmas.Option.{slice_get_within, get_or_from_slice_get}
 use Rattle.std.proofs.lemmas.Slice.Eq.{bytes_eq-Decides}
-use Rattle.dft_base.specs.declared.tri.Tri.{Tri}
 use Rattle.dft_base.specs.declared.tri.Tri.TheVariants.{Zero}
-use Rattle.dft_cells.specs.declared.kind.Role.TheVariants.{Clock}
 use Rattle.dft_netlist.specs.declared.port.Dir.{Dir}
 use Rattle.dft_netlist.specs.declared.port.Dir.TheVariants.{Input, Output}
 use Rattle.dft_netlist.specs.Netlist.{Netlist}
@@ -18,7 +16,7 @@ use Rattle.dft_stil.specs.declared.act.Act.{Act}
 use Rattle.dft_stil.specs.declared.act.Act.TheVariants.{Unset, Low, High, Pulse, ExpectLow, ExpectHigh, Ignore}
 use Rattle.dft_stil.specs.declared.signal.StilSignal.{StilSignal}
 use Rattle.dft_stil.specs.Acts.{IsActOf, IsTold}
-use Rattle.dft_stil.specs.Words.{is_simple}
+use Rattle.dft_base.specs.Words.{is_simple_name}
 use Rattle.dft_stil.specs.Patterns.{Patterns, IsPatterns, IsFullVector}
 use Rattle.dft_replay.specs.Rows.{name_of, net_named, or_past, act_named, set_to, is_pulse, pulses}
 use Rattle.dft_replay.specs.Fits.{clock_net, net_at, is_at, is_clock, act_fits, acts_fit, fits}
@@ -177,8 +175,7 @@ vectors_are_good n p patterns fit k acts at = record {
   fit = all_at (acts_fit n p.signals) p.vectors k acts (and_parts _ _ fit).1 at;
 }
 
-not_simple : (name : List ℕ) → name ≡ [] → is_simple name ≡ true → ⊥
-unfolding is_simple
+not_simple : (name : List ℕ) → name ≡ [] → is_simple_name name ≡ true → ⊥
 not_simple [] e h = let q : false ≡ true = h in absurd cc
 not_simple (b ∷ name) e h = absurd cc
 

@@ -1,10 +1,9 @@
 -- What the acts of a vector decide is what its compared bits decide.
-use Rattle.std.proofs.Common.{ℕ, zero, suc, ◌+◌, ◌<◌, ◌≤◌, ◌==◌, Bool, true, false, List, [], ◌∷◌, ◌≡◌, refl, sym, ap, ◌∙◌, length, Option, None, Some, slice_get, get_or, map, arith, subst}
-use Rattle.std.specs.Prelude.{position, if◌then◌else◌}
+use Rattle.std.proofs.Common.{ℕ, suc, ◌+◌, ◌<◌, ◌≤◌, Bool, true, false, List, [], ◌∷◌, ◌≡◌, refl, sym, ap, ◌∙◌, length, Option, None, Some, map, arith}
+use Rattle.std.specs.Prelude.{position}
 use Rattle.std.specs.Str.{bytes_eq}
 use Rattle.std.specs.List.{count_by}
 use Rattle.std.proofs.lemmas.List.Sums.{sum_by-cons}
-use Rattle.std.proofs.lemmas.Bool.{ne_eqb}
 use Rattle.dft_base.specs.declared.tri.Tri.{Tri}
 use Rattle.dft_base.specs.declared.tri.Tri.TheVariants.{Zero, One, Unknown}
 use Rattle.dft_netlist.specs.Netlist.{Netlist}
@@ -16,9 +15,8 @@ use Rattle.dft_stil.specs.declared.signal.StilSignal.{StilSignal}
 use Rattle.dft_stil.specs.Patterns.{IsFullVector}
 use Rattle.dft_replay.specs.declared.origin.Origin.{Origin}
 use Rattle.dft_replay.specs.declared.verdict.Verdict.{Verdict}
-use Rattle.dft_replay.specs.declared.verdict.Verdict.TheVariants.{Pass, Mismatch, Undetermined}
 use Rattle.dft_replay.specs.Rows.{Compared, name_of, net_named, or_past, act_named, set_to, compared_at, compared_from}
-use Rattle.dft_replay.specs.Origins.{drives, origin_at, signal_origin, value_of, act_at}
+use Rattle.dft_replay.specs.Origins.{origin_at, signal_origin, value_of, act_at}
 use Rattle.dft_replay.specs.Verdicts.{decided_by, decided}
 use Rattle.dft_replay.specs.Machine.{judged, or_later, judged_from, is_compared}
 use Rattle.dft_replay.proofs.Clocks.{AreNamed, name_past}

@@ -9,3 +9,5 @@ pub mod Values
 pub mod Judging
 pub mod Rounds
 pub mod Steps
+pub mod Turning
+pub mod Fitness

@@ -1,9 +1,9 @@
 -- One vector of a flat design, as the verdict takes it.
-use Rattle.std.proofs.Common.{ℕ, zero, suc, ◌+◌, ◌<◌, ◌≤◌, Bool, true, false, List, [], ◌∷◌, ◌≡◌, ◌⊎◌, inl, inr, refl, sym, ap, ◌∙◌, length, length-map, Option, None, Some, slice_get, get_or, map, drop, arith, subst}
+use Rattle.std.proofs.Common.{ℕ, zero, suc, ◌+◌, ◌≤◌, Bool, List, [], ◌∷◌, ◌≡◌, refl, sym, ap, ◌∙◌, length, Option, None, Some, slice_get, get_or, map, arith, subst}
 use Rattle.std.specs.List.{count_by}
+use Rattle.std.proofs.lemmas.List.{length-map}
 use Rattle.std.specs.Prelude.{replicate, if◌then◌else◌}
 use Rattle.std.specs.Option.{option_map}
-use Rattle.std.proofs.lemmas.Option.{slice_get_within}
 use Rattle.dft_base.specs.declared.tri.Tri.{Tri}
 use Rattle.dft_base.specs.declared.tri.Tri.TheVariants.{Unknown}
 use Rattle.dft_netlist.specs.Netlist.{Netlist}
@@ -19,10 +19,10 @@ use Rattle.dft_stil.specs.declared.act.Act.{Act}
 use Rattle.dft_stil.specs.declared.signal.StilSignal.{StilSignal}
 use Rattle.dft_stil.specs.Patterns.{Patterns}
 use Rattle.dft_replay.specs.declared.verdict.Verdict.{Verdict}
-use Rattle.dft_replay.specs.Rows.{Row, name_of, act_named, is_pulse, row_of, rows_of, pulses, ports_of, compared_from}
+use Rattle.dft_replay.specs.Rows.{Row, row_of, pulses, ports_of, compared_from}
 use Rattle.dft_replay.specs.Verdicts.{decided, Stops, HasVerdictFrom}
 use Rattle.dft_replay.specs.Origins.{signal_origin}
-use Rattle.dft_replay.specs.Machine.{next_bits, judged_from, is_compared}
+use Rattle.dft_replay.specs.Machine.{flip_flop_of, next_bits, judged_from, is_compared}
 use Rattle.dft_replay.proofs.Uniqueness.{same_map}
 use Rattle.dft_replay.proofs.Clocks.{AreNamed, AreGood, IsGood, pulsed_is_clock}
 use Rattle.dft_replay.proofs.Values.{values_of, vector_of, IsQuiet, old_of, values_settled}
@@ -43,7 +43,7 @@ pub record AreBits (n : Netlist) (clock : ℕ) (cells : List FlipFlop) (p : Patt
 takers_length : (n : Netlist) (signals : List StilSignal) (cells : List FlipFlop) → length (takers n signals cells) ≡ length cells
 takers_length n signals cells = length-map _ _ ∙ length-map _ _
 
-unknown_each : (count i : ℕ) → get_or (replicate count Unknown) i Unknown ≡ Unknown
+pub unknown_each : (count i : ℕ) → get_or (replicate count Unknown) i Unknown ≡ Unknown
 unknown_each zero i = refl
 unknown_each (suc count) zero = refl
 unknown_each (suc count) (suc i) = unknown_each count i
@@ -52,13 +52,13 @@ unknown_each (suc count) (suc i) = unknown_each count i
 pub record IsTurn (n : Netlist) (clock : ℕ) (cells : List FlipFlop) (p : Patterns) (k : ℕ) (acts : List Act) (bits : List Tri) : Type 0 where
   pub fitting : Fitting n clock cells p
   pub there : slice_get p.vectors k ≡ Some acts
-  pub bits : AreBits n clock cells p bits
+  pub before : AreBits n clock cells p bits
 
 bits_match : (n : Netlist) (clock : ℕ) (cells : List FlipFlop) (p : Patterns) (k : ℕ) (acts : List Act) (bits : List Tri) → IsTurn n clock cells p k acts bits → length bits ≡ length (takers n p.signals cells)
-bits_match n clock cells p k acts bits turn = turn.bits.length ∙ sym (takers_length n p.signals cells)
+bits_match n clock cells p k acts bits turn = turn.before.length ∙ sym (takers_length n p.signals cells)
 
 taker_past : (n : Netlist) (signals : List StilSignal) (cells : List FlipFlop) (i : ℕ) → slice_get cells i ≡ None → slice_get (takers n signals cells) i ≡ None
-taker_past n signals cells i at = taker_at n signals cells i ∙ ap (λ (o : Option FlipFlop). option_map _ (option_map instance_of o)) at
+taker_past n signals cells i at = taker_at n signals cells i ∙ ap (λ (o : Option FlipFlop). option_map (flip_flop_of n signals) (option_map instance_of o)) at
 
 none_is_past : {X : Type 0} → (xs : List X) (i : ℕ) → slice_get xs i ≡ None → length xs ≤ i
 none_is_past [] i h = omega arith
@@ -75,13 +75,13 @@ after_is n clock cells p k acts bits after turn law i = by_cell (slice_get cells
     by_cell : (o : Option FlipFlop) → slice_get cells i ≡ o → old_of (next_bits (takers n p.signals cells) bits acts) i ≡ after i
     by_cell (Some f) at =
         bit_after n clock cells p.signals bits acts i f turn.fitting.flat turn.fitting.named at (bits_match n clock cells p k acts bits turn)
-        ∙ law_after n p clock (vector_of n p.signals acts) (values_of n p.signals bits acts) bits i f (pulses n p clock) refl turn.bits.quiet (silent_vector n p clock k acts turn.there)
+        ∙ law_after n p clock (vector_of n p.signals acts) (values_of n p.signals bits acts) bits i f (pulses n p clock) refl turn.before.quiet (silent_vector n p clock k acts turn.there)
         (flip_flop n (ports_of n p) i) (turn.fitting.flat.modelled (ports_of n p) i f at) refl
         ∙ sym (law i)
     by_cell None at =
         untaken (takers n p.signals cells) bits bits acts i (taker_past n p.signals cells i at)
         ∙ none_after n (ports_of n p) (vector_of n p.signals acts) (values_of n p.signals bits acts) bits i (turn.fitting.flat.past (ports_of n p) i at)
-        (past_old bits i (let past : length cells ≤ i = none_is_past cells i at in let e : length bits ≡ length cells = turn.bits.length in omega arith))
+        (past_old bits i (let past : length cells ≤ i = none_is_past cells i at in let e : length bits ≡ length cells = turn.before.length in omega arith))
         ∙ sym (law i)
 
 -- while the clock never pulses no bit is known after the vector either
@@ -91,7 +91,7 @@ still_quiet n clock cells p k acts bits turn quiet i = by_cell (slice_get cells 
     by_cell : (o : Option FlipFlop) → slice_get cells i ≡ o → get_or (next_bits (takers n p.signals cells) bits acts) i Unknown ≡ Unknown
     by_cell (Some f) at =
         bit_after n clock cells p.signals bits acts i f turn.fitting.flat turn.fitting.named at (bits_match n clock cells p k acts bits turn)
-        ∙ ap (λ (pulsed : Bool). if pulsed then values_of n p.signals bits acts f.data_in.0 else get_or bits i Unknown) (silent_vector n p clock k acts turn.there quiet) ∙ turn.bits.quiet quiet i
+        ∙ ap (λ (pulsed : Bool). if pulsed then values_of n p.signals bits acts f.data_in.0 else get_or bits i Unknown) (silent_vector n p clock k acts turn.there quiet) ∙ turn.before.quiet quiet i
     by_cell None at = untaken (takers n p.signals cells) bits bits acts i (taker_past n p.signals cells i at)
 
 pub bits_after : (n : Netlist) (clock : ℕ) (cells : List FlipFlop) (p : Patterns) (k : ℕ) (acts : List Act) (bits : List Tri) → IsTurn n clock cells p k acts bits → AreBits n clock cells p (next_bits (takers n p.signals cells) bits acts)
@@ -113,7 +113,11 @@ vector_decides n clock cells p k acts bits count rows verdict turn h =
     let values : ℕ → Tri = values_of n p.signals bits acts in
     let next : List Tri = next_bits (takers n p.signals cells) bits acts in
     let found = one_domain l (λ net. 0) x clock (old_of bits) values (order_is_rank n (ports_of n p) (λ net. 0) (flat_is_ordered n clock cells fitting.flat)) (flat_has_no_lockup n clock cells (ports_of n p) fitting.flat)
+<<<<<<< HEAD
     (pulsed_is_clock n clock cells p.signals acts fitting.flat fitting.named this.fit) (values_settled n clock cells p acts bits fitting.flat fitting.named fitting.good this turn.bits.quiet) in
+=======
+    (pulsed_is_clock n clock cells p.signals acts fitting.flat fitting.named this.fit) (values_settled n clock cells p acts bits fitting.flat fitting.named fitting.good this turn.before.quiet) in
+>>>>>>> 2620fba7bf83c91265cae420da7a11b4d59ccc06
     let r : Round = found.0 in
     let after : old_of next ≡ after_round l x (old_of bits) r = same_map (old_of next) (after_round l x (old_of bits) r) (after_is n clock cells p k acts bits (after_round l x (old_of bits) r) turn found.1.2) in
     let said : judged_from k 0 (map (signal_origin n p.signals) p.signals) bits acts ≡ decided r.strobe k (compared_from n 0 p.signals acts) =
@@ -123,7 +127,7 @@ vector_decides n clock cells p k acts bits count rows verdict turn h =
   where
     stops_equal : {d e : Option Verdict} {old new : ℕ → Tri} {a b : ℕ} → d ≡ e → old ≡ new → a ≡ b →
         Stops d verdict (HasVerdictFrom (logic_of n (ports_of n p)) old (suc k) (count + a) rows verdict) → Stops e verdict (HasVerdictFrom (logic_of n (ports_of n p)) new (suc k) (count + b) rows verdict)
-    stops_equal {d} {e} {old} {new} {a} {b} p q r h =
-        subst (λ (o : Option Verdict). Stops o verdict (HasVerdictFrom _ new (suc k) (count + b) rows verdict)) p
-        (subst (λ (w : ℕ → Tri). Stops d verdict (HasVerdictFrom _ w (suc k) (count + b) rows verdict)) q
-        (subst (λ (m : ℕ). Stops d verdict (HasVerdictFrom _ old (suc k) (count + m) rows verdict)) r h))
+    stops_equal {d} {e} {old} {new} {a} {b} same_said same_bits same_count h =
+        subst (λ (o : Option Verdict). Stops o verdict (HasVerdictFrom (logic_of n (ports_of n p)) new (suc k) (count + b) rows verdict)) same_said
+        (subst (λ (w : ℕ → Tri). Stops d verdict (HasVerdictFrom (logic_of n (ports_of n p)) w (suc k) (count + b) rows verdict)) same_bits
+        (subst (λ (m : ℕ). Stops d verdict (HasVerdictFrom (logic_of n (ports_of n p)) old (suc k) (count + m) rows verdict)) same_count h))

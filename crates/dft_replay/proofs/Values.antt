@@ -1,31 +1,30 @@
 -- The values of all nets of a flat design over one vector, from the bits of its flip-flops.
-use Rattle.std.proofs.Common.{ℕ, zero, suc, ◌+◌, ◌<◌, ◌≤◌, ◌==◌, Bool, true, false, List, [], ◌∷◌, ◌≡◌, ◌⊎◌, inl, inr, refl, sym, ap, ◌∙◌, length, Option, None, Some, slice_get, get_or, map, arith, subst}
-use Rattle.std.specs.Prelude.{position, slice_index_or, if◌then◌else◌}
+use Rattle.std.proofs.Common.{ℕ, zero, suc, ◌≤◌, ◌==◌, Bool, true, false, List, [], ◌∷◌, ◌≡◌, ◌⊎◌, inl, inr, refl, sym, ap, ◌∙◌, length, Option, None, Some, slice_get, get_or, map, arith, subst}
+use Rattle.std.specs.Prelude.{position, if◌then◌else◌}
 use Rattle.std.specs.Str.{bytes_eq}
 use Rattle.std.specs.Option.{option_map}
 use Rattle.std.proofs.lemmas.Bool.{eqb-true, eq-eqb, both_ways}
-use Rattle.std.proofs.lemmas.Option.{slice_get-map, slice_get_within, same_Some, none-some}
+use Rattle.std.proofs.lemmas.Option.{slice_get-map, same_Some}
 use Rattle.dft_base.specs.declared.tri.Tri.{Tri}
-use Rattle.dft_base.specs.declared.tri.Tri.TheVariants.{Zero, Unknown}
+use Rattle.dft_base.specs.declared.tri.Tri.TheVariants.{Unknown}
 use Rattle.dft_netlist.specs.declared.instance.Instance.{Instance}
 use Rattle.dft_netlist.specs.Netlist.{Netlist}
 use Rattle.dft_netlist.specs.Drivers.{Driver, driver}
 use Rattle.dft_netlist.specs.Drivers as drivers
-use Rattle.dft_netlist.specs.Logic.{Ports, Logic, Cell, Meaning, meaning_of, flop_meaning, flip_flop, cell_or_none, logic_of}
-use Rattle.dft_netlist.specs.Settled.{TriSources, IsTriSettled, value_given}
+use Rattle.dft_netlist.specs.Logic.{Ports, Cell, meaning_of, flop_meaning, flip_flop, cell_or_none, logic_of}
+use Rattle.dft_netlist.specs.Settled.{IsTriSettled, value_given}
 use Rattle.dft_netlist.specs.Runs.{Vector}
 use Rattle.dft_netlist.specs.FirstForm.{FlipFlop, instance_of}
 use Rattle.dft_netlist.specs.Flat.{IsFlat, IsOutputOf, flat_cell}
-use Rattle.dft_cycle.specs.Cycle.{tri_forced_by, strobe_sources, pulse_of}
+use Rattle.dft_cycle.specs.Cycle.{tri_forced_by, strobe_sources}
 use Rattle.dft_stil.specs.declared.act.Act.{Act}
 use Rattle.dft_stil.specs.declared.act.Act.TheVariants.{Unset}
 use Rattle.dft_stil.specs.declared.signal.StilSignal.{StilSignal}
 use Rattle.dft_stil.specs.Patterns.{Patterns}
-use Rattle.dft_replay.specs.declared.origin.Origin.{Origin}
-use Rattle.dft_replay.specs.Rows.{name_of, net_named, or_past, act_named, set_to, is_pulse, row_of, pulses, ports_of}
-use Rattle.dft_replay.specs.Origins.{drives, signal_named, or_input, origin_of, origin_at, signal_origin, value_of, act_from, act_at}
+use Rattle.dft_replay.specs.Rows.{name_of, act_named, set_to, row_of, pulses, ports_of}
+use Rattle.dft_replay.specs.Origins.{drives, signal_named, or_input, origin_of, value_of, act_from}
 use Rattle.dft_replay.proofs.Firsts.{IsFirstPlace, position_is_first, act_placed, named_is_placed}
-use Rattle.dft_replay.proofs.Clocks.{AreNamed, AreGood, IsGood, name_there, name_past, pulses_is_clock, pulses_is_low}
+use Rattle.dft_replay.proofs.Clocks.{AreNamed, AreGood, IsGood, name_there, name_past, pulses_is_low}
 
 -- ---- the flip-flop whose output a net is
 
@@ -137,7 +136,7 @@ abbrev pub old_of : List Tri → ℕ → Tri
 old_of bits i = get_or bits i Unknown
 
 -- a flat design's flip-flops have no reset and no set
-unforced : (ports : Ports) (clock i : ℕ) (f : FlipFlop) (cell : Option Cell) (at : ℕ → Tri) (t : Tri) → cell ≡ flat_cell ports clock f → tri_forced_by (cell_or_none i cell).force at t ≡ t
+pub unforced : (ports : Ports) (clock i : ℕ) (f : FlipFlop) (cell : Option Cell) (at : ℕ → Tri) (t : Tri) → cell ≡ flat_cell ports clock f → tri_forced_by (cell_or_none i cell).force at t ≡ t
 unforced ports clock i f cell at t is = rw is (chosen (ports.is_clock clock))
   where
     chosen : (b : Bool) → tri_forced_by (cell_or_none i (if b then Some (record { domain = clock; input = drivers.Net f.data_in.0; scan = None; force = None }) else None)).force at t ≡ t

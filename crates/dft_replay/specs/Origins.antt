@@ -1,5 +1,5 @@
 -- Where the values of nets come from in a flat design: from the inputs and from the flip-flops.
-use Rattle.std.specs.Prelude.{ℕ, Bool, false, ◌==◌, List, [], ◌∷◌, map, position, Option, None, Some, slice_get, get_or}
+use Rattle.std.specs.Prelude.{ℕ, Bool, false, ◌==◌, List, position, Option, None, Some, slice_get, get_or}
 use Rattle.std.specs.Str.{bytes_eq}
 use Rattle.dft_base.specs.declared.tri.Tri.{Tri}
 use Rattle.dft_base.specs.declared.tri.Tri.TheVariants.{Unknown}

@@ -140,8 +140,8 @@ fn judged(vector: u32, signal: u32, value: Tri, act: Act) -> Option<Verdict>
     }
 }
 
-/// Whether a vector compares the bit of a signal.
-pub(crate) fn is_compared(act: Act) -> bool
+// Whether a vector compares the bit of a signal.
+fn is_compared(act: Act) -> bool
     ensures { result ≡ spec.is_compared act }
 {
     match act {
