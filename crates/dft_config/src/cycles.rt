@@ -20,5 +20,9 @@ fn longest_part(items: u32, parts: u32) -> u32
     requires few { items ≤ 1024 }
     ensures { result ≡ spec.part_length items parts 0 }
 {
-    if items % parts > 0 { items / parts + 1 } else { items / parts }
+    if items % parts > 0 {
+        items / parts + 1
+    } else {
+        items / parts
+    }
 }

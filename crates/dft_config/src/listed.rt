@@ -21,9 +21,7 @@ impl<T> Listed<T> {
     pub fn from_vec(entries: Vec<T>) -> Listed<T>
         ensures { result ≡ entries.items }
     {
-        Listed {
-            entries,
-        }
+        Listed { entries }
     }
 
     /// The items.

@@ -35,6 +35,9 @@ fn a_text_that_is_no_table_is_refused(rt: HostRuntime) {
 fn bytes_are_shown(rt: HostRuntime) -> Result<(), Fail> {
     let alloc = rt.alloc();
     assert_eq!(rt; printable(alloc, b"")?.as_slice(), b"?".as_slice());
-    assert_eq!(rt; printable(alloc, "a é".as_bytes())?.as_slice(), b"a???".as_slice());
+    assert_eq!(rt;
+        printable(alloc, "a é".as_bytes())?.as_slice(),
+        b"a???".as_slice()
+    );
     Ok(())
 }
