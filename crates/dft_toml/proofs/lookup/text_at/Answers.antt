@@ -1,5 +1,5 @@
 -- The value that the map holds is the member of the table.
-use Rattle.std.proofs.Common.{rules, ap, ◌∙◌, ◌≡◌, sym, option_map, option_and_then}
+use Rattle.std.proofs.Common.{rules, ap, ◌∙◌, sym, option_map, option_and_then}
 use Rattle.toml.proofs.Views.{table_get}
 use Rattle.toml.specs.Data.{as_str}
 use Rattle.toml.specs.View.{view}

@@ -1,5 +1,4 @@
-use Rattle.std.proofs.Common.{◌≡◌, true, ◌∙◌, sym}
-use Rattle.dft_toml.specs.Values.{is_name}
+use Rattle.std.proofs.Common.{◌∙◌, sym}
 use Rattle.dft_toml.proofs.NameLemmas.{name_tested}
 use Rattle.dft_toml.proofs.name.name_of.Goals as goal
 

@@ -1,4 +1,4 @@
-use Rattle.std.proofs.Common.{◌≡◌, ◌==◌, ◌≤◌, false, length, sym, ◌∙◌, arith}
+use Rattle.std.proofs.Common.{sym, ◌∙◌, arith}
 use Rattle.dft_toml.proofs.NameLemmas.{shown_part_name}
 use Rattle.dft_toml.proofs.name.printable.Goals as goal
 
