@@ -113,11 +113,7 @@ vector_decides n clock cells p k acts bits count rows verdict turn h =
     let values : ℕ → Tri = values_of n p.signals bits acts in
     let next : List Tri = next_bits (takers n p.signals cells) bits acts in
     let found = one_domain l (λ net. 0) x clock (old_of bits) values (order_is_rank n (ports_of n p) (λ net. 0) (flat_is_ordered n clock cells fitting.flat)) (flat_has_no_lockup n clock cells (ports_of n p) fitting.flat)
-<<<<<<< HEAD
-    (pulsed_is_clock n clock cells p.signals acts fitting.flat fitting.named this.fit) (values_settled n clock cells p acts bits fitting.flat fitting.named fitting.good this turn.bits.quiet) in
-=======
     (pulsed_is_clock n clock cells p.signals acts fitting.flat fitting.named this.fit) (values_settled n clock cells p acts bits fitting.flat fitting.named fitting.good this turn.before.quiet) in
->>>>>>> 2620fba7bf83c91265cae420da7a11b4d59ccc06
     let r : Round = found.0 in
     let after : old_of next ≡ after_round l x (old_of bits) r = same_map (old_of next) (after_round l x (old_of bits) r) (after_is n clock cells p k acts bits (after_round l x (old_of bits) r) turn found.1.2) in
     let said : judged_from k 0 (map (signal_origin n p.signals) p.signals) bits acts ≡ decided r.strobe k (compared_from n 0 p.signals acts) =
