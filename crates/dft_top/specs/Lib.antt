@@ -1,10 +1,9 @@
-pub use Rattle.dft_base.specs.Outside
-pub use Rattle.dft_base.specs.Put
-pub use Rattle.dft_replay.specs.Verdicts
-pub use Rattle.dft_replay.specs.Laws
 pub mod Words
 pub mod Named
+pub mod Refusals
+pub mod Verdicts
 pub mod Outcomes
 pub mod Lines
+pub mod Answers
 pub mod Run
 pub mod Laws

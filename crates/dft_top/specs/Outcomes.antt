@@ -1,5 +1,5 @@
 -- What a command comes to, from its words and the files that are held.
-use Rattle.std.specs.Prelude.{ℕ, ◌<◌, ◌≤◌, ◌≡◌, ◌⊎◌, true, List, codes, length, Option, None, Some, slice_get, []}
+use Rattle.std.specs.Prelude.{ℕ, ◌<◌, ◌≤◌, ◌≡◌, ◌⊎◌, true, false, List, codes, length, Option, None, Some, slice_get, []}
 use Rattle.dft_base.specs.Outside.{Held, file_at}
 use Rattle.dft_netlist.specs.Netlist.{Netlist}
 use Rattle.dft_netlist.specs.FirstForm.{first_form}
@@ -13,19 +13,14 @@ use Rattle.dft_replay.specs.Fits.{fits}
 use Rattle.dft_replay.specs.Rows.{rows_of}
 use Rattle.dft_replay.specs.Verdicts.{HasVerdict}
 use Rattle.dft_replay.specs.Laws.{IsRunOf, AllShow}
-use Rattle.dft_top.specs.declared.answer.Code.{Code}
 use Rattle.dft_top.specs.declared.answer.Code.TheVariants.{F1, V3, P2}
-use Rattle.dft_top.specs.declared.answer.Refusal.{Refusal}
+use Rattle.dft_top.specs.Refusals.{refusal_of}
 use Rattle.dft_top.specs.declared.outcome.Outcome.{Outcome}
 use Rattle.dft_top.specs.declared.outcome.Outcome.TheVariants.{Usage, Refused, Passed, Mismatch, Undetermined}
-use Rattle.dft_top.specs.declared.run.TheConstants.{MAX_NETLIST_BYTES, MAX_PATTERN_BYTES}
+use Rattle.dft_top.specs.declared.command.TheConstants.{MAX_NETLIST_BYTES, MAX_PATTERN_BYTES}
 use Rattle.dft_top.specs.Words.{ReplayFiles, files_named}
 
 -- ---- refusals
-
--- a code without parts
-abbrev pub refusal_of : Code → Option (List ℕ) → Refusal
-refusal_of code name = record { code = code; place = None; name = name; first = None; second = None }
 
 abbrev pub netlist_too_long : Outcome
 netlist_too_long = Refused (refusal_of F1 (Some (codes "netlist")))
@@ -44,10 +39,10 @@ not_patterns = Refused (refusal_of P2 None)
 -- the text is the written form of these patterns, which fit the netlist
 pub record AreHeld (n : Netlist) (text : List ℕ) (p : Patterns) : Type 0 where
   pub patterns : IsPatterns p
-  pub text : written p ≡ text
-  pub fits : fits n p ≡ true
+  pub written_form : written p ≡ text
+  pub suits : fits n p ≡ true
 
--- the name of the signal with a number, which a verdict has
+-- the name of the signal with a number; there is one with each number that a verdict has
 abbrev pub name_at : Option StilSignal → List ℕ
 name_at None = []
 name_at (Some signal) = signal.name
@@ -60,10 +55,14 @@ outcome_of p (verdict.Pass compared) = Passed (length p.vectors) compared
 outcome_of p (verdict.Mismatch vector signal) = Mismatch vector (signal_name p.signals signal)
 outcome_of p (verdict.Undetermined vector signal) = Undetermined vector (signal_name p.signals signal)
 
+-- the verdict of patterns that fit, and a refusal of those that do not
+abbrev pub IsOutcomeOn : Netlist → Patterns → Outcome → Type 0
+IsOutcomeOn n p o = ((fits n p ≡ true) × ((v : Verdict) × (HasVerdict n p v × (o ≡ outcome_of p v)))) ⊎ ((fits n p ≡ false) × (o ≡ not_patterns))
+
 -- the verdict of the patterns whose written form the text is; a text that is none is refused
 abbrev pub IsOutcomeOfPatterns : Netlist → (text : List ℕ) → Outcome → Type 0
 IsOutcomeOfPatterns n text o =
-    ((p : Patterns) × (v : Verdict) × AreHeld n text p × HasVerdict n p v × (o ≡ outcome_of p v))
+    ((p : Patterns) × (AreHeld n text p × ((v : Verdict) × (HasVerdict n p v × (o ≡ outcome_of p v)))))
     ⊎ (((p : Patterns) → AreHeld n text p → ⊥) × (o ≡ not_patterns))
 
 -- ---- files in the order in which they are loaded; a file that is not held gives no outcome
@@ -94,15 +93,15 @@ EveryRunShows n p = (start : Now) (turns : List Turn) → IsRunOf n p start turn
 
 -- the netlist and the patterns of the held texts, with a verdict of Pass
 pub record Passes (files : ReplayFiles) (held : Held) (n : Netlist) (p : Patterns) (netlist_text pattern_text : List ℕ) : Type 0 where
-  pub netlist : file_at files.netlist held ≡ Some netlist_text
+  pub netlist_held : file_at files.netlist held ≡ Some netlist_text
   pub design : first_form netlist_text ≡ Some n
-  pub patterns : file_at files.patterns held ≡ Some pattern_text
-  pub held : AreHeld n pattern_text p
-  pub verdict : (compared : ℕ) × HasVerdict n p (verdict.Pass compared)
+  pub patterns_held : file_at files.patterns held ≡ Some pattern_text
+  pub are_held : AreHeld n pattern_text p
+  pub passed : (compared : ℕ) × HasVerdict n p (verdict.Pass compared)
   pub shown : EveryRunShows n p
 
 abbrev pub PassesAs : ReplayFiles → Held → Type 0
-PassesAs files held = (n : Netlist) × (p : Patterns) × (netlist_text : List ℕ) × (pattern_text : List ℕ) × Passes files held n p netlist_text pattern_text
+PassesAs files held = (n : Netlist) × ((p : Patterns) × ((netlist_text : List ℕ) × ((pattern_text : List ℕ) × Passes files held n p netlist_text pattern_text)))
 
 abbrev pub PassesNamed : Option ReplayFiles → Held → Type 0
 PassesNamed None held = ⊥

@@ -8,40 +8,39 @@ use Rattle.dft_top.specs.declared.answer.Answer.{Answer}
 use Rattle.dft_top.specs.declared.answer.Refusal.{Refusal}
 use Rattle.dft_top.specs.declared.outcome.Outcome.{Outcome}
 use Rattle.dft_top.specs.declared.outcome.Outcome.TheVariants as outcome
+use Rattle.dft_top.specs.Answers.{answer_of, stopped}
 use Rattle.dft_top.specs.Words.{ReplayFiles, files_named}
 use Rattle.dft_top.specs.Outcomes.{IsOutcome, HasTurn, IsNamed, PassesNamed}
 use Rattle.dft_top.specs.Lines.{line_of}
 
-abbrev pub status_of : Outcome → Status
-status_of outcome.Usage = Usage
-status_of (outcome.Refused refusal) = Refused
-status_of (outcome.Passed vectors compared) = Done
-status_of (outcome.Mismatch vector signal) = NotPassed
-status_of (outcome.Undetermined vector signal) = NotPassed
+abbrev pub IsNotUsage : Outcome → Type 0
+IsNotUsage outcome.Usage = ⊥
+IsNotUsage (outcome.Refused refusal) = Unit {0}
+IsNotUsage (outcome.Passed vectors compared) = Unit {0}
+IsNotUsage (outcome.Mismatch vector signal) = Unit {0}
+IsNotUsage (outcome.Undetermined vector signal) = Unit {0}
 
-abbrev pub refusal_of : Outcome → Option Refusal
-refusal_of outcome.Usage = None
-refusal_of (outcome.Refused refusal) = Some refusal
-refusal_of (outcome.Passed vectors compared) = None
-refusal_of (outcome.Mismatch vector signal) = None
-refusal_of (outcome.Undetermined vector signal) = None
-
--- the answer of an outcome
-abbrev pub answer_of : Outcome → Answer
-answer_of o = record { status = status_of o; refusal = refusal_of o }
-
--- an answer that stands for no outcome
-abbrev pub stopped : Status → Answer
-stopped status = record { status = status; refusal = None }
-
--- whether words that name files are those of this outcome: Usage is that of the others
+-- Usage is the outcome of exactly the words that are no command
 abbrev pub Suits : Option ReplayFiles → Outcome → Type 0
 Suits None o = o ≡ outcome.Usage
-Suits (Some files) o = o ≡ outcome.Usage → ⊥
+Suits (Some files) o = IsNotUsage o
 
 -- the outcome is that of the words, and of the held files where they are told
 abbrev pub IsOutcomeTold : List (List ℕ) → Option Held → Outcome → Type 0
 IsOutcomeTold words held o = Suits (files_named words) o × Told (λ files. IsOutcome words files o) held
+
+-- a load of a file whose turn came failed
+pub record FailedLoad (words : List (List ℕ)) (held : Option Held) (failed : List ℕ) (faults faults' : ℕ) : Type 0 where
+  pub rose : Rose faults faults'
+  pub named : IsNamed (files_named words) failed
+  pub turn : Told (λ files. HasTurn (files_named words) files failed) held
+
+-- what is printed of an outcome: its line, or a prefix of it where the outside fails, or nothing where memory runs out
+abbrev pub Prints : Outcome → (faults faults' : ℕ) → (old new : Option (List ℕ)) → Answer → Type 0
+Prints o faults faults' old new answer =
+    ((answer ≡ answer_of o) × Adds (line_of o) old new)
+    ⊎ (Rose faults faults' × AddsPrefix (line_of o) old new × (answer ≡ stopped WriteFault))
+    ⊎ ((new ≡ old) × (answer ≡ stopped OutOfMemory))
 
 -- the answer is that of the outcome, whose line was put
 abbrev pub Answers : List (List ℕ) → Option Held → (old new : Option (List ℕ)) → Answer → Type 0
@@ -49,8 +48,7 @@ Answers words held old new answer = (o : Outcome) × (IsOutcomeTold words held o
 
 -- a load of a file whose turn came failed, and nothing was printed
 abbrev pub ReadFails : List (List ℕ) → Option Held → (failed : List ℕ) → (faults faults' : ℕ) → (old new : Option (List ℕ)) → Answer → Type 0
-ReadFails words held failed faults faults' old new answer =
-    Rose faults faults' × IsNamed (files_named words) failed × Told (λ files. HasTurn (files_named words) files failed) held × (new ≡ old) × (answer ≡ stopped ReadFault)
+ReadFails words held failed faults faults' old new answer = FailedLoad words held failed faults faults' × (new ≡ old) × (answer ≡ stopped ReadFault)
 
 -- the line of the outcome could not be put whole
 abbrev pub WriteFails : List (List ℕ) → Option Held → (faults faults' : ℕ) → (old new : Option (List ℕ)) → Answer → Type 0

@@ -1,3 +1,7 @@
+ghost use Rattle.std.specs.Prelude.{◌≡◌};
+ghost use Rattle.dft_top.specs.Answers as spec;
+
+use crate::outcome::Outcome;
 use dft_base::{Name, Place};
 
 /// How a command ended.
@@ -46,4 +50,33 @@ pub struct Refusal {
 pub struct Answer {
     pub status: Status,
     pub refusal: Option<Refusal>,
+}
+
+impl Answer {
+    /// An answer that stands for no outcome.
+    pub(crate) fn stopped(status: Status) -> Answer
+        ensures { result ≡ spec.stopped status }
+    {
+        Answer {
+            status,
+            refusal: None,
+        }
+    }
+
+    /// The answer of an outcome.
+    pub(crate) fn of(outcome: Outcome) -> Answer
+        ensures { result ≡ spec.answer_of outcome }
+    {
+        match outcome {
+            Outcome::Usage => Answer::stopped(Status::Usage),
+            Outcome::Refused(refusal) => Answer {
+                status: Status::Refused,
+                refusal: Some(refusal),
+            },
+            Outcome::Passed { .. } => Answer::stopped(Status::Done),
+            Outcome::Mismatch { .. } | Outcome::Undetermined { .. } => {
+                Answer::stopped(Status::NotPassed)
+            }
+        }
+    }
 }

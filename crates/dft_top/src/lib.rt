@@ -2,11 +2,14 @@
 #![tactic(auto)]
 
 mod answer;
-mod line;
+mod command;
+mod laws;
 mod outcome;
-mod run;
+mod printing;
+mod replaying;
 mod words;
 
 pub use answer::{Answer, Code, Refusal, Status};
+pub use command::{MAX_NETLIST_BYTES, MAX_PATTERN_BYTES, run};
+pub use laws::outcome_is_one;
 pub use outcome::Outcome;
-pub use run::{MAX_NETLIST_BYTES, MAX_PATTERN_BYTES};

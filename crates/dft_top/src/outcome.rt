@@ -1,5 +1,10 @@
-use crate::answer::Refusal;
+ghost use Rattle.std.specs.Prelude.{◌≡◌, IfOk};
+ghost use Rattle.dft_base.specs.Name.{IsName};
+ghost use Rattle.dft_top.specs.Refusals.{refusal_of};
+
+use crate::answer::{Code, Refusal};
 use dft_base::Name;
+use std::alloc::{AllocError, Global};
 
 /// What a command comes to where nothing outside fails and memory is found. Vectors are numbered from 0.
 #[derive(Debug, Drop)]
@@ -14,4 +19,31 @@ pub enum Outcome {
     Mismatch { vector: u32, signal: Name },
     /// The first compared bit that is not known to be as printed is not known, at this signal.
     Undetermined { vector: u32, signal: Name },
+}
+
+/// A refusal with this code and no part.
+pub(crate) fn refused(code: Code) -> Outcome
+    ensures { result ≡ Outcome.Refused (refusal_of code None) }
+{
+    Outcome::Refused(Refusal {
+        code,
+        place: None,
+        name: None,
+        first: None,
+        second: None,
+    })
+}
+
+/// The refusal of a file that is longer than its limit, with the name of its option.
+pub(crate) fn too_long(alloc: Global, option: &[u8]) -> Result<Outcome, AllocError>
+    requires { IsName option.now }
+    ensures { IfOk result (λ o. o ≡ Outcome.Refused (refusal_of Code.F1 (Some option.now))) }
+{
+    Ok(Outcome::Refused(Refusal {
+        code: Code::F1,
+        place: None,
+        name: Some(Name::from_slice(alloc, option)?),
+        first: None,
+        second: None,
+    }))
 }

@@ -8,7 +8,8 @@ use crate::outcome::Outcome;
 use dft_base::Name;
 use std::alloc::{AllocError, Global};
 
-const USAGE: &str = "usage: dft replay, scan, compile, certify or generate, each option once as --name value\n";
+const USAGE: &str =
+    "usage: dft replay, scan, compile, certify or generate, each option once as --name value\n";
 
 fn code_text(code: Code) -> &'static str
     ensures { result.now ≡ spec.code_text code }
@@ -55,12 +56,7 @@ fn passed_line(alloc: Global, vectors: u32, compared: u64) -> Result<Vec<u8>, Al
     Ok(line.into_bytes())
 }
 
-fn failed_line(
-    alloc: Global,
-    what: &str,
-    vector: u32,
-    signal: &Name,
-) -> Result<Vec<u8>, AllocError>
+fn failed_line(alloc: Global, what: &str, vector: u32, signal: &Name) -> Result<Vec<u8>, AllocError>
     ensures { IfOk result (λ line. line.items ≡ spec.failed_line what.now vector signal.now) }
 {
     let head = format!(in alloc; "{what} vector {vector} signal ")?;

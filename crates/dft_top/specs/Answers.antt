@@ -1,0 +1,30 @@
+-- The answer of an outcome.
+use Rattle.std.specs.Prelude.{Option, None, Some}
+use Rattle.dft_top.specs.declared.answer.Status.{Status}
+use Rattle.dft_top.specs.declared.answer.Status.TheVariants.{Done, NotPassed, Usage, Refused}
+use Rattle.dft_top.specs.declared.answer.Answer.{Answer}
+use Rattle.dft_top.specs.declared.answer.Refusal.{Refusal}
+use Rattle.dft_top.specs.declared.outcome.Outcome.{Outcome}
+use Rattle.dft_top.specs.declared.outcome.Outcome.TheVariants as outcome
+
+abbrev pub status_of : Outcome → Status
+status_of outcome.Usage = Usage
+status_of (outcome.Refused refusal) = Refused
+status_of (outcome.Passed vectors compared) = Done
+status_of (outcome.Mismatch vector signal) = NotPassed
+status_of (outcome.Undetermined vector signal) = NotPassed
+
+abbrev pub refusal_of : Outcome → Option Refusal
+refusal_of outcome.Usage = None
+refusal_of (outcome.Refused refusal) = Some refusal
+refusal_of (outcome.Passed vectors compared) = None
+refusal_of (outcome.Mismatch vector signal) = None
+refusal_of (outcome.Undetermined vector signal) = None
+
+-- the answer of an outcome
+abbrev pub answer_of : Outcome → Answer
+answer_of o = record { status = status_of o; refusal = refusal_of o }
+
+-- an answer that stands for no outcome
+abbrev pub stopped : Status → Answer
+stopped status = record { status = status; refusal = None }
