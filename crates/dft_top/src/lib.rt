@@ -7,6 +7,8 @@ mod laws;
 mod outcome;
 mod printing;
 mod replaying;
+#[cfg(test)]
+mod tests;
 mod words;
 
 pub use answer::{Answer, Code, Refusal, Status};
