@@ -1,4 +1,12 @@
 pub use Rattle.dft_base.specs.Name
 pub use Rattle.dft_base.specs.Words
+pub use Rattle.toml.specs.Data
+pub use Rattle.toml.specs.Parse
+pub use Rattle.toml.specs.View
+pub use Rattle.dft_toml.specs.Text
+pub use Rattle.dft_toml.specs.Values
 pub mod Cycles
 pub mod Range
+pub mod Keys
+pub mod Faults
+pub mod Settings

@@ -1,5 +1,6 @@
 use crate::listed::Listed;
 use dft_base::Name;
+use dft_toml::Names;
 
 /// The bits of channels that no equation decides.
 #[derive(Clone, Copy, Debug, PartialEq, Eq)]
@@ -63,11 +64,11 @@ pub struct PortNames {
 #[derive(Debug, Drop)]
 pub struct Config {
     /// The clock ports, 1 to 16.
-    pub domains: Listed<Name>,
+    pub domains: Names,
     /// The reset ports, at most 16.
-    pub resets: Listed<Name>,
+    pub resets: Names,
     /// The flip-flops that are not scanned.
-    pub keep: Listed<Name>,
+    pub keep: Names,
     /// 1 to 1,024 chains.
     pub chains: u16,
     /// The cycles before a load reaches the longest chain, at most 4,095.

@@ -3,7 +3,10 @@
 
 mod config;
 mod cycles;
+mod fault;
 mod listed;
+mod lists;
+mod values;
 
 pub use config::{CompactorConfig, Config, FillRule, Injector, PortNames, RingConfig, Tap};
 pub use cycles::load_cycles;

@@ -53,9 +53,18 @@ abbrev pub names_in : Items → Option (List (List ℕ))
 names_in no_items = Some []
 names_in (item value rest) = with_first (name_in value) (names_in rest)
 
+-- the names of a value that is a list of names
+abbrev pub names_of_value : Data → Option (List (List ℕ))
+names_of_value value = option_and_then names_in (as_array value)
+
 -- the names of the list at a key
 abbrev pub names_at : List ℕ → Members → Option (List (List ℕ))
 names_at key table = option_and_then names_in (option_and_then as_array (get_member key table))
+
+-- the value at a key of a table that may not be there
+abbrev pub value_in : List ℕ → Option Members → Option Data
+value_in key None = None
+value_in key (Some table) = get_member key table
 
 -- the table at a key
 abbrev pub table_at : List ℕ → Members → Option Members

@@ -96,3 +96,29 @@ fn name_in(alloc: Global, value: &Value) -> Result<Option<Name>, AllocError>
         None => Ok(None),
     }
 }
+
+/// The names of a value that is a list of names.
+pub fn names_of_value(alloc: Global, value: &Value) -> Result<Option<Names>, AllocError>
+    ensures { IfOk result (λ found. found ≡ spec.names_of_value (view value.now)) }
+{
+    match value.as_array() {
+        Some(items) => names_in(alloc, items),
+        None => Ok(None),
+    }
+}
+
+/// The value at a key of a table that may not be there.
+pub fn value_in<'a>(table: Option<&'a Table>, key: &str) -> Option<&'a Value>
+    ensures { option_map (λ found. view found.now) result ≡ spec.value_in key.now (option_map (λ t. table_view t.now) table.entry) }
+{
+    match table {
+        Some(table) => value_at(table, key),
+        None => None,
+    }
+}
+
+fn value_at<'a>(table: &'a Table, key: &str) -> Option<&'a Value>
+    ensures { option_map (λ found. view found.now) result ≡ get_member key.now (table_view table.now) }
+{
+    table.get(key)
+}
