@@ -1,5 +1,5 @@
 -- What follows from outcomes: a Pass is one of every run, and there is one outcome at most.
-use Rattle.std.proofs.Common.{ℕ, ◌<◌, ◌≤◌, ◌≡◌, ◌⊎◌, inl, inr, Bool, true, false, List, [], ◌∷◌, length, refl, sym, ap, ◌∙◌, arith, Option, None, Some, subst}
+use Rattle.std.proofs.Common.{ℕ, ◌<◌, ◌≤◌, ◌≡◌, inl, inr, true, List, length, refl, sym, ap, ◌∙◌, arith, Option, None, Some, subst}
 use Rattle.std.specs.Prelude.{IsSomeAnd}
 use Rattle.dft_base.specs.Outside.{Held, Told, file_at}
 use Rattle.dft_netlist.specs.Netlist.{Netlist}
@@ -17,10 +17,9 @@ use Rattle.dft_replay.proofs.Soundness.{pass_sound}
 use Rattle.dft_replay.proofs.Uniqueness.{verdict_one}
 use Rattle.dft_top.specs.declared.answer.Status.TheVariants.{Done}
 use Rattle.dft_top.specs.declared.outcome.Outcome.{Outcome}
-use Rattle.dft_top.specs.declared.outcome.Outcome.TheVariants as outcome
 use Rattle.dft_top.specs.declared.command.TheConstants.{MAX_NETLIST_BYTES, MAX_PATTERN_BYTES}
 use Rattle.dft_top.specs.Words.{ReplayFiles, files_named}
-use Rattle.dft_top.specs.Outcomes.{AreHeld, outcome_of, IsOutcomeOn, IsOutcomeOfPatterns, IsOutcomeOfFile, IsOutcomeOfNetlist, IsOutcomeOfWords, IsOutcome, EveryRunShows, Passes, PassesAs, PassesNamed, netlist_too_long, patterns_too_long, not_a_netlist, not_patterns}
+use Rattle.dft_top.specs.Outcomes.{AreHeld, outcome_of, IsOutcomeOn, IsOutcomeOfPatterns, IsOutcomeOfFile, IsOutcomeOfNetlist, IsOutcomeOfWords, EveryRunShows, PassesAs, PassesNamed, netlist_too_long, patterns_too_long}
 use Rattle.dft_top.specs.Answers.{status_of}
 use Rattle.dft_top.specs.Run.{Prints}
 use Rattle.dft_top.specs.declared.answer.Answer.{Answer}

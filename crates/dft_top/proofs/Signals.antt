@@ -1,5 +1,5 @@
 -- A verdict names a signal of the patterns.
-use Rattle.std.proofs.Common.{ℕ, suc, ◌+◌, ◌<◌, ◌≤◌, ◌≡◌, Bool, true, false, List, [], ◌∷◌, length, refl, sym, arith, Option, None, Some, map}
+use Rattle.std.proofs.Common.{ℕ, suc, ◌+◌, ◌<◌, ◌≤◌, Bool, true, false, List, [], ◌∷◌, length, arith, Option, map}
 use Rattle.dft_base.specs.declared.tri.Tri.{Tri}
 use Rattle.dft_base.specs.declared.tri.Tri.TheVariants.{Zero, One, Unknown}
 use Rattle.dft_netlist.specs.Netlist.{Netlist}
@@ -10,8 +10,7 @@ use Rattle.dft_stil.specs.declared.act.Act.TheVariants.{Unset, Low, High, Pulse,
 use Rattle.dft_stil.specs.declared.signal.StilSignal.{StilSignal}
 use Rattle.dft_stil.specs.Patterns.{Patterns}
 use Rattle.dft_replay.specs.declared.verdict.Verdict.{Verdict}
-use Rattle.dft_replay.specs.declared.verdict.Verdict.TheVariants.{Pass, Mismatch, Undetermined}
-use Rattle.dft_replay.specs.Rows.{Compared, Row, net_named, compared_at, compared_from, row_of, rows_of, ports_of}
+use Rattle.dft_replay.specs.Rows.{Compared, Row, net_named, compared_at, compared_from, row_of, ports_of}
 use Rattle.dft_replay.specs.Verdicts.{decided_by, decided, Stops, HasVerdictFrom, HasVerdict}
 use Rattle.dft_top.specs.Verdicts.{HasSignal}
 

@@ -2,10 +2,8 @@
 use Rattle.std.specs.Prelude.{ℕ, ◌≡◌, ◌⊎◌, List, Option, None, Some}
 use Rattle.dft_base.specs.Outside.{Held, Told, Rose}
 use Rattle.dft_base.specs.Put.{Adds, AddsPrefix}
-use Rattle.dft_top.specs.declared.answer.Status.{Status}
-use Rattle.dft_top.specs.declared.answer.Status.TheVariants.{Done, NotPassed, Usage, Refused, ReadFault, WriteFault, OutOfMemory}
+use Rattle.dft_top.specs.declared.answer.Status.TheVariants.{Done, ReadFault, WriteFault, OutOfMemory}
 use Rattle.dft_top.specs.declared.answer.Answer.{Answer}
-use Rattle.dft_top.specs.declared.answer.Refusal.{Refusal}
 use Rattle.dft_top.specs.declared.outcome.Outcome.{Outcome}
 use Rattle.dft_top.specs.declared.outcome.Outcome.TheVariants as outcome
 use Rattle.dft_top.specs.Answers.{answer_of, stopped}
