@@ -38,9 +38,3 @@ checked false e next = Err e
 abbrev pub cons_ok : {A : Type 0} → Result A Fault → Result (List A) Fault → Result (List A) Fault
 cons_ok (Err e) rest = Err e
 cons_ok (Ok x) rest = after rest (λ xs. Ok (x ∷ xs))
-
--- a first value before the others, where all are there
-abbrev pub first_and_rest : {A : Type 0} → Option A → Option (List A) → Option (List A)
-first_and_rest None rest = None
-first_and_rest (Some x) None = None
-first_and_rest (Some x) (Some xs) = Some (x ∷ xs)

@@ -3,7 +3,7 @@ use Rattle.std.specs.Prelude.{codes, ℕ, ℤ, pos, negsuc, ◌==◌, ◌-◌, �
 use Rattle.std.specs.Str.{bytes_eq}
 use Rattle.dft_base.specs.Words.{is_simple_name, is_later_reserved}
 use Rattle.toml.specs.Data.{Data, Items, no_items, item, as_integer, as_str, as_array}
-use Rattle.dft_toml.specs.Values.{name_of, names_of_value}
+use Rattle.dft_toml.specs.Values.{name_of, names_of_value, with_first}
 use Rattle.dft_config.specs.declared.fault.Key.{Key}
 use Rattle.dft_config.specs.declared.fault.Key.TheVariants as key
 use Rattle.dft_config.specs.declared.fault.Fault.{Fault}
@@ -13,7 +13,7 @@ use Rattle.dft_config.specs.declared.config.FillRule.TheVariants.{Zeros, Ones, S
 use Rattle.dft_config.specs.declared.config.Tap.{Tap}
 use Rattle.dft_config.specs.declared.config.Injector.{Injector}
 use Rattle.dft_config.specs.declared.lists.Pair.{Pair}
-use Rattle.dft_config.specs.Faults.{needed, after, or_outside, cons_ok, first_and_rest}
+use Rattle.dft_config.specs.Faults.{needed, after, or_outside, cons_ok}
 
 -- a number of a text between two bounds
 abbrev pub bounded : ℕ → ℕ → ℤ → Option ℕ
@@ -50,7 +50,7 @@ lists_below k bound (zs ∷ lists) = cons_ok (all_below k bound zs) (lists_below
 -- the numbers that the items of a list are, where each is one
 abbrev pub integers_in : Items → Option (List ℤ)
 integers_in no_items = Some []
-integers_in (item value rest) = first_and_rest (as_integer value) (integers_in rest)
+integers_in (item value rest) = with_first (as_integer value) (integers_in rest)
 
 -- the numbers of a value that is a list of numbers
 abbrev pub integers_of : Data → Option (List ℤ)
@@ -59,7 +59,7 @@ integers_of value = option_and_then integers_in (as_array value)
 -- the lists of numbers that the items of a list are, where each is one
 abbrev pub lists_in : Items → Option (List (List ℤ))
 lists_in no_items = Some []
-lists_in (item value rest) = first_and_rest (integers_of value) (lists_in rest)
+lists_in (item value rest) = with_first (integers_of value) (lists_in rest)
 
 -- the lists of a value that is a list of lists of numbers
 abbrev pub lists_of : Data → Option (List (List ℤ))
@@ -72,7 +72,7 @@ pair_of _ = None
 
 abbrev pub pairs_of : List (List ℤ) → Option (List Pair)
 pairs_of [] = Some []
-pairs_of (zs ∷ lists) = first_and_rest (pair_of zs) (pairs_of lists)
+pairs_of (zs ∷ lists) = with_first (pair_of zs) (pairs_of lists)
 
 -- a tap between stages, and an injector of a channel into a stage
 abbrev pub tap_of : ℕ → Pair → Result Tap Fault

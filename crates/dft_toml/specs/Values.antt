@@ -43,10 +43,10 @@ name_at key table = option_and_then name_of (text_at key table)
 abbrev pub name_in : Data → Option (List ℕ)
 name_in value = option_and_then name_of (as_str value)
 
--- a first name before the others, where both are there
-abbrev pub with_first : Option (List ℕ) → Option (List (List ℕ)) → Option (List (List ℕ))
-with_first None names = None
-with_first (Some name) names = option_map (λ rest. name ∷ rest) names
+-- a first value before the others, where both are there
+abbrev pub with_first : {A : Type 0} → Option A → Option (List A) → Option (List A)
+with_first None values = None
+with_first (Some value) values = option_map (λ rest. value ∷ rest) values
 
 -- the names that the items of a list are, where each is one
 abbrev pub names_in : Items → Option (List (List ℕ))
