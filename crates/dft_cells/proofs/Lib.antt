@@ -3,3 +3,11 @@ pub mod Finding
 pub mod StandardFits
 pub mod Pairs
 pub mod Bits
+pub mod RowLemmas
+pub mod ScanLemmas
+pub mod LibraryLemmas
+pub mod FitLemmas
+pub mod Outcomes
+pub mod RoleLemmas
+pub mod Halving
+pub mod ReadingLemmas

@@ -7,3 +7,12 @@ pub mod Standard
 pub mod Cells
 pub mod WellFormed
 pub mod Tables
+pub mod Keys
+pub mod Refusals
+pub mod Drafts
+pub mod Reading
+pub use Rattle.dft_base.specs.Words
+pub use Rattle.toml.specs.Data
+pub use Rattle.toml.specs.View
+pub use Rattle.dft_toml.specs.Values
+pub use Rattle.dft_toml.specs.Text

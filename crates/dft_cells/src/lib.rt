@@ -2,10 +2,17 @@
 #![tactic(auto)]
 
 mod cell;
+mod draft;
 mod gates;
+mod keys;
 mod kind;
 mod laws;
 mod library;
+mod reader;
+#[cfg(test)]
+mod reading_tests;
+mod refusal;
+mod scans;
 mod standard;
 #[cfg(test)]
 mod tests;
@@ -15,3 +22,4 @@ pub use gates::{bit_of, tri_of};
 pub use kind::{Kind, Role};
 pub use laws::{completions_are_above, next_values_are_above};
 pub use library::{Library, MAX_CELLS};
+pub use refusal::LibraryError;

@@ -1,11 +1,13 @@
-ghost use Rattle.std.specs.Prelude.{◌≡◌, ◌<◌, ◌≤◌, IfOk, IsSome, MatchOption, Some, length, slice_get};
+ghost use Rattle.std.specs.Prelude.{◌≡◌, ◌<◌, ◌≤◌, IfOk, IfErr, IsSome, MatchOption, Some, length, slice_get};
 ghost use Rattle.dft_cells.specs.Cells.{find_cell, NoneNamed, IsNamed, NoneBefore, IsFirstOf};
+ghost use Rattle.dft_cells.specs.Reading.{IsLibraryOf, IsRefusedAs};
 ghost use Rattle.dft_cells.specs.Standard.{standard_cells};
 ghost use Rattle.dft_cells.specs.WellFormed.{IsWellFormed};
 
 use crate::cell::{Cell, CellId};
 use crate::kind::Kind;
-use crate::standard;
+use crate::refusal::LibraryError;
+use crate::{reader, standard};
 use std::alloc::{AllocError, Global};
 use std::marker::Model;
 
@@ -36,6 +38,19 @@ impl Library {
         ensures { IfOk result (λ library. library ≡ standard_cells) }
     {
         let cells = standard::cells(alloc)?;
+        Ok(Library { cells })
+    }
+
+    /// The library that a TOML text stands for, with its cells in byte order of their names. Otherwise the first check
+    /// that fails: first the table `cells`; then each cell by its keys, its kind, its pins and its name; then the scan
+    /// cells; then that a dff and a lockup stand there.
+    pub fn read(alloc: Global, bytes: &[u8]) -> Result<Library, LibraryError>
+        requires { length bytes.now ≤ 67108864 }
+        ensures library { IfOk result (IsLibraryOf bytes.now) }
+        ensures refused { IfErr result (IsRefusedAs bytes.now) }
+    {
+        let table = reader::table_of(alloc, bytes)?;
+        let cells = reader::cells(alloc, &table)?;
         Ok(Library { cells })
     }
 
