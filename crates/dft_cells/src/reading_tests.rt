@@ -1,12 +1,13 @@
 use super::*;
+use dft_base::Name;
 use std::alloc::{AllocError, Global};
 use std::test::Fail;
 
 // The cells that each library needs, as the standard library has them.
-const NEEDED: &str =
+static NEEDED: &str =
     "[cells.DFF]\nkind = 'dff'\nclock = 'CK'\ndin = 'D'\noutput = 'Q'\n[cells.LOCKUP]\nkind = 'lockup'\nclock = 'CK'\ndin = 'D'\noutput = 'Q'\n";
 
-const STANDARD: &str = "\
+static STANDARD: &str = "\
 [cells]
 AND2 = { kind = 'and', inputs = ['A', 'B'], output = 'Y' }
 AND3 = { kind = 'and', inputs = ['A', 'B', 'C'], output = 'Y' }
@@ -38,25 +39,29 @@ XNOR2 = { kind = 'xnor', inputs = ['A', 'B'], output = 'Y' }
 XOR2 = { kind = 'xor', inputs = ['A', 'B'], output = 'Y' }
 ";
 
-// A refusal as a line of text: its code, and its name where it has one.
-fn shown(alloc: Global, outcome: &Result<Library, LibraryError>) -> Result<String, AllocError> {
-    let (code, name) = match outcome {
-        Ok(_) => ("read", None),
-        Err(LibraryError::NotToml) => ("L6", None),
-        Err(LibraryError::L1 { name }) => ("L1", Some(name)),
-        Err(LibraryError::L2 { name }) => ("L2", Some(name)),
-        Err(LibraryError::L3 { name }) => ("L3", Some(name)),
-        Err(LibraryError::L4 { name }) => ("L4", Some(name)),
-        Err(LibraryError::L5 { name }) => ("L5", Some(name)),
-        Err(LibraryError::L7 { name }) => ("L7", Some(name)),
-        Err(LibraryError::Memory(_)) => ("memory", None),
-    };
+// What a text reads as: the code of its refusal with its name, or `read`.
+fn line_of(alloc: Global, text: &str) -> Result<String, AllocError> {
+    if text.len() > 67_108_864 {
+        return String::from_str(alloc, "too long");
+    }
+    match Library::read(alloc, text.as_bytes()) {
+        Ok(_) => String::from_str(alloc, "read"),
+        Err(LibraryError::NotToml) => String::from_str(alloc, "L6"),
+        Err(LibraryError::L1 { name }) => shown(alloc, "L1", &name),
+        Err(LibraryError::L2 { name }) => shown(alloc, "L2", &name),
+        Err(LibraryError::L3 { name }) => shown(alloc, "L3", &name),
+        Err(LibraryError::L4 { name }) => shown(alloc, "L4", &name),
+        Err(LibraryError::L5 { name }) => shown(alloc, "L5", &name),
+        Err(LibraryError::L7 { name }) => shown(alloc, "L7", &name),
+        Err(LibraryError::Memory(e)) => Err(e),
+    }
+}
+
+fn shown(alloc: Global, code: &str, name: &Name) -> Result<String, AllocError> {
     let mut line = String::from_str(alloc, code)?;
-    if let Some(name) = name {
-        line.push(' ')?;
-        for byte in name.as_slice() {
-            line.push(char::from(*byte))?;
-        }
+    line.push(' ')?;
+    for byte in name.as_slice() {
+        line.push(char::from(*byte))?;
     }
     Ok(line)
 }
@@ -64,170 +69,168 @@ fn shown(alloc: Global, outcome: &Result<Library, LibraryError>) -> Result<Strin
 #[test]
 fn the_standard_cells_are_read(rt: HostRuntime) -> Result<(), Fail> {
     let alloc = rt.alloc();
-    let standard = Library::standard(alloc)?;
-    let read = match Library::read(alloc, STANDARD.as_bytes()) {
-        Ok(library) => library,
-        Err(error) => {
-            assert!(rt; false, "{}", shown(alloc, &Err(error))?);
-            return Ok(());
+    let text = STANDARD;
+    assert!(rt; text.len() < 67_108_864);
+    let made = format!(in alloc; "{:?}", Library::standard(alloc)?)?;
+    match Library::read(alloc, text.as_bytes()) {
+        Ok(library) => {
+            let read = format!(in alloc; "{:?}", library)?;
+            assert_eq!(rt; read, made);
         },
-    };
-    let as_read = format!(in alloc; "{:?}", read)?;
-    let as_made = format!(in alloc; "{:?}", standard)?;
-    assert_eq!(rt; read.cells().len(), 28);
-    assert_eq!(rt; as_read, as_made);
+        Err(_) => assert!(rt; false, "the text is a library"),
+    }
     Ok(())
 }
+
+static FRONTS: [(&str, &str); 28] = [
+    // text before the needed cells, and the line
+    ("", "read"),
+    ("cells = ", "L6"),
+    ("x = 1\n", "L7 cells"),
+    ("[cells.a]\n", "L7 a"),
+    ("[cells]\n'a b' = 1\n", "L7 a?b"),
+    ("[cells]\n'é' = 1\n", "L7 ??"),
+    ("[cells]\n'' = 1\n", "L7 ?"),
+    ("[cells.a]\nkind = 'latch'\n", "L1 a"),
+    ("[cells.and]\nkind = 'latch'\nother = 1\n", "L1 and"),
+    (
+        "[cells.a]\nkind = 'and'\ninputs = []\noutput = 'Y'\n",
+        "L2 a",
+    ),
+    (
+        "[cells.a]\nkind = 'and'\ninputs = ['A']\noutput = 'Y'\n",
+        "read",
+    ),
+    (
+        "[cells.a]\nkind = 'and'\ninputs = ['A', 'Y']\noutput = 'Y'\n",
+        "L2 a",
+    ),
+    (
+        "[cells.a]\nkind = 'and'\ninputs = ['A', '']\noutput = 'Y'\n",
+        "L7 a",
+    ),
+    (
+        "[cells.a]\nkind = 'and'\ninputs = ['A', 1]\noutput = 'Y'\n",
+        "L7 a",
+    ),
+    (
+        "[cells.a]\nkind = 'and'\ninputs = ['A']\noutput = 'Y'\nscan = 'DFF'\n",
+        "L7 a",
+    ),
+    (
+        "[cells.a]\nkind = 'opaque'\ninputs = []\noutputs = []\n",
+        "read",
+    ),
+    (
+        "[cells.a]\nkind = 'opaque'\ninputs = ['A']\noutputs = ['A']\n",
+        "L2 a",
+    ),
+    (
+        "[cells.a]\nkind = 'table'\ninputs = ['A', 'B']\noutput = 'Y'\ntable = '0110'\n",
+        "read",
+    ),
+    (
+        "[cells.a]\nkind = 'table'\ninputs = ['A', 'B']\noutput = 'Y'\ntable = '011'\n",
+        "L2 a",
+    ),
+    (
+        "[cells.a]\nkind = 'table'\ninputs = ['A', 'B']\noutput = 'Y'\ntable = '0112'\n",
+        "L2 a",
+    ),
+    (
+        "[cells.a]\nkind = 'table'\ninputs = ['A', 'B']\noutput = 'Y'\n",
+        "L7 a",
+    ),
+    (
+        "[cells.and]\nkind = 'buf'\ninputs = ['A']\noutput = 'Y'\n",
+        "L3 and",
+    ),
+    (
+        "[cells.and]\nkind = 'buf'\ninputs = ['A', 'B']\noutput = 'Y'\n",
+        "L2 and",
+    ),
+    (
+        "[cells.a]\nkind = 'buf'\ninputs = 1\n[cells.b]\nkind = 'x'\n",
+        "L7 a",
+    ),
+    ("[cells.a]\nkind = 'x'\n[cells.b]\n", "L1 a"),
+    (
+        "[cells.F]\nkind = 'dff'\nclock = 'CK'\ndin = 'D'\noutput = 'Q'\nscan = 'S'\n",
+        "L5 F",
+    ),
+    (
+        "[cells.F]\nkind = 'dff'\nclock = 'CK'\ndin = 'D'\noutput = 'Q'\nscan = 'DFF'\n",
+        "L5 F",
+    ),
+    (
+        "[cells.F]\nkind = 'dff'\nclock = 'CK'\ndin = 'D'\noutput = 'Q'\nscan = ''\n",
+        "L7 F",
+    ),
+];
 
 #[test]
 fn the_first_failing_check_is_told(rt: HostRuntime) -> Result<(), Fail> {
     let alloc = rt.alloc();
-    let table = [
-        // text before the needed cells, and the line
-        ("", "read"),
-        ("cells = ", "L6"),
-        ("x = 1\n", "L7 cells"),
-        ("[cells.a]\n", "L7 a"),
-        ("[cells]\n'a b' = 1\n", "L7 a?b"),
-        ("[cells]\n'é' = 1\n", "L7 ??"),
-        ("[cells]\n'' = 1\n", "L7 ?"),
-        ("[cells.a]\nkind = 'latch'\n", "L1 a"),
-        ("[cells.and]\nkind = 'latch'\nother = 1\n", "L1 and"),
-        (
-            "[cells.a]\nkind = 'and'\ninputs = []\noutput = 'Y'\n",
-            "L2 a",
-        ),
-        (
-            "[cells.a]\nkind = 'and'\ninputs = ['A']\noutput = 'Y'\n",
-            "read",
-        ),
-        (
-            "[cells.a]\nkind = 'and'\ninputs = ['A', 'Y']\noutput = 'Y'\n",
-            "L2 a",
-        ),
-        (
-            "[cells.a]\nkind = 'and'\ninputs = ['A', '']\noutput = 'Y'\n",
-            "L7 a",
-        ),
-        (
-            "[cells.a]\nkind = 'and'\ninputs = ['A', 1]\noutput = 'Y'\n",
-            "L7 a",
-        ),
-        (
-            "[cells.a]\nkind = 'and'\ninputs = ['A']\noutput = 'Y'\nscan = 'DFF'\n",
-            "L7 a",
-        ),
-        (
-            "[cells.a]\nkind = 'opaque'\ninputs = []\noutputs = []\n",
-            "read",
-        ),
-        (
-            "[cells.a]\nkind = 'opaque'\ninputs = ['A']\noutputs = ['A']\n",
-            "L2 a",
-        ),
-        (
-            "[cells.a]\nkind = 'table'\ninputs = ['A', 'B']\noutput = 'Y'\ntable = '0110'\n",
-            "read",
-        ),
-        (
-            "[cells.a]\nkind = 'table'\ninputs = ['A', 'B']\noutput = 'Y'\ntable = '011'\n",
-            "L2 a",
-        ),
-        (
-            "[cells.a]\nkind = 'table'\ninputs = ['A', 'B']\noutput = 'Y'\ntable = '0112'\n",
-            "L2 a",
-        ),
-        (
-            "[cells.a]\nkind = 'table'\ninputs = ['A', 'B']\noutput = 'Y'\n",
-            "L7 a",
-        ),
-        (
-            "[cells.and]\nkind = 'buf'\ninputs = ['A']\noutput = 'Y'\n",
-            "L3 and",
-        ),
-        (
-            "[cells.and]\nkind = 'buf'\ninputs = ['A', 'B']\noutput = 'Y'\n",
-            "L2 and",
-        ),
-        (
-            "[cells.a]\nkind = 'buf'\ninputs = 1\n[cells.b]\nkind = 'x'\n",
-            "L7 a",
-        ),
-        ("[cells.a]\nkind = 'x'\n[cells.b]\n", "L1 a"),
-        (
-            "[cells.F]\nkind = 'dff'\nclock = 'CK'\ndin = 'D'\noutput = 'Q'\nscan = 'S'\n",
-            "L5 F",
-        ),
-        (
-            "[cells.F]\nkind = 'dff'\nclock = 'CK'\ndin = 'D'\noutput = 'Q'\nscan = 'DFF'\n",
-            "L5 F",
-        ),
-        (
-            "[cells.F]\nkind = 'dff'\nclock = 'CK'\ndin = 'D'\noutput = 'Q'\nscan = ''\n",
-            "L7 F",
-        ),
-    ];
-    for (front, line) in &table {
+    for (front, line) in &FRONTS {
         let text = format!(in alloc; "{front}{NEEDED}")?;
-        let outcome = Library::read(alloc, text.as_bytes());
-        assert_eq!(rt; shown(alloc, &outcome)?.as_str(), *line);
+        assert_eq!(rt; line_of(alloc, text.as_str())?.as_str(), *line);
     }
     Ok(())
 }
+
+static SCAN_CELLS: [(&str, &str); 4] = [
+    (
+        "kind = 'sdff'\nclock = 'CK'\ndin = 'D'\nscan_in = 'SI'\nscan_enable = 'SE'\noutput = 'Q'\n",
+        "read",
+    ),
+    (
+        "kind = 'sdff'\nclock = 'CP'\ndin = 'D'\nscan_in = 'SI'\nscan_enable = 'SE'\noutput = 'Q'\n",
+        "L5 F",
+    ),
+    (
+        "kind = 'sdff'\nclock = 'CK'\ndin = 'D'\nscan_in = 'SI'\nscan_enable = 'SE'\noutput = 'Q'\ninverted = 'QN'\n",
+        "L5 F",
+    ),
+    (
+        "kind = 'sdffr'\nclock = 'CK'\ndin = 'D'\nreset = 'RN'\nscan_in = 'SI'\nscan_enable = 'SE'\noutput = 'Q'\n",
+        "L5 F",
+    ),
+];
 
 #[test]
 fn a_scan_cell_shares_the_pins_of_its_flip_flop(rt: HostRuntime) -> Result<(), Fail> {
     let alloc = rt.alloc();
     let flip_flop = "[cells.F]\nkind = 'dff'\nclock = 'CK'\ndin = 'D'\noutput = 'Q'\nscan = 'S'\n";
-    let table = [
-        (
-            "kind = 'sdff'\nclock = 'CK'\ndin = 'D'\nscan_in = 'SI'\nscan_enable = 'SE'\noutput = 'Q'\n",
-            "read",
-        ),
-        (
-            "kind = 'sdff'\nclock = 'CP'\ndin = 'D'\nscan_in = 'SI'\nscan_enable = 'SE'\noutput = 'Q'\n",
-            "L5 F",
-        ),
-        (
-            "kind = 'sdff'\nclock = 'CK'\ndin = 'D'\nscan_in = 'SI'\nscan_enable = 'SE'\noutput = 'Q'\ninverted = 'QN'\n",
-            "L5 F",
-        ),
-        (
-            "kind = 'sdffr'\nclock = 'CK'\ndin = 'D'\nreset = 'RN'\nscan_in = 'SI'\nscan_enable = 'SE'\noutput = 'Q'\n",
-            "L5 F",
-        ),
-    ];
-    for (scan_cell, line) in &table {
+    for (scan_cell, line) in &SCAN_CELLS {
         let text = format!(in alloc; "{NEEDED}{flip_flop}[cells.S]\n{scan_cell}")?;
-        let outcome = Library::read(alloc, text.as_bytes());
-        assert_eq!(rt; shown(alloc, &outcome)?.as_str(), *line);
+        assert_eq!(rt; line_of(alloc, text.as_str())?.as_str(), *line);
     }
     Ok(())
 }
 
+static LIBRARIES: [(&str, &str); 6] = [
+    ("", "L7 cells"),
+    ("cells = 1\n", "L7 cells"),
+    ("[cells]\n", "L4 dff"),
+    (
+        "[cells.NAND2]\nkind = 'nand'\ninputs = ['A', 'B']\noutput = 'Y'\n",
+        "L4 dff",
+    ),
+    (
+        "[cells.F]\nkind = 'dff'\nclock = 'CK'\ndin = 'D'\noutput = 'Q'\n",
+        "L4 lockup",
+    ),
+    (
+        "[cells.L]\nkind = 'lockup'\nclock = 'CK'\ndin = 'D'\noutput = 'Q'\n",
+        "L4 dff",
+    ),
+];
+
 #[test]
 fn a_dff_is_needed_before_a_lockup(rt: HostRuntime) -> Result<(), Fail> {
     let alloc = rt.alloc();
-    let table = [
-        ("", "L7 cells"),
-        ("cells = 1\n", "L7 cells"),
-        ("[cells]\n", "L4 dff"),
-        (
-            "[cells.NAND2]\nkind = 'nand'\ninputs = ['A', 'B']\noutput = 'Y'\n",
-            "L4 dff",
-        ),
-        (
-            "[cells.F]\nkind = 'dff'\nclock = 'CK'\ndin = 'D'\noutput = 'Q'\n",
-            "L4 lockup",
-        ),
-        (
-            "[cells.L]\nkind = 'lockup'\nclock = 'CK'\ndin = 'D'\noutput = 'Q'\n",
-            "L4 dff",
-        ),
-    ];
-    for (text, line) in &table {
-        let outcome = Library::read(alloc, text.as_bytes());
-        assert_eq!(rt; shown(alloc, &outcome)?.as_str(), *line);
+    for (text, line) in &LIBRARIES {
+        assert_eq!(rt; line_of(alloc, text)?.as_str(), *line);
     }
     Ok(())
 }
@@ -238,6 +241,7 @@ fn a_table_has_its_bits_from_the_lowest(rt: HostRuntime) -> Result<(), Fail> {
     let text = format!(in alloc;
         "{NEEDED}[cells.T]\nkind = 'table'\ninputs = ['A', 'B']\noutput = 'Y'\ntable = '0100'\n"
     )?;
+    assert!(rt; text.len() < 67_108_864);
     match Library::read(alloc, text.as_bytes()) {
         Ok(library) => assert!(rt; library.first_of(Kind::Table(2)).is_some()),
         Err(_) => assert!(rt; false, "the text is a library"),
@@ -254,10 +258,8 @@ fn more_cells_than_a_library_may_have_are_refused(rt: HostRuntime) -> Result<(),
         text.push_str(cell.as_str())?;
     }
     text.push_str(NEEDED)?;
-    let full = Library::read(alloc, text.as_bytes());
-    assert_eq!(rt; shown(alloc, &full)?.as_str(), "read");
+    assert_eq!(rt; line_of(alloc, text.as_str())?.as_str(), "read");
     text.push_str("[cells.one]\nkind = 'tie0'\noutput = 'Y'\n")?;
-    let over = Library::read(alloc, text.as_bytes());
-    assert_eq!(rt; shown(alloc, &over)?.as_str(), "L7 cells");
+    assert_eq!(rt; line_of(alloc, text.as_str())?.as_str(), "L7 cells");
     Ok(())
 }
