@@ -4,6 +4,7 @@ pub mod StandardFits
 pub mod Pairs
 pub mod Bits
 pub mod RowLemmas
+pub mod Differing
 pub mod ScanLemmas
 pub mod LibraryLemmas
 pub mod FitLemmas

@@ -4,7 +4,7 @@ ghost use Rattle.std.specs.Prelude.{◌≡◌, ◌≤◌, ◌<◌, ◌^◌, if�
 ghost use Rattle.toml.specs.View.{view, table_view};
 ghost use Rattle.dft_cells.specs.Drafts as spec;
 ghost use Rattle.dft_cells.specs.Refusals.{IsFlaw};
-ghost use Rattle.dft_cells.specs.WellFormed.{all_differ, has_name, pin_name};
+ghost use Rattle.dft_cells.specs.WellFormed.{all_differ, pin_name};
 
 use crate::cell::{Pin, Pins};
 use crate::keys::{PinKey, keys_of, kind_named, pin_keys};
@@ -13,6 +13,7 @@ use crate::refusal::Flaw;
 use dft_base::{Name, is_reserved};
 use dft_toml::{Names, has_key, has_only, name_at, name_of, names_at, text_at};
 use std::alloc::{AllocError, Global};
+use std::collections::BTreeSet;
 use toml::{Table, Value};
 
 /// A cell whose scan cell is not found yet.
@@ -59,7 +60,7 @@ fn draft_of_kind(alloc: Global, name: Name, kind: Kind, table: &Table) -> Result
     };
     let scan = scan_name(alloc, table)?;
     let rows = rows_of(kind, table)?;
-    let kind = fitted(kind, pins.as_slice(), rows)?;
+    let kind = fitted(alloc, kind, pins.as_slice(), rows)?;
     if is_reserved(name.as_slice()) {
         return Err(Flaw::Reserved);
     }
@@ -156,11 +157,15 @@ fn rows_of(kind: Kind, table: &Table) -> Result<&str, Flaw>
 }
 
 /// The kind with its number, where the number of inputs, the names of the pins and the rows fit it.
-fn fitted(kind: Kind, pins: &[Pin], rows: &str) -> Result<Kind, Flaw>
-    ensures { result ≡ spec.fitted kind pins.now rows.now }
+fn fitted(alloc: Global, kind: Kind, pins: &[Pin], rows: &str) -> Result<Kind, Flaw>
+    ensures ok { IfOk result (λ fitting. spec.fitted kind pins.now rows.now ≡ Ok fitting) }
+    ensures flaw { IfErr result (λ flaw. IsFlaw flaw → spec.fitted kind pins.now rows.now ≡ Err flaw) }
 {
     let inputs = input_count(pins);
-    if !takes_inputs(kind, inputs) || !all_differ(pins) {
+    if !takes_inputs(kind, inputs) {
+        return Err(Flaw::Pins);
+    }
+    if !all_differ(alloc, pins)? {
         return Err(Flaw::Pins);
     }
     match kind {
@@ -204,26 +209,18 @@ fn takes_inputs(kind: Kind, inputs: usize) -> bool
     }
 }
 
-fn all_differ(pins: &[Pin]) -> bool
-    ensures { result ≡ all_differ (map pin_name pins.now) }
+/// Whether no name stands twice among the pins.
+fn all_differ(alloc: Global, pins: &[Pin]) -> Result<bool, AllocError>
+    ensures { IfOk result (λ differ. differ ≡ all_differ (map pin_name pins.now)) }
 {
-    for (place, pin) in pins.iter().enumerate() {
-        if has_name(&pins[place + 1..], pin.name.as_slice()) {
-            return false;
-        }
-    }
-    true
-}
-
-fn has_name(pins: &[Pin], name: &[u8]) -> bool
-    ensures { result ≡ has_name (map pin_name pins.now) name.now }
-{
+    let mut names = BTreeSet::new(alloc);
     for pin in pins {
-        if pin.name.as_slice() == name {
-            return true;
+        let name = Vec::from_slice(alloc, pin.name.as_slice())?;
+        if !names.insert(name)? {
+            return Ok(false);
         }
     }
-    false
+    Ok(true)
 }
 
 fn table_kind(inputs: usize, rows: &str) -> Result<Kind, Flaw>

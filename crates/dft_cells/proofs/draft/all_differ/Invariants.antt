@@ -1,7 +1,11 @@
--- The rest of the pins gives what all of them give.
-use Rattle.std.proofs.Common.{◌≡◌, drop, map}
+-- The keys are the names of the first pins, and these differ.
+use Rattle.std.proofs.Common.{◌≡◌, true, map, take}
 use Rattle.dft_cells.specs.WellFormed.{all_differ, pin_name}
+use Rattle.dft_cells.proofs.Differing.{AreSeen}
 use Rattle.dft_cells.proofs.draft.all_differ.Given as goal
 
-abbrev pub invariant-loop-place : goal.invariant-loop-place
-invariant-loop-place l = all_differ (map pin_name l.pins) ≡ all_differ (map pin_name (drop l.place l.pins))
+abbrev pub invariant-loop-pin : goal.invariant-loop-pin
+invariant-loop-pin l = record {
+  keys : AreSeen l.names.keys (map pin_name (take l.pin-index l.pins));
+  differ : all_differ (map pin_name (take l.pin-index l.pins)) ≡ true;
+}
