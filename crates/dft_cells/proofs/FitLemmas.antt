@@ -1,14 +1,10 @@
 -- The library that a table stands for is well formed.
-use Rattle.std.proofs.Common.{ℕ, zero, suc, ◌≡◌, ◌+◌, ◌≤◌, ◌<◌, nat_le, ◌&&◌, Bool, true, false, not, cond, IsTrue, codes, List, [], ◌∷◌, ◌++◌, map, length, slice_get, Option, Some, None, MatchOption, option_and_then, Result, Ok, Err, ◌⊎◌, inl, inr, Ordering, Less, nat_cmp, String, Global, string_bytes, subst, refl, sym, ap, ◌∙◌, append-nil, arith}
+use Rattle.std.proofs.Common.{ℕ, ◌≡◌, ◌≤◌, nat_le, Bool, true, false, not, cond, codes, List, [], ◌∷◌, map, length, Option, Some, None, option_and_then, Result, Ok, Err, Less, String, Global, string_bytes, refl, arith}
 use Rattle.std.specs.Map.{keys_of}
 use Rattle.std.specs.String.{string_cmp}
-use Rattle.std.specs.List.{AllByRecursion, list_any}
+use Rattle.std.specs.List.{AllByRecursion}
 use Rattle.std.specs.List.Sorted.{IsStrictlySortedBy}
-use Rattle.std.specs.Cmp.Lexicographic.{slice_cmp}
-use Rattle.std.proofs.lemmas.Bool.{and_parts}
 use Rattle.std.proofs.lemmas.Bool.Decides.{nat_tests}
-use Rattle.std.proofs.lemmas.Slice.Eq.{bytes_eq-Decides}
-use Rattle.std.specs.Str.{bytes_eq}
 use Rattle.dft_base.specs.Words.{is_reserved}
 use Rattle.toml.specs.Data.{Data, Members, no_members, member, as_table}
 use Rattle.toml.specs.View.{view, members_view}
@@ -16,18 +12,14 @@ use Rattle.toml.specs.declared.value.Value.{Value}
 use Rattle.dft_toml.specs.Values.{is_name, name_of, text_at, table_at, has_only}
 use Rattle.dft_cells.specs.declared.kind.Kind.{Kind}
 use Rattle.dft_cells.specs.declared.cell.Pin.{Pin}
-use Rattle.dft_cells.specs.declared.cell.Cell.{Cell}
-use Rattle.dft_cells.specs.declared.cell.CellId.{CellId}
 use Rattle.dft_cells.specs.declared.draft.Draft.{Draft}
 use Rattle.dft_cells.specs.declared.refusal.Flaw.{Flaw}
 use Rattle.dft_cells.specs.declared.refusal.Flaw.TheVariants as flaw
-use Rattle.dft_cells.specs.declared.refusal.LibraryError.{LibraryError}
 use Rattle.dft_cells.specs.declared.library.TheConstants.{MAX_CELLS}
 use Rattle.dft_cells.specs.Keys.{kind_named, keys_of as key_words, pin_keys}
 use Rattle.dft_cells.specs.Drafts.{draft_of, draft_of_kind, pins_of, scan_name, rows_of, fitted}
-use Rattle.dft_cells.specs.Refusals.{needed, checked, after, cons_ok}
-use Rattle.dft_cells.specs.Reading.{key_count, few, cells_table, judged, drafts_of, cell_with, cell_of, cells_among}
-use Rattle.dft_cells.specs.WellFormed.{IsCell, ascend, comes_before, cell_name, role_of, pin_name}
+use Rattle.dft_cells.specs.Reading.{key_count, few, cells_table, judged, drafts_of, cell_with}
+use Rattle.dft_cells.specs.WellFormed.{IsCell, ascend, comes_before}
 use Rattle.dft_cells.proofs.Outcomes.{needed_ok, checked_ok, after_ok, cons_parts}
 use Rattle.dft_cells.proofs.RoleLemmas.{fitted_parts}
 use Rattle.dft_cells.proofs.Halving.{names_of}

@@ -1,5 +1,5 @@
 -- The cells of drafts that fit make a library that is well formed.
-use Rattle.std.proofs.Common.{ℕ, zero, suc, ◌≡◌, ◌+◌, ◌≤◌, ◌||◌, Bool, true, false, cond, IsTrue, codes, List, [], ◌∷◌, ◌++◌, map, length, slice_get, Option, Some, None, MatchOption, option_and_then, Result, Ok, Err, String, Global, subst, refl, sym, ap, ◌∙◌, append-nil, arith}
+use Rattle.std.proofs.Common.{ℕ, zero, suc, ◌≡◌, ◌≤◌, ◌||◌, Bool, true, false, cond, codes, List, [], ◌∷◌, ◌++◌, map, length, slice_get, Option, Some, None, option_and_then, Ok, Err, String, Global, subst, refl, ap, ◌∙◌, append-nil, arith}
 use Rattle.std.specs.List.{AllByRecursion, list_any}
 use Rattle.std.proofs.lemmas.Bool.{false≢true}
 use Rattle.toml.specs.Data.{Members}
@@ -7,7 +7,7 @@ use Rattle.toml.specs.View.{members_view}
 use Rattle.toml.specs.declared.value.Value.{Value}
 use Rattle.dft_toml.specs.Text.{IsTable}
 use Rattle.dft_cells.specs.declared.kind.Kind.{Kind}
-use Rattle.dft_cells.specs.declared.kind.Kind.TheVariants.{Buf, Inv, And, Nand, Or, Nor, Xor, Xnor, Mux2, Table, Tie0, Tie1, Dff, Dffr, Dffs, Sdff, Sdffr, Sdffs, Lockup, Opaque}
+use Rattle.dft_cells.specs.declared.kind.Kind.TheVariants.{Dff, Lockup}
 use Rattle.dft_cells.specs.declared.cell.Cell.{Cell}
 use Rattle.dft_cells.specs.declared.cell.CellId.{CellId}
 use Rattle.dft_cells.specs.declared.draft.Draft.{Draft}
@@ -15,8 +15,8 @@ use Rattle.dft_cells.specs.declared.refusal.LibraryError.{LibraryError}
 use Rattle.dft_cells.specs.declared.refusal.LibraryError.TheVariants as error
 use Rattle.dft_cells.specs.declared.library.TheConstants.{MAX_CELLS}
 use Rattle.dft_cells.specs.Cells.{find_cell}
-use Rattle.dft_cells.specs.Refusals.{after, checked, needed, IsRefusal, IsOfTable}
-use Rattle.dft_cells.specs.WellFormed.{IsCell, IsScanCell, HasScanCell, HasKind, IsWellFormed, HasRoles, ascend, cell_name, scan_kind, shared_pins}
+use Rattle.dft_cells.specs.Refusals.{after, checked, IsRefusal, IsOfTable}
+use Rattle.dft_cells.specs.WellFormed.{IsCell, HasScanCell, HasKind, IsWellFormed, ascend, cell_name}
 use Rattle.dft_cells.specs.Reading.{cell_with, cell_named, cell_of, cells_among, number_where, scan_cell, is_scan_cell, is_dff, is_lockup, with_needed_kinds, drafts_of, library_of, IsRefusedAs}
 use Rattle.dft_cells.proofs.Outcomes.{needed_ok, checked_ok, cons_parts}
 use Rattle.dft_cells.proofs.Halving.{names_of}

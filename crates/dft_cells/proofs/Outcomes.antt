@@ -1,5 +1,5 @@
 -- What a reading that gives a value went through.
-use Rattle.std.proofs.Common.{◌≡◌, Bool, true, false, List, [], ◌∷◌, ◌++◌, Option, Some, None, Result, Ok, Err, refl, ap, sym}
+use Rattle.std.proofs.Common.{◌≡◌, Bool, true, false, List, ◌∷◌, Option, Some, None, Result, Ok, Err, refl}
 use Rattle.dft_cells.specs.Refusals.{needed, checked, after, cons_ok}
 
 pub needed_ok : {E A B : Type 0} (e : E) (o : Option A) (next : A → Result B E) (b : B) → needed e o next ≡ Ok b → (a : A) × (o ≡ Some a) × (next a ≡ Ok b)

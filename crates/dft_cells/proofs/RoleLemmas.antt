@@ -1,9 +1,9 @@
 -- The pins that the keys of a kind name have the roles of the kind.
-use Rattle.std.proofs.Common.{ℕ, zero, suc, ◌≡◌, ◌+◌, ◌≤◌, ◌==◌, ◌^◌, ◌&&◌, nat_le, Bool, true, false, cond, IsTrue, List, [], ◌∷◌, ◌++◌, map, length, replicate, Option, Some, None, option_map, Result, Ok, Err, ◌⊎◌, inl, inr, codes, subst, refl, sym, ap, ◌∙◌, add-zero, zero-add, append-nil, arith}
+use Rattle.std.proofs.Common.{ℕ, zero, suc, ◌≡◌, ◌+◌, ◌≤◌, ◌==◌, ◌^◌, ◌&&◌, nat_le, Bool, true, false, cond, IsTrue, List, [], ◌∷◌, ◌++◌, map, length, replicate, Option, Some, None, option_map, Result, Ok, ◌⊎◌, inl, inr, codes, subst, refl, sym, ap, ◌∙◌, add-zero, zero-add, append-nil, arith}
 use Rattle.std.proofs.lemmas.Bool.{and_parts}
 use Rattle.std.proofs.lemmas.Bool.Decides.{nat_tests}
 use Rattle.toml.specs.Data.{Members}
-use Rattle.dft_toml.specs.Values.{name_at, names_at, has_key}
+use Rattle.dft_toml.specs.Values.{name_at, has_key}
 use Rattle.dft_cells.specs.declared.kind.Kind.{Kind}
 use Rattle.dft_cells.specs.declared.kind.Kind.TheVariants.{Buf, Inv, And, Nand, Or, Nor, Xor, Xnor, Mux2, Table, Tie0, Tie1, Dff, Dffr, Dffs, Sdff, Sdffr, Sdffs, Lockup, Opaque}
 use Rattle.dft_cells.specs.declared.kind.Role.{Role}
@@ -14,7 +14,7 @@ use Rattle.dft_cells.specs.declared.cell.Pin.{Pin}
 use Rattle.dft_cells.specs.declared.refusal.Flaw.{Flaw}
 use Rattle.dft_cells.specs.declared.refusal.Flaw.TheVariants as flaw
 use Rattle.dft_cells.specs.Keys.{pin_keys}
-use Rattle.dft_cells.specs.Drafts.{pin_with, before_pins, pins_of, names_of_key, one_name, is_input_role, input_count, takes_inputs, with_number, table_kind, fitted, number_of_rows}
+use Rattle.dft_cells.specs.Drafts.{pin_with, before_pins, pins_of, is_input_role, input_count, takes_inputs, with_number, table_kind, fitted, number_of_rows}
 use Rattle.dft_cells.specs.Refusals.{needed, checked}
 use Rattle.dft_cells.specs.WellFormed.{TakesInputs, GateRoles, FlipFlopRoles, HasRoles, role_of, pin_name, all_differ}
 use Rattle.dft_cells.proofs.Outcomes.{needed_ok, checked_ok}

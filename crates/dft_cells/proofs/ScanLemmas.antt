@@ -1,16 +1,16 @@
 -- A scan cell that passes the test shares its pins.
-use Rattle.std.proofs.Common.{ℕ, zero, suc, ◌≡◌, ◌+◌, ◌&&◌, Bool, true, false, List, [], ◌∷◌, ◌++◌, map, length, cond, Some, ◌⊎◌, inl, inr, refl, sym, ap, ap₂, ◌∙◌, arith}
+use Rattle.std.proofs.Common.{ℕ, ◌≡◌, Bool, true, false, List, [], ◌∷◌, ◌++◌, map, length, cond, Some, inl, inr, refl, sym, ap, ap₂, ◌∙◌, arith}
 use Rattle.std.specs.Str.{bytes_eq}
 use Rattle.std.proofs.lemmas.Bool.{and_parts, false≢true}
 use Rattle.std.proofs.lemmas.List.{length-append, length-map}
 use Rattle.std.proofs.lemmas.Slice.Eq.{bytes_eq-Decides}
 use Rattle.dft_cells.specs.declared.kind.Kind.{Kind}
-use Rattle.dft_cells.specs.declared.kind.Kind.TheVariants.{Buf, Inv, And, Nand, Or, Nor, Xor, Xnor, Mux2, Table, Tie0, Tie1, Dff, Dffr, Dffs, Sdff, Sdffr, Sdffs, Lockup, Opaque}
+use Rattle.dft_cells.specs.declared.kind.Kind.TheVariants.{Dff, Dffr, Dffs, Sdff, Sdffr, Sdffs}
 use Rattle.dft_cells.specs.declared.kind.Role.{Role}
-use Rattle.dft_cells.specs.declared.kind.Role.TheVariants.{Input, Clock, Din, Reset, Preset, ScanIn, ScanEnable, Output, Inverted}
+use Rattle.dft_cells.specs.declared.kind.Role.TheVariants.{Clock, Din, Reset, Preset, ScanIn, ScanEnable, Output, Inverted}
 use Rattle.dft_cells.specs.declared.cell.Pin.{Pin}
 use Rattle.dft_cells.specs.declared.draft.Draft.{Draft}
-use Rattle.dft_cells.specs.WellFormed.{FlipFlopRoles, HasRoles, role_of, pin_name, is_scan_role, shared_pins, scan_kind}
+use Rattle.dft_cells.specs.WellFormed.{FlipFlopRoles, HasRoles, pin_name, is_scan_role, shared_pins, scan_kind}
 use Rattle.dft_cells.specs.Reading.{are_scan_kinds, same_names, is_scan_cell}
 use Rattle.dft_cells.proofs.RoleLemmas.{roles_of}
 

@@ -1,10 +1,10 @@
 -- The cell that a name and its value in a library file stand for, with its scan cell still by name.
-use Rattle.std.specs.Prelude.{codes, ℕ, zero, suc, ◌==◌, ◌+◌, ◌*◌, ◌^◌, Bool, true, false, not, ◌&&◌, ◌||◌, List, [], ◌∷◌, ◌++◌, map, length, Option, Some, None, option_map, Result, Ok, Err, nat_le, if◌then◌else◌}
+use Rattle.std.specs.Prelude.{codes, ℕ, ◌==◌, ◌+◌, ◌^◌, Bool, true, false, not, ◌&&◌, List, [], ◌∷◌, ◌++◌, map, length, Option, Some, None, option_map, Result, Ok, nat_le, if◌then◌else◌}
 use Rattle.dft_base.specs.Words.{is_reserved}
 use Rattle.toml.specs.Data.{Data, Members, as_table}
 use Rattle.dft_toml.specs.Values.{name_of, name_at, names_at, text_at, has_key, has_only, with_first}
 use Rattle.dft_cells.specs.declared.kind.Kind.{Kind}
-use Rattle.dft_cells.specs.declared.kind.Kind.TheVariants.{Buf, Inv, And, Nand, Or, Nor, Xor, Xnor, Mux2, Table, Tie0, Tie1, Dff, Dffr, Dffs, Sdff, Sdffr, Sdffs, Lockup, Opaque}
+use Rattle.dft_cells.specs.declared.kind.Kind.TheVariants.{Buf, Inv, And, Nand, Or, Nor, Xor, Xnor, Mux2, Table}
 use Rattle.dft_cells.specs.declared.kind.Role.{Role}
 use Rattle.dft_cells.specs.declared.kind.Role.TheVariants as role
 use Rattle.dft_cells.specs.declared.keys.PinKey.{PinKey}
@@ -15,7 +15,7 @@ use Rattle.dft_cells.specs.declared.refusal.Flaw.{Flaw}
 use Rattle.dft_cells.specs.declared.refusal.Flaw.TheVariants as flaw
 use Rattle.dft_cells.specs.Gates.{number_of}
 use Rattle.dft_cells.specs.WellFormed.{all_differ, pin_name}
-use Rattle.dft_cells.specs.Keys.{text_of, role_of_key, pin_keys, keys_of, kind_named}
+use Rattle.dft_cells.specs.Keys.{role_of_key, pin_keys, keys_of, kind_named}
 use Rattle.dft_cells.specs.Refusals.{needed, checked, after}
 
 -- the one name at a key, as a list

@@ -1,12 +1,12 @@
 -- The library that the table of a text stands for, or the first check that fails.
-use Rattle.std.specs.Prelude.{◌≡◌, codes, ℕ, ◌+◌, Bool, true, false, ◌&&◌, List, [], ◌∷◌, map, length, slice_get, Option, Some, None, option_and_then, Result, Ok, Err, nat_le, if◌then◌else◌}
+use Rattle.std.specs.Prelude.{◌≡◌, codes, ℕ, ◌+◌, Bool, true, false, ◌&&◌, List, [], ◌∷◌, map, slice_get, Option, Some, None, option_and_then, Result, Ok, Err, nat_le, if◌then◌else◌}
 use Rattle.std.specs.List.{list_any}
 use Rattle.std.specs.Str.{bytes_eq}
 use Rattle.toml.specs.Data.{Members, no_members, member}
 use Rattle.dft_toml.specs.Text.{IsTable, IsNoTable}
 use Rattle.dft_toml.specs.Values.{has_only, table_at}
 use Rattle.dft_cells.specs.declared.kind.Kind.{Kind}
-use Rattle.dft_cells.specs.declared.kind.Kind.TheVariants.{Buf, Inv, And, Nand, Or, Nor, Xor, Xnor, Mux2, Table, Tie0, Tie1, Dff, Dffr, Dffs, Sdff, Sdffr, Sdffs, Lockup, Opaque}
+use Rattle.dft_cells.specs.declared.kind.Kind.TheVariants.{Dff, Dffr, Dffs, Sdff, Sdffr, Sdffs, Lockup}
 use Rattle.dft_cells.specs.declared.cell.CellId.{CellId}
 use Rattle.dft_cells.specs.declared.cell.Cell.{Cell}
 use Rattle.dft_cells.specs.declared.draft.Draft.{Draft}

@@ -1,5 +1,5 @@
 -- Steps of a reading that may end in a flaw of a cell or in a refusal of the library.
-use Rattle.std.specs.Prelude.{ℕ, Bool, true, false, List, [], ◌∷◌, Option, Some, None, Result, Ok, Err}
+use Rattle.std.specs.Prelude.{ℕ, Bool, true, false, List, ◌∷◌, Option, Some, None, Result, Ok, Err}
 use Rattle.dft_toml.specs.Values.{printable}
 use Rattle.dft_cells.specs.declared.refusal.Flaw.{Flaw}
 use Rattle.dft_cells.specs.declared.refusal.Flaw.TheVariants as flaw
