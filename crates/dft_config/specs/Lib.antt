@@ -10,3 +10,6 @@ pub mod Range
 pub mod Keys
 pub mod Faults
 pub mod Settings
+pub mod Unknown
+pub mod Checks
+pub mod Reading

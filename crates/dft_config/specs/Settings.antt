@@ -25,7 +25,7 @@ abbrev pub within : Key → ℕ → ℕ → ℤ → Result ℕ Fault
 within k low high z = or_outside k z (bounded low high z)
 
 -- the number at a key
-abbrev pub number : Key → ℕ → ℕ → Option Data → Result ℕ Fault
+unfoldable pub number : Key → ℕ → ℕ → Option Data → Result ℕ Fault
 number k low high value = needed k (option_and_then as_integer value) (within k low high)
 
 -- a number of a text below a bound
@@ -95,7 +95,7 @@ abbrev pub of_length : ℕ → List (List ℤ) → Option (List (List ℤ))
 of_length count lists = if length lists == count then Some lists else None
 
 -- the numbers of a list that may be left out
-abbrev pub numbers : Key → ℕ → Option Data → Result (List ℕ) Fault
+unfoldable pub numbers : Key → ℕ → Option Data → Result (List ℕ) Fault
 numbers k bound None = Ok []
 numbers k bound (Some value) = needed k (integers_of value) (all_below k bound)
 
@@ -104,16 +104,16 @@ abbrev pub pairs : Key → Option Data → Result (List Pair) Fault
 pairs k value = needed k (option_and_then pairs_of (option_and_then lists_of value)) (λ found. Ok found)
 
 -- the taps, the injectors, the phase and the groups
-abbrev pub taps : ℕ → Option Data → Result (List Tap) Fault
+unfoldable pub taps : ℕ → Option Data → Result (List Tap) Fault
 taps stages value = after (pairs key.Taps value) (taps_of stages)
 
-abbrev pub injectors : ℕ → ℕ → Option Data → Result (List Injector) Fault
+unfoldable pub injectors : ℕ → ℕ → Option Data → Result (List Injector) Fault
 injectors channels stages value = after (pairs key.Injectors value) (injectors_of channels stages)
 
-abbrev pub phase : ℕ → ℕ → Option Data → Result (List (List ℕ)) Fault
+unfoldable pub phase : ℕ → ℕ → Option Data → Result (List (List ℕ)) Fault
 phase chains stages value = needed key.Phase (option_and_then (of_length chains) (option_and_then lists_of value)) (lists_below key.Phase stages)
 
-abbrev pub groups : ℕ → Option Data → Result (List (List ℕ)) Fault
+unfoldable pub groups : ℕ → Option Data → Result (List (List ℕ)) Fault
 groups chains value =
     needed key.Groups (option_and_then lists_of value) (λ lists. after (within key.Groups 1 32 (pos (length lists))) (λ count. lists_below key.Groups chains lists))
 
@@ -121,14 +121,14 @@ groups chains value =
 abbrev pub counted : Key → ℕ → ℕ → List (List ℕ) → Result (List (List ℕ)) Fault
 counted k low high names = after (within k low high (pos (length names))) (λ count. Ok names)
 
-abbrev pub domains : Option Data → Result (List (List ℕ)) Fault
+unfoldable pub domains : Option Data → Result (List (List ℕ)) Fault
 domains value = needed key.Domains (option_and_then names_of_value value) (counted key.Domains 1 16)
 
-abbrev pub resets : Option Data → Result (List (List ℕ)) Fault
+unfoldable pub resets : Option Data → Result (List (List ℕ)) Fault
 resets None = Ok []
 resets (Some value) = needed key.Resets (names_of_value value) (counted key.Resets 0 16)
 
-abbrev pub keep : Option Data → Result (List (List ℕ)) Fault
+unfoldable pub keep : Option Data → Result (List (List ℕ)) Fault
 keep None = Ok []
 keep (Some value) = needed key.Keep (names_of_value value) (λ names. Ok names)
 
@@ -140,7 +140,7 @@ fill_named word seed =
     else (if bytes_eq word (codes "seed") then after (number key.Seed 0 (2 ^ 63 - 1) seed) (λ n. Ok (Seed n))
     else Err (fault.Missing key.Fill)))
 
-abbrev pub fill : Option Data → Option Data → Result FillRule Fault
+unfoldable pub fill : Option Data → Option Data → Result FillRule Fault
 fill None seed = Ok Zeros
 fill (Some value) seed = needed key.Fill (as_str value) (λ word. fill_named word seed)
 
@@ -149,6 +149,6 @@ abbrev pub free_name : List ℕ → Option (List ℕ)
 free_name text = if is_simple_name text && not (is_later_reserved text) then name_of text else None
 
 -- the name of a port, or its default
-abbrev pub port_name : Key → List ℕ → Option Data → Result (List ℕ) Fault
+unfoldable pub port_name : Key → List ℕ → Option Data → Result (List ℕ) Fault
 port_name k default None = Ok default
 port_name k default (Some value) = needed k (option_and_then free_name (as_str value)) (λ name. Ok name)

@@ -3,9 +3,11 @@
 
 mod config;
 mod cycles;
+mod distinct;
 mod fault;
 mod listed;
 mod lists;
+mod reading;
 mod values;
 
 pub use config::{CompactorConfig, Config, FillRule, Injector, PortNames, RingConfig, Tap};
