@@ -10,7 +10,7 @@ use crate::fault::{Fault, Key};
 use crate::values::{
     domains, fill, groups, injectors, keep, number, numbers, phase, port_name, resets, taps,
 };
-use dft_toml::{table_at, value_in};
+use dft_toml::{table_at, value_at, value_in};
 use std::alloc::Global;
 use toml::Table;
 
@@ -31,5 +31,75 @@ fn ring_of(alloc: Global, chains: u16, table: Option<&Table>) -> Result<RingConf
         taps,
         injectors,
         phase,
+    })
+}
+
+/// The compactor for so many chains.
+#[tactic(auto, unfolding(crate::specs::Reading::compactor_of))]
+fn compactor_of(
+    alloc: Global,
+    chains: u16,
+    table: Option<&Table>,
+) -> Result<CompactorConfig, Fault>
+    ensures ok { IfOk result (λ compactor. spec.compactor_of chains (option_map (λ t. table_view t.now) table.entry) ≡ Ok compactor) }
+    ensures refused { IfErr result (λ e. IsFault e → spec.compactor_of chains (option_map (λ t. table_view t.now) table.entry) ≡ Err e) }
+{
+    let groups = groups(alloc, chains, value_in(table, "groups"))?;
+    let most = u64::from(chains).min(32);
+    let mask_inputs = number(Key::MaskInputs, 1, most, value_in(table, "mask_inputs"))? as u8;
+    Ok(CompactorConfig {
+        groups,
+        mask_inputs,
+    })
+}
+
+/// The names of ports.
+#[tactic(auto, unfolding(crate::specs::Reading::names_of_ports))]
+fn names_of_ports(alloc: Global, table: Option<&Table>) -> Result<PortNames, Fault>
+    ensures ok { IfOk result (λ names. spec.names_of_ports (option_map (λ t. table_view t.now) table.entry) ≡ Ok names) }
+    ensures refused { IfErr result (λ e. IsFault e → spec.names_of_ports (option_map (λ t. table_view t.now) table.entry) ≡ Err e) }
+{
+    Ok(PortNames {
+        scan_enable: port_name(alloc, Key::ScanEnable, b"scan_enable", value_in(table, "scan_enable"))?,
+        edt_clock: port_name(alloc, Key::EdtClock, b"edt_clock", value_in(table, "edt_clock"))?,
+        edt_update: port_name(alloc, Key::EdtUpdate, b"edt_update", value_in(table, "edt_update"))?,
+        channel: port_name(alloc, Key::Channel, b"edt_in", value_in(table, "channel"))?,
+        mask: port_name(alloc, Key::Mask, b"edt_mask", value_in(table, "mask"))?,
+        output: port_name(alloc, Key::Output, b"edt_out", value_in(table, "output"))?,
+        scan_in: port_name(alloc, Key::ScanIn, b"scan_in", value_in(table, "scan_in"))?,
+        scan_out: port_name(alloc, Key::ScanOut, b"scan_out", value_in(table, "scan_out"))?,
+    })
+}
+
+/// The configuration whose keys a table has.
+#[tactic(auto, unfolding(crate::specs::Reading::keys_of))]
+pub fn keys_of(alloc: Global, table: &Table) -> Result<Config, Fault>
+    ensures ok { IfOk result (λ config. spec.keys_of (table_view table.now) ≡ Ok config) }
+    ensures refused { IfErr result (λ e. IsFault e → spec.keys_of (table_view table.now) ≡ Err e) }
+{
+    number(Key::Version, 1, 1, value_at(table, "version"))?;
+    let domains = domains(alloc, value_at(table, "domains"))?;
+    let resets = resets(alloc, value_at(table, "resets"))?;
+    let keep = keep(alloc, value_at(table, "keep"))?;
+    let chains = number(Key::Chains, 1, 1024, value_at(table, "chains"))? as u16;
+    let warm = number(Key::Warm, 0, 4095, value_at(table, "warm"))? as u16;
+    let window = number(Key::Window, 1, 16, value_at(table, "window"))? as u8;
+    let fill = fill(value_at(table, "fill"), value_at(table, "seed"))?;
+    let always_masked = numbers(alloc, Key::AlwaysMasked, chains, value_at(table, "always_masked"))?;
+    let ring = ring_of(alloc, chains, table_at(table, "ring"))?;
+    let compactor = compactor_of(alloc, chains, table_at(table, "compactor"))?;
+    let names = names_of_ports(alloc, table_at(table, "names"))?;
+    Ok(Config {
+        domains,
+        resets,
+        keep,
+        chains,
+        warm,
+        window,
+        fill,
+        always_masked,
+        ring,
+        compactor,
+        names,
     })
 }
