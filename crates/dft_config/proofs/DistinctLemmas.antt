@@ -125,4 +125,4 @@ pub texts_differ : {E : Type 0} (texts : List (Bor (List ℕ))) (names : List (L
 texts_differ texts names r h e =
     ok_along r (all_differ (λ a b. is_eq (slice_cmp nat_cmp a.now b.now)) texts) (all_differ bytes_eq names) h
     (differ_same (λ (a b : Bor (List ℕ)). is_eq (slice_cmp nat_cmp a.now b.now)) (λ a b. bytes_eq a.now b.now) (λ a b. is_eq-slice_cmp a.now b.now) texts
-     ∙ differ_map (λ (t : Bor (List ℕ)). t.now) bytes_eq texts ∙ ap (all_differ bytes_eq) e)
+    ∙ differ_map (λ (t : Bor (List ℕ)). t.now) bytes_eq texts ∙ ap (all_differ bytes_eq) e)

@@ -9,6 +9,7 @@ pub mod Cycles
 pub mod Range
 pub mod Keys
 pub mod Faults
+pub mod Ports
 pub mod Settings
 pub mod Unknown
 pub mod Checks

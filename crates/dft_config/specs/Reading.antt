@@ -3,6 +3,7 @@ use Rattle.std.specs.Prelude.{codes, ℕ, pos, min, List, [], ◌∷◌, Option,
 use Rattle.toml.specs.Data.{Data, Members, get_member}
 use Rattle.dft_toml.specs.Values.{value_in, table_at}
 use Rattle.dft_config.specs.declared.fault.Key.TheVariants as key
+use Rattle.dft_config.specs.declared.port.Port.TheVariants as port
 use Rattle.dft_config.specs.declared.fault.Fault.{Fault}
 use Rattle.dft_config.specs.declared.fault.Fault.TheVariants as fault
 use Rattle.dft_config.specs.declared.config.RingConfig.{RingConfig}
@@ -28,20 +29,20 @@ ring_of chains table =
 unfoldable pub compactor_of : ℕ → Option Members → Result CompactorConfig Fault
 compactor_of chains table =
     after (groups chains (value_in (codes "groups") table)) (λ groups.
-    after (number key.MaskInputs 1 (min 32 chains) (value_in (codes "mask_inputs") table)) (λ mask_inputs.
+    after (number key.MaskInputs 1 (min chains 32) (value_in (codes "mask_inputs") table)) (λ mask_inputs.
     Ok (record { groups = groups; mask_inputs = mask_inputs })))
 
 -- the names of ports, each with its default
 unfoldable pub names_of_ports : Option Members → Result PortNames Fault
 names_of_ports table =
-    after (port_name key.ScanEnable (codes "scan_enable") (value_in (codes "scan_enable") table)) (λ scan_enable.
-    after (port_name key.EdtClock (codes "edt_clock") (value_in (codes "edt_clock") table)) (λ edt_clock.
-    after (port_name key.EdtUpdate (codes "edt_update") (value_in (codes "edt_update") table)) (λ edt_update.
-    after (port_name key.Channel (codes "edt_in") (value_in (codes "channel") table)) (λ channel.
-    after (port_name key.Mask (codes "edt_mask") (value_in (codes "mask") table)) (λ mask.
-    after (port_name key.Output (codes "edt_out") (value_in (codes "output") table)) (λ output.
-    after (port_name key.ScanIn (codes "scan_in") (value_in (codes "scan_in") table)) (λ scan_in.
-    after (port_name key.ScanOut (codes "scan_out") (value_in (codes "scan_out") table)) (λ scan_out.
+    after (port_name port.ScanEnable table) (λ scan_enable.
+    after (port_name port.EdtClock table) (λ edt_clock.
+    after (port_name port.EdtUpdate table) (λ edt_update.
+    after (port_name port.Channel table) (λ channel.
+    after (port_name port.Mask table) (λ mask.
+    after (port_name port.Output table) (λ output.
+    after (port_name port.ScanIn table) (λ scan_in.
+    after (port_name port.ScanOut table) (λ scan_out.
     Ok (record { scan_enable = scan_enable; edt_clock = edt_clock; edt_update = edt_update; channel = channel; mask = mask; output = output; scan_in = scan_in; scan_out = scan_out })))))))))
 
 -- the configuration whose keys a table has: the keys are read in this order, and the version is 1
@@ -60,8 +61,18 @@ keys_of table =
     after (compactor_of chains (table_at (codes "compactor") table)) (λ compactor.
     after (names_of_ports (table_at (codes "names") table)) (λ names.
     Ok (record {
-        domains = domains; resets = resets; keep = keep; chains = chains; warm = warm; window = window; fill = fill;
-        always_masked = always_masked; ring = ring; compactor = compactor; names = names })))))))))))))
+      domains = domains;
+      resets = resets;
+      keep = keep;
+      chains = chains;
+      warm = warm;
+      window = window;
+      fill = fill;
+      always_masked = always_masked;
+      ring = ring;
+      compactor = compactor;
+      names = names;
+    })))))))))))))
 
 -- the configuration of a table, or its first fault: its keys are read in order; then no key is unknown, nothing stands
 -- twice, no list in a list is empty, and each chain stands in a group

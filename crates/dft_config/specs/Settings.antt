@@ -2,8 +2,8 @@
 use Rattle.std.specs.Prelude.{codes, ℕ, ℤ, pos, negsuc, ◌==◌, ◌-◌, ◌^◌, Bool, true, false, not, ◌&&◌, List, [], ◌∷◌, length, Option, Some, None, option_and_then, Result, Ok, Err, nat_le, nat_lt, if◌then◌else◌}
 use Rattle.std.specs.Str.{bytes_eq}
 use Rattle.dft_base.specs.Words.{is_simple_name, is_later_reserved}
-use Rattle.toml.specs.Data.{Data, Items, no_items, item, as_integer, as_str, as_array}
-use Rattle.dft_toml.specs.Values.{name_of, names_of_value, with_first}
+use Rattle.toml.specs.Data.{Data, Members, Items, no_items, item, as_integer, as_str, as_array}
+use Rattle.dft_toml.specs.Values.{name_of, names_of_value, value_in, with_first}
 use Rattle.dft_config.specs.declared.fault.Key.{Key}
 use Rattle.dft_config.specs.declared.fault.Key.TheVariants as key
 use Rattle.dft_config.specs.declared.fault.Fault.{Fault}
@@ -13,6 +13,8 @@ use Rattle.dft_config.specs.declared.config.FillRule.TheVariants.{Zeros, Ones, S
 use Rattle.dft_config.specs.declared.config.Tap.{Tap}
 use Rattle.dft_config.specs.declared.config.Injector.{Injector}
 use Rattle.dft_config.specs.declared.lists.Pair.{Pair}
+use Rattle.dft_config.specs.declared.port.Port.{Port}
+use Rattle.dft_config.specs.Ports.{key_of, word_of, default_of}
 use Rattle.dft_config.specs.Faults.{needed, after, or_outside, cons_ok}
 
 -- a number of a text between two bounds
@@ -149,6 +151,10 @@ abbrev pub free_name : List ℕ → Option (List ℕ)
 free_name text = if is_simple_name text && not (is_later_reserved text) then name_of text else None
 
 -- the name of a port, or its default
-unfoldable pub port_name : Key → List ℕ → Option Data → Result (List ℕ) Fault
-port_name k default None = Ok default
-port_name k default (Some value) = needed k (option_and_then free_name (as_str value)) (λ name. Ok name)
+abbrev pub name_or_default : Port → Option Data → Result (List ℕ) Fault
+name_or_default port None = Ok (default_of port)
+name_or_default port (Some value) = needed (key_of port) (option_and_then free_name (as_str value)) (λ name. Ok name)
+
+-- the name of a port that the table of names gives
+unfoldable pub port_name : Port → Option Members → Result (List ℕ) Fault
+port_name port table = name_or_default port (value_in (word_of port) table)

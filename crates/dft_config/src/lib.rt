@@ -7,6 +7,7 @@ mod distinct;
 mod fault;
 mod listed;
 mod lists;
+mod port;
 mod reading;
 mod values;
 

@@ -7,6 +7,7 @@ ghost use Rattle.dft_config.specs.Reading as spec;
 
 use crate::config::{CompactorConfig, Config, PortNames, RingConfig};
 use crate::fault::{Fault, Key};
+use crate::port::Port;
 use crate::values::{
     domains, fill, groups, injectors, keep, number, numbers, phase, port_name, resets, taps,
 };
@@ -36,11 +37,7 @@ fn ring_of(alloc: Global, chains: u16, table: Option<&Table>) -> Result<RingConf
 
 /// The compactor for so many chains.
 #[tactic(auto, unfolding(crate::specs::Reading::compactor_of))]
-fn compactor_of(
-    alloc: Global,
-    chains: u16,
-    table: Option<&Table>,
-) -> Result<CompactorConfig, Fault>
+fn compactor_of(alloc: Global, chains: u16, table: Option<&Table>) -> Result<CompactorConfig, Fault>
     ensures ok { IfOk result (λ compactor. spec.compactor_of chains (option_map (λ t. table_view t.now) table.entry) ≡ Ok compactor) }
     ensures refused { IfErr result (λ e. IsFault e → spec.compactor_of chains (option_map (λ t. table_view t.now) table.entry) ≡ Err e) }
 {
@@ -60,14 +57,14 @@ fn names_of_ports(alloc: Global, table: Option<&Table>) -> Result<PortNames, Fau
     ensures refused { IfErr result (λ e. IsFault e → spec.names_of_ports (option_map (λ t. table_view t.now) table.entry) ≡ Err e) }
 {
     Ok(PortNames {
-        scan_enable: port_name(alloc, Key::ScanEnable, b"scan_enable", value_in(table, "scan_enable"))?,
-        edt_clock: port_name(alloc, Key::EdtClock, b"edt_clock", value_in(table, "edt_clock"))?,
-        edt_update: port_name(alloc, Key::EdtUpdate, b"edt_update", value_in(table, "edt_update"))?,
-        channel: port_name(alloc, Key::Channel, b"edt_in", value_in(table, "channel"))?,
-        mask: port_name(alloc, Key::Mask, b"edt_mask", value_in(table, "mask"))?,
-        output: port_name(alloc, Key::Output, b"edt_out", value_in(table, "output"))?,
-        scan_in: port_name(alloc, Key::ScanIn, b"scan_in", value_in(table, "scan_in"))?,
-        scan_out: port_name(alloc, Key::ScanOut, b"scan_out", value_in(table, "scan_out"))?,
+        scan_enable: port_name(alloc, Port::ScanEnable, table)?,
+        edt_clock: port_name(alloc, Port::EdtClock, table)?,
+        edt_update: port_name(alloc, Port::EdtUpdate, table)?,
+        channel: port_name(alloc, Port::Channel, table)?,
+        mask: port_name(alloc, Port::Mask, table)?,
+        output: port_name(alloc, Port::Output, table)?,
+        scan_in: port_name(alloc, Port::ScanIn, table)?,
+        scan_out: port_name(alloc, Port::ScanOut, table)?,
     })
 }
 
@@ -85,7 +82,12 @@ pub fn keys_of(alloc: Global, table: &Table) -> Result<Config, Fault>
     let warm = number(Key::Warm, 0, 4095, value_at(table, "warm"))? as u16;
     let window = number(Key::Window, 1, 16, value_at(table, "window"))? as u8;
     let fill = fill(value_at(table, "fill"), value_at(table, "seed"))?;
-    let always_masked = numbers(alloc, Key::AlwaysMasked, chains, value_at(table, "always_masked"))?;
+    let always_masked = numbers(
+        alloc,
+        Key::AlwaysMasked,
+        chains,
+        value_at(table, "always_masked"),
+    )?;
     let ring = ring_of(alloc, chains, table_at(table, "ring"))?;
     let compactor = compactor_of(alloc, chains, table_at(table, "compactor"))?;
     let names = names_of_ports(alloc, table_at(table, "names"))?;

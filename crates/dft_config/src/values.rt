@@ -1,8 +1,7 @@
 //! What the values of a configuration's keys give, and which of them are refused.
 
 ghost use Rattle.std.specs.Prelude.{◌≡◌, ◌≤◌, IfOk, IfErr, Ok, Err, Some, None, option_map};
-ghost use Rattle.dft_base.specs.Name.{IsName};
-ghost use Rattle.toml.specs.View.{view};
+ghost use Rattle.toml.specs.View.{view, table_view};
 ghost use Rattle.dft_config.specs.Faults.{IsFault};
 ghost use Rattle.dft_config.specs.Settings as spec;
 
@@ -13,10 +12,11 @@ use crate::lists::{
     Pair, all_below, bounded, integers_of, lists_below, lists_of, pairs_of, small_below,
     small_lists_below,
 };
+use crate::port::Port;
 use dft_base::{Name, is_later_reserved, is_simple_name};
-use dft_toml::{Names, name_of, names_of_value};
+use dft_toml::{Names, name_of, names_of_value, value_in};
 use std::alloc::{AllocError, Global};
-use toml::Value;
+use toml::{Table, Value};
 
 /// A number within the bounds of a key.
 pub fn within(key: Key, low: u64, high: u64, number: i64) -> Result<u64, Fault>
@@ -267,27 +267,21 @@ fn fill_named(word: &str, seed: Option<&Value>) -> Result<FillRule, Fault>
     }
 }
 
-/// The name of a port, or its default: a simple name that no standard reserves.
+/// The name of a port that the table of names gives, or its default: a simple name that no standard reserves.
 #[tactic(auto, unfolding(crate::specs::Settings::port_name))]
-pub fn port_name(
-    alloc: Global,
-    key: Key,
-    default: &[u8],
-    value: Option<&Value>,
-) -> Result<Name, Fault>
-    requires { IsName default.now }
-    ensures ok { IfOk result (λ name. spec.port_name key default.now (option_map (λ v. view v.now) value.entry) ≡ Ok name) }
-    ensures refused { IfErr result (λ e. IsFault e → spec.port_name key default.now (option_map (λ v. view v.now) value.entry) ≡ Err e) }
+pub fn port_name(alloc: Global, port: Port, table: Option<&Table>) -> Result<Name, Fault>
+    ensures ok { IfOk result (λ name. spec.port_name port (option_map (λ t. table_view t.now) table.entry) ≡ Ok name) }
+    ensures refused { IfErr result (λ e. IsFault e → spec.port_name port (option_map (λ t. table_view t.now) table.entry) ≡ Err e) }
 {
-    let Some(value) = value else {
-        return Ok(Name::from_slice(alloc, default)?);
+    let Some(value) = value_in(table, port.word()) else {
+        return Ok(Name::from_slice(alloc, port.default_name().as_bytes())?);
     };
     let Some(text) = value.as_str() else {
-        return Err(Fault::Missing(key));
+        return Err(Fault::Missing(port.key()));
     };
     match free_name(alloc, text.as_bytes())? {
         Some(name) => Ok(name),
-        None => Err(Fault::Missing(key)),
+        None => Err(Fault::Missing(port.key())),
     }
 }
 

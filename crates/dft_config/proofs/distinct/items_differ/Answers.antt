@@ -20,5 +20,5 @@ loop-item-preserved g c =
     let new = not_true (contains cmp c.loop-item.seen x) (sym c.in_ok-insert.ensures.added ∙ c.if-not-branch.false) in
     c.loop-item.invariant
     ∙ differ_more (eq_by_cmp cmp) (eq_by_cmp_equiv g.met.T.Ord.total).symm (contains cmp c.loop-item.seen) (contains cmp c.insert.new.self) c.args.items.now c.loop-item.item-index x c.loop-item-test.true
-      (ap (contains cmp c.loop-item.seen) (sym at) ∙ new)
-      (λ q. c.in_ok-insert.ensures.updates.0 q ∙ ap (λ y. cond (eq_by_cmp cmp y q) true (contains cmp c.loop-item.seen q)) at)
+    (ap (contains cmp c.loop-item.seen) (sym at) ∙ new)
+    (λ q. c.in_ok-insert.ensures.updates.0 q ∙ ap (λ y. cond (eq_by_cmp cmp y q) true (contains cmp c.loop-item.seen q)) at)
