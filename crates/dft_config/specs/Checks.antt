@@ -17,34 +17,50 @@ abbrev pub first_failing : List Test → Option Key
 first_failing [] = None
 first_failing (test ∷ tests) = if test.passes then first_failing tests else Some test.key
 
+-- whether no reset is a domain
+abbrev pub are_apart : List (List ℕ) → List (List ℕ) → Bool
+are_apart domains resets = list_all (λ reset. not (has bytes_eq domains reset)) resets
+
+-- whether no reset stands twice, and none is a domain
+abbrev pub resets_differ : List (List ℕ) → List (List ℕ) → Bool
+resets_differ domains resets = all_differ bytes_eq resets && are_apart domains resets
+
+-- whether in each list no number stands twice
+abbrev pub each_differs : List (List ℕ) → Bool
+each_differs lists = list_all (all_differ same_number) lists
+
 -- the first key with something that stands twice in one list; no reset is a domain, and the names of ports differ
-abbrev pub first_repeated : Config → Option Key
+unfoldable pub first_repeated : Config → Option Key
 first_repeated config = first_failing (
     record { key = key.Domains; passes = all_differ bytes_eq config.domains } ∷
-    record { key = key.Resets; passes = all_differ bytes_eq config.resets && list_all (λ reset. not (has bytes_eq config.domains reset)) config.resets } ∷
+    record { key = key.Resets; passes = resets_differ config.domains config.resets } ∷
     record { key = key.Keep; passes = all_differ bytes_eq config.keep } ∷
     record { key = key.AlwaysMasked; passes = all_differ same_number config.always_masked } ∷
     record { key = key.Taps; passes = all_differ same_tap config.ring.taps } ∷
     record { key = key.Injectors; passes = all_differ same_injector config.ring.injectors } ∷
-    record { key = key.Phase; passes = list_all (all_differ same_number) config.ring.phase } ∷
-    record { key = key.Groups; passes = list_all (all_differ same_number) config.compactor.groups } ∷
+    record { key = key.Phase; passes = each_differs config.ring.phase } ∷
+    record { key = key.Groups; passes = each_differs config.compactor.groups } ∷
     record { key = key.Names; passes = all_differ bytes_eq (names_of config.names) } ∷ [])
 
--- whether a list has an item
-abbrev pub has_some : {T : Type 0} → List T → Bool
-has_some items = not (length items == 0)
+-- whether each list has an item
+abbrev pub have_items : {T : Type 0} → List (List T) → Bool
+have_items lists = list_all (λ list. not (length list == 0)) lists
 
 -- the first key with an empty list in its list
-abbrev pub first_empty : Config → Option Key
+unfoldable pub first_empty : Config → Option Key
 first_empty config = first_failing (
-    record { key = key.Phase; passes = list_all has_some config.ring.phase } ∷
-    record { key = key.Groups; passes = list_all has_some config.compactor.groups } ∷ [])
+    record { key = key.Phase; passes = have_items config.ring.phase } ∷
+    record { key = key.Groups; passes = have_items config.compactor.groups } ∷ [])
 
 -- whether a chain stands in some group
 abbrev pub is_reached : List (List ℕ) → ℕ → Bool
 is_reached groups chain = list_any (λ group. has same_number group chain) groups
 
--- the first chain in no group, of so many from this one on
-abbrev pub first_unreached : List (List ℕ) → ℕ → ℕ → Option ℕ
-first_unreached groups chain zero = None
-first_unreached groups chain (suc more) = if is_reached groups chain then first_unreached groups (chain + 1) more else Some chain
+-- the first of so many numbers, from this one on, that fails a test
+abbrev pub first_not : (ℕ → Bool) → ℕ → ℕ → Option ℕ
+first_not test n zero = None
+first_not test n (suc more) = if test n then first_not test (n + 1) more else Some n
+
+-- the first chain in no group
+unfoldable pub first_unreached : Config → Option ℕ
+first_unreached config = first_not (is_reached config.compactor.groups) 0 config.chains

@@ -82,5 +82,5 @@ reading table =
     unless (first_unknown config.fill table) fault.Unknown (
     unless (first_repeated config) fault.Repeated (
     unless (first_empty config) fault.Empty (
-    unless (first_unreached config.compactor.groups 0 config.chains) (λ chain. fault.Unreached (pos chain))
+    unless (first_unreached config) (λ chain. fault.Unreached (pos chain))
     (Ok config)))))

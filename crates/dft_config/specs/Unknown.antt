@@ -4,27 +4,12 @@ use Rattle.std.specs.Str.{bytes_eq}
 use Rattle.std.specs.Ordering.{is_lt, nat_cmp}
 use Rattle.std.specs.Cmp.Lexicographic.{slice_cmp}
 use Rattle.toml.specs.Data.{Data, Members, no_members, member, as_table}
-use Rattle.dft_toml.specs.Values.{has_word, printable, table_at}
+use Rattle.dft_toml.specs.Values.{printable, table_at}
+use Rattle.dft_config.specs.declared.section.Section.{Section}
+use Rattle.dft_config.specs.declared.section.Section.TheVariants.{Ring, Compactor, Names}
+use Rattle.dft_config.specs.Sections.{key_of, prefix_of, has_key, is_always_key}
 use Rattle.dft_config.specs.declared.config.FillRule.{FillRule}
 use Rattle.dft_config.specs.declared.config.FillRule.TheVariants.{Zeros, Ones, Seed}
-
--- the keys outside of the tables, but for the seed, with the two tables that must be there
-abbrev pub top_keys : List (List ℕ)
-top_keys =
-    codes "version" ∷ codes "domains" ∷ codes "resets" ∷ codes "keep" ∷ codes "chains" ∷ codes "warm" ∷ codes "window" ∷
-    codes "fill" ∷ codes "always_masked" ∷ codes "ring" ∷ codes "compactor" ∷ []
-
--- the keys of the three tables
-abbrev pub ring_keys : List (List ℕ)
-ring_keys = codes "stages" ∷ codes "channels" ∷ codes "taps" ∷ codes "injectors" ∷ codes "phase" ∷ []
-
-abbrev pub compactor_keys : List (List ℕ)
-compactor_keys = codes "groups" ∷ codes "mask_inputs" ∷ []
-
-abbrev pub names_keys : List (List ℕ)
-names_keys =
-    codes "scan_enable" ∷ codes "edt_clock" ∷ codes "edt_update" ∷ codes "channel" ∷ codes "mask" ∷ codes "output" ∷
-    codes "scan_in" ∷ codes "scan_out" ∷ []
 
 -- whether the bits are filled from a seed
 abbrev pub is_seeded : FillRule → Bool
@@ -35,30 +20,31 @@ is_seeded (Seed seed) = true
 -- whether a key outside of the tables is known: the seed only where the fill has one, and `names` only as a table
 abbrev pub is_top_key : FillRule → List ℕ → Data → Bool
 is_top_key fill key value =
-    has_word top_keys key || (bytes_eq key (codes "seed") && is_seeded fill) || (bytes_eq key (codes "names") && is_some (as_table value))
+    is_always_key key || (bytes_eq key (codes "seed") && is_seeded fill) || (bytes_eq key (codes "names") && is_some (as_table value))
 
 -- the unknown keys outside of the tables
 abbrev pub unknown_on_top : FillRule → Members → List (List ℕ)
 unknown_on_top fill no_members = []
 unknown_on_top fill (member key value rest) = if is_top_key fill key value then unknown_on_top fill rest else key ∷ unknown_on_top fill rest
 
--- the keys of a table that are none of these words, each with its point and what stands before it
-abbrev pub unknown_in : List ℕ → List (List ℕ) → Members → List (List ℕ)
-unknown_in before words no_members = []
-unknown_in before words (member key value rest) =
-    if has_word words key then unknown_in before words rest else (before ++ key) ∷ unknown_in before words rest
+-- the unknown keys of a table, each behind the table's own key and a point
+abbrev pub unknown_in : Section → Members → List (List ℕ)
+unknown_in section no_members = []
+unknown_in section (member key value rest) =
+    if has_key section key then unknown_in section rest else (prefix_of section ++ key) ∷ unknown_in section rest
 
 -- the same for a table that may not be there
-abbrev pub unknown_of : List ℕ → List (List ℕ) → Option Members → List (List ℕ)
-unknown_of before words None = []
-unknown_of before words (Some table) = unknown_in before words table
+abbrev pub unknown_of : Section → Option Members → List (List ℕ)
+unknown_of section None = []
+unknown_of section (Some table) = unknown_in section table
+
+-- the unknown keys of one of the tables that a table has
+abbrev pub unknown_under : Section → Members → List (List ℕ)
+unknown_under section table = unknown_of section (table_at (key_of section) table)
 
 -- the unknown keys, dotted
 abbrev pub unknown_keys : FillRule → Members → List (List ℕ)
-unknown_keys fill table =
-    unknown_on_top fill table ++ unknown_of (codes "ring.") ring_keys (table_at (codes "ring") table)
-    ++ unknown_of (codes "compactor.") compactor_keys (table_at (codes "compactor") table)
-    ++ unknown_of (codes "names.") names_keys (table_at (codes "names") table)
+unknown_keys fill table = unknown_on_top fill table ++ unknown_under Ring table ++ unknown_under Compactor table ++ unknown_under Names table
 
 -- the lesser of two names in byte order
 abbrev pub lesser : Option (List ℕ) → List ℕ → List ℕ
@@ -71,5 +57,5 @@ least_of least [] = least
 least_of least (name ∷ names) = least_of (Some (lesser least name)) names
 
 -- the first unknown key in byte order, as it is shown
-abbrev pub first_unknown : FillRule → Members → Option (List ℕ)
+unfoldable pub first_unknown : FillRule → Members → Option (List ℕ)
 first_unknown fill table = option_map printable (least_of None (unknown_keys fill table))

@@ -1,12 +1,11 @@
 //! Whether something stands twice in a list.
 
-ghost use Rattle.std.specs.Prelude.{◌≡◌, IfOk};
+ghost use Rattle.std.specs.Prelude.{◌≡◌, IfOk, map};
 ghost use Rattle.std.specs.Str.{bytes_eq};
 ghost use Rattle.std.specs.Ordering.{eq_by_cmp};
 ghost use Rattle.dft_config.specs.Range.{all_differ, same_number, same_tap, same_injector};
 
 use crate::config::{Injector, Tap};
-use crate::listed::Listed;
 use dft_base::Name;
 use std::alloc::{AllocError, Global};
 use std::collections::BTreeSet;
@@ -24,11 +23,18 @@ fn items_differ<T: Ord + Copy>(alloc: Global, items: &[T]) -> Result<bool, Alloc
     Ok(true)
 }
 
-/// Whether none of the numbers stands twice.
-pub fn numbers_differ<N: Ord + Copy>(alloc: Global, numbers: &[N]) -> Result<bool, AllocError>
-    ensures { IfOk result (λ differ. differ ≡ all_differ (eq_by_cmp N.cmp) numbers.now) }
+/// Whether none of the chains stands twice.
+pub fn chains_differ(alloc: Global, chains: &[u16]) -> Result<bool, AllocError>
+    ensures { IfOk result (λ differ. differ ≡ all_differ same_number chains.now) }
 {
-    items_differ(alloc, numbers)
+    items_differ(alloc, chains)
+}
+
+/// Whether none of the stages stands twice.
+pub fn stages_differ(alloc: Global, stages: &[u8]) -> Result<bool, AllocError>
+    ensures { IfOk result (λ differ. differ ≡ all_differ same_number stages.now) }
+{
+    items_differ(alloc, stages)
 }
 
 /// Whether none of the taps stands twice.
@@ -53,5 +59,12 @@ pub fn names_differ(alloc: Global, names: &[Name]) -> Result<bool, AllocError>
     for name in names {
         texts.push(name.as_slice())?;
     }
-    items_differ(alloc, texts.as_slice())
+    texts_differ(alloc, texts.as_slice())
+}
+
+/// Whether none of the texts stands twice.
+pub fn texts_differ(alloc: Global, texts: &[&[u8]]) -> Result<bool, AllocError>
+    ensures { IfOk result (λ differ. differ ≡ all_differ bytes_eq (map (λ t. t.now) texts.now)) }
+{
+    items_differ(alloc, texts)
 }

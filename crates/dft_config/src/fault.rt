@@ -2,7 +2,7 @@ ghost use Rattle.std.specs.Prelude.{◌≡◌, alloc_error};
 ghost use Rattle.dft_config.specs.Keys as spec;
 ghost use Rattle.dft_config.specs.declared.fault.Fault.TheVariants.{Memory};
 
-use crate::listed::Listed;
+use dft_base::Name;
 use std::alloc::{AllocError, AllocFailed};
 
 /// A key of a configuration.
@@ -50,8 +50,8 @@ pub enum Fault {
     Repeated(Key),
     /// A chain stands in no group.
     Unreached(i64),
-    /// No such key is known.
-    Unknown(Listed<u8>),
+    /// No such key is known; it is told as it is shown.
+    Unknown(Name),
     Memory(AllocError),
 }
 

@@ -1,6 +1,7 @@
 //! The configuration of a compiler run: domains, chains, ring, compactor and the names of ports.
 #![tactic(auto)]
 
+mod checks;
 mod config;
 mod cycles;
 mod distinct;
@@ -9,6 +10,8 @@ mod listed;
 mod lists;
 mod port;
 mod reading;
+mod section;
+mod unknown;
 mod values;
 
 pub use config::{CompactorConfig, Config, FillRule, Injector, PortNames, RingConfig, Tap};
