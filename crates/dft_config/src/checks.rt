@@ -118,6 +118,7 @@ fn ports_differ(alloc: Global, names: &PortNames) -> Result<bool, AllocError>
 }
 
 /// The first key with an empty list in its list.
+#[tactic(auto, unfolding(crate::specs::Checks::first_empty))]
 pub fn first_empty(config: &Config) -> Option<Key>
     ensures { result ≡ spec.first_empty config.now }
 {
