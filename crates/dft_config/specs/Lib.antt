@@ -15,3 +15,4 @@ pub mod Sections
 pub mod Unknown
 pub mod Checks
 pub mod Reading
+pub mod Refusals

@@ -76,7 +76,7 @@ keys_of table =
 
 -- the configuration of a table, or its first fault: its keys are read in order; then no key is unknown, nothing stands
 -- twice, no list in a list is empty, and each chain stands in a group
-abbrev pub reading : Members → Result Config Fault
+unfoldable pub reading : Members → Result Config Fault
 reading table =
     after (keys_of table) (λ config.
     unless (first_unknown config.fill table) fault.Unknown (

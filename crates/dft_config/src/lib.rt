@@ -5,10 +5,12 @@ mod checks;
 mod config;
 mod cycles;
 mod distinct;
+mod error;
 mod fault;
 mod listed;
 mod lists;
 mod port;
+mod reader;
 mod reading;
 mod section;
 mod unknown;
@@ -16,4 +18,5 @@ mod values;
 
 pub use config::{CompactorConfig, Config, FillRule, Injector, PortNames, RingConfig, Tap};
 pub use cycles::load_cycles;
+pub use error::ConfigError;
 pub use listed::Listed;

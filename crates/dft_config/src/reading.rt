@@ -5,9 +5,11 @@ ghost use Rattle.toml.specs.View.{table_view};
 ghost use Rattle.dft_config.specs.Faults.{IsFault};
 ghost use Rattle.dft_config.specs.Reading as spec;
 
+use crate::checks::{first_empty, first_repeated, first_unreached};
 use crate::config::{CompactorConfig, Config, PortNames, RingConfig};
 use crate::fault::{Fault, Key};
 use crate::port::Port;
+use crate::unknown::first_unknown;
 use crate::values::{
     domains, fill, groups, injectors, keep, number, numbers, phase, port_name, resets, taps,
 };
@@ -104,4 +106,26 @@ pub fn keys_of(alloc: Global, table: &Table) -> Result<Config, Fault>
         compactor,
         names,
     })
+}
+
+/// The configuration of a table, or its first fault.
+#[tactic(auto, unfolding(crate::specs::Reading::reading))]
+pub fn config_of(alloc: Global, table: &Table) -> Result<Config, Fault>
+    ensures ok { IfOk result (λ config. spec.reading (table_view table.now) ≡ Ok config) }
+    ensures refused { IfErr result (λ e. IsFault e → spec.reading (table_view table.now) ≡ Err e) }
+{
+    let config = keys_of(alloc, table)?;
+    if let Some(name) = first_unknown(alloc, config.fill, table)? {
+        return Err(Fault::Unknown(name));
+    }
+    if let Some(key) = first_repeated(alloc, &config)? {
+        return Err(Fault::Repeated(key));
+    }
+    if let Some(key) = first_empty(&config) {
+        return Err(Fault::Empty(key));
+    }
+    if let Some(chain) = first_unreached(alloc, &config)? {
+        return Err(Fault::Unreached(i64::from(chain)));
+    }
+    Ok(config)
 }
