@@ -29,9 +29,9 @@ resets_differ domains resets = all_differ bytes_eq resets && are_apart domains r
 abbrev pub each_differs : List (List ℕ) → Bool
 each_differs lists = list_all (all_differ same_number) lists
 
--- the first key with something that stands twice in one list; no reset is a domain, and the names of ports differ
-unfoldable pub first_repeated : Config → Option Key
-first_repeated config = first_failing (
+-- what may not stand twice in one list; besides no reset is a domain, and the names of ports differ
+abbrev pub repetition_tests : Config → List Test
+repetition_tests config =
     record { key = key.Domains; passes = all_differ bytes_eq config.domains } ∷
     record { key = key.Resets; passes = resets_differ config.domains config.resets } ∷
     record { key = key.Keep; passes = all_differ bytes_eq config.keep } ∷
@@ -40,17 +40,25 @@ first_repeated config = first_failing (
     record { key = key.Injectors; passes = all_differ same_injector config.ring.injectors } ∷
     record { key = key.Phase; passes = each_differs config.ring.phase } ∷
     record { key = key.Groups; passes = each_differs config.compactor.groups } ∷
-    record { key = key.Names; passes = all_differ bytes_eq (names_of config.names) } ∷ [])
+    record { key = key.Names; passes = all_differ bytes_eq (names_of config.names) } ∷ []
+
+-- the first key with something that stands twice
+unfoldable pub first_repeated : Config → Option Key
+first_repeated config = first_failing (repetition_tests config)
 
 -- whether each list has an item
 abbrev pub have_items : {T : Type 0} → List (List T) → Bool
 have_items lists = list_all (λ list. not (length list == 0)) lists
 
+-- what may hold no empty list
+abbrev pub emptiness_tests : Config → List Test
+emptiness_tests config =
+    record { key = key.Phase; passes = have_items config.ring.phase } ∷
+    record { key = key.Groups; passes = have_items config.compactor.groups } ∷ []
+
 -- the first key with an empty list in its list
 unfoldable pub first_empty : Config → Option Key
-first_empty config = first_failing (
-    record { key = key.Phase; passes = have_items config.ring.phase } ∷
-    record { key = key.Groups; passes = have_items config.compactor.groups } ∷ [])
+first_empty config = first_failing (emptiness_tests config)
 
 -- whether a chain stands in some group
 abbrev pub is_reached : List (List ℕ) → ℕ → Bool
