@@ -149,7 +149,8 @@ sets_ok bound lists below differ some k d less =
     record {
       some = some_item (length (get_or lists k d)) (AllPass-from_list_all (λ list. not (length list == 0)) lists some k d less);
       below = below k d less;
-      differ = AllPass-from_list_all (all_differ same_number) lists differ k d less }
+      differ = AllPass-from_list_all (all_differ same_number) lists differ k d less;
+    }
 
 apart_ok : (ds rs : List (List ℕ)) → are_apart ds rs ≡ true → All (λ reset. has bytes_eq ds reset ≡ false) rs
 apart_ok ds rs e k d less = not_true (has bytes_eq ds (get_or rs k d)) (AllPass-from_list_all (λ reset. not (has bytes_eq ds reset)) rs e k d less)
@@ -159,15 +160,37 @@ checked_ok : (config : Config) → IsBounded config → AllPassed (repetition_te
 checked_ok config b (d, (r, (k, (m, (t, (i, (p, (g, (n, last))))))))) (some_phase, (some_groups, end)) reached =
     let (r_differ, r_apart) = and_parts (all_differ bytes_eq config.resets) (are_apart config.domains config.resets) r in
     record {
-      domains = b.domains; domains_differ = d; resets = b.resets.1; resets_differ = r_differ; apart = apart_ok config.domains config.resets r_apart;
-      keep_differ = k; chains = b.chains; warm = b.warm.1; window = b.window; seed = b.seed; always_masked = b.always_masked; always_masked_differ = m;
+      domains = b.domains;
+      domains_differ = d;
+      resets = b.resets.1;
+      resets_differ = r_differ;
+      apart = apart_ok config.domains config.resets r_apart;
+      keep_differ = k;
+      chains = b.chains;
+      warm = b.warm.1;
+      window = b.window;
+      seed = b.seed;
+      always_masked = b.always_masked;
+      always_masked_differ = m;
       ring = record {
-        stages = b.ring.stages; channels = b.ring.channels; taps = b.ring.taps; taps_differ = t; injectors = b.ring.injectors; injectors_differ = i;
-        phases = b.ring.phase.0; phase = sets_ok config.ring.stages config.ring.phase b.ring.phase.1 p some_phase };
+        stages = b.ring.stages;
+        channels = b.ring.channels;
+        taps = b.ring.taps;
+        taps_differ = t;
+        injectors = b.ring.injectors;
+        injectors_differ = i;
+        phases = b.ring.phase.0;
+        phase = sets_ok config.ring.stages config.ring.phase b.ring.phase.1 p some_phase;
+      };
       compactor = record {
-        outputs = b.compactor.groups.0; groups = sets_ok config.chains config.compactor.groups b.compactor.groups.1 g some_groups; reached = reached;
-        mask_inputs = (b.compactor.mask_inputs.0, omega arith, omega arith) };
-      names = b.names; names_differ = n }
+        outputs = b.compactor.groups.0;
+        groups = sets_ok config.chains config.compactor.groups b.compactor.groups.1 g some_groups;
+        reached = reached;
+        mask_inputs = (b.compactor.mask_inputs.0, omega arith, omega arith);
+      };
+      names = b.names;
+      names_differ = n;
+    }
 
 ok_unless : {A B : Type 0} (o : Option A) (refused : A → Fault) (next : Result B Fault) (Q : B → Type 0) → (o ≡ None → IfOk next Q) → IfOk (unless o refused next) Q
 ok_unless None refused next Q h = h refl

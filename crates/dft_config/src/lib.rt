@@ -13,6 +13,8 @@ mod port;
 mod reader;
 mod reading;
 mod section;
+#[cfg(test)]
+mod tests;
 mod unknown;
 mod values;
 
