@@ -38,3 +38,8 @@ checked false e next = Err e
 abbrev pub cons_ok : {A : Type 0} → Result A Fault → Result (List A) Fault → Result (List A) Fault
 cons_ok (Err e) rest = Err e
 cons_ok (Ok x) rest = after rest (λ xs. Ok (x ∷ xs))
+
+-- what follows where nothing is found that is refused
+abbrev pub unless : {A B : Type 0} → Option A → (A → Fault) → Result B Fault → Result B Fault
+unless None refused next = next
+unless (Some a) refused next = Err (refused a)

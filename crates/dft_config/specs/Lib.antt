@@ -9,4 +9,10 @@ pub mod Cycles
 pub mod Range
 pub mod Keys
 pub mod Faults
+pub mod Ports
 pub mod Settings
+pub mod Sections
+pub mod Unknown
+pub mod Checks
+pub mod Reading
+pub mod Refusals

@@ -2,8 +2,8 @@
 use Rattle.std.specs.Prelude.{codes, ℕ, ℤ, pos, negsuc, ◌==◌, ◌-◌, ◌^◌, Bool, true, false, not, ◌&&◌, List, [], ◌∷◌, length, Option, Some, None, option_and_then, Result, Ok, Err, nat_le, nat_lt, if◌then◌else◌}
 use Rattle.std.specs.Str.{bytes_eq}
 use Rattle.dft_base.specs.Words.{is_simple_name, is_later_reserved}
-use Rattle.toml.specs.Data.{Data, Items, no_items, item, as_integer, as_str, as_array}
-use Rattle.dft_toml.specs.Values.{name_of, names_of_value, with_first}
+use Rattle.toml.specs.Data.{Data, Members, Items, no_items, item, as_integer, as_str, as_array}
+use Rattle.dft_toml.specs.Values.{name_of, names_of_value, value_in, with_first}
 use Rattle.dft_config.specs.declared.fault.Key.{Key}
 use Rattle.dft_config.specs.declared.fault.Key.TheVariants as key
 use Rattle.dft_config.specs.declared.fault.Fault.{Fault}
@@ -13,6 +13,8 @@ use Rattle.dft_config.specs.declared.config.FillRule.TheVariants.{Zeros, Ones, S
 use Rattle.dft_config.specs.declared.config.Tap.{Tap}
 use Rattle.dft_config.specs.declared.config.Injector.{Injector}
 use Rattle.dft_config.specs.declared.lists.Pair.{Pair}
+use Rattle.dft_config.specs.declared.port.Port.{Port}
+use Rattle.dft_config.specs.Ports.{key_of, word_of, default_of}
 use Rattle.dft_config.specs.Faults.{needed, after, or_outside, cons_ok}
 
 -- a number of a text between two bounds
@@ -25,7 +27,7 @@ abbrev pub within : Key → ℕ → ℕ → ℤ → Result ℕ Fault
 within k low high z = or_outside k z (bounded low high z)
 
 -- the number at a key
-abbrev pub number : Key → ℕ → ℕ → Option Data → Result ℕ Fault
+unfoldable pub number : Key → ℕ → ℕ → Option Data → Result ℕ Fault
 number k low high value = needed k (option_and_then as_integer value) (within k low high)
 
 -- a number of a text below a bound
@@ -95,7 +97,7 @@ abbrev pub of_length : ℕ → List (List ℤ) → Option (List (List ℤ))
 of_length count lists = if length lists == count then Some lists else None
 
 -- the numbers of a list that may be left out
-abbrev pub numbers : Key → ℕ → Option Data → Result (List ℕ) Fault
+unfoldable pub numbers : Key → ℕ → Option Data → Result (List ℕ) Fault
 numbers k bound None = Ok []
 numbers k bound (Some value) = needed k (integers_of value) (all_below k bound)
 
@@ -104,16 +106,16 @@ abbrev pub pairs : Key → Option Data → Result (List Pair) Fault
 pairs k value = needed k (option_and_then pairs_of (option_and_then lists_of value)) (λ found. Ok found)
 
 -- the taps, the injectors, the phase and the groups
-abbrev pub taps : ℕ → Option Data → Result (List Tap) Fault
+unfoldable pub taps : ℕ → Option Data → Result (List Tap) Fault
 taps stages value = after (pairs key.Taps value) (taps_of stages)
 
-abbrev pub injectors : ℕ → ℕ → Option Data → Result (List Injector) Fault
+unfoldable pub injectors : ℕ → ℕ → Option Data → Result (List Injector) Fault
 injectors channels stages value = after (pairs key.Injectors value) (injectors_of channels stages)
 
-abbrev pub phase : ℕ → ℕ → Option Data → Result (List (List ℕ)) Fault
+unfoldable pub phase : ℕ → ℕ → Option Data → Result (List (List ℕ)) Fault
 phase chains stages value = needed key.Phase (option_and_then (of_length chains) (option_and_then lists_of value)) (lists_below key.Phase stages)
 
-abbrev pub groups : ℕ → Option Data → Result (List (List ℕ)) Fault
+unfoldable pub groups : ℕ → Option Data → Result (List (List ℕ)) Fault
 groups chains value =
     needed key.Groups (option_and_then lists_of value) (λ lists. after (within key.Groups 1 32 (pos (length lists))) (λ count. lists_below key.Groups chains lists))
 
@@ -121,14 +123,14 @@ groups chains value =
 abbrev pub counted : Key → ℕ → ℕ → List (List ℕ) → Result (List (List ℕ)) Fault
 counted k low high names = after (within k low high (pos (length names))) (λ count. Ok names)
 
-abbrev pub domains : Option Data → Result (List (List ℕ)) Fault
+unfoldable pub domains : Option Data → Result (List (List ℕ)) Fault
 domains value = needed key.Domains (option_and_then names_of_value value) (counted key.Domains 1 16)
 
-abbrev pub resets : Option Data → Result (List (List ℕ)) Fault
+unfoldable pub resets : Option Data → Result (List (List ℕ)) Fault
 resets None = Ok []
 resets (Some value) = needed key.Resets (names_of_value value) (counted key.Resets 0 16)
 
-abbrev pub keep : Option Data → Result (List (List ℕ)) Fault
+unfoldable pub keep : Option Data → Result (List (List ℕ)) Fault
 keep None = Ok []
 keep (Some value) = needed key.Keep (names_of_value value) (λ names. Ok names)
 
@@ -140,7 +142,7 @@ fill_named word seed =
     else (if bytes_eq word (codes "seed") then after (number key.Seed 0 (2 ^ 63 - 1) seed) (λ n. Ok (Seed n))
     else Err (fault.Missing key.Fill)))
 
-abbrev pub fill : Option Data → Option Data → Result FillRule Fault
+unfoldable pub fill : Option Data → Option Data → Result FillRule Fault
 fill None seed = Ok Zeros
 fill (Some value) seed = needed key.Fill (as_str value) (λ word. fill_named word seed)
 
@@ -149,6 +151,10 @@ abbrev pub free_name : List ℕ → Option (List ℕ)
 free_name text = if is_simple_name text && not (is_later_reserved text) then name_of text else None
 
 -- the name of a port, or its default
-abbrev pub port_name : Key → List ℕ → Option Data → Result (List ℕ) Fault
-port_name k default None = Ok default
-port_name k default (Some value) = needed k (option_and_then free_name (as_str value)) (λ name. Ok name)
+abbrev pub name_or_default : Port → Option Data → Result (List ℕ) Fault
+name_or_default port None = Ok (default_of port)
+name_or_default port (Some value) = needed (key_of port) (option_and_then free_name (as_str value)) (λ name. Ok name)
+
+-- the name of a port that the table of names gives
+unfoldable pub port_name : Port → Option Members → Result (List ℕ) Fault
+port_name port table = name_or_default port (value_in (word_of port) table)

@@ -12,14 +12,14 @@ pub enum FillRule {
 }
 
 /// A tap of the ring: a stage whose bit another stage takes too.
-#[derive(Clone, Copy, Debug, PartialEq, Eq)]
+#[derive(Clone, Copy, Debug, PartialEq, Eq, PartialOrd, Ord)]
 pub struct Tap {
     pub from: u8,
     pub to: u8,
 }
 
 /// A stage of the ring that takes the bit of a channel.
-#[derive(Clone, Copy, Debug, PartialEq, Eq)]
+#[derive(Clone, Copy, Debug, PartialEq, Eq, PartialOrd, Ord)]
 pub struct Injector {
     pub channel: u8,
     pub stage: u8,

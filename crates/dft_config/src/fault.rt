@@ -1,9 +1,10 @@
-ghost use Rattle.std.specs.Prelude.{◌≡◌, alloc_error};
+ghost use Rattle.std.specs.Prelude.{◌≡◌, IfOk, alloc_error};
+ghost use Rattle.dft_base.specs.Name.{IsName};
 ghost use Rattle.dft_config.specs.Keys as spec;
 ghost use Rattle.dft_config.specs.declared.fault.Fault.TheVariants.{Memory};
 
-use crate::listed::Listed;
-use std::alloc::{AllocError, AllocFailed};
+use dft_base::Name;
+use std::alloc::{AllocError, AllocFailed, Global};
 
 /// A key of a configuration.
 #[derive(Clone, Copy, Debug, PartialEq, Eq)]
@@ -50,8 +51,8 @@ pub enum Fault {
     Repeated(Key),
     /// A chain stands in no group.
     Unreached(i64),
-    /// No such key is known.
-    Unknown(Listed<u8>),
+    /// No such key is known; it is told as it is shown.
+    Unknown(Name),
     Memory(AllocError),
 }
 
@@ -74,7 +75,8 @@ impl<T: Drop> From<AllocFailed<T>> for Fault {
 impl Key {
     /// The key as it is written, with points.
     pub fn dotted(self) -> &'static str
-        ensures { result.now ≡ spec.dotted self }
+        ensures value { result.now ≡ spec.dotted self }
+        ensures name { IsName result.now }
     {
         match self {
             Key::Version => "version",
@@ -104,5 +106,12 @@ impl Key {
             Key::ScanOut => "names.scan_out",
             Key::Names => "names",
         }
+    }
+
+    /// The key as a name.
+    pub fn name(self, alloc: Global) -> Result<Name, AllocError>
+        ensures { IfOk result (λ name. name ≡ spec.dotted self) }
+    {
+        Name::from_slice(alloc, self.dotted().as_bytes())
     }
 }

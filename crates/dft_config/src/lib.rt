@@ -1,13 +1,24 @@
 //! The configuration of a compiler run: domains, chains, ring, compactor and the names of ports.
 #![tactic(auto)]
 
+mod checks;
 mod config;
 mod cycles;
+mod distinct;
+mod error;
 mod fault;
 mod listed;
 mod lists;
+mod port;
+mod reader;
+mod reading;
+mod section;
+#[cfg(test)]
+mod tests;
+mod unknown;
 mod values;
 
 pub use config::{CompactorConfig, Config, FillRule, Injector, PortNames, RingConfig, Tap};
 pub use cycles::load_cycles;
+pub use error::ConfigError;
 pub use listed::Listed;

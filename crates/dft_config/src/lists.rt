@@ -1,6 +1,6 @@
 //! Lists of numbers as the values of a table hold them.
 
-ghost use Rattle.std.specs.Prelude.{◌≡◌, IfOk, IfErr, Ok, Err, Some, None};
+ghost use Rattle.std.specs.Prelude.{◌≡◌, ◌≤◌, IfSome, IfOk, IfErr, Ok, Err, Some, None};
 ghost use Rattle.toml.specs.View.{view, array_view};
 ghost use Rattle.dft_config.specs.Faults.{IsFault};
 ghost use Rattle.dft_config.specs.Settings as spec;
@@ -20,7 +20,8 @@ pub struct Pair {
 
 /// The number of a text, where it is between two bounds.
 pub fn bounded(low: u64, high: u64, number: i64) -> Option<u64>
-    ensures { result ≡ spec.bounded low high number }
+    ensures value { result ≡ spec.bounded low high number }
+    ensures bounds { IfSome result (λ n. (low ≤ n) × (n ≤ high)) }
 {
     match u64::try_from(number) {
         Ok(n) => if low <= n && n <= high { Some(n) } else { None },

@@ -1,8 +1,7 @@
 //! What the values of a configuration's keys give, and which of them are refused.
 
 ghost use Rattle.std.specs.Prelude.{◌≡◌, ◌≤◌, IfOk, IfErr, Ok, Err, Some, None, option_map};
-ghost use Rattle.dft_base.specs.Name.{IsName};
-ghost use Rattle.toml.specs.View.{view};
+ghost use Rattle.toml.specs.View.{view, table_view};
 ghost use Rattle.dft_config.specs.Faults.{IsFault};
 ghost use Rattle.dft_config.specs.Settings as spec;
 
@@ -13,14 +12,16 @@ use crate::lists::{
     Pair, all_below, bounded, integers_of, lists_below, lists_of, pairs_of, small_below,
     small_lists_below,
 };
+use crate::port::Port;
 use dft_base::{Name, is_later_reserved, is_simple_name};
-use dft_toml::{Names, name_of, names_of_value};
+use dft_toml::{Names, name_of, names_of_value, value_in};
 use std::alloc::{AllocError, Global};
-use toml::Value;
+use toml::{Table, Value};
 
 /// A number within the bounds of a key.
 pub fn within(key: Key, low: u64, high: u64, number: i64) -> Result<u64, Fault>
-    ensures { result ≡ spec.within key low high number }
+    ensures value { result ≡ spec.within key low high number }
+    ensures bounds { IfOk result (λ n. (low ≤ n) × (n ≤ high)) }
 {
     match bounded(low, high, number) {
         Some(n) => Ok(n),
@@ -29,8 +30,10 @@ pub fn within(key: Key, low: u64, high: u64, number: i64) -> Result<u64, Fault>
 }
 
 /// The number at a key.
+#[tactic(auto, unfolding(crate::specs::Settings::number))]
 pub fn number(key: Key, low: u64, high: u64, value: Option<&Value>) -> Result<u64, Fault>
-    ensures { result ≡ spec.number key low high (option_map (λ v. view v.now) value.entry) }
+    ensures value { result ≡ spec.number key low high (option_map (λ v. view v.now) value.entry) }
+    ensures bounds { IfOk result (λ n. (low ≤ n) × (n ≤ high)) }
 {
     match value {
         Some(value) => match value.as_integer() {
@@ -42,6 +45,7 @@ pub fn number(key: Key, low: u64, high: u64, value: Option<&Value>) -> Result<u6
 }
 
 /// The numbers of a list that may be left out, each below the bound.
+#[tactic(auto, unfolding(crate::specs::Settings::numbers))]
 pub fn numbers(
     alloc: Global,
     key: Key,
@@ -78,6 +82,7 @@ fn pairs(alloc: Global, key: Key, value: Option<&Value>) -> Result<Listed<Pair>,
 }
 
 /// The taps between stages of the ring.
+#[tactic(auto, unfolding(crate::specs::Settings::taps))]
 pub fn taps(alloc: Global, stages: u8, value: Option<&Value>) -> Result<Listed<Tap>, Fault>
     ensures ok { IfOk result (λ found. spec.taps stages (option_map (λ v. view v.now) value.entry) ≡ Ok found) }
     ensures refused { IfErr result (λ e. IsFault e → spec.taps stages (option_map (λ v. view v.now) value.entry) ≡ Err e) }
@@ -106,6 +111,7 @@ fn tap_of(stages: u8, pair: Pair) -> Result<Tap, Fault>
 }
 
 /// The stages of the ring that take channels.
+#[tactic(auto, unfolding(crate::specs::Settings::injectors))]
 pub fn injectors(
     alloc: Global,
     channels: u8,
@@ -144,6 +150,7 @@ fn injector_of(channels: u8, stages: u8, pair: Pair) -> Result<Injector, Fault>
 }
 
 /// For each chain the stages whose sum it takes.
+#[tactic(auto, unfolding(crate::specs::Settings::phase))]
 pub fn phase(
     alloc: Global,
     chains: u16,
@@ -166,6 +173,7 @@ pub fn phase(
 }
 
 /// For each output the chains whose sum it shows.
+#[tactic(auto, unfolding(crate::specs::Settings::groups))]
 pub fn groups(
     alloc: Global,
     chains: u16,
@@ -185,6 +193,7 @@ pub fn groups(
 }
 
 /// The clock ports.
+#[tactic(auto, unfolding(crate::specs::Settings::domains))]
 pub fn domains(alloc: Global, value: Option<&Value>) -> Result<Names, Fault>
     ensures ok { IfOk result (λ names. spec.domains (option_map (λ v. view v.now) value.entry) ≡ Ok names) }
     ensures refused { IfErr result (λ e. IsFault e → spec.domains (option_map (λ v. view v.now) value.entry) ≡ Err e) }
@@ -200,6 +209,7 @@ pub fn domains(alloc: Global, value: Option<&Value>) -> Result<Names, Fault>
 }
 
 /// The reset ports, none where the key is left out.
+#[tactic(auto, unfolding(crate::specs::Settings::resets))]
 pub fn resets(alloc: Global, value: Option<&Value>) -> Result<Names, Fault>
     ensures ok { IfOk result (λ names. spec.resets (option_map (λ v. view v.now) value.entry) ≡ Ok names) }
     ensures refused { IfErr result (λ e. IsFault e → spec.resets (option_map (λ v. view v.now) value.entry) ≡ Err e) }
@@ -215,6 +225,7 @@ pub fn resets(alloc: Global, value: Option<&Value>) -> Result<Names, Fault>
 }
 
 /// The flip-flops that are not scanned, none where the key is left out.
+#[tactic(auto, unfolding(crate::specs::Settings::keep))]
 pub fn keep(alloc: Global, value: Option<&Value>) -> Result<Names, Fault>
     ensures ok { IfOk result (λ names. spec.keep (option_map (λ v. view v.now) value.entry) ≡ Ok names) }
     ensures refused { IfErr result (λ e. IsFault e → spec.keep (option_map (λ v. view v.now) value.entry) ≡ Err e) }
@@ -229,6 +240,7 @@ pub fn keep(alloc: Global, value: Option<&Value>) -> Result<Names, Fault>
 }
 
 /// The bits of channels that no equation decides: zeros where the key is left out.
+#[tactic(auto, unfolding(crate::specs::Settings::fill))]
 pub fn fill(value: Option<&Value>, seed: Option<&Value>) -> Result<FillRule, Fault>
     ensures { result ≡ spec.fill (option_map (λ v. view v.now) value.entry) (option_map (λ v. view v.now) seed.entry) }
 {
@@ -255,26 +267,21 @@ fn fill_named(word: &str, seed: Option<&Value>) -> Result<FillRule, Fault>
     }
 }
 
-/// The name of a port, or its default: a simple name that no standard reserves.
-pub fn port_name(
-    alloc: Global,
-    key: Key,
-    default: &[u8],
-    value: Option<&Value>,
-) -> Result<Name, Fault>
-    requires { IsName default.now }
-    ensures ok { IfOk result (λ name. spec.port_name key default.now (option_map (λ v. view v.now) value.entry) ≡ Ok name) }
-    ensures refused { IfErr result (λ e. IsFault e → spec.port_name key default.now (option_map (λ v. view v.now) value.entry) ≡ Err e) }
+/// The name of a port that the table of names gives, or its default: a simple name that no standard reserves.
+#[tactic(auto, unfolding(crate::specs::Settings::port_name))]
+pub fn port_name(alloc: Global, port: Port, table: Option<&Table>) -> Result<Name, Fault>
+    ensures ok { IfOk result (λ name. spec.port_name port (option_map (λ t. table_view t.now) table.entry) ≡ Ok name) }
+    ensures refused { IfErr result (λ e. IsFault e → spec.port_name port (option_map (λ t. table_view t.now) table.entry) ≡ Err e) }
 {
-    let Some(value) = value else {
-        return Ok(Name::from_slice(alloc, default)?);
+    let Some(value) = value_in(table, port.word()) else {
+        return Ok(Name::from_slice(alloc, port.default_name().as_bytes())?);
     };
     let Some(text) = value.as_str() else {
-        return Err(Fault::Missing(key));
+        return Err(Fault::Missing(port.key()));
     };
     match free_name(alloc, text.as_bytes())? {
         Some(name) => Ok(name),
-        None => Err(Fault::Missing(key)),
+        None => Err(Fault::Missing(port.key())),
     }
 }
 

@@ -16,7 +16,8 @@ pub fn has_only(table: &Table, words: &[&'static str]) -> bool
     true
 }
 
-fn has_word(words: &[&'static str], word: &str) -> bool
+/// Whether a word is one of these.
+pub fn has_word(words: &[&'static str], word: &str) -> bool
     ensures { result ≡ spec.has_word (map (λ w. w.now) words.now) word.now }
 {
     for other in words {

@@ -117,7 +117,8 @@ pub fn value_in<'a>(table: Option<&'a Table>, key: &str) -> Option<&'a Value>
     }
 }
 
-fn value_at<'a>(table: &'a Table, key: &str) -> Option<&'a Value>
+/// The value at a key.
+pub fn value_at<'a>(table: &'a Table, key: &str) -> Option<&'a Value>
     ensures { option_map (λ found. view found.now) result ≡ get_member key.now (table_view table.now) }
 {
     table.get(key)

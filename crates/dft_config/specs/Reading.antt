@@ -1,0 +1,86 @@
+-- What a table gives: a configuration, or the first fault.
+use Rattle.std.specs.Prelude.{codes, ℕ, pos, min, List, [], ◌∷◌, Option, Some, None, Result, Ok, Err}
+use Rattle.toml.specs.Data.{Data, Members, get_member}
+use Rattle.dft_toml.specs.Values.{value_in, table_at}
+use Rattle.dft_config.specs.declared.fault.Key.TheVariants as key
+use Rattle.dft_config.specs.declared.port.Port.TheVariants as port
+use Rattle.dft_config.specs.declared.fault.Fault.{Fault}
+use Rattle.dft_config.specs.declared.fault.Fault.TheVariants as fault
+use Rattle.dft_config.specs.declared.config.RingConfig.{RingConfig}
+use Rattle.dft_config.specs.declared.config.CompactorConfig.{CompactorConfig}
+use Rattle.dft_config.specs.declared.config.PortNames.{PortNames}
+use Rattle.dft_config.specs.declared.config.Config.{Config}
+use Rattle.dft_config.specs.Faults.{after, unless}
+use Rattle.dft_config.specs.Settings.{number, numbers, taps, injectors, phase, groups, domains, resets, keep, fill, port_name}
+use Rattle.dft_config.specs.Unknown.{first_unknown}
+use Rattle.dft_config.specs.Checks.{first_repeated, first_empty, first_unreached}
+
+-- the ring for so many chains
+unfoldable pub ring_of : ℕ → Option Members → Result RingConfig Fault
+ring_of chains table =
+    after (number key.Stages 2 128 (value_in (codes "stages") table)) (λ stages.
+    after (number key.Channels 1 32 (value_in (codes "channels") table)) (λ channels.
+    after (taps stages (value_in (codes "taps") table)) (λ taps.
+    after (injectors channels stages (value_in (codes "injectors") table)) (λ injectors.
+    after (phase chains stages (value_in (codes "phase") table)) (λ phase.
+    Ok (record { stages = stages; channels = channels; taps = taps; injectors = injectors; phase = phase }))))))
+
+-- the compactor for so many chains, with at most as many mask inputs
+unfoldable pub compactor_of : ℕ → Option Members → Result CompactorConfig Fault
+compactor_of chains table =
+    after (groups chains (value_in (codes "groups") table)) (λ groups.
+    after (number key.MaskInputs 1 (min chains 32) (value_in (codes "mask_inputs") table)) (λ mask_inputs.
+    Ok (record { groups = groups; mask_inputs = mask_inputs })))
+
+-- the names of ports, each with its default
+unfoldable pub names_of_ports : Option Members → Result PortNames Fault
+names_of_ports table =
+    after (port_name port.ScanEnable table) (λ scan_enable.
+    after (port_name port.EdtClock table) (λ edt_clock.
+    after (port_name port.EdtUpdate table) (λ edt_update.
+    after (port_name port.Channel table) (λ channel.
+    after (port_name port.Mask table) (λ mask.
+    after (port_name port.Output table) (λ output.
+    after (port_name port.ScanIn table) (λ scan_in.
+    after (port_name port.ScanOut table) (λ scan_out.
+    Ok (record { scan_enable = scan_enable; edt_clock = edt_clock; edt_update = edt_update; channel = channel; mask = mask; output = output; scan_in = scan_in; scan_out = scan_out })))))))))
+
+-- the configuration whose keys a table has: the keys are read in this order, and the version is 1
+unfoldable pub keys_of : Members → Result Config Fault
+keys_of table =
+    after (number key.Version 1 1 (get_member (codes "version") table)) (λ version.
+    after (domains (get_member (codes "domains") table)) (λ domains.
+    after (resets (get_member (codes "resets") table)) (λ resets.
+    after (keep (get_member (codes "keep") table)) (λ keep.
+    after (number key.Chains 1 1024 (get_member (codes "chains") table)) (λ chains.
+    after (number key.Warm 0 4095 (get_member (codes "warm") table)) (λ warm.
+    after (number key.Window 1 16 (get_member (codes "window") table)) (λ window.
+    after (fill (get_member (codes "fill") table) (get_member (codes "seed") table)) (λ fill.
+    after (numbers key.AlwaysMasked chains (get_member (codes "always_masked") table)) (λ always_masked.
+    after (ring_of chains (table_at (codes "ring") table)) (λ ring.
+    after (compactor_of chains (table_at (codes "compactor") table)) (λ compactor.
+    after (names_of_ports (table_at (codes "names") table)) (λ names.
+    Ok (record {
+      domains = domains;
+      resets = resets;
+      keep = keep;
+      chains = chains;
+      warm = warm;
+      window = window;
+      fill = fill;
+      always_masked = always_masked;
+      ring = ring;
+      compactor = compactor;
+      names = names;
+    })))))))))))))
+
+-- the configuration of a table, or its first fault: its keys are read in order; then no key is unknown, nothing stands
+-- twice, no list in a list is empty, and each chain stands in a group
+unfoldable pub reading : Members → Result Config Fault
+reading table =
+    after (keys_of table) (λ config.
+    unless (first_unknown config.fill table) fault.Unknown (
+    unless (first_repeated config) fault.Repeated (
+    unless (first_empty config) fault.Empty (
+    unless (first_unreached config) (λ chain. fault.Unreached (pos chain))
+    (Ok config)))))
