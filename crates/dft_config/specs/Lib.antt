@@ -10,3 +10,6 @@ pub mod Range
 pub mod Keys
 pub mod Faults
 pub mod Settings
+pub use Rattle.dft_base.specs.Solutions
+pub mod Ring
+pub mod Loads
