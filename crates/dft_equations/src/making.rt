@@ -1,0 +1,3 @@
+ghost use Rattle.std.specs.Prelude.{◌≡◌};
+
+pub fn equations() {}
