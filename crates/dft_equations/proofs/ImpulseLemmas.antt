@@ -71,7 +71,7 @@ not_fed : (j channel cycle moment : ℕ) → moment < cycle → single channel c
 not_fed j channel cycle moment before = grind (arith, nat_tests)
 
 -- up to the cycle of the single 1 the ring is at zero
-state_before : (ring : RingConfig) (channel cycle t : ℕ) → t ≤ cycle → (stage : ℕ) → state_after ring (single channel cycle) t stage ≡ false
+pub state_before : (ring : RingConfig) (channel cycle t : ℕ) → t ≤ cycle → (stage : ℕ) → state_after ring (single channel cycle) t stage ≡ false
 unfolding state_after
 state_before ring channel cycle zero early stage = refl
 state_before ring channel cycle (suc t) early stage =

@@ -1,2 +1,3 @@
-pub mod RowLemmas
 pub mod ImpulseLemmas
+pub mod LoadLemmas
+pub mod RowLemmas

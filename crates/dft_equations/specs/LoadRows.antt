@@ -21,6 +21,11 @@ row_of rows chain place = get_or (rows_of rows chain) place []
 abbrev pub IsCell : LoadRows → ℕ → ℕ → Type 0
 IsCell rows chain place = (chain < length rows.chains) × (place < length (rows_of rows chain))
 
+-- each row of each chain has so many bits
+abbrev pub AreWide : ℕ → List (List (List Bool)) → Type 0
+AreWide columns chains =
+    (chain place : ℕ) → chain < length chains → place < length (get_or chains chain []) → length (get_or (get_or chains chain []) place []) ≡ columns
+
 -- a load equation as a list: for each column whether it is in it
 abbrev pub equation_row : RingConfig → ℕ → ℕ → ℕ → List Bool
 equation_row ring cycles chain place = map (load_equation ring cycles chain place) (range_with_len 0 (cycles * ring.channels))

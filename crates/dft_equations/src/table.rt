@@ -1,7 +1,7 @@
 ghost use Rattle.std.specs.Prelude.{◌≡◌, ℕ, ◌+◌, ◌/◌, length};
 ghost use Rattle.dft_base.specs.Solutions.{bit_at};
 ghost use Rattle.dft_base.specs.Packed.{packed_bit};
-ghost use Rattle.dft_equations.specs.LoadRows.{IsCell, row_of};
+ghost use Rattle.dft_equations.specs.LoadRows.{AreWide, IsCell, row_of};
 
 use crate::row::Row;
 use dft_config::Listed;
@@ -21,14 +21,22 @@ impl Model for Equations {
 
     ghost Value = { LoadRows };
 
-    ghost use Rattle.dft_equations.specs.Inside.{load_rows, AreWide};
+    ghost use Rattle.dft_equations.specs.Inside.{load_rows, IsWide};
 
     ghost view = { load_rows };
 
-    ghost invariant = { AreWide };
+    ghost invariant = { IsWide };
 }
 
 impl Equations {
+    // The rows of chains, each with a bit for each column.
+    pub(crate) fn new(columns: u32, chains: Vec<Listed<Row>>) -> Equations
+        requires { AreWide columns chains.items }
+        ensures { result ≡ record { columns = columns; chains = chains.items } }
+    {
+        Equations { columns, chains }
+    }
+
     /// The number of columns: the cycles of a load times the channels.
     pub fn columns(&self) -> u32
         ensures { result ≡ self.now.columns }
