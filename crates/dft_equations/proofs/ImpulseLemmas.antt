@@ -101,7 +101,7 @@ load_equation-moved ring cycles chain place column some within =
     let cycle : cycle_of ring (column + place * n) ≡ cycle_of ring column + place = ap (λ (c : ℕ). c / n) whole ∙ div-mul-add (column / n + place) n (column % n) below in
     let moment : moment_of_place cycles 0 ≡ moment_of_place cycles place + place = omega arith in
     λ e. sum_of (λ stage. (sym (state_later ring (channel_of ring column) (cycle_of ring column) place (moment_of_place cycles place) stage)
-        ∙ (λ d. state_after ring (single (sym channel d) (sym cycle d)) (sym moment d) stage)) e) (phase_of ring chain)
+    ∙ (λ d. state_after ring (single (sym channel d) (sym cycle d)) (sym moment d) stage)) e) (phase_of ring chain)
 
 -- The first cell's row by impulse responses: the phase sum of the state after as many cycles as there are from the variable on.
 pub load_equation-first : (ring : RingConfig) (cycles chain column : ℕ) → cycle_of ring column < cycles
@@ -112,7 +112,7 @@ load_equation-first ring cycles chain column within =
     let own : t ≡ 0 + t = omega arith in
     let moment : moment_of_place cycles 0 ≡ cycles - 1 - t + t = omega arith in
     λ e. sum_of (λ stage. ((λ d. state_after ring (single (channel_of ring column) (own d)) (moment d) stage)
-        ∙ state_later ring (channel_of ring column) 0 t (cycles - 1 - t) stage) e) (phase_of ring chain)
+    ∙ state_later ring (channel_of ring column) 0 t (cycles - 1 - t) stage) e) (phase_of ring chain)
 
 -- what holds of each item of a list and of one more holds of each item of the longer list
 push_case : {X : Type 0} (P : ℕ → X → Type 0) (xs : List X) (y d : X) (n k : ℕ) → (k < n) ⊎ (n ≡ k) → length xs ≡ n → ((j : ℕ) → j < n → P j (get_or xs j d)) → P n y → P k (get_or (xs ++ y ∷ []) k d)

@@ -8,7 +8,7 @@ use Rattle.std.proofs.lemmas.List.FromFn.{get_or-map-range_with_len, length-map-
 use Rattle.dft_base.specs.Solutions.{xor, bit_at}
 use Rattle.dft_config.specs.declared.config.RingConfig.{RingConfig}
 use Rattle.dft_config.specs.declared.config.Config.{Config}
-use Rattle.dft_config.specs.Range.{IsInRange, IsSet}
+use Rattle.dft_config.specs.Range.{IsRingInRange, IsSet}
 use Rattle.dft_config.specs.Ring.{sum_of, state_after, phase_of, phase_sum}
 use Rattle.dft_config.specs.Loads.{channel_of, cycle_of, single, reaches, moment_of_place, load_equation}
 use Rattle.dft_equations.specs.Impulses.{IsImpulse, AreImpulses}
@@ -17,7 +17,7 @@ use Rattle.dft_equations.proofs.ImpulseLemmas.{load_equation-first, load_equatio
 
 -- the parts of a first row's bit: a channel's response, a state of it, and the stages that the chain takes
 pub record IsRead (config : Config) (cycles chain column : ℕ) (all : List (List (List Bool))) (response : List (List Bool)) (state : List Bool) (stages : List ℕ) : Type 0 where
-  pub range : IsInRange config
+  pub range : IsRingInRange config.chains config.ring
   pub impulses : AreImpulses config.ring cycles all
   pub chain_less : chain < config.chains
   pub column_less : column < cycles * config.ring.channels
@@ -25,11 +25,11 @@ pub record IsRead (config : Config) (cycles chain column : ℕ) (all : List (Lis
   pub state_is : state ≡ get_or response (cycles - 1 - column / config.ring.channels) state
   pub stages_are : stages ≡ get_or config.ring.phase chain stages
 
-channel_less : (config : Config) (column : ℕ) → IsInRange config → column % config.ring.channels < config.ring.channels
-channel_less config column range = mod_below column config.ring.channels (omega (arith, range.ring.channels))
+channel_less : (config : Config) (column : ℕ) → IsRingInRange config.chains config.ring → column % config.ring.channels < config.ring.channels
+channel_less config column range = mod_below column config.ring.channels (omega (arith, range.channels))
 
-cycle_less : (config : Config) (cycles column : ℕ) → IsInRange config → column < cycles * config.ring.channels → column / config.ring.channels < cycles
-cycle_less config cycles column range less = div_below column config.ring.channels cycles (omega (arith, range.ring.channels)) less
+cycle_less : (config : Config) (cycles column : ℕ) → IsRingInRange config.chains config.ring → column < cycles * config.ring.channels → column / config.ring.channels < cycles
+cycle_less config cycles column range less = div_below column config.ring.channels cycles (omega (arith, range.channels)) less
 
 read_impulse : (config : Config) (cycles chain column : ℕ) (all : List (List (List Bool))) (response : List (List Bool)) (state : List Bool) (stages : List ℕ)
     → IsRead config cycles chain column all response state stages → IsImpulse config.ring (column % config.ring.channels) cycles response
@@ -53,7 +53,7 @@ read_within config cycles chain column all response state stages r k d less =
     let before = cycle_less config cycles column r.range r.column_less in
     let m = cycles - 1 - column / config.ring.channels in
     let size : length state ≡ config.ring.stages = ap length (sym (read_state config cycles chain column all response state stages r)) ∙ impulse.stages m (omega arith) in
-    let set : IsSet config.ring.stages stages = subst (IsSet config.ring.stages) (sym r.stages_are) (r.range.ring.phase chain stages (omega (arith, r.range.ring.phases, r.chain_less))) in
+    let set : IsSet config.ring.stages stages = subst (IsSet config.ring.stages) (sym r.stages_are) (r.range.phase chain stages (omega (arith, r.range.phases, r.chain_less))) in
     let below : get_or stages k d < config.ring.stages = set.below k d less in
     omega arith
 
@@ -64,7 +64,7 @@ read_bit config cycles chain column all response state stages r =
     let before = cycle_less config cycles column r.range r.column_less in
     let m = cycles - 1 - column / config.ring.channels in
     let same = read_state config cycles chain column all response state stages r in
-    let phase : stages ≡ phase_of config.ring chain = r.stages_are ∙ get_or_default config.ring.phase chain stages [] (omega (arith, r.range.ring.phases, r.chain_less)) in
+    let phase : stages ≡ phase_of config.ring chain = r.stages_are ∙ get_or_default config.ring.phase chain stages [] (omega (arith, r.range.phases, r.chain_less)) in
     (λ t. sum_of (λ stage. (ap (λ (l : List Bool). bit_at l stage) (sym same) ∙ impulse.bits m (omega arith) stage) t) (phase t))
     ∙ sym (load_equation-first config.ring cycles chain column before)
 
@@ -78,7 +78,7 @@ unfolding reaches
 load_equation-past ring cycles chain place column some past =
     let late : cycles ≤ cycle_of ring column = le-div cycles column ring.channels some past in
     sum_of_none (phase_of ring chain) (state_after ring (single (channel_of ring column) (cycle_of ring column)) (moment_of_place cycles place))
-        (state_before ring (channel_of ring column) (cycle_of ring column) (moment_of_place cycles place) (omega arith))
+    (state_before ring (channel_of ring column) (cycle_of ring column) (moment_of_place cycles place) (omega arith))
 
 bit_case : (ring : RingConfig) (cycles chain place q : ℕ) → 0 < ring.channels → (q < cycles * ring.channels) ⊎ (cycles * ring.channels ≤ q)
     → bit_at (equation_row ring cycles chain place) q ≡ load_equation ring cycles chain place q
@@ -97,11 +97,11 @@ moved_row : (ring : RingConfig) (cycles chain place : ℕ) (first row : List Boo
 moved_row ring cycles chain place first row some less first_is size bits =
     let n = cycles * ring.channels in
     fill_by_all (load_equation ring cycles chain place) row n false
-        (size ∙ ap length first_is ∙ length-map-range_with_len (load_equation ring cycles chain 0) 0 n)
-        (λ column within. bits column
-            ∙ ap (λ (l : List Bool). bit_at l (column + place * ring.channels)) first_is
-            ∙ bit_at-equation_row ring cycles chain 0 (column + place * ring.channels) some
-            ∙ sym (load_equation-moved ring cycles chain place column some less))
+    (size ∙ ap length first_is ∙ length-map-range_with_len (load_equation ring cycles chain 0) 0 n)
+    (λ column within. bits column
+    ∙ ap (λ (l : List Bool). bit_at l (column + place * ring.channels)) first_is
+    ∙ bit_at-equation_row ring cycles chain 0 (column + place * ring.channels) some
+    ∙ sym (load_equation-moved ring cycles chain place column some less))
 
 -- one row more
 pub rows_more : (ring : RingConfig) (cycles chain place : ℕ) (rows : List (List Bool)) (first row : List Bool) → 0 < ring.channels → place < cycles → AreRowsOf ring cycles chain place rows

@@ -34,7 +34,7 @@ joined_low low high p i some h =
 pub joined_high : (low high p i : ℕ) → low < 2 ^ 64 → p < 64 → i < 64 → 64 ≤ i + p → bit_of_word (bit_or (low / 2 ^ p) (high * 2 ^ (64 - p) % 2 ^ 64)) i ≡ bit_of_word high (i + p - 64)
 joined_high low high p i fits below within h =
     let upper : bit_of_word (high * 2 ^ (64 - p) % 2 ^ 64) i ≡ bit_of_word high (i + p - 64) =
-        mod_bit (high * 2 ^ (64 - p)) 64 i within ∙ shl_high high (64 - p) i (omega arith) ∙ ap (bit_of_word high) (omega arith) in
+    mod_bit (high * 2 ^ (64 - p)) 64 i within ∙ shl_high high (64 - p) i (omega arith) ∙ ap (bit_of_word high) (omega arith) in
     let lower : bit_of_word (low / 2 ^ p) i ≡ 0 = shr_bit low p i ∙ bit_at_above low 64 (p + i) fits (omega arith) in
     bit_at_or (low / 2 ^ p) (high * 2 ^ (64 - p) % 2 ^ 64) i ∙ (λ t. max (lower t) (upper t)) ∙ omega arith
 

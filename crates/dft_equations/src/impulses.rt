@@ -1,7 +1,7 @@
 ghost use Rattle.std.specs.Prelude.{◌≡◌, ℕ, ◌+◌, ◌%◌, ◌<◌, ◌==◌, ◌&&◌, false, length, replicate, IfOk};
 ghost use Rattle.std.specs.List.{All};
 ghost use Rattle.dft_base.specs.Solutions.{bit_at, xor};
-ghost use Rattle.dft_config.specs.Range.{IsInRange};
+ghost use Rattle.dft_config.specs.Range.{IsRingInRange};
 ghost use Rattle.dft_config.specs.Ring.{tapped, injected, step};
 ghost use Rattle.dft_equations.specs.Impulses.{IsImpulse, AreImpulses};
 
@@ -15,7 +15,7 @@ pub fn impulses(
     config: &Config,
     cycles: u16,
 ) -> Result<Vec<Listed<Listed<bool>>>, AllocError>
-    requires { IsInRange config.now }
+    requires { IsRingInRange config.now.chains config.now.ring }
     ensures { IfOk result (λ all. AreImpulses config.now.ring cycles all.items) }
 {
     let mut all = Vec::with_capacity(alloc, config.ring.channels as usize)?;
@@ -32,7 +32,7 @@ fn impulse(
     channel: u8,
     cycles: u16,
 ) -> Result<Listed<Listed<bool>>, AllocError>
-    requires { IsInRange config.now }
+    requires { IsRingInRange config.now.chains config.now.ring }
     ensures { IfOk result (IsImpulse config.now.ring channel cycles) }
 {
     let mut states = Vec::with_capacity(alloc, cycles as usize)?;
@@ -59,7 +59,7 @@ fn stepped(
     channel: u8,
     bit: bool,
 ) -> Result<Vec<bool>, AllocError>
-    requires config { IsInRange config.now }
+    requires ring { IsRingInRange config.now.chains config.now.ring }
     requires stages { length state.now ≡ config.now.ring.stages }
     ensures stages { IfOk result (λ next. length next.items ≡ config.now.ring.stages) }
     ensures step { IfOk result (λ next. (stage : ℕ) → bit_at next.items stage ≡ step config.now.ring (λ other. (other == channel) && bit) (bit_at state.now) stage) }
@@ -71,7 +71,7 @@ fn stepped(
 
 // Adds what taps and injectors bring.
 fn bring(next: &mut [bool], config: &Config, state: &[bool], channel: u8, bit: bool)
-    requires config { IsInRange config.now }
+    requires ring { IsRingInRange config.now.chains config.now.ring }
     requires stages { length state.now ≡ config.now.ring.stages }
     requires next { length next.old ≡ length state.now }
     ensures { (stage : ℕ) → bit_at next.new stage ≡ xor (xor (bit_at next.old stage) (tapped config.now.ring.taps (bit_at state.now) stage)) (injected config.now.ring.injectors (λ other. (other == channel) && bit) stage) }
@@ -109,7 +109,11 @@ fn add_injectors(next: &mut [bool], injectors: &[Injector], channel: u8, bit: bo
     ensures { (stage : ℕ) → bit_at next.new stage ≡ xor (bit_at next.old stage) (injected injectors.now (λ other. (other == channel) && bit) stage) }
 {
     for injector in injectors {
-        add_at(next, injector.stage as usize, injector.channel == channel && bit);
+        add_at(
+            next,
+            injector.stage as usize,
+            injector.channel == channel && bit,
+        );
     }
 }
 

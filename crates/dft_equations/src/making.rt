@@ -1,7 +1,7 @@
 ghost use Rattle.std.specs.Prelude.{◌≡◌, ℕ, ◌*◌, ◌<◌, ◌≤◌, ◌^◌, length, map, IfOk};
 ghost use Rattle.std.specs.List.{All, slice_index, range_with_len};
 ghost use Rattle.dft_base.specs.Solutions.{bit_at};
-ghost use Rattle.dft_config.specs.Range.{IsInRange};
+ghost use Rattle.dft_config.specs.Range.{IsRingInRange};
 ghost use Rattle.dft_config.specs.Ring.{sum_of};
 ghost use Rattle.dft_config.specs.Loads.{load_equation};
 ghost use Rattle.dft_equations.specs.Impulses.{AreImpulses};
@@ -21,7 +21,7 @@ pub fn equations(
     lengths: &[u16],
     cycles: u16,
 ) -> Result<Equations, AllocError>
-    requires config { IsInRange config.now }
+    requires ring { IsRingInRange config.now.chains config.now.ring }
     requires chains { length lengths.now ≡ config.now.chains }
     requires lengths { All (λ cells. cells ≤ cycles) lengths.now }
     requires columns { cycles * config.now.ring.channels ≤ 16384 }
@@ -30,19 +30,9 @@ pub fn equations(
     let responses = impulses(alloc, config, cycles)?;
     let mut chains = Vec::with_capacity(alloc, lengths.len())?;
     for chain in 0..lengths.len() {
-        chains.push(chain_rows(
-            alloc,
-            config,
-            &responses,
-            chain,
-            lengths[chain],
-            cycles,
-        )?)?;
+        chains.push(chain_rows(alloc, config, &responses, chain, lengths[chain], cycles)?)?;
     }
-    Ok(Equations::new(
-        u32::from(cycles) * u32::from(config.ring.channels),
-        chains,
-    ))
+    Ok(Equations::new(u32::from(cycles) * u32::from(config.ring.channels), chains))
 }
 
 // The rows of the cells of a chain: the first one's, moved down by the channels for each place.
@@ -54,7 +44,7 @@ fn chain_rows(
     cells: u16,
     cycles: u16,
 ) -> Result<Listed<Row>, AllocError>
-    requires config { IsInRange config.now }
+    requires ring { IsRingInRange config.now.chains config.now.ring }
     requires responses { AreImpulses config.now.ring cycles responses.now }
     requires chain { chain < config.now.chains }
     requires cells { cells ≤ cycles }
@@ -80,7 +70,7 @@ fn first_bits(
     chain: usize,
     cycles: u16,
 ) -> Result<Vec<bool>, AllocError>
-    requires config { IsInRange config.now }
+    requires ring { IsRingInRange config.now.chains config.now.ring }
     requires responses { AreImpulses config.now.ring cycles responses.now }
     requires chain { chain < config.now.chains }
     requires columns { cycles * config.now.ring.channels ≤ 16384 }
@@ -103,7 +93,7 @@ fn first_bit(
     cycles: u16,
     column: usize,
 ) -> bool
-    requires config { IsInRange config.now }
+    requires ring { IsRingInRange config.now.chains config.now.ring }
     requires responses { AreImpulses config.now.ring cycles responses.now }
     requires chain { chain < config.now.chains }
     requires column { column < cycles * config.now.ring.channels }

@@ -86,11 +86,7 @@ fn put(words: &mut [u64], place: usize, bit: bool)
 fn word_at(words: &[u64], word: usize) -> u64
     ensures { result ≡ slice_index words.now word }
 {
-    if word < words.len() {
-        words[word]
-    } else {
-        0
-    }
+    if word < words.len() { words[word] } else { 0 }
 }
 
 // A word of the bits that are moved down by so many places.

@@ -25,6 +25,6 @@ loop-cycle-preserved c =
       stages = rw c.replace.ensures.after c.in_ok-next.ensures.stages;
       bits = rw c.replace.ensures.after
           (impulse_step ring c.args.channel t (t == 0) c.loop-cycle.state.items c.in_ok-next.next.items refl before.bits
-            (λ stage. c.in_ok-next.ensures.step stage
-                ∙ ap (λ (l : List Bool). step ring (λ other. (other == c.args.channel) && (t == 0)) (bit_at l) stage) c.deref.ensures.value));
+          (λ stage. c.in_ok-next.ensures.step stage
+          ∙ ap (λ (l : List Bool). step ring (λ other. (other == c.args.channel) && (t == 0)) (bit_at l) stage) c.deref.ensures.value));
     }

@@ -16,6 +16,6 @@ returns-clause-step c = λ stage.
     let all : take c.in_ok-next.next.len (new ++ drop (length new) old) ≡ new = take_seam c.in_ok-next.next.len new (drop (length new) old) (omega arith) in
     ap (λ (l : List Bool). bit_at l stage) all
     ∙ step_of_list ring bits state new stage c.requires.stages (omega (arith, c.in_ok-next.ensures.stages))
-        (λ within. c.bring.ensures stage
-            ∙ ap (λ (l : List Bool). xor (xor (bit_at l stage) (tapped ring.taps (bit_at state) stage)) (injected ring.injectors bits stage)) c.deref_mut.ensures.value
-            ∙ ap (λ (b : Bool). xor (xor b (tapped ring.taps (bit_at state) stage)) (injected ring.injectors bits stage)) (c.in_ok-next.ensures.bits stage within))
+    (λ within. c.bring.ensures stage
+    ∙ ap (λ (l : List Bool). xor (xor (bit_at l stage) (tapped ring.taps (bit_at state) stage)) (injected ring.injectors bits stage)) c.deref_mut.ensures.value
+    ∙ ap (λ (b : Bool). xor (xor b (tapped ring.taps (bit_at state) stage)) (injected ring.injectors bits stage)) (c.in_ok-next.ensures.bits stage within))

@@ -18,4 +18,4 @@ loop-place-preserved c =
     let first_is = c.in_ok-first.ensures ∙ c.deref.ensures.value ∙ c.in_ok-bits.ensures in
     rw c.in_ok-push.ensures.items
     (rows_more ring c.args.cycles c.args.chain c.loop-place.place c.loop-place.rows.items c.in_ok-first.first _ (omega arith) (omega arith) c.loop-place.invariant first_is c.in_ok-moved.ensures.size
-        (λ column. c.in_ok-moved.ensures.bits column ∙ (λ t. bit_at c.in_ok-first.first (column + c.from.ensures t * c.from-in-loop-place.ensures t))))
+    (λ column. c.in_ok-moved.ensures.bits column ∙ (λ t. bit_at c.in_ok-first.first (column + c.from.ensures t * c.from-in-loop-place.ensures t))))

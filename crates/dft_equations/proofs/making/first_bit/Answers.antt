@@ -9,7 +9,7 @@ use Rattle.dft_equations.proofs.making.first_bit.Goals.{After-as_slice-2, After-
 read : (c : After-as_slice-2) → IsRead c.args.config.now c.args.cycles c.args.chain c.args.column c.args.responses.now c.index-responses-column.result c.index-response-from.result c.index-as_slice-chain.result
 read c =
     record {
-      range = c.requires.config;
+      range = c.requires.ring;
       impulses = c.requires.responses;
       chain_less = c.requires.chain;
       column_less = c.requires.column;
@@ -24,7 +24,7 @@ phase_sum-requires c = rw (c.as_slice-2.ensures, c.as_slice-state.ensures) (read
 read_after : (c : After-phase_sum) → IsRead c.args.config.now c.args.cycles c.args.chain c.args.column c.args.responses.now c.index-responses-column.result c.index-response-from.result c.index-as_slice-chain.result
 read_after c =
     record {
-      range = c.requires.config;
+      range = c.requires.ring;
       impulses = c.requires.responses;
       chain_less = c.requires.chain;
       column_less = c.requires.column;

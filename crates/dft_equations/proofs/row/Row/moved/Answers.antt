@@ -17,8 +17,8 @@ invariant_of-result c =
       few = c.self.invariant.few;
       size = size ∙ c.self.invariant.size;
       clear = λ column past.
-        moved column (omega (arith, c.self.invariant.size)) (λ w i less. c.loop-word.invariant.each w i (omega arith)) c.self.invariant.clear
-        ∙ c.self.invariant.clear (column + c.args.places) (omega arith);
+          moved column (omega (arith, c.self.invariant.size)) (λ w i less. c.loop-word.invariant.each w i (omega arith)) c.self.invariant.clear
+          ∙ c.self.invariant.clear (column + c.args.places) (omega arith);
     }
 
 pub returns-clause-bits : goal.returns-clause-bits
