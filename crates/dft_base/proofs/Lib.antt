@@ -1,3 +1,4 @@
 pub mod StoreLemmas
+pub mod SumLemmas
 pub mod Turns
 pub mod WordLemmas

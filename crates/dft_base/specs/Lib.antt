@@ -10,3 +10,4 @@ pub mod StoreShown
 pub mod Words
 pub mod Parser
 pub mod Solutions
+pub mod Packed

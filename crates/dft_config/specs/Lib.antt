@@ -16,3 +16,6 @@ pub mod Unknown
 pub mod Checks
 pub mod Reading
 pub mod Refusals
+pub use Rattle.dft_base.specs.Solutions
+pub mod Ring
+pub mod Loads

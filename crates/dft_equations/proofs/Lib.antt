@@ -1,0 +1,4 @@
+pub mod Fits
+pub mod ImpulseLemmas
+pub mod LoadLemmas
+pub mod RowLemmas

@@ -1,0 +1,37 @@
+-- What is read is the state of the channel's response, and the chain's stages.
+use Rattle.std.proofs.Common.{ap, ◌∙◌}
+use Rattle.dft_base.specs.Solutions.{bit_at}
+use Rattle.dft_config.specs.Ring.{sum_of}
+use Rattle.dft_equations.proofs.LoadLemmas.{IsRead, read_within, read_bit}
+use Rattle.dft_equations.proofs.making.first_bit.Goals as goal
+use Rattle.dft_equations.proofs.making.first_bit.Goals.{After-as_slice-2, After-phase_sum}
+
+read : (c : After-as_slice-2) → IsRead c.args.config.now c.args.cycles c.args.chain c.args.column c.args.responses.now c.index-responses-column.result c.index-response-from.result c.index-as_slice-chain.result
+read c =
+    record {
+      range = c.requires.ring;
+      impulses = c.requires.responses;
+      chain_less = c.requires.chain;
+      column_less = c.requires.column;
+      response_is = rw c.from-channels.ensures at c.index-responses-column.is;
+      state_is = rw (c.as_slice-response.ensures, c.from.ensures, c.from-channels.ensures) at c.index-response-from.is;
+      stages_are = rw c.as_slice.ensures at c.index-as_slice-chain.is;
+    }
+
+pub phase_sum-requires : goal.phase_sum-requires
+phase_sum-requires c = rw (c.as_slice-2.ensures, c.as_slice-state.ensures) (read_within c.args.config.now c.args.cycles c.args.chain c.args.column c.args.responses.now _ _ _ (read c))
+
+read_after : (c : After-phase_sum) → IsRead c.args.config.now c.args.cycles c.args.chain c.args.column c.args.responses.now c.index-responses-column.result c.index-response-from.result c.index-as_slice-chain.result
+read_after c =
+    record {
+      range = c.requires.ring;
+      impulses = c.requires.responses;
+      chain_less = c.requires.chain;
+      column_less = c.requires.column;
+      response_is = rw c.from-channels.ensures at c.index-responses-column.is;
+      state_is = rw (c.as_slice-response.ensures, c.from.ensures, c.from-channels.ensures) at c.index-response-from.is;
+      stages_are = rw c.as_slice.ensures at c.index-as_slice-chain.is;
+    }
+
+pub returns : goal.returns
+returns c = rw (c.phase_sum.ensures, c.as_slice-2.ensures, c.as_slice-state.ensures) (read_bit c.args.config.now c.args.cycles c.args.chain c.args.column c.args.responses.now _ _ _ (read_after c))

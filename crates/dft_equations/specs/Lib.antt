@@ -1,0 +1,9 @@
+pub use Rattle.dft_base.specs.Solutions
+pub use Rattle.dft_base.specs.Packed
+pub use Rattle.dft_config.specs.Range
+pub use Rattle.dft_config.specs.Ring
+pub use Rattle.dft_config.specs.Loads
+pub mod Impulses
+pub mod Inside
+pub mod LoadRows
+pub mod RowShown

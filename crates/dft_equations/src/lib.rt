@@ -1,0 +1,12 @@
+//! The load equations of a ring generator: for each scan cell the variables of the channels that it sums after a load.
+#![tactic(auto)]
+
+mod impulses;
+mod making;
+mod row;
+mod table;
+#[cfg(test)]
+mod tests;
+
+pub use making::equations;
+pub use table::Equations;

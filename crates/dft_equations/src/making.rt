@@ -1,0 +1,118 @@
+ghost use Rattle.std.specs.Prelude.{◌≡◌, ℕ, ◌*◌, ◌<◌, ◌≤◌, ◌^◌, length, map, IfOk};
+ghost use Rattle.std.specs.List.{All, slice_index, range_with_len};
+ghost use Rattle.dft_base.specs.Solutions.{bit_at};
+ghost use Rattle.dft_config.specs.Range.{IsRingInRange};
+ghost use Rattle.dft_config.specs.Ring.{sum_of};
+ghost use Rattle.dft_config.specs.Loads.{load_equation};
+ghost use Rattle.dft_equations.specs.Impulses.{AreImpulses};
+ghost use Rattle.dft_equations.specs.LoadRows.{AreLoadEquations, AreRowsOf, equation_row};
+
+use crate::impulses::impulses;
+use crate::row::Row;
+use crate::table::Equations;
+use dft_config::{Config, Listed};
+use std::alloc::{AllocError, Global};
+
+/// The load equations of the cells of chains of these lengths, for loads of so many cycles (Rajski and others, 2004): a cell
+/// sums a variable where its 1 alone brings the cell a 1.
+pub fn equations(
+    alloc: Global,
+    config: &Config,
+    lengths: &[u16],
+    cycles: u16,
+) -> Result<Equations, AllocError>
+    requires ring { IsRingInRange config.now.chains config.now.ring }
+    requires chains { length lengths.now ≡ config.now.chains }
+    requires lengths { All (λ cells. cells ≤ cycles) lengths.now }
+    requires columns { cycles * config.now.ring.channels ≤ 16384 }
+    ensures { IfOk result (AreLoadEquations config.now.ring lengths.now cycles) }
+{
+    let responses = impulses(alloc, config, cycles)?;
+    let mut chains = Vec::with_capacity(alloc, lengths.len())?;
+    for chain in 0..lengths.len() {
+        chains.push(chain_rows(alloc, config, &responses, chain, lengths[chain], cycles)?)?;
+    }
+    Ok(Equations::new(u32::from(cycles) * u32::from(config.ring.channels), chains))
+}
+
+// The rows of the cells of a chain: the first one's, moved down by the channels for each place.
+fn chain_rows(
+    alloc: Global,
+    config: &Config,
+    responses: &[Listed<Listed<bool>>],
+    chain: usize,
+    cells: u16,
+    cycles: u16,
+) -> Result<Listed<Row>, AllocError>
+    requires ring { IsRingInRange config.now.chains config.now.ring }
+    requires responses { AreImpulses config.now.ring cycles responses.now }
+    requires chain { chain < config.now.chains }
+    requires cells { cells ≤ cycles }
+    requires columns { cycles * config.now.ring.channels ≤ 16384 }
+    ensures { IfOk result (AreRowsOf config.now.ring cycles chain cells) }
+{
+    let mut rows = Vec::with_capacity(alloc, cells as usize)?;
+    if cells > 0 {
+        let bits = first_bits(alloc, config, responses, chain, cycles)?;
+        let first = Row::of_bits(alloc, &bits)?;
+        for place in 0..cells {
+            rows.push(first.moved(alloc, u32::from(place) * u32::from(config.ring.channels))?)?;
+        }
+    }
+    Ok(Listed::from_vec(rows))
+}
+
+// The load equation of the first cell of a chain, column by column.
+fn first_bits(
+    alloc: Global,
+    config: &Config,
+    responses: &[Listed<Listed<bool>>],
+    chain: usize,
+    cycles: u16,
+) -> Result<Vec<bool>, AllocError>
+    requires ring { IsRingInRange config.now.chains config.now.ring }
+    requires responses { AreImpulses config.now.ring cycles responses.now }
+    requires chain { chain < config.now.chains }
+    requires columns { cycles * config.now.ring.channels ≤ 16384 }
+    ensures { IfOk result (λ bits. bits.items ≡ equation_row config.now.ring cycles chain 0) }
+{
+    let columns = usize::from(cycles) * usize::from(config.ring.channels);
+    let mut bits = Vec::with_capacity(alloc, columns)?;
+    for column in 0..columns {
+        bits.push(first_bit(config, responses, chain, cycles, column))?;
+    }
+    Ok(bits)
+}
+
+// Whether the column is in the load equation of the first cell of a chain: the phase sum of its channel's impulse response,
+// after as many cycles as there are from its own cycle on.
+fn first_bit(
+    config: &Config,
+    responses: &[Listed<Listed<bool>>],
+    chain: usize,
+    cycles: u16,
+    column: usize,
+) -> bool
+    requires ring { IsRingInRange config.now.chains config.now.ring }
+    requires responses { AreImpulses config.now.ring cycles responses.now }
+    requires chain { chain < config.now.chains }
+    requires column { column < cycles * config.now.ring.channels }
+    ensures { result ≡ load_equation config.now.ring cycles chain 0 column }
+{
+    let channels = usize::from(config.ring.channels);
+    let response = responses[column % channels].as_slice();
+    let state = response[usize::from(cycles) - 1 - column / channels].as_slice();
+    phase_sum(config.ring.phase.as_slice()[chain].as_slice(), state)
+}
+
+// The sum of the stages that a chain takes.
+fn phase_sum(stages: &[u8], state: &[bool]) -> bool
+    requires { All (λ stage. stage < length state.now) stages.now }
+    ensures { result ≡ sum_of (bit_at state.now) stages.now }
+{
+    let mut sum = false;
+    for stage in stages {
+        sum ^= state[usize::from(*stage)];
+    }
+    sum
+}

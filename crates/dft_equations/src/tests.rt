@@ -1,0 +1,262 @@
+ghost use Rattle.std.specs.Prelude.{◌≡◌, ◌<◌, ◌≤◌, ◌*◌, length, IfOk, IsTrue, nat_le};
+ghost use Rattle.std.specs.List.{list_all};
+ghost use Rattle.dft_config.specs.Range.{IsRingInRange};
+
+use crate::equations;
+use dft_base::Name;
+use dft_config::{
+    CompactorConfig, Config, FillRule, Injector, Listed, PortNames, RingConfig, Tap,
+};
+use dft_toml::Names;
+use std::alloc::{AllocError, Global};
+use std::test::Fail;
+
+fn tap(from: u8, to: u8) -> Tap
+    ensures { result ≡ record { from = from; to = to } }
+{
+    Tap { from, to }
+}
+
+fn injector(channel: u8, stage: u8) -> Injector
+    ensures { result ≡ record { channel = channel; stage = stage } }
+{
+    Injector { channel, stage }
+}
+
+// Four stages and one channel; two chains of two stages each.
+fn small_ring(alloc: Global) -> Result<RingConfig, AllocError>
+    ensures { IfOk result (IsRingInRange 2) }
+{
+    let taps = vec![in alloc; tap(2, 0)]?;
+    let injectors = vec![in alloc; injector(0, 3)]?;
+    let a = vec![in alloc; 0u8, 3]?;
+    let b = vec![in alloc; 1u8, 2]?;
+    let phase = vec![in alloc; Listed::from_vec(a), Listed::from_vec(b)]?;
+    Ok(RingConfig {
+        stages: 4,
+        channels: 1,
+        taps: Listed::from_vec(taps),
+        injectors: Listed::from_vec(injectors),
+        phase: Listed::from_vec(phase),
+    })
+}
+
+// Three stages and two channels; two taps meet in stage 1, channel 0 comes into two stages, and each chain takes one stage.
+fn crossed_ring(alloc: Global) -> Result<RingConfig, AllocError>
+    ensures { IfOk result (IsRingInRange 3) }
+{
+    let taps = vec![in alloc; tap(0, 1), tap(1, 1)]?;
+    let injectors = vec![in alloc; injector(0, 0), injector(0, 2), injector(1, 1)]?;
+    let a = vec![in alloc; 0u8]?;
+    let b = vec![in alloc; 1u8]?;
+    let c = vec![in alloc; 2u8]?;
+    let phase = vec![in alloc;
+        Listed::from_vec(a),
+        Listed::from_vec(b),
+        Listed::from_vec(c),
+    ]?;
+    Ok(RingConfig {
+        stages: 3,
+        channels: 2,
+        taps: Listed::from_vec(taps),
+        injectors: Listed::from_vec(injectors),
+        phase: Listed::from_vec(phase),
+    })
+}
+
+// Eight stages, two channels and eight chains.
+fn realistic_ring(alloc: Global) -> Result<RingConfig, AllocError>
+    ensures { IfOk result (IsRingInRange 8) }
+{
+    let taps = vec![in alloc; tap(2, 5)]?;
+    let injectors = vec![in alloc; injector(0, 7), injector(1, 3)]?;
+    let a = vec![in alloc; 7u8]?;
+    let b = vec![in alloc; 3u8]?;
+    let c = vec![in alloc; 1u8, 7]?;
+    let d = vec![in alloc; 3u8, 6]?;
+    let e = vec![in alloc; 0u8, 7]?;
+    let f = vec![in alloc; 2u8, 3]?;
+    let g = vec![in alloc; 0u8, 5, 7]?;
+    let h = vec![in alloc; 1u8, 3]?;
+    let phase = vec![in alloc;
+        Listed::from_vec(a),
+        Listed::from_vec(b),
+        Listed::from_vec(c),
+        Listed::from_vec(d),
+        Listed::from_vec(e),
+        Listed::from_vec(f),
+        Listed::from_vec(g),
+        Listed::from_vec(h),
+    ]?;
+    Ok(RingConfig {
+        stages: 8,
+        channels: 2,
+        taps: Listed::from_vec(taps),
+        injectors: Listed::from_vec(injectors),
+        phase: Listed::from_vec(phase),
+    })
+}
+
+fn name(alloc: Global) -> Result<Name, AllocError> {
+    Name::from_slice(alloc, b"n")
+}
+
+// A configuration with this ring and these chains; the equations ask for no other part.
+fn config(alloc: Global, chains: u16, ring: RingConfig) -> Result<Config, AllocError>
+    ensures ring { IfOk result (λ config. config.ring ≡ ring) }
+    ensures chains { IfOk result (λ config. config.chains ≡ chains) }
+{
+    let names = port_names(alloc)?;
+    Ok(Config {
+        domains: Names::new(alloc),
+        resets: Names::new(alloc),
+        keep: Names::new(alloc),
+        chains,
+        warm: 0,
+        window: 1,
+        fill: FillRule::Zeros,
+        always_masked: Listed::from_vec(Vec::new(alloc)),
+        ring,
+        compactor: CompactorConfig {
+            groups: Listed::from_vec(Vec::new(alloc)),
+            mask_inputs: 1,
+        },
+        names,
+    })
+}
+
+fn port_names(alloc: Global) -> Result<PortNames, AllocError> {
+    Ok(PortNames {
+        scan_enable: name(alloc)?,
+        edt_clock: name(alloc)?,
+        edt_update: name(alloc)?,
+        channel: name(alloc)?,
+        mask: name(alloc)?,
+        output: name(alloc)?,
+        scan_in: name(alloc)?,
+        scan_out: name(alloc)?,
+    })
+}
+
+// The columns of a row of so many columns.
+fn columns_in(alloc: Global, words: &[u64], columns: u32) -> Result<String, AllocError> {
+    let mut text = String::new(alloc);
+    for column in 0..columns {
+        let word = words.get(column as usize / 64).copied().unwrap_or(0);
+        if (word >> (column % 64)) & 1 == 1 {
+            if !text.is_empty() {
+                text.push(' ')?;
+            }
+            text.push_str(&format!(in alloc; "{column}")?)?;
+        }
+    }
+    Ok(text)
+}
+
+// The columns of each cell's row, chain after chain, for loads of so many cycles.
+fn told(
+    alloc: Global,
+    config: &Config,
+    lengths: &[u16],
+    cycles: u16,
+) -> Result<Vec<String>, AllocError>
+    requires ring { IsRingInRange config.now.chains config.now.ring }
+    requires chains { length lengths.now ≡ config.now.chains }
+    requires lengths { IsTrue (list_all (λ cells. nat_le cells cycles) lengths.now) }
+    requires columns { cycles * config.now.ring.channels ≤ 16384 }
+{
+    let equations = equations(alloc, config, lengths, cycles)?;
+    let mut rows = Vec::new(alloc);
+    for chain in 0..lengths.len() {
+        for place in 0..lengths[chain] {
+            let words = equations.of_cell(chain as u16, place);
+            rows.push(columns_in(alloc, words, equations.columns())?)?;
+        }
+    }
+    Ok(rows)
+}
+
+// Whether the lines are these.
+fn are(lines: &[String], expected: &[&str]) -> bool {
+    lines.len() == expected.len() && lines.iter().zip(expected).all(|(a, b)| a.as_str() == *b)
+}
+
+#[test]
+fn a_small_ring_gives_its_equations(rt: HostRuntime) -> Result<(), Fail> {
+    let alloc = rt.alloc();
+    let config = config(alloc, 2, small_ring(alloc)?)?;
+    let with_warm_cycles = told(alloc, &config, &[3u16, 2], 5)?;
+    assert!(rt;
+        are(&with_warm_cycles, &["1 3", "0 2", "1", "1 2", "0 1"]),
+        "{with_warm_cycles:?}"
+    );
+    let with_none = told(alloc, &config, &[3u16, 2], 3)?;
+    assert!(rt; are(&with_none, &["1", "0", "", "0", ""]), "{with_none:?}");
+    Ok(())
+}
+
+#[test]
+fn states_of_crossed_taps_are_as_by_hand(rt: HostRuntime) -> Result<(), Fail> {
+    let alloc = rt.alloc();
+    let config = config(alloc, 3, crossed_ring(alloc)?)?;
+    let states = told(alloc, &config, &[6u16, 6, 6], 6)?;
+    let by_hand = [
+        "0 2 5 7 8",
+        "0 3 5 6",
+        "1 3 4",
+        "1 2",
+        "0",
+        "",
+        "1 2 4 7 9",
+        "0 2 5 7",
+        "0 3 5",
+        "1 3",
+        "1",
+        "",
+        "0 3 5 6 8",
+        "1 3 4 6",
+        "1 2 4",
+        "0 2",
+        "0",
+        "",
+    ];
+    assert!(rt; are(&states, &by_hand), "{states:?}");
+    Ok(())
+}
+
+#[test]
+fn the_newest_variables_of_a_realistic_ring_fall_by_a_cycle(rt: HostRuntime) -> Result<(), Fail> {
+    let alloc = rt.alloc();
+    let config = config(alloc, 8, realistic_ring(alloc)?)?;
+    let rows = told(alloc, &config, &[5u16, 5, 5, 5, 5, 5, 5, 5], 13)?;
+    for (row, newest) in rows.iter().zip(&["22", "20", "18", "16"]) {
+        assert_eq!(rt;
+            row.as_str().split_whitespace().last(),
+            Some(*newest),
+            "{row}"
+        );
+    }
+    assert_eq!(rt; rows.len(), 40);
+    Ok(())
+}
+
+#[test]
+fn loads_may_be_as_long_as_the_longest_mask_segment(rt: HostRuntime) -> Result<(), Fail> {
+    let alloc = rt.alloc();
+    let config = config(alloc, 3, crossed_ring(alloc)?)?;
+    // one cell a chain, no warm cycle, one mask input for three chains: three cycles send the masks
+    let rows = told(alloc, &config, &[1u16, 1, 1], 3)?;
+    assert!(rt; are(&rows, &["1 2", "1 3", "0 2"]), "{rows:?}");
+    Ok(())
+}
+
+#[test]
+fn rows_go_over_many_words(rt: HostRuntime) -> Result<(), Fail> {
+    let alloc = rt.alloc();
+    let config = config(alloc, 2, small_ring(alloc)?)?;
+    let rows = told(alloc, &config, &[200u16, 0], 200)?;
+    assert_eq!(rt; rows.len(), 200);
+    assert_eq!(rt; rows.get(199).map(|row| row.as_str()), Some(""));
+    assert_eq!(rt; rows.get(197).map(|row| row.as_str()), Some("1"));
+    Ok(())
+}
