@@ -1,4 +1,6 @@
+pub mod LexingLemmas
+pub mod PlaceLemmas
 pub mod StoreLemmas
-pub mod SumLemmas
 pub mod Turns
 pub mod WordLemmas
+pub mod ReservedLemmas

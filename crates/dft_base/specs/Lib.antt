@@ -9,5 +9,6 @@ pub mod Store
 pub mod StoreShown
 pub mod Words
 pub mod Parser
+pub mod Lexing
 pub mod Solutions
 pub mod Packed

@@ -38,3 +38,7 @@ refuse fault = λ ts. Err (fault ts)
 abbrev pub value_of : {Token Fault A : Type 0} → Outcome Token Fault A → Result A Fault
 value_of (Ok p) = Ok p.0
 value_of (Err f) = Err f
+
+-- what a check of a meaning gives: a value, or a fault
+abbrev pub Checked : Type 0 → Type 0 → Type 0
+Checked Fault A = Result A Fault

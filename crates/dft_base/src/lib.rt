@@ -7,6 +7,7 @@ mod memory_files;
 mod name;
 mod outside;
 mod place;
+mod reserved;
 mod sinks;
 #[cfg(test)]
 mod tests;
@@ -18,10 +19,10 @@ pub use host::{HostFiles, OutSink};
 pub use memory_files::MemoryFiles;
 pub use name::Name;
 pub use outside::{Files, LoadError, PutError, SaveError, Sink};
-pub use place::{Place, Range};
+pub use place::{Place, Range, place_of};
+pub use reserved::is_reserved;
 pub use sinks::{MemorySink, NeverFails};
 pub use tri::Tri;
 pub use words::{
-    begins_word, continues_word, is_later_reserved, is_reserved, is_simple_name, is_word,
-    needs_escape,
+    begins_word, continues_word, is_later_reserved, is_simple_name, is_word, needs_escape,
 };

@@ -3,119 +3,7 @@ ghost use Rattle.std.specs.List.{list_all, list_any};
 ghost use Rattle.std.specs.Str.{bytes_eq};
 ghost use Rattle.dft_base.specs.Words as words;
 
-// The words that IEEE 1364 reserves, in their order.
-static RESERVED_WORDS: [&str; 110] = [
-    "always",
-    "and",
-    "assign",
-    "automatic",
-    "begin",
-    "buf",
-    "bufif0",
-    "bufif1",
-    "case",
-    "casex",
-    "casez",
-    "cmos",
-    "deassign",
-    "default",
-    "defparam",
-    "disable",
-    "edge",
-    "else",
-    "end",
-    "endcase",
-    "endfunction",
-    "endgenerate",
-    "endmodule",
-    "endprimitive",
-    "endspecify",
-    "endtable",
-    "endtask",
-    "event",
-    "for",
-    "force",
-    "forever",
-    "fork",
-    "function",
-    "generate",
-    "genvar",
-    "highz0",
-    "highz1",
-    "if",
-    "ifnone",
-    "initial",
-    "inout",
-    "input",
-    "integer",
-    "join",
-    "large",
-    "localparam",
-    "macromodule",
-    "medium",
-    "module",
-    "nand",
-    "negedge",
-    "nmos",
-    "nor",
-    "not",
-    "notif0",
-    "notif1",
-    "or",
-    "output",
-    "parameter",
-    "pmos",
-    "posedge",
-    "primitive",
-    "pull0",
-    "pull1",
-    "pulldown",
-    "pullup",
-    "rcmos",
-    "real",
-    "realtime",
-    "reg",
-    "release",
-    "repeat",
-    "rnmos",
-    "rpmos",
-    "rtran",
-    "rtranif0",
-    "rtranif1",
-    "scalared",
-    "signed",
-    "small",
-    "specify",
-    "specparam",
-    "strong0",
-    "strong1",
-    "supply0",
-    "supply1",
-    "table",
-    "task",
-    "time",
-    "tran",
-    "tranif0",
-    "tranif1",
-    "tri",
-    "tri0",
-    "tri1",
-    "triand",
-    "trior",
-    "trireg",
-    "unsigned",
-    "uwire",
-    "vectored",
-    "wait",
-    "wand",
-    "weak0",
-    "weak1",
-    "while",
-    "wire",
-    "wor",
-    "xnor",
-    "xor",
-];
+use crate::reserved::is_reserved;
 
 // The words that later standards reserve, in their order.
 static LATER_RESERVED_WORDS: [&str; 14] = [
@@ -167,13 +55,6 @@ fn all_continue(bytes: &[u8]) -> bool
     bytes.iter().all(|byte| continues_word(*byte))
 }
 
-/// Whether these bytes are a word that IEEE 1364 reserves, which a netlist may not have for a name.
-pub fn is_reserved(bytes: &[u8]) -> bool
-    ensures { result ≡ words.is_reserved bytes.now }
-{
-    is_among(&RESERVED_WORDS, bytes)
-}
-
 /// Whether these bytes are a word that IEEE 1364-2001 reserves for libraries, configurations and pulses.
 /// It is a name where a netlist is read, and is written escaped.
 pub fn is_later_reserved(bytes: &[u8]) -> bool
@@ -196,8 +77,8 @@ pub fn needs_escape(bytes: &[u8]) -> bool
     !is_simple_name(bytes) || is_later_reserved(bytes)
 }
 
-// Whether one of the words has these bytes.
-fn is_among(table: &[&str], bytes: &[u8]) -> bool
+/// Whether one of the words has these bytes.
+pub fn is_among(table: &[&str], bytes: &[u8]) -> bool
     ensures { result ≡ list_any (λ word. bytes_eq word.now bytes.now) table.entry.now }
 {
     table.iter().any(|word| word.as_bytes() == bytes)
