@@ -4,3 +4,4 @@ pub mod StoreLemmas
 pub mod Turns
 pub mod WordLemmas
 pub mod ReservedLemmas
+pub mod SumLemmas

@@ -27,13 +27,13 @@ weighed_tapped : (n : ℕ) (x : ℕ → Bool) (taps : List Tap) (s : ℕ → ℕ
 weighed_tapped n x taps s i =
     weighed_sum_of n x (λ (tap : Tap) c. (tap.to == i) && s c tap.from) taps
     ∙ sum_of_same (λ (tap : Tap). weighed n x (λ c. (tap.to == i) && s c tap.from)) (λ (tap : Tap). (tap.to == i) && weighed n x (λ c. s c tap.from)) taps
-        (λ tap. weighed_and n x (tap.to == i) (λ c. s c tap.from))
+    (λ tap. weighed_and n x (tap.to == i) (λ c. s c tap.from))
 
 weighed_injected : (n : ℕ) (x : ℕ → Bool) (injectors : List Injector) (b : ℕ → ℕ → Bool) (i : ℕ) → weighed n x (λ c. injected injectors (b c) i) ≡ injected injectors (λ j. weighed n x (λ c. b c j)) i
 weighed_injected n x injectors b i =
     weighed_sum_of n x (λ (injector : Injector) c. (injector.stage == i) && b c injector.channel) injectors
     ∙ sum_of_same (λ (injector : Injector). weighed n x (λ c. (injector.stage == i) && b c injector.channel)) (λ (injector : Injector). (injector.stage == i) && weighed n x (λ c. b c injector.channel)) injectors
-        (λ injector. weighed_and n x (injector.stage == i) (λ c. b c injector.channel))
+    (λ injector. weighed_and n x (injector.stage == i) (λ c. b c injector.channel))
 
 weighed_step : (n : ℕ) (x : ℕ → Bool) (ring : RingConfig) (b s : ℕ → ℕ → Bool) (i : ℕ) → weighed n x (λ c. step ring (b c) (s c) i) ≡ step ring (λ j. weighed n x (λ c. b c j)) (λ m. weighed n x (λ c. s c m)) i
 unfolding step
@@ -43,16 +43,16 @@ weighed_step n x ring b s i =
     let by_injectors = λ (c : ℕ). injected ring.injectors (b c) i in
     weighed_and n x (nat_lt i ring.stages) (λ c. xor (next c) (xor (by_taps c) (by_injectors c)))
     ∙ ap (λ (e : Bool). nat_lt i ring.stages && e)
-        (weighed_add n x next (λ c. xor (by_taps c) (by_injectors c))
-        ∙ ap (xor (weighed n x next)) (weighed_add n x by_taps by_injectors
-            ∙ (λ t. xor (weighed_tapped n x ring.taps s i t) (weighed_injected n x ring.injectors b i t))))
+    (weighed_add n x next (λ c. xor (by_taps c) (by_injectors c))
+    ∙ ap (xor (weighed n x next)) (weighed_add n x by_taps by_injectors
+    ∙ (λ t. xor (weighed_tapped n x ring.taps s i t) (weighed_injected n x ring.injectors b i t))))
 
 -- only the channels that injectors name are read
 injected_same : (channels : ℕ) (injectors : List Injector) (b h : ℕ → Bool) (i : ℕ) → All (λ (injector : Injector). injector.channel < channels) injectors → ((j : ℕ) → j < channels → b j ≡ h j) → injected injectors b i ≡ injected injectors h i
 injected_same channels [] b h i below same = refl
 injected_same channels (injector ∷ injectors) b h i below same =
     λ t. xor ((injector.stage == i) && same injector.channel (below 0 injector (omega arith)) t)
-        (injected_same channels injectors b h i (λ k d less. below (suc k) d (omega arith)) same t)
+    (injected_same channels injectors b h i (λ k d less. below (suc k) d (omega arith)) same t)
 
 step_same : (ring : RingConfig) (b h s : ℕ → Bool) (i : ℕ) → All (λ (injector : Injector). injector.channel < ring.channels) ring.injectors → ((j : ℕ) → j < ring.channels → b j ≡ h j) → step ring b s i ≡ step ring h s i
 unfolding step
@@ -89,7 +89,7 @@ weighed_state ring table cycles (suc t) below within i =
     weighed_step n x ring bits states i
     ∙ (λ e. step ring (λ j. weighed n x (λ c. bits c j)) (λ m. weighed_state ring table cycles t below (omega arith) m e) i)
     ∙ step_same ring (λ j. weighed n x (λ c. bits c j)) (λ j. table j t) (state_after ring table t) i below
-        (λ j less. weighed_single ring table cycles j t less (omega arith))
+    (λ j less. weighed_single ring table cycles j t less (omega arith))
 
 pub loads_sum : LoadsAreSums
 unfolding reaches
@@ -101,5 +101,5 @@ loads_sum config table cycles chain place range chain_less place_less =
     let below : All (λ (injector : Injector). injector.channel < ring.channels) ring.injectors = λ k d less. (range.ring.injectors k d less).0 in
     let states = λ (c : ℕ). state_after ring (single (channel_of ring c) (cycle_of ring c)) t in
     sym (weighed_sum_of n x (λ i c. states c i) (phase_of ring chain)
-        ∙ sum_of_same (λ i. weighed n x (λ c. states c i)) (state_after ring table t) (phase_of ring chain)
-            (weighed_state ring table cycles t below (omega arith)))
+    ∙ sum_of_same (λ i. weighed n x (λ c. states c i)) (state_after ring table t) (phase_of ring chain)
+    (weighed_state ring table cycles t below (omega arith)))

@@ -13,6 +13,8 @@ mod lists;
 mod port;
 mod reader;
 mod reading;
+#[cfg(test)]
+mod reading_tests;
 mod section;
 #[cfg(test)]
 mod tests;
