@@ -165,9 +165,9 @@ fn told(
 {
     let equations = equations(alloc, config, lengths, cycles)?;
     let mut rows = Vec::new(alloc);
-    for chain in 0..lengths.len() {
-        for place in 0..lengths[chain] {
-            let words = equations.of_cell(chain as u16, place);
+    for chain in 0..config.chains {
+        for place in 0..lengths[usize::from(chain)] {
+            let words = equations.of_cell(chain, place);
             rows.push(columns_in(alloc, words, equations.columns())?)?;
         }
     }
