@@ -1,5 +1,5 @@
 -- The cut of a text at its front, for any reader.
-use Rattle.std.proofs.Common.{◌≡◌, ℕ, zero, suc, ◌-◌, ◌<◌, List, [], ◌∷◌, length, drop, refl, ap, ◌∙◌, arith}
+use Rattle.std.proofs.Common.{◌≡◌, ℕ, zero, suc, ◌-◌, ◌<◌, [], ◌∷◌, length, drop, refl, ap, ◌∙◌, arith}
 use Rattle.dft_base.specs.Lexing.{Text, Token, Front, Blank, Cut, spread, tokens_from}
 
 -- the bytes that are passed over may be dropped first

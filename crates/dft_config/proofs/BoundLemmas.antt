@@ -1,13 +1,12 @@
 -- What is read of a key is within its bounds.
-use Rattle.std.proofs.Common.{ℕ, ℤ, pos, negsuc, ◌≡◌, ◌==◌, ◌+◌, ◌-◌, ◌^◌, ◌<◌, ◌≤◌, suc, Bool, true, false, not, ◌&&◌, IsTrue, List, [], ◌∷◌, length, Option, Some, None, option_and_then, IfSome, Result, Ok, Err, IfOk, nat_le, nat_lt, if◌then◌else◌, codes, All, subst, refl, sym, ap, ◌∙◌, arith}
+use Rattle.std.proofs.Common.{ℕ, ℤ, pos, negsuc, ◌≡◌, ◌==◌, ◌-◌, ◌^◌, ◌<◌, ◌≤◌, suc, Bool, true, false, not, ◌&&◌, IsTrue, List, [], ◌∷◌, length, Option, Some, None, option_and_then, IfSome, Result, Ok, Err, IfOk, nat_le, nat_lt, if◌then◌else◌, codes, All, subst, refl, ap, arith}
 use Rattle.std.proofs.lemmas.Bool.Decides.{nat_tests}
-use Rattle.std.proofs.lemmas.Bool.{and_parts}
 use Rattle.std.proofs.lemmas.List.Elements.{All-nil, All-cons}
 use Rattle.std.proofs.lemmas.Result.{IfOk-weaker}
 use Rattle.std.specs.Str.{bytes_eq}
 use Rattle.toml.specs.Data.{Data, Members, as_integer, as_str}
 use Rattle.dft_base.specs.Words.{is_simple_name, is_later_reserved, reserved_words, later_reserved_words}
-use Rattle.dft_toml.specs.Values.{names_of_value, value_in, name_of, is_name}
+use Rattle.dft_toml.specs.Values.{names_of_value, value_in, is_name}
 use Rattle.dft_config.specs.declared.fault.Key.{Key}
 use Rattle.dft_config.specs.declared.fault.Key.TheVariants as key
 use Rattle.dft_config.specs.declared.fault.Fault.{Fault}

@@ -1,18 +1,15 @@
 -- The ring is linear: its state is the sum of the states that single channel bits bring.
-use Rattle.std.proofs.Common.{ℕ, zero, suc, Bool, true, false, ◌≡◌, ◌≢◌, ◌<◌, ◌≤◌, ◌+◌, ◌*◌, ◌-◌, ◌/◌, ◌%◌, List, [], ◌∷◌, length, refl, sym, ap, arith, ◌∙◌}
-use Rattle.std.proofs.Common.{lit≤}
+use Rattle.std.proofs.Common.{ℕ, zero, suc, Bool, false, ◌≡◌, ◌≢◌, ◌<◌, ◌≤◌, ◌+◌, ◌*◌, ◌%◌, List, [], ◌∷◌, refl, sym, ap, arith, ◌∙◌}
 use Rattle.std.proofs.lemmas.Nat.{div-mul-add, mod-mul-add, div-add-mod', mul-add-lt}
 use Rattle.std.proofs.lemmas.Bool.Decides.{nat_tests}
 use Rattle.std.specs.Prelude.{◌&&◌, ◌==◌, nat_lt}
 use Rattle.std.specs.List.{All}
-use Rattle.dft_base.specs.Solutions.{xor, sum_to}
+use Rattle.dft_base.specs.Solutions.{xor}
 use Rattle.dft_base.proofs.SumLemmas.{weighed, weighed_zero, weighed_add, weighed_and, sum_one}
 use Rattle.dft_config.specs.declared.config.Tap.{Tap}
 use Rattle.dft_config.specs.declared.config.Injector.{Injector}
 use Rattle.dft_config.specs.declared.config.RingConfig.{RingConfig}
-use Rattle.dft_config.specs.declared.config.Config.{Config}
-use Rattle.dft_config.specs.Range.{IsInRange}
-use Rattle.dft_config.specs.Ring.{sum_of, tapped, injected, step, Table, state_after, phase_of, phase_sum}
+use Rattle.dft_config.specs.Ring.{sum_of, tapped, injected, step, Table, state_after, phase_of}
 use Rattle.dft_config.specs.Loads.{channel_of, cycle_of, bit_of_column, single, reaches, moment_of_place, LoadsAreSums}
 
 pub sum_of_same : {T : Type 0} (f h : T → Bool) (xs : List T) → ((x : T) → f x ≡ h x) → sum_of f xs ≡ sum_of h xs

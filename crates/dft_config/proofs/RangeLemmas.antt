@@ -1,12 +1,11 @@
 -- A configuration that a table gives is in range.
-use Rattle.std.proofs.Common.{ℕ, zero, suc, pos, ◌≡◌, ◌==◌, ◌≢◌, ◌+◌, ◌<◌, ◌≤◌, min, Bool, true, false, not, ◌&&◌, IsTrue, codes, List, [], ◌∷◌, length, get_or, Option, Some, None, Result, Ok, Err, IfOk, if◌then◌else◌, All, refl, sym, ap, ◌∙◌, arith}
-use Rattle.std.specs.List.{list_all}
+use Rattle.std.proofs.Common.{ℕ, zero, suc, pos, ◌≡◌, ◌==◌, ◌≢◌, ◌+◌, ◌<◌, ◌≤◌, min, Bool, true, false, not, IsTrue, codes, List, [], ◌∷◌, length, get_or, Option, Some, None, Result, Ok, IfOk, if◌then◌else◌, All, refl, sym, ap, ◌∙◌, arith}
 use Rattle.std.proofs.lemmas.Bool.{and_parts}
 use Rattle.std.proofs.lemmas.Bool.Decides.{nat_tests}
 use Rattle.std.proofs.lemmas.List.Elements.{All-nil, All-cons}
 use Rattle.std.proofs.lemmas.List.Sums.{AllPass-from_list_all}
 use Rattle.std.specs.Str.{bytes_eq}
-use Rattle.toml.specs.Data.{Data, Members, get_member}
+use Rattle.toml.specs.Data.{Members, get_member}
 use Rattle.dft_toml.specs.Values.{value_in, table_at}
 use Rattle.dft_config.specs.declared.fault.Key.{Key}
 use Rattle.dft_config.specs.declared.fault.Key.TheVariants as key
@@ -17,11 +16,11 @@ use Rattle.dft_config.specs.declared.config.RingConfig.{RingConfig}
 use Rattle.dft_config.specs.declared.config.CompactorConfig.{CompactorConfig}
 use Rattle.dft_config.specs.declared.config.PortNames.{PortNames}
 use Rattle.dft_config.specs.declared.config.Config.{Config}
-use Rattle.dft_config.specs.Faults.{after, unless}
-use Rattle.dft_config.specs.Range.{IsInRange, IsRingInRange, IsCompactorInRange, IsSet, IsSeedInRange, has, all_differ, same_number, names_of}
+use Rattle.dft_config.specs.Faults.{unless}
+use Rattle.dft_config.specs.Range.{IsInRange, IsSet, IsSeedInRange, has, all_differ, same_number, names_of}
 use Rattle.dft_config.specs.Settings.{number, numbers, taps, injectors, phase, groups, domains, resets, keep, fill, port_name}
 use Rattle.dft_config.specs.Unknown.{first_unknown}
-use Rattle.dft_config.specs.Checks.{Test, first_failing, are_apart, resets_differ, each_differs, have_items, repetition_tests, emptiness_tests, first_repeated, first_empty, is_reached, first_not, first_unreached}
+use Rattle.dft_config.specs.Checks.{Test, first_failing, are_apart, each_differs, have_items, repetition_tests, emptiness_tests, first_repeated, first_empty, is_reached, first_not, first_unreached}
 use Rattle.dft_config.specs.Reading.{ring_of, compactor_of, names_of_ports, keys_of, reading}
 use Rattle.dft_config.proofs.BoundLemmas.{ok_after, ok_any, number_ok, numbers_ok, IsTapBelow, taps_ok, IsInjectorBelow, injectors_ok, AreBelow, phase_ok, AreGroups, groups_ok, domains_ok, resets_ok, fill_ok, IsFree, port_ok}
 use Rattle.dft_config.proofs.DistinctLemmas.{not_true}

@@ -1,5 +1,5 @@
 -- The cycles of a load.
-use Rattle.std.specs.Prelude.{ℕ, ◌+◌, ◌/◌, ◌%◌, ◌<◌, max, nat_lt, if◌then◌else◌}
+use Rattle.std.specs.Prelude.{ℕ, ◌+◌, ◌/◌, ◌%◌, max, nat_lt, if◌then◌else◌}
 use Rattle.dft_config.specs.declared.config.Config.{Config}
 
 -- the length of a part where a number of items is cut into parts one after the other, the first ones one longer

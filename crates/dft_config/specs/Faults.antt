@@ -1,5 +1,5 @@
 -- Steps of a reading that may end in a fault.
-use Rattle.std.specs.Prelude.{ℤ, Bool, true, false, List, [], ◌∷◌, Option, Some, None, Result, Ok, Err}
+use Rattle.std.specs.Prelude.{ℤ, Bool, true, false, List, ◌∷◌, Option, Some, None, Result, Ok, Err}
 use Rattle.dft_config.specs.declared.fault.Key.{Key}
 use Rattle.dft_config.specs.declared.fault.Fault.{Fault}
 use Rattle.dft_config.specs.declared.fault.Fault.TheVariants as fault

@@ -1,6 +1,6 @@
 -- What a table gives: a configuration, or the first fault.
-use Rattle.std.specs.Prelude.{codes, ℕ, pos, min, List, [], ◌∷◌, Option, Some, None, Result, Ok, Err}
-use Rattle.toml.specs.Data.{Data, Members, get_member}
+use Rattle.std.specs.Prelude.{codes, ℕ, pos, min, Option, Result, Ok}
+use Rattle.toml.specs.Data.{Members, get_member}
 use Rattle.dft_toml.specs.Values.{value_in, table_at}
 use Rattle.dft_config.specs.declared.fault.Key.TheVariants as key
 use Rattle.dft_config.specs.declared.port.Port.TheVariants as port

@@ -1,5 +1,5 @@
 -- What bytes give: a configuration, or a refusal.
-use Rattle.std.specs.Prelude.{◌≡◌, ℕ, ℤ, List, Result, Ok, Err}
+use Rattle.std.specs.Prelude.{◌≡◌, ℕ, List, Ok, Err}
 use Rattle.toml.specs.Data.{Members}
 use Rattle.dft_toml.specs.Text.{IsTable, IsNoTable}
 use Rattle.dft_toml.specs.declared.text.TableError.{TableError}

@@ -4,7 +4,6 @@ use Rattle.dft_base.specs.Solutions.{xor}
 use Rattle.dft_config.specs.declared.config.Tap.{Tap}
 use Rattle.dft_config.specs.declared.config.Injector.{Injector}
 use Rattle.dft_config.specs.declared.config.RingConfig.{RingConfig}
-use Rattle.dft_config.specs.declared.config.Config.{Config}
 
 -- the sum of the bits that a function gives to listed items, each as often as it is listed
 abbrev pub sum_of : {T : Type 0} → (T → Bool) → List T → Bool

@@ -1,5 +1,5 @@
 -- What the values of a configuration's keys give.
-use Rattle.std.specs.Prelude.{codes, ℕ, ℤ, pos, negsuc, ◌==◌, ◌-◌, ◌^◌, Bool, true, false, not, ◌&&◌, List, [], ◌∷◌, length, Option, Some, None, option_and_then, Result, Ok, Err, nat_le, nat_lt, if◌then◌else◌}
+use Rattle.std.specs.Prelude.{codes, ℕ, ℤ, pos, negsuc, ◌==◌, ◌-◌, ◌^◌, not, ◌&&◌, List, [], ◌∷◌, length, Option, Some, None, option_and_then, Result, Ok, Err, nat_le, nat_lt, if◌then◌else◌}
 use Rattle.std.specs.Str.{bytes_eq}
 use Rattle.dft_base.specs.Words.{is_simple_name, is_later_reserved}
 use Rattle.toml.specs.Data.{Data, Members, Items, no_items, item, as_integer, as_str, as_array}

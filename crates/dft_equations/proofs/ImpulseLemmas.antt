@@ -7,11 +7,11 @@ use Rattle.std.proofs.lemmas.List.{get_or_past, get_or_append_left, length-appen
 use Rattle.std.proofs.Math.Seq.{get_or-append_seam, take-append_seam}
 use Rattle.std.proofs.lemmas.Nat.{div-mul-add, mod-mul-add, div-add-mod', mod_below}
 use Rattle.dft_base.specs.Solutions.{xor, bit_at}
-use Rattle.dft_base.proofs.SumLemmas.{xor_false, and_false, xor_assoc}
+use Rattle.dft_base.proofs.SumLemmas.{and_false, xor_assoc}
 use Rattle.dft_config.specs.declared.config.Tap.{Tap}
 use Rattle.dft_config.specs.declared.config.Injector.{Injector}
 use Rattle.dft_config.specs.declared.config.RingConfig.{RingConfig}
-use Rattle.dft_config.specs.Ring.{sum_of, tapped, injected, step, Table, state_after, phase_of, phase_sum}
+use Rattle.dft_config.specs.Ring.{sum_of, tapped, injected, step, state_after, phase_of, phase_sum}
 use Rattle.dft_config.specs.Loads.{channel_of, cycle_of, single, reaches, moment_of_place, load_equation}
 use Rattle.dft_equations.specs.Impulses.{IsImpulse}
 

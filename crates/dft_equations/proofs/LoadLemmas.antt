@@ -1,6 +1,6 @@
 -- Rows of load equations: the first one by impulse responses, and the others moved from it.
-use Rattle.std.proofs.Common.{ℕ, zero, suc, Bool, true, false, ◌≡◌, ◌<◌, ◌≤◌, ◌+◌, ◌*◌, ◌-◌, ◌/◌, ◌%◌, ◌⊎◌, inl, inr, List, [], ◌∷◌, ◌++◌, length, get_or, map, subst, refl, sym, ap, arith, ◌∙◌}
-use Rattle.std.specs.List.{All, range_with_len, slice_index}
+use Rattle.std.proofs.Common.{ℕ, Bool, false, ◌≡◌, ◌<◌, ◌≤◌, ◌+◌, ◌*◌, ◌-◌, ◌/◌, ◌%◌, ◌⊎◌, inl, inr, List, [], ◌∷◌, ◌++◌, length, get_or, subst, refl, sym, ap, arith, ◌∙◌}
+use Rattle.std.specs.List.{All, slice_index}
 use Rattle.std.proofs.lemmas.Bool.{cases_lt}
 use Rattle.std.proofs.lemmas.Nat.{div_below, mod_below, le-div}
 use Rattle.std.proofs.lemmas.List.{get_or_past, get_or_default, length-append}
@@ -9,7 +9,7 @@ use Rattle.dft_base.specs.Solutions.{xor, bit_at}
 use Rattle.dft_config.specs.declared.config.RingConfig.{RingConfig}
 use Rattle.dft_config.specs.declared.config.Config.{Config}
 use Rattle.dft_config.specs.Range.{IsRingInRange, IsSet}
-use Rattle.dft_config.specs.Ring.{sum_of, state_after, phase_of, phase_sum}
+use Rattle.dft_config.specs.Ring.{sum_of, state_after, phase_of}
 use Rattle.dft_config.specs.Loads.{channel_of, cycle_of, single, reaches, moment_of_place, load_equation}
 use Rattle.dft_equations.specs.Impulses.{IsImpulse, AreImpulses}
 use Rattle.dft_equations.specs.LoadRows.{equation_row, AreRowsOf, AreWide}

@@ -2,7 +2,6 @@
 use Rattle.std.specs.Prelude.{ℕ, Bool, ◌≡◌, ◌*◌, ◌<◌, List, [], length, get_or, map}
 use Rattle.std.specs.List.{slice_index, range_with_len}
 use Rattle.dft_config.specs.declared.config.RingConfig.{RingConfig}
-use Rattle.dft_config.specs.declared.config.Config.{Config}
 use Rattle.dft_config.specs.Loads.{load_equation}
 
 -- the number of columns, and for each chain the rows of its cells, the one at place 0 first; a row has a bit for each column

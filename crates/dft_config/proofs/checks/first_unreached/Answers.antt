@@ -1,4 +1,4 @@
-use Rattle.std.proofs.Common.{ℕ, ◌≤◌, length, List, Bool, ◌∙◌, false, get_or, sym, ap, arith}
+use Rattle.std.proofs.Common.{◌≤◌, length, List, Bool, ◌∙◌, false, get_or, sym, ap, arith}
 use Rattle.dft_config.specs.Checks.{first_unreached, is_reached}
 use Rattle.dft_config.proofs.CheckLemmas.{first_not_same, reached_past}
 use Rattle.dft_config.proofs.checks.first_unreached.Goals as goal

@@ -1,10 +1,10 @@
-use Rattle.std.proofs.Common.{rules, ◌≡◌, true, false, cond, ap, sym, ◌∙◌, not}
+use Rattle.std.proofs.Common.{true, cond, ap, sym, ◌∙◌}
 use Rattle.std.specs.List.{list_any}
 use Rattle.std.specs.Ordering.{eq_by_cmp}
 use Rattle.std.specs.BTreeSet.{contains}
 use Rattle.std.specs.BTreeMap.{is_at}
 use Rattle.std.proofs.lemmas.Cmp.{eq_by_cmp_equiv}
-use Rattle.dft_config.proofs.DistinctLemmas.{differ_start, differ_more, differ_not, not_true}
+use Rattle.dft_config.proofs.DistinctLemmas.{differ_start, differ_more, not_true}
 use Rattle.dft_config.proofs.distinct.items_differ.Goals as goal
 
 pub loop-item-init : goal.loop-item-init

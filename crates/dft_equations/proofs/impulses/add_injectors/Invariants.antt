@@ -1,5 +1,5 @@
 -- What the injectors so far brought, and what the rest brings.
-use Rattle.std.proofs.Common.{◌≡◌, ℕ, ◌&&◌, length, drop}
+use Rattle.std.proofs.Common.{◌≡◌, ℕ, ◌&&◌, drop}
 use Rattle.std.specs.Prelude.{◌==◌}
 use Rattle.dft_base.specs.Solutions.{bit_at, xor}
 use Rattle.dft_config.specs.Ring.{injected}

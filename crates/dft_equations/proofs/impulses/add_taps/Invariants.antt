@@ -1,5 +1,5 @@
 -- What the taps so far brought, and what the rest brings.
-use Rattle.std.proofs.Common.{◌≡◌, ℕ, length, drop}
+use Rattle.std.proofs.Common.{◌≡◌, ℕ, drop}
 use Rattle.dft_base.specs.Solutions.{bit_at, xor}
 use Rattle.dft_config.specs.Ring.{tapped}
 use Rattle.dft_equations.proofs.impulses.add_taps.Given as goal

@@ -1,5 +1,5 @@
 -- At first the ring is at zero; then each state comes from the one before.
-use Rattle.std.proofs.Common.{ℕ, Bool, List, arith, refl, ◌∙◌, ap, length}
+use Rattle.std.proofs.Common.{Bool, List, arith, refl, ◌∙◌, ap, length}
 use Rattle.std.specs.Prelude.{◌&&◌, ◌==◌}
 use Rattle.std.proofs.lemmas.List.{length-replicate}
 use Rattle.dft_base.specs.Solutions.{bit_at}

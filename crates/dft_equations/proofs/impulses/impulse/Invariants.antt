@@ -1,5 +1,5 @@
 -- The states so far, and the one that comes next.
-use Rattle.std.proofs.Common.{◌≡◌, ℕ, ◌<◌, List, [], length, get_or}
+use Rattle.std.proofs.Common.{◌≡◌, ℕ, length}
 use Rattle.dft_base.specs.Solutions.{bit_at}
 use Rattle.dft_config.specs.Ring.{state_after}
 use Rattle.dft_config.specs.Loads.{single}

@@ -1,5 +1,5 @@
 -- The moved bits with what is brought are the next state.
-use Rattle.std.proofs.Common.{rules, arith, ℕ, Bool, List, ◌≡◌, ◌++◌, ◌+◌, ◌%◌, length, take, drop, ◌∙◌, ap}
+use Rattle.std.proofs.Common.{arith, ℕ, Bool, List, ◌≡◌, ◌++◌, length, take, drop, ◌∙◌, ap}
 use Rattle.std.specs.Prelude.{◌&&◌, ◌==◌}
 use Rattle.dft_base.specs.Solutions.{bit_at, xor}
 use Rattle.dft_config.specs.Ring.{tapped, injected}

@@ -1,5 +1,5 @@
 -- One place more.
-use Rattle.std.proofs.Common.{ℕ, ◌≡◌, ◌*◌, ◌+◌, arith, sym, ap, length, ◌∙◌}
+use Rattle.std.proofs.Common.{◌*◌, ◌+◌, arith, ap, length, ◌∙◌}
 use Rattle.std.proofs.lemmas.List.FromFn.{length-map-range_with_len}
 use Rattle.dft_base.specs.Solutions.{bit_at}
 use Rattle.dft_config.specs.Loads.{load_equation}

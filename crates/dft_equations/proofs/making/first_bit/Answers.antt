@@ -1,7 +1,4 @@
 -- What is read is the state of the channel's response, and the chain's stages.
-use Rattle.std.proofs.Common.{ap, ◌∙◌}
-use Rattle.dft_base.specs.Solutions.{bit_at}
-use Rattle.dft_config.specs.Ring.{sum_of}
 use Rattle.dft_equations.proofs.LoadLemmas.{IsRead, read_within, read_bit}
 use Rattle.dft_equations.proofs.making.first_bit.Goals as goal
 use Rattle.dft_equations.proofs.making.first_bit.Goals.{After-as_slice-2, After-phase_sum}

@@ -1,4 +1,4 @@
-use Rattle.std.proofs.Common.{ℕ, ap, sym, ◌∙◌, ◌+◌, ◌-◌, ◌%◌}
+use Rattle.std.proofs.Common.{ℕ, ap, ◌∙◌, ◌+◌, ◌-◌, ◌%◌}
 use Rattle.std.specs.Int.{bit_at as bit_of_word}
 use Rattle.dft_equations.proofs.RowLemmas.{moved_bit}
 use Rattle.dft_equations.proofs.row.moved_word.Goals as goal

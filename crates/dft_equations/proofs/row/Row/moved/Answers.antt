@@ -1,9 +1,6 @@
 -- The moved words hold the moved bits, and none past the columns.
-use Rattle.std.proofs.Common.{ℕ, List, Bool, ◌≡◌, ◌≤◌, ◌<◌, ◌+◌, ◌*◌, length, get_or, ap, sym, arith, ◌∙◌}
-use Rattle.std.specs.Prelude.{◌==◌}
-use Rattle.std.specs.Int.{bit_at as bit_of_word}
+use Rattle.std.proofs.Common.{ℕ, List, Bool, ◌≡◌, ◌+◌, length, ap, sym, arith, ◌∙◌}
 use Rattle.dft_base.specs.Solutions.{bit_at}
-use Rattle.dft_base.specs.Packed.{packed_bit}
 use Rattle.dft_equations.proofs.RowLemmas.{moved_all, bits-at}
 use Rattle.dft_equations.proofs.row.Row.moved.Goals as goal
 

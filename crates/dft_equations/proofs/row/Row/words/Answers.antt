@@ -1,4 +1,4 @@
-use Rattle.std.proofs.Common.{ℕ, List, Bool, ap, sym, arith, ◌∙◌, length, ◌+◌, ◌/◌}
+use Rattle.std.proofs.Common.{ℕ, List, Bool, ap, sym, ◌∙◌, length, ◌+◌, ◌/◌}
 use Rattle.std.proofs.lemmas.List.FromFn.{length-map-range_with_len}
 use Rattle.dft_base.specs.Solutions.{bit_at}
 use Rattle.dft_base.specs.Packed.{packed_bit}
