@@ -5,3 +5,16 @@ pub mod Views
 pub mod Least
 pub mod OneDomain
 pub mod Lifts
+pub mod Settlings
+pub mod CircuitRanks
+pub mod Writings
+pub mod RoundLemmas
+pub mod NextLemmas
+pub mod Risings
+pub mod MachineLemmas
+pub mod WireLemmas
+pub mod MachineRounds
+pub mod OpLemmas
+pub mod BuildLemmas
+pub mod Compiled
+pub mod Pasts

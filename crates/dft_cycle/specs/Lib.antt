@@ -5,3 +5,9 @@ pub use Rattle.dft_netlist.specs.Settled
 pub use Rattle.dft_netlist.specs.Runs
 pub mod Cycle
 pub mod Laws
+pub mod Machine
+pub mod Circuit
+pub mod Views
+pub mod MachineShown
+pub mod Compiling
+pub mod MachineLaws

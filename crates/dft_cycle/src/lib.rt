@@ -1,7 +1,20 @@
 //! The abstract cycle of a design over test vectors, and its laws, as contracts of functions that do nothing.
 #![tactic(auto)]
 
+mod building;
+mod circuit;
+mod compiling;
+mod flops;
+mod laws;
+mod machine;
+mod rounds;
+mod settling;
+mod wires;
+
 ghost use Rattle.dft_cycle.specs.Laws.{ClosedExists, StrobeExists, StrobeIsAbove, TurnIsAbove, StepIsBelow, RoundIsOne, OneDomain, KnownAfterTurn, KnownAtStrobe, LowAfterTurn};
+
+pub use laws::calls_are_round;
+pub use machine::AbstractMachine;
 
 /// In every run, whatever the order of edges and the free bits, the abstract values stand above the bits.
 pub fn cycle_is_above()

@@ -4,3 +4,28 @@ pub mod Ranks
 pub mod OneSettled
 pub mod Walks
 pub mod Flats
+mod TextExamples
+mod MoreTextExamples
+pub mod NameTableLemmas
+pub mod Places
+pub mod NamesLemmas
+pub mod SoundLemmas
+pub mod RefusalLemmas
+pub mod FindLemmas
+pub mod NotesLemmas
+pub mod CellLemmas
+pub mod DriveLemmas
+pub mod ClashLemmas
+pub mod LiveLemmas
+pub mod ReadLemmas
+pub mod StandLemmas
+pub mod Weights
+pub mod DriverLaws
+pub mod TraceLemmas
+pub mod NumberLemmas
+pub mod BitLemmas
+pub mod RankLemmas
+pub mod NewNames
+pub mod FirstTaken
+pub mod PortNames
+pub mod PortLemmas

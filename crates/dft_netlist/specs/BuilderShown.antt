@@ -1,15 +1,14 @@
 -- What a `DesignBuilder` shows, and what holds of it.
-use Rattle.std.specs.Prelude.{◌≤◌, vec_len, []}
 use Rattle.dft_netlist.specs.declared.builder.DesignBuilder.TheInside.{Inside}
-use Rattle.dft_netlist.specs.declared.design.TheConstants.{MAX_PORTS, MAX_NETS, MAX_INSTANCES}
 use Rattle.dft_netlist.specs.Netlist.{Netlist}
+use Rattle.dft_netlist.specs.Sound.{IsNetlist}
+use Rattle.dft_netlist.specs.NameTables.{Knows}
 
 -- the netlist so far
 abbrev pub netlist_so_far : Inside → Netlist
-netlist_so_far b = record { name = b.name; library = b.library; ports = b.ports.items; nets = b.nets.items; instances = b.instances.items; joins = [] }
+netlist_so_far b = record { name = b.name; library = b.library; ports = b.ports.items; nets = b.nets.items; instances = b.instances.items; joins = b.joins.items }
 
--- there are few enough parts
+-- it is sound, and the table knows its names
 pub record IsBuilder (b : Inside) : Type 0 where
-  pub ports : vec_len b.ports ≤ MAX_PORTS
-  pub nets : vec_len b.nets ≤ MAX_NETS
-  pub instances : vec_len b.instances ≤ MAX_INSTANCES
+  pub netlist : IsNetlist (netlist_so_far b)
+  pub table : Knows b.table.entries (netlist_so_far b)

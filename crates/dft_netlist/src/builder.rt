@@ -1,17 +1,28 @@
-ghost use Rattle.std.specs.Prelude.{◌≡◌, ◌<◌, length, IfOk, OnErr};
-ghost use Rattle.dft_netlist.specs.Building.{empty_netlist, WithPort, WithInstance};
+ghost use Rattle.std.specs.Prelude.{◌≡◌, ◌<◌, ◌≤◌, ◌^◌, pos, length, Some, None, option_map, slice_get, IfOk, OnOk, OnErr, IfErr};
+ghost use Rattle.dft_netlist.specs.Building.{empty_netlist, WithPort, WithNet, WithInstance, WithJoin, Connected, IsUnconnected, port_refusal, net_refusal, instance_refusal, Answers, room_limit, taken_or, own_names};
+ghost use Rattle.dft_netlist.specs.Finishing.{IsFinished, CannotFinish};
+ghost use Rattle.dft_netlist.specs.Names.{find_net, IsNamed, bit_names, port_names, first_taken};
+ghost use Rattle.dft_netlist.specs.Sound.{IsNetlist, IsInstanceOf, IsJoinOf, HasOnlyPorts};
 
-use crate::design::{Design, MAX_INSTANCES, MAX_NETS, MAX_PORTS};
-use crate::ids::{InstanceId, NetId};
-use crate::instance::{CellRef, Instance};
+use crate::bits::{bit_names, keys_of, push_all, vector_key};
+use crate::design::Design;
+use crate::drivers::find_drivers;
+use crate::error::{Counted, NetlistError};
+use crate::ids::{InstanceId, NetId, PortId};
+use crate::instance::{CellRef, Instance, Join, Signal};
+use crate::limits::{MAX_INSTANCES, MAX_NETS, MAX_PORTS};
+use crate::name_table::NameTable;
+use crate::named::{Named, net_of};
+use crate::order::find_order;
 use crate::pins::PinSignals;
 use crate::port::{Dir, NetIds, Port};
-use dft_base::Name;
+use dft_base::{Name, Range};
 use dft_cells::Library;
 use std::alloc::{AllocError, Global};
 use std::marker::Model;
 
-/// A netlist that is being built. A clause sees it as the netlist so far.
+/// A netlist that is being built. Names of nets, ports and instances are one name space of printed names. A clause sees
+/// the netlist so far. A call that is refused leaves it as it was.
 #[derive(Debug, Drop)]
 pub struct DesignBuilder {
     alloc: Global,
@@ -20,6 +31,8 @@ pub struct DesignBuilder {
     ports: Vec<Port>,
     nets: Vec<Name>,
     instances: Vec<Instance>,
+    joins: Vec<Join>,
+    table: NameTable,
 }
 
 impl Model for DesignBuilder {
@@ -46,60 +59,278 @@ impl DesignBuilder {
             ports: Vec::new(alloc),
             nets: Vec::new(alloc),
             instances: Vec::new(alloc),
+            joins: Vec::new(alloc),
+            table: NameTable::new(alloc),
         }
     }
 
-    /// Adds a port of one bit, and its net, which has the port's name.
-    pub fn port(&mut self, name: Name, dir: Dir) -> Result<NetId, AllocError>
-        requires ports { length self.old.ports < MAX_PORTS }
-        requires nets { length self.old.nets < MAX_NETS }
-        ensures ok { IfOk result (λ net. WithPort self.old name dir net self.new) }
+    /// Adds a port and the nets of its bits, the leftmost first. A bit of a vector has the vector's name and its index
+    /// in brackets; a scalar port's one bit has the port's name. All nets so far are bits of ports. Refused with
+    /// `DuplicateName` for the first of its names that is taken, a vector's own name first, and else with `TooMany`
+    /// ports or nets.
+    pub fn port(
+        &mut self,
+        name: Name,
+        dir: Dir,
+        range: Option<Range>,
+    ) -> Result<PortId, NetlistError>
+        requires { HasOnlyPorts self.old }
+        ensures ok { IfOk result (λ port. WithPort self.old name dir range port self.new) }
+        ensures refused { Answers (port_refusal self.old name range) result }
         ensures err { OnErr result (self.new ≡ self.old) }
     {
-        let net = NetId(self.nets.len() as u32);
-        let net_name = Name::from_slice(self.alloc, name.as_slice())?;
-        let mut bits = NetIds::new(self.alloc);
-        bits.push(net)?;
+        let names = bit_names(self.alloc, &name, range)?;
+        let name = self.untaken_port(name, range, &names)?;
+        self.check_room(names.len())?;
+        let port = PortId(self.ports.len() as u16);
+        let bits = NetIds::counted(self.alloc, self.nets.len() as u32, names.len() as u32)?;
+        let own = vector_key(self.alloc, &name, range)?;
+        let keys = keys_of(self.alloc, &names)?;
         self.ports.reserve(1)?;
-        self.nets.reserve(1)?;
+        self.nets.reserve(names.len())?;
+        self.table.reserve(names.len() + 1)?;
+        self.table.insert_own(own, Named::Vector(port));
+        self.table.insert_nets(keys, self.nets.len() as u32);
+        push_all(&mut self.nets, names);
         self.ports.push_reserved(Port {
             name,
             dir,
-            range: None,
+            range,
             bits,
         });
-        self.nets.push_reserved(net_name);
+        Ok(port)
+    }
+
+    /// Adds a net of this printed name. Refused with `DuplicateName` where the name is taken, and else with `TooMany` nets.
+    pub fn net(&mut self, name: Name) -> Result<NetId, NetlistError>
+        ensures ok { IfOk result (λ net. WithNet self.old name net self.new) }
+        ensures refused { Answers (net_refusal self.old name) result }
+        ensures err { OnErr result (self.new ≡ self.old) }
+    {
+        if self.table.get(name.as_slice()).is_some() {
+            return Err(NetlistError::DuplicateName { name });
+        }
+        let count = self.nets.len();
+        if count >= MAX_NETS {
+            return Err(too_many(Counted::Nets, MAX_NETS));
+        }
+        let net = NetId(count as u32);
+        let key = Vec::from_slice(self.alloc, name.as_slice())?;
+        self.nets.reserve(1)?;
+        self.table.reserve(1)?;
+        self.table.insert_reserved(key, Named::Net(net));
+        self.nets.push_reserved(name);
         Ok(net)
     }
 
-    /// Adds an instance of a cell. Its pins follow the order of the cell's pins.
+    /// Adds an instance of a cell or a gate. Its pins follow the order of its cell's pins; a gate's are its inputs, then
+    /// its output. Refused with `DuplicateName` where its name is taken, and else with `TooMany` instances.
     pub fn instance(
         &mut self,
         name: Option<Name>,
         cell: CellRef,
-        pins: PinSignals,
-    ) -> Result<InstanceId, AllocError>
-        requires { length self.old.instances < MAX_INSTANCES }
-        ensures ok { IfOk result (λ id. WithInstance self.old (record { name = name; cell = cell; pins = pins }) id self.new) }
+        pins: &[Signal],
+    ) -> Result<InstanceId, NetlistError>
+        requires { IsInstanceOf self.old name cell pins.now }
+        ensures ok { IfOk result (λ id. WithInstance self.old (record { name = name; cell = cell; pins = pins.now }) id self.new) }
+        ensures refused { Answers (instance_refusal self.old name) result }
         ensures err { OnErr result (self.new ≡ self.old) }
     {
-        let id = InstanceId(self.instances.len() as u32);
+        let name = self.untaken(name)?;
+        let count = self.instances.len();
+        if count >= MAX_INSTANCES {
+            return Err(too_many(Counted::Instances, MAX_INSTANCES));
+        }
+        let id = InstanceId(count as u32);
+        let pins = PinSignals::from_slice(self.alloc, pins)?;
+        let key = key_of(self.alloc, &name)?;
         self.instances.reserve(1)?;
+        self.table.reserve(1)?;
+        self.table.insert_own(key, Named::Instance(id));
         self.instances.push_reserved(Instance { name, cell, pins });
         Ok(id)
     }
 
-    /// The netlist that was built.
-    pub fn finish(self) -> Design
-        ensures { result ≡ self }
+    /// Adds a join: the target has the source's bit (IEEE 1364 `assign` of one bit).
+    pub fn join(&mut self, target: NetId, source: Signal) -> Result<(), AllocError>
+        requires { IsJoinOf self.old target source }
+        ensures ok { OnOk result (WithJoin self.old (record { target = target; source = source }) self.new) }
+        ensures err { OnErr result (self.new ≡ self.old) }
     {
-        Design::from_parts(
-            self.name,
-            self.library,
-            self.ports,
-            self.nets,
-            self.instances,
-            Vec::new(self.alloc),
-        )
+        self.joins.push(Join { target, source })?;
+        Ok(())
+    }
+
+    /// Joins a pin of an instance that is joined to nothing to this net.
+    pub fn connect(&mut self, instance: InstanceId, pin: u32, net: NetId)
+        requires free { IsUnconnected self.old instance pin }
+        requires live { net.0 < length self.old.nets }
+        ensures { Connected self.old instance pin net self.new }
+    {
+        self.instances[instance.0 as usize]
+            .pins
+            .set(pin as usize, Signal::Net(net));
+    }
+
+    /// The name of an instance, refused where it is taken.
+    fn untaken(&self, name: Option<Name>) -> Result<Option<Name>, NetlistError>
+        ensures same { IfOk result (λ same. same ≡ name) }
+        ensures refused { Answers (taken_or (first_taken self.now (own_names name)) None) result }
+    {
+        match name {
+            Some(name) => {
+                if self.table.get(name.as_slice()).is_some() {
+                    return Err(NetlistError::DuplicateName { name });
+                }
+                Ok(Some(name))
+            }
+            None => Ok(None),
+        }
+    }
+
+    /// The name of a port, refused where it or one of its bits' is taken.
+    fn untaken_port(
+        &self,
+        name: Name,
+        range: Option<Range>,
+        bits: &[Name],
+    ) -> Result<Name, NetlistError>
+        requires { bits.now ≡ bit_names name range }
+        ensures same { IfOk result (λ same. same ≡ name) }
+        ensures refused { Answers (taken_or (first_taken self.now (port_names name range)) None) result }
+    {
+        if range.is_some() && self.table.get(name.as_slice()).is_some() {
+            return Err(NetlistError::DuplicateName { name });
+        }
+        for bit in bits {
+            if self.table.get(bit.as_slice()).is_some() {
+                let name = Name::from_slice(self.alloc, bit.as_slice())?;
+                return Err(NetlistError::DuplicateName { name });
+            }
+        }
+        Ok(name)
+    }
+
+    /// Refuses one port more, of so many bits, where it passes a limit.
+    fn check_room(&self, width: usize) -> Result<(), NetlistError>
+        ensures { Answers (room_limit self.now width) result }
+    {
+        if self.ports.len() >= MAX_PORTS {
+            return Err(too_many(Counted::Ports, MAX_PORTS));
+        }
+        if width > MAX_NETS - self.nets.len() {
+            return Err(too_many(Counted::Nets, MAX_NETS));
+        }
+        Ok(())
+    }
+
+    /// The module's name.
+    pub fn module(&self) -> &Name
+        ensures { result.now ≡ self.now.name }
+    {
+        &self.name
+    }
+
+    /// The cells that its instances may name.
+    pub fn library(&self) -> &Library
+        ensures { result.now ≡ self.now.library }
+    {
+        &self.library
+    }
+
+    /// The ports so far.
+    pub fn ports(&self) -> &[Port]
+        ensures ports { result.now ≡ self.now.ports }
+        ensures sound { IsNetlist self.now }
+    {
+        &self.ports
+    }
+
+    /// The instances so far.
+    pub fn instances(&self) -> &[Instance]
+        ensures instances { result.now ≡ self.now.instances }
+        ensures sound { IsNetlist self.now }
+    {
+        &self.instances
+    }
+
+    /// The joins so far.
+    pub fn joins(&self) -> &[Join]
+        ensures joins { result.now ≡ self.now.joins }
+        ensures sound { IsNetlist self.now }
+    {
+        &self.joins
+    }
+
+    /// How many nets there are so far.
+    pub fn net_count(&self) -> u32
+        ensures count { result ≡ length self.now.nets }
+        ensures sound { IsNetlist self.now }
+    {
+        self.nets.len() as u32
+    }
+
+    /// The printed name of this net.
+    pub fn net_name(&self, net: NetId) -> &Name
+        requires { net.0 < length self.now.nets }
+        ensures { slice_get self.now.nets net.0 ≡ Some result.now }
+    {
+        &self.nets[net.0 as usize]
+    }
+
+    /// The net with this printed name, if there is one.
+    pub fn find(&self, name: &[u8]) -> Option<NetId>
+        ensures { result ≡ find_net self.now name.now }
+    {
+        net_of(self.table.get(name))
+    }
+
+    /// What this printed name stands for, if it is taken.
+    pub fn named(&self, name: &[u8]) -> Option<Named>
+        ensures { IsNamed self.now name.now result }
+    {
+        self.table.get(name)
+    }
+
+    /// The design of this netlist. Refused with `MultipleDrivers` for the first net with two drivers, and else with
+    /// `Loop` where the nets have no order.
+    pub fn finish(self) -> Result<Design, NetlistError>
+        ensures ok { IfOk result (λ design. IsFinished self design) }
+        ensures refused { IfErr result (λ error. CannotFinish self error) }
+    {
+        let drivers = find_drivers(self.alloc, &self)?;
+        let order = find_order(self.alloc, &self, &drivers)?;
+        Ok(Design {
+            name: self.name,
+            library: self.library,
+            ports: self.ports,
+            nets: self.nets,
+            instances: self.instances,
+            joins: self.joins,
+            table: self.table,
+            drivers,
+            order,
+        })
+    }
+}
+
+/// The refusal of one more than the limit.
+fn too_many(what: Counted, limit: usize) -> NetlistError
+    requires { limit < 2 ^ 32 }
+    ensures { result ≡ NetlistError.TooMany what (pos limit) }
+{
+    NetlistError::TooMany {
+        what,
+        limit: limit as i64,
+    }
+}
+
+/// The bytes of a name, if there is one.
+fn key_of(alloc: Global, name: &Option<Name>) -> Result<Option<Vec<u8>>, AllocError>
+    ensures { IfOk result (λ key. option_map (λ k. k.items) key ≡ name.now) }
+{
+    match name {
+        Some(name) => Ok(Some(Vec::from_slice(alloc, name.as_slice())?)),
+        None => Ok(None),
     }
 }

@@ -1,4 +1,4 @@
-ghost use Rattle.std.specs.Prelude.{◌≡◌, ◌++◌, ◌∷◌, [], OnOk, OnErr};
+ghost use Rattle.std.specs.Prelude.{◌≡◌, ◌<◌, ◌++◌, ◌∷◌, [], IfOk, OnOk, OnErr, length, slice_set};
 
 use crate::instance::Signal;
 use smallvec::SmallVec;
@@ -37,6 +37,23 @@ impl PinSignals {
     {
         self.signals.push(signal)?;
         Ok(())
+    }
+
+    /// Pins that are joined to these.
+    pub fn from_slice(alloc: Global, signals: &[Signal]) -> Result<PinSignals, AllocError>
+        ensures { IfOk result (λ pins. pins ≡ signals.now) }
+    {
+        Ok(PinSignals {
+            signals: SmallVec::from_slice(alloc, signals)?,
+        })
+    }
+
+    /// Joins the pin of this number anew.
+    pub fn set(&mut self, pin: usize, signal: Signal)
+        requires { pin < length self.old }
+        ensures { self.new ≡ slice_set self.old pin signal }
+    {
+        self.signals.as_mut_slice()[pin] = signal;
     }
 
     /// What the pins are joined to.

@@ -1,4 +1,5 @@
-ghost use Rattle.std.specs.Prelude.{◌≡◌, ◌++◌, ◌∷◌, [], OnOk, OnErr};
+ghost use Rattle.std.specs.Prelude.{◌≡◌, ◌+◌, ◌<◌, ◌^◌, ◌++◌, ◌∷◌, [], IfOk, OnOk, OnErr};
+ghost use Rattle.dft_netlist.specs.NetNumbers.{nets_from};
 
 use crate::ids::NetId;
 use dft_base::{Name, Range};
@@ -35,6 +36,18 @@ impl NetIds {
         NetIds {
             nets: Vec::new(alloc),
         }
+    }
+
+    /// So many nets, with numbers from this one on.
+    pub(crate) fn counted(alloc: Global, first: u32, count: u32) -> Result<NetIds, AllocError>
+        requires { first + count < 2 ^ 32 }
+        ensures { IfOk result (λ nets. nets ≡ nets_from first count) }
+    {
+        let mut nets = Vec::with_capacity(alloc, count as usize)?;
+        for place in 0..count {
+            nets.push(NetId(first + place))?;
+        }
+        Ok(NetIds { nets })
     }
 
     /// Adds a net at the end.

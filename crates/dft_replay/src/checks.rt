@@ -11,13 +11,13 @@ ghost use Rattle.dft_replay.specs.Fits as spec;
 
 use crate::search::{CLOCK_PIN, net_at_pin, net_named};
 use dft_base::Name;
-use dft_netlist::{Design, Dir, NetId, Port};
+use dft_netlist::{Dir, FlatDesign, NetId, Port};
 use dft_stil::{Act, Acts, PatternSet, StilSignal};
 use std::alloc::{AllocError, Global};
 
 /// Whether these patterns fit the design: each signal is a bit of a port with its direction, the clock alone pulses,
 /// and it is never 1.
-pub fn fits(alloc: Global, design: &Design, patterns: &PatternSet) -> Result<bool, AllocError>
+pub fn fits(alloc: Global, design: &FlatDesign, patterns: &PatternSet) -> Result<bool, AllocError>
     requires flat { (clock : ℕ) × (cells : List FlipFlop) × IsFlat design.now clock cells }
     ensures { IfOk result (λ yes. yes ≡ spec.fits design.now patterns.now) }
 {
@@ -38,7 +38,7 @@ fn same_dir(a: Dir, b: Dir) -> bool
     }
 }
 
-fn has_name(design: &Design, net: NetId, name: &Name) -> bool
+fn has_name(design: &FlatDesign, net: NetId, name: &Name) -> bool
     ensures { result ≡ bytes_eq (name_of design.now net.0) name.now }
 {
     let bytes = name.as_slice();
@@ -48,7 +48,7 @@ fn has_name(design: &Design, net: NetId, name: &Name) -> bool
     }
 }
 
-fn has_bit(design: &Design, port: &Port, name: &Name) -> bool
+fn has_bit(design: &FlatDesign, port: &Port, name: &Name) -> bool
     ensures { result ≡ list_any (λ net. bytes_eq (name_of design.now net.0) name.now) port.now.bits }
 {
     port.bits
@@ -57,13 +57,13 @@ fn has_bit(design: &Design, port: &Port, name: &Name) -> bool
         .any(|net| has_name(design, *net, name))
 }
 
-fn is_bit_of(design: &Design, port: &Port, signal: &StilSignal) -> bool
+fn is_bit_of(design: &FlatDesign, port: &Port, signal: &StilSignal) -> bool
     ensures { result ≡ spec.same_dir port.now.dir signal.now.dir && list_any (λ net. bytes_eq (name_of design.now net.0) signal.now.name) port.now.bits }
 {
     same_dir(port.dir, signal.dir) && has_bit(design, port, &signal.name)
 }
 
-fn is_port_bit(design: &Design, signal: &StilSignal) -> bool
+fn is_port_bit(design: &FlatDesign, signal: &StilSignal) -> bool
     ensures { result ≡ spec.is_port_bit design.now signal.now }
 {
     design
@@ -72,14 +72,14 @@ fn is_port_bit(design: &Design, signal: &StilSignal) -> bool
         .any(|port| is_bit_of(design, port, signal))
 }
 
-fn are_port_bits(design: &Design, signals: &[StilSignal]) -> bool
+fn are_port_bits(design: &FlatDesign, signals: &[StilSignal]) -> bool
     ensures { result ≡ list_all (spec.is_port_bit design.now) signals.now }
 {
     signals.iter().all(|signal| is_port_bit(design, signal))
 }
 
 // The net at the clock pin of the first flip-flop, which is that of all.
-fn clock_net(design: &Design) -> Option<NetId>
+fn clock_net(design: &FlatDesign) -> Option<NetId>
     requires flat { (clock : ℕ) × (cells : List FlipFlop) × IsFlat design.now clock cells }
     ensures { number_of result ≡ spec.clock_net design.now }
 {
@@ -89,7 +89,7 @@ fn clock_net(design: &Design) -> Option<NetId>
     }
 }
 
-fn is_at(design: &Design, clock: Option<NetId>, signal: &StilSignal) -> bool
+fn is_at(design: &FlatDesign, clock: Option<NetId>, signal: &StilSignal) -> bool
     ensures { result ≡ spec.is_at (number_of clock) (net_with design.now signal.now.name) }
 {
     let names = design.net_names();
@@ -101,7 +101,11 @@ fn is_at(design: &Design, clock: Option<NetId>, signal: &StilSignal) -> bool
 }
 
 // Of each signal, whether it is at the clock.
-fn at_clock(alloc: Global, design: &Design, signals: &[StilSignal]) -> Result<Vec<bool>, AllocError>
+fn at_clock(
+    alloc: Global,
+    design: &FlatDesign,
+    signals: &[StilSignal],
+) -> Result<Vec<bool>, AllocError>
     requires flat { (clock : ℕ) × (cells : List FlipFlop) × IsFlat design.now clock cells }
     ensures { IfOk result (λ at_clock. at_clock.items ≡ map (spec.is_clock design.now) signals.now) }
 {

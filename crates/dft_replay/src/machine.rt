@@ -7,7 +7,7 @@ use crate::origin::{Origin, act_at};
 use crate::search::{CLOCK_PIN, DATA_PIN, pin_origin, signal_origin};
 use crate::verdict::Verdict;
 use dft_base::Tri;
-use dft_netlist::{Design, Instance};
+use dft_netlist::{FlatDesign, Instance};
 use dft_stil::{Act, StilSignal};
 use std::alloc::{AllocError, Global};
 
@@ -26,7 +26,7 @@ pub(crate) struct Machine {
 }
 
 impl FlipFlop {
-    fn of(design: &Design, signals: &[StilSignal], instance: &Instance) -> FlipFlop
+    fn of(design: &FlatDesign, signals: &[StilSignal], instance: &Instance) -> FlipFlop
         ensures { result ≡ spec.flip_flop_of design.now signals.now instance.now }
     {
         FlipFlop {
@@ -50,7 +50,7 @@ impl Machine {
     /// The machine of a design, for these signals.
     pub(crate) fn of(
         alloc: Global,
-        design: &Design,
+        design: &FlatDesign,
         signals: &[StilSignal],
     ) -> Result<Machine, AllocError>
         ensures { IfOk result (spec.IsMachine design.now signals.now) }
@@ -94,7 +94,7 @@ impl Machine {
 
 fn signal_origins(
     alloc: Global,
-    design: &Design,
+    design: &FlatDesign,
     signals: &[StilSignal],
 ) -> Result<Vec<Origin>, AllocError>
     ensures { IfOk result (λ origins. origins.items ≡ map (spec.signal_origin design.now signals.now) signals.now) }
@@ -107,7 +107,7 @@ fn signal_origins(
 
 fn flip_flops(
     alloc: Global,
-    design: &Design,
+    design: &FlatDesign,
     signals: &[StilSignal],
 ) -> Result<Vec<FlipFlop>, AllocError>
     ensures { IfOk result (λ fs. fs.items ≡ map (spec.flip_flop_of design.now signals.now) design.now.instances) }

@@ -10,12 +10,16 @@ ghost use Rattle.dft_replay.specs.Verdicts.{HasVerdict};
 use crate::machine::{Machine, compared_count};
 use crate::verdict::Verdict;
 use dft_base::Tri;
-use dft_netlist::Design;
+use dft_netlist::FlatDesign;
 use dft_stil::PatternSet;
 use std::alloc::{AllocError, Global};
 
 /// The verdict of the patterns on the design: what the first compared bit that is unknown or not as printed comes to.
-pub fn replay(alloc: Global, design: &Design, patterns: &PatternSet) -> Result<Verdict, AllocError>
+pub fn replay(
+    alloc: Global,
+    design: &FlatDesign,
+    patterns: &PatternSet,
+) -> Result<Verdict, AllocError>
     requires flat { (clock : ℕ) × (cells : List FlipFlop) × IsFlat design.now clock cells }
     requires patterns { IsPatterns patterns.now }
     requires fits { spec.fits design.now patterns.now ≡ true }

@@ -6,7 +6,7 @@ ghost use Rattle.dft_replay.specs.Origins as spec;
 
 use crate::origin::Origin;
 use dft_base::Name;
-use dft_netlist::{Design, Instance, NetId, Signal};
+use dft_netlist::{FlatDesign, Instance, NetId, Signal};
 use dft_stil::StilSignal;
 
 /// The pin of a flip-flop that is named CK.
@@ -60,7 +60,7 @@ pub(crate) fn net_named(names: &[Name], name: &Name) -> Option<usize>
         .position(|known| known.as_slice() == name.as_slice())
 }
 
-fn origin_of(design: &Design, signals: &[StilSignal], net: NetId) -> Origin
+fn origin_of(design: &FlatDesign, signals: &[StilSignal], net: NetId) -> Origin
     ensures { result ≡ spec.origin_of design.now signals.now net.0 }
 {
     if let Some(number) = driver_of(design.instances(), net) {
@@ -77,7 +77,7 @@ fn origin_of(design: &Design, signals: &[StilSignal], net: NetId) -> Origin
 
 /// Where a pin of an instance takes its values from.
 pub(crate) fn pin_origin(
-    design: &Design,
+    design: &FlatDesign,
     signals: &[StilSignal],
     instance: &Instance,
     pin: usize,
@@ -91,7 +91,11 @@ pub(crate) fn pin_origin(
 }
 
 /// Where the values of a signal come from.
-pub(crate) fn signal_origin(design: &Design, signals: &[StilSignal], signal: &StilSignal) -> Origin
+pub(crate) fn signal_origin(
+    design: &FlatDesign,
+    signals: &[StilSignal],
+    signal: &StilSignal,
+) -> Origin
     ensures { result ≡ spec.signal_origin design.now signals.now signal.now }
 {
     match net_named(design.net_names(), &signal.name) {

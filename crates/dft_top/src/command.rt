@@ -14,7 +14,7 @@ use crate::printing::line;
 use crate::replaying::outcome_of_patterns;
 use crate::words::{ReplayFiles, files_named};
 use dft_base::{Files, LoadError, PutError, Sink};
-use dft_netlist::Design;
+use dft_netlist::FlatDesign;
 use dft_verilog::VerilogError;
 use std::alloc::{AllocError, Global};
 
@@ -127,7 +127,7 @@ fn outcome_of_files<F: Files>(
 /// What the named patterns come to on the design.
 fn outcome_on_design<F: Files>(
     alloc: Global,
-    design: &Design,
+    design: &FlatDesign,
     patterns: &str,
     files: &mut F,
 ) -> Result<Outcome, Stop>

@@ -13,7 +13,7 @@ ghost use Rattle.dft_top.specs.declared.command.TheConstants.{MAX_PATTERN_BYTES}
 use crate::answer::Code;
 use crate::outcome::{Outcome, refused};
 use dft_base::Name;
-use dft_netlist::Design;
+use dft_netlist::FlatDesign;
 use dft_replay::{Verdict, fits, replay};
 use dft_stil::{PatternSet, StilError, StilSignal, read};
 use std::alloc::{AllocError, Global};
@@ -22,7 +22,7 @@ use std::alloc::{AllocError, Global};
 /// refused.
 pub fn outcome_of_patterns(
     alloc: Global,
-    design: &Design,
+    design: &FlatDesign,
     text: &[u8],
 ) -> Result<Outcome, AllocError>
     requires flat { (clock : ℕ) × (cells : List FlipFlop) × IsFlat design.now clock cells }
@@ -39,7 +39,11 @@ pub fn outcome_of_patterns(
 }
 
 /// The outcome of patterns on the design.
-fn outcome_on(alloc: Global, design: &Design, patterns: &PatternSet) -> Result<Outcome, AllocError>
+fn outcome_on(
+    alloc: Global,
+    design: &FlatDesign,
+    patterns: &PatternSet,
+) -> Result<Outcome, AllocError>
     requires flat { (clock : ℕ) × (cells : List FlipFlop) × IsFlat design.now clock cells }
     requires patterns { IsPatterns patterns.now }
     requires vectors { length patterns.now.vectors < 2 ^ 32 }

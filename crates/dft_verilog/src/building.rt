@@ -9,7 +9,8 @@ use crate::reader::MAX_BYTES;
 use dft_base::Name;
 use dft_cells::{CellId, Library};
 use dft_netlist::{
-    CellRef, Design, DesignBuilder, Dir, MAX_INSTANCES, MAX_NETS, MAX_PORTS, PinSignals, Signal,
+    CellRef, Dir, FlatBuilder, FlatDesign, MAX_FLAT_PORTS, MAX_INSTANCES, MAX_NETS, PinSignals,
+    Signal,
 };
 use std::alloc::{AllocError, Global};
 
@@ -28,11 +29,11 @@ fn pins(alloc: Global, flip_flop: &FlipFlop) -> Result<PinSignals, AllocError>
 /// Adds the port of this name. Each name was declared, so it has a direction.
 fn add_port(
     alloc: Global,
-    builder: &mut DesignBuilder,
+    builder: &mut FlatBuilder,
     name: &Name,
     dir: Option<Dir>,
 ) -> Result<(), AllocError>
-    requires ports { length builder.old.ports < MAX_PORTS }
+    requires ports { length builder.old.ports < MAX_FLAT_PORTS }
     requires nets { length builder.old.nets < MAX_NETS }
     ensures { OnOk result (builder.new ≡ spec.with_port builder.old name.now dir) }
 {
@@ -44,7 +45,7 @@ fn add_port(
 /// The ports of these names, with these directions.
 fn add_ports(
     alloc: Global,
-    builder: &mut DesignBuilder,
+    builder: &mut FlatBuilder,
     names: &[Name],
     dirs: &[Option<Dir>],
 ) -> Result<(), AllocError>
@@ -63,7 +64,7 @@ fn add_ports(
 /// Adds the instance of a flip-flop.
 fn add_flip_flop(
     alloc: Global,
-    builder: &mut DesignBuilder,
+    builder: &mut FlatBuilder,
     cell: CellId,
     flip_flop: &FlipFlop,
 ) -> Result<(), AllocError>
@@ -79,7 +80,7 @@ fn add_flip_flop(
 /// An instance of the cell for each of the flip-flops.
 fn add_flip_flops(
     alloc: Global,
-    builder: &mut DesignBuilder,
+    builder: &mut FlatBuilder,
     cell: CellId,
     flip_flops: &[FlipFlop],
 ) -> Result<(), AllocError>
@@ -95,14 +96,14 @@ fn add_flip_flops(
 }
 
 /// The netlist of this module over the standard cells.
-pub fn netlist(alloc: Global, draft: &Draft) -> Result<Design, AllocError>
+pub fn netlist(alloc: Global, draft: &Draft) -> Result<FlatDesign, AllocError>
     requires { length draft.now.flip_flops ≤ MAX_BYTES }
     ensures { IfOk result (λ design. design ≡ spec.flat_netlist draft.now) }
 {
     let library = Library::standard(alloc)?;
     let cell = library.find(b"DFF").unwrap_or(CellId(0));
     let name = Name::from_slice(alloc, draft.name.as_slice())?;
-    let mut builder = DesignBuilder::new(alloc, name, library);
+    let mut builder = FlatBuilder::new(alloc, name, library);
     add_ports(alloc, &mut builder, &draft.names, &draft.dirs)?;
     add_flip_flops(alloc, &mut builder, cell, &draft.flip_flops)?;
     Ok(builder.finish())

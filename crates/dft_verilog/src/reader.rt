@@ -10,7 +10,7 @@ use crate::error::VerilogError;
 use crate::heading::heading;
 use crate::items::items;
 use crate::tokens::Tokens;
-use dft_netlist::Design;
+use dft_netlist::FlatDesign;
 use std::alloc::Global;
 
 /// The most bytes that a text may have.
@@ -32,7 +32,7 @@ fn module_text(alloc: Global, tokens: &mut Tokens<'_>) -> Result<Draft, VerilogE
 #[tactic(auto, unfolding(dft_netlist::specs::FirstForm::first_form))]
 /// The design that a text of the first form stands for (IEEE 1364): one module with scalar ports, and flip-flops of one
 /// clock. Another text is `NotFirstForm`.
-pub fn read(alloc: Global, bytes: &[u8]) -> Result<Design, VerilogError>
+pub fn read(alloc: Global, bytes: &[u8]) -> Result<FlatDesign, VerilogError>
     ensures design { IfOk result (λ design. first_form bytes.now ≡ Some design) }
     ensures refused { result ≡ Err VerilogError.NotFirstForm → first_form bytes.now ≡ None }
 {

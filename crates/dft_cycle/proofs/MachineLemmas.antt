@@ -1,0 +1,242 @@
+-- What the machine's calls do, from what they do to its lists.
+use Rattle.std.proofs.Common.{ℕ, zero, suc, Bool, not, true, false, List, [], ◌∷◌, ◌≡◌, ◌<◌, ◌≤◌, ◌+◌, ◌==◌, ◌||◌, ◌&&◌, inl, inr, length, map, drop, drop-cons, add-one, ◌≢◌, refl, sym, ap, ◌∙◌, subst, get_or, slice_set, get_or-set_same, get_or-set_other, arith}
+use Rattle.std.specs.Prelude.{if◌then◌else◌, replicate}
+use Rattle.std.proofs.lemmas.Bool.Decides.{leb_tells, eqb_tells}
+use Rattle.std.specs.Global.{Vec}
+use Rattle.std.specs.Vec.{with_items}
+use Rattle.std.proofs.lemmas.List.{get_or_past, drop_all, with_items_is}
+use Rattle.dft_base.specs.declared.tri.Tri.{Tri}
+use Rattle.dft_base.specs.declared.tri.Tri.TheVariants.{Zero, Unknown}
+use Rattle.dft_netlist.specs.declared.ids.NetId.{NetId}
+use Rattle.dft_netlist.specs.Drivers.{Source}
+use Rattle.dft_netlist.specs.Logic.{Logic, Cell}
+use Rattle.dft_netlist.specs.Settled.{TriSources, value_from, IsTriSettled}
+use Rattle.dft_cycle.specs.declared.circuit.FlipFlop.{FlipFlop}
+use Rattle.dft_cycle.specs.declared.circuit.Circuit.{Circuit}
+use Rattle.dft_cycle.specs.Cycle.{Pulse, AreViews, next_value, after_pulse, IsLeast}
+use Rattle.dft_cycle.specs.Machine.{Machine, value_at, is_one_of, ports_of, logic, acted, IsSet, at_strobe, IsStrobed, pulses, pulse_from, IsPulsed}
+use Rattle.dft_cycle.specs.Circuit.{logic_at, cell_of, cell_at, flag_at, IsCircuit}
+use Rattle.dft_cycle.specs.Views.{rank_of, Among, AreNext}
+use Rattle.dft_cycle.specs.Compiling.{ports_by}
+use Rattle.dft_cycle.proofs.Views.{views_exist}
+use Rattle.dft_cycle.proofs.CircuitRanks.{circuit_ranked}
+use Rattle.dft_cycle.proofs.Writings.{cell_past}
+
+-- ---- the elements of a vector that was filled anew
+
+pub refilled : {X : Type 0} (v : Vec X) (ws : List X) → length (with_items v ws).items ≡ length v.items
+refilled v ws = sym (with_items v ws).ok.0 ∙ v.ok.0
+
+pub filled : {X : Type 0} (v : Vec X) (ws rs : List X) → length ws ≡ length rs → rs ≡ v.items → (with_items v ws).items ≡ ws
+filled v ws rs a e = with_items_is v ws (a ∙ ap length e ∙ sym v.ok.0)
+
+-- ---- a strobe
+
+pub strobed : (m after : Machine) (x : Circuit) (t : TriSources) (values : List Tri) → logic m ≡ logic_at x → after.netlist ≡ m.netlist → after.clocks ≡ m.clocks → after.inputs ≡ m.inputs → after.cells ≡ m.cells →
+    ((k : ℕ) → t.ports k ≡ value_at m.inputs k) → ((e : ℕ) → t.clocks e ≡ Zero) → ((c : ℕ) → t.flops c ≡ value_at m.cells c) →
+    ((c e : ℕ) (source : Source) → t.lockups c e source ≡ value_from (value_at values) source) → IsTriSettled (logic_at x) t (value_at values) → after.shown ≡ values → IsStrobed (logic m) m after
+strobed m after x t values compiled n k i c ports clocks flops lockups settled shown =
+    let same : t ≡ at_strobe m (value_at values) = λ s. record { ports = λ p. ports p s; clocks = λ e. clocks e s; flops = λ f. flops f s; lockups = λ a b source. lockups a b source s } in
+    let P : TriSources → Type 0 = λ u. IsTriSettled (logic_at x) u (value_at values) in
+    let Q : Logic → Type 0 = λ l. IsTriSettled l (at_strobe m (value_at values)) (value_at values) in
+    let R : List Tri → Type 0 = λ v. IsTriSettled (logic m) (at_strobe m (value_at v)) (value_at v) in
+    record { netlist = n; clocks = k; inputs = i; cells = c; settled = subst R (sym shown) (subst Q (sym compiled) (subst P same settled)) }
+
+-- ---- an input
+
+pub set_done : (m after : Machine) (x : Circuit) (net : ℕ) (value : Tri) → logic m ≡ logic_at x → after.netlist ≡ m.netlist → after.clocks ≡ m.clocks → after.shown ≡ m.shown →
+    after.inputs ≡ slice_set m.inputs net value → net < length m.inputs → length m.cells ≡ length x.flops.items → length after.cells ≡ length m.cells →
+    ((c : ℕ) → c < length x.flops.items → value_at after.cells c ≡ acted (cell_at (map cell_of x.flops.items) c).force net value (value_at m.cells c)) → IsSet (logic m) m net value after
+unfolding logic_at
+set_done m after x net value compiled n k s inputs live a b each =
+    let V : (List Tri) → ℕ → Tri = value_at in
+    record {
+      netlist = n;
+      clocks = k;
+      input = ap (λ (l : List Tri). value_at l net) inputs ∙ get_or-set_same m.inputs net value Unknown live;
+      others = λ other ne. ap (λ (l : List Tri). value_at l other) inputs ∙ get_or-set_other m.inputs net other value Unknown ne;
+      cells = λ c. (let P : Logic → Type 0 = λ l. value_at after.cells c ≡ acted (l.cell c).force net value (value_at m.cells c) in
+          subst P (sym compiled) (elim (leb_tells (length x.flops.items) c) [
+            | inl out ↦ (let f : length after.cells ≤ c = omega (arith, out.1) in let g : length m.cells ≤ c = omega (arith, out.1) in
+                get_or_past after.cells c Unknown f ∙ sym (get_or_past m.cells c Unknown g) ∙ sym (ap (λ (q : Cell). acted q.force net value (value_at m.cells c)) (cell_past x.flops.items c out.1)))
+            | inr live ↦ each c live.1
+          ]));
+      shown = s;
+    }
+
+-- what was read from other lists that are the same
+pub acted_read : (flops fs : List FlipFlop) (cells os new ws : List Tri) (net : ℕ) (value : Tri) → fs ≡ flops → os ≡ cells → new ≡ ws →
+    ((c : ℕ) → c < length fs → value_at ws c ≡ acted (cell_at (map cell_of fs) c).force net value (value_at os c)) →
+    (c : ℕ) → c < length flops → value_at new c ≡ acted (cell_at (map cell_of flops) c).force net value (value_at cells c)
+acted_read flops fs cells os new ws net value f o n each =
+    let F : List FlipFlop → Type 0 = λ l. (c : ℕ) → c < length l → value_at new c ≡ acted (cell_at (map cell_of l) c).force net value (value_at cells c) in
+    let O : List Tri → Type 0 = λ l. (c : ℕ) → c < length fs → value_at new c ≡ acted (cell_at (map cell_of fs) c).force net value (value_at l c) in
+    let N : List Tri → Type 0 = λ l. (c : ℕ) → c < length fs → value_at l c ≡ acted (cell_at (map cell_of fs) c).force net value (value_at os c) in
+    subst F f (subst O o (subst N (sym n) each))
+
+pub taken_read : (flops fs : List FlipFlop) (marks bs : List Bool) (next xs cells os new ws : List Tri) → fs ≡ flops → bs ≡ marks → xs ≡ next → os ≡ cells → new ≡ ws →
+    ((c : ℕ) → c < length fs → value_at ws c ≡ (if flag_at bs (cell_at (map cell_of fs) c).domain then value_at xs c else value_at os c)) →
+    (c : ℕ) → c < length flops → value_at new c ≡ (if flag_at marks (cell_at (map cell_of flops) c).domain then value_at next c else value_at cells c)
+taken_read flops fs marks bs next xs cells os new ws f b x o n each =
+    let F : List FlipFlop → Type 0 = λ l. (c : ℕ) → c < length l → value_at new c ≡ (if flag_at marks (cell_at (map cell_of l) c).domain then value_at next c else value_at cells c) in
+    let B : List Bool → Type 0 = λ l. (c : ℕ) → c < length fs → value_at new c ≡ (if flag_at l (cell_at (map cell_of fs) c).domain then value_at next c else value_at cells c) in
+    let X : List Tri → Type 0 = λ l. (c : ℕ) → c < length fs → value_at new c ≡ (if flag_at bs (cell_at (map cell_of fs) c).domain then value_at l c else value_at cells c) in
+    let O : List Tri → Type 0 = λ l. (c : ℕ) → c < length fs → value_at new c ≡ (if flag_at bs (cell_at (map cell_of fs) c).domain then value_at xs c else value_at l c) in
+    let N : List Tri → Type 0 = λ l. (c : ℕ) → c < length fs → value_at l c ≡ (if flag_at bs (cell_at (map cell_of fs) c).domain then value_at xs c else value_at os c) in
+    subst F f (subst B b (subst X x (subst O o (subst N (sym n) each))))
+
+-- ---- a pulse
+
+after_case : (l : Logic) (p : Pulse) (view : ℕ → ℕ → Tri) (c : ℕ) (next cell : Tri) (up : Bool) → p.pulsed (l.cell c).domain ≡ up → (p.pulsed (l.cell c).domain ≡ true → next ≡ next_value l p view c) → p.old c ≡ cell →
+    (if up then next else cell) ≡ (if up then next_value l p view c else p.old c)
+after_case l p view c next cell true e is old = is e
+after_case l p view c next cell false e is old = sym old
+
+pub pulse_done : (m after : Machine) (x : Circuit) (pulsed : List Bool) (p : Pulse) (poss next : List Tri) → IsCircuit x → logic m ≡ logic_at x → after.netlist ≡ m.netlist → after.clocks ≡ m.clocks → after.inputs ≡ m.inputs → after.shown ≡ m.shown →
+    ((k : ℕ) → p.ports k ≡ value_at m.inputs k) → ((e : ℕ) → p.pulsed e ≡ pulses m.clocks pulsed e) → ((c : ℕ) → p.old c ≡ value_at m.cells c) →
+    length m.cells ≡ length x.flops.items → length after.cells ≡ length m.cells → length next ≡ length x.flops.items →
+    ((view : ℕ → ℕ → Tri) → AreViews (logic_at x) p (value_at poss) view → IsLeast (logic_at x) p (value_at poss) view) →
+    ((view : ℕ → ℕ → Tri) → AreViews (logic_at x) p (value_at poss) view → AreNext (logic_at x) p view poss next) →
+    ((c : ℕ) → c < length x.flops.items → value_at after.cells c ≡ (if p.pulsed ((logic_at x).cell c).domain then value_at next c else value_at m.cells c)) → IsPulsed (logic m) m pulsed after
+pulse_done m after x pulsed p poss next is compiled n k i s ports ups old a b d least nexts each =
+    let found = views_exist (logic_at x) (rank_of x) p (value_at poss) (circuit_ranked x is) in
+    let same : p ≡ pulse_from m pulsed = λ t. record { ports = λ q. ports q t; pulsed = λ e. ups e t; old = λ c. old c t } in
+    let P : Pulse → Type 0 = λ q. IsLeast (logic_at x) q (value_at poss) found.0 in
+    let Q : Logic → Type 0 = λ l. IsLeast l (pulse_from m pulsed) (value_at poss) found.0 in
+    record {
+      netlist = n;
+      clocks = k;
+      inputs = i;
+      shown = s;
+      poss = value_at poss;
+      view = found.0;
+      least = subst Q (sym compiled) (subst P same (least found.0 found.1));
+      cells = λ c.
+          (let R : Pulse → Type 0 = λ q. value_at after.cells c ≡ after_pulse (logic_at x) q found.0 c in
+          let S : Logic → Type 0 = λ l. value_at after.cells c ≡ after_pulse l (pulse_from m pulsed) found.0 c in
+          let taken : value_at after.cells c ≡ (if p.pulsed ((logic_at x).cell c).domain then value_at next c else value_at m.cells c) =
+          elim (leb_tells (length x.flops.items) c) [
+            | inl out ↦ (let f : length after.cells ≤ c = omega (arith, out.1) in let g : length m.cells ≤ c = omega (arith, out.1) in let h : length next ≤ c = omega (arith, out.1) in
+                past (value_at after.cells c) (value_at next c) (value_at m.cells c) (p.pulsed ((logic_at x).cell c).domain) (get_or_past after.cells c Unknown f) (get_or_past next c Unknown h) (get_or_past m.cells c Unknown g))
+            | inr live ↦ each c live.1
+          ] in
+          subst S (sym compiled) (subst R same (taken ∙ after_case (logic_at x) p found.0 c (value_at next c) (value_at m.cells c) (p.pulsed ((logic_at x).cell c).domain) refl (λ up. (nexts found.0 found.1 c up).0) (old c))));
+    } where
+      past : (u v w : Tri) (up : Bool) → u ≡ Unknown → v ≡ Unknown → w ≡ Unknown → u ≡ (if up then v else w)
+      past u v w true e f g = e ∙ sym f
+      past u v w false e f g = e ∙ sym g
+
+-- ---- the clocks that pulse
+
+-- an entry that is 1 is one of the clocks
+pub pulses_among : (clocks : List NetId) (pulsed : List Bool) (e : ℕ) → pulses clocks pulsed e ≡ true → Among clocks (length clocks) e
+pulses_among [] pulsed e up = absurd cc
+pulses_among (clock ∷ clocks) [] e up = absurd cc
+pulses_among (clock ∷ clocks) (b ∷ pulsed) e up = elim (eqb_tells clock.0 e) [
+  | inl q ↦ record { place = 0; before = omega arith; here = q.1 }
+  | inr q ↦ (let rest = pulses_among clocks pulsed e (skip b (clock.0 == e) (pulses clocks pulsed e) q.0 up) in
+      record { place = suc rest.place; before = (let less = rest.before in omega arith); here = rest.here })
+] where
+  skip : (b t r : Bool) → t ≡ false → ((b && t) || r) ≡ true → r ≡ true
+  skip true false r h u = u
+  skip false false r h u = u
+  skip true true r h u = absurd cc
+  skip false true r h u = absurd cc
+
+pulses_front : (clocks : List NetId) (pulsed : List Bool) (j e : ℕ) → j < length clocks → j < length pulsed →
+    pulses (drop j clocks) (drop j pulsed) e ≡ (get_or pulsed j false && ((get_or clocks j (record { 0 = 0 })).0 == e)) || pulses (drop (j + 1) clocks) (drop (j + 1) pulsed) e
+pulses_front clocks pulsed j e a b = rw (add-one) (λ i. pulses (drop-cons clocks j (record { 0 = 0 }) a i) (drop-cons pulsed j false b i) e)
+
+up_hit : (f r b t : Bool) → b ≡ true → t ≡ true → (true || r) ≡ (f || ((b && t) || r))
+up_hit true r b t p q = refl
+up_hit false r true true p q = refl
+up_hit false r false t p q = absurd cc
+up_hit false r true false p q = absurd cc
+
+up_miss : (f r b t : Bool) → t ≡ false → (f || r) ≡ (f || ((b && t) || r))
+up_miss f r true false q = refl
+up_miss f r false false q = refl
+up_miss f r b true q = absurd cc
+
+down : (f r b t : Bool) → b ≡ false → (f || r) ≡ (f || ((b && t) || r))
+down f r false t p = refl
+down f r true t p = absurd cc
+
+pub mark_up : (clocks : List NetId) (pulsed flags : List Bool) (j e : ℕ) (all : Bool) → j < length clocks → j < length pulsed → get_or pulsed j false ≡ true → (get_or clocks j (record { 0 = 0 })).0 < length flags →
+    (flag_at flags e || pulses (drop j clocks) (drop j pulsed) e) ≡ all → (flag_at (slice_set flags (get_or clocks j (record { 0 = 0 })).0 true) e || pulses (drop (j + 1) clocks) (drop (j + 1) pulsed) e) ≡ all
+mark_up clocks pulsed flags j e all a b up live before =
+    let at : ℕ = (get_or clocks j (record { 0 = 0 })).0 in
+    let rest : Bool = pulses (drop (j + 1) clocks) (drop (j + 1) pulsed) e in
+    let whole : (flag_at flags e || ((get_or pulsed j false && (at == e)) || rest)) ≡ all = sym (ap (λ (x : Bool). flag_at flags e || x) (pulses_front clocks pulsed j e a b)) ∙ before in
+    elim (eqb_tells at e) [
+      | inl q ↦ (let F : ℕ → Bool = λ n. flag_at (slice_set flags at true) n in
+          ap (λ (x : Bool). x || rest) (sym (ap F q.1) ∙ get_or-set_same flags at true false live) ∙ up_hit (flag_at flags e) rest (get_or pulsed j false) (at == e) up q.0 ∙ whole)
+      | inr q ↦ (let ne : e ≢ at = λ p. q.1 (sym p) in
+          ap (λ (x : Bool). x || rest) (get_or-set_other flags at e true false ne) ∙ up_miss (flag_at flags e) rest (get_or pulsed j false) (at == e) q.0 ∙ whole)
+    ]
+
+pub mark_down : (clocks : List NetId) (pulsed flags : List Bool) (j e : ℕ) (all : Bool) → j < length clocks → j < length pulsed → get_or pulsed j false ≡ false →
+    (flag_at flags e || pulses (drop j clocks) (drop j pulsed) e) ≡ all → (flag_at flags e || pulses (drop (j + 1) clocks) (drop (j + 1) pulsed) e) ≡ all
+mark_down clocks pulsed flags j e all a b up before =
+    let at : ℕ = (get_or clocks j (record { 0 = 0 })).0 in
+    down (flag_at flags e) (pulses (drop (j + 1) clocks) (drop (j + 1) pulsed) e) (get_or pulsed j false) (at == e) up
+    ∙ sym (ap (λ (x : Bool). flag_at flags e || x) (pulses_front clocks pulsed j e a b)) ∙ before
+
+-- ---- the start
+
+pub down_all : (count e : ℕ) → flag_at (replicate count false) e ≡ false
+down_all zero e = refl
+down_all (suc count) zero = refl
+down_all (suc count) (suc e) = down_all count e
+
+pub unknown_all : (count e : ℕ) → value_at (replicate count Unknown) e ≡ Unknown
+unknown_all zero e = refl
+unknown_all (suc count) zero = refl
+unknown_all (suc count) (suc e) = unknown_all count e
+
+one_front : (clocks : List NetId) (j e : ℕ) → j < length clocks → is_one_of (drop j clocks) e ≡ ((get_or clocks j (record { 0 = 0 })).0 == e) || is_one_of (drop (j + 1) clocks) e
+one_front clocks j e a = rw (add-one) (λ i. is_one_of (drop-cons clocks j (record { 0 = 0 }) a i) e)
+
+one_hit : (f r t : Bool) → t ≡ true → (true || r) ≡ (f || (t || r))
+one_hit true r t q = refl
+one_hit false r true q = refl
+one_hit false r false q = absurd cc
+
+one_miss : (f r t : Bool) → t ≡ false → (f || r) ≡ (f || (t || r))
+one_miss f r false q = refl
+one_miss f r true q = absurd cc
+
+pub flag_more : (clocks : List NetId) (flags : List Bool) (j e : ℕ) (all : Bool) → j < length clocks → (get_or clocks j (record { 0 = 0 })).0 < length flags → (flag_at flags e || is_one_of (drop j clocks) e) ≡ all →
+    (flag_at (slice_set flags (get_or clocks j (record { 0 = 0 })).0 true) e || is_one_of (drop (j + 1) clocks) e) ≡ all
+flag_more clocks flags j e all a live before =
+    let at : ℕ = (get_or clocks j (record { 0 = 0 })).0 in
+    let rest : Bool = is_one_of (drop (j + 1) clocks) e in
+    let whole : (flag_at flags e || ((at == e) || rest)) ≡ all = sym (ap (λ (x : Bool). flag_at flags e || x) (one_front clocks j e a)) ∙ before in
+    elim (eqb_tells at e) [
+      | inl q ↦ (let F : ℕ → Bool = λ n. flag_at (slice_set flags at true) n in
+          ap (λ (x : Bool). x || rest) (sym (ap F q.1) ∙ get_or-set_same flags at true false live) ∙ one_hit (flag_at flags e) rest (at == e) q.0 ∙ whole)
+      | inr q ↦ (let ne : e ≢ at = λ p. q.1 (sym p) in
+          ap (λ (x : Bool). x || rest) (get_or-set_other flags at e true false ne) ∙ one_miss (flag_at flags e) rest (at == e) q.0 ∙ whole)
+    ]
+
+pub flag_end : (clocks : List NetId) (flags : List Bool) (j e : ℕ) (all : Bool) → length clocks ≤ j → (flag_at flags e || is_one_of (drop j clocks) e) ≡ all → flag_at flags e ≡ all
+flag_end clocks flags j e all past before =
+    or_nothing (flag_at flags e) ∙ sym (ap (λ (l : List NetId). flag_at flags e || is_one_of l e) (drop_all j clocks past)) ∙ before where
+      or_nothing : (f : Bool) → f ≡ (f || false)
+      or_nothing true = refl
+      or_nothing false = refl
+
+pub one_among : (clocks : List NetId) (e : ℕ) → is_one_of clocks e ≡ true → Among clocks (length clocks) e
+one_among [] e h = absurd cc
+one_among (clock ∷ clocks) e h = elim (eqb_tells clock.0 e) [
+  | inl q ↦ record { place = 0; before = omega arith; here = q.1 }
+  | inr q ↦ (let rest = one_among clocks e (skip (clock.0 == e) (is_one_of clocks e) q.0 h) in
+      record { place = suc rest.place; before = (let less = rest.before in omega arith); here = rest.here })
+] where
+  skip : (t r : Bool) → t ≡ false → (t || r) ≡ true → r ≡ true
+  skip false r p u = u
+  skip true r p u = absurd cc
+
+-- the flagged nets are the clocks
+pub same_ports : (flags : List Bool) (clocks : List NetId) → ((e : ℕ) → flag_at flags e ≡ is_one_of clocks e) → ports_by flags ≡ ports_of clocks
+same_ports flags clocks same = λ i. record { is_clock = λ e. same e i; is_reset = λ e. not (same e i) }

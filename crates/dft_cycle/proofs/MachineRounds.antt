@@ -1,0 +1,132 @@
+-- The calls of the machine for a vector come to its round.
+use Rattle.std.proofs.Common.{ℕ, Bool, true, false, List, ◌≡◌, ◌==◌, inl, inr, Option, None, Some, refl, sym, ap, ◌∙◌, subst}
+use Rattle.std.specs.Prelude.{if◌then◌else◌}
+use Rattle.std.proofs.lemmas.Bool.Decides.{eqb_tells}
+use Rattle.dft_base.specs.declared.tri.Tri.{Tri}
+use Rattle.dft_base.specs.declared.tri.Tri.TheVariants.{Zero, One, Unknown}
+use Rattle.dft_cells.specs.FlipFlops.{tri_forced}
+use Rattle.dft_netlist.specs.Logic.{Logic, Force}
+use Rattle.dft_netlist.specs.Settled.{TriSources, value_from, IsTriSettled}
+use Rattle.dft_cycle.specs.Cycle.{Pulse, tri_forced_by, tri_taken_by, next_value, after_pulse, IsLeast, pulse_of, strobe_sources, Round}
+use Rattle.dft_cycle.specs.Machine.{Machine, value_at, logic, acted, at_strobe, pulses, pulse_from}
+use Rattle.dft_cycle.specs.MachineLaws.{IsForced, StartIsForced, SetStands, CallsAreRound}
+
+-- the same design has the same logic
+same_logic : (m n : Machine) → n.netlist ≡ m.netlist → n.clocks ≡ m.clocks → logic n ≡ logic m
+unfolding logic
+same_logic m n e f = λ i. logic (record { netlist = e i; clocks = f i; inputs = m.inputs; cells = m.cells; shown = m.shown })
+
+unknown_stays : (value : Bool) → tri_forced value Unknown Unknown ≡ Unknown
+unknown_stays true = refl
+unknown_stays false = refl
+
+forced_twice : (value : Bool) (pin bit : Tri) → tri_forced value pin (tri_forced value pin bit) ≡ tri_forced value pin bit
+forced_twice true Zero Zero = refl
+forced_twice true Zero One = refl
+forced_twice true Zero Unknown = refl
+forced_twice true One Zero = refl
+forced_twice true One One = refl
+forced_twice true One Unknown = refl
+forced_twice true Unknown Zero = refl
+forced_twice true Unknown One = refl
+forced_twice true Unknown Unknown = refl
+forced_twice false Zero Zero = refl
+forced_twice false Zero One = refl
+forced_twice false Zero Unknown = refl
+forced_twice false One Zero = refl
+forced_twice false One One = refl
+forced_twice false One Unknown = refl
+forced_twice false Unknown Zero = refl
+forced_twice false Unknown One = refl
+forced_twice false Unknown Unknown = refl
+
+by_twice : (f : Option Force) (ports : ℕ → Tri) (bit : Tri) → tri_forced_by f ports (tri_forced_by f ports bit) ≡ tri_forced_by f ports bit
+by_twice None ports bit = refl
+by_twice (Some f) ports bit = forced_twice f.value (ports f.port) bit
+
+unknown_by : (f : Option Force) (ports : ℕ → Tri) → ((k : ℕ) → ports k ≡ Unknown) → Unknown ≡ tri_forced_by f ports Unknown
+unknown_by None ports all = refl
+unknown_by (Some f) ports all = sym (unknown_stays f.value) ∙ sym (ap (λ (t : Tri). tri_forced f.value t Unknown) (all f.port))
+
+pub start_forced : StartIsForced
+start_forced n clocks m is =
+    let forced : IsForced m = λ c.
+    (let f = ((logic m).cell c).force in
+    let P : Tri → Type 0 = λ t. t ≡ tri_forced_by f (value_at m.inputs) t in
+    subst P (sym (is.cells c)) (unknown_by f (value_at m.inputs) is.inputs)) in
+    (forced, record { netlist = refl; clocks = refl; cells = forced })
+
+-- ---- an input is set
+
+other_port : (f : Force) (net : ℕ) (value t : Tri) (new old : ℕ → Tri) → ((k : ℕ) → (k ≡ net → ⊥) → new k ≡ old k) → new net ≡ value → (was : Tri) → t ≡ tri_forced f.value (old f.port) was → (old net ≡ old net) →
+    (f.port ≡ net → t ≡ was) → (if f.port == net then tri_forced f.value value t else t) ≡ tri_forced f.value (new f.port) was
+other_port f net value t new old others input was is same kept = elim (eqb_tells f.port net) [
+  | inl q ↦ ap (λ (b : Bool). if b then tri_forced f.value value t else t) q.0 ∙ ap (λ (u : Tri). tri_forced f.value value u) (kept q.1)
+      ∙ ap (λ (u : Tri). tri_forced f.value u was) (sym input ∙ sym (ap new q.1))
+  | inr q ↦ ap (λ (b : Bool). if b then tri_forced f.value value t else t) q.0 ∙ is ∙ ap (λ (u : Tri). tri_forced f.value u was) (sym (others f.port q.1))
+]
+
+set_cell : (f : Option Force) (net : ℕ) (value t : Tri) (new old before : ℕ → Tri) → ((k : ℕ) → (k ≡ net → ⊥) → new k ≡ old k) → new net ≡ value → old net ≡ before net → (was : Tri) →
+    was ≡ tri_forced_by f before was → t ≡ tri_forced_by f old was → acted f net value t ≡ tri_forced_by f new was
+set_cell None net value t new old before others input unset was forced is = is
+set_cell (Some f) net value t new old before others input unset was forced is =
+    other_port f net value t new old others input was is refl (λ at. is ∙ ap (λ (u : Tri). tri_forced f.value u was) (ap old at ∙ unset ∙ sym (ap before at)) ∙ sym forced)
+
+pub set_stands : SetStands
+set_stands start m after net value forced stands unset is =
+    let same = same_logic start m stands.netlist stands.clocks in
+    let P : Logic → Type 0 = λ l. (c : ℕ) → value_at after.cells c ≡ acted (l.cell c).force net value (value_at m.cells c) in
+    let each = subst P same is.cells in
+    record {
+      netlist = is.netlist ∙ stands.netlist;
+      clocks = is.clocks ∙ stands.clocks;
+      cells = λ c. each c ∙ set_cell ((logic start).cell c).force net value (value_at m.cells c) (value_at after.inputs) (value_at m.inputs) (value_at start.inputs) is.others is.input unset
+          (value_at start.cells c) (forced c) (stands.cells c);
+    }
+
+-- ---- a vector
+
+after_forced : (l : Logic) (p : Pulse) (view : ℕ → ℕ → Tri) (c : ℕ) (up : Bool) → p.pulsed (l.cell c).domain ≡ up → p.old c ≡ tri_forced_by (l.cell c).force p.ports (p.old c) →
+    (if up then next_value l p view c else p.old c) ≡ tri_forced_by (l.cell c).force p.ports (if up then next_value l p view c else p.old c)
+after_forced l p view c true e old = sym (by_twice (l.cell c).force p.ports (tri_taken_by (l.cell c).scan (value_from (view (l.cell c).domain)) (value_from (view (l.cell c).domain) (l.cell c).input)))
+after_forced l p view c false e old = old
+
+pub calls_round : CallsAreRound
+calls_round start set strobed after x pulsed stands ports ups strobe pulse =
+    let l : Logic = logic start in
+    let one = same_logic start set stands.netlist stands.clocks in
+    let two = same_logic start strobed (strobe.netlist ∙ stands.netlist) (strobe.clocks ∙ stands.clocks) in
+    let three = same_logic start after (pulse.netlist ∙ strobe.netlist ∙ stands.netlist) (pulse.clocks ∙ strobe.clocks ∙ stands.clocks) in
+    let old : ℕ → Tri = value_at start.cells in
+    let p : Pulse = pulse_of l x old in
+    let inputs : value_at set.inputs ≡ x.ports = λ i k. ports k i in
+    let cell : (c : ℕ) → value_at set.cells c ≡ p.old c = λ c. stands.cells c ∙ ap (λ (f : ℕ → Tri). tri_forced_by (l.cell c).force f (old c)) inputs in
+    let shown : ℕ → Tri = value_at strobed.shown in
+    let from : at_strobe set shown ≡ strobe_sources l x old shown = λ i. record { ports = inputs i; clocks = λ e. Zero; flops = λ c. cell c i; lockups = λ c e source. value_from shown source } in
+    let S : TriSources → Type 0 = λ t. IsTriSettled l t shown in
+    let T : Logic → Type 0 = λ k. IsTriSettled k (at_strobe set shown) shown in
+    let q : Pulse = pulse_from strobed pulsed in
+    let qp : q ≡ p = λ i. record {
+      ports = (ap value_at strobe.inputs ∙ inputs) i;
+      pulsed = λ e. (ap (λ (cs : _). pulses cs pulsed e) strobe.clocks ∙ ups e) i;
+      old = λ c. (ap (λ (cs : List Tri). value_at cs c) strobe.cells ∙ cell c) i;
+    } in
+    let L : Pulse → Type 0 = λ k. IsLeast l k pulse.poss pulse.view in
+    let M : Logic → Type 0 = λ k. IsLeast k q pulse.poss pulse.view in
+    let r : Round = record { strobe = shown; poss = pulse.poss; view = pulse.view } in
+    let A : Logic → Type 0 = λ k. (c : ℕ) → value_at after.cells c ≡ after_pulse k q pulse.view c in
+    let B : Pulse → Type 0 = λ k. (c : ℕ) → value_at after.cells c ≡ after_pulse l k pulse.view c in
+    let cells : (c : ℕ) → value_at after.cells c ≡ after_pulse l p pulse.view c = subst B qp (subst A two pulse.cells) in
+    let kept : value_at after.inputs ≡ x.ports = ap value_at (pulse.inputs ∙ strobe.inputs) ∙ inputs in (
+      r,
+      (
+        record { strobe = subst S from (subst T one strobe.settled); least = subst L qp (subst M two pulse.least) },
+        refl,
+        cells,
+        (λ c.
+            (let K : Logic → Type 0 = λ k. value_at after.cells c ≡ tri_forced_by (k.cell c).force (value_at after.inputs) (value_at after.cells c) in
+            let N : (ℕ → Tri) → Type 0 = λ f. value_at after.cells c ≡ tri_forced_by (l.cell c).force f (value_at after.cells c) in
+            let C : Tri → Type 0 = λ t. t ≡ tri_forced_by (l.cell c).force x.ports t in
+            subst K (sym three) (subst N (sym kept) (subst C (sym (cells c)) (after_forced l p pulse.view c (p.pulsed (l.cell c).domain) refl (sym (by_twice (l.cell c).force x.ports (old c)))))))),
+      ),
+    )

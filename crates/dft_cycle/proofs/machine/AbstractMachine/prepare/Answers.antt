@@ -1,0 +1,49 @@
+-- The machine's circuit is the design's.
+use Rattle.std.proofs.Common.{ℕ, Bool, ◌≡◌, ◌∙◌, Some, ap, sym, subst, length, slice_get, List, arith}
+use Rattle.std.proofs.lemmas.List.{length-replicate}
+use Rattle.std.specs.Vec.{with_items}
+use Rattle.dft_netlist.specs.declared.ids.NetId.{NetId}
+use Rattle.dft_netlist.specs.Logic.{Ports, Logic, logic_of}
+use Rattle.dft_cycle.specs.Machine.{logic, is_one_of}
+use Rattle.dft_cycle.specs.Circuit.{flag_at}
+use Rattle.dft_cycle.proofs.MachineLemmas.{refilled, filled, one_among, same_ports}
+use Rattle.dft_cycle.proofs.machine.AbstractMachine.prepare.Goals as goal
+
+pub invariant_of-result : goal.invariant_of-result
+unfolding logic
+invariant_of-result c =
+    let n = c.args.design.now in
+    let x = c.in_ok-circuit.circuit in
+    let is = c.in_ok-circuit.ensures in
+    let clocks = c.in_ok-clocks.clocks.items in
+    let pulsed = c.in_ok-pulsed.pulsed in
+    let lent : c.deref_mut.result.now ≡ pulsed.items = c.deref_mut.ensures.value in
+    let read : c.deref.result.now ≡ (with_items pulsed c.flag_clocks.new.flags).items = c.deref.ensures.value in
+    let flags : c.deref.result.now ≡ c.flag_clocks.new.flags = read ∙ filled pulsed c.flag_clocks.new.flags c.deref_mut.result.now c.flag_clocks.auto.flags lent in
+    let named : clocks ≡ c.args.clocks.now = c.in_ok-clocks.ensures.items in
+    let same : (e : ℕ) → flag_at c.deref.result.now e ≡ is_one_of clocks e =
+    λ e. ap (λ (l : List Bool). flag_at l e) flags ∙ c.flag_clocks.ensures e ∙ ap (λ (l : List NetId). is_one_of l e) (sym named) in
+    let L : Ports → Logic = logic_of n in
+    let nets : length x.ops.items ≡ length n.nets = is.nets in
+    let count = c.net_count-nets.ensures.count in
+    let cells = c.len-cells.ensures ∙ x.flops.ok.0 in
+    let down : length pulsed.items ≡ length n.nets = ap length c.in_ok-pulsed.ensures ∙ length-replicate _ _ ∙ count in
+    let marks : length (with_items pulsed c.flag_clocks.new.flags).items ≡ length n.nets = refilled pulsed c.flag_clocks.new.flags ∙ down in
+    record {
+      circuit = is.circuit;
+      compiled = ap L (sym (same_ports c.deref.result.now clocks same)) ∙ is.compiled;
+      owned = λ k e source h. one_among clocks e (sym (same e) ∙ is.clocked k e source h);
+      live = λ place clock at.
+          (let S : List NetId → Type 0 = λ l. slice_get l place ≡ Some clock in
+          let less = c.requires place clock (subst S named at) in
+          omega arith);
+      nets = nets;
+      pulsed = marks ∙ sym nets;
+      inputs = ap length c.in_ok-inputs.ensures ∙ length-replicate _ _ ∙ count ∙ sym nets;
+      shown = ap length c.in_ok-shown.ensures ∙ length-replicate _ _ ∙ count ∙ sym nets;
+      values = ap length c.in_ok-values.ensures ∙ length-replicate _ _ ∙ count ∙ sym nets;
+      cells = ap length c.in_ok-bits.ensures ∙ length-replicate _ _ ∙ cells;
+      poss = ap length c.in_ok-poss.ensures ∙ length-replicate _ _ ∙ cells;
+      next = ap length c.in_ok-next.ensures ∙ length-replicate _ _ ∙ cells;
+      held = ap length c.in_ok-held.ensures ∙ length-replicate _ _ ∙ cells;
+    }

@@ -1,0 +1,10 @@
+-- The flip-flops before this one have their values.
+use Rattle.std.proofs.Common.{map}
+use Rattle.std.specs.Prelude.{if◌then◌else◌}
+use Rattle.dft_cycle.specs.Machine.{value_at}
+use Rattle.dft_cycle.specs.Circuit.{cell_of, cell_at, flag_at}
+use Rattle.dft_cycle.proofs.Writings.{Written}
+use Rattle.dft_cycle.proofs.machine.take.Given as goal
+
+abbrev pub invariant-loop-place : goal.invariant-loop-place
+invariant-loop-place l = Written l.initial.cells l.cells (λ c old. if flag_at l.pulsed (cell_at (map cell_of l.flops) c).domain then value_at l.next c else old) l.place

@@ -1,0 +1,19 @@
+-- The map is least, and its next values are there, where a turn changes nothing.
+use Rattle.std.proofs.Common.{refl}
+use Rattle.dft_cycle.specs.Circuit.{logic_at, pulse_at}
+use Rattle.dft_cycle.proofs.Risings.{reach_start, reach_more, reach_least}
+use Rattle.dft_cycle.proofs.rounds.find_least.Goals as goal
+
+pub loop-init : goal.loop-init
+loop-init c = reach_start (logic_at c.args.circuit.now) (pulse_at c.args.pulse) c.args.poss.now c.args.pulse.old.now c.requires.poss refl
+
+pub loop-preserved : goal.loop-preserved
+loop-preserved c = reach_more (logic_at c.args.circuit.now) (pulse_at c.args.pulse) c.loop.poss c.turn.new.poss c.loop.invariant c.turn.ensures.above c.turn.ensures.below
+
+pub returns-clause-least : goal.returns-clause-least
+returns-clause-least c = λ view views.
+    (let reached = reach_more (logic_at c.args.circuit.now) (pulse_at c.args.pulse) c.loop.poss c.turn.new.poss c.loop.invariant c.turn.ensures.above c.turn.ensures.below in
+    reach_least (logic_at c.args.circuit.now) (pulse_at c.args.pulse) c.turn.new.poss c.turn.new.next view reached views (c.turn.ensures.done c.loop-test.false view views))
+
+pub returns-clause-next : goal.returns-clause-next
+returns-clause-next c = λ view views. c.turn.ensures.done c.loop-test.false view views

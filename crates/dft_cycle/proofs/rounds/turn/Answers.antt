@@ -1,0 +1,28 @@
+-- A turn stays below all closed maps, and one that changes nothing has the next values.
+use Rattle.std.proofs.Common.{List, ◌≡◌, ◌∙◌, subst}
+use Rattle.dft_base.specs.declared.tri.Tri.{Tri}
+use Rattle.dft_cycle.specs.Cycle.{AreViews}
+use Rattle.dft_cycle.specs.Machine.{value_at}
+use Rattle.dft_cycle.specs.Circuit.{logic_at, pulse_at}
+use Rattle.dft_cycle.proofs.Risings.{turn_above, turn_below, turn_done}
+use Rattle.dft_cycle.proofs.rounds.turn.Goals as goal
+
+pub returns-clause-above : goal.returns-clause-above
+unfolding logic_at
+returns-clause-above c =
+    turn_above c.args.circuit.now (pulse_at c.args.pulse) c.next_values.new.next c.args.poss.now c.raise.new.poss c.requires.poss c.raise.auto.poss (rw c.deref.ensures.value at c.raise.ensures.each)
+
+pub returns-clause-below : goal.returns-clause-below
+unfolding logic_at
+returns-clause-below c =
+    turn_below c.args.circuit.now (pulse_at c.args.pulse) c.args.clocks.now c.next_values.new.next c.args.poss.now c.raise.new.poss c.requires.circuit c.requires.poss c.raise.auto.poss
+    (rw c.deref.ensures.value at c.raise.ensures.each) c.requires.pulsing (λ view views. c.next_values.ensures view views (c.hold_lockups.ensures view views))
+
+pub returns-clause-done : goal.returns-clause-done
+unfolding logic_at
+returns-clause-done c = λ same view views.
+    (let kept : c.raise.new.poss ≡ c.args.poss.now = c.raise.ensures.same same in
+    let P : List Tri → Type 0 = λ l. AreViews (logic_at c.args.circuit.now) (pulse_at c.args.pulse) (value_at l) view in
+    let before = subst P kept views in
+    turn_done c.args.circuit.now (pulse_at c.args.pulse) c.args.clocks.now c.next_values.new.next c.args.poss.now c.raise.new.poss view c.requires.poss (c.next_values.auto.next ∙ c.requires.next)
+    (rw c.deref.ensures.value at c.raise.ensures.each) c.requires.pulsing kept (c.next_values.ensures view before (c.hold_lockups.ensures view before)))

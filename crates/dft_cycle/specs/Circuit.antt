@@ -1,0 +1,127 @@
+-- A design made ready for settling: what each net takes its value from, and the flip-flop of each instance.
+use Rattle.std.specs.Prelude.{ℕ, Bool, false, ◌≡◌, ◌<◌, List, [], ◌∷◌, map, length, Option, None, Some, slice_index_or, option_map}
+use Rattle.std.specs.List.{AllByRecursion}
+use Rattle.dft_base.specs.declared.tri.Tri.{Tri}
+use Rattle.dft_base.specs.declared.tri.Tri.TheVariants.{Unknown}
+use Rattle.dft_cells.specs.WellFormed.{TakesInputs}
+use Rattle.dft_netlist.specs.Drivers.{Source}
+use Rattle.dft_netlist.specs.Drivers as drivers
+use Rattle.dft_netlist.specs.Logic.{Logic, Meaning, Cell, Scan, Force, reads, no_cell}
+use Rattle.dft_netlist.specs.Logic as meanings
+use Rattle.dft_netlist.specs.Settled.{TriSources, value_from}
+use Rattle.dft_netlist.specs.Orders.{Has, numbers_of}
+use Rattle.dft_cycle.specs.declared.circuit.Operand.{Operand}
+use Rattle.dft_cycle.specs.declared.circuit.Operand.TheVariants.{Net, Tied, Loose}
+use Rattle.dft_cycle.specs.declared.circuit.Op.{Op}
+use Rattle.dft_cycle.specs.declared.circuit.Op.TheVariants.{Input, Clock, Gate, Joined, Flop, Lockup, Free}
+use Rattle.dft_cycle.specs.declared.circuit.ScanPins.{ScanPins}
+use Rattle.dft_cycle.specs.declared.circuit.Acting.{Acting}
+use Rattle.dft_cycle.specs.declared.circuit.FlipFlop.{FlipFlop}
+use Rattle.dft_cycle.specs.declared.circuit.Circuit.{Circuit}
+use Rattle.dft_cycle.specs.declared.circuit.Latch.{Latch}
+use Rattle.dft_cycle.specs.declared.settling.Pulse.{Pulse}
+use Rattle.dft_cycle.specs.declared.settling.View.{View}
+use Rattle.dft_cycle.specs.Cycle.{view_sources}
+use Rattle.dft_cycle.specs.Cycle as Cycle
+use Rattle.dft_cycle.specs.Machine.{value_at}
+
+-- ---- what the parts stand for
+
+abbrev pub source_at : Operand → Source
+source_at (Net net) = drivers.Net net.0
+source_at (Tied bit) = drivers.Tied bit
+source_at (Loose instance pin) = drivers.Loose instance.0 pin
+
+abbrev pub meaning : Op → Meaning
+meaning Input = meanings.Input
+meaning Clock = meanings.Clock
+meaning (Gate kind inputs) = meanings.Gate kind (map source_at inputs)
+meaning (Joined source) = meanings.Joined (source_at source)
+meaning (Flop instance inverted) = meanings.Flop instance.0 inverted
+meaning (Lockup instance domain source) = meanings.Lockup instance.0 domain.0 (source_at source)
+meaning Free = meanings.Free
+
+abbrev pub scan_at : Option ScanPins → Option Scan
+scan_at None = None
+scan_at (Some pins) = Some (record { enable = source_at pins.enable; input = source_at pins.input })
+
+abbrev pub force_at : Option Acting → Option Force
+force_at None = None
+force_at (Some acting) = Some (record { port = acting.port.0; value = acting.value })
+
+abbrev pub cell_of : FlipFlop → Cell
+cell_of f = record { domain = f.domain.0; input = source_at f.input; scan = scan_at f.scan; force = force_at f.force }
+
+-- ---- the circuit's logic
+
+abbrev pub op_at : List Op → ℕ → Op
+op_at ops net = slice_index_or ops net Free
+
+-- past the end there is no cell
+abbrev pub cell_at : List Cell → ℕ → Cell
+cell_at cells c = slice_index_or cells c (no_cell c)
+
+-- the domain and the input of the lock-up of an instance
+abbrev pub latch_of : Option Latch → Option (ℕ × Source)
+latch_of None = None
+latch_of (Some latch) = Some (latch.domain.0, source_at latch.input)
+
+abbrev pub latch_at : List (Option Latch) → ℕ → Option (ℕ × Source)
+latch_at latches c = latch_of (slice_index_or latches c None)
+
+unfoldable pub logic_at : Circuit → Logic
+logic_at x = record { net = λ net. meaning (op_at x.ops.items net); cell = λ c. cell_at (map cell_of x.flops.items) c }
+
+-- ---- what every circuit keeps
+
+-- a gate has as many inputs as it takes
+abbrev pub Fits : Op → Type 0
+Fits (Gate kind inputs) = TakesInputs kind (length inputs)
+Fits Input = Unit {0}
+Fits Clock = Unit {0}
+Fits (Joined source) = Unit {0}
+Fits (Flop instance inverted) = Unit {0}
+Fits (Lockup instance domain source) = Unit {0}
+Fits Free = Unit {0}
+
+-- each of these nets is new, and comes after the nets that its value is settled from; the others came before
+abbrev pub AreOrdered : List Op → (before nets : List ℕ) → Type 0
+AreOrdered ops before [] = Unit {0}
+AreOrdered ops before (net ∷ nets) =
+    (Has before net → ⊥) × (net < length ops) × AllByRecursion (Has before) (reads (meaning (op_at ops net)))
+    × AreOrdered ops (net ∷ before) nets
+
+pub record IsCircuit (x : Circuit) : Type 0 where
+  pub fits : (net : ℕ) → Fits (op_at x.ops.items net)
+  pub whole : (net : ℕ) → net < length x.ops.items → Has (numbers_of x.order.items) net
+  pub after : AreOrdered x.ops.items [] (numbers_of x.order.items)
+  pub count : length x.order.items ≡ length x.ops.items
+  -- a lock-up's instance tells its domain and its input
+  pub latched : (net c e : ℕ) (source : Source) → meaning (op_at x.ops.items net) ≡ meanings.Lockup c e source → latch_at x.latches.items c ≡ Some (e, source)
+  pub instances : length x.latches.items ≡ length x.flops.items
+
+-- ---- settling
+
+-- what lock-ups show: what they are held at, by instance, or their input where they are wires
+abbrev pub lockup_from : Option (List Tri) → (values : ℕ → Tri) → (cell domain : ℕ) → Source → Tri
+lockup_from None values c e source = value_from values source
+lockup_from (Some held) values c e source = value_at held c
+
+-- the given sources, with these lock-ups
+abbrev pub leaves_from : TriSources → Option (List Tri) → (values : ℕ → Tri) → TriSources
+leaves_from base held values = record { ports = base.ports; clocks = base.clocks; flops = base.flops; lockups = lockup_from held values }
+
+-- a bit at a place of a list, and 0 past its end
+abbrev pub flag_at : List Bool → ℕ → Bool
+flag_at flags place = slice_index_or flags place false
+
+-- a pulse, from values by net and by instance
+abbrev pub pulse_at : Pulse → Cycle.Pulse
+pulse_at p = record { ports = value_at p.ports.now; pulsed = flag_at p.pulsed.now; old = value_at p.old.now }
+
+-- what the view of a domain is settled from, but for its lock-ups
+abbrev pub view_base : (cells : List Cell) → View → TriSources
+view_base cells v = view_sources (record { net = λ net. meanings.Free; cell = cell_at cells }) (pulse_at v.pulse) (value_at v.poss.now) (λ d net. Unknown) v.domain.0
+
+abbrev pub held_in : View → Option (List Tri)
+held_in v = option_map (λ h. h.now) v.held

@@ -1,0 +1,99 @@
+-- The abstract machine of replay: what it keeps, and what each call does to it.
+use Rattle.std.specs.Prelude.{ℕ, Bool, false, not, ◌≡◌, ◌<◌, ◌==◌, ◌&&◌, ◌||◌, List, [], ◌∷◌, Option, None, Some, slice_get, slice_index_or, if◌then◌else◌}
+use Rattle.dft_base.specs.declared.tri.Tri.{Tri}
+use Rattle.dft_base.specs.declared.tri.Tri.TheVariants.{Zero, Unknown}
+use Rattle.dft_cells.specs.FlipFlops.{tri_forced}
+use Rattle.dft_netlist.specs.declared.ids.NetId.{NetId}
+use Rattle.dft_netlist.specs.Netlist.{Netlist}
+use Rattle.dft_netlist.specs.Logic.{Ports, Logic, Force, logic_of}
+use Rattle.dft_netlist.specs.Settled.{TriSources, value_from, IsTriSettled}
+use Rattle.dft_cycle.specs.Cycle.{Pulse, IsLeast, after_pulse}
+
+pub record Machine : Type 0 where
+  pub netlist : Netlist
+  -- the input ports' bits that are clocks
+  pub clocks : List NetId
+  -- the value of each input port's bit, by its net
+  pub inputs : List Tri
+  -- the value of each flip-flop, by its instance
+  pub cells : List Tri
+  -- the value of each net at the last strobe
+  pub shown : List Tri
+
+-- the value at a place of a list, and Unknown past its end
+abbrev pub value_at : List Tri → ℕ → Tri
+value_at values place = slice_index_or values place Unknown
+
+-- whether a net is one of the clocks
+abbrev pub is_one_of : List NetId → ℕ → Bool
+is_one_of [] net = false
+is_one_of (clock ∷ clocks) net = (clock.0 == net) || is_one_of clocks net
+
+-- each of these is one of so many nets
+abbrev pub AreNets : (count : ℕ) → List NetId → Type 0
+AreNets count nets = (place : ℕ) (net : NetId) → slice_get nets place ≡ Some net → net.0 < count
+
+-- every input that is no clock may be a reset or a set
+abbrev pub ports_of : List NetId → Ports
+ports_of clocks = record { is_clock = is_one_of clocks; is_reset = λ net. not (is_one_of clocks net) }
+
+-- what the nets and flip-flops of the machine's design are
+unfoldable pub logic : Machine → Logic
+logic m = logic_of m.netlist (ports_of m.clocks)
+
+-- ---- the calls
+
+-- at the start nothing is known
+pub record IsStart (n : Netlist) (named : List NetId) (m : Machine) : Type 0 where
+  pub netlist : m.netlist ≡ n
+  pub clocks : m.clocks ≡ named
+  pub inputs : (net : ℕ) → value_at m.inputs net ≡ Unknown
+  pub cells : (cell : ℕ) → value_at m.cells cell ≡ Unknown
+  pub shown : (net : ℕ) → value_at m.shown net ≡ Unknown
+
+-- what an input that gets a value leaves in a flip-flop: it acts at once where it is the flip-flop's reset or set
+abbrev pub acted : Option Force → (net : ℕ) → (value : Tri) → Tri → Tri
+acted None net value bit = bit
+acted (Some force) net value bit = if force.port == net then tri_forced force.value value bit else bit
+
+-- one input has the value, and it acted on the flip-flops
+pub record IsSet (l : Logic) (m : Machine) (net : ℕ) (value : Tri) (after : Machine) : Type 0 where
+  pub netlist : after.netlist ≡ m.netlist
+  pub clocks : after.clocks ≡ m.clocks
+  pub input : value_at after.inputs net ≡ value
+  pub others : (other : ℕ) → (other ≡ net → ⊥) → value_at after.inputs other ≡ value_at m.inputs other
+  pub cells : (c : ℕ) → value_at after.cells c ≡ acted (l.cell c).force net value (value_at m.cells c)
+  pub shown : after.shown ≡ m.shown
+
+-- for a strobe clocks are 0, inputs and flip-flops have their values and lock-ups are wires
+abbrev pub at_strobe : Machine → (values : ℕ → Tri) → TriSources
+at_strobe m values = record { ports = value_at m.inputs; clocks = λ e. Zero; flops = value_at m.cells; lockups = λ c e source. value_from values source }
+
+-- the nets show their settled values
+pub record IsStrobed (l : Logic) (m after : Machine) : Type 0 where
+  pub netlist : after.netlist ≡ m.netlist
+  pub clocks : after.clocks ≡ m.clocks
+  pub inputs : after.inputs ≡ m.inputs
+  pub cells : after.cells ≡ m.cells
+  pub settled : IsTriSettled l (at_strobe m (value_at after.shown)) (value_at after.shown)
+
+-- whether the clock of a domain pulses: an entry for it is 1, where the entries are in the order of the clocks
+abbrev pub pulses : (clocks : List NetId) → (pulsed : List Bool) → ℕ → Bool
+pulses [] pulsed e = false
+pulses (clock ∷ clocks) [] e = false
+pulses (clock ∷ clocks) (up ∷ pulsed) e = (up && (clock.0 == e)) || pulses clocks pulsed e
+
+-- the pulse from the machine's values
+abbrev pub pulse_from : Machine → (pulsed : List Bool) → Pulse
+pulse_from m pulsed = record { ports = value_at m.inputs; pulsed = pulses m.clocks pulsed; old = value_at m.cells }
+
+-- the flip-flops of the pulsed domains have their next values at the least map
+pub record IsPulsed (l : Logic) (m : Machine) (pulsed : List Bool) (after : Machine) : Type 0 where
+  pub netlist : after.netlist ≡ m.netlist
+  pub clocks : after.clocks ≡ m.clocks
+  pub inputs : after.inputs ≡ m.inputs
+  pub shown : after.shown ≡ m.shown
+  pub poss : ℕ → Tri
+  pub view : ℕ → ℕ → Tri
+  pub least : IsLeast l (pulse_from m pulsed) poss view
+  pub cells : (c : ℕ) → value_at after.cells c ≡ after_pulse l (pulse_from m pulsed) view c

@@ -1,0 +1,26 @@
+-- What an `AbstractMachine` shows, and what holds of it.
+use Rattle.std.specs.Prelude.{ℕ, ◌≡◌, ◌<◌, Some, length, slice_get}
+use Rattle.dft_netlist.specs.declared.ids.NetId.{NetId}
+use Rattle.dft_cycle.specs.declared.machine.AbstractMachine.TheInside.{Inside}
+use Rattle.dft_cycle.specs.Machine.{Machine, logic}
+use Rattle.dft_cycle.specs.Circuit.{logic_at, IsCircuit}
+use Rattle.dft_cycle.specs.Views.{OwnsLatches}
+
+abbrev pub machine_of : Inside → Machine
+machine_of d = record { netlist = d.design.now; clocks = d.clocks.items; inputs = d.inputs.items; cells = d.cells.items; shown = d.shown.items }
+
+-- the circuit is the design's, and each list has a place for each net or instance
+pub record IsMachine (d : Inside) : Type 0 where
+  pub circuit : IsCircuit d.circuit
+  pub compiled : logic (machine_of d) ≡ logic_at d.circuit
+  pub owned : OwnsLatches d.circuit d.clocks.items
+  pub live : (place : ℕ) (clock : NetId) → slice_get d.clocks.items place ≡ Some clock → clock.0 < length d.pulsed.items
+  pub nets : length d.circuit.ops.items ≡ length d.design.now.nets
+  pub pulsed : length d.pulsed.items ≡ length d.circuit.ops.items
+  pub inputs : length d.inputs.items ≡ length d.circuit.ops.items
+  pub shown : length d.shown.items ≡ length d.circuit.ops.items
+  pub values : length d.values.items ≡ length d.circuit.ops.items
+  pub cells : length d.cells.items ≡ length d.circuit.flops.items
+  pub poss : length d.poss.items ≡ length d.circuit.flops.items
+  pub next : length d.next.items ≡ length d.circuit.flops.items
+  pub held : length d.held.items ≡ length d.circuit.flops.items

@@ -1,0 +1,88 @@
+-- How the views of a pulse are found: lock-ups by rounds, then next values.
+use Rattle.std.specs.Prelude.{ℕ, suc, Bool, true, false, ◌≡◌, ◌<◌, ◌==◌, List, [], ◌∷◌, Option, None, Some, length, slice_index_or, if◌then◌else◌}
+use Rattle.dft_base.specs.declared.tri.Tri.{Tri}
+use Rattle.dft_base.specs.declared.tri.Tri.TheVariants.{Zero, One, Unknown}
+use Rattle.dft_base.specs.Tri.{join, AboveTri}
+use Rattle.dft_netlist.specs.declared.ids.NetId.{NetId}
+use Rattle.dft_netlist.specs.Drivers.{Source}
+use Rattle.dft_netlist.specs.Logic.{Logic, Lockup, Cell}
+use Rattle.dft_netlist.specs.Settled.{value_from}
+use Rattle.dft_netlist.specs.Orders.{numbers_of}
+use Rattle.dft_cycle.specs.declared.circuit.Circuit.{Circuit}
+use Rattle.dft_cycle.specs.Cycle.{tri_forced_by, tri_taken_by, next_value, IsClosed}
+use Rattle.dft_cycle.specs.Cycle as Cycle
+use Rattle.dft_cycle.specs.Machine.{value_at}
+use Rattle.dft_cycle.specs.Circuit.{logic_at, latch_at, flag_at}
+
+-- ---- a flip-flop and a lock-up, from the values of a view
+
+-- what a flip-flop takes
+abbrev pub taken_at : Cell → (values : ℕ → Tri) → Tri
+taken_at cell values = tri_taken_by cell.scan (value_from values) (value_from values cell.input)
+
+-- its next value
+abbrev pub next_at : Cell → (ports values : ℕ → Tri) → Tri
+next_at cell ports values = tri_forced_by cell.force ports (taken_at cell values)
+
+-- its value after the view of a domain: its next value where the domain is its own
+abbrev pub next_by : Cell → (domain : ℕ) → (ports values : ℕ → Tri) → (old : Tri) → Tri
+next_by cell d ports values old = if cell.domain == d then next_at cell ports values else old
+
+-- what a lock-up is held at after the view of a domain: its input's value where the domain is its own
+abbrev pub held_by : Option (ℕ × Source) → (domain : ℕ) → (values : ℕ → Tri) → (old : Tri) → Tri
+held_by None d values old = old
+held_by (Some latch) d values old = if latch.0 == d then value_from values latch.1 else old
+
+-- ---- rounds over the domains
+
+-- one of the first clocks is this net
+pub record Among (clocks : List NetId) (count net : ℕ) : Type 0 where
+  pub place : ℕ
+  pub before : place < count
+  pub here : (slice_index_or clocks place (record { 0 = 0 })).0 ≡ net
+
+-- the place of each net in an order
+abbrev pub rank_from : (next : ℕ) → (rank : ℕ → ℕ) → List ℕ → ℕ → ℕ
+rank_from next rank [] = rank
+rank_from next rank (net ∷ nets) = rank_from (suc next) (λ k. if k == net then next else rank k) nets
+
+unfoldable pub rank_of : Circuit → ℕ → ℕ
+rank_of x = rank_from 0 (λ k. 0) (numbers_of x.order.items)
+
+-- lock-ups whose nets have lower ranks are held at their inputs in the views of their domains
+abbrev pub IsHeld : Circuit → (view : ℕ → ℕ → Tri) → (held : List Tri) → (rank : ℕ) → Type 0
+IsHeld x view held r = (net c e : ℕ) (source : Source) → (logic_at x).net net ≡ Lockup c e source → rank_of x net < r → value_at held c ≡ value_from (view e) source
+
+-- each lock-up's domain is one of these clocks
+abbrev pub OwnsLatches : Circuit → List NetId → Type 0
+OwnsLatches x clocks = (c e : ℕ) (source : Source) → latch_at x.latches.items c ≡ Some (e, source) → Among clocks (length clocks) e
+
+-- each flip-flop whose domain is pulsed and one of the first clocks has its next value
+abbrev pub HasNext : Circuit → Cycle.Pulse → (view : ℕ → ℕ → Tri) → List NetId → (count : ℕ) → (next : List Tri) → Type 0
+HasNext x p view clocks count next =
+    (c : ℕ) → c < length x.flops.items → p.pulsed ((logic_at x).cell c).domain ≡ true → Among clocks count ((logic_at x).cell c).domain → value_at next c ≡ next_value (logic_at x) p view c
+
+-- every domain that pulses is one of the clocks
+abbrev pub PulsesAmong : List Bool → List NetId → Type 0
+PulsesAmong pulsed clocks = (e : ℕ) → flag_at pulsed e ≡ true → Among clocks (length clocks) e
+
+-- ---- the least map
+
+abbrev pub is_known : Tri → Bool
+is_known Zero = true
+is_known One = true
+is_known Unknown = false
+
+-- the map, with the next value joined where the domain pulses
+abbrev pub raised_by : (up : Bool) → (next old : Tri) → Tri
+raised_by up next old = if up then join old next else old
+
+-- a map stays below all closed maps
+abbrev pub StaysBelow : Logic → Cycle.Pulse → (poss raised : List Tri) → Type 0
+StaysBelow l p poss raised =
+    (other : ℕ → Tri) (its : ℕ → ℕ → Tri) → IsClosed l p other its → ((c : ℕ) → AboveTri (other c) (value_at poss c)) → (c : ℕ) → AboveTri (other c) (value_at raised c)
+
+-- these are the next values of the pulsed domains' flip-flops, and the map is above them
+abbrev pub AreNext : Logic → Cycle.Pulse → (view : ℕ → ℕ → Tri) → (poss next : List Tri) → Type 0
+AreNext l p view poss next =
+    (c : ℕ) → p.pulsed (l.cell c).domain ≡ true → (value_at next c ≡ next_value l p view c) × AboveTri (value_at poss c) (next_value l p view c)

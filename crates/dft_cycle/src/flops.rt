@@ -1,0 +1,142 @@
+//! The next values of flip-flops, and the values that lock-ups are held at.
+
+ghost use Rattle.std.specs.Prelude.{◌≡◌, ℕ, ◌<◌, ◌==◌, length, map, true, false, if◌then◌else◌};
+ghost use Rattle.dft_base.specs.Tri.{join};
+ghost use Rattle.dft_cells.specs.FlipFlops.{tri_forced, tri_chosen};
+ghost use Rattle.dft_netlist.specs.Settled.{value_from};
+ghost use Rattle.dft_cycle.specs.Cycle.{tri_forced_by};
+ghost use Rattle.dft_cycle.specs.Machine as spec;
+ghost use Rattle.dft_cycle.specs.Circuit as circuits;
+ghost use Rattle.dft_cycle.specs.Circuit.{cell_of, cell_at, latch_at};
+ghost use Rattle.dft_cycle.specs.Views.{taken_at, next_at, next_by, held_by};
+
+use crate::circuit::{Acting, FlipFlop, Latch};
+use crate::settling::{flag_at, value_at};
+use dft_base::Tri;
+use dft_netlist::NetId;
+
+/// What a reset (value 0) or a set (value 1) leaves of a value, where its pin has this one.
+pub(crate) fn forced(value: bool, pin: Tri, bit: Tri) -> Tri
+    ensures { result ≡ tri_forced value pin bit }
+{
+    let forcing = if value { Tri::One } else { Tri::Zero };
+    match pin {
+        Tri::Zero => forcing,
+        Tri::One => bit,
+        Tri::Unknown => forcing.join(bit),
+    }
+}
+
+/// What a flip-flop takes: its scan input where its scan enable is 1, else its data input.
+fn chosen(enable: Tri, scan_in: Tri, data_in: Tri) -> Tri
+    ensures { result ≡ tri_chosen enable scan_in data_in }
+{
+    match enable {
+        Tri::Zero => data_in,
+        Tri::One => scan_in,
+        Tri::Unknown => data_in.join(scan_in),
+    }
+}
+
+/// What a reset or set leaves of a value, if there is one.
+fn forced_by(force: Option<Acting>, ports: &[Tri], bit: Tri) -> Tri
+    ensures { result ≡ tri_forced_by (circuits.force_at force) (spec.value_at ports.now) bit }
+{
+    match force {
+        Some(acting) => forced(acting.value, value_at(ports, acting.port.0), bit),
+        None => bit,
+    }
+}
+
+impl FlipFlop {
+    /// What it takes in the view with these values.
+    fn taken(&self, values: &[Tri]) -> Tri
+        ensures { result ≡ taken_at (circuits.cell_of self.now) (spec.value_at values.now) }
+    {
+        let data_in = self.input.value(values);
+        match self.scan {
+            Some(pins) => chosen(pins.enable.value(values), pins.input.value(values), data_in),
+            None => data_in,
+        }
+    }
+
+    /// Its next value in the view with these values.
+    fn next(&self, ports: &[Tri], values: &[Tri]) -> Tri
+        ensures { result ≡ next_at (circuits.cell_of self.now) (spec.value_at ports.now) (spec.value_at values.now) }
+    {
+        forced_by(self.force, ports, self.taken(values))
+    }
+}
+
+/// Its next value where its domain is this one, else the old value.
+fn next_value(flop: &FlipFlop, domain: NetId, ports: &[Tri], values: &[Tri], old: Tri) -> Tri
+    ensures { result ≡ next_by (cell_of flop.now) domain.0 (spec.value_at ports.now) (spec.value_at values.now) old }
+{
+    if flop.domain.0 == domain.0 {
+        flop.next(ports, values)
+    } else {
+        old
+    }
+}
+
+/// Each flip-flop of a domain takes its next value in the domain's view.
+pub(crate) fn take_next(
+    flops: &[FlipFlop],
+    domain: NetId,
+    ports: &[Tri],
+    values: &[Tri],
+    next: &mut [Tri],
+)
+    requires { length next.old ≡ length flops.now }
+    ensures { (c : ℕ) → c < length flops.now → spec.value_at next.new c ≡ next_by (cell_at (map cell_of flops.now) c) domain.0 (spec.value_at ports.now) (spec.value_at values.now) (spec.value_at next.old c) }
+{
+    for (place, flop) in flops.iter().enumerate() {
+        next[place] = next_value(flop, domain, ports, values, next[place]);
+    }
+}
+
+/// What a lock-up is held at after the view of a domain.
+fn held_value(latch: Option<Latch>, domain: NetId, values: &[Tri], old: Tri) -> Tri
+    ensures { result ≡ held_by (circuits.latch_of latch) domain.0 (spec.value_at values.now) old }
+{
+    match latch {
+        Some(latch) => if latch.domain.0 == domain.0 {
+            latch.input.value(values)
+        } else {
+            old
+        },
+        None => old,
+    }
+}
+
+/// Whether two values differ.
+pub(crate) fn differ(one: Tri, other: Tri) -> bool
+    ensures same { result ≡ false → one ≡ other }
+    ensures other { result ≡ true → one ≡ other → ⊥ }
+{
+    match (one, other) {
+        (Tri::Zero, Tri::Zero) | (Tri::One, Tri::One) | (Tri::Unknown, Tri::Unknown) => false,
+        _ => true,
+    }
+}
+
+/// Each lock-up of a domain is held at its input's value in the domain's view. Whether one changed.
+pub(crate) fn hold(
+    latches: &[Option<Latch>],
+    domain: NetId,
+    values: &[Tri],
+    held: &mut [Tri],
+) -> bool
+    requires { length held.old ≡ length latches.now }
+    ensures each { (c : ℕ) → c < length latches.now → spec.value_at held.new c ≡ held_by (latch_at latches.now c) domain.0 (spec.value_at values.now) (spec.value_at held.old c) }
+    ensures same { result ≡ false → held.new ≡ held.old }
+{
+    let mut changed = false;
+    for (place, latch) in latches.iter().enumerate() {
+        let old = held[place];
+        let value = held_value(*latch, domain, values, old);
+        held[place] = value;
+        changed = changed || differ(value, old);
+    }
+    changed
+}

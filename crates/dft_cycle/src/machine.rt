@@ -1,0 +1,232 @@
+//! The abstract machine of replay.
+
+ghost use Rattle.std.specs.Prelude.{◌≡◌, ℕ, ◌<◌, length, map, replicate, true, false, Some, slice_get, IfOk, if◌then◌else◌};
+ghost use Rattle.dft_cycle.specs.Machine.{logic, AreNets, is_one_of, IsStart, IsSet, IsStrobed, IsPulsed, pulses, acted};
+ghost use Rattle.dft_cycle.specs.Machine as spec;
+ghost use Rattle.dft_cycle.specs.Circuit.{cell_of, cell_at, force_at, flag_at as is_up};
+
+use crate::building::compile;
+use crate::circuit::{Acting, Circuit, FlipFlop};
+use crate::flops::forced;
+use crate::rounds::find_least;
+use crate::settling::{Pulse, View, flag_at, settle, value_at};
+use dft_base::Tri;
+use dft_netlist::{Design, NetId};
+use std::alloc::{AllocError, Global};
+use std::marker::Model;
+
+/// What is known of a design over test vectors: three-valued bits that stand above those of every run, whatever the
+/// order of the clocks' edges in a vector and the free bits. A clause sees it as a record of lists.
+#[derive(Drop)]
+pub struct AbstractMachine<'a> {
+    design: &'a Design,
+    clocks: Vec<NetId>,
+    circuit: Circuit,
+    inputs: Vec<Tri>,
+    cells: Vec<Tri>,
+    shown: Vec<Tri>,
+    pulsed: Vec<bool>,
+    values: Vec<Tri>,
+    poss: Vec<Tri>,
+    next: Vec<Tri>,
+    held: Vec<Tri>,
+}
+
+impl<'a> Model for AbstractMachine<'a> {
+    ghost use Rattle.dft_cycle.specs.Machine.{Machine};
+
+    ghost Value = { Machine };
+
+    ghost use Rattle.dft_cycle.specs.MachineShown.{machine_of, IsMachine};
+
+    ghost view = { machine_of };
+
+    ghost invariant = { IsMachine };
+}
+
+impl<'a> AbstractMachine<'a> {
+    /// The machine of a design whose clocks are these bits of input ports; every other input may be a reset or a set.
+    /// Nothing is known yet. The other calls take no memory.
+    pub fn prepare(
+        alloc: Global,
+        design: &'a Design,
+        clocks: &[NetId],
+    ) -> Result<AbstractMachine<'a>, AllocError>
+        requires { AreNets (length design.now.nets) clocks.now }
+        ensures { IfOk result (IsStart design.entry.now clocks.now) }
+    {
+        let nets = design.net_count() as usize;
+        let mut pulsed = lowered(alloc, nets)?;
+        flag_clocks(clocks, &mut pulsed);
+        let circuit = compile(alloc, design, &pulsed)?;
+        let clocks = Vec::from_slice(alloc, clocks)?;
+        let cells = circuit.flops.len();
+        let inputs = unknown(alloc, nets)?;
+        let shown = unknown(alloc, nets)?;
+        let values = unknown(alloc, nets)?;
+        let bits = unknown(alloc, cells)?;
+        let poss = unknown(alloc, cells)?;
+        let next = unknown(alloc, cells)?;
+        let held = unknown(alloc, cells)?;
+        Ok(AbstractMachine {
+            design,
+            clocks,
+            circuit,
+            inputs,
+            cells: bits,
+            shown,
+            pulsed,
+            values,
+            poss,
+            next,
+            held,
+        })
+    }
+
+    /// Sets the bit of an input port that is no clock; flip-flops that have it as their reset or set follow at once.
+    pub fn set(&mut self, net: NetId, value: Tri)
+        requires { net.0 < length self.old.netlist.nets }
+        ensures { IsSet (logic self.old) self.old net.0 value self.new }
+    {
+        self.inputs[net.0 as usize] = value;
+        act(&self.circuit.flops, net, value, &mut self.cells);
+    }
+
+    /// Settles all nets for a strobe: all clocks are 0.
+    pub fn strobe(&mut self)
+        ensures { IsStrobed (logic self.old) self.old self.new }
+    {
+        let pulse = Pulse {
+            ports: &self.inputs,
+            pulsed: &[],
+            old: &self.cells,
+        };
+        let view = View {
+            pulse,
+            domain: NetId(0),
+            poss: &self.cells,
+            held: None,
+        };
+        settle(&self.circuit, &view, &mut self.shown);
+    }
+
+    /// The value of this net at the last strobe, and `Unknown` before the first.
+    pub fn value(&self, net: NetId) -> Tri
+        ensures { result ≡ spec.value_at self.now.shown net.0 }
+    {
+        value_at(&self.shown, net.0)
+    }
+
+    /// Pulses some clocks, with an entry for each in their order: the flip-flops of their domains take what they may
+    /// take in any order of the edges.
+    pub fn pulse(&mut self, pulsed: &[bool])
+        requires { length pulsed.now ≡ length self.old.clocks }
+        ensures { IsPulsed (logic self.old) self.old pulsed.now self.new }
+    {
+        mark(&self.clocks, pulsed, &mut self.pulsed);
+        self.poss.as_mut_slice().copy_from_slice(&self.cells);
+        let pulse = Pulse {
+            ports: &self.inputs,
+            pulsed: &self.pulsed,
+            old: &self.cells,
+        };
+        find_least(
+            &self.circuit,
+            pulse,
+            &self.clocks,
+            &mut self.poss,
+            &mut self.held,
+            &mut self.values,
+            &mut self.next,
+        );
+        take(
+            &self.circuit.flops,
+            &self.pulsed,
+            &self.next,
+            &mut self.cells,
+        );
+    }
+}
+
+/// What an input that gets a value leaves in a flip-flop with this reset or set.
+fn acted_on(force: Option<Acting>, net: NetId, value: Tri, bit: Tri) -> Tri
+    ensures { result ≡ acted (force_at force) net.0 value bit }
+{
+    match force {
+        Some(acting) => if acting.port.0 == net.0 {
+            forced(acting.value, value, bit)
+        } else {
+            bit
+        },
+        None => bit,
+    }
+}
+
+/// An input that gets a value acts on the flip-flops that have it as their reset or set.
+fn act(flops: &[FlipFlop], net: NetId, value: Tri, cells: &mut [Tri])
+    requires { length cells.old ≡ length flops.now }
+    ensures { (c : ℕ) → c < length flops.now → spec.value_at cells.new c ≡ acted (cell_at (map cell_of flops.now) c).force net.0 value (spec.value_at cells.old c) }
+{
+    for (place, flop) in flops.iter().enumerate() {
+        cells[place] = acted_on(flop.force, net, value, cells[place]);
+    }
+}
+
+/// Flags the clocks that pulse.
+fn mark(clocks: &[NetId], pulsed: &[bool], flags: &mut [bool])
+    requires live { (place : ℕ) (clock : NetId) → slice_get clocks.now place ≡ Some clock → clock.0 < length flags.old }
+    requires entries { length pulsed.now ≡ length clocks.now }
+    ensures { (e : ℕ) → is_up flags.new e ≡ pulses clocks.now pulsed.now e }
+{
+    for flag in flags.iter_mut() {
+        *flag = false;
+    }
+    for (place, up) in pulsed.iter().enumerate() {
+        if *up {
+            flags[clocks[place].0 as usize] = true;
+        }
+    }
+}
+
+/// The flip-flops of the domains that pulse take their next values.
+fn take(flops: &[FlipFlop], pulsed: &[bool], next: &[Tri], cells: &mut [Tri])
+    requires cells { length cells.old ≡ length flops.now }
+    requires next { length next.now ≡ length flops.now }
+    ensures { (c : ℕ) → c < length flops.now → spec.value_at cells.new c ≡ (if is_up pulsed.now (cell_at (map cell_of flops.now) c).domain then spec.value_at next.now c else spec.value_at cells.old c) }
+{
+    for (place, flop) in flops.iter().enumerate() {
+        cells[place] = taken(flag_at(pulsed, flop.domain.0), next[place], cells[place]);
+    }
+}
+
+/// The next value where the domain pulses.
+fn taken(up: bool, next: Tri, old: Tri) -> Tri
+    ensures { result ≡ (if up then next else old) }
+{
+    if up { next } else { old }
+}
+
+/// So many values that nobody knows.
+fn unknown(alloc: Global, count: usize) -> Result<Vec<Tri>, AllocError>
+    ensures { IfOk result (λ values. values.items ≡ replicate count Tri.Unknown) }
+{
+    vec![in alloc; Tri::Unknown; count]
+}
+
+/// So many flags that are down.
+fn lowered(alloc: Global, count: usize) -> Result<Vec<bool>, AllocError>
+    ensures { IfOk result (λ flags. flags.items ≡ replicate count false) }
+{
+    vec![in alloc; false; count]
+}
+
+/// Flags the clocks.
+fn flag_clocks(clocks: &[NetId], flags: &mut [bool])
+    requires live { AreNets (length flags.old) clocks.now }
+    requires clear { flags.old ≡ replicate (length flags.old) false }
+    ensures { (e : ℕ) → is_up flags.new e ≡ is_one_of clocks.now e }
+{
+    for clock in clocks {
+        flags[clock.0 as usize] = true;
+    }
+}

@@ -1,0 +1,175 @@
+//! The views of a pulse: lock-ups by rounds over the domains, then the next values of flip-flops.
+
+ghost use Rattle.std.specs.Prelude.{◌≡◌, ℕ, suc, ◌<◌, length, map, count_by, true, false};
+ghost use Rattle.dft_base.specs.Tri.{AboveTri};
+ghost use Rattle.dft_cycle.specs.Cycle.{AreViews, IsLeast};
+ghost use Rattle.dft_cycle.specs.Machine as spec;
+ghost use Rattle.dft_cycle.specs.Circuit.{IsCircuit, logic_at, cell_of, cell_at, flag_at as is_up, pulse_at};
+ghost use Rattle.dft_cycle.specs.Views.{IsHeld, OwnsLatches, PulsesAmong, HasNext, raised_by, is_known, StaysBelow, AreNext};
+
+use crate::circuit::{Circuit, FlipFlop};
+use crate::flops::{differ, hold, take_next};
+use crate::settling::{Pulse, View, flag_at, settle};
+use dft_base::Tri;
+use dft_netlist::NetId;
+
+/// One round: each domain's lock-ups are held at their inputs in its view. Whether one changed.
+fn round(
+    circuit: &Circuit,
+    pulse: Pulse<'_>,
+    clocks: &[NetId],
+    poss: &[Tri],
+    held: &mut [Tri],
+    values: &mut [Tri],
+) -> bool
+    requires circuit { IsCircuit circuit.now }
+    requires held { length held.old ≡ length circuit.now.flops.items }
+    requires values { length values.old ≡ length circuit.now.ops.items }
+    requires owned { OwnsLatches circuit.now clocks.now }
+    ensures rises { (view : ℕ → ℕ → Tri) (r : ℕ) → AreViews (logic_at circuit.now) (pulse_at pulse.entry) (spec.value_at poss.now) view → IsHeld circuit.now view held.old r → IsHeld circuit.now view held.new (suc r) }
+    ensures same { result ≡ false → held.new ≡ held.old }
+{
+    let mut changed = false;
+    for clock in clocks {
+        let view = View {
+            pulse,
+            domain: *clock,
+            poss,
+            held: Some(held),
+        };
+        settle(circuit, &view, values);
+        let moved = hold(&circuit.latches, *clock, values, held);
+        changed = changed || moved;
+    }
+    changed
+}
+
+/// Holds all lock-ups at their inputs in the views of their domains: a round for each net at most, since each round
+/// gets one more level of them right.
+fn hold_lockups(
+    circuit: &Circuit,
+    pulse: Pulse<'_>,
+    clocks: &[NetId],
+    poss: &[Tri],
+    held: &mut [Tri],
+    values: &mut [Tri],
+)
+    requires circuit { IsCircuit circuit.now }
+    requires held { length held.old ≡ length circuit.now.flops.items }
+    requires values { length values.old ≡ length circuit.now.ops.items }
+    requires owned { OwnsLatches circuit.now clocks.now }
+    ensures { (view : ℕ → ℕ → Tri) → AreViews (logic_at circuit.now) (pulse_at pulse.entry) (spec.value_at poss.now) view → IsHeld circuit.now view held.new (length circuit.now.ops.items) }
+{
+    for _level in 0..values.len() {
+        if !round(circuit, pulse, clocks, poss, held, values) {
+            return;
+        }
+    }
+}
+
+/// The next values of the flip-flops of the pulsed domains, each in the view of its domain.
+fn next_values(
+    circuit: &Circuit,
+    pulse: Pulse<'_>,
+    clocks: &[NetId],
+    poss: &[Tri],
+    held: &[Tri],
+    values: &mut [Tri],
+    next: &mut [Tri],
+)
+    requires circuit { IsCircuit circuit.now }
+    requires values { length values.old ≡ length circuit.now.ops.items }
+    requires next { length next.old ≡ length circuit.now.flops.items }
+    ensures { (view : ℕ → ℕ → Tri) → AreViews (logic_at circuit.now) (pulse_at pulse.entry) (spec.value_at poss.now) view → IsHeld circuit.now view held.now (length circuit.now.ops.items) → HasNext circuit.now (pulse_at pulse.entry) view clocks.now (length clocks.now) next.new }
+{
+    for clock in clocks {
+        if flag_at(pulse.pulsed, clock.0) {
+            let view = View {
+                pulse,
+                domain: *clock,
+                poss,
+                held: Some(held),
+            };
+            settle(circuit, &view, values);
+            take_next(&circuit.flops, *clock, pulse.ports, values, next);
+        }
+    }
+}
+
+/// The map with the next value where its domain pulses.
+fn raised(up: bool, next: Tri, old: Tri) -> Tri
+    ensures { result ≡ raised_by up next old }
+{
+    if up { old.join(next) } else { old }
+}
+
+/// Joins the next values of the flip-flops of the pulsed domains to the map. Whether one changed.
+fn raise(flops: &[FlipFlop], pulsed: &[bool], next: &[Tri], poss: &mut [Tri]) -> bool
+    requires poss { length poss.old ≡ length flops.now }
+    requires next { length next.now ≡ length flops.now }
+    ensures each { (c : ℕ) → c < length flops.now → spec.value_at poss.new c ≡ raised_by (is_up pulsed.now (cell_at (map cell_of flops.now) c).domain) (spec.value_at next.now c) (spec.value_at poss.old c) }
+    ensures same { result ≡ false → poss.new ≡ poss.old }
+    ensures fewer { result ≡ true → count_by is_known poss.new < count_by is_known poss.old }
+{
+    let mut changed = false;
+    for (place, flop) in flops.iter().enumerate() {
+        let old = poss[place];
+        let value = raised(flag_at(pulsed, flop.domain.0), next[place], old);
+        let moved = differ(value, old);
+        poss[place] = value;
+        changed = changed || moved;
+    }
+    changed
+}
+
+/// One turn of the search for the least map: the next values at the map, joined to it. Whether it changed.
+fn turn(
+    circuit: &Circuit,
+    pulse: Pulse<'_>,
+    clocks: &[NetId],
+    poss: &mut [Tri],
+    held: &mut [Tri],
+    values: &mut [Tri],
+    next: &mut [Tri],
+) -> bool
+    requires circuit { IsCircuit circuit.now }
+    requires owned { OwnsLatches circuit.now clocks.now }
+    requires pulsing { PulsesAmong pulse.pulsed.now clocks.now }
+    requires poss { length poss.old ≡ length circuit.now.flops.items }
+    requires held { length held.old ≡ length circuit.now.flops.items }
+    requires values { length values.old ≡ length circuit.now.ops.items }
+    requires next { length next.old ≡ length circuit.now.flops.items }
+    ensures above { (c : ℕ) → AboveTri (spec.value_at poss.new c) (spec.value_at poss.old c) }
+    ensures below { StaysBelow (logic_at circuit.now) (pulse_at pulse.entry) poss.old poss.new }
+    ensures done { result ≡ false → (view : ℕ → ℕ → Tri) → AreViews (logic_at circuit.now) (pulse_at pulse.entry) (spec.value_at poss.new) view → AreNext (logic_at circuit.now) (pulse_at pulse.entry) view poss.new next.new }
+    ensures fewer { result ≡ true → count_by is_known poss.new < count_by is_known poss.old }
+{
+    hold_lockups(circuit, pulse, clocks, poss, held, values);
+    next_values(circuit, pulse, clocks, poss, held, values, next);
+    raise(&circuit.flops, pulse.pulsed, next, poss)
+}
+
+/// Finds the least map above the old values and above the next value of each flip-flop of a pulsed domain, and these
+/// next values.
+pub(crate) fn find_least(
+    circuit: &Circuit,
+    pulse: Pulse<'_>,
+    clocks: &[NetId],
+    poss: &mut [Tri],
+    held: &mut [Tri],
+    values: &mut [Tri],
+    next: &mut [Tri],
+)
+    requires circuit { IsCircuit circuit.now }
+    requires owned { OwnsLatches circuit.now clocks.now }
+    requires pulsing { PulsesAmong pulse.pulsed.now clocks.now }
+    requires poss { poss.old ≡ pulse.old.now }
+    requires cells { length poss.old ≡ length circuit.now.flops.items }
+    requires held { length held.old ≡ length circuit.now.flops.items }
+    requires values { length values.old ≡ length circuit.now.ops.items }
+    requires next { length next.old ≡ length circuit.now.flops.items }
+    ensures least { (view : ℕ → ℕ → Tri) → AreViews (logic_at circuit.now) (pulse_at pulse.entry) (spec.value_at poss.new) view → IsLeast (logic_at circuit.now) (pulse_at pulse.entry) (spec.value_at poss.new) view }
+    ensures next { (view : ℕ → ℕ → Tri) → AreViews (logic_at circuit.now) (pulse_at pulse.entry) (spec.value_at poss.new) view → AreNext (logic_at circuit.now) (pulse_at pulse.entry) view poss.new next.new }
+{
+    while turn(circuit, pulse, clocks, poss, held, values, next) {}
+}

@@ -1,0 +1,77 @@
+-- The names of a vector's bits.
+use Rattle.std.proofs.Common.{◌≡◌, ℕ, zero, suc, ◌+◌, ◌-◌, ◌<◌, ◌≤◌, ◌^◌, Bool, true, false, cond, List, [], ◌∷◌, ◌++◌, length, map, take, get_or, Option, Some, refl, sym, ◌∙◌, ap, subst, arith, slice_get, length-append, append_assoc, slice_index}
+use Rattle.std.specs.Prelude.{nat_le}
+use Rattle.std.specs.List.{All}
+use Rattle.std.specs.Fmt.{decimal}
+use Rattle.std.proofs.lemmas.Bool.Decides.{nat_tests}
+use Rattle.std.proofs.lemmas.List.Elements.{All-append, All-cons, All-nil, All-from_get_or}
+use Rattle.std.proofs.lemmas.Fmt.{digits_decimal}
+use Rattle.std.proofs.lemmas.Str.Parse.{numerals_by_value, tells_by_index}
+use Rattle.dft_base.specs.Name.{IsName}
+use Rattle.dft_base.specs.declared.place.Range.{Range}
+use Rattle.dft_netlist.specs.Names.{indices_of, going_up, going_down, bit_name}
+use Rattle.dft_netlist.proofs.RefusalLemmas.{le_true, le_false}
+
+up_length : (from count : ℕ) → length (going_up from count) ≡ count
+up_length from zero = refl
+up_length from (suc count) = ap suc (up_length (suc from) count)
+
+down_length : (from count : ℕ) → length (going_down from count) ≡ count
+down_length from zero = refl
+down_length from (suc count) = ap suc (down_length (from - 1) count)
+
+up_at : (from count k : ℕ) → k < count → slice_get (going_up from count) k ≡ Some (from + k)
+up_at from zero k lt = absurd (omega arith)
+up_at from (suc count) zero lt = let e : from ≡ from + 0 = omega arith in ap Some e
+up_at from (suc count) (suc k) lt = let e : suc from + k ≡ from + suc k = omega arith in up_at (suc from) count k (omega arith) ∙ ap Some e
+
+down_at : (from count k : ℕ) → k < count → slice_get (going_down from count) k ≡ Some (from - k)
+down_at from zero k lt = absurd (omega arith)
+down_at from (suc count) zero lt = let e : from ≡ from - 0 = omega arith in ap Some e
+down_at from (suc count) (suc k) lt = let e : from - 1 - k ≡ from - suc k = omega arith in down_at (from - 1) count k (omega arith) ∙ ap Some e
+
+pub rising : (r : Range) → r.left ≤ r.right → indices_of r ≡ going_up r.left (suc (r.right - r.left))
+rising r le = rw (le_true r.left r.right le) refl
+
+pub falling : (r : Range) → r.right < r.left → indices_of r ≡ going_down r.left (suc (r.left - r.right))
+falling r lt = rw (le_false r.left r.right lt) refl
+
+pub rising_at : (r : Range) (k : ℕ) → r.left ≤ r.right → k < length (indices_of r) → (r.left + k ≤ r.right) × (slice_get (indices_of r) k ≡ Some (r.left + k))
+rising_at r k le lt =
+    let count : length (indices_of r) ≡ suc (r.right - r.left) = ap (λ (xs : List ℕ). length xs) (rising r le) ∙ up_length r.left (suc (r.right - r.left)) in
+    let within : k < suc (r.right - r.left) = omega (arith, count, lt) in
+    (omega (arith, le, within), ap (λ (xs : List ℕ). slice_get xs k) (rising r le) ∙ up_at r.left (suc (r.right - r.left)) k within)
+
+pub falling_at : (r : Range) (k : ℕ) → r.right < r.left → k < length (indices_of r) → (k ≤ r.left) × (slice_get (indices_of r) k ≡ Some (r.left - k))
+falling_at r k gt lt =
+    let count : length (indices_of r) ≡ suc (r.left - r.right) = ap (λ (xs : List ℕ). length xs) (falling r gt) ∙ down_length r.left (suc (r.left - r.right)) in
+    let within : k < suc (r.left - r.right) = omega (arith, count, lt) in
+    (omega (arith, gt, within), ap (λ (xs : List ℕ). slice_get xs k) (falling r gt) ∙ down_at r.left (suc (r.left - r.right)) k within)
+
+pub cases_le : (m k : ℕ) → (t : Bool) → nat_le m k ≡ t → (P : Type 0) → (m ≤ k → P) → (k < m → P) → P
+cases_le m k true is P f g = f (grind (arith, nat_tests))
+cases_le m k false is P f g = g (grind (arith, nat_tests))
+
+pub indices_length : (r : Range) → length (indices_of r) ≡ (r.left - r.right) + (r.right - r.left) + 1
+indices_length r = cases_le r.left r.right (nat_le r.left r.right) refl _
+    (λ le. let e : length (indices_of r) ≡ suc (r.right - r.left) = ap (λ (xs : List ℕ). length xs) (rising r le) ∙ up_length r.left (suc (r.right - r.left)) in omega (arith, e, le))
+    (λ gt. let e : length (indices_of r) ≡ suc (r.left - r.right) = ap (λ (xs : List ℕ). length xs) (falling r gt) ∙ down_length r.left (suc (r.left - r.right)) in omega (arith, e, gt))
+
+-- ---- a bit's printed name is a name
+
+abbrev Printed : ℕ → Type 0
+Printed b = (33 ≤ b) × (b ≤ 126)
+
+digits_printed : (index : ℕ) → index < 2 ^ 64 → All Printed (decimal index)
+digits_printed index lt = All-from_get_or Printed (decimal index) 0 (λ i within. let d = digits_decimal (numerals_by_value _ tells_by_index) index lt i within in (omega (arith, d.0), omega (arith, d.1)))
+
+pub is_bit_name : (name : List ℕ) (index : ℕ) → index < 2 ^ 64 → IsName name → IsName (bit_name name index)
+is_bit_name name index lt h = record {
+  some = (let e = length-append (name ++ (91 ∷ decimal index)) (93 ∷ []) in omega (arith, e));
+  each = All-append Printed (name ++ (91 ∷ decimal index)) (93 ∷ [])
+      (All-append Printed name (91 ∷ decimal index) h.each (All-cons Printed 91 (decimal index) (omega arith, omega arith) (digits_printed index lt)))
+      (All-cons Printed 93 [] (omega arith, omega arith) (All-nil Printed));
+}
+
+pub regroup : (name : List ℕ) (index : ℕ) → ((name ++ 91 ∷ []) ++ decimal index) ++ 93 ∷ [] ≡ bit_name name index
+regroup name index = ap (λ xs. xs ++ 93 ∷ []) (append_assoc name (91 ∷ []) (decimal index))

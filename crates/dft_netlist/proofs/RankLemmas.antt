@@ -1,0 +1,95 @@
+-- An order ranks the nets by their places.
+use Rattle.std.proofs.Common.{◌≡◌, ℕ, zero, suc, ◌+◌, ◌<◌, ◌≤◌, Bool, true, false, cond, List, [], ◌∷◌, length, refl, sym, ◌∙◌, ap, subst, arith, ◌⊎◌, inl, inr, ◌==◌}
+use Rattle.std.specs.List.{AllByRecursion}
+use Rattle.dft_netlist.specs.declared.net_driver.NetDriver.{NetDriver}
+use Rattle.dft_netlist.specs.declared.net_driver.NetDriver.TheVariants.{Input, Pin, Join, Nothing}
+use Rattle.dft_netlist.specs.Netlist.{Netlist}
+use Rattle.dft_netlist.specs.Drivers.{driver, all_driven, nets_read, AreBelow, IsOrdered}
+use Rattle.dft_netlist.specs.DesignLaws.{OrderRanks}
+use Rattle.dft_netlist.specs.NetDrivers.{driver_at, Drives}
+use Rattle.dft_netlist.specs.Notes.{all_drives}
+use Rattle.dft_netlist.specs.Orders.{Has, reads_of, IsOrderFrom, IsOrder}
+use Rattle.dft_netlist.specs.Sound.{IsNetlist}
+use Rattle.dft_netlist.proofs.DriveLemmas.{all_entries, first_by, is_number, same_number}
+use Rattle.dft_netlist.proofs.ClashLemmas.{driver_same, first_drives}
+use Rattle.dft_netlist.proofs.LiveLemmas.{drive_live, le_or_lt}
+
+-- how many nets stand before this one
+abbrev place_in : List ℕ → (net : ℕ) → ℕ
+place_in [] net = 0
+place_in (x ∷ xs) net = cond (x == net) 0 (suc (place_in xs net))
+
+place_few : (t : Bool) (k m : ℕ) → k ≤ m → cond t 0 (suc k) ≤ suc m
+place_few true k m h = omega arith
+place_few false k m h = omega arith
+
+place_bound : (xs : List ℕ) (net : ℕ) → place_in xs net ≤ length xs
+place_bound [] net = omega arith
+place_bound (x ∷ xs) net = place_few (x == net) (place_in xs net) (length xs) (place_bound xs net)
+
+apart_place : (x : ℕ) (xs : List ℕ) (net : ℕ) → (x ≡ net → ⊥) → place_in (x ∷ xs) net ≡ suc (place_in xs net)
+apart_place x xs net ne = by (x == net) refl
+  where
+    by : (t : Bool) → (x == net) ≡ t → cond t 0 (suc (place_in xs net)) ≡ suc (place_in xs net)
+    by true is = absurd (ne (same_number x net is))
+    by false is = refl
+
+first_place : (x : ℕ) (xs : List ℕ) → place_in (x ∷ xs) x ≡ 0
+first_place x xs = rw (is_number x x refl) refl
+
+-- what is still to come was not before
+not_before : (n : Netlist) (before xs : List ℕ) → IsOrderFrom n before xs → (k : ℕ) → Has xs k → Has before k → ⊥
+not_before n before [] o k has was = has
+not_before n before (x ∷ xs) o k has was = elim has [ inl e ↦ o.0 (subst (Has before) e was) | inr more ↦ not_before n (x ∷ before) xs o.3 k more (inr was) ]
+
+has_all : (P : ℕ → Type 0) (ys : List ℕ) (r : ℕ) → AllByRecursion P ys → Has ys r → P r
+has_all P [] r all mem = absurd mem
+has_all P (y ∷ ys) r all mem = elim mem [ inl e ↦ subst P (sym e) all.0 | inr m ↦ has_all P ys r all.1 m ]
+
+read_earlier : (n : Netlist) (before xs : List ℕ) → IsOrderFrom n before xs → (net r : ℕ) → Has xs net → Has (reads_of n net) r → Has before r ⊎ (Has xs r × (place_in xs r < place_in xs net))
+read_earlier n before [] o net r has reads = absurd has
+read_earlier n before (x ∷ xs) o net r has reads = elim has [
+  | inl e ↦ inl (has_all (Has before) (reads_of n x) r o.2 (subst (λ k. Has (reads_of n k) r) e reads))
+  | inr later ↦ (
+      let apart : x ≡ net → ⊥ = λ e. not_before n (x ∷ before) xs o.3 net later (inl (sym e)) in
+      let here = apart_place x xs net apart in
+      elim (read_earlier n (x ∷ before) xs o.3 net r later reads) [
+        | inl was ↦ elim was [
+          | inl e ↦ inr (inl e, (let zero_place : place_in (x ∷ xs) r ≡ 0 = ap (place_in (x ∷ xs)) e ∙ first_place x xs in omega (arith, here, zero_place)))
+          | inr earlier ↦ inl earlier
+        ]
+        | inr more ↦ (
+            let other : x ≡ r → ⊥ = λ e. not_before n (x ∷ before) xs o.3 r more.0 (inl (sym e)) in
+            let there = apart_place x xs r other in
+            inr (inr more.0, omega (arith, here, there, more.1)))
+      ])
+]
+
+all_below : (rank : ℕ → ℕ) (k : ℕ) (xs : List ℕ) → ((r : ℕ) → Has xs r → rank r < k) → AreBelow rank k xs
+all_below rank k [] h = tt
+all_below rank k (x ∷ xs) h = (h x (inl refl), all_below rank k xs (λ r m. h r (inr m)))
+
+-- a net past the end has no driver
+past_reads : (n : Netlist) → IsNetlist n → (net : ℕ) → length n.nets ≤ net → reads_of n net ≡ []
+past_reads n s net past = by (first_by (all_drives n) net) (driver_same n (all_drives n) (all_driven n) net (all_entries n)) (elim (first_drives n (all_drives n) (all_driven n) net (all_entries n)) [ inl none ↦ inl none.0 | inr d ↦ inr d ])
+  where
+    no : (b : NetDriver) → (b ≡ Nothing → ⊥) → (b ≡ Nothing) ⊎ Drives n b net → ⊥
+    no b some h = elim h [ inl e ↦ some e | inr d ↦ (let lt = drive_live n s b net some d in let f : ⊥ = absurd (omega (arith, lt, past)) in f) ]
+
+    by : (b : NetDriver) → driver n net ≡ driver_at n b → (b ≡ Nothing) ⊎ Drives n b net → reads_of n net ≡ []
+    by Nothing e h = ap (nets_read n) e
+    by Input e h = ap (nets_read n) e
+    by (Pin i p) e h = absurd (no (Pin i p) (λ q. cc) h)
+    by (Join j) e h = absurd (no (Join j) (λ q. cc) h)
+
+pub order_ranks : OrderRanks
+order_ranks = λ n order s o. (
+  place_in order,
+  record {
+    after = λ net. elim (le_or_lt (length n.nets) net) [
+      | inl past ↦ rw (past_reads n s net past) tt
+      | inr lt ↦ all_below (place_in order) (place_in order net) (reads_of n net) (λ r reads. elim (read_earlier n [] order o.after net r (o.whole net lt) reads) [ inl never ↦ absurd never | inr less ↦ less.1 ])
+    ];
+    within = λ net. (let few = place_bound order net in let c = o.count in omega arith);
+  },
+)

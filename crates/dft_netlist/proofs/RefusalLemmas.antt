@@ -1,0 +1,84 @@
+-- Why a builder's call is refused.
+use Rattle.std.proofs.Common.{◌≡◌, Result, Ok, Err, ℕ, ◌+◌, ◌<◌, ◌≤◌, Bool, true, false, cond, List, [], ◌∷◌, length, Option, None, Some, is_some, refl, sym, ◌∙◌, ap, arith, pos}
+use Rattle.std.specs.Prelude.{nat_le}
+use Rattle.std.proofs.lemmas.Bool.Decides.{nat_tests}
+use Rattle.dft_base.specs.declared.place.Range.{Range}
+use Rattle.dft_netlist.specs.declared.named.Named.{Named}
+use Rattle.dft_netlist.specs.declared.error.Counted.TheVariants.{Ports, Nets, Instances}
+use Rattle.dft_netlist.specs.declared.error.NetlistError.{NetlistError}
+use Rattle.dft_netlist.specs.declared.error.NetlistError.TheVariants.{MultipleDrivers, Loop, DuplicateName, TooMany, Memory}
+use Rattle.dft_netlist.specs.declared.limits.TheConstants.{MAX_PORTS, MAX_NETS, MAX_INSTANCES}
+use Rattle.dft_netlist.specs.Netlist.{Netlist}
+use Rattle.dft_netlist.specs.Building.{Answers, net_refusal, instance_refusal, port_refusal, port_limit, room_limit, taken_or, own_names}
+use Rattle.dft_netlist.specs.Names.{is_taken, first_taken, bit_names, port_names}
+use Rattle.dft_netlist.specs.NameTables.{Entry, look_up, Knows}
+use Rattle.dft_netlist.specs.Tokens.{Text}
+use Rattle.dft_netlist.proofs.NamesLemmas.{taken_of}
+
+pub le_true : (m n : ℕ) → m ≤ n → nat_le m n ≡ true
+le_true m n h = grind (arith, nat_tests)
+
+pub le_false : (m n : ℕ) → n < m → nat_le m n ≡ false
+le_false m n h = grind (arith, nat_tests)
+
+le_of : (m n : ℕ) → nat_le m n ≡ true → m ≤ n
+le_of m n h = grind (arith, nat_tests)
+
+both : (a b : Bool) (x y : NetlistError) → cond a (cond b None (Some x)) (Some y) ≡ None → (a ≡ true) × (b ≡ true)
+both true true x y h = (refl, refl)
+both true false x y h = absurd (let f : ⊥ = cc in f)
+both false b x y h = absurd (let f : ⊥ = cc in f)
+
+-- one port more has room where no limit refuses it
+pub room_of : (n : Netlist) (width : ℕ) → room_limit n width ≡ None → (length n.ports < MAX_PORTS) × (length n.nets + width ≤ MAX_NETS)
+room_of n width h =
+    let tests = both (nat_le (length n.ports + 1) MAX_PORTS) (nat_le (length n.nets + width) MAX_NETS) _ _ h in
+    let ports = le_of (length n.ports + 1) MAX_PORTS tests.0 in
+    (omega (arith, ports), le_of (length n.nets + width) MAX_NETS tests.1)
+
+-- ---- nets
+
+pub net_taken : (n : Netlist) (q : Text) → is_taken n q ≡ true → net_refusal n q ≡ Some (DuplicateName q)
+net_taken n q h = rw h refl
+
+pub net_full : (n : Netlist) (q : Text) → is_taken n q ≡ false → MAX_NETS ≤ length n.nets → net_refusal n q ≡ Some (TooMany Nets (pos MAX_NETS))
+net_full n q h full = rw (h, le_false (length n.nets + 1) MAX_NETS (omega arith)) refl
+
+pub net_open : (n : Netlist) (q : Text) → is_taken n q ≡ false → length n.nets < MAX_NETS → net_refusal n q ≡ None
+net_open n q h few = rw (h, le_true (length n.nets + 1) MAX_NETS (omega arith)) refl
+
+-- ---- instances
+
+pub instance_taken : (n : Netlist) (name : Option Text) (q : Text) → name ≡ Some q → is_taken n q ≡ true → instance_refusal n name ≡ Some (DuplicateName q)
+instance_taken n None q is h = absurd (let f : ⊥ = cc in f)
+instance_taken n (Some name) q is h = let e : name ≡ q = cc in rw (e, h) refl
+
+pub instance_full : (n : Netlist) (name : Option Text) → first_taken n (own_names name) ≡ None → MAX_INSTANCES ≤ length n.instances → instance_refusal n name ≡ Some (TooMany Instances (pos MAX_INSTANCES))
+instance_full n name h full = rw (h, le_false (length n.instances + 1) MAX_INSTANCES (omega arith)) refl
+
+pub instance_open : (n : Netlist) (name : Option Text) → first_taken n (own_names name) ≡ None → length n.instances < MAX_INSTANCES → instance_refusal n name ≡ None
+instance_open n name h few = rw (h, le_true (length n.instances + 1) MAX_INSTANCES (omega arith)) refl
+
+-- ---- names before limits
+
+pub free_of : (x : Option Text) → taken_or x None ≡ None → x ≡ None
+free_of None h = refl
+free_of (Some q) h = absurd (let f : ⊥ = cc in f)
+
+pub answers_taken : (A B : Type 0) (x : Option Text) (limit : Option NetlistError) (e : NetlistError) → Answers {A = A} (taken_or x None) (Err e) → Answers {A = B} (taken_or x limit) (Err e)
+answers_taken A B None limit (MultipleDrivers q) h = absurd (let f : ⊥ = cc in f)
+answers_taken A B None limit (Loop q) h = absurd (let f : ⊥ = cc in f)
+answers_taken A B None limit (DuplicateName q) h = absurd (let f : ⊥ = cc in f)
+answers_taken A B None limit (TooMany what k) h = absurd (let f : ⊥ = cc in f)
+answers_taken A B None limit (Memory m) h = tt
+answers_taken A B (Some x) limit (MultipleDrivers q) h = h
+answers_taken A B (Some x) limit (Loop q) h = h
+answers_taken A B (Some x) limit (DuplicateName q) h = h
+answers_taken A B (Some x) limit (TooMany what k) h = h
+answers_taken A B (Some x) limit (Memory m) h = tt
+
+pub own_taken : (n : Netlist) (q : Text) → is_taken n q ≡ true → taken_or (first_taken n (own_names (Some q))) None ≡ Some (DuplicateName q)
+own_taken n q h = rw h refl
+
+pub own_free : (n : Netlist) (q : Text) → is_taken n q ≡ false → taken_or (first_taken n (own_names (Some q))) None ≡ None
+own_free n q h = rw h refl

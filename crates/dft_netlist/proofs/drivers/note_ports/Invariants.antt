@@ -1,0 +1,8 @@
+use Rattle.std.proofs.Common.{drop}
+use Rattle.dft_netlist.specs.Drivers.{shape_of}
+use Rattle.dft_netlist.specs.Notes.{bit_drives, ports_drives, joins_drives, instances_drives, pins_drives}
+use Rattle.dft_netlist.proofs.NotesLemmas.{Kept}
+use Rattle.dft_netlist.proofs.drivers.note_ports.Given as goal
+
+abbrev pub invariant-loop-port : goal.invariant-loop-port
+invariant-loop-port l = Kept l.initial.notes l.notes (ports_drives (drop l.port-index l.ports)) (ports_drives l.ports)

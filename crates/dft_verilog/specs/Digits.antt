@@ -1,0 +1,6 @@
+-- Numbers as they are read, a digit at a time.
+use Rattle.std.specs.Prelude.{ℕ, nat_lt, if◌then◌else◌, Option, Some, None}
+
+-- a number, where it is below a bound
+abbrev pub below : ℕ → ℕ → Option ℕ
+below bound n = if nat_lt n bound then Some n else None

@@ -1,0 +1,104 @@
+//! Continuous assignments (IEEE 1364).
+
+ghost use Rattle.std.specs.Prelude.{◌≡◌, true, false, length, OnOk};
+ghost use Rattle.dft_netlist.specs.Expressions.{drives};
+ghost use Rattle.dft_netlist.specs.Items as spec;
+ghost use Rattle.dft_netlist.specs.Modules.{with_join};
+ghost use Rattle.dft_verilog.specs.Operands.{AreBits, IsBit};
+ghost use Rattle.dft_verilog.specs.Reading.{Reads};
+
+use crate::cursor::Tokens;
+use crate::faults::refused;
+use crate::module_draft::ModuleDraft;
+use crate::nesting::expression;
+use crate::read_error::ReadError;
+use dft_netlist::{Cause, Join, Signal, Site, TokenKind};
+use std::alloc::AllocError;
+
+#[tactic(auto, using(crate::proofs::OperandLemmas::joins))]
+// The target has the source's bit.
+fn join(draft: &mut ModuleDraft, target: Signal, source: Signal) -> Result<(), AllocError>
+    requires target { IsBit (length draft.old.nets) true target }
+    requires source { IsBit (length draft.old.nets) false source }
+    ensures { OnOk result (draft.new ≡ with_join (record { target = spec.net_of target; source = source }) draft.old) }
+{
+    match target {
+        Signal::Net(target) => draft.add_join(Join { target, source }),
+        Signal::Constant(_) | Signal::Unconnected => unreachable!(),
+    }
+}
+
+// Each target has the source's bit at its place.
+fn join_all(
+    draft: &mut ModuleDraft,
+    targets: &[Signal],
+    sources: &[Signal],
+) -> Result<(), AllocError>
+    requires same { length targets.now ≡ length sources.now }
+    requires targets { AreBits (length draft.old.nets) true targets.now }
+    requires sources { AreBits (length draft.old.nets) false sources.now }
+    ensures joins { OnOk result (draft.new ≡ spec.with_joins targets.now sources.now draft.old) }
+    ensures library { OnOk result (draft.new.library ≡ draft.old.library) }
+{
+    for (place, target) in targets.iter().enumerate() {
+        join(draft, *target, sources[place])?;
+    }
+    Ok(())
+}
+
+#[tactic(auto, using(crate::proofs::OperandLemmas::bits), unfolding(dft_netlist::specs::Items::right_side))]
+// The right side of an assignment, for these bits on the left. The widths are compared behind it.
+fn right_side(
+    targets: &[Signal],
+    draft: &mut ModuleDraft,
+    tokens: &mut Tokens<'_>,
+) -> Result<(), ReadError>
+    requires { AreBits (length draft.old.nets) true targets.now }
+    ensures read { Reads (λ _. draft.new) (spec.right_side targets.now draft.old tokens.old) result tokens.new }
+    ensures library { OnOk result (draft.new.library ≡ draft.old.library) }
+{
+    let place = tokens.left();
+    let sources = expression(Site::Source, draft, tokens)?;
+    if targets.len() != sources.len() {
+        return Err(refused(place, Cause::Misfit));
+    }
+    join_all(draft, targets, &sources)?;
+    Ok(())
+}
+
+#[tactic(auto, unfolding(dft_netlist::specs::Items::assignment))]
+// A left side, `=`, and a right side.
+fn assignment(draft: &mut ModuleDraft, tokens: &mut Tokens<'_>) -> Result<(), ReadError>
+    ensures read { Reads (λ _. draft.new) (spec.assignment draft.old tokens.old) result tokens.new }
+    ensures library { OnOk result (draft.new.library ≡ draft.old.library) }
+{
+    let targets = expression(Site::Target, draft, tokens)?;
+    tokens.expect(TokenKind::Equals)?;
+    right_side(&targets, draft, tokens)
+}
+
+// Assignments with commas between them.
+fn assignments(draft: &mut ModuleDraft, tokens: &mut Tokens<'_>) -> Result<(), ReadError>
+    ensures read { Reads (λ _. draft.new) (spec.assignments draft.old tokens.old) result tokens.new }
+    ensures library { OnOk result (draft.new.library ≡ draft.old.library) }
+{
+    'turns: for _turn in 0..tokens.left() {
+        assignment(draft, tokens)?;
+        if !tokens.eat(TokenKind::Comma) {
+            return Ok(());
+        }
+    }
+    Err(tokens.refusal())
+}
+
+#[tactic(auto, unfolding(dft_netlist::specs::Items::assign_item))]
+/// `assign` and its assignments.
+pub fn assign_item(draft: &mut ModuleDraft, tokens: &mut Tokens<'_>) -> Result<(), ReadError>
+    ensures read { Reads (λ _. draft.new) (spec.assign_item draft.old tokens.old) result tokens.new }
+    ensures library { OnOk result (draft.new.library ≡ draft.old.library) }
+{
+    tokens.take();
+    assignments(draft, tokens)?;
+    tokens.expect(TokenKind::Semicolon)?;
+    Ok(())
+}

@@ -1,0 +1,181 @@
+//! The connections of a cell's pins (IEEE 1364).
+
+ghost use Rattle.std.specs.Prelude.{◌≡◌, ℕ, ◌<◌, length, slice_get, IfOk, OnOk};
+ghost use Rattle.dft_netlist.specs.Items as spec;
+ghost use Rattle.dft_verilog.specs.JoinedPins.{FitsCell, IsPinSignal};
+ghost use Rattle.dft_verilog.specs.Operands.{Grows};
+ghost use Rattle.dft_verilog.specs.Reading.{Reads};
+
+use crate::cursor::Tokens;
+use crate::faults::{joined_twice, no_pin};
+use crate::gates::one_bit;
+use crate::module_draft::ModuleDraft;
+use crate::nesting::expression;
+use crate::read_error::ReadError;
+use dft_cells::{Cell, Role};
+use dft_netlist::{Signal, Site, TokenKind};
+use std::alloc::{AllocError, Global};
+
+#[tactic(auto, using(crate::proofs::ConnectionLemmas::unjoined_pins))]
+/// No pin of the cell is joined yet.
+pub fn unjoined(alloc: Global, cell: &Cell) -> Result<Vec<Option<Signal>>, AllocError>
+    ensures joined { IfOk result (λ joined. joined.items ≡ spec.unjoined cell.now) }
+    ensures fits { (count : ℕ) → IfOk result (λ joined. FitsCell count cell.now joined.items) }
+{
+    vec![in alloc; None; cell.pins.as_slice().len()]
+}
+
+// The place of the pin with this name.
+fn pin_place(cell: &Cell, word: &[u8]) -> Option<usize>
+    ensures { result ≡ spec.pin_place cell.now word.now }
+{
+    cell.pins
+        .as_slice()
+        .iter()
+        .position(|pin| pin.name.as_slice() == word)
+}
+
+// Whether a pin of this role drives its net.
+fn is_driving(role: Role) -> bool
+    ensures { result ≡ spec.is_driving role }
+{
+    matches!(role, Role::Output | Role::Inverted)
+}
+
+// Whether this pin drives its net.
+fn pin_drives(cell: &Cell, pin: usize) -> bool
+    ensures { result ≡ spec.pin_drives (slice_get cell.now.pins pin) }
+{
+    match cell.pins.as_slice().get(pin) {
+        Some(pin) => is_driving(pin.role),
+        None => false,
+    }
+}
+
+// Whether a pin was named before, be it with nothing between the brackets.
+fn was_joined(joined: &[Option<Signal>], pin: usize) -> bool
+    ensures { result ≡ spec.was_joined (slice_get joined.now pin) }
+{
+    matches!(joined.get(pin), Some(Some(_)))
+}
+
+#[tactic(auto, unfolding(dft_netlist::specs::Items::pin_name))]
+// The name of a pin, which is tested at itself.
+fn pin_name(
+    alloc: Global,
+    cell: &Cell,
+    joined: &[Option<Signal>],
+    tokens: &mut Tokens<'_>,
+) -> Result<usize, ReadError>
+    ensures read { Reads (λ pin. pin) (spec.pin_name cell.now joined.now tokens.old) result tokens.new }
+    ensures within { IfOk result (λ pin. pin < length cell.now.pins) }
+{
+    let place = tokens.left();
+    let word = tokens.name()?;
+    match pin_place(cell, word) {
+        None => Err(no_pin(alloc, place, word)),
+        Some(pin) if was_joined(joined, pin) => Err(joined_twice(alloc, place, word)),
+        Some(pin) => Ok(pin),
+    }
+}
+
+#[tactic(auto, using(crate::proofs::ConnectionLemmas::pins), unfolding(dft_netlist::specs::Items::pin_signal))]
+// The expression of a pin; its width is tested at this place.
+fn pin_signal(
+    cell: &Cell,
+    place: usize,
+    draft: &mut ModuleDraft,
+    pin: usize,
+    tokens: &mut Tokens<'_>,
+) -> Result<Signal, ReadError>
+    ensures read { Reads (λ to. (draft.new, to)) (spec.pin_signal cell.now place draft.old pin tokens.old) result tokens.new }
+    ensures grown { OnOk result (Grows draft.old draft.new) }
+    ensures to { IfOk result (λ to. IsPinSignal (length draft.new.nets) (spec.pin_drives (slice_get cell.now.pins pin)) to) }
+{
+    let drives = pin_drives(cell, pin);
+    let bits = expression(Site::Pin { drives }, draft, tokens)?;
+    one_bit(place, &bits)
+}
+
+#[tactic(auto, using(crate::proofs::OperandLemmas::growing), unfolding(dft_netlist::specs::Items::pin_content))]
+// Nothing between the brackets leaves the pin unconnected.
+fn pin_content(
+    cell: &Cell,
+    place: usize,
+    draft: &mut ModuleDraft,
+    pin: usize,
+    tokens: &mut Tokens<'_>,
+) -> Result<Signal, ReadError>
+    ensures read { Reads (λ to. (draft.new, to)) (spec.pin_content cell.now place draft.old pin tokens.old) result tokens.new }
+    ensures grown { OnOk result (Grows draft.old draft.new) }
+    ensures to { IfOk result (λ to. IsPinSignal (length draft.new.nets) (spec.pin_drives (slice_get cell.now.pins pin)) to) }
+{
+    if tokens.sees(TokenKind::CloseParen) {
+        Ok(Signal::Unconnected)
+    } else {
+        pin_signal(cell, place, draft, pin, tokens)
+    }
+}
+
+#[tactic(auto, using(crate::proofs::ConnectionLemmas::pins), unfolding(dft_netlist::specs::Items::connection))]
+// A point, a pin, and what it is joined to; the width is tested at the point.
+fn connection(
+    cell: &Cell,
+    joined: &mut Vec<Option<Signal>>,
+    draft: &mut ModuleDraft,
+    tokens: &mut Tokens<'_>,
+) -> Result<(), ReadError>
+    requires { FitsCell (length draft.old.nets) cell.now joined.old.items }
+    ensures read { Reads (λ _. (draft.new, joined.new.items)) (spec.connection cell.now (draft.old, joined.old.items) tokens.old) result tokens.new }
+    ensures grown { OnOk result (Grows draft.old draft.new) }
+    ensures fits { OnOk result (FitsCell (length draft.new.nets) cell.now joined.new.items) }
+{
+    let place = tokens.left();
+    tokens.expect(TokenKind::Point)?;
+    let pin = pin_name(draft.alloc(), cell, joined, tokens)?;
+    tokens.expect(TokenKind::OpenParen)?;
+    let to = pin_content(cell, place, draft, pin, tokens)?;
+    tokens.expect(TokenKind::CloseParen)?;
+    joined[pin] = Some(to);
+    Ok(())
+}
+
+// Connections with commas between them.
+fn some_connections(
+    cell: &Cell,
+    joined: &mut Vec<Option<Signal>>,
+    draft: &mut ModuleDraft,
+    tokens: &mut Tokens<'_>,
+) -> Result<(), ReadError>
+    requires { FitsCell (length draft.old.nets) cell.now joined.old.items }
+    ensures read { Reads (λ _. (draft.new, joined.new.items)) (spec.some_connections cell.now (draft.old, joined.old.items) tokens.old) result tokens.new }
+    ensures grown { OnOk result (Grows draft.old draft.new) }
+    ensures fits { OnOk result (FitsCell (length draft.new.nets) cell.now joined.new.items) }
+{
+    'turns: for _turn in 0..tokens.left() {
+        connection(cell, joined, draft, tokens)?;
+        if !tokens.eat(TokenKind::Comma) {
+            return Ok(());
+        }
+    }
+    Err(tokens.refusal())
+}
+
+#[tactic(auto, using(crate::proofs::OperandLemmas::growing), unfolding(dft_netlist::specs::Items::connections))]
+/// Connections, or none.
+pub fn connections(
+    cell: &Cell,
+    joined: &mut Vec<Option<Signal>>,
+    draft: &mut ModuleDraft,
+    tokens: &mut Tokens<'_>,
+) -> Result<(), ReadError>
+    requires { FitsCell (length draft.old.nets) cell.now joined.old.items }
+    ensures read { Reads (λ _. (draft.new, joined.new.items)) (spec.connections cell.now (draft.old, joined.old.items) tokens.old) result tokens.new }
+    ensures grown { OnOk result (Grows draft.old draft.new) }
+    ensures fits { OnOk result (FitsCell (length draft.new.nets) cell.now joined.new.items) }
+{
+    if tokens.sees(TokenKind::CloseParen) {
+        return Ok(());
+    }
+    some_connections(cell, joined, draft, tokens)
+}

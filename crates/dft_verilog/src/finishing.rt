@@ -1,0 +1,218 @@
+//! The netlist of what a module said (IEEE 1364, structural part): its ports in header order, the other nets, the
+//! joins, the instances.
+
+ghost use Rattle.std.specs.Prelude.{◌≡◌, [], ◌∷◌, length, unwrap_or, IfOk, OnOk, IfErr};
+ghost use Rattle.dft_netlist.specs.Building.{empty_netlist};
+ghost use Rattle.dft_netlist.specs.NetlistText as spec;
+ghost use Rattle.dft_netlist.specs.Sound.{HasOnlyPorts};
+ghost use Rattle.dft_verilog.specs.Drafts.{InstanceFits, JoinFits, nets_alone};
+ghost use Rattle.dft_verilog.specs.FinalNets.{name_unless, without_number, all_numbered, AreFinal};
+ghost use Rattle.dft_verilog.specs.Buildable.{BuildableAreBuilt};
+ghost use Rattle.dft_verilog.specs.Built.{Grows, Builds, HasNetsOf, IsBuilt, CannotBuild};
+
+use crate::final_nets::{final_net, final_pins, final_signal, port_numbers};
+use crate::header_port::HeaderPort;
+use crate::module_draft::ModuleDraft;
+use dft_base::Name;
+use dft_netlist::{Design, DesignBuilder, Instance, Join, NetId, NetlistError};
+use std::alloc::{AllocError, Global};
+
+/// The same name once more.
+fn name_of(alloc: Global, name: &Name) -> Result<Name, AllocError>
+    ensures { IfOk result (λ same. same ≡ name.now) }
+{
+    Name::from_slice(alloc, name.as_slice())
+}
+
+/// Adds a port of the header, if it was declared.
+fn add_port(
+    alloc: Global,
+    builder: &mut DesignBuilder,
+    port: &HeaderPort,
+) -> Result<(), NetlistError>
+    requires { HasOnlyPorts builder.old }
+    ensures grown { Grows (spec.add_declared builder.old port.now.name port.now.declared) result builder.new }
+    ensures only_ports { HasOnlyPorts builder.new }
+{
+    match port.declared() {
+        Some(declared) => {
+            let name = name_of(alloc, port.name())?;
+            builder.port(name, declared.dir, declared.shape.range)?;
+            Ok(())
+        }
+        None => Ok(()),
+    }
+}
+
+/// Adds the ports of the header that were declared.
+fn add_ports(
+    alloc: Global,
+    builder: &mut DesignBuilder,
+    ports: &[HeaderPort],
+) -> Result<(), NetlistError>
+    requires { HasOnlyPorts builder.old }
+    ensures { Grows (spec.add_ports ports.now builder.old) result builder.new }
+{
+    for port in ports {
+        add_port(alloc, builder, port)?;
+    }
+    Ok(())
+}
+
+/// The number of a net, which is added where it has none.
+fn number_or_add(
+    alloc: Global,
+    builder: &mut DesignBuilder,
+    name: &Name,
+    number: Option<NetId>,
+) -> Result<NetId, NetlistError>
+    ensures grown { Grows (spec.add_nets (name_unless number name.now) builder.old) result builder.new }
+    ensures number { IfOk result (λ net. net ≡ unwrap_or number (record { 0 = length builder.old.nets })) }
+{
+    match number {
+        Some(net) => Ok(net),
+        None => builder.net(name_of(alloc, name)?),
+    }
+}
+
+/// Adds the nets that have no number yet, and gives the numbers of all.
+fn add_others(
+    alloc: Global,
+    builder: &mut DesignBuilder,
+    names: &[Name],
+    numbers: &[Option<NetId>],
+) -> Result<Vec<NetId>, NetlistError>
+    requires { length names.now ≡ length numbers.now }
+    ensures grown { Grows (spec.add_nets (without_number names.now numbers.now) builder.old) result builder.new }
+    ensures finals { IfOk result (λ finals. finals.items ≡ all_numbered (length builder.old.nets) numbers.now) }
+{
+    let mut finals = Vec::with_capacity(alloc, numbers.len())?;
+    for (net, number) in numbers.iter().enumerate() {
+        let number = number_or_add(alloc, builder, &names[net], *number)?;
+        finals.push(number).map_err(AllocError::from)?;
+    }
+    Ok(finals)
+}
+
+/// Adds a draft's ports and its other nets, and gives the final numbers of its nets.
+fn add_all_nets(
+    alloc: Global,
+    builder: &mut DesignBuilder,
+    draft: &ModuleDraft,
+) -> Result<Vec<NetId>, NetlistError>
+    requires { builder.old ≡ empty_netlist draft.now.name draft.now.library }
+    ensures grown { Grows (spec.and_grown (spec.add_ports draft.now.ports builder.old) (spec.add_nets (spec.names_of_others draft.now))) result builder.new }
+    ensures finals { IfOk result (λ finals. AreFinal draft.now finals.items) }
+    ensures nets { OnOk result (HasNetsOf draft.now builder.new) }
+{
+    let numbers = port_numbers(alloc, draft.ports(), draft.net_count())?;
+    add_ports(alloc, builder, draft.ports())?;
+    add_others(alloc, builder, draft.nets(), &numbers)
+}
+
+/// Adds a join of a draft.
+fn add_join(
+    builder: &mut DesignBuilder,
+    draft: &ModuleDraft,
+    finals: &[NetId],
+    join: Join,
+) -> Result<(), AllocError>
+    requires nets { HasNetsOf draft.now builder.old }
+    requires finals { AreFinal draft.now finals.now }
+    requires fits { JoinFits (nets_alone draft.now) join }
+    ensures { OnOk result (builder.new ≡ spec.add_joins (spec.net_order draft.now) (join ∷ []) builder.old) }
+{
+    let target = final_net(finals, join.target);
+    let source = final_signal(finals, join.source);
+    builder.join(target, source)
+}
+
+/// Adds the joins of a draft.
+fn add_joins(
+    builder: &mut DesignBuilder,
+    draft: &ModuleDraft,
+    finals: &[NetId],
+) -> Result<(), AllocError>
+    requires nets { HasNetsOf draft.now builder.old }
+    requires finals { AreFinal draft.now finals.now }
+    ensures { OnOk result (builder.new ≡ spec.add_joins (spec.net_order draft.now) draft.now.joins builder.old) }
+{
+    for join in draft.joins() {
+        add_join(builder, draft, finals, *join)?;
+    }
+    Ok(())
+}
+
+/// The same name once more, if there is one.
+fn own_name(alloc: Global, name: &Option<Name>) -> Result<Option<Name>, AllocError>
+    ensures { IfOk result (λ same. same ≡ name.now) }
+{
+    match name {
+        Some(name) => Ok(Some(name_of(alloc, name)?)),
+        None => Ok(None),
+    }
+}
+
+/// Adds an instance of a draft.
+fn add_instance(
+    alloc: Global,
+    builder: &mut DesignBuilder,
+    draft: &ModuleDraft,
+    finals: &[NetId],
+    instance: &Instance,
+) -> Result<(), NetlistError>
+    requires nets { HasNetsOf draft.now builder.old }
+    requires finals { AreFinal draft.now finals.now }
+    requires fits { InstanceFits (nets_alone draft.now) instance.now }
+    ensures grown { Grows (spec.add_instance (spec.net_order draft.now) builder.old instance.now) result builder.new }
+    ensures nets { HasNetsOf draft.now builder.new }
+{
+    let name = own_name(alloc, &instance.name)?;
+    let pins = final_pins(alloc, finals, instance.pins.as_slice())?;
+    builder.instance(name, instance.cell, &pins)?;
+    Ok(())
+}
+
+/// Adds the instances of a draft.
+fn add_instances(
+    alloc: Global,
+    builder: &mut DesignBuilder,
+    draft: &ModuleDraft,
+    finals: &[NetId],
+) -> Result<(), NetlistError>
+    requires nets { HasNetsOf draft.now builder.old }
+    requires finals { AreFinal draft.now finals.now }
+    ensures { Grows (spec.add_instances (spec.net_order draft.now) draft.now.instances builder.old) result builder.new }
+{
+    for instance in draft.instances() {
+        add_instance(alloc, builder, draft, finals, instance)?;
+    }
+    Ok(())
+}
+
+/// The netlist of a draft, not finished yet.
+fn built(alloc: Global, draft: &ModuleDraft) -> Result<DesignBuilder, NetlistError>
+    ensures { Builds (spec.built draft.now) result }
+{
+    let name = name_of(alloc, draft.name())?;
+    let library = draft.library().copy(alloc)?;
+    let mut builder = DesignBuilder::new(alloc, name, library);
+    let finals = add_all_nets(alloc, &mut builder, draft)?;
+    add_joins(&mut builder, draft, &finals)?;
+    add_instances(alloc, &mut builder, draft, &finals)?;
+    Ok(builder)
+}
+
+/// The design of what a module said. Refused with `DuplicateName` or `TooMany` where a part is refused, with
+/// `MultipleDrivers` for the first net with two drivers, and else with `Loop` where the nets have no order.
+pub fn finished(alloc: Global, draft: ModuleDraft) -> Result<Design, NetlistError>
+    ensures ok { IfOk result (λ design. IsBuilt draft design) }
+    ensures refused { IfErr result (λ why. CannotBuild draft why) }
+{
+    built(alloc, &draft)?.finish()
+}
+
+/// The law that no part is refused of a draft whose printed names differ and that keeps the limits.
+pub fn distinct_names_are_built()
+    ensures { BuildableAreBuilt }
+{}

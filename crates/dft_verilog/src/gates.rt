@@ -1,0 +1,198 @@
+//! Instances of gate primitives (IEEE 1364).
+
+ghost use Rattle.std.specs.Prelude.{◌≡◌, ◌<◌, true, false, length, IsTrue, List, [], ◌∷◌, IfSome, IfOk, OnOk};
+ghost use Rattle.dft_netlist.specs.Items as spec;
+ghost use Rattle.dft_netlist.specs.Lexemes.{Token};
+ghost use Rattle.dft_netlist.specs.Modules.{Draft};
+ghost use Rattle.dft_netlist.specs.Sound.{is_primitive};
+ghost use Rattle.dft_verilog.specs.Operands.{Grows, AreBits, IsBit};
+ghost use Rattle.dft_verilog.specs.Reading.{Reads};
+
+use crate::cursor::Tokens;
+use crate::faults::refused;
+use crate::module_draft::ModuleDraft;
+use crate::nesting::expression;
+use crate::read_error::ReadError;
+use dft_base::Name;
+use dft_cells::Kind;
+use dft_netlist::{Cause, CellRef, Instance, MAX_INSTANCES, PinSignals, Signal, Site, TokenKind};
+
+/// The kind of a gate primitive.
+pub fn gate_kind(kind: TokenKind) -> Option<Kind>
+    ensures value { result ≡ spec.gate_kind kind }
+    ensures primitive { IfSome result (λ k. IsTrue (is_primitive k)) }
+{
+    match kind {
+        TokenKind::And => Some(Kind::And),
+        TokenKind::Nand => Some(Kind::Nand),
+        TokenKind::Or => Some(Kind::Or),
+        TokenKind::Nor => Some(Kind::Nor),
+        TokenKind::Xor => Some(Kind::Xor),
+        TokenKind::Xnor => Some(Kind::Xnor),
+        TokenKind::Buf => Some(Kind::Buf),
+        TokenKind::Not => Some(Kind::Inv),
+        _ => None,
+    }
+}
+
+// Whether a gate may have this number of inputs: a buffer and an inverter one, another gate one to eight.
+fn has_inputs(kind: Kind, count: usize) -> bool
+    ensures { result ≡ spec.has_inputs kind count }
+{
+    match kind {
+        Kind::Buf | Kind::Inv => count == 1,
+        _ => 1 <= count && count <= 8,
+    }
+}
+
+/// The one bit of an expression; another number of bits is refused at this place.
+pub fn one_bit(place: usize, bits: &[Signal]) -> Result<Signal, ReadError>
+    ensures read { (d : Draft) (ts : List Token) → Reads (λ bit. (d, bit)) (spec.one_bit place d bits.now ts) result ts }
+    ensures one { IfOk result (λ bit. bits.now ≡ bit ∷ []) }
+{
+    match bits {
+        [bit] => Ok(*bit),
+        _ => Err(refused(place, Cause::Misfit)),
+    }
+}
+
+#[tactic(auto, using(crate::proofs::OperandLemmas::one), unfolding(dft_netlist::specs::Items::terminal))]
+// A terminal of a gate; its width is tested at its first token.
+fn terminal(
+    drives: bool,
+    draft: &mut ModuleDraft,
+    tokens: &mut Tokens<'_>,
+) -> Result<Signal, ReadError>
+    ensures read { Reads (λ bit. (draft.new, bit)) (spec.terminal drives draft.old tokens.old) result tokens.new }
+    ensures grown { OnOk result (Grows draft.old draft.new) }
+    ensures bit { IfOk result (λ bit. IsBit (length draft.new.nets) drives bit) }
+{
+    let place = tokens.left();
+    let bits = expression(Site::Terminal { drives }, draft, tokens)?;
+    one_bit(place, &bits)
+}
+
+// The terminals behind the first.
+fn inputs(draft: &mut ModuleDraft, tokens: &mut Tokens<'_>) -> Result<Vec<Signal>, ReadError>
+    ensures read { Reads (λ inputs. (draft.new, inputs.items)) (spec.inputs draft.old tokens.old) result tokens.new }
+    ensures grown { OnOk result (Grows draft.old draft.new) }
+    ensures bits { IfOk result (λ inputs. AreBits (length draft.new.nets) false inputs.items) }
+{
+    let mut inputs = Vec::new(draft.alloc());
+    'turns: for _turn in 0..tokens.left() {
+        if !tokens.eat(TokenKind::Comma) {
+            return Ok(inputs);
+        }
+        inputs.push(terminal(false, draft, tokens)?)?;
+    }
+    Err(tokens.refusal())
+}
+
+#[tactic(auto, using(crate::proofs::GateLemmas::gates), unfolding(dft_netlist::specs::Items::terminals))]
+// The terminals of a gate behind the bracket that stands at this place, where the number of terminals is refused.
+fn terminals(
+    kind: Kind,
+    name: Option<Name>,
+    place: usize,
+    draft: &mut ModuleDraft,
+    tokens: &mut Tokens<'_>,
+) -> Result<(), ReadError>
+    requires primitive { IsTrue (is_primitive kind) }
+    requires room { length draft.old.instances < MAX_INSTANCES }
+    ensures read { Reads (λ _. draft.new) (spec.terminals kind name place draft.old tokens.old) result tokens.new }
+    ensures library { OnOk result (draft.new.library ≡ draft.old.library) }
+{
+    let output = terminal(true, draft, tokens)?;
+    let mut pins = inputs(draft, tokens)?;
+    tokens.expect(TokenKind::CloseParen)?;
+    let count = pins.len();
+    if !has_inputs(kind, count) {
+        return Err(refused(place, Cause::Misfit));
+    }
+    pins.push(output)?;
+    draft.add_instance(Instance {
+        name,
+        cell: CellRef::Gate(kind, count as u8),
+        pins: PinSignals::from_slice(draft.alloc(), &pins)?,
+    })?;
+    Ok(())
+}
+
+#[tactic(auto, using(crate::proofs::GateLemmas::naming), unfolding(dft_netlist::specs::Items::named_gate))]
+// A gate with a name.
+fn named_gate(kind: Kind, draft: &mut ModuleDraft, tokens: &mut Tokens<'_>) -> Result<(), ReadError>
+    requires { IsTrue (is_primitive kind) }
+    ensures read { Reads (λ _. draft.new) (spec.named_gate kind draft.old tokens.old) result tokens.new }
+    ensures library { OnOk result (draft.new.library ≡ draft.old.library) }
+{
+    let place = tokens.left();
+    let word = tokens.name()?;
+    draft.name_instance(place, word)?;
+    let name = Name::from_slice(draft.alloc(), word)?;
+    let bracket = tokens.left();
+    tokens.expect(TokenKind::OpenParen)?;
+    terminals(kind, Some(name), bracket, draft, tokens)
+}
+
+#[tactic(auto, using(crate::proofs::GateLemmas::naming), unfolding(dft_netlist::specs::Items::unnamed_gate))]
+// A gate without a name. The room for it is tested at its bracket.
+fn unnamed_gate(
+    kind: Kind,
+    draft: &mut ModuleDraft,
+    tokens: &mut Tokens<'_>,
+) -> Result<(), ReadError>
+    requires { IsTrue (is_primitive kind) }
+    ensures read { Reads (λ _. draft.new) (spec.unnamed_gate kind draft.old tokens.old) result tokens.new }
+    ensures library { OnOk result (draft.new.library ≡ draft.old.library) }
+{
+    let bracket = tokens.left();
+    tokens.expect(TokenKind::OpenParen)?;
+    draft.room_for_instance(bracket)?;
+    terminals(kind, None, bracket, draft, tokens)
+}
+
+#[tactic(auto, unfolding(dft_netlist::specs::Items::one_gate))]
+// A gate with or without a name.
+fn one_gate(kind: Kind, draft: &mut ModuleDraft, tokens: &mut Tokens<'_>) -> Result<(), ReadError>
+    requires { IsTrue (is_primitive kind) }
+    ensures read { Reads (λ _. draft.new) (spec.one_gate kind draft.old tokens.old) result tokens.new }
+    ensures library { OnOk result (draft.new.library ≡ draft.old.library) }
+{
+    if tokens.sees(TokenKind::Name) {
+        named_gate(kind, draft, tokens)
+    } else {
+        unnamed_gate(kind, draft, tokens)
+    }
+}
+
+// Gates of one kind with commas between them.
+fn gates(kind: Kind, draft: &mut ModuleDraft, tokens: &mut Tokens<'_>) -> Result<(), ReadError>
+    requires { IsTrue (is_primitive kind) }
+    ensures read { Reads (λ _. draft.new) (spec.gates kind draft.old tokens.old) result tokens.new }
+    ensures library { OnOk result (draft.new.library ≡ draft.old.library) }
+{
+    'turns: for _turn in 0..tokens.left() {
+        one_gate(kind, draft, tokens)?;
+        if !tokens.eat(TokenKind::Comma) {
+            return Ok(());
+        }
+    }
+    Err(tokens.refusal())
+}
+
+#[tactic(auto, unfolding(dft_netlist::specs::Items::gate_item))]
+/// The kind of a gate and gates of this kind.
+pub fn gate_item(
+    kind: Kind,
+    draft: &mut ModuleDraft,
+    tokens: &mut Tokens<'_>,
+) -> Result<(), ReadError>
+    requires { IsTrue (is_primitive kind) }
+    ensures read { Reads (λ _. draft.new) (spec.gate_item kind draft.old tokens.old) result tokens.new }
+    ensures library { OnOk result (draft.new.library ≡ draft.old.library) }
+{
+    tokens.take();
+    gates(kind, draft, tokens)?;
+    tokens.expect(TokenKind::Semicolon)?;
+    Ok(())
+}

@@ -1,0 +1,154 @@
+//! The header of a module: names alone, or ports with their directions (IEEE 1364).
+
+ghost use Rattle.std.specs.Prelude.{◌≡◌, IfOk, OnOk};
+ghost use Rattle.dft_netlist.specs.NetlistText as spec;
+ghost use Rattle.dft_verilog.specs.Facings.{facing_as};
+ghost use Rattle.dft_verilog.specs.Reading.{Reads};
+
+use crate::cursor::Tokens;
+use crate::module_draft::ModuleDraft;
+use crate::ranges::range_if_any;
+use crate::read_error::ReadError;
+use dft_base::{Name, Range};
+use dft_cells::Library;
+use dft_netlist::{Dir, TokenKind};
+use std::alloc::Global;
+
+/// What the names behind a direction have.
+#[derive(Clone, Copy, Debug)]
+pub struct Facing {
+    pub dir: Dir,
+    pub range: Option<Range>,
+}
+
+#[tactic(auto, using(crate::proofs::KeptLemmas::declared_kept), unfolding(dft_netlist::specs::NetlistText::announced_name))]
+// One name of a header without directions.
+fn announced_name(draft: &mut ModuleDraft, tokens: &mut Tokens<'_>) -> Result<(), ReadError>
+    ensures read { Reads (λ _. draft.new) (spec.announced_name draft.old tokens.old) result tokens.new }
+    ensures library { OnOk result (draft.new.library ≡ draft.old.library) }
+{
+    let place = tokens.left();
+    let word = tokens.name()?;
+    draft.announce(place, word)
+}
+
+// The names of a header without directions.
+fn announced_names(draft: &mut ModuleDraft, tokens: &mut Tokens<'_>) -> Result<(), ReadError>
+    ensures read { Reads (λ _. draft.new) (spec.announced_names draft.old tokens.old) result tokens.new }
+    ensures library { OnOk result (draft.new.library ≡ draft.old.library) }
+{
+    'turns: for _turn in 0..tokens.left() {
+        announced_name(draft, tokens)?;
+        if !tokens.eat(TokenKind::Comma) {
+            return Ok(());
+        }
+    }
+    Err(tokens.refusal())
+}
+
+#[tactic(auto, using(crate::proofs::KeptLemmas::declared_kept), unfolding(dft_netlist::specs::NetlistText::new_port))]
+// One name of a header with directions.
+fn new_port(
+    facing: Facing,
+    draft: &mut ModuleDraft,
+    tokens: &mut Tokens<'_>,
+) -> Result<(), ReadError>
+    ensures read { Reads (λ _. draft.new) (spec.new_port facing.dir facing.range draft.old tokens.old) result tokens.new }
+    ensures library { OnOk result (draft.new.library ≡ draft.old.library) }
+{
+    let place = tokens.left();
+    let word = tokens.name()?;
+    draft.declare_new_port(place, word, facing.dir, facing.range)
+}
+
+#[tactic(auto, unfolding(dft_netlist::specs::NetlistText::facing_of))]
+// `input` or `output`, perhaps `wire`, perhaps a range.
+fn facing_of(dir: Dir, tokens: &mut Tokens<'_>) -> Result<Facing, ReadError>
+    ensures { Reads facing_as (spec.facing_of dir tokens.old) result tokens.new }
+{
+    tokens.take();
+    tokens.eat(TokenKind::Wire);
+    let range = range_if_any(tokens)?;
+    Ok(Facing { dir, range })
+}
+
+#[tactic(auto, unfolding(dft_netlist::specs::NetlistText::facing))]
+// A new direction, or the one of the name before.
+fn next_facing(before: Facing, tokens: &mut Tokens<'_>) -> Result<Facing, ReadError>
+    ensures { Reads facing_as (spec.facing (facing_as before) tokens.old) result tokens.new }
+{
+    if tokens.sees(TokenKind::Input) {
+        facing_of(Dir::Input, tokens)
+    } else if tokens.sees(TokenKind::Output) {
+        facing_of(Dir::Output, tokens)
+    } else {
+        Ok(before)
+    }
+}
+
+// The ports of a header with directions. The first has a direction of its own.
+fn new_ports(draft: &mut ModuleDraft, tokens: &mut Tokens<'_>) -> Result<(), ReadError>
+    ensures read { Reads (λ _. draft.new) (spec.new_ports draft.old tokens.old) result tokens.new }
+    ensures library { OnOk result (draft.new.library ≡ draft.old.library) }
+{
+    let mut here = Facing {
+        dir: Dir::Input,
+        range: None,
+    };
+    'turns: for _turn in 0..tokens.left() {
+        here = next_facing(here, tokens)?;
+        new_port(here, draft, tokens)?;
+        if !tokens.eat(TokenKind::Comma) {
+            return Ok(());
+        }
+    }
+    Err(tokens.refusal())
+}
+
+#[tactic(auto, unfolding(dft_netlist::specs::NetlistText::header_names))]
+// What stands between the brackets of a header.
+fn header_names(draft: &mut ModuleDraft, tokens: &mut Tokens<'_>) -> Result<(), ReadError>
+    ensures read { Reads (λ _. draft.new) (spec.header_names draft.old tokens.old) result tokens.new }
+    ensures library { OnOk result (draft.new.library ≡ draft.old.library) }
+{
+    if tokens.sees(TokenKind::CloseParen) {
+        Ok(())
+    } else if tokens.sees(TokenKind::Input) || tokens.sees(TokenKind::Output) {
+        new_ports(draft, tokens)
+    } else {
+        announced_names(draft, tokens)
+    }
+}
+
+#[tactic(auto, unfolding(dft_netlist::specs::NetlistText::header))]
+// The header in brackets, or none.
+fn header(draft: &mut ModuleDraft, tokens: &mut Tokens<'_>) -> Result<(), ReadError>
+    ensures read { Reads (λ _. draft.new) (spec.header draft.old tokens.old) result tokens.new }
+    ensures library { OnOk result (draft.new.library ≡ draft.old.library) }
+{
+    if !tokens.sees(TokenKind::OpenParen) {
+        return Ok(());
+    }
+    tokens.take();
+    header_names(draft, tokens)?;
+    tokens.expect(TokenKind::CloseParen)?;
+    Ok(())
+}
+
+#[tactic(auto, unfolding(dft_netlist::specs::NetlistText::heading))]
+/// `module`, its name and its header.
+pub fn heading(
+    alloc: Global,
+    library: Library,
+    tokens: &mut Tokens<'_>,
+) -> Result<ModuleDraft, ReadError>
+    ensures read { Reads (λ draft. draft) (spec.heading library tokens.old) result tokens.new }
+    ensures library { IfOk result (λ draft. draft.library ≡ library) }
+{
+    tokens.expect(TokenKind::Module)?;
+    let word = tokens.name()?;
+    let mut draft = ModuleDraft::new(alloc, Name::from_slice(alloc, word)?, library);
+    header(&mut draft, tokens)?;
+    tokens.expect(TokenKind::Semicolon)?;
+    Ok(draft)
+}

@@ -1,0 +1,120 @@
+//! Instances of library cells (IEEE 1364).
+
+ghost use Rattle.std.specs.Prelude.{◌≡◌, map, slice_get, Some, IfOk, OnOk};
+ghost use Rattle.dft_netlist.specs.Items as spec;
+ghost use Rattle.dft_netlist.specs.Steps.{left};
+ghost use Rattle.dft_verilog.specs.Reading.{Reads};
+
+use crate::connections::{connections, unjoined};
+use crate::cursor::Tokens;
+use crate::faults::no_cell;
+use crate::module_draft::ModuleDraft;
+use crate::read_error::ReadError;
+use dft_base::Name;
+use dft_cells::{Cell, CellId, Library};
+use dft_netlist::{CellRef, Instance, PinSignals, Signal, TokenKind};
+use std::alloc::{AllocError, Global};
+
+// What a pin is joined to; one that was not named is not connected.
+fn signal_at(joined: Option<Signal>) -> Signal
+    ensures { result ≡ spec.signal_at joined }
+{
+    match joined {
+        Some(to) => to,
+        None => Signal::Unconnected,
+    }
+}
+
+// The pins of a cell, in its order.
+fn pins_of(alloc: Global, joined: &[Option<Signal>]) -> Result<PinSignals, AllocError>
+    ensures { IfOk result (λ pins. pins ≡ map spec.signal_at joined.now) }
+{
+    let mut pins = PinSignals::new(alloc);
+    for to in joined {
+        pins.push(signal_at(*to))?;
+    }
+    Ok(pins)
+}
+
+#[tactic(auto, using(crate::proofs::ConnectionLemmas::instances), unfolding(dft_netlist::specs::Items::instance))]
+// The name of an instance, which is tested at itself, and its connections.
+fn instance(
+    id: CellId,
+    cell: &Cell,
+    draft: &mut ModuleDraft,
+    tokens: &mut Tokens<'_>,
+) -> Result<(), ReadError>
+    requires { slice_get draft.old.library id.0 ≡ Some cell.now }
+    ensures read { Reads (λ _. draft.new) (spec.instance id cell.now draft.old tokens.old) result tokens.new }
+    ensures library { OnOk result (draft.new.library ≡ draft.old.library) }
+{
+    let place = tokens.left();
+    let word = tokens.name()?;
+    draft.name_instance(place, word)?;
+    tokens.expect(TokenKind::OpenParen)?;
+    let mut joined = unjoined(draft.alloc(), cell)?;
+    connections(cell, &mut joined, draft, tokens)?;
+    tokens.expect(TokenKind::CloseParen)?;
+    draft.add_instance(Instance {
+        name: Some(Name::from_slice(draft.alloc(), word)?),
+        cell: CellRef::Library(id),
+        pins: pins_of(draft.alloc(), &joined)?,
+    })?;
+    Ok(())
+}
+
+// Instances of one cell with commas between them.
+fn instances_of_cell(
+    id: CellId,
+    cell: &Cell,
+    draft: &mut ModuleDraft,
+    tokens: &mut Tokens<'_>,
+) -> Result<(), ReadError>
+    requires { slice_get draft.old.library id.0 ≡ Some cell.now }
+    ensures read { Reads (λ _. draft.new) (spec.instances_from (left tokens.old) id cell.now draft.old tokens.old) result tokens.new }
+    ensures library { OnOk result (draft.new.library ≡ draft.old.library) }
+{
+    'turns: for _turn in 0..tokens.left() {
+        instance(id, cell, draft, tokens)?;
+        if !tokens.eat(TokenKind::Comma) {
+            return Ok(());
+        }
+    }
+    Err(tokens.refusal())
+}
+
+#[tactic(auto, unfolding(dft_netlist::specs::Items::instances))]
+// Instances and the semicolon behind them.
+fn instances(
+    id: CellId,
+    cell: &Cell,
+    draft: &mut ModuleDraft,
+    tokens: &mut Tokens<'_>,
+) -> Result<(), ReadError>
+    requires { slice_get draft.old.library id.0 ≡ Some cell.now }
+    ensures read { Reads (λ _. draft.new) (spec.instances id cell.now draft.old tokens.old) result tokens.new }
+    ensures library { OnOk result (draft.new.library ≡ draft.old.library) }
+{
+    instances_of_cell(id, cell, draft, tokens)?;
+    tokens.expect(TokenKind::Semicolon)?;
+    Ok(())
+}
+
+#[tactic(auto, unfolding(dft_netlist::specs::Items::cell_item))]
+/// The name of a cell of the draft's library, and instances of it.
+pub fn cell_item(
+    library: &Library,
+    draft: &mut ModuleDraft,
+    tokens: &mut Tokens<'_>,
+) -> Result<(), ReadError>
+    requires { draft.old.library ≡ library.now }
+    ensures read { Reads (λ _. draft.new) (spec.cell_item draft.old tokens.old) result tokens.new }
+    ensures library { OnOk result (draft.new.library ≡ draft.old.library) }
+{
+    let place = tokens.left();
+    let word = tokens.name()?;
+    match library.find(word) {
+        None => Err(no_cell(draft.alloc(), place, word)),
+        Some(id) => instances(id, library.cell(id), draft, tokens),
+    }
+}

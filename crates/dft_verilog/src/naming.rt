@@ -1,0 +1,34 @@
+//! What a name gives an expression, and what the draft and the bits keep.
+
+ghost use Rattle.std.specs.Prelude.{◌≡◌, OnOk, length};
+ghost use Rattle.dft_base.specs.Name.{IsName};
+ghost use Rattle.dft_netlist.specs.Expressions as spec;
+ghost use Rattle.dft_verilog.specs.Checking.{Checks};
+ghost use Rattle.dft_verilog.specs.Operands.{Grows, AreBits};
+ghost use Rattle.dft_verilog.specs.Selecting.{behind};
+
+use crate::module_draft::ModuleDraft;
+use crate::read_error::ReadError;
+use crate::selecting::Spot;
+use dft_netlist::{Select, Signal};
+
+impl ModuleDraft {
+    /// Puts what a name gives behind the bits before, which are nets of the draft or constants that are not driven, and
+    /// so are those behind it.
+    pub fn read_name(
+        &mut self,
+        spot: Spot,
+        word: &[u8],
+        what: Select,
+        bits: &mut Vec<Signal>,
+    ) -> Result<(), ReadError>
+        requires { IsName word.now }
+        ensures read { Checks (λ _. (self.new, bits.new.items)) (behind bits.old.items (spec.bits_of_name spot.site spot.depth (record { word = word.now; what = what; place = spot.place }) self.old)) result }
+        ensures grown { OnOk result (Grows self.old self.new) }
+        ensures bits { AreBits (length self.old.nets) (spec.drives spot.site) bits.old.items → OnOk result (AreBits (length self.new.nets) (spec.drives spot.site) bits.new.items) }
+    {
+        let _nets = self.nets();
+        self.bits_of_name(spot, word, what, bits)?;
+        Ok(())
+    }
+}

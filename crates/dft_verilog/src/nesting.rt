@@ -1,0 +1,170 @@
+//! Expressions of netlist texts: operands and concatenations (IEEE 1364), read without recursion.
+
+ghost use Rattle.std.specs.Prelude.{◌≡◌, suc, ◌+◌, ◌≤◌, OnOk, IfOk, length};
+ghost use Rattle.dft_base.specs.Parser.{and_then, pure};
+ghost use Rattle.dft_netlist.specs.Expressions as spec;
+ghost use Rattle.dft_netlist.specs.Steps.{left};
+ghost use Rattle.dft_verilog.specs.Operands.{Grows, AreBits};
+ghost use Rattle.dft_verilog.specs.Reading.{Reads};
+
+use crate::blanks::MAX_TEXT;
+use crate::cursor::Tokens;
+use crate::module_draft::ModuleDraft;
+use crate::operands::{followed, operand};
+use crate::read_error::ReadError;
+use dft_netlist::{Signal, Site, TokenKind};
+use std::alloc::Global;
+use std::marker::Model;
+
+/// How far an expression is read: how many concatenations are open, whether an operand comes next, and the bits so far.
+#[derive(Debug, Drop)]
+pub struct Nest {
+    depth: usize,
+    awaits: bool,
+    bits: Vec<Signal>,
+}
+
+impl Model for Nest {
+    ghost use Rattle.dft_netlist.specs.Expressions as spec;
+
+    ghost Value = { spec.Nest };
+
+    ghost use Rattle.dft_verilog.specs.NestShown.{nest_of};
+
+    ghost view = { nest_of };
+}
+
+impl Nest {
+    // Nothing is read yet.
+    fn unread(alloc: Global) -> Nest
+        ensures { result ≡ spec.unread }
+    {
+        Nest {
+            depth: 0,
+            awaits: true,
+            bits: Vec::new(alloc),
+        }
+    }
+
+    // Whether the expression is read.
+    fn is_read(&self) -> bool
+        ensures { result ≡ spec.is_read self.now }
+    {
+        !self.awaits && self.depth == 0
+    }
+
+    // An operand comes.
+    fn take_operand(
+        &mut self,
+        site: Site,
+        draft: &mut ModuleDraft,
+        tokens: &mut Tokens<'_>,
+    ) -> Result<(), ReadError>
+        ensures read { Reads (λ _. (draft.new, self.new)) (and_then (spec.operand site self.old.depth draft.old tokens.old) (λ o. pure (spec.with_operand self.old o))) result tokens.new }
+        ensures depth { OnOk result (self.new.depth ≡ self.old.depth) }
+        ensures grown { OnOk result (Grows draft.old draft.new) }
+        ensures bits { AreBits (length draft.old.nets) (spec.drives site) self.old.bits → OnOk result (AreBits (length draft.new.nets) (spec.drives site) self.new.bits) }
+    {
+        operand(site, self.depth, draft, &mut self.bits, tokens)?;
+        self.awaits = false;
+        Ok(())
+    }
+
+    #[tactic(auto, using(crate::proofs::OperandLemmas::growing), unfolding(dft_netlist::specs::Expressions::opening))]
+    // A concatenation opens, or an operand comes.
+    fn open(
+        &mut self,
+        site: Site,
+        draft: &mut ModuleDraft,
+        tokens: &mut Tokens<'_>,
+    ) -> Result<(), ReadError>
+        requires { self.old.depth ≤ MAX_TEXT }
+        ensures read { Reads (λ _. (draft.new, self.new)) (spec.opening site draft.old self.old tokens.old) result tokens.new }
+        ensures depth { OnOk result (self.new.depth ≤ self.old.depth + 1) }
+        ensures grown { OnOk result (Grows draft.old draft.new) }
+        ensures bits { AreBits (length draft.old.nets) (spec.drives site) self.old.bits → OnOk result (AreBits (length draft.new.nets) (spec.drives site) self.new.bits) }
+    {
+        if !tokens.sees(TokenKind::OpenBrace) {
+            return self.take_operand(site, draft, tokens);
+        }
+        tokens.take();
+        self.depth += 1;
+        Ok(())
+    }
+
+    #[tactic(auto, unfolding(dft_netlist::specs::Expressions::closing))]
+    // Behind an operand of a concatenation comes a comma, or the concatenation closes.
+    fn close(&mut self, draft: &ModuleDraft, tokens: &mut Tokens<'_>) -> Result<(), ReadError>
+        ensures read { Reads (λ _. (draft.now, self.new)) (spec.closing draft.now self.old tokens.old) result tokens.new }
+        ensures depth { OnOk result (self.new.depth ≤ self.old.depth) }
+        ensures bits { OnOk result (self.new.bits ≡ self.old.bits) }
+    {
+        if tokens.sees(TokenKind::Comma) {
+            tokens.take();
+            self.awaits = true;
+        } else {
+            tokens.expect(TokenKind::CloseBrace)?;
+            self.depth = self.depth.saturating_sub(1);
+        }
+        Ok(())
+    }
+
+    #[tactic(auto, using(crate::proofs::OperandLemmas::growing))]
+    // One step through an expression.
+    fn turn(
+        &mut self,
+        site: Site,
+        draft: &mut ModuleDraft,
+        tokens: &mut Tokens<'_>,
+    ) -> Result<(), ReadError>
+        requires { self.old.depth ≤ MAX_TEXT }
+        ensures read { Reads (λ _. (draft.new, self.new)) (spec.turn site draft.old self.old tokens.old) result tokens.new }
+        ensures depth { OnOk result (self.new.depth ≤ self.old.depth + 1) }
+        ensures grown { OnOk result (Grows draft.old draft.new) }
+        ensures bits { AreBits (length draft.old.nets) (spec.drives site) self.old.bits → OnOk result (AreBits (length draft.new.nets) (spec.drives site) self.new.bits) }
+    {
+        if self.awaits {
+            self.open(site, draft, tokens)
+        } else {
+            self.close(draft, tokens)
+        }
+    }
+
+    // All of an expression, but for what comes behind it.
+    fn read_on(
+        &mut self,
+        site: Site,
+        draft: &mut ModuleDraft,
+        tokens: &mut Tokens<'_>,
+    ) -> Result<(), ReadError>
+        requires { self.old.depth ≡ 0 }
+        ensures read { Reads (λ _. (draft.new, self.new)) (spec.nest_from (suc (left tokens.old)) site draft.old self.old tokens.old) result tokens.new }
+        ensures grown { OnOk result (Grows draft.old draft.new) }
+        ensures bits { AreBits (length draft.old.nets) (spec.drives site) self.old.bits → OnOk result (AreBits (length draft.new.nets) (spec.drives site) self.new.bits) }
+    {
+        'turns: for _turn in 0..tokens.left() + 1 {
+            if self.is_read() {
+                return Ok(());
+            }
+            self.turn(site, draft, tokens)?;
+        }
+        Err(tokens.refusal())
+    }
+}
+
+#[tactic(auto, unfolding(dft_netlist::specs::Expressions::expression))]
+/// An expression: its bits, leftmost first. What comes behind it must be what may follow.
+pub fn expression(
+    site: Site,
+    draft: &mut ModuleDraft,
+    tokens: &mut Tokens<'_>,
+) -> Result<Vec<Signal>, ReadError>
+    ensures read { Reads (λ bits. (draft.new, bits.items)) (spec.expression site draft.old tokens.old) result tokens.new }
+    ensures grown { OnOk result (Grows draft.old draft.new) }
+    ensures bits { IfOk result (λ bits. AreBits (length draft.new.nets) (spec.drives site) bits.items) }
+{
+    let mut nest = Nest::unread(draft.alloc());
+    nest.read_on(site, draft, tokens)?;
+    followed(site, 0, tokens)?;
+    Ok(nest.bits)
+}
