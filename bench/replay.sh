@@ -1,0 +1,30 @@
+#!/bin/sh
+# Times the built dft: replays made netlists at three sizes and prints gates times vectors per second and the peak
+# memory, then with 1, 16 and 256 clocks; and times the netlist reader alone (the patterns are then a file that is not
+# there). Build the program first (./dft does). It promises nothing.
+here=$(cd "$(dirname "$0")" && pwd)
+dft=$here/../crates/dft/out/dft
+[ -x "$dft" ] || { echo "build dft first: ./dft replay .." >&2; exit 2; }
+work=$(mktemp -d) || exit 2
+trap 'rm -rf "$work"' EXIT
+# prints the seconds and the peak megabytes of a command
+timed() { /usr/bin/python3 - "$@" <<'PY'
+import os, resource, subprocess, sys, time
+start = time.time()
+subprocess.run(sys.argv[1:], stdout=subprocess.DEVNULL)
+print(f"{time.time() - start:.3f} {resource.getrusage(resource.RUSAGE_CHILDREN).ru_maxrss / 1024:.0f}")
+PY
+}
+replay() {
+    python3 "$here/make.py" "$1" "$2" "$3" "$work"
+    set -- "$1" "$2" "$3" $(timed "$dft" replay --netlist "$work/bench.v" --patterns "$work/bench.stil")
+    echo "replay: $1 gates, $2 vectors, $3 clocks: $4 s, $5 MB, $(python3 -c "print(f'{$1 * $2 / $4:.3g}')") gates times vectors a second"
+}
+for gates in 1000 5000 25000; do replay "$gates" 2000 1; done
+for clocks in 16 256; do replay 5000 2000 "$clocks"; done
+for gates in 20000 100000; do
+    python3 "$here/make.py" "$gates" 0 1 "$work"
+    size=$(wc -c < "$work/bench.v")
+    set -- $(timed "$dft" replay --netlist "$work/bench.v" --patterns "$work/none")
+    echo "read: $size bytes of netlist: $1 s, $2 MB, $(python3 -c "print(f'{$size / $1 / 1e6:.1f}')") MB/s"
+done
