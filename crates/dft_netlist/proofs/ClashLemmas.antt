@@ -1,5 +1,5 @@
 -- The least net that is driven twice.
-use Rattle.std.proofs.Common.{◌≡◌, ℕ, zero, suc, ◌+◌, ◌<◌, ◌≤◌, Bool, true, false, cond, List, [], ◌∷◌, ◌++◌, length, Option, None, Some, refl, sym, ◌∙◌, ap, subst, arith, slice_get, slice_set, replicate, count_by, ◌==◌, ◌⊎◌, inl, inr}
+use Rattle.std.proofs.Common.{◌≡◌, ℕ, zero, suc, ◌+◌, ◌<◌, ◌≤◌, Bool, true, false, cond, List, [], ◌∷◌, length, Option, None, Some, refl, sym, ◌∙◌, ap, subst, arith, slice_get, count_by, ◌==◌, ◌⊎◌, inl, inr}
 use Rattle.std.specs.Prelude.{nat_le}
 use Rattle.std.proofs.lemmas.Bool.Decides.{nat_tests}
 use Rattle.std.proofs.lemmas.List.Sums.{sum_by-cons}
@@ -7,12 +7,11 @@ use Rattle.dft_netlist.specs.declared.ids.NetId.{NetId}
 use Rattle.dft_netlist.specs.declared.net_driver.NetDriver.{NetDriver}
 use Rattle.dft_netlist.specs.declared.net_driver.NetDriver.TheVariants.{Input, Pin, Join, Nothing}
 use Rattle.dft_netlist.specs.Netlist.{Netlist}
-use Rattle.dft_netlist.specs.Drivers.{Driven, all_driven, driver_in, driver, Free}
-use Rattle.dft_netlist.specs.Finding.{AreDrivers}
-use Rattle.dft_netlist.specs.NetDrivers.{driver_at, Drives, times_driven, IsSingle, IsFirstMultiple}
-use Rattle.dft_netlist.specs.Notes.{Drive, Notes, noted, noted_at, all_noted, least_net, all_drives}
-use Rattle.dft_netlist.proofs.NotesLemmas.{length-all_noted, length-noted}
-use Rattle.dft_netlist.proofs.DriveLemmas.{IsEntry, AreEntries, all_entries, merged, of_net, first_by, noted_found, all_found, same_number, is_number, other_number, merged_some}
+use Rattle.dft_netlist.specs.Drivers.{Driven, driver_in}
+use Rattle.dft_netlist.specs.NetDrivers.{driver_at, Drives}
+use Rattle.dft_netlist.specs.Notes.{Drive, Notes, noted, noted_at, all_noted, least_net}
+use Rattle.dft_netlist.proofs.NotesLemmas.{length-noted}
+use Rattle.dft_netlist.proofs.DriveLemmas.{AreEntries, merged, of_net, first_by, noted_found, same_number, is_number, merged_some}
 
 abbrev pub occ : NetDriver → ℕ
 occ Nothing = 0

@@ -1,12 +1,8 @@
 -- The drives of a netlist are its drivers, and what is noted of them is what drives each net.
-use Rattle.std.proofs.Common.{◌≡◌, ℕ, zero, suc, ◌+◌, ◌<◌, ◌≤◌, Bool, true, false, cond, List, [], ◌∷◌, ◌++◌, length, Option, None, Some, refl, sym, ◌∙◌, ap, subst, arith, slice_get, slice_set, replicate, count_by, ◌==◌, ◌⊎◌, inl, inr, append_assoc, add-one, length-set, true≢false}
-use Rattle.std.specs.Prelude.{nat_le}
+use Rattle.std.proofs.Common.{◌≡◌, ℕ, zero, suc, Bool, true, false, cond, List, [], ◌∷◌, ◌++◌, length, Option, None, Some, refl, sym, ◌∙◌, ap, arith, slice_get, slice_set, ◌==◌, append_assoc}
 use Rattle.std.proofs.lemmas.Bool.Decides.{nat_tests}
-use Rattle.std.proofs.Common.{eq-eqb}
-use Rattle.dft_cells.specs.declared.kind.Kind.{Kind}
 use Rattle.dft_cells.specs.declared.kind.Role.{Role}
 use Rattle.dft_cells.specs.declared.kind.Role.TheVariants as role
-use Rattle.dft_cells.specs.declared.cell.Cell.{Cell}
 use Rattle.dft_netlist.specs.declared.ids.NetId.{NetId}
 use Rattle.dft_netlist.specs.declared.port.Port.{Port}
 use Rattle.dft_netlist.specs.declared.port.Dir.{Dir}
@@ -18,10 +14,9 @@ use Rattle.dft_netlist.specs.declared.instance.Join.{Join as AJoin}
 use Rattle.dft_netlist.specs.declared.net_driver.NetDriver.{NetDriver}
 use Rattle.dft_netlist.specs.declared.net_driver.NetDriver.TheVariants.{Input, Pin, Join, Nothing}
 use Rattle.dft_netlist.specs.Netlist.{Netlist}
-use Rattle.dft_netlist.specs.Drivers.{Driver, Driven, Connection, Source, all_driven, driven_by_ports, driven_by_bits, driven_by_instances, driven_by, driven_by_pins, driven_by_joins, connections_from, connections_of, inputs_of, shape_of, driver_of_kind, driver_in, driver, at_role, at_signal}
-use Rattle.dft_netlist.specs.Drivers as drivers
-use Rattle.dft_netlist.specs.NetDrivers.{driver_at, is_inverted, Drives, IsInputBit, IsOutputPin, IsTarget, times_driven}
-use Rattle.dft_netlist.specs.Notes.{Drive, Notes, noted, noted_at, all_noted, least_net, bit_drives, drives_of_dir, port_drives, ports_drives, net_drives, pin_drives, pins_drives, instance_drives, instances_drives, joins_drives, all_drives}
+use Rattle.dft_netlist.specs.Drivers.{Driven, all_driven, driven_by_ports, driven_by_bits, driven_by_instances, driven_by_pins, driven_by_joins, connections_from, connections_of, inputs_of, shape_of, driver_of_kind, at_role, at_signal}
+use Rattle.dft_netlist.specs.NetDrivers.{driver_at, is_inverted, Drives}
+use Rattle.dft_netlist.specs.Notes.{Drive, Notes, noted, noted_at, all_noted, bit_drives, drives_of_dir, ports_drives, net_drives, pin_drives, pins_drives, instances_drives, joins_drives, all_drives}
 use Rattle.dft_netlist.specs.Sound.{is_output}
 
 -- an entry of one list is the entry of the other: the same net, whose place has this driver and drives it

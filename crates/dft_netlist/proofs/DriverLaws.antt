@@ -1,9 +1,9 @@
 -- What is listed as the driver of a net, where there is one, drives it.
-use Rattle.std.proofs.Common.{◌≡◌, ℕ, zero, suc, ◌+◌, ◌<◌, ◌≤◌, Bool, true, false, cond, List, [], ◌∷◌, Some, refl, sym, ◌∙◌, ap, subst, arith, slice_get, count_by, ◌==◌}
+use Rattle.std.proofs.Common.{◌≡◌, ℕ, zero, suc, ◌+◌, ◌≤◌, Bool, true, false, cond, List, [], ◌∷◌, Some, refl, ◌∙◌, ap, arith, slice_get, count_by, ◌==◌}
 use Rattle.std.proofs.lemmas.List.Sums.{sum_by-cons}
-use Rattle.dft_netlist.specs.Drivers.{Driver, Driven, driver_in}
+use Rattle.dft_netlist.specs.Drivers.{Driven, driver_in}
 use Rattle.dft_netlist.specs.DesignLaws.{ListedDrives}
-use Rattle.dft_netlist.proofs.DriveLemmas.{same_number, is_number}
+use Rattle.dft_netlist.proofs.DriveLemmas.{is_number}
 
 abbrev times : List Driven → (net : ℕ) → ℕ
 times es net = count_by (λ (x : Driven). x.0 == net) es

@@ -11,7 +11,7 @@ use Rattle.dft_netlist.specs.Netlist.{Netlist}
 use Rattle.dft_netlist.specs.Names.{Names, find_net, find_net_from, find_instance, find_instance_from, has_this_name, instance_name}
 use Rattle.dft_netlist.specs.NamedParts.{net_in, instance_in}
 use Rattle.dft_netlist.specs.NameTables.{Entry, look_up, Knows}
-use Rattle.dft_netlist.specs.Tokens.{Text}
+use Rattle.dft_base.specs.Lexing.{Text}
 use Rattle.dft_netlist.proofs.NamesLemmas.{same_of, bytes_eq-same}
 
 -- ---- nets

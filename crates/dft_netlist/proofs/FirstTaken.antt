@@ -1,10 +1,10 @@
 -- The first name of a port that is taken.
-use Rattle.std.proofs.Common.{◌≡◌, ℕ, ◌+◌, ◌<◌, true, false, List, [], ◌∷◌, length, drop, get_or, Option, None, Some, is_some, refl, sym, ◌∙◌, ap, true≢false}
+use Rattle.std.proofs.Common.{◌≡◌, ℕ, ◌+◌, ◌<◌, true, false, List, length, drop, get_or, Option, None, Some, is_some, refl, sym, ◌∙◌, true≢false}
 use Rattle.std.proofs.lemmas.List.{at_drop_more}
 use Rattle.dft_base.specs.declared.place.Range.{Range}
 use Rattle.dft_netlist.specs.Netlist.{Netlist}
 use Rattle.dft_netlist.specs.Names.{is_taken, first_taken, bit_names, port_names}
-use Rattle.dft_netlist.specs.Tokens.{Text}
+use Rattle.dft_base.specs.Lexing.{Text}
 
 -- a vector's own name is the first
 pub own_first : (n : Netlist) (name : Text) (range : Option Range) → is_some range ≡ true → is_taken n name ≡ true → first_taken n (port_names name range) ≡ Some name

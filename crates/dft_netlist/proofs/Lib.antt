@@ -3,7 +3,6 @@ pub mod Steps
 pub mod Ranks
 pub mod OneSettled
 pub mod Walks
-pub mod Flats
 mod TextExamples
 mod MoreTextExamples
 pub mod NameTableLemmas

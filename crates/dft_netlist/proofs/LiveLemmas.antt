@@ -1,24 +1,22 @@
 -- What drives a net of a sound netlist drives one that is there.
-use Rattle.std.proofs.Common.{◌≡◌, ℕ, zero, suc, ◌+◌, ◌<◌, ◌≤◌, List, [], ◌∷◌, ◌++◌, length, Option, None, Some, refl, sym, ◌∙◌, ap, subst, arith, slice_get, length-append, replicate, ◌⊎◌, inl, inr}
+use Rattle.std.proofs.Common.{◌≡◌, ℕ, zero, suc, ◌+◌, ◌<◌, ◌≤◌, List, [], ◌∷◌, ◌++◌, length, None, Some, refl, sym, ◌∙◌, ap, subst, arith, slice_get, length-append, replicate, ◌⊎◌, inl, inr}
 use Rattle.std.proofs.lemmas.Option.{slice_get_within}
 use Rattle.dft_netlist.specs.declared.ids.NetId.{NetId}
 use Rattle.dft_netlist.specs.declared.port.Port.{Port}
 use Rattle.dft_netlist.specs.declared.net_driver.NetDriver.{NetDriver}
 use Rattle.dft_netlist.specs.declared.net_driver.NetDriver.TheVariants.{Input, Pin, Join, Nothing}
 use Rattle.dft_netlist.specs.Netlist.{Netlist}
-use Rattle.dft_netlist.specs.Drivers.{Driven, all_driven, driver}
+use Rattle.dft_netlist.specs.Drivers.{Driven, all_driven}
 use Rattle.dft_netlist.specs.Finding.{AreDrivers}
-use Rattle.dft_netlist.specs.Finishing.{IsMultiple}
 use Rattle.dft_netlist.specs.Names.{bit_names}
 use Rattle.dft_netlist.specs.NetDrivers.{Drives, times_driven, driver_at, IsFirstMultiple}
 use Rattle.dft_netlist.specs.NetNumbers.{nets_from}
 use Rattle.dft_netlist.specs.Notes.{Drive, Notes, all_noted, all_drives, ports_drives, instances_drives, joins_drives}
 use Rattle.dft_netlist.specs.Sound.{IsNetlist, bits_of, bit_names_of}
-use Rattle.dft_netlist.specs.Tokens.{Text}
 use Rattle.dft_netlist.proofs.Places.{get_left}
 use Rattle.dft_netlist.proofs.NotesLemmas.{length-all_noted, all_noted-append}
 use Rattle.dft_netlist.proofs.DriveLemmas.{AreEntries, all_entries, all_found, first_by}
-use Rattle.dft_netlist.proofs.ClashLemmas.{IsBelow, AreLiveDrives, times_in, times_same, times_past, driver_same, first_drives, below_all, clash_all, clash_live}
+use Rattle.dft_netlist.proofs.ClashLemmas.{IsBelow, AreLiveDrives, times_same, times_past, driver_same, first_drives, below_all, clash_all, clash_live}
 
 -- ---- bits of ports
 

@@ -1,9 +1,8 @@
 -- More netlist texts worked by hand.
-use Rattle.std.proofs.Common.{replicate, true, false, ◌≡◌, map, ◌++◌, ℕ, refl, codes, Option, Some, None, Result, Ok, Err, List, [], ◌∷◌}
+use Rattle.std.proofs.Common.{replicate, true, false, ◌≡◌, ◌++◌, ℕ, refl, codes, Option, Some, None, Result, Ok, Err, List, [], ◌∷◌}
 use Rattle.dft_base.specs.declared.place.Place.{Place}
 use Rattle.std.specs.Fmt as fmt
 use Rattle.dft_base.specs.Words as words
-use Rattle.dft_base.specs.declared.place.Range.{Range}
 use Rattle.dft_base.specs.Parser.{Checked}
 use Rattle.dft_base.specs.Lexing.{Text, place_of, place_after, next_place}
 use Rattle.dft_cells.specs.Standard.{standard_cells}

@@ -1,10 +1,10 @@
 -- The table of names: look-ups by bytes, and one name more.
-use Rattle.std.proofs.Common.{◌≡◌, ℕ, Bool, true, false, cond, List, [], ◌∷◌, ◌++◌, map, Option, None, Some, refl, sym, ◌∙◌, ap, arith, true≢false, Result, Ok, Err}
+use Rattle.std.proofs.Common.{◌≡◌, ℕ, List, [], ◌∷◌, ◌++◌, map, refl, sym, true≢false, Result, Ok, Err}
 use Rattle.std.specs.Str.{bytes_eq}
 use Rattle.std.specs.Map.{lookup}
 use Rattle.std.specs.Result.{IsOk, OnOk}
 use Rattle.dft_netlist.specs.declared.named.Named.{Named}
-use Rattle.dft_netlist.specs.NameTables.{Entry, look_up}
+use Rattle.dft_netlist.specs.NameTables.{look_up}
 
 -- a look-up among keys that show their bytes
 pub look_up-map : {K : Type 0} (shown : K → List ℕ) (name : List ℕ) (es : List (K × Named)) → lookup (λ k. bytes_eq name (shown k)) es ≡ look_up (map (λ e. (shown e.0, e.1)) es) name

@@ -1,19 +1,17 @@
 -- Names of a netlist and the table that knows them.
-use Rattle.std.proofs.Common.{◌≡◌, ℕ, zero, suc, Bool, true, false, cond, ◌||◌, List, [], ◌∷◌, ◌++◌, length, Option, None, Some, is_some, refl, sym, ◌∙◌, ap, subst, true≢false, ◌⊎◌, inl, inr, slice_get}
+use Rattle.std.proofs.Common.{◌≡◌, ℕ, zero, suc, Bool, true, false, cond, ◌||◌, List, [], ◌∷◌, ◌++◌, Option, None, Some, is_some, refl, sym, ◌∙◌, ap, subst, true≢false, ◌⊎◌, inl, inr, slice_get}
 use Rattle.std.specs.List.{filter_map, cons_option}
 use Rattle.std.specs.Option.{option_and_then}
 use Rattle.std.specs.Str.{bytes_eq}
 use Rattle.std.proofs.lemmas.Slice.Eq.{bytes_eq-Decides}
 use Rattle.dft_cells.specs.WellFormed.{has_name}
-use Rattle.dft_netlist.specs.declared.ids.NetId.{NetId}
 use Rattle.dft_netlist.specs.declared.named.Named.{Named}
 use Rattle.dft_netlist.specs.declared.named.Named.TheVariants.{Net, Vector, Instance}
 use Rattle.dft_netlist.specs.Netlist.{Netlist}
-use Rattle.dft_netlist.specs.Names.{Names, NamesDiffer, names_taken, is_taken, first_taken, vector_name, instance_name, IsNamed}
-use Rattle.dft_netlist.specs.NameTables.{Entry, look_up, Knows, own_entries, IsFree}
+use Rattle.dft_netlist.specs.Names.{Names, NamesDiffer, is_taken, first_taken, vector_name, instance_name, IsNamed}
+use Rattle.dft_netlist.specs.NameTables.{Entry, look_up, Knows, IsFree}
 use Rattle.dft_netlist.specs.Building.{own_names}
-use Rattle.dft_netlist.specs.Tokens.{Text}
-use Rattle.dft_netlist.proofs.Places.{get_left, get_push, push_cases}
+use Rattle.dft_base.specs.Lexing.{Text}
 
 -- ---- equal texts
 

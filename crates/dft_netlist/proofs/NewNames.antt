@@ -1,8 +1,8 @@
 -- New names in a table.
-use Rattle.std.proofs.Common.{◌≡◌, ℕ, zero, suc, ◌+◌, List, [], ◌∷◌, ◌++◌, length, Option, None, Some, refl, sym, ◌∙◌, ap, subst, ◌⊎◌, inl, inr, slice_get}
+use Rattle.std.proofs.Common.{◌≡◌, suc, List, [], ◌∷◌, ◌++◌, Option, None, Some, refl, sym, ap, inl, inr}
 use Rattle.dft_netlist.specs.declared.named.Named.{Named}
-use Rattle.dft_netlist.specs.NameTables.{Entry, look_up, net_entries, AreNew}
-use Rattle.dft_netlist.specs.Tokens.{Text}
+use Rattle.dft_netlist.specs.NameTables.{Entry, look_up, AreNew}
+use Rattle.dft_base.specs.Lexing.{Text}
 use Rattle.dft_netlist.proofs.NamesLemmas.{found_cases}
 
 -- a name stays free where another is added

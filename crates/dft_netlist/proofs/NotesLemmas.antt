@@ -1,5 +1,5 @@
 -- What is noted of drives, one after another.
-use Rattle.std.proofs.Common.{◌≡◌, ℕ, zero, suc, ◌+◌, ◌<◌, ◌≤◌, Bool, true, false, List, [], ◌∷◌, ◌++◌, length, get_or, take, drop, Option, None, Some, refl, sym, ◌∙◌, ap, subst, arith, slice_get, slice_set, length-set, rules, add-one}
+use Rattle.std.proofs.Common.{◌≡◌, ℕ, zero, suc, ◌+◌, ◌<◌, ◌≤◌, List, [], ◌∷◌, ◌++◌, length, get_or, drop, Option, None, Some, refl, sym, ◌∙◌, ap, subst, slice_get, length-set, add-one}
 use Rattle.std.proofs.lemmas.Option.{slice_get-get_or}
 use Rattle.std.proofs.lemmas.List.{drop_more, drop_all}
 use Rattle.dft_cells.specs.declared.kind.Role.{Role}
@@ -11,7 +11,7 @@ use Rattle.dft_netlist.specs.declared.instance.Instance.{Instance}
 use Rattle.dft_netlist.specs.declared.instance.Join.{Join as AJoin}
 use Rattle.dft_netlist.specs.declared.net_driver.NetDriver.{NetDriver}
 use Rattle.dft_netlist.specs.declared.net_driver.NetDriver.TheVariants.{Input, Pin, Join, Nothing}
-use Rattle.dft_netlist.specs.Notes.{Drive, Notes, noted, noted_at, all_noted, bit_drives, port_drives, ports_drives, pin_drives, pins_drives, instance_drives, instances_drives, joins_drives, all_drives}
+use Rattle.dft_netlist.specs.Notes.{Drive, Notes, noted, noted_at, all_noted, bit_drives, port_drives, ports_drives, pin_drives, pins_drives, instance_drives, instances_drives, joins_drives}
 
 pub length-noted_at : (o : Option NetDriver) (s : Notes) (d : Drive) → length (noted_at o s d).found ≡ length s.found
 length-noted_at None s d = refl

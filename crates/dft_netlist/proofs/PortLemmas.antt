@@ -7,10 +7,10 @@ use Rattle.dft_netlist.specs.declared.port.Port.{Port}
 use Rattle.dft_netlist.specs.declared.limits.TheConstants.{MAX_PORTS, MAX_NETS}
 use Rattle.dft_netlist.specs.Netlist.{Netlist}
 use Rattle.dft_netlist.specs.Names.{Names, vector_name, bit_names}
-use Rattle.dft_netlist.specs.NameTables.{Entry, look_up, Knows, own_entries, net_entries, AreNew, IsFree}
+use Rattle.dft_netlist.specs.NameTables.{Entry, Knows, own_entries, net_entries, AreNew, IsFree}
 use Rattle.dft_netlist.specs.NetNumbers.{nets_from}
-use Rattle.dft_netlist.specs.Sound.{IsNetlist, IsInstanceOf, IsJoinOf, HasOnlyPorts, Begins, bits_of, bit_names_of}
-use Rattle.dft_netlist.specs.Tokens.{Text}
+use Rattle.dft_netlist.specs.Sound.{IsNetlist, HasOnlyPorts, Begins, bits_of, bit_names_of}
+use Rattle.dft_base.specs.Lexing.{Text}
 use Rattle.dft_netlist.proofs.Places.{push_cases, shown_left, shown_push, shown_cases}
 use Rattle.dft_netlist.proofs.NamesLemmas.{Adds, SameNames, knows_more, knows_same, differ_of}
 use Rattle.dft_netlist.proofs.NewNames.{first_new, others_new}

@@ -1,5 +1,5 @@
 -- The printed names of a port's bits differ, and those of a port that is not refused are new.
-use Rattle.std.proofs.Common.{◌≡◌, ℕ, zero, suc, ◌+◌, ◌-◌, ◌<◌, ◌≤◌, ◌^◌, Bool, true, false, List, [], ◌∷◌, ◌++◌, length, map, Option, None, Some, refl, sym, ◌∙◌, ap, subst, arith, slice_get, length-append, append-nil}
+use Rattle.std.proofs.Common.{◌≡◌, ℕ, zero, suc, ◌+◌, ◌-◌, ◌<◌, ◌^◌, Bool, true, false, List, [], ◌∷◌, ◌++◌, length, map, Option, None, Some, refl, sym, ◌∙◌, ap, arith, slice_get, length-append, append-nil}
 use Rattle.std.proofs.lemmas.List.{append_cancel_left, append_cancel_right}
 use Rattle.std.specs.Fmt.{decimal}
 use Rattle.std.proofs.lemmas.Fmt.{decimal_injective}
@@ -8,7 +8,7 @@ use Rattle.dft_netlist.specs.declared.named.Named.{Named}
 use Rattle.dft_netlist.specs.Netlist.{Netlist}
 use Rattle.dft_netlist.specs.Names.{is_taken, first_taken, bit_name, bit_names, port_names, vector_name_in, indices_of}
 use Rattle.dft_netlist.specs.NameTables.{Entry, look_up, own_entries, Knows, AreNew, AllDiffer, IsFree}
-use Rattle.dft_netlist.specs.Tokens.{Text}
+use Rattle.dft_base.specs.Lexing.{Text}
 use Rattle.dft_netlist.proofs.BitLemmas.{cases_le, rising_at, falling_at}
 use Rattle.dft_netlist.proofs.NamesLemmas.{free_look_up}
 use Rattle.dft_netlist.proofs.NewNames.{still_free}

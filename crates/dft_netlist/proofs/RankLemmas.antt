@@ -1,14 +1,14 @@
 -- An order ranks the nets by their places.
-use Rattle.std.proofs.Common.{◌≡◌, ℕ, zero, suc, ◌+◌, ◌<◌, ◌≤◌, Bool, true, false, cond, List, [], ◌∷◌, length, refl, sym, ◌∙◌, ap, subst, arith, ◌⊎◌, inl, inr, ◌==◌}
+use Rattle.std.proofs.Common.{◌≡◌, ℕ, suc, ◌<◌, ◌≤◌, Bool, true, false, cond, List, [], ◌∷◌, length, refl, sym, ◌∙◌, ap, subst, arith, ◌⊎◌, inl, inr, ◌==◌}
 use Rattle.std.specs.List.{AllByRecursion}
 use Rattle.dft_netlist.specs.declared.net_driver.NetDriver.{NetDriver}
 use Rattle.dft_netlist.specs.declared.net_driver.NetDriver.TheVariants.{Input, Pin, Join, Nothing}
 use Rattle.dft_netlist.specs.Netlist.{Netlist}
-use Rattle.dft_netlist.specs.Drivers.{driver, all_driven, nets_read, AreBelow, IsOrdered}
+use Rattle.dft_netlist.specs.Drivers.{driver, all_driven, nets_read, AreBelow}
 use Rattle.dft_netlist.specs.DesignLaws.{OrderRanks}
 use Rattle.dft_netlist.specs.NetDrivers.{driver_at, Drives}
 use Rattle.dft_netlist.specs.Notes.{all_drives}
-use Rattle.dft_netlist.specs.Orders.{Has, reads_of, IsOrderFrom, IsOrder}
+use Rattle.dft_netlist.specs.Orders.{Has, reads_of, IsOrderFrom}
 use Rattle.dft_netlist.specs.Sound.{IsNetlist}
 use Rattle.dft_netlist.proofs.DriveLemmas.{all_entries, first_by, is_number, same_number}
 use Rattle.dft_netlist.proofs.ClashLemmas.{driver_same, first_drives}

@@ -1,5 +1,5 @@
 -- What the output of a cell reads, and the first net that is not placed.
-use Rattle.std.proofs.Common.{◌≡◌, ℕ, zero, suc, ◌+◌, ◌<◌, ◌≤◌, Bool, true, false, cond, List, [], ◌∷◌, ◌++◌, length, get_or, drop, Option, None, Some, refl, sym, ◌∙◌, ap, subst, arith, slice_get, add-one, append_assoc}
+use Rattle.std.proofs.Common.{◌≡◌, ℕ, suc, ◌+◌, ◌<◌, ◌≤◌, Bool, true, false, cond, List, [], ◌∷◌, ◌++◌, length, get_or, drop, Option, None, Some, refl, sym, ◌∙◌, ap, slice_get}
 use Rattle.std.proofs.lemmas.List.{drop_more, drop_all}
 use Rattle.dft_cells.specs.declared.kind.Kind.{Kind}
 use Rattle.dft_cells.specs.declared.kind.Kind.TheVariants.{Buf, Inv, And, Nand, Or, Nor, Xor, Xnor, Mux2, Table, Tie0, Tie1, Dff, Dffr, Dffs, Sdff, Sdffr, Sdffs, Lockup, Opaque}
@@ -11,7 +11,7 @@ use Rattle.dft_netlist.specs.declared.instance.Signal.TheVariants as signal
 use Rattle.dft_netlist.specs.declared.net_driver.NetDriver.TheVariants.{Pin}
 use Rattle.dft_netlist.specs.declared.progress.State.{State}
 use Rattle.dft_netlist.specs.Netlist.{Netlist}
-use Rattle.dft_netlist.specs.Drivers.{Source, Connection, is_input, is_lockup_input, inputs_of, lockup_inputs, nets_of, nets_read, source_of, connections_from, connections_of, driver_of_kind, shape_of, pins_of}
+use Rattle.dft_netlist.specs.Drivers.{Source, is_input, is_lockup_input, inputs_of, lockup_inputs, nets_of, nets_read, source_of, connections_from, driver_of_kind, shape_of, pins_of}
 use Rattle.dft_netlist.specs.NetDrivers.{driver_at, is_inverted, roles_at}
 use Rattle.dft_netlist.specs.Progress.{first_open, is_placed}
 use Rattle.dft_netlist.specs.Reading.{reads_role, net_of_signal, read_at, pins_read}

@@ -1,19 +1,15 @@
 -- Why a builder's call is refused.
-use Rattle.std.proofs.Common.{◌≡◌, Result, Ok, Err, ℕ, ◌+◌, ◌<◌, ◌≤◌, Bool, true, false, cond, List, [], ◌∷◌, length, Option, None, Some, is_some, refl, sym, ◌∙◌, ap, arith, pos}
+use Rattle.std.proofs.Common.{◌≡◌, Err, ℕ, ◌+◌, ◌<◌, ◌≤◌, Bool, true, false, cond, length, Option, None, Some, refl, arith, pos}
 use Rattle.std.specs.Prelude.{nat_le}
 use Rattle.std.proofs.lemmas.Bool.Decides.{nat_tests}
-use Rattle.dft_base.specs.declared.place.Range.{Range}
-use Rattle.dft_netlist.specs.declared.named.Named.{Named}
-use Rattle.dft_netlist.specs.declared.error.Counted.TheVariants.{Ports, Nets, Instances}
+use Rattle.dft_netlist.specs.declared.error.Counted.TheVariants.{Nets, Instances}
 use Rattle.dft_netlist.specs.declared.error.NetlistError.{NetlistError}
 use Rattle.dft_netlist.specs.declared.error.NetlistError.TheVariants.{MultipleDrivers, Loop, DuplicateName, TooMany, Memory}
 use Rattle.dft_netlist.specs.declared.limits.TheConstants.{MAX_PORTS, MAX_NETS, MAX_INSTANCES}
 use Rattle.dft_netlist.specs.Netlist.{Netlist}
-use Rattle.dft_netlist.specs.Building.{Answers, net_refusal, instance_refusal, port_refusal, port_limit, room_limit, taken_or, own_names}
-use Rattle.dft_netlist.specs.Names.{is_taken, first_taken, bit_names, port_names}
-use Rattle.dft_netlist.specs.NameTables.{Entry, look_up, Knows}
-use Rattle.dft_netlist.specs.Tokens.{Text}
-use Rattle.dft_netlist.proofs.NamesLemmas.{taken_of}
+use Rattle.dft_netlist.specs.Building.{Answers, net_refusal, instance_refusal, room_limit, taken_or, own_names}
+use Rattle.dft_netlist.specs.Names.{is_taken, first_taken}
+use Rattle.dft_base.specs.Lexing.{Text}
 
 pub le_true : (m n : ℕ) → m ≤ n → nat_le m n ≡ true
 le_true m n h = grind (arith, nat_tests)

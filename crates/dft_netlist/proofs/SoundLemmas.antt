@@ -1,9 +1,8 @@
 -- A netlist that grows stays sound.
-use Rattle.std.proofs.Common.{◌≡◌, ℕ, zero, suc, ◌+◌, ◌<◌, ◌≤◌, Bool, true, List, [], ◌∷◌, ◌++◌, length, Option, None, Some, refl, sym, ◌∙◌, ap, subst, arith, ◌⊎◌, inl, inr, slice_get, slice_set, append_assoc, length-append, length-set}
+use Rattle.std.proofs.Common.{◌≡◌, ℕ, ◌<◌, ◌≤◌, List, [], ◌∷◌, ◌++◌, length, Option, None, Some, refl, sym, ◌∙◌, ap, subst, arith, ◌⊎◌, inl, inr, slice_get, slice_set, append_assoc, length-append, length-set}
 use Rattle.std.specs.Option.{option_and_then}
 use Rattle.dft_cells.specs.declared.cell.Cell.{Cell}
 use Rattle.dft_netlist.specs.declared.ids.NetId.{NetId}
-use Rattle.dft_netlist.specs.declared.ids.InstanceId.{InstanceId}
 use Rattle.dft_netlist.specs.declared.named.Named.{Named}
 use Rattle.dft_netlist.specs.declared.named.Named.TheVariants.{Net as ANet, Vector, Instance as AnInstance}
 use Rattle.dft_netlist.specs.declared.instance.Signal.{Signal}
@@ -11,13 +10,13 @@ use Rattle.dft_netlist.specs.declared.instance.Signal.TheVariants.{Net, Constant
 use Rattle.dft_netlist.specs.declared.instance.CellRef.{CellRef}
 use Rattle.dft_netlist.specs.declared.instance.Instance.{Instance}
 use Rattle.dft_netlist.specs.declared.instance.Join.{Join}
-use Rattle.dft_netlist.specs.declared.limits.TheConstants.{MAX_PORTS, MAX_NETS, MAX_INSTANCES}
+use Rattle.dft_netlist.specs.declared.limits.TheConstants.{MAX_NETS, MAX_INSTANCES}
 use Rattle.dft_netlist.specs.Netlist.{Netlist}
-use Rattle.dft_netlist.specs.Building.{empty_netlist, with_pin, Connected, IsUnconnected}
-use Rattle.dft_netlist.specs.Names.{Names, NamesDiffer, instance_name}
+use Rattle.dft_netlist.specs.Building.{empty_netlist, with_pin}
+use Rattle.dft_netlist.specs.Names.{Names, instance_name}
 use Rattle.dft_netlist.specs.NameTables.{Entry, look_up, Knows, own_entries, IsFree}
-use Rattle.dft_netlist.specs.Sound.{IsLive, AreLive, IsInstance, IsInstanceOf, IsAJoin, IsJoinOf, IsNetlist, Begins}
-use Rattle.dft_netlist.specs.Tokens.{Text}
+use Rattle.dft_netlist.specs.Sound.{IsLive, IsInstance, IsInstanceOf, IsAJoin, IsJoinOf, IsNetlist, Begins}
+use Rattle.dft_base.specs.Lexing.{Text}
 use Rattle.dft_netlist.proofs.Places.{get_left, get_push, push_cases, shown_left, shown_push, shown_cases, set_cases, shown_set}
 use Rattle.dft_netlist.proofs.NamesLemmas.{Adds, SameNames, knows_more, knows_same, differ_of}
 

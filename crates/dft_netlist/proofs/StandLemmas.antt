@@ -1,14 +1,14 @@
 -- An order that is being made: a net is met, a net is placed, a net is met again.
-use Rattle.std.proofs.Common.{◌≡◌, ℕ, zero, suc, ◌+◌, ◌-◌, ◌<◌, ◌≤◌, Bool, true, false, cond, List, [], ◌∷◌, ◌++◌, length, take, map, Option, None, Some, refl, sym, ◌∙◌, ap, subst, arith, slice_get, slice_set, ◌⊎◌, inl, inr, length-set, length-append, true≢false, ◌==◌, replicate}
+use Rattle.std.proofs.Common.{◌≡◌, ℕ, zero, suc, ◌+◌, ◌-◌, ◌<◌, Bool, true, false, cond, List, [], ◌∷◌, ◌++◌, length, take, Option, None, Some, refl, sym, ◌∙◌, ap, subst, arith, slice_get, slice_set, ◌⊎◌, inl, inr, length-set, length-append, true≢false, ◌==◌, replicate}
 use Rattle.std.specs.List.{AllByRecursion}
 use Rattle.std.proofs.lemmas.Option.{slice_get_within}
 use Rattle.dft_netlist.specs.declared.ids.NetId.{NetId}
 use Rattle.dft_netlist.specs.declared.progress.State.{State}
 use Rattle.dft_netlist.specs.declared.progress.State.TheVariants.{New, Walked, Placed}
 use Rattle.dft_netlist.specs.Netlist.{Netlist}
-use Rattle.dft_netlist.specs.Orders.{Has, reads_of, IsOrderFrom, IsOrder, numbers_of, IsOrderable, IsStuck, IsFirstStuck, IsNextStuck, IsWalk, AreOnce, IsLoopNet, Follows, Starts, Goes}
+use Rattle.dft_netlist.specs.Orders.{Has, reads_of, IsOrderFrom, IsOrder, numbers_of, IsOrderable, IsStuck, IsFirstStuck, IsNextStuck, IsWalk, AreOnce, Follows, Starts, Goes}
 use Rattle.dft_netlist.specs.OrderSteps.{back_of, IsChain, IsUnderWay, IsBetween, MeetsAgain}
-use Rattle.dft_netlist.specs.Progress.{Stand, entered, left, top_of, first_open, is_placed, is_new, is_walked, number_of}
+use Rattle.dft_netlist.specs.Progress.{Stand, entered, left, top_of, first_open, is_placed, is_new, is_walked}
 use Rattle.dft_netlist.proofs.Places.{set_cases}
 use Rattle.dft_netlist.proofs.Weights.{count_met, count_placed, count_none, count_all, all_new, length_new}
 use Rattle.dft_netlist.proofs.DriveLemmas.{get_set_same, get_set_other, same_number, other_number}

@@ -1,5 +1,5 @@
 -- Netlist texts worked by hand.
-use Rattle.std.proofs.Common.{◌≡◌, map, ◌++◌, ℕ, refl, codes, Option, Some, None, Result, Ok, Err, List, [], ◌∷◌}
+use Rattle.std.proofs.Common.{◌≡◌, ◌++◌, ℕ, refl, codes, Option, Some, None, Result, Ok, Err, [], ◌∷◌}
 use Rattle.dft_base.specs.declared.place.Place.{Place}
 use Rattle.std.specs.Fmt as fmt
 use Rattle.dft_base.specs.Words as words

@@ -1,5 +1,5 @@
 -- One step of a walk back, and the whole walk.
-use Rattle.std.proofs.Common.{◌≡◌, ℕ, zero, suc, ◌<◌, Bool, true, false, IsTrue, List, [], ◌∷◌, ◌++◌, length, map, Option, None, Some, refl, sym, ◌∙◌, ap, subst, arith, slice_get, replicate}
+use Rattle.std.proofs.Common.{◌≡◌, ℕ, zero, suc, Bool, List, [], ◌∷◌, ◌++◌, map, Option, None, Some, refl, sym, ◌∙◌, ap, subst, slice_get, replicate}
 use Rattle.dft_cells.specs.declared.kind.Kind.{Kind}
 use Rattle.dft_cells.specs.declared.kind.Kind.TheVariants.{Buf, Inv, And, Nand, Or, Nor, Xor, Xnor, Mux2, Table, Tie0, Tie1, Dff, Dffr, Dffs, Sdff, Sdffr, Sdffs, Lockup, Opaque}
 use Rattle.dft_cells.specs.declared.kind.Role.{Role}
@@ -14,13 +14,13 @@ use Rattle.dft_netlist.specs.declared.instance.CellRef.TheVariants.{Library, Gat
 use Rattle.dft_netlist.specs.declared.instance.Instance.{Instance}
 use Rattle.dft_netlist.specs.declared.net_driver.NetDriver.TheVariants.{Pin}
 use Rattle.dft_netlist.specs.Netlist.{Netlist}
-use Rattle.dft_netlist.specs.Drivers.{Source, Net, Tied, Loose, source_of, driver, driver_of_kind, inputs_of, connections_from, connections_of, shape_of, shape_of_cell, gate_roles}
+use Rattle.dft_netlist.specs.Drivers.{Source, Net, source_of, driver_of_kind, inputs_of, connections_from, connections_of, shape_of, shape_of_cell, gate_roles}
 use Rattle.dft_netlist.specs.NetDrivers.{driver_at, is_inverted, roles_at}
 use Rattle.dft_netlist.specs.Sound.{IsInstance}
 use Rattle.dft_netlist.specs.WalkSteps.{IsWalk, after_step, TakesStep}
 use Rattle.dft_netlist.specs.declared.design.Step.{Step}
-use Rattle.dft_netlist.specs.Traces.{Root, Constant, Other, root_of_driver, root_within, root_of}
-use Rattle.dft_netlist.specs.Tokens.{Text}
+use Rattle.dft_netlist.specs.Traces.{Root, Other, root_of_driver, root_within}
+use Rattle.dft_base.specs.Lexing.{Text}
 
 -- ---- a buffer has one input
 

@@ -1,6 +1,6 @@
 -- How much of an order is to be made.
-use Rattle.std.proofs.Common.{◌≡◌, ℕ, zero, suc, ◌+◌, ◌<◌, List, [], ◌∷◌, Some, refl, sym, ap, arith, slice_get, slice_set}
-use Rattle.std.proofs.Common.{◌≤◌, length, cond, true, false, replicate, true≢false, ◌∙◌}
+use Rattle.std.proofs.Common.{◌≡◌, ℕ, zero, suc, ◌+◌, ◌<◌, List, [], ◌∷◌, Some, refl, ap, arith, slice_get, slice_set}
+use Rattle.std.proofs.Common.{length, cond, replicate}
 use Rattle.dft_netlist.specs.Progress.{is_placed, placed_count}
 use Rattle.dft_netlist.specs.declared.progress.State.{State}
 use Rattle.dft_netlist.specs.declared.progress.State.TheVariants.{New, Walked, Placed}

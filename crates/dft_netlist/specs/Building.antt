@@ -17,20 +17,11 @@ use Rattle.dft_netlist.specs.declared.limits.TheConstants.{MAX_PORTS, MAX_NETS, 
 use Rattle.dft_netlist.specs.Names.{bit_names, port_names, is_taken, first_taken}
 use Rattle.dft_netlist.specs.NetNumbers.{nets_from}
 use Rattle.dft_netlist.specs.Netlist.{Netlist}
-use Rattle.dft_netlist.specs.Tokens.{Text}
+use Rattle.dft_base.specs.Lexing.{Text}
 
 -- the netlist with this name over these cells that has nothing yet
 abbrev pub empty_netlist : Text → List Cell → Netlist
 empty_netlist name library = record { name = name; library = library; ports = []; nets = []; instances = []; joins = [] }
-
--- a port of one bit
-abbrev pub scalar_port : Text → Dir → NetId → Port
-scalar_port name dir net = record { name = name; dir = dir; range = None; bits = net ∷ [] }
-
--- new is old with one scalar port more, whose net is new too and has the port's name
-pub record WithScalarPort (old : Netlist) (name : Text) (dir : Dir) (net : NetId) (new : Netlist) : Type 0 where
-  pub number : net.0 ≡ length old.nets
-  pub grown : new ≡ record old { ports = old.ports ++ scalar_port name dir net ∷ []; nets = old.nets ++ name ∷ [] }
 
 -- new is old with one instance more
 pub record WithInstance (old : Netlist) (instance : Instance) (id : InstanceId) (new : Netlist) : Type 0 where

@@ -1,5 +1,5 @@
 -- Laws of designs: their drivers and their orders.
-use Rattle.std.specs.Prelude.{ℕ, ◌≡◌, ◌<◌, ◌⊎◌, List, Some, slice_get, length}
+use Rattle.std.specs.Prelude.{ℕ, ◌≡◌, ◌<◌, List, Some, slice_get, length}
 use Rattle.dft_netlist.specs.Netlist.{Netlist}
 use Rattle.dft_netlist.specs.Drivers.{Driven, driver, all_driven, IsOrdered}
 use Rattle.dft_netlist.specs.NetDrivers.{IsSingle}

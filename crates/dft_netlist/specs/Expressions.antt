@@ -1,5 +1,5 @@
 -- Expressions of netlist texts: names, their bits and parts, constants and concatenations (IEEE 1364).
-use Rattle.std.specs.Prelude.{ℕ, zero, suc, ◌+◌, ◌-◌, ◌/◌, ◌%◌, ◌^◌, Bool, true, false, not, ◌&&◌, ◌||◌, ◌==◌, nat_le, nat_lt, if◌then◌else◌, List, [], ◌∷◌, ◌++◌, length, map, filter, find, Option, Some, None, Result, Ok, Err, slice_index}
+use Rattle.std.specs.Prelude.{ℕ, zero, suc, ◌+◌, ◌-◌, ◌/◌, ◌%◌, ◌^◌, Bool, true, false, not, ◌&&◌, ◌||◌, ◌==◌, nat_le, nat_lt, if◌then◌else◌, List, [], ◌∷◌, ◌++◌, length, map, filter, find, Option, Some, None, Ok, Err, slice_index}
 use Rattle.std.specs.List.{list_all}
 use Rattle.std.specs.Char.{is_digit}
 use Rattle.std.specs.Str.Parse.{digits_value}
@@ -7,7 +7,6 @@ use Rattle.dft_base.specs.declared.place.Range.{Range}
 use Rattle.dft_base.specs.Lexing.{Text}
 use Rattle.dft_base.specs.Parser.{Checked, pure, ◌>>=◌, ◌>>◌}
 use Rattle.dft_base.specs.Words.{is_reserved}
-use Rattle.dft_netlist.specs.declared.ids.NetId.{NetId}
 use Rattle.dft_netlist.specs.declared.instance.Signal.{Signal}
 use Rattle.dft_netlist.specs.declared.instance.Signal.TheVariants as signal
 use Rattle.dft_netlist.specs.declared.text.TokenKind.{TokenKind}
@@ -23,7 +22,6 @@ use Rattle.dft_netlist.specs.declared.text.Select.{Select}
 use Rattle.dft_netlist.specs.declared.text.Select.TheVariants as select
 use Rattle.dft_netlist.specs.declared.text.Site.{Site}
 use Rattle.dft_netlist.specs.declared.text.Site.TheVariants as site
-use Rattle.dft_netlist.specs.Lexemes.{Token}
 use Rattle.dft_netlist.specs.Steps.{Rule, kind_of, left, next, sees, refuse, expect, fault, needed, checked}
 use Rattle.dft_netlist.specs.Modules.{Draft, meaning_of, declared_at, declare_nets, falls, width, count_from}
 

@@ -1,11 +1,11 @@
 -- What a builder is finished to, and why it is refused.
-use Rattle.std.specs.Prelude.{ℕ, ◌≡◌, ◌<◌, Option, Some, slice_get, length}
+use Rattle.std.specs.Prelude.{ℕ, ◌≡◌, ◌<◌, Some, slice_get, length}
 use Rattle.dft_netlist.specs.declared.error.NetlistError.{NetlistError}
 use Rattle.dft_netlist.specs.declared.error.NetlistError.TheVariants.{MultipleDrivers, Loop, DuplicateName, TooMany, Memory}
 use Rattle.dft_netlist.specs.Netlist.{Netlist}
 use Rattle.dft_netlist.specs.NetDrivers.{IsSingle, IsFirstMultiple}
 use Rattle.dft_netlist.specs.Orders.{IsOrderable, IsLoopNet}
-use Rattle.dft_netlist.specs.Tokens.{Text}
+use Rattle.dft_base.specs.Lexing.{Text}
 
 -- the design is the netlist, no net has two drivers, and every net can be ordered
 pub record IsFinished (n design : Netlist) : Type 0 where

@@ -1,5 +1,5 @@
 -- The items of a module: declarations, assignments, gates and instances of cells (IEEE 1364, structural part).
-use Rattle.std.specs.Prelude.{ℕ, zero, suc, ◌-◌, Bool, true, false, not, ◌&&◌, ◌==◌, nat_le, if◌then◌else◌, List, [], ◌∷◌, ◌++◌, length, map, replicate, position, Option, Some, None, option_map, slice_get, slice_set, Ok, Err}
+use Rattle.std.specs.Prelude.{ℕ, zero, suc, Bool, true, false, not, ◌&&◌, ◌==◌, nat_le, if◌then◌else◌, List, [], ◌∷◌, ◌++◌, length, map, replicate, position, Option, Some, None, slice_get, slice_set, Ok, Err}
 use Rattle.std.specs.Str.{bytes_eq}
 use Rattle.dft_base.specs.declared.place.Range.{Range}
 use Rattle.dft_base.specs.Lexing.{Text}
@@ -17,16 +17,13 @@ use Rattle.dft_netlist.specs.declared.port.Dir.{Dir}
 use Rattle.dft_netlist.specs.declared.port.Dir.TheVariants as dir
 use Rattle.dft_netlist.specs.declared.instance.Signal.{Signal}
 use Rattle.dft_netlist.specs.declared.instance.Signal.TheVariants as signal
-use Rattle.dft_netlist.specs.declared.instance.CellRef.{CellRef}
 use Rattle.dft_netlist.specs.declared.instance.CellRef.TheVariants as cell_ref
 use Rattle.dft_netlist.specs.declared.instance.Instance.{Instance}
-use Rattle.dft_netlist.specs.declared.instance.Join.{Join}
 use Rattle.dft_netlist.specs.declared.text.TokenKind.{TokenKind}
 use Rattle.dft_netlist.specs.declared.text.TokenKind.TheVariants as kind
 use Rattle.dft_netlist.specs.declared.text.Cause.TheVariants as cause
 use Rattle.dft_netlist.specs.declared.text.Site.TheVariants as site
-use Rattle.dft_netlist.specs.Lexemes.{Token}
-use Rattle.dft_netlist.specs.Steps.{Rule, Outcome, kind_of, left, next, sees, refuse, expect, eat, fault, needed, checked}
+use Rattle.dft_netlist.specs.Steps.{Rule, kind_of, left, next, sees, refuse, expect, eat, fault, needed, checked}
 use Rattle.dft_netlist.specs.Modules.{Draft, declare_port, declare_wire, name_instance, room_for_instance, with_instance, with_join}
 use Rattle.dft_netlist.specs.Expressions.{range_if_any, expression, drives}
 

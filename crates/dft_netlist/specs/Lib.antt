@@ -9,12 +9,6 @@ pub mod Settled
 pub mod Runs
 pub mod Laws
 pub mod Building
-pub mod FlatShown
-pub mod FlatBuilderShown
-pub mod Tokens
-pub mod Rules
-pub mod FirstForm
-pub mod Flat
 pub mod Names
 pub mod Sound
 pub mod NetDrivers

@@ -1,5 +1,5 @@
 -- What a `NameTable` shows.
-use Rattle.std.specs.Prelude.{ℕ, List, map}
+use Rattle.std.specs.Prelude.{map}
 use Rattle.indexmap.specs.IndexMap.{spare}
 use Rattle.dft_netlist.specs.declared.name_table.NameTable.TheInside.{Inside}
 use Rattle.dft_netlist.specs.NameTables.{Table}

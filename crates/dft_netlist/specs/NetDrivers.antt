@@ -1,8 +1,7 @@
 -- What drives a net, by its place in the netlist.
-use Rattle.std.specs.Prelude.{ℕ, ◌≡◌, ◌<◌, ◌≤◌, Bool, true, false, List, [], ◌∷◌, Option, None, Some, count_by, ◌==◌, slice_get, map}
+use Rattle.std.specs.Prelude.{ℕ, ◌≡◌, ◌<◌, ◌≤◌, Bool, true, false, List, [], Option, None, Some, count_by, ◌==◌, slice_get}
 use Rattle.dft_cells.specs.declared.kind.Role.{Role}
 use Rattle.dft_cells.specs.declared.kind.Role.TheVariants.{Inverted}
-use Rattle.dft_netlist.specs.declared.ids.NetId.{NetId}
 use Rattle.dft_netlist.specs.declared.port.Port.{Port}
 use Rattle.dft_netlist.specs.declared.port.Dir.TheVariants.{Input as AnInput}
 use Rattle.dft_netlist.specs.declared.instance.Instance.{Instance}

@@ -1,5 +1,5 @@
 -- The netlist that a text stands for: one module (IEEE 1364, structural part).
-use Rattle.std.specs.Prelude.{◌≡◌, ◌⊎◌, ℕ, zero, suc, Bool, true, false, not, ◌==◌, if◌then◌else◌, List, [], ◌∷◌, ◌++◌, length, map, filter, position, unwrap_or, Option, Some, None, slice_index_or, Result, Ok, Err}
+use Rattle.std.specs.Prelude.{◌≡◌, ◌⊎◌, ℕ, zero, suc, Bool, true, not, ◌==◌, if◌then◌else◌, List, [], ◌∷◌, ◌++◌, length, map, filter, position, unwrap_or, Option, Some, None, slice_index_or, Result, Ok, Err}
 use Rattle.std.specs.List.{list_any}
 use Rattle.dft_base.specs.declared.place.Range.{Range}
 use Rattle.dft_base.specs.Lexing.{Text}
@@ -8,16 +8,13 @@ use Rattle.dft_cells.specs.declared.cell.Cell.{Cell}
 use Rattle.dft_netlist.specs.declared.ids.NetId.{NetId}
 use Rattle.dft_netlist.specs.declared.port.Dir.{Dir}
 use Rattle.dft_netlist.specs.declared.port.Dir.TheVariants as dir
-use Rattle.dft_netlist.specs.declared.port.Port.{Port}
 use Rattle.dft_netlist.specs.declared.instance.Signal.{Signal}
 use Rattle.dft_netlist.specs.declared.instance.Signal.TheVariants as signal
 use Rattle.dft_netlist.specs.declared.instance.Instance.{Instance}
 use Rattle.dft_netlist.specs.declared.instance.Join.{Join}
-use Rattle.dft_netlist.specs.declared.text.TokenKind.{TokenKind}
 use Rattle.dft_netlist.specs.declared.text.TokenKind.TheVariants as kind
 use Rattle.dft_netlist.specs.declared.text.Cause.TheVariants as cause
 use Rattle.dft_netlist.specs.declared.text.Fault.{Fault}
-use Rattle.dft_netlist.specs.declared.text.Shape.{Shape}
 use Rattle.dft_netlist.specs.declared.text.Declared.{Declared}
 use Rattle.dft_netlist.specs.declared.error.NetlistError.{NetlistError}
 use Rattle.dft_netlist.specs.Names.{bit_names}
@@ -26,7 +23,7 @@ use Rattle.dft_netlist.specs.Building.{empty_netlist, port_of, port_refusal, net
 use Rattle.dft_netlist.specs.Finishing.{IsFinished, CannotFinish}
 use Rattle.dft_netlist.specs.Netlist.{Netlist}
 use Rattle.dft_netlist.specs.Lexemes.{Token, tokens}
-use Rattle.dft_netlist.specs.Steps.{Rule, kind_of, left, next, sees, refuse, expect, eat, fault, checked}
+use Rattle.dft_netlist.specs.Steps.{Rule, left, next, sees, refuse, expect, eat, fault, checked}
 use Rattle.dft_netlist.specs.Modules.{Draft, HeaderPort, begun, announce, declare_new_port, net_count, count_from}
 use Rattle.dft_netlist.specs.Expressions.{range_if_any}
 use Rattle.dft_netlist.specs.Items.{items}

@@ -1,8 +1,8 @@
 -- Where an order that is being made stands: what is placed is in order, and the walk goes back from a net by the first nets that are not placed.
-use Rattle.std.specs.Prelude.{ℕ, ◌≡◌, ◌<◌, List, [], ◌∷◌, ◌++◌, Option, None, Some, length, slice_get, reverse}
+use Rattle.std.specs.Prelude.{ℕ, ◌≡◌, ◌<◌, List, [], ◌∷◌, ◌++◌, Some, length, slice_get}
 use Rattle.dft_netlist.specs.declared.ids.NetId.{NetId}
 use Rattle.dft_netlist.specs.declared.progress.State.{State}
-use Rattle.dft_netlist.specs.declared.progress.State.TheVariants.{New, Walked, Placed}
+use Rattle.dft_netlist.specs.declared.progress.State.TheVariants.{Walked, Placed}
 use Rattle.dft_netlist.specs.Netlist.{Netlist}
 use Rattle.dft_netlist.specs.Orders.{Has, IsOrderFrom, AreOnce, numbers_of, reads_of, IsLoopNet}
 use Rattle.dft_netlist.specs.Progress.{Stand, first_open, placed_count}

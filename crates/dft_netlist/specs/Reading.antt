@@ -1,12 +1,10 @@
 -- Which pins the output of a cell reads at the same moment.
-use Rattle.std.specs.Prelude.{ℕ, Bool, true, false, List, [], ◌∷◌, ◌++◌, if◌then◌else◌}
+use Rattle.std.specs.Prelude.{ℕ, Bool, false, List, [], ◌∷◌, ◌++◌, if◌then◌else◌}
 use Rattle.dft_cells.specs.declared.kind.Kind.{Kind}
 use Rattle.dft_cells.specs.declared.kind.Kind.TheVariants.{Buf, Inv, And, Nand, Or, Nor, Xor, Xnor, Mux2, Table, Tie0, Tie1, Dff, Dffr, Dffs, Sdff, Sdffr, Sdffs, Lockup, Opaque}
 use Rattle.dft_cells.specs.declared.kind.Role.{Role}
-use Rattle.dft_cells.specs.declared.cell.Cell.{Cell}
 use Rattle.dft_netlist.specs.declared.instance.Signal.{Signal}
 use Rattle.dft_netlist.specs.declared.instance.Signal.TheVariants as signal
-use Rattle.dft_netlist.specs.declared.ids.NetId.{NetId}
 use Rattle.dft_netlist.specs.Drivers.{is_input, is_lockup_input}
 
 -- whether the output of this kind reads a pin of this role: a gate its inputs, a lock-up its data and its clock, another cell nothing

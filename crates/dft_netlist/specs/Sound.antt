@@ -1,6 +1,5 @@
 -- What every netlist keeps that a builder holds.
-use Rattle.std.specs.Prelude.{ℕ, zero, suc, ◌≡◌, ◌<◌, ◌≤◌, Bool, true, false, IsTrue, List, [], ◌∷◌, ◌++◌, length, take, Option, None, Some, IsSome, slice_get}
-use Rattle.dft_base.specs.declared.place.Range.{Range}
+use Rattle.std.specs.Prelude.{ℕ, ◌≡◌, ◌<◌, ◌≤◌, Bool, true, false, IsTrue, List, [], ◌∷◌, ◌++◌, length, Option, Some, IsSome, slice_get}
 use Rattle.dft_cells.specs.declared.kind.Kind.{Kind}
 use Rattle.dft_cells.specs.declared.kind.Kind.TheVariants.{Buf, Inv, And, Nand, Or, Nor, Xor, Xnor}
 use Rattle.dft_cells.specs.declared.kind.Role.{Role}
@@ -20,7 +19,7 @@ use Rattle.dft_netlist.specs.Netlist.{Netlist}
 use Rattle.dft_netlist.specs.Drivers.{shape_of}
 use Rattle.dft_netlist.specs.NetNumbers.{nets_from}
 use Rattle.dft_netlist.specs.Names.{bit_names, NamesDiffer}
-use Rattle.dft_netlist.specs.Tokens.{Text}
+use Rattle.dft_base.specs.Lexing.{Text}
 
 -- the gate primitives that a netlist may use (IEEE 1364)
 abbrev pub is_primitive : Kind → Bool

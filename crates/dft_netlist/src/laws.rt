@@ -2,7 +2,6 @@
 
 ghost use Rattle.dft_netlist.specs.DesignLaws.{ListedDrives, OrderRanks, OrderedIsOrderable};
 ghost use Rattle.dft_netlist.specs.Laws.{OrderIsRank, SettledIsOne, WalkFindsRoot, PortIsFound, ConstantIsFound, TracedBit, TracedConstant};
-ghost use Rattle.dft_netlist.specs.Flat.{FirstFormIsFlat, FlatIsOrdered};
 
 /// A design with an order has exactly one settled assignment for given sources.
 pub fn settled_is_one()
@@ -17,12 +16,6 @@ pub fn traces_are_exact()
     ensures constant { ConstantIsFound }
     ensures bit { TracedBit }
     ensures constant_bit { TracedConstant }
-{}
-
-/// A text of the first form stands for a flat netlist, scalar ports and flip-flops of one clock, which has an order.
-pub fn first_form_is_flat()
-    ensures flat { FirstFormIsFlat }
-    ensures ordered { FlatIsOrdered }
 {}
 
 /// Where no net has two drivers, what is listed as its driver drives it.

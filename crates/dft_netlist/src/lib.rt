@@ -8,8 +8,6 @@ mod design;
 mod driver_notes;
 mod drivers;
 mod error;
-mod flat_builder;
-mod flat_design;
 mod ids;
 mod instance;
 mod laws;
@@ -23,19 +21,13 @@ mod port;
 mod progress;
 mod root;
 mod text;
-#[cfg(test)]
-mod tests;
 
 pub use builder::DesignBuilder;
 pub use design::Design;
 pub use error::{Counted, NetlistError};
-pub use flat_builder::FlatBuilder;
-pub use flat_design::{FlatDesign, MAX_FLAT_PORTS};
 pub use ids::{InstanceId, NetId, PortId};
 pub use instance::{CellRef, Instance, Join, Signal};
-pub use laws::{
-    first_form_is_flat, listed_drivers_drive, orders_rank, settled_is_one, traces_are_exact,
-};
+pub use laws::{listed_drivers_drive, orders_rank, settled_is_one, traces_are_exact};
 pub use limits::{MAX_INSTANCES, MAX_NETS, MAX_PORTS};
 pub use named::Named;
 pub use net_driver::NetDriver;

@@ -1,5 +1,4 @@
-use Rattle.std.proofs.Common.{◌≡◌, ◌<◌, ◌^◌, ◌∙◌, sym, subst, arith, refl}
-use Rattle.dft_base.specs.Name.{IsName}
+use Rattle.std.proofs.Common.{◌≡◌, ◌<◌, ◌^◌, arith}
 use Rattle.dft_netlist.specs.Names.{bit_name}
 use Rattle.dft_netlist.proofs.BitLemmas.{is_bit_name, regroup}
 use Rattle.dft_netlist.proofs.bits.bit_name.Goals as goal

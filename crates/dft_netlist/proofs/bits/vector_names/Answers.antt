@@ -1,10 +1,10 @@
-use Rattle.std.proofs.Common.{◌≡◌, ◌<◌, ◌≤◌, ◌∙◌, ◌+◌, ℕ, List, subst, sym, ap, arith, refl, length, map, take, get_or}
+use Rattle.std.proofs.Common.{◌≡◌, ◌<◌, ◌≤◌, ◌∙◌, ℕ, List, subst, sym, ap, arith, refl, length, map, take, get_or}
 use Rattle.std.proofs.lemmas.List.{take_more, take_all}
 use Rattle.std.proofs.lemmas.Option.{get_or_from_slice_get}
 use Rattle.dft_base.specs.declared.place.Range.{Range}
 use Rattle.dft_netlist.specs.Names.{bit_name, indices_of}
 use Rattle.dft_netlist.specs.NameTables.{AllDiffer}
-use Rattle.dft_netlist.specs.Tokens.{Text}
+use Rattle.dft_base.specs.Lexing.{Text}
 use Rattle.dft_netlist.proofs.BitLemmas.{indices_length}
 use Rattle.dft_netlist.proofs.PortNames.{bits_differ}
 use Rattle.dft_netlist.proofs.NameTableLemmas.{map-append}

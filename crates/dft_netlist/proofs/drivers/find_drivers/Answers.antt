@@ -1,13 +1,7 @@
-use Rattle.std.proofs.Common.{◌≡◌, ◌<◌, ◌∙◌, ◌++◌, ap, sym, subst, length, List, None, Some, refl}
+use Rattle.std.proofs.Common.{◌≡◌, ◌∙◌, ap, sym, subst, length, None, Some}
 use Rattle.dft_netlist.specs.Finding.{AreDrivers}
-use Rattle.dft_netlist.specs.Netlist.{Netlist}
-use Rattle.dft_netlist.specs.Notes.{Notes, all_noted, ports_drives, instances_drives, joins_drives, all_drives}
-use Rattle.dft_netlist.specs.Sound.{IsInstance}
-use Rattle.dft_netlist.specs.declared.ids.NetId.{NetId}
-use Rattle.dft_netlist.specs.declared.port.Port.{Port}
-use Rattle.dft_netlist.specs.declared.instance.Instance.{Instance}
-use Rattle.dft_netlist.specs.declared.instance.Join.{Join}
-use Rattle.dft_netlist.proofs.LiveLemmas.{found_drivers, clash_first, bit_live, notes_of, no_notes, notes_are, noted_count}
+use Rattle.dft_netlist.specs.Notes.{Notes, ports_drives, instances_drives}
+use Rattle.dft_netlist.proofs.LiveLemmas.{found_drivers, clash_first, bit_live, notes_of, notes_are, noted_count}
 use Rattle.dft_netlist.proofs.NotesLemmas.{length-all_noted}
 use Rattle.dft_netlist.proofs.drivers.find_drivers.Goals as goal
 

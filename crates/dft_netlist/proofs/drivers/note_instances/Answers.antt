@@ -1,5 +1,3 @@
-use Rattle.std.proofs.Common.{subst, sym}
-use Rattle.dft_netlist.specs.Sound.{IsInstance}
 use Rattle.dft_netlist.proofs.NotesLemmas.{kept_more, instances_step, item_at}
 use Rattle.dft_netlist.proofs.drivers.note_instances.Goals as goal
 

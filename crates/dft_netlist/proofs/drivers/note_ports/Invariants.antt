@@ -1,6 +1,5 @@
 use Rattle.std.proofs.Common.{drop}
-use Rattle.dft_netlist.specs.Drivers.{shape_of}
-use Rattle.dft_netlist.specs.Notes.{bit_drives, ports_drives, joins_drives, instances_drives, pins_drives}
+use Rattle.dft_netlist.specs.Notes.{ports_drives}
 use Rattle.dft_netlist.proofs.NotesLemmas.{Kept}
 use Rattle.dft_netlist.proofs.drivers.note_ports.Given as goal
 

@@ -1,4 +1,4 @@
-use Rattle.std.proofs.Common.{◌≡◌, ◌<◌, ◌≤◌, ◌∙◌, sym, ap, length, Some}
+use Rattle.std.proofs.Common.{◌<◌, ◌∙◌, sym, ap, length}
 use Rattle.dft_netlist.specs.Drivers.{shape_of}
 use Rattle.dft_netlist.specs.Progress.{first_open}
 use Rattle.dft_netlist.proofs.ReadLemmas.{open_some, open_none, read_more}

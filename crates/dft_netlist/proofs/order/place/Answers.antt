@@ -1,11 +1,11 @@
-use Rattle.std.proofs.Common.{◌≡◌, ◌<◌, ◌∙◌, sym, ap, subst, arith, length, get_or, slice_get, Option, Some, None}
+use Rattle.std.proofs.Common.{◌≡◌, ◌<◌, ◌∙◌, sym, ap, arith, length, slice_get, Option, Some, None}
 use Rattle.std.proofs.lemmas.Option.{slice_get-get_or}
 use Rattle.dft_netlist.specs.Drivers.{nets_read}
 use Rattle.dft_netlist.specs.Orders.{reads_of}
-use Rattle.dft_netlist.specs.Progress.{first_open, top_of, number_of}
+use Rattle.dft_netlist.specs.Progress.{first_open, number_of}
 use Rattle.dft_netlist.specs.declared.ids.NetId.{NetId}
 use Rattle.dft_netlist.specs.declared.net_driver.NetDriver.TheVariants.{Input}
-use Rattle.dft_netlist.specs.declared.progress.State.TheVariants.{New, Walked, Placed}
+use Rattle.dft_netlist.specs.declared.progress.State.TheVariants.{Walked, Placed}
 use Rattle.dft_netlist.proofs.StandLemmas.{enters, leaves, meets, ends, skips, no_walk, top_walked, top_live, walked_state, next_new, next_chain, not_new, first_enters, first_started}
 use Rattle.dft_netlist.proofs.Weights.{weight_met, weight_placed}
 use Rattle.dft_netlist.proofs.order.place.Goals as goal

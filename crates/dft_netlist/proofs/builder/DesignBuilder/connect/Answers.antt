@@ -1,7 +1,6 @@
 use Rattle.std.proofs.Common.{◌≡◌, ◌<◌, ◌∙◌, sym, subst, refl, length, slice_get, Some}
 use Rattle.std.proofs.lemmas.Option.{get_or_from_slice_get}
 use Rattle.dft_netlist.specs.BuilderShown.{netlist_so_far}
-use Rattle.dft_netlist.specs.Building.{Connected}
 use Rattle.dft_netlist.specs.Netlist.{Netlist}
 use Rattle.dft_netlist.proofs.SoundLemmas.{pin_sound, pin_knows}
 use Rattle.dft_netlist.proofs.builder.DesignBuilder.connect.Goals as goal

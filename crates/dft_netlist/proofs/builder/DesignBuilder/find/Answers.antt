@@ -1,5 +1,4 @@
-use Rattle.std.proofs.Common.{sym, ap, ◌∙◌}
-use Rattle.dft_netlist.specs.Names.{find_net, find_instance}
+use Rattle.std.proofs.Common.{sym, ◌∙◌}
 use Rattle.dft_netlist.proofs.FindLemmas.{net_found}
 use Rattle.dft_netlist.proofs.builder.DesignBuilder.find.Goals as goal
 

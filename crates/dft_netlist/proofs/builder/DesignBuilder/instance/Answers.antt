@@ -1,14 +1,13 @@
-use Rattle.std.proofs.Common.{◌≡◌, ◌<◌, ◌≤◌, ◌∙◌, sym, ap, subst, length, None, arith, refl}
+use Rattle.std.proofs.Common.{◌≡◌, ◌<◌, sym, subst, length, None, arith, refl}
 use Rattle.dft_netlist.specs.BuilderShown.{netlist_so_far}
 use Rattle.dft_netlist.specs.Building.{own_names}
 use Rattle.dft_netlist.specs.Names.{first_taken}
-use Rattle.dft_netlist.specs.NameTables.{IsFree}
 use Rattle.dft_netlist.specs.Netlist.{Netlist}
 use Rattle.dft_netlist.specs.Sound.{IsInstanceOf}
 use Rattle.dft_netlist.specs.declared.instance.Instance.{Instance}
 use Rattle.dft_netlist.specs.declared.limits.TheConstants.{MAX_INSTANCES}
 use Rattle.dft_netlist.proofs.NamesLemmas.{own_free_look_up}
-use Rattle.dft_netlist.proofs.RefusalLemmas.{instance_full, instance_open, free_of, answers_taken}
+use Rattle.dft_netlist.proofs.RefusalLemmas.{free_of}
 use Rattle.dft_netlist.proofs.SoundLemmas.{instance_sound, own_knows}
 use Rattle.dft_netlist.proofs.builder.DesignBuilder.instance.Goals as goal
 

@@ -1,9 +1,8 @@
-use Rattle.std.proofs.Common.{sym, subst, ◌∷◌, [], ◌++◌}
+use Rattle.std.proofs.Common.{sym, subst}
 use Rattle.dft_netlist.specs.declared.instance.Join.{Join}
 use Rattle.dft_netlist.specs.BuilderShown.{netlist_so_far}
 use Rattle.dft_netlist.specs.Netlist.{Netlist}
-use Rattle.dft_netlist.specs.NameTables.{Knows}
-use Rattle.dft_netlist.specs.Sound.{IsJoinOf, IsNetlist}
+use Rattle.dft_netlist.specs.Sound.{IsJoinOf}
 use Rattle.dft_netlist.proofs.SoundLemmas.{join_sound, join_knows}
 use Rattle.dft_netlist.proofs.builder.DesignBuilder.join.Goals as goal
 

@@ -1,10 +1,7 @@
-use Rattle.std.proofs.Common.{◌≡◌, ◌<◌, ◌≤◌, ◌∙◌, sym, ap, subst, false, true, length, is_some, None, arith}
+use Rattle.std.proofs.Common.{◌≡◌, ◌<◌, ◌≤◌, ◌∙◌, sym, ap, length, None, arith}
 use Rattle.dft_netlist.specs.BuilderShown.{netlist_so_far}
 use Rattle.dft_netlist.specs.declared.limits.TheConstants.{MAX_NETS}
-use Rattle.dft_netlist.specs.Building.{net_refusal}
-use Rattle.dft_netlist.specs.Names.{is_taken}
 use Rattle.dft_netlist.specs.NameTables.{look_up}
-use Rattle.dft_netlist.specs.Netlist.{Netlist}
 use Rattle.dft_netlist.proofs.NamesLemmas.{taken_of, none_of}
 use Rattle.dft_netlist.proofs.RefusalLemmas.{net_taken, net_full, net_open}
 use Rattle.dft_netlist.proofs.SoundLemmas.{net_sound, net_knows}

@@ -1,6 +1,5 @@
-use Rattle.std.proofs.Common.{◌≡◌, ◌<◌, ◌≤◌, ◌+◌, ◌∙◌, sym, ap, subst, length, map, None, arith, refl, List, ℕ, Vec, Global}
+use Rattle.std.proofs.Common.{◌≡◌, ◌∙◌, sym, ap, subst, length, None, arith, refl, List, ℕ, Vec, Global}
 use Rattle.std.proofs.lemmas.List.{length-map}
-use Rattle.dft_netlist.specs.declared.limits.TheConstants.{MAX_PORTS, MAX_NETS}
 use Rattle.dft_netlist.specs.declared.port.Port.{Port}
 use Rattle.dft_netlist.specs.BuilderShown.{netlist_so_far}
 use Rattle.dft_netlist.specs.Building.{port_of, room_limit}
@@ -9,7 +8,7 @@ use Rattle.dft_netlist.specs.NameTables.{AllDiffer}
 use Rattle.dft_netlist.specs.NetNumbers.{nets_from}
 use Rattle.dft_netlist.specs.Netlist.{Netlist}
 use Rattle.dft_netlist.specs.Sound.{HasOnlyPorts}
-use Rattle.dft_netlist.specs.Tokens.{Text}
+use Rattle.dft_base.specs.Lexing.{Text}
 use Rattle.dft_netlist.proofs.PortNames.{vector_is_free, bits_are_new}
 use Rattle.dft_netlist.proofs.PortLemmas.{with_port, vector_number, port_knows, nets_know, port_sound}
 use Rattle.dft_netlist.proofs.RefusalLemmas.{free_of, room_of}

@@ -1,8 +1,8 @@
-use Rattle.std.proofs.Common.{◌≡◌, ◌∙◌, sym, ap, subst, length, None, arith, is_some, true, false, refl}
+use Rattle.std.proofs.Common.{◌≡◌, ◌∙◌, sym, ap, subst, None, arith, true, false, refl}
 use Rattle.std.proofs.lemmas.List.{at_drop_all}
 use Rattle.dft_netlist.specs.Building.{taken_or}
 use Rattle.dft_netlist.specs.BuilderShown.{netlist_so_far}
-use Rattle.dft_netlist.specs.Names.{is_taken, first_taken, port_names}
+use Rattle.dft_netlist.specs.Names.{is_taken, first_taken}
 use Rattle.dft_netlist.specs.NameTables.{look_up}
 use Rattle.dft_netlist.specs.Netlist.{Netlist}
 use Rattle.dft_netlist.proofs.FirstTaken.{own_first, bits_behind, bits_alone, name_taken, name_free}

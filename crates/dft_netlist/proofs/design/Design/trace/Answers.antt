@@ -1,9 +1,9 @@
-use Rattle.std.proofs.Common.{◌≡◌, ◌+◌, ◌-◌, ◌<◌, ◌∙◌, suc, sym, ap, subst, arith, length}
+use Rattle.std.proofs.Common.{◌≡◌, ◌+◌, ◌-◌, ◌∙◌, suc, sym, ap, arith, length}
 use Rattle.dft_netlist.specs.declared.design.Step.TheVariants.{Back}
 use Rattle.dft_netlist.specs.Netlist.{Netlist}
 use Rattle.dft_netlist.specs.Drivers.{Net}
 use Rattle.dft_netlist.specs.Shown.{netlist_of}
-use Rattle.dft_netlist.specs.Traces.{root_within, root_of}
+use Rattle.dft_netlist.specs.Traces.{root_within}
 use Rattle.dft_netlist.proofs.TraceLemmas.{walk_step}
 use Rattle.dft_netlist.proofs.design.Design.trace.Goals as goal
 

@@ -1,4 +1,4 @@
-use Rattle.std.proofs.Common.{◌≡◌, ◌∙◌, ◌+◌, ◌++◌, ◌∷◌, [], map, length, sym, ap, arith, add-one, append_assoc}
+use Rattle.std.proofs.Common.{◌≡◌, ◌∷◌, map, length, ap, arith, add-one, append_assoc}
 use Rattle.std.specs.Vec.Iter.{into_iter_items}
 use Rattle.dft_netlist.proofs.NewNames.{first_new, others_new}
 use Rattle.dft_netlist.proofs.name_table.NameTable.insert_nets.Goals as goal

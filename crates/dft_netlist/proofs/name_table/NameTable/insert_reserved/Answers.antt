@@ -1,7 +1,6 @@
-use Rattle.std.proofs.Common.{◌≡◌, ◌<◌, ap, sym, ◌∙◌, refl, None}
+use Rattle.std.proofs.Common.{◌<◌, ap, ◌∙◌, refl}
 use Rattle.std.specs.Str.{bytes_eq}
-use Rattle.std.specs.Map.{lookup}
-use Rattle.indexmap.specs.IndexMap.{insert_entry, spare}
+use Rattle.indexmap.specs.IndexMap.{spare}
 use Rattle.indexmap.proofs.CallerLemmas.{insert_entry-new}
 use Rattle.dft_netlist.specs.NameTables.{Table, look_up}
 use Rattle.dft_netlist.proofs.NameTableLemmas.{look_up-map, map-append, on_ok}

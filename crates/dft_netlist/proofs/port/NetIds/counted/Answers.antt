@@ -1,4 +1,4 @@
-use Rattle.std.proofs.Common.{◌∙◌, sym, ap}
+use Rattle.std.proofs.Common.{sym}
 use Rattle.dft_netlist.proofs.NumberLemmas.{nets_from-more}
 use Rattle.dft_netlist.proofs.port.NetIds.counted.Goals as goal
 
