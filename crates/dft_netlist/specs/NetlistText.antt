@@ -20,7 +20,7 @@ use Rattle.dft_netlist.specs.declared.error.NetlistError.{NetlistError}
 use Rattle.dft_netlist.specs.Names.{bit_names}
 use Rattle.dft_netlist.specs.NetNumbers.{nets_from}
 use Rattle.dft_netlist.specs.Building.{empty_netlist, port_of, port_refusal, net_refusal, instance_refusal}
-use Rattle.dft_netlist.specs.Finishing.{IsFinished, CannotFinish}
+use Rattle.dft_netlist.specs.Finishing.{IsFinished}
 use Rattle.dft_netlist.specs.Netlist.{Netlist}
 use Rattle.dft_netlist.specs.Lexemes.{Token, tokens}
 use Rattle.dft_netlist.specs.Steps.{Rule, left, next, sees, refuse, expect, eat, fault, checked}
@@ -250,9 +250,3 @@ pub record StandsFor (library : List Cell) (text : Text) (netlist : Netlist) : T
   pub grown : Netlist
   pub parts : built draft ≡ Ok grown
   pub finished : IsFinished grown netlist
-
--- the module of the text is built, and is refused as a whole
-pub record IsRefusedWhole (library : List Cell) (text : Text) (why : NetlistError) : Type 0 where
-  pub draft : Draft
-  pub said : module_of library text ≡ Ok draft
-  pub cause : (built draft ≡ Err why) ⊎ ((grown : Netlist) × (built draft ≡ Ok grown) × CannotFinish grown why)
