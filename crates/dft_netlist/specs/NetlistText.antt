@@ -1,5 +1,5 @@
 -- The netlist that a text stands for: one module (IEEE 1364, structural part).
-use Rattle.std.specs.Prelude.{◌≡◌, ◌⊎◌, ℕ, zero, suc, Bool, true, not, ◌==◌, if◌then◌else◌, List, [], ◌∷◌, ◌++◌, length, map, filter, position, unwrap_or, Option, Some, None, slice_index_or, Result, Ok, Err}
+use Rattle.std.specs.Prelude.{◌≡◌, ℕ, zero, suc, Bool, true, not, ◌==◌, if◌then◌else◌, List, [], ◌∷◌, ◌++◌, length, map, filter, position, unwrap_or, Option, Some, None, slice_index_or, Result, Ok, Err}
 use Rattle.std.specs.List.{list_any}
 use Rattle.dft_base.specs.declared.place.Range.{Range}
 use Rattle.dft_base.specs.Lexing.{Text}
