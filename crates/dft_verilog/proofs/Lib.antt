@@ -1,7 +1,3 @@
-pub mod Lexing
-pub mod Names
-pub mod Declared
-pub mod Ports
 pub mod BlankLemmas
 pub mod FrontLemmas
 pub mod NameLemmas

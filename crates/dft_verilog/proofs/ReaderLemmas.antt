@@ -13,7 +13,7 @@ use Rattle.dft_netlist.specs.Modules.{Draft}
 use Rattle.dft_netlist.specs.NetlistText.{module_of, StandsFor}
 use Rattle.dft_verilog.specs.Built.{IsBuilt, IsRefusedAs, CannotBuild}
 use Rattle.dft_verilog.specs.Refusals.{IsFirstFault, IsRefused, told_of, told_whole}
-use Rattle.dft_verilog.specs.declared.verilog_error.VerilogError.TheVariants as told
+use Rattle.dft_verilog.specs.declared.error.VerilogError.TheVariants as told
 
 -- a module that is built is what the text stands for
 pub stands : (library : List Cell) (text : Text) (d : Draft) (n : Netlist) → module_of library text ≡ Ok d → IsBuilt d n → StandsFor library text n

@@ -12,8 +12,8 @@ use Rattle.dft_netlist.specs.declared.error.NetlistError.{NetlistError}
 use Rattle.dft_netlist.specs.declared.error.NetlistError.TheVariants as netlist
 use Rattle.dft_netlist.specs.declared.limits.TheConstants.{MAX_PORTS, MAX_NETS, MAX_INSTANCES}
 use Rattle.dft_netlist.specs.NetlistText.{module_of, IsRefusedWhole}
-use Rattle.dft_verilog.specs.declared.verilog_error.VerilogError.{VerilogError}
-use Rattle.dft_verilog.specs.declared.verilog_error.VerilogError.TheVariants as told
+use Rattle.dft_verilog.specs.declared.error.VerilogError.{VerilogError}
+use Rattle.dft_verilog.specs.declared.error.VerilogError.TheVariants as told
 
 -- the most that there may be
 abbrev pub most : Counted → ℕ
