@@ -24,3 +24,7 @@ pub mod FinalLemmas
 pub mod StandingLemmas
 pub mod BuiltLemmas
 pub mod BuildableLemmas
+pub mod CountLemmas
+pub mod OtherNetLemmas
+pub mod SaidLemmas
+pub mod GrammarLemmas

@@ -22,3 +22,4 @@ pub mod Operands
 pub mod Refusals
 pub mod FinalNets
 pub mod Buildable
+pub mod Laws

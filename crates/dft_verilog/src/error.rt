@@ -1,5 +1,4 @@
-ghost use Rattle.std.specs.Prelude.{◌≡◌, alloc_error};
-ghost use Rattle.dft_verilog.specs.declared.error.VerilogError.TheVariants.{Netlist, Memory};
+//! Why a netlist text was not read.
 
 use dft_base::{Name, Place};
 use dft_netlist::NetlistError;
@@ -36,20 +35,4 @@ pub enum VerilogError {
     Netlist(NetlistError),
     /// Memory ran out.
     Memory(AllocError),
-}
-
-impl From<NetlistError> for VerilogError {
-    ghost from_gives = { λ error e. e ≡ Netlist error };
-
-    fn from(error: NetlistError) -> VerilogError {
-        VerilogError::Netlist(error)
-    }
-}
-
-impl From<AllocError> for VerilogError {
-    ghost from_gives = { λ _ e. e ≡ Memory alloc_error };
-
-    fn from(error: AllocError) -> VerilogError {
-        VerilogError::Memory(error)
-    }
 }

@@ -19,6 +19,7 @@ mod header_port;
 mod instances;
 #[cfg(test)]
 mod item_texts;
+mod laws;
 mod lexeme;
 mod module_draft;
 mod module_items;
@@ -42,5 +43,5 @@ mod words;
 
 pub use blanks::MAX_TEXT;
 pub use error::VerilogError;
-pub use finishing::distinct_names_are_built;
+pub use laws::{distinct_names_are_built, modules_are_buildable, texts_stand_for_one_netlist};
 pub use reader::read;
