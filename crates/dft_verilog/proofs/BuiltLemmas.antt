@@ -4,14 +4,12 @@ use Rattle.std.proofs.lemmas.List.{length-map}
 use Rattle.dft_base.specs.Lexing.{Text}
 use Rattle.dft_netlist.specs.declared.ids.NetId.{NetId}
 use Rattle.dft_netlist.specs.declared.error.NetlistError.{NetlistError}
-use Rattle.dft_netlist.specs.declared.error.NetlistError.TheVariants as error
-use Rattle.dft_cells.specs.declared.cell.Cell.{Cell}
 use Rattle.dft_netlist.specs.Netlist.{Netlist}
 use Rattle.dft_netlist.specs.Building.{empty_netlist}
 use Rattle.dft_netlist.specs.Modules.{Draft}
-use Rattle.dft_netlist.specs.NetlistText.{Grown, StandsFor, IsRefusedWhole, module_of, and_grown, nets_of_ports, other_nets, net_order, names_of_others, add_ports, add_nets, add_instances, add_joins, built}
+use Rattle.dft_netlist.specs.NetlistText.{Grown, and_grown, nets_of_ports, other_nets, net_order, names_of_others, add_ports, add_nets, add_instances, add_joins, built}
 use Rattle.dft_verilog.specs.FinalNets.{numbers_among, without_number, all_numbered, AreFinal}
-use Rattle.dft_verilog.specs.Built.{Grows, HasNetsOf, IsBuilt, IsRefusedAs, CannotBuild}
+use Rattle.dft_verilog.specs.Built.{Grows, HasNetsOf}
 use Rattle.dft_verilog.proofs.GrowLemmas.{and_grown-assoc, add_ports-Ok, add_nets-Ok}
 use Rattle.dft_verilog.proofs.FinalLemmas.{without_number-others, AreFinal-numbered}
 
@@ -74,29 +72,3 @@ unfolding built
 built-refused d start none =
     and_grown-assoc (add_ports d.ports (empty_netlist d.name d.library)) _ (add_nets (names_of_others d)) (λ n. add_instances (net_order d) d.instances (add_joins (net_order d) d.joins n)) (λ n. refl)
     ∙ ap (λ g. and_grown g (λ n. add_instances (net_order d) d.instances (add_joins (net_order d) d.joins n))) (ap (all_nets d) (sym none))
-
--- ---- what a reader gives
-
--- a text whose module is built stands for the design
-pub StandsFor-built : (library : List Cell) (text : Text) (d : Draft) (design : Netlist) → module_of library text ≡ Ok d → IsBuilt d design → StandsFor library text design
-StandsFor-built library text d design said h = record { draft = d; said = said; grown = h.grown; parts = h.parts; finished = h.finished }
-
--- a text whose module is refused is refused as a whole
-pub IsRefusedWhole-refused : (library : List Cell) (text : Text) (d : Draft) (why : NetlistError) → module_of library text ≡ Ok d → IsRefusedAs d why → IsRefusedWhole library text why
-IsRefusedWhole-refused library text d why said h = record { draft = d; said = said; cause = h }
-
--- memory ran out
-abbrev pub IsMemory : NetlistError → Type 0
-IsMemory (error.MultipleDrivers name) = ⊥
-IsMemory (error.Loop name) = ⊥
-IsMemory (error.DuplicateName name) = ⊥
-IsMemory (error.TooMany what limit) = ⊥
-IsMemory (error.Memory failed) = Unit {0}
-
--- a refusal that is no want of memory refuses the text as a whole
-pub IsRefusedWhole-built : (library : List Cell) (text : Text) (d : Draft) (why : NetlistError) → module_of library text ≡ Ok d → (IsMemory why → ⊥) → CannotBuild d why → IsRefusedWhole library text why
-IsRefusedWhole-built library text d (error.MultipleDrivers name) said some h = IsRefusedWhole-refused library text d (error.MultipleDrivers name) said h
-IsRefusedWhole-built library text d (error.Loop name) said some h = IsRefusedWhole-refused library text d (error.Loop name) said h
-IsRefusedWhole-built library text d (error.DuplicateName name) said some h = IsRefusedWhole-refused library text d (error.DuplicateName name) said h
-IsRefusedWhole-built library text d (error.TooMany what limit) said some h = IsRefusedWhole-refused library text d (error.TooMany what limit) said h
-IsRefusedWhole-built library text d (error.Memory failed) said some h = absurd (some tt)

@@ -1,7 +1,3 @@
-pub mod Lexing
-pub mod Names
-pub mod Declared
-pub mod Ports
 pub mod BlankLemmas
 pub mod FrontLemmas
 pub mod NameLemmas
@@ -28,3 +24,7 @@ pub mod FinalLemmas
 pub mod StandingLemmas
 pub mod BuiltLemmas
 pub mod BuildableLemmas
+pub mod CountLemmas
+pub mod OtherNetLemmas
+pub mod SaidLemmas
+pub mod GrammarLemmas

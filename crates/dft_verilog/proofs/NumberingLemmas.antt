@@ -226,11 +226,11 @@ NumbersPorts-more count all index port ahead next after numbers new grown moved 
   few = omega (arith, few, h.few);
 }
 
-AreBelow-count : (count from n : ℕ) → from + n ≤ count → AreBelow count (count_from from n)
+pub AreBelow-count : (count from n : ℕ) → from + n ≤ count → AreBelow count (count_from from n)
 AreBelow-count count from zero le = tt
 AreBelow-count count from (suc n) le = (omega arith, AreBelow-count count (suc from) n (omega arith))
 
-AreBelow-append : (count : ℕ) (xs ys : List ℕ) → AreBelow count xs → AreBelow count ys → AreBelow count (xs ++ ys)
+pub AreBelow-append : (count : ℕ) (xs ys : List ℕ) → AreBelow count xs → AreBelow count ys → AreBelow count (xs ++ ys)
 AreBelow-append count [] ys hx hy = hy
 AreBelow-append count (x ∷ xs) ys hx hy = (hx.0, AreBelow-append count xs ys hx.1 hy)
 

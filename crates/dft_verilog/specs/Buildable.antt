@@ -1,6 +1,7 @@
 -- Drafts of which no part is refused.
 use Rattle.std.specs.Prelude.{◌≡◌, ◌≤◌, List, [], ◌∷◌, ◌++◌, length, Option, None, Some, Ok}
 use Rattle.dft_base.specs.Lexing.{Text}
+use Rattle.dft_cells.specs.declared.cell.Cell.{Cell}
 use Rattle.dft_netlist.specs.declared.limits.TheConstants.{MAX_PORTS, MAX_NETS, MAX_INSTANCES}
 use Rattle.dft_netlist.specs.declared.text.Declared.{Declared}
 use Rattle.dft_netlist.specs.declared.instance.Instance.{Instance}
@@ -8,7 +9,7 @@ use Rattle.dft_netlist.specs.Netlist.{Netlist}
 use Rattle.dft_netlist.specs.Names.{port_names}
 use Rattle.dft_netlist.specs.Building.{own_names}
 use Rattle.dft_netlist.specs.Modules.{Draft, HeaderPort}
-use Rattle.dft_netlist.specs.NetlistText.{built, net_order, names_of_others}
+use Rattle.dft_netlist.specs.NetlistText.{built, net_order, names_of_others, module_of}
 use Rattle.dft_verilog.specs.Free.{AreApart}
 
 -- the printed names of a port that was declared: a vector's own, and its bits'
@@ -38,3 +39,7 @@ pub record IsBuildable (d : Draft) : Type 0 where
 -- then no part is refused
 abbrev pub BuildableAreBuilt : Type 0
 BuildableAreBuilt = (d : Draft) → IsBuildable d → (netlist : Netlist) × (built d ≡ Ok netlist)
+
+-- what a text without a fault says is so
+abbrev pub ModulesAreBuildable : Type 0
+ModulesAreBuildable = (library : List Cell) (text : Text) (d : Draft) → module_of library text ≡ Ok d → IsBuildable d

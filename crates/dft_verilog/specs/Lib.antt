@@ -1,8 +1,3 @@
-pub use Rattle.dft_netlist.specs.Rules
-pub use Rattle.dft_netlist.specs.FirstForm
-pub mod Reads
-pub mod Cursor
-pub mod DraftShown
 pub mod Cut
 pub mod Reading
 pub mod TokensAhead
@@ -27,3 +22,4 @@ pub mod Operands
 pub mod Refusals
 pub mod FinalNets
 pub mod Buildable
+pub mod Laws

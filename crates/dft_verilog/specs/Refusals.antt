@@ -1,5 +1,5 @@
 -- What a reader tells of a refused text.
-use Rattle.std.specs.Prelude.{ℕ, ◌≡◌, ◌⊎◌, pos, List, Err}
+use Rattle.std.specs.Prelude.{ℕ, ◌≡◌, pos, List, Ok, Err}
 use Rattle.dft_base.specs.Lexing.{Text, place_of}
 use Rattle.dft_base.specs.declared.place.Place.{Place}
 use Rattle.dft_cells.specs.declared.cell.Cell.{Cell}
@@ -11,9 +11,12 @@ use Rattle.dft_netlist.specs.declared.error.Counted.TheVariants as counted
 use Rattle.dft_netlist.specs.declared.error.NetlistError.{NetlistError}
 use Rattle.dft_netlist.specs.declared.error.NetlistError.TheVariants as netlist
 use Rattle.dft_netlist.specs.declared.limits.TheConstants.{MAX_PORTS, MAX_NETS, MAX_INSTANCES}
-use Rattle.dft_netlist.specs.NetlistText.{module_of, IsRefusedWhole}
-use Rattle.dft_verilog.specs.declared.verilog_error.VerilogError.{VerilogError}
-use Rattle.dft_verilog.specs.declared.verilog_error.VerilogError.TheVariants as told
+use Rattle.dft_netlist.specs.Netlist.{Netlist}
+use Rattle.dft_netlist.specs.Finishing.{CannotFinish}
+use Rattle.dft_netlist.specs.Modules.{Draft}
+use Rattle.dft_netlist.specs.NetlistText.{module_of, built}
+use Rattle.dft_verilog.specs.declared.error.VerilogError.{VerilogError}
+use Rattle.dft_verilog.specs.declared.error.VerilogError.TheVariants as told
 
 -- the most that there may be
 abbrev pub most : Counted → ℕ
@@ -52,8 +55,19 @@ pub record IsFirstFault (library : List Cell) (text : Text) (error : VerilogErro
   pub first : module_of library text ≡ Err fault
   pub told : error ≡ told_of fault.cause (place_of text fault.left)
 
--- Why a text is refused: by its first fault, or else as a whole. Nothing is said where memory runs out.
+-- the text's module is built, and its netlist cannot be finished
+pub record IsUnfinished (library : List Cell) (text : Text) (why : NetlistError) : Type 0 where
+  pub draft : Draft
+  pub said : module_of library text ≡ Ok draft
+  pub grown : Netlist
+  pub parts : built draft ≡ Ok grown
+  pub refused : CannotFinish grown why
+
+-- Why a text is refused: by its first fault, among them a name that is taken and one more than there may be; or else since a net has two drivers or the
+-- nets have no order. Nothing is said where memory runs out.
 abbrev pub IsRefused : List Cell → Text → VerilogError → Type 0
 IsRefused library text (told.Memory error) = Unit {0}
-IsRefused library text (told.Netlist why) = IsFirstFault library text (told.Netlist why) ⊎ IsRefusedWhole library text why
+IsRefused library text (told.Netlist (netlist.Memory error)) = ⊥
+IsRefused library text (told.Netlist (netlist.MultipleDrivers net)) = IsUnfinished library text (netlist.MultipleDrivers net)
+IsRefused library text (told.Netlist (netlist.Loop net)) = IsUnfinished library text (netlist.Loop net)
 IsRefused library text error = IsFirstFault library text error

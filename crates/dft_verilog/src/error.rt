@@ -1,28 +1,38 @@
-ghost use Rattle.std.specs.Prelude.{◌≡◌, alloc_error};
-ghost use Rattle.dft_verilog.specs.declared.error.VerilogError.TheVariants.{Memory};
+//! Why a netlist text was not read.
 
-use std::alloc::{AllocError, AllocFailed};
+use dft_base::{Name, Place};
+use dft_netlist::NetlistError;
+use std::alloc::AllocError;
 
-/// Why a text was not read.
+/// Why a netlist text was not read. Each place is where the refused token begins.
 #[derive(Debug, Drop)]
 pub enum VerilogError {
-    /// The text is not of the first form: one module with scalar ports, and flip-flops of one clock.
-    NotFirstForm,
+    /// A byte that no text may have there.
+    V1 { place: Place },
+    /// A token that stands where none such may, or a constant that is driven.
+    V2 { place: Place },
+    /// A word or directive that the structural part leaves out.
+    V3 { place: Place, name: Name },
+    /// A cell that the library has not.
+    V4 { place: Place, name: Name },
+    /// A pin that the cell has not.
+    V5 { place: Place, name: Name },
+    /// Widths, numbers of terminals, bits or sizes that do not fit.
+    V6 { place: Place },
+    /// `inout`.
+    V7 { place: Place },
+    /// A second module.
+    V8 { place: Place },
+    /// The text ends too early.
+    V9 { place: Place },
+    /// A number that is too large.
+    V10 { place: Place },
+    /// A name that was not declared.
+    V11 { place: Place, name: Name },
+    /// A pin that was connected before.
+    V12 { place: Place, name: Name },
+    /// The netlist is refused: a name that is taken, one more than there may be, two drivers, or a loop.
+    Netlist(NetlistError),
+    /// Memory ran out.
     Memory(AllocError),
-}
-
-impl From<AllocError> for VerilogError {
-    ghost from_gives = { λ _ e. e ≡ Memory alloc_error };
-
-    fn from(error: AllocError) -> VerilogError {
-        VerilogError::Memory(error)
-    }
-}
-
-impl<T: Drop> From<AllocFailed<T>> for VerilogError {
-    ghost from_gives = { λ _ e. e ≡ Memory alloc_error };
-
-    fn from(_error: AllocFailed<T>) -> VerilogError {
-        VerilogError::Memory(AllocError)
-    }
 }

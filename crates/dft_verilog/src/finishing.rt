@@ -7,7 +7,6 @@ ghost use Rattle.dft_netlist.specs.NetlistText as spec;
 ghost use Rattle.dft_netlist.specs.Sound.{HasOnlyPorts};
 ghost use Rattle.dft_verilog.specs.Drafts.{InstanceFits, JoinFits, nets_alone};
 ghost use Rattle.dft_verilog.specs.FinalNets.{name_unless, without_number, all_numbered, AreFinal};
-ghost use Rattle.dft_verilog.specs.Buildable.{BuildableAreBuilt};
 ghost use Rattle.dft_verilog.specs.Built.{Grows, Builds, HasNetsOf, IsBuilt, CannotBuild};
 
 use crate::final_nets::{final_net, final_pins, final_signal, port_numbers};
@@ -205,14 +204,9 @@ fn built(alloc: Global, draft: &ModuleDraft) -> Result<DesignBuilder, NetlistErr
 
 /// The design of what a module said. Refused with `DuplicateName` or `TooMany` where a part is refused, with
 /// `MultipleDrivers` for the first net with two drivers, and else with `Loop` where the nets have no order.
-pub fn finished(alloc: Global, draft: ModuleDraft) -> Result<Design, NetlistError>
+pub(crate) fn finished(alloc: Global, draft: ModuleDraft) -> Result<Design, NetlistError>
     ensures ok { IfOk result (λ design. IsBuilt draft design) }
     ensures refused { IfErr result (λ why. CannotBuild draft why) }
 {
     built(alloc, &draft)?.finish()
 }
-
-/// The law that no part is refused of a draft whose printed names differ and that keeps the limits.
-pub fn distinct_names_are_built()
-    ensures { BuildableAreBuilt }
-{}

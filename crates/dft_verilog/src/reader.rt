@@ -1,47 +1,159 @@
-ghost use Rattle.std.specs.Prelude.{◌≡◌, ◌≤◌, IfOk, None, Some, length};
-ghost use Rattle.dft_netlist.specs.FirstForm as spec;
-ghost use Rattle.dft_netlist.specs.FirstForm.{first_form};
-ghost use Rattle.dft_verilog.specs.Reads.{Reads};
+//! Reads a netlist text: its module, and the design that it stands for (IEEE 1364, structural part).
 
-use crate::building::netlist;
-use crate::checks::is_sound;
-use crate::draft::Draft;
+ghost use Rattle.std.specs.Prelude.{◌≡◌, ◌≤◌, Ok, Err, length, pos, IfOk, IfErr};
+ghost use Rattle.dft_netlist.specs.NetlistText as spec;
+ghost use Rattle.dft_netlist.specs.NetlistText.{StandsFor};
+ghost use Rattle.dft_verilog.specs.Reading.{Reads};
+ghost use Rattle.dft_verilog.specs.Refusals.{IsRefused, told_of, told_whole as told_as_whole, most};
+ghost use Rattle.dft_verilog.specs.Checking.{Checks};
+ghost use Rattle.dft_base.specs.Lexing.{place_of as place_in};
+
+use crate::blanks::MAX_TEXT;
+use crate::cursor::Tokens;
 use crate::error::VerilogError;
-use crate::heading::heading;
-use crate::items::items;
-use crate::tokens::Tokens;
-use dft_netlist::FlatDesign;
+use crate::faults::{refused, undeclared};
+use crate::finishing::finished;
+use crate::header::heading;
+use crate::module_draft::ModuleDraft;
+use crate::module_items::items;
+use crate::read_error::ReadError;
+use dft_base::{Place, place_of};
+use dft_cells::Library;
+use dft_netlist::{
+    Cause, Counted, Design, Fault, MAX_INSTANCES, MAX_NETS, MAX_PORTS, NetlistError, TokenKind,
+};
 use std::alloc::Global;
 
-/// The most bytes that a text may have.
-pub const MAX_BYTES: usize = 65_536;
-
-#[tactic(auto, unfolding(dft_netlist::specs::FirstForm::module_text))]
-/// What the module says.
-fn module_text(alloc: Global, tokens: &mut Tokens<'_>) -> Result<Draft, VerilogError>
-    ensures draft { Reads (λ draft. draft) (spec.module_text tokens.old) result tokens.new }
-    ensures few { IfOk result (λ draft. length draft.flip_flops ≤ MAX_BYTES) }
+#[tactic(auto, unfolding(dft_netlist::specs::NetlistText::module_end))]
+// `endmodule`, where the ports must have been declared.
+fn module_end(draft: &ModuleDraft, tokens: &mut Tokens<'_>) -> Result<(), ReadError>
+    ensures { Reads (λ _. draft.now) (spec.module_end draft.now tokens.old) result tokens.new }
 {
-    let mut draft = heading(alloc, tokens)?;
-    items(alloc, &mut draft, tokens)?;
-    tokens.expect(b"endmodule")?;
-    tokens.end()?;
+    let place = tokens.left();
+    tokens.expect(TokenKind::Endmodule)?;
+    match draft.first_undeclared() {
+        Some(name) => Err(undeclared(draft.alloc(), place, name.as_slice())),
+        None => Ok(()),
+    }
+}
+
+#[tactic(auto, unfolding(dft_netlist::specs::NetlistText::end_of_text))]
+// No token comes behind the module; a second module is not taken.
+fn end_of_text(draft: &ModuleDraft, tokens: &Tokens<'_>) -> Result<(), ReadError>
+    ensures { Reads (λ _. draft.now) (spec.end_of_text draft.now tokens.now) result tokens.now }
+{
+    if tokens.sees(TokenKind::End) {
+        Ok(())
+    } else if tokens.sees(TokenKind::Module) {
+        Err(refused(tokens.left(), Cause::SecondModule))
+    } else {
+        Err(tokens.refusal())
+    }
+}
+
+#[tactic(auto, unfolding(dft_netlist::specs::NetlistText::module_text))]
+// The whole text: a heading, items, and the end.
+fn module_text(
+    alloc: Global,
+    library: Library,
+    tokens: &mut Tokens<'_>,
+) -> Result<ModuleDraft, ReadError>
+    ensures { Reads (λ draft. draft) (spec.module_text library tokens.old) result tokens.new }
+{
+    let cells = library.copy(alloc)?;
+    let mut draft = heading(alloc, library, tokens)?;
+    items(&cells, &mut draft, tokens)?;
+    module_end(&draft, tokens)?;
+    end_of_text(&draft, tokens)?;
     Ok(draft)
 }
 
-#[tactic(auto, unfolding(dft_netlist::specs::FirstForm::first_form))]
-/// The design that a text of the first form stands for (IEEE 1364): one module with scalar ports, and flip-flops of one
-/// clock. Another text is `NotFirstForm`.
-pub fn read(alloc: Global, bytes: &[u8]) -> Result<FlatDesign, VerilogError>
-    ensures design { IfOk result (λ design. first_form bytes.now ≡ Some design) }
-    ensures refused { result ≡ Err VerilogError.NotFirstForm → first_form bytes.now ≡ None }
+#[tactic(auto, unfolding(dft_netlist::specs::NetlistText::module_of))]
+// What the module of a text says.
+pub(crate) fn module_of(
+    alloc: Global,
+    bytes: &[u8],
+    library: Library,
+) -> Result<ModuleDraft, ReadError>
+    requires { length bytes.now ≤ MAX_TEXT }
+    ensures { Checks (λ draft. draft) (spec.module_of library bytes.now) result }
 {
-    if bytes.len() > MAX_BYTES {
-        return Err(VerilogError::NotFirstForm);
+    module_text(alloc, library, &mut Tokens::new(alloc, bytes))
+}
+
+// There are as many as there may be.
+fn too_many(what: Counted) -> NetlistError
+    ensures { result ≡ NetlistError.TooMany what (pos (most what)) }
+{
+    let limit = match what {
+        Counted::Ports => MAX_PORTS,
+        Counted::Nets => MAX_NETS,
+        Counted::Instances => MAX_INSTANCES,
+    };
+    NetlistError::TooMany {
+        what,
+        limit: limit as i64,
     }
-    let draft = module_text(alloc, &mut Tokens::new(bytes))?;
-    if !is_sound(&draft) {
-        return Err(VerilogError::NotFirstForm);
+}
+
+// How a cause is told of a place.
+fn told_at(cause: Cause, place: Place) -> VerilogError
+    ensures { result ≡ told_of cause place }
+{
+    match cause {
+        Cause::Byte => VerilogError::V1 { place },
+        Cause::Token => VerilogError::V2 { place },
+        Cause::Unsupported(name) => VerilogError::V3 { place, name },
+        Cause::NoCell(name) => VerilogError::V4 { place, name },
+        Cause::NoPin(name) => VerilogError::V5 { place, name },
+        Cause::Misfit => VerilogError::V6 { place },
+        Cause::Inout => VerilogError::V7 { place },
+        Cause::SecondModule => VerilogError::V8 { place },
+        Cause::Ended => VerilogError::V9 { place },
+        Cause::TooLarge => VerilogError::V10 { place },
+        Cause::Undeclared(name) => VerilogError::V11 { place, name },
+        Cause::JoinedTwice(name) => VerilogError::V12 { place, name },
+        Cause::Taken(name) => VerilogError::Netlist(NetlistError::DuplicateName { name }),
+        Cause::Full(what) => VerilogError::Netlist(too_many(what)),
     }
-    Ok(netlist(alloc, &draft)?)
+}
+
+#[tactic(auto, using(crate::proofs::FaultLemmas::places))]
+// How a fault of a text is told: with the line and column of its place.
+pub(crate) fn told(bytes: &[u8], fault: Fault) -> VerilogError
+    requires { length bytes.now ≤ MAX_TEXT }
+    ensures { result ≡ told_of fault.cause (place_in bytes.now fault.left) }
+{
+    let left = fault.left.min(bytes.len());
+    told_at(fault.cause, place_of(bytes, left))
+}
+
+// How the refusal of a whole module is told.
+fn told_whole(error: NetlistError) -> VerilogError
+    ensures { result ≡ told_as_whole error }
+{
+    match error {
+        NetlistError::Memory(error) => VerilogError::Memory(error),
+        error => VerilogError::Netlist(error),
+    }
+}
+
+#[tactic(auto, using(crate::proofs::ReaderLemmas::reading))]
+/// The design that a netlist text stands for, over the cells of a library (IEEE 1364, structural part). A text with a
+/// fault is refused by its first, with the place where the refused token begins; a name that is taken and one port, net
+/// or instance more than there may be are refused as the netlist is. A text without a fault is refused where a net has
+/// two drivers or the nets have no order.
+pub fn read(alloc: Global, bytes: &[u8], library: Library) -> Result<Design, VerilogError>
+    requires { length bytes.now ≤ MAX_TEXT }
+    ensures design { IfOk result (λ design. StandsFor library bytes.now design) }
+    ensures refused { IfErr result (λ error. IsRefused library bytes.now error) }
+{
+    match module_of(alloc, bytes, library) {
+        Ok(draft) => match finished(alloc, draft) {
+            Ok(design) => Ok(design),
+            Err(error) => Err(told_whole(error)),
+        },
+        Err(ReadError::Fault(fault)) => Err(told(bytes, fault)),
+        Err(ReadError::Memory(error)) => Err(VerilogError::Memory(error)),
+    }
 }

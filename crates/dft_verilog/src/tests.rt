@@ -1,64 +1,82 @@
-use super::*;
-use dft_netlist::{Dir, NetId, Signal};
+//! Netlist texts that are long, or cut off.
+
+use crate::blanks::MAX_TEXT;
+use crate::error::VerilogError;
+use crate::printed::line_of;
+use crate::reader::read;
+use dft_cells::Library;
+use std::alloc::{AllocError, Global};
 use std::test::Fail;
 
-#[test]
-fn the_least_netlist_is_read(rt: HostRuntime) -> Result<(), Fail> {
-    let text = b"module m (c, d, q); input c, d; output q; DFF f (.CK(c), .D(d), .Q(q)); endmodule";
-    let design = read(rt.alloc(), text)
-        .ok()
-        .ok_or("the text is of the form")?;
-    assert_eq!(rt; design.module().as_slice(), b"m".as_slice());
-    assert_eq!(rt; design.net_count(), 3);
-    assert_eq!(rt; design.ports().len(), 3);
-    assert_eq!(rt; design.instances().len(), 1);
-    assert_eq!(rt; design.joins().len(), 0);
-    assert_eq!(rt; design.net_name(NetId(2)).as_slice(), b"q".as_slice());
-    assert!(rt; design.library().find(b"DFF").is_some());
-    for (port, (name, dir)) in design.ports().iter().zip([
-        (b"c", Dir::Input),
-        (b"d", Dir::Input),
-        (b"q", Dir::Output),
-    ]) {
-        assert!(rt; port.name.as_slice() == name.as_slice() && port.dir == dir);
+static SMALL: &[u8] =
+    b"module m (clk, a, y); input clk, a; output y; NAND2 g0 (.A(a), .B(q4), .Y(d0)); DFF f0 (.CK(clk), .D(d0), .Q(q0)); DFF f1 (.CK(clk), .D(q0), .Q(q1)); DFF f2 (.CK(clk), .D(q1), .Q(q2)); DFF f3 (.CK(clk), .D(q2), .Q(q3)); DFF f4 (.CK(clk), .D(q3), .Q(q4)); INV g1 (.A(q4), .Y(y)); endmodule";
+
+// The column of the place that an error is told with.
+fn column_of(error: &VerilogError) -> Option<u32> {
+    match error {
+        VerilogError::V1 { place }
+        | VerilogError::V2 { place }
+        | VerilogError::V3 { place, .. }
+        | VerilogError::V4 { place, .. }
+        | VerilogError::V5 { place, .. }
+        | VerilogError::V6 { place }
+        | VerilogError::V7 { place }
+        | VerilogError::V8 { place }
+        | VerilogError::V9 { place }
+        | VerilogError::V10 { place }
+        | VerilogError::V11 { place, .. }
+        | VerilogError::V12 { place, .. } => Some(place.column),
+        VerilogError::Netlist(_) | VerilogError::Memory(_) => None,
     }
-    for instance in design.instances() {
+}
+
+// Where a text is refused, if it is refused at a place.
+fn refused_at(alloc: Global, text: &[u8]) -> Result<Option<u32>, AllocError> {
+    if text.len() > MAX_TEXT {
+        return Ok(None);
+    }
+    match read(alloc, text, Library::standard(alloc)?) {
+        Ok(_) => Ok(None),
+        Err(error) => Ok(column_of(&error)),
+    }
+}
+
+#[test]
+fn a_text_is_read_whole_alone(rt: HostRuntime) -> Result<(), Fail> {
+    assert_eq!(rt;
+        line_of(rt.alloc(), SMALL)?.as_str(),
+        " clk a y q4 d0 q0 q1 q2 q3; g0 1 3 4; f0 0 4 5 -; f1 0 5 6 -; f2 0 6 7 -; f3 0 7 8 -; f4 0 8 3 -; g1 3 2"
+    );
+    for len in 0..SMALL.len() {
+        let place = refused_at(rt.alloc(), &SMALL[..len])?;
         assert!(rt;
-            matches!(
-                instance.pins.as_slice(),
-                [
-                    Signal::Net(NetId(0)),
-                    Signal::Net(NetId(1)),
-                    Signal::Net(NetId(2)),
-                    Signal::Unconnected
-                ]
-            )
+            matches!(place, Some(column) if column as usize <= len + 1),
+            "{len} bytes"
         );
     }
     Ok(())
 }
 
 #[test]
-fn other_texts_are_refused(rt: HostRuntime) {
-    let texts: [&[u8]; 16] = [
-        b"",
-        b"module m (c, d, q); input c, d; output q; DFF f (.CK(c), .D(d), .Q(q));",
-        b"module m (c, d, q); input c, d; output q; DFF f (.CK(c), .D(d), .Q(q)); endmodule x",
-        b"module m (c, d, q); input c, d; output q; endmodule",
-        b"module m (c, d, q); input c; output q; DFF f (.CK(c), .D(d), .Q(q)); endmodule",
-        b"module m (c, d, q); input c, d, e; output q; DFF f (.CK(c), .D(d), .Q(q)); endmodule",
-        b"module m (c, d, d, q); input c, d; output q; DFF f (.CK(c), .D(d), .Q(q)); endmodule",
-        b"module m (c, d, q); input c, d; output q, q; DFF f (.CK(c), .D(d), .Q(q)); endmodule",
-        b"module m (c, d, q); input c, d; output q; DFF q (.CK(c), .D(d), .Q(q)); endmodule",
-        b"module m (c, d, q); input c, d; output q; DFF f (.CK(c), .D(c), .Q(q)); endmodule",
-        b"module m (c, d, q); input c, d; output q; DFF f (.CK(c), .D(d), .D(q)); endmodule",
-        b"module m (c, d, q); input c, d; output q; DFF f (.CK(c), .D(d)); endmodule",
-        b"module m (c, d, q); input c, d; output q; DFF f (.CK(c), .D(q), .Q(d)); endmodule",
-        b"module m (c, d, q); input c, d; output q; DFF f (.CK(c), .D(d), .Q(q)); DFF g (.CK(c), .D(d), .Q(q)); endmodule",
-        b"module m (c, d, q, r); input c, d; output q, r; DFF f (.CK(c), .D(d), .Q(q)); DFF g (.CK(d), .D(d), .Q(r)); endmodule",
-        b"module m (c, d, wire); input c, d; output wire; DFF f (.CK(c), .D(d), .Q(wire)); endmodule",
-    ];
-    for text in texts {
-        assert!(rt; matches!(read(rt.alloc(), text), Err(VerilogError::NotFirstForm)));
+fn a_million_braces_are_refused(rt: HostRuntime) -> Result<(), Fail> {
+    let mut text = b"module m; assign n = ".to_vec(rt.alloc())?;
+    for _brace in 0..1_000_000 {
+        text.push(b'{')?;
     }
+    assert_eq!(rt; line_of(rt.alloc(), &text)?.as_str(), "V9 1:1000022");
+    Ok(())
+}
+
+#[test]
+fn a_port_too_many_is_refused(rt: HostRuntime) -> Result<(), Fail> {
+    let mut text = String::from_str(rt.alloc(), "module m (p")?;
+    for port in 0..32_768u32 {
+        text.push_str(&format!(in rt.alloc(); ", p{port}")?)?;
+    }
+    text.push_str(");")?;
+    assert_eq!(rt;
+        line_of(rt.alloc(), text.as_bytes())?.as_str(),
+        "N4 ports 32768"
+    );
+    Ok(())
 }

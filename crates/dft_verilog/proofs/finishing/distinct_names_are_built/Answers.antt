@@ -1,5 +1,0 @@
-use Rattle.dft_verilog.proofs.BuildableLemmas.{buildable_are_built}
-use Rattle.dft_verilog.proofs.finishing.distinct_names_are_built.Goals as goal
-
-pub returns : goal.returns
-returns c = buildable_are_built
