@@ -17,8 +17,6 @@ mod gates;
 mod header;
 mod header_port;
 mod instances;
-#[cfg(test)]
-mod item_texts;
 mod laws;
 mod lexeme;
 mod module_draft;
@@ -27,17 +25,11 @@ mod naming;
 mod nesting;
 mod numbers;
 mod operands;
-#[cfg(test)]
-mod printed;
 mod ranges;
 mod read_error;
 mod reader;
 mod selecting;
 mod taken_names;
-#[cfg(test)]
-mod tests;
-#[cfg(test)]
-mod token_texts;
 mod word_tokens;
 mod words;
 

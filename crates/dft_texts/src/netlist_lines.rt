@@ -1,11 +1,9 @@
 //! How a netlist text is told, for tests: the design that it stands for, or its refusal.
 
-use crate::blanks::MAX_TEXT;
-use crate::error::VerilogError;
-use crate::reader::read;
 use dft_base::{Name, Place};
 use dft_cells::Library;
 use dft_netlist::{CellRef, Counted, Design, Instance, NetlistError, Signal};
+use dft_verilog::{MAX_TEXT, VerilogError, read};
 use std::alloc::{AllocError, Global};
 
 fn push_name(line: &mut String, name: &Name) -> Result<(), AllocError> {

@@ -1,10 +1,8 @@
 //! Netlist texts that are long, or cut off.
 
-use crate::blanks::MAX_TEXT;
-use crate::error::VerilogError;
-use crate::printed::line_of;
-use crate::reader::read;
+use crate::netlist_lines::line_of;
 use dft_cells::Library;
+use dft_verilog::{MAX_TEXT, VerilogError, read};
 use std::alloc::{AllocError, Global};
 use std::test::Fail;
 

@@ -1,6 +1,6 @@
 //! Netlist texts worked by hand: tokens and declarations.
 
-use crate::printed::line_of;
+use crate::netlist_lines::line_of;
 use std::test::Fail;
 
 // Blanks, words, numbers and ends.

@@ -1,6 +1,6 @@
 //! Netlist texts worked by hand: expressions, gates and cells.
 
-use crate::printed::line_of;
+use crate::netlist_lines::line_of;
 use std::test::Fail;
 
 // Bits, parts, constants and sides.

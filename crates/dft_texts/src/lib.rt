@@ -1,0 +1,11 @@
+//! Texts worked by hand, as tests of the readers: they call what the readers' crates offer to everybody.
+#![tactic(auto)]
+
+#[cfg(test)]
+mod netlist_items;
+#[cfg(test)]
+mod netlist_limits;
+#[cfg(test)]
+mod netlist_lines;
+#[cfg(test)]
+mod netlist_tokens;
