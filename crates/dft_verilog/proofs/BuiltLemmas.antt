@@ -1,7 +1,6 @@
 -- The netlist of a draft, put together from its steps.
 use Rattle.std.proofs.Common.{◌≡◌, List, [], length, get_or, Option, Result, Ok, Err, OnOk, refl, sym, ap, ◌∙◌, subst, arith, length-append}
 use Rattle.std.proofs.lemmas.List.{length-map}
-use Rattle.dft_base.specs.Lexing.{Text}
 use Rattle.dft_netlist.specs.declared.ids.NetId.{NetId}
 use Rattle.dft_netlist.specs.declared.error.NetlistError.{NetlistError}
 use Rattle.dft_netlist.specs.Netlist.{Netlist}

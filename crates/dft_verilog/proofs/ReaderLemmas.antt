@@ -14,7 +14,6 @@ use Rattle.dft_netlist.specs.NetlistText.{module_of, built, StandsFor}
 use Rattle.dft_verilog.specs.Built.{IsBuilt, IsRefusedAs, CannotBuild}
 use Rattle.dft_verilog.specs.Laws.{StandsForOne}
 use Rattle.dft_verilog.specs.Refusals.{IsFirstFault, IsUnfinished, IsRefused, told_of, told_whole}
-use Rattle.dft_verilog.specs.declared.error.VerilogError.TheVariants as told
 use Rattle.dft_verilog.proofs.BuildableLemmas.{buildable_are_built}
 use Rattle.dft_verilog.proofs.GrammarLemmas.{modules_buildable}
 
