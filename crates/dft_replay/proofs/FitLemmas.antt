@@ -20,7 +20,6 @@ use Rattle.dft_netlist.proofs.NamesLemmas.{same_of, bytes_eq-same}
 use Rattle.dft_netlist.proofs.LiveLemmas.{AreWide}
 use Rattle.dft_stil.specs.declared.signal.StilSignal.{StilSignal}
 use Rattle.dft_replay.specs.Fits.{same_dir, has_bit, is_port_bit}
-use Rattle.dft_replay.specs.Rows.{or_past, net_named}
 use Rattle.dft_replay.specs.Vectors.{dirs_of}
 
 -- ---- tests

@@ -1,6 +1,6 @@
 -- From vector to vector: what is left of the verdict after one.
-use Rattle.std.proofs.Common.{ℕ, suc, ◌+◌, ◌*◌, ◌^◌, ◌<◌, ◌≤◌, ◌≢◌, not, List, [], ◌∷◌, ◌≡◌, Option, None, Some, length, map, drop, refl, sym, ap, ◌∙◌, subst, slice_get, get_or, arith}
-use Rattle.std.specs.Prelude.{All, AllPairs, count_by}
+use Rattle.std.proofs.Common.{ℕ, suc, ◌+◌, ◌*◌, ◌<◌, ◌≤◌, not, List, [], ◌∷◌, ◌≡◌, Option, None, Some, length, map, drop, refl, sym, ap, ◌∙◌, subst, get_or, arith}
+use Rattle.std.specs.Prelude.{All, count_by}
 use Rattle.std.proofs.Math.Seq.{drop-cons}
 use Rattle.std.proofs.lemmas.List.{get_or_default}
 use Rattle.std.proofs.lemmas.List.Sums.{count_by-le-length}

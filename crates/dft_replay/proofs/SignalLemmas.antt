@@ -1,14 +1,13 @@
 -- The nets of the signals of well-formed patterns, and the lengths of their vectors.
-use Rattle.std.proofs.Common.{ℕ, zero, suc, ◌+◌, ◌^◌, ◌<◌, ◌≤◌, ◌≢◌, Bool, true, false, ◌||◌, List, [], ◌∷◌, ◌++◌, ◌≡◌, inl, inr, Option, None, Some, length, map, take, drop, refl, sym, ap, ◌∙◌, subst, slice_get, get_or, eqb, arith}
+use Rattle.std.proofs.Common.{ℕ, zero, suc, ◌+◌, ◌^◌, ◌<◌, ◌≤◌, ◌≢◌, true, ◌||◌, List, [], ◌∷◌, ◌++◌, ◌≡◌, inl, inr, Option, None, Some, length, take, drop, refl, sym, ap, ◌∙◌, subst, slice_get, get_or, eqb, arith}
 use Rattle.std.specs.Prelude.{if◌then◌else◌, All, AllPairs}
 use Rattle.std.proofs.Math.Seq.{drop-cons}
-use Rattle.std.specs.List.{AllZip, list_any}
+use Rattle.std.specs.List.{list_any}
 use Rattle.std.proofs.lemmas.Bool.Decides.{eqb_tells, Decides-eqb}
 use Rattle.std.proofs.lemmas.List.{length-map, map_more, map-append}
 use Rattle.std.proofs.lemmas.Map.Made.{IsDistinct-from_AllPairs}
 use Rattle.std.proofs.lemmas.Map.Steps.{length-le_from_distinct_below}
 use Rattle.dft_netlist.specs.declared.ids.NetId.{NetId}
-use Rattle.dft_netlist.specs.declared.limits.TheConstants.{MAX_NETS}
 use Rattle.dft_netlist.specs.Netlist.{Netlist}
 use Rattle.dft_netlist.specs.Names.{find_net}
 use Rattle.dft_netlist.specs.Orders.{numbers_of}
@@ -16,7 +15,6 @@ use Rattle.dft_netlist.specs.Sound.{IsNetlist}
 use Rattle.dft_cycle.specs.Machine.{AreNets}
 use Rattle.dft_stil.specs.declared.act.Act.{Act}
 use Rattle.dft_stil.specs.declared.signal.StilSignal.{StilSignal}
-use Rattle.dft_stil.specs.Acts.{IsActOf}
 use Rattle.dft_stil.specs.Patterns.{Patterns, IsVector}
 use Rattle.dft_netlist.specs.Logic.{logic_of}
 use Rattle.dft_cycle.specs.Cycle.{all_unknown}

@@ -1,7 +1,7 @@
 -- A vector on the machine: which inputs are told, which clocks pulse, and what its compared bits decide.
-use Rattle.std.proofs.Common.{ℕ, zero, suc, ◌+◌, ◌<◌, ◌≤◌, ◌≢◌, ◌==◌, Bool, true, false, ◌&&◌, ◌||◌, List, [], ◌∷◌, ◌++◌, ◌≡◌, ◌⊎◌, inl, inr, Option, None, Some, length, map, drop, refl, sym, ap, ◌∙◌, subst, slice_get, get_or, below_more, arith}
+use Rattle.std.proofs.Common.{ℕ, zero, suc, ◌+◌, ◌<◌, ◌≤◌, ◌≢◌, ◌==◌, Bool, true, false, ◌&&◌, ◌||◌, List, [], ◌∷◌, ◌++◌, ◌≡◌, ◌⊎◌, inl, inr, Option, None, Some, length, map, drop, refl, sym, ap, ◌∙◌, slice_get, get_or, below_more, arith}
 use Rattle.std.specs.Prelude.{if◌then◌else◌, filter, All, AllPairs, IfSome, count_by}
-use Rattle.std.specs.List.{list_any, range_with_len}
+use Rattle.std.specs.List.{range_with_len}
 use Rattle.std.proofs.Math.Seq.{drop-cons}
 use Rattle.std.proofs.lemmas.Bool.Decides.{eqb_tells}
 use Rattle.std.proofs.lemmas.List.Folds.{list_any_at}
@@ -21,7 +21,7 @@ use Rattle.dft_stil.specs.declared.act.Act.TheVariants.{Unset, Low, High, Pulse,
 use Rattle.dft_replay.specs.declared.verdict.Verdict.{Verdict}
 use Rattle.dft_replay.specs.Rows.{Compared, Row, act_on, set_by, is_pulse, compared_at, compared_from, row_of}
 use Rattle.dft_replay.specs.Rows as rows
-use Rattle.dft_replay.specs.Vectors.{act_at, net_at, is_compared, judged, pulses_at, clocks_of, AreSignals, AreClocks, IsPlayed}
+use Rattle.dft_replay.specs.Vectors.{act_at, net_at, is_compared, judged, pulses_at, clocks_of, AreClocks, IsPlayed}
 use Rattle.dft_replay.specs.Verdicts.{decided_by, decided, IsPlaced}
 
 -- ---- the act at a net

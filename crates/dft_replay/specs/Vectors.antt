@@ -12,7 +12,7 @@ use Rattle.dft_cycle.specs.MachineLaws.{IsForced}
 use Rattle.dft_stil.specs.declared.act.Act.{Act}
 use Rattle.dft_stil.specs.declared.act.Act.TheVariants.{Unset, Low, High, Pulse, ExpectLow, ExpectHigh, Ignore}
 use Rattle.dft_replay.specs.declared.verdict.Verdict.{Verdict}
-use Rattle.dft_replay.specs.Rows.{Row, row_of, is_pulse}
+use Rattle.dft_replay.specs.Rows.{Row, is_pulse}
 use Rattle.dft_replay.specs.Verdicts.{decided_by, decided}
 
 -- ---- ports

@@ -1,4 +1,4 @@
-use Rattle.std.proofs.Common.{◌≡◌, map, take, length}
+use Rattle.std.proofs.Common.{◌≡◌, map, take}
 use Rattle.dft_replay.specs.Rows.{is_pulse}
 use Rattle.dft_replay.specs.Vectors.{act_at}
 use Rattle.dft_replay.proofs.acts.mark.Given as goal

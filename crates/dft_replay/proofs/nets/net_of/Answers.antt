@@ -1,5 +1,5 @@
 -- The net that is found is that of the signal where it is one of the first and its direction is the signal's.
-use Rattle.std.proofs.Common.{◌≡◌, ap, ◌∙◌, sym, Some, None}
+use Rattle.std.proofs.Common.{ap, ◌∙◌, sym}
 use Rattle.std.proofs.lemmas.Option.{slice_get_within}
 use Rattle.dft_netlist.specs.Names.{find_net}
 use Rattle.dft_replay.proofs.FitLemmas.{found_named, net_fits, unnamed_misfit, no_port_misfit, other_way_misfit, read_dir, no_dir}

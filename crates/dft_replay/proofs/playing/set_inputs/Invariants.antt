@@ -1,4 +1,3 @@
-use Rattle.std.proofs.Common.{◌≡◌}
 use Rattle.dft_netlist.specs.Orders.{numbers_of}
 use Rattle.dft_replay.proofs.VectorLemmas.{Told}
 use Rattle.dft_replay.proofs.playing.set_inputs.Given as goal
