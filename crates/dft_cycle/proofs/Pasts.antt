@@ -1,5 +1,5 @@
 -- A net past the end of a sound netlist has no driver.
-use Rattle.std.proofs.Common.{ℕ, zero, suc, List, [], ◌∷◌, ◌++◌, ◌≡◌, ◌<◌, ◌≤◌, ◌+◌, Some, inl, inr, length, take, refl, sym, ap, ◌∙◌, subst, slice_get, length-append, arith}
+use Rattle.std.proofs.Common.{ℕ, zero, suc, List, [], ◌∷◌, ◌++◌, ◌≡◌, ◌<◌, ◌≤◌, ◌+◌, Some, inl, inr, length, refl, sym, ap, ◌∙◌, subst, slice_get, length-append, arith}
 use Rattle.std.specs.Prelude.{if◌then◌else◌}
 use Rattle.std.proofs.lemmas.Bool.Decides.{eqb_tells}
 use Rattle.dft_cells.specs.declared.cell.Cell.{Cell}
@@ -15,9 +15,9 @@ use Rattle.dft_netlist.specs.declared.instance.Signal.TheVariants as signal
 use Rattle.dft_netlist.specs.declared.instance.Instance.{Instance}
 use Rattle.dft_netlist.specs.declared.instance.Join.{Join}
 use Rattle.dft_netlist.specs.Netlist.{Netlist}
-use Rattle.dft_netlist.specs.Names.{bit_names}
 use Rattle.dft_netlist.specs.NetNumbers.{nets_from}
 use Rattle.dft_netlist.specs.Sound.{IsNetlist, IsLive, AreLive, bits_of, bit_names_of}
+use Rattle.dft_netlist.proofs.LiveLemmas.{length-bits}
 use Rattle.dft_netlist.specs.Drivers.{Source, Driven, Driver, Free, connections_from, connections_of, shape_of, inputs_of, at_signal, at_role, driven_by_pins, driven_by, driven_by_instances, driven_by_bits, driven_by_ports, driven_by_joins, all_driven, driver_in, driver}
 
 -- all driven nets are among the first
@@ -64,20 +64,6 @@ nets_low : (first count most : ℕ) → first + count ≤ most → AllNets most 
 nets_low first zero most h = tt
 nets_low first (suc count) most h = (omega arith, nets_low (suc first) count most (omega arith))
 
-names_count : (ports : List Port) → ((place : ℕ) (port : Port) → slice_get ports place ≡ Some port → length port.bits ≡ length (bit_names port.name port.range)) → length (bit_names_of ports) ≡ length (bits_of ports)
-names_count [] w = refl
-names_count (port ∷ ports) w =
-    let a = w 0 port refl in
-    let ih = names_count ports (λ place p at. w (suc place) p at) in
-    let f = length-append (bit_names port.name port.range) (bit_names_of ports) in
-    let g = length-append port.bits (bits_of ports) in
-    omega arith
-
-take_short : {X : Type 0} (n : ℕ) (xs : List X) → length (take n xs) ≤ length xs
-take_short zero xs = omega arith
-take_short (suc n) [] = omega arith
-take_short (suc n) (x ∷ xs) = (let ih = take_short n xs in omega arith)
-
 -- ---- instances and joins
 
 signal_low : (count : ℕ) (s : Signal) (d : Driver) → IsLive count s → AllLow count (at_signal s d)
@@ -118,9 +104,9 @@ pub past_free : (n : Netlist) (net : ℕ) → IsNetlist n → length n.nets ≤ 
 past_free n net sound far =
     let count : ℕ = length n.nets in
     let bits : ℕ = length (bits_of n.ports) in
-    let named = ap length sound.bits in
-    let same = names_count n.ports sound.widths in
-    let short = take_short bits n.nets in
+    let named = ap length sound.bits.same in
+    let same = length-bits n.ports sound.widths in
+    let joined = length-append (bit_names_of n.ports) sound.bits.rest in
     let few : 0 + bits ≤ count = omega arith in
     let N : List NetId → Type 0 = λ l. AllNets count l in
     let ports = ports_low count n.ports (subst N (sym sound.numbered) (nets_low 0 bits count few)) in

@@ -1,6 +1,7 @@
 -- A round over the domains holds more lock-ups at the values that their views give them.
-use Rattle.std.proofs.Common.{ℕ, zero, suc, Bool, true, false, List, [], ◌∷◌, ◌≡◌, ◌<◌, ◌≤◌, ◌+◌, ◌==◌, Option, None, Some, inl, inr, length, refl, sym, ap, ◌∙◌, subst, get_or, arith}
-use Rattle.std.specs.Prelude.{if◌then◌else◌}
+use Rattle.std.proofs.Common.{ℕ, zero, suc, Bool, true, false, List, [], ◌∷◌, ◌≡◌, ◌<◌, ◌≤◌, ◌+◌, ◌==◌, Option, None, Some, inl, inr, length, refl, sym, ap, ◌∙◌, subst, get_or, true≢false, arith}
+use Rattle.std.specs.Prelude.{if◌then◌else◌, is_some}
+use Rattle.std.specs.List.{list_any}
 use Rattle.std.proofs.lemmas.Bool.Decides.{eqb_tells, leb_tells}
 use Rattle.std.proofs.lemmas.List.{get_or_past}
 use Rattle.dft_base.specs.declared.tri.Tri.{Tri}
@@ -49,6 +50,18 @@ latch_live latches c found is = elim (leb_tells (length latches) c) [
   | inl out ↦ (let e = ap latch_of (get_or_past latches c None out.1) in let q : latch_of None ≡ Some found = sym e ∙ is in absurd (cc))
   | inr live ↦ live.1
 ]
+
+-- where there is no lock-up, nothing is held
+latch_found : (latches : List (Option Latch)) (c : ℕ) (found : ℕ × Source) → latch_at latches c ≡ Some found → list_any (λ latch. is_some latch) latches ≡ true
+latch_found [] c found is = absurd (let f : ⊥ = cc in f)
+latch_found (None ∷ latches) zero found is = absurd (let f : ⊥ = cc in f)
+latch_found (Some latch ∷ latches) zero found is = refl
+latch_found (None ∷ latches) (suc c) found is = latch_found latches c found is
+latch_found (Some latch ∷ latches) (suc c) found is = refl
+
+pub no_latch_held : (x : Circuit) (view : ℕ → ℕ → Tri) (held : List Tri) (r : ℕ) → IsCircuit x → list_any (λ latch. is_some latch) x.latches.items ≡ false → IsHeld x view held r
+unfolding logic_at
+no_latch_held x view held r is none net c e source here low = (let found = latch_found x.latches.items c (e, source) (is.latched net c e source here) in absurd (true≢false (sym found ∙ none)))
 
 source_in : (x : Circuit) → IsCircuit x → (net c e : ℕ) (source : Source) → (m : Meaning) → (logic_at x).net net ≡ m → m ≡ Lockup c e source → AreBelow (rank_of x) (rank_of x net) (nets_of (source ∷ []))
 source_in x is net c e source m here lockup =

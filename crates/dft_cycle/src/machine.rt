@@ -92,6 +92,13 @@ impl<'a> AbstractMachine<'a> {
         act(&self.circuit.flops, net, value, &mut self.cells);
     }
 
+    /// The value of this input port's bit, and `Unknown` before it is set.
+    pub fn input(&self, net: NetId) -> Tri
+        ensures { result ≡ spec.value_at self.now.inputs net.0 }
+    {
+        value_at(&self.inputs, net.0)
+    }
+
     /// Settles all nets for a strobe: all clocks are 0.
     pub fn strobe(&mut self)
         ensures { IsStrobed (logic self.old) self.old self.new }

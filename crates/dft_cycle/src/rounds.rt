@@ -1,13 +1,14 @@
 //! The views of a pulse: lock-ups by rounds over the domains, then the next values of flip-flops.
 
-ghost use Rattle.std.specs.Prelude.{◌≡◌, ℕ, suc, ◌<◌, length, map, count_by, true, false};
+ghost use Rattle.std.specs.Prelude.{◌≡◌, ℕ, suc, ◌<◌, length, map, count_by, is_some, true, false};
+ghost use Rattle.std.specs.List.{list_any};
 ghost use Rattle.dft_base.specs.Tri.{AboveTri};
 ghost use Rattle.dft_cycle.specs.Cycle.{AreViews, IsLeast};
 ghost use Rattle.dft_cycle.specs.Machine as spec;
 ghost use Rattle.dft_cycle.specs.Circuit.{IsCircuit, logic_at, cell_of, cell_at, flag_at as is_up, pulse_at};
 ghost use Rattle.dft_cycle.specs.Views.{IsHeld, OwnsLatches, PulsesAmong, HasNext, raised_by, is_known, StaysBelow, AreNext};
 
-use crate::circuit::{Circuit, FlipFlop};
+use crate::circuit::{Circuit, FlipFlop, Latch};
 use crate::flops::{differ, hold, take_next};
 use crate::settling::{Pulse, View, flag_at, settle};
 use dft_base::Tri;
@@ -44,6 +45,13 @@ fn round(
     changed
 }
 
+/// Whether there is a lock-up.
+fn has_latch(latches: &[Option<Latch>]) -> bool
+    ensures { result ≡ list_any (λ latch. is_some latch) latches.now }
+{
+    latches.iter().any(|latch| latch.is_some())
+}
+
 /// Holds all lock-ups at their inputs in the views of their domains: a round for each net at most, since each round
 /// gets one more level of them right.
 fn hold_lockups(
@@ -60,6 +68,9 @@ fn hold_lockups(
     requires owned { OwnsLatches circuit.now clocks.now }
     ensures { (view : ℕ → ℕ → Tri) → AreViews (logic_at circuit.now) (pulse_at pulse.entry) (spec.value_at poss.now) view → IsHeld circuit.now view held.new (length circuit.now.ops.items) }
 {
+    if !has_latch(&circuit.latches) {
+        return;
+    }
     for _level in 0..values.len() {
         if !round(circuit, pulse, clocks, poss, held, values) {
             return;

@@ -5,7 +5,7 @@ use Rattle.std.proofs.lemmas.Bool.{eqb-true}
 use Rattle.dft_netlist.specs.Netlist.{Netlist}
 use Rattle.dft_netlist.specs.Drivers.{Driver, Driven, driver_in, all_driven, nets_read, AreBelow, IsOrdered}
 use Rattle.dft_stil.specs.declared.act.Act.TheVariants.{ExpectLow, ExpectHigh}
-use Rattle.dft_replay.specs.Examples.{row, row_with_lockup, both_pulse, TwoDomains, row_with_quiet_lockup, one_pulses, QuietLockup, row_of_three, all_pulse, ThreeDomains}
+use Rattle.dft_replay.specs.Examples.{row, row_with_lockup, both_pulse, TwoDomains, set_once, KeptInput, row_with_quiet_lockup, one_pulses, QuietLockup, row_of_three, all_pulse, ThreeDomains}
 use Rattle.dft_replay.proofs.PlainLemmas.{verdict_plain}
 
 -- each driven net of a list stands after the nets that its driver reads
@@ -56,6 +56,9 @@ two_domains_hold = record {
   holds = verdict_plain row_with_lockup (lockup_last 5) (both_pulse ExpectLow) row_with_lockup_ordered;
   differs = verdict_plain row_with_lockup (lockup_last 5) (both_pulse ExpectHigh) row_with_lockup_ordered;
 }
+
+pub kept_input_holds : KeptInput
+kept_input_holds = verdict_plain row (λ net. 0) set_once row_ordered
 
 pub quiet_lockup_holds : QuietLockup
 quiet_lockup_holds = verdict_plain row_with_quiet_lockup (lockup_last 5) one_pulses row_with_quiet_lockup_ordered

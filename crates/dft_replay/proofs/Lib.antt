@@ -3,11 +3,7 @@ pub mod Uniqueness
 pub mod PlainLemmas
 pub mod ExampleLemmas
 pub mod Existence
-pub mod Firsts
-pub mod Clocks
-pub mod Values
-pub mod Judging
-pub mod Rounds
-pub mod Steps
-pub mod Turning
-pub mod Fitness
+pub mod FitLemmas
+pub mod VectorLemmas
+pub mod SignalLemmas
+pub mod ReplayLemmas

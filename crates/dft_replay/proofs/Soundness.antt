@@ -5,15 +5,20 @@ use Rattle.dft_base.specs.declared.tri.Tri.TheVariants.{Zero, One, Unknown}
 use Rattle.dft_base.specs.Tri.{Above}
 use Rattle.dft_netlist.specs.Logic.{Logic, IsRanked, logic_of}
 use Rattle.dft_netlist.specs.Runs.{Now, Turn, AreTurns, after_turn}
+use Rattle.dft_netlist.specs.Netlist.{Netlist}
+use Rattle.dft_netlist.specs.Orders.{IsOrder}
+use Rattle.dft_netlist.specs.Sound.{IsNetlist}
 use Rattle.dft_netlist.proofs.Ranks.{order_is_rank}
+use Rattle.dft_netlist.proofs.RankLemmas.{order_ranks}
 use Rattle.dft_cycle.specs.Cycle.{Round, after_round, all_unknown}
 use Rattle.dft_cycle.specs.Laws.{Stands}
 use Rattle.dft_cycle.proofs.Turns.{strobe_stands, turn_stands}
 use Rattle.dft_replay.specs.declared.verdict.Verdict.{Verdict}
-use Rattle.dft_replay.specs.declared.verdict.Verdict.TheVariants.{Pass, Mismatch}
+use Rattle.dft_replay.specs.declared.verdict.Verdict.TheVariants.{Pass, Mismatch, Undetermined}
 use Rattle.dft_replay.specs.Rows.{Compared, Row, rows_of, ports_of}
-use Rattle.dft_replay.specs.Verdicts.{decided_by, decided, Stops, HasVerdictFrom}
-use Rattle.dft_replay.specs.Laws.{vectors_of, Shows, AllShow, Breaks, FirstBreak, PassIsSound, MismatchIsSound}
+use Rattle.dft_stil.specs.Patterns.{Patterns}
+use Rattle.dft_replay.specs.Verdicts.{decided_by, decided, Stops, HasVerdictFrom, HasVerdict}
+use Rattle.dft_replay.specs.Laws.{vectors_of, Shows, AllShow, Breaks, FirstBreak, PassIsSound, MismatchIsSound, HoldsInRuns}
 
 -- ---- Pass
 
@@ -87,3 +92,10 @@ first_break l rank old u v i count (x ∷ xs) now (t ∷ ts) ranked verdict stan
 pub mismatch_sound : MismatchIsSound
 mismatch_sound n rank p v i start turns order verdict run =
     first_break (logic_of n (ports_of n p)) rank all_unknown 0 v i 0 (rows_of n p) start turns (order_is_rank n (ports_of n p) rank order) verdict (record { above = λ c. tt; low = run.low }) run.turns
+
+-- ---- designs, which have an order
+
+pub verdict_holds : (n : Netlist) (order : List ℕ) (p : Patterns) (verdict : Verdict) → IsNetlist n → IsOrder n order → HasVerdict n p verdict → HoldsInRuns n p verdict
+verdict_holds n order p (Pass compared) sound is has = (let r = order_ranks n order sound is in λ start turns run. pass_sound n r.0 p compared start turns r.1 has run)
+verdict_holds n order p (Mismatch vector signal) sound is has = (let r = order_ranks n order sound is in λ start turns run. mismatch_sound n r.0 p vector signal start turns r.1 has run)
+verdict_holds n order p (Undetermined vector signal) sound is has = tt

@@ -11,7 +11,7 @@ use Rattle.dft_netlist.specs.declared.instance.CellRef.TheVariants.{Library}
 use Rattle.dft_netlist.specs.declared.instance.Instance.{Instance}
 use Rattle.dft_netlist.specs.Netlist.{Netlist}
 use Rattle.dft_stil.specs.declared.act.Act.{Act}
-use Rattle.dft_stil.specs.declared.act.Act.TheVariants.{Low, High, Pulse, ExpectLow, ExpectHigh, Ignore}
+use Rattle.dft_stil.specs.declared.act.Act.TheVariants.{Unset, Low, High, Pulse, ExpectLow, ExpectHigh, Ignore}
 use Rattle.dft_stil.specs.declared.signal.StilSignal.{StilSignal}
 use Rattle.dft_stil.specs.Patterns.{Patterns}
 use Rattle.dft_replay.specs.declared.verdict.Verdict.TheVariants.{Pass, Mismatch, Undetermined}
@@ -79,6 +79,21 @@ pub record TwoDomains : Type 0 where
   pub races : HasVerdict row (both_pulse ExpectLow) (Undetermined 3 3)
   pub holds : HasVerdict row_with_lockup (both_pulse ExpectLow) (Pass 2)
   pub differs : HasVerdict row_with_lockup (both_pulse ExpectHigh) (Mismatch 3 3)
+
+-- ---- an input that a vector does not mention
+
+-- `P01 X`, then without d `P0 X`, `0P X`, `00 H`
+abbrev pub set_once : Patterns
+set_once = two_clocks (
+    (Pulse ∷ Low ∷ High ∷ Ignore ∷ [])
+    ∷ (Pulse ∷ Low ∷ Unset ∷ Ignore ∷ [])
+    ∷ (Low ∷ Pulse ∷ Unset ∷ Ignore ∷ [])
+    ∷ (Low ∷ Low ∷ Unset ∷ ExpectHigh ∷ [])
+    ∷ [])
+
+-- An input keeps what an earlier vector set.
+abbrev pub KeptInput : Type 0
+KeptInput = HasVerdict row set_once (Pass 1)
 
 -- ---- a lock-up of a domain that does not pulse
 

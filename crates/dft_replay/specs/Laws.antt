@@ -6,7 +6,7 @@ use Rattle.dft_netlist.specs.Logic.{logic_of}
 use Rattle.dft_netlist.specs.Runs.{Now, Turn, Vector, IsRun}
 use Rattle.dft_stil.specs.Patterns.{Patterns}
 use Rattle.dft_replay.specs.declared.verdict.Verdict.{Verdict}
-use Rattle.dft_replay.specs.declared.verdict.Verdict.TheVariants.{Pass, Mismatch}
+use Rattle.dft_replay.specs.declared.verdict.Verdict.TheVariants.{Pass, Mismatch, Undetermined}
 use Rattle.dft_replay.specs.Rows.{Compared, Row, rows_of, ports_of}
 use Rattle.dft_replay.specs.Verdicts.{HasVerdict}
 
@@ -51,3 +51,10 @@ MismatchIsSound =
 
 abbrev pub VerdictIsOne : Type 0
 VerdictIsOne = (n : Netlist) (rank : ℕ → ℕ) (p : Patterns) (a b : Verdict) → IsOrdered n rank → HasVerdict n p a → HasVerdict n p b → a ≡ b
+
+-- What a verdict says of every run over the patterns: where it is Pass, each compared bit is shown as printed.
+-- Where it is Mismatch, the bit that it names is the first that is not.
+abbrev pub HoldsInRuns : Netlist → Patterns → Verdict → Type 0
+HoldsInRuns n p (Pass compared) = (start : Now) (turns : List Turn) → IsRunOf n p start turns → AllShow (rows_of n p) turns
+HoldsInRuns n p (Mismatch vector signal) = (start : Now) (turns : List Turn) → IsRunOf n p start turns → FirstBreak 0 vector signal (rows_of n p) turns
+HoldsInRuns n p (Undetermined vector signal) = Unit {0}

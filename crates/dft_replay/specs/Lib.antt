@@ -7,5 +7,4 @@ pub mod Laws
 pub mod Plain
 pub mod Examples
 pub mod Choices
-pub mod Origins
-pub mod Machine
+pub mod Vectors

@@ -1,48 +1,51 @@
 -- What the vectors of patterns do to a design: the bits of its input ports, the domains that pulse, the bits that are compared.
-use Rattle.std.specs.Prelude.{ℕ, suc, Bool, true, false, not, List, [], ◌∷◌, length, map, position, Option, None, Some, slice_index_or, if◌then◌else◌}
+use Rattle.std.specs.Prelude.{ℕ, suc, Bool, true, false, not, List, [], ◌∷◌, length, map, ◌==◌, Option, None, Some, if◌then◌else◌}
 use Rattle.std.specs.List.{list_any}
-use Rattle.std.specs.Str.{bytes_eq}
 use Rattle.dft_base.specs.declared.tri.Tri.{Tri}
-use Rattle.dft_base.specs.declared.tri.Tri.TheVariants.{Zero, One, Unknown}
+use Rattle.dft_base.specs.declared.tri.Tri.TheVariants.{Zero, One}
+use Rattle.dft_netlist.specs.declared.ids.NetId.{NetId}
 use Rattle.dft_netlist.specs.Netlist.{Netlist}
+use Rattle.dft_netlist.specs.Names.{find_net}
 use Rattle.dft_netlist.specs.Logic.{Ports}
 use Rattle.dft_netlist.specs.Runs.{Vector}
+use Rattle.dft_cycle.specs.Cycle.{all_unknown}
 use Rattle.dft_stil.specs.declared.act.Act.{Act}
 use Rattle.dft_stil.specs.declared.act.Act.TheVariants.{Unset, Low, High, Pulse, ExpectLow, ExpectHigh, Ignore}
 use Rattle.dft_stil.specs.declared.signal.StilSignal.{StilSignal}
 use Rattle.dft_stil.specs.Patterns.{Patterns}
 
--- ---- names
+-- ---- nets
 
--- the name of a net
-abbrev pub name_of : Netlist → (net : ℕ) → List ℕ
-name_of n net = slice_index_or n.nets net []
-
--- the net with a name; a number past all nets where there is none
-abbrev pub or_past : ℕ → Option ℕ → ℕ
+-- a number past all nets where there is no net
+abbrev pub or_past : (past : ℕ) → Option NetId → ℕ
 or_past past None = past
-or_past past (Some net) = net
+or_past past (Some net) = net.0
 
+-- the net with a name
 abbrev pub net_named : Netlist → List ℕ → ℕ
-net_named n name = or_past (length n.nets) (position (λ known. bytes_eq known name) n.nets)
+net_named n name = or_past (length n.nets) (find_net n name)
 
--- the act of a vector at the signal with a name, and Unset where there is no such signal
-abbrev pub act_named : List ℕ → List StilSignal → List Act → Act
-act_named name [] acts = Unset
-act_named name (signal ∷ signals) [] = Unset
-act_named name (signal ∷ signals) (act ∷ acts) = if bytes_eq signal.name name then act else act_named name signals acts
+-- the nets of signals: those with their names
+abbrev pub nets_of : Netlist → List StilSignal → List ℕ
+nets_of n signals = map (λ s. net_named n s.name) signals
+
+-- the act of a vector at a net: that of the signal with this net, and Unset where there is none
+abbrev pub act_on : (nets : List ℕ) → List Act → (net : ℕ) → Act
+act_on [] acts net = Unset
+act_on (first ∷ nets) [] net = Unset
+act_on (first ∷ nets) (act ∷ acts) net = if first == net then act else act_on nets acts net
 
 -- ---- acts
 
--- what an act sets an input to; an input that was never mentioned is not set
-abbrev pub set_to : Act → Tri
-set_to Unset = Unknown
-set_to Low = Zero
-set_to High = One
-set_to Pulse = Zero
-set_to ExpectLow = Unknown
-set_to ExpectHigh = Unknown
-set_to Ignore = Unknown
+-- what an act leaves an input at: an act that sets nothing leaves what an earlier vector set
+abbrev pub set_by : Act → (before : Tri) → Tri
+set_by Low before = Zero
+set_by High before = One
+set_by Pulse before = Zero
+set_by Unset before = before
+set_by ExpectLow before = before
+set_by ExpectHigh before = before
+set_by Ignore before = before
 
 abbrev pub is_pulse : Act → Bool
 is_pulse Pulse = true
@@ -76,26 +79,36 @@ compared_at i net Pulse rest = rest
 compared_at i net Ignore rest = rest
 
 -- the compared bits from the signal with a number on
-abbrev pub compared_from : Netlist → (signal : ℕ) → List StilSignal → List Act → List Compared
-compared_from n i [] acts = []
-compared_from n i (signal ∷ signals) [] = []
-compared_from n i (signal ∷ signals) (act ∷ acts) = compared_at i (net_named n signal.name) act (compared_from n (suc i) signals acts)
+abbrev pub compared_from : (signal : ℕ) → (nets : List ℕ) → List Act → List Compared
+compared_from i [] acts = []
+compared_from i (net ∷ nets) [] = []
+compared_from i (net ∷ nets) (act ∷ acts) = compared_at i net act (compared_from (suc i) nets acts)
 
-abbrev pub row_of : Netlist → List StilSignal → List Act → Row
-row_of n signals acts = record {
+-- the row of a vector, where the ports had these values before
+abbrev pub row_of : (nets : List ℕ) → (before : ℕ → Tri) → List Act → Row
+row_of nets before acts = record {
   vector = record {
-    ports = λ net. set_to (act_named (name_of n net) signals acts);
-    pulsed = λ net. is_pulse (act_named (name_of n net) signals acts);
+    ports = λ net. set_by (act_on nets acts net) (before net);
+    pulsed = λ net. is_pulse (act_on nets acts net);
   };
-  compared = compared_from n 0 signals acts;
+  compared = compared_from 0 nets acts;
 }
 
+abbrev pub rows_from : (nets : List ℕ) → (before : ℕ → Tri) → List (List Act) → List Row
+rows_from nets before [] = []
+rows_from nets before (acts ∷ vectors) = row_of nets before acts ∷ rows_from nets (row_of nets before acts).vector.ports vectors
+
+-- a port that no vector has mentioned yet is Unknown
 abbrev pub rows_of : Netlist → Patterns → List Row
-rows_of n p = map (row_of n p.signals) p.vectors
+rows_of n p = rows_from (nets_of n p.signals) all_unknown p.vectors
+
+-- some vector pulses at this net
+abbrev pub pulses : (nets : List ℕ) → List (List Act) → (net : ℕ) → Bool
+pulses nets vectors net = list_any (λ acts. is_pulse (act_on nets acts net)) vectors
+
+abbrev pub ports_in : (nets : List ℕ) → List (List Act) → Ports
+ports_in nets vectors = record { is_clock = pulses nets vectors; is_reset = λ net. not (pulses nets vectors net) }
 
 -- The ports of patterns: the inputs that pulse in some vector are clocks, and the other inputs may be resets and sets.
-abbrev pub pulses : Netlist → Patterns → (net : ℕ) → Bool
-pulses n p net = list_any (λ acts. is_pulse (act_named (name_of n net) p.signals acts)) p.vectors
-
 abbrev pub ports_of : Netlist → Patterns → Ports
-ports_of n p = record { is_clock = pulses n p; is_reset = λ net. not (pulses n p net) }
+ports_of n p = ports_in (nets_of n p.signals) p.vectors

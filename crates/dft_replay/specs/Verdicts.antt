@@ -1,5 +1,5 @@
 -- The verdict: the first compared bit that is unknown or differs, by vectors and then by signals, or else Pass.
-use Rattle.std.specs.Prelude.{ℕ, suc, ◌+◌, Bool, List, [], ◌∷◌, length, ◌≡◌, Option, None, Some, if◌then◌else◌}
+use Rattle.std.specs.Prelude.{ℕ, suc, ◌+◌, ◌<◌, Bool, List, [], ◌∷◌, length, ◌≡◌, Option, None, Some, if◌then◌else◌}
 use Rattle.dft_base.specs.declared.tri.Tri.{Tri}
 use Rattle.dft_base.specs.declared.tri.Tri.TheVariants.{Zero, One, Unknown}
 use Rattle.dft_netlist.specs.Netlist.{Netlist}
@@ -34,3 +34,9 @@ HasVerdictFrom l old v count (x ∷ xs) verdict =
 
 abbrev pub HasVerdict : Netlist → Patterns → Verdict → Type 0
 HasVerdict n p verdict = HasVerdictFrom (logic_of n (ports_of n p)) all_unknown 0 0 (rows_of n p) verdict
+
+-- a verdict's vector and signal are among the vectors and the signals
+abbrev pub IsPlaced : (vectors signals : ℕ) → Verdict → Type 0
+IsPlaced vectors signals (Pass compared) = Unit {0}
+IsPlaced vectors signals (Mismatch vector signal) = (vector < vectors) × (signal < signals)
+IsPlaced vectors signals (Undetermined vector signal) = (vector < vectors) × (signal < signals)

@@ -1,18 +1,18 @@
 //! The verdict of patterns on a design, and what it says of every run.
 #![tactic(auto)]
 
-mod checks;
+mod acts;
+mod error;
 mod examples;
 mod laws;
-mod machine;
-mod origin;
+mod nets;
+mod playing;
 mod replayer;
-mod search;
 #[cfg(test)]
 mod tests;
 mod verdict;
 
-pub use checks::fits;
+pub use error::ReplayError;
 pub use examples::worked_examples;
 pub use laws::{
     every_choice_runs, mismatch_is_sound, pass_is_sound, verdict_is_one, verdict_is_plain,

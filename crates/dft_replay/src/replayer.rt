@@ -1,49 +1,70 @@
-//! The replay of patterns on a flat design.
+//! The replay of patterns on a design.
 
-ghost use Rattle.std.specs.Prelude.{◌≡◌, ◌<◌, ◌^◌, ℕ, List, true, length, replicate, IfOk};
-ghost use Rattle.dft_netlist.specs.FirstForm.{FlipFlop};
-ghost use Rattle.dft_netlist.specs.Flat.{IsFlat};
-ghost use Rattle.dft_stil.specs.Patterns.{IsPatterns};
-ghost use Rattle.dft_replay.specs.Fits as spec;
-ghost use Rattle.dft_replay.specs.Verdicts.{HasVerdict};
+ghost use Rattle.std.specs.Prelude.{◌≡◌, ◌<◌, ◌^◌, ℕ, List, All, None, length, IfOk, IfErr};
+ghost use Rattle.dft_netlist.specs.Logic.{logic_of};
+ghost use Rattle.dft_netlist.specs.Orders.{numbers_of};
+ghost use Rattle.dft_cycle.specs.Cycle.{all_unknown};
+ghost use Rattle.dft_stil.specs.Patterns.{IsWellFormed};
+ghost use Rattle.dft_replay.specs.Fits.{first_misfit, TellsMisfit};
+ghost use Rattle.dft_replay.specs.Laws.{HoldsInRuns};
+ghost use Rattle.dft_replay.specs.Rows.{rows_from, ports_in};
+ghost use Rattle.dft_replay.specs.Vectors.{AreSignals};
+ghost use Rattle.dft_replay.specs.Verdicts.{HasVerdict, HasVerdictFrom, IsPlaced};
 
-use crate::machine::{Machine, compared_count};
+use crate::acts::{clocks_of, compared_count, nets_at};
+use crate::error::ReplayError;
+use crate::nets::nets_of;
+use crate::playing::play;
 use crate::verdict::Verdict;
-use dft_base::Tri;
-use dft_netlist::FlatDesign;
-use dft_stil::PatternSet;
+use dft_cycle::AbstractMachine;
+use dft_netlist::{Design, NetId};
+use dft_stil::{Acts, PatternSet};
 use std::alloc::{AllocError, Global};
 
-/// The verdict of the patterns on the design: what the first compared bit that is unknown or not as printed comes to.
-pub fn replay(
+/// The verdict of vectors at signals with these nets.
+fn verdict_at(
     alloc: Global,
-    design: &FlatDesign,
-    patterns: &PatternSet,
+    design: &Design,
+    nets: &[NetId],
+    vectors: &[Acts],
 ) -> Result<Verdict, AllocError>
-    requires flat { (clock : ℕ) × (cells : List FlipFlop) × IsFlat design.now clock cells }
-    requires patterns { IsPatterns patterns.now }
-    requires fits { spec.fits design.now patterns.now ≡ true }
-    requires vectors { length patterns.now.vectors < 2 ^ 32 }
-    requires signals { length patterns.now.signals < 2 ^ 31 }
-    ensures { IfOk result (HasVerdict design.now patterns.now) }
+    requires nets { AreSignals (length design.now.nets) nets.now }
+    requires signals { length nets.now < 2 ^ 31 }
+    requires vectors { length vectors.now < 2 ^ 32 }
+    requires acts { All (λ acts. length acts ≡ length nets.now) vectors.now }
+    ensures verdict { IfOk result (HasVerdictFrom (logic_of design.now (ports_in (numbers_of nets.now) vectors.now)) all_unknown 0 0 (rows_from (numbers_of nets.now) all_unknown vectors.now)) }
+    ensures placed { IfOk result (IsPlaced (length vectors.now) (length nets.now)) }
 {
-    let machine = Machine::of(alloc, design, patterns.signals())?;
-    let mut bits = unknown_bits(alloc, design.instances().len())?;
+    let clocks = clocks_of(alloc, nets.len(), vectors)?;
+    let clock_nets = nets_at(alloc, nets, &clocks)?;
+    let mut flags = vec![in alloc; false; clocks.len()]?;
+    let pulsed = flags.as_mut_slice();
+    let mut machine = AbstractMachine::prepare(alloc, design, &clock_nets)?;
     let mut compared: u64 = 0;
-    for (vector, acts) in patterns.vectors().iter().enumerate() {
+    for (vector, acts) in vectors.iter().enumerate() {
         let acts = acts.as_slice();
-        if let Some(verdict) = machine.decide(vector as u32, &bits, acts) {
+        let decision = play(&mut machine, nets, &clocks, pulsed, vector as u32, acts);
+        if let Some(verdict) = decision {
             return Ok(verdict);
         }
         compared += compared_count(acts) as u64;
-        bits = machine.next_bits(alloc, &bits, acts)?;
     }
     Ok(Verdict::Pass { compared })
 }
 
-// So many bits that nobody knows.
-fn unknown_bits(alloc: Global, count: usize) -> Result<Vec<Tri>, AllocError>
-    ensures { IfOk result (λ bits. bits.items ≡ replicate count Tri.Unknown) }
+/// The verdict of the patterns on the design: what the first compared bit that is unknown or not as printed comes to.
+/// P7 tells the first signal that is no bit of a port with its direction.
+pub fn replay(alloc: Global, design: &Design, patterns: &PatternSet) -> Result<Verdict, ReplayError>
+    requires { IsWellFormed patterns.now }
+    ensures fit { IfOk result (λ verdict. first_misfit design.now patterns.now.signals ≡ None) }
+    ensures verdict { IfOk result (HasVerdict design.now patterns.now) }
+    ensures runs { IfOk result (HoldsInRuns design.now patterns.now) }
+    ensures placed { IfOk result (IsPlaced (length patterns.now.vectors) (length patterns.now.signals)) }
+    ensures misfit { IfErr result (TellsMisfit design.now patterns.now.signals) }
 {
-    vec![in alloc; Tri::Unknown; count]
+    let _ = design.module();
+    let _ = design.order();
+    let nets = nets_of(alloc, design, patterns.signals())?;
+    let verdict = verdict_at(alloc, design, &nets, patterns.vectors())?;
+    Ok(verdict)
 }

@@ -1,41 +1,23 @@
 use super::Verdict;
-use crate::machine::{FlipFlop, Machine, compared_count};
-use crate::origin::Origin;
+use crate::acts::{compared_count, judged};
 use dft_base::Tri;
 use dft_stil::Act;
 use std::test::Fail;
 
 #[test]
-fn a_flip_flop_shows_the_bit_that_it_took(rt: HostRuntime) -> Result<(), Fail> {
-    let alloc = rt.alloc();
-    let clock = Origin::Input(0);
-    let data_in = Origin::Input(1);
-    let machine = Machine {
-        signals: vec![in alloc; clock, data_in, Origin::FlipFlop(0)]?,
-        flip_flops: vec![in alloc; FlipFlop { clock, data_in }]?,
-    };
-    let high = [Act::Low, Act::Low, Act::ExpectHigh];
-    let low = [Act::Low, Act::Low, Act::ExpectLow];
-    let start = [Tri::Unknown];
-    assert_eq!(rt;
-        machine.decide(0, &start, &high),
-        Some(Verdict::Undetermined {
-            vector: 0,
-            signal: 2
-        })
-    );
-    let bits = machine.next_bits(alloc, &start, &[Act::Pulse, Act::High, Act::Ignore])?;
-    assert_eq!(rt; bits.as_slice(), [Tri::One].as_slice());
-    assert_eq!(rt; machine.decide(1, &bits, &high), None);
-    assert_eq!(rt;
-        machine.decide(1, &bits, &low),
-        Some(Verdict::Mismatch {
-            vector: 1,
-            signal: 2
-        })
-    );
-    let same = machine.next_bits(alloc, &bits, &low)?;
-    assert_eq!(rt; same.as_slice(), [Tri::One].as_slice());
-    assert_eq!(rt; compared_count(&high), 1);
+fn a_compared_bit_is_judged(rt: HostRuntime) -> Result<(), Fail> {
+    let acts = [Act::Low, Act::High, Act::ExpectHigh];
+    assert_eq!(rt; compared_count(&acts), 1);
+    assert_eq!(rt; judged(0, 2, Tri::One, Act::ExpectHigh), None);
+    let undetermined = Some(Verdict::Undetermined {
+        vector: 0,
+        signal: 2,
+    });
+    assert_eq!(rt; judged(0, 2, Tri::Unknown, Act::ExpectHigh), undetermined);
+    let mismatch = Some(Verdict::Mismatch {
+        vector: 1,
+        signal: 2,
+    });
+    assert_eq!(rt; judged(1, 2, Tri::One, Act::ExpectLow), mismatch);
     Ok(())
 }

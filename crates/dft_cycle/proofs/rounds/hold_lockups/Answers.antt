@@ -1,6 +1,8 @@
 -- One level more is held, and where a round changes nothing all are.
-use Rattle.std.proofs.Common.{length, arith}
-use Rattle.dft_cycle.proofs.RoundLemmas.{none_held, all_held}
+use Rattle.std.proofs.Common.{length, sym, ap, ◌∙◌, arith}
+use Rattle.std.specs.Prelude.{is_some}
+use Rattle.std.specs.List.{list_any}
+use Rattle.dft_cycle.proofs.RoundLemmas.{none_held, all_held, no_latch_held}
 use Rattle.dft_cycle.proofs.rounds.hold_lockups.Goals as goal
 
 pub loop-level-init : goal.loop-level-init
@@ -14,3 +16,6 @@ returns-then-not-round c = λ view views. all_held c.args.circuit.now view c.loo
 
 pub returns : goal.returns
 returns c = λ view views net k e source here low. c.loop-level.invariant view views net k e source here (omega (arith, low))
+
+pub returns-then-not-has_latch : goal.returns-then-not-has_latch
+returns-then-not-has_latch c = λ view views. no_latch_held c.args.circuit.now view c.args.held.now (length c.args.circuit.now.ops.items) c.requires.circuit (sym (ap (λ (latches : _). list_any (λ latch. is_some latch) latches) c.deref.ensures.value) ∙ sym c.has_latch.ensures ∙ c.if-not-has_latch.true)

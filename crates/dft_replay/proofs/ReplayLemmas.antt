@@ -1,0 +1,95 @@
+-- From vector to vector: what is left of the verdict after one.
+use Rattle.std.proofs.Common.{ℕ, suc, ◌+◌, ◌*◌, ◌<◌, ◌≤◌, not, List, [], ◌∷◌, ◌≡◌, Option, None, Some, length, map, drop, refl, sym, ap, ◌∙◌, subst, get_or, arith}
+use Rattle.std.specs.Prelude.{All, count_by}
+use Rattle.std.proofs.Math.Seq.{drop-cons}
+use Rattle.std.proofs.lemmas.List.{get_or_default}
+use Rattle.std.proofs.lemmas.List.Sums.{count_by-le-length}
+use Rattle.dft_base.specs.declared.tri.Tri.{Tri}
+use Rattle.dft_netlist.specs.declared.ids.NetId.{NetId}
+use Rattle.dft_netlist.specs.Netlist.{Netlist}
+use Rattle.dft_netlist.specs.Logic.{Logic, logic_of}
+use Rattle.dft_netlist.specs.Orders.{numbers_of}
+use Rattle.dft_cycle.specs.Cycle.{Round, IsRound, after_round, all_unknown}
+use Rattle.dft_cycle.specs.Machine.{Machine, value_at, logic, is_one_of, IsStart}
+use Rattle.dft_stil.specs.declared.act.Act.{Act}
+use Rattle.dft_replay.specs.declared.verdict.Verdict.{Verdict}
+use Rattle.dft_replay.specs.Rows.{Row, row_of, rows_from, ports_in, pulses}
+use Rattle.dft_replay.specs.Vectors.{net_at, clocks_of, is_compared, IsPlayed}
+use Rattle.dft_replay.specs.Verdicts.{decided, Stops, HasVerdictFrom}
+use Rattle.dft_replay.proofs.Uniqueness.{same_map}
+use Rattle.dft_replay.proofs.VectorLemmas.{Differ, count_compared, clocks_pulse}
+
+-- ---- counts
+
+pub few_more : (compared v signals count : ℕ) → compared ≤ v * signals → count ≤ signals → compared + count ≤ (v + 1) * signals
+few_more compared v signals count few less = grind arith
+
+pub few_counted : (compared v signals count : ℕ) (acts : List Act) → compared ≤ v * signals → count ≡ count_by is_compared acts → length acts ≡ signals → compared + count ≤ (v + 1) * signals
+few_counted compared v signals count acts few counted same = (let most : count_by is_compared acts ≤ length acts = count_by-le-length is_compared acts in few_more compared v signals count few (omega arith))
+
+-- ---- the vector with a number
+
+pub read_at : (vectors : List (List Act)) (v : ℕ) (item acts : List Act) → v < length vectors → item ≡ get_or vectors v item → acts ≡ item → get_or vectors v [] ≡ acts
+read_at vectors v item acts less is same = get_or_default vectors v [] item less ∙ sym is ∙ sym same
+
+pub long_at : (vectors : List (List Act)) (v count : ℕ) (acts : List Act) → All (λ acts. length acts ≡ count) vectors → v < length vectors → get_or vectors v [] ≡ acts → length acts ≡ count
+long_at vectors v count acts all less here = sym (ap length here) ∙ all v [] less
+
+-- ---- the machine means what the design does
+
+pub machine_means : (n : Netlist) (m : Machine) (nets : List NetId) (vectors : List (List Act)) → m.netlist ≡ n → m.clocks ≡ map (net_at nets) (clocks_of (length nets) vectors) → Differ (numbers_of nets) → All (λ acts. length acts ≡ length nets) vectors →
+    logic m ≡ logic_of n (ports_in (numbers_of nets) vectors)
+unfolding logic
+machine_means n m nets vectors netlist clocks differ same =
+    let clock : (e : ℕ) → is_one_of m.clocks e ≡ pulses (numbers_of nets) vectors e = λ e. ap (λ (cs : List NetId). is_one_of cs e) clocks ∙ clocks_pulse nets vectors e differ same in
+    λ t. logic_of (netlist t) (record { is_clock = λ e. clock e t; is_reset = λ e. not (clock e t) })
+
+-- ---- vectors
+
+-- the rest of the vectors begins with this one
+rows_split : (nets : List ℕ) (before : ℕ → Tri) (vectors : List (List Act)) (v : ℕ) (acts : List Act) → v < length vectors → get_or vectors v [] ≡ acts →
+    rows_from nets before (drop v vectors) ≡ row_of nets before acts ∷ rows_from nets (row_of nets before acts).vector.ports (drop (suc v) vectors)
+rows_split nets before vectors v acts within here = ap (rows_from nets before) (drop-cons vectors v [] within ∙ ap (λ (row : List Act). row ∷ drop (suc v) vectors) here)
+
+-- a vector that decided ends the verdict
+pub ends : (l : Logic) (nets : List ℕ) (vectors : List (List Act)) (v compared : ℕ) (acts : List Act) (m after : Machine) (decision : Option Verdict) (verdict : Verdict) → logic m ≡ l → v < length vectors → get_or vectors v [] ≡ acts →
+    IsPlayed m (row_of nets (value_at m.inputs) acts) v decision after → decision ≡ Some verdict → HasVerdictFrom l (value_at m.cells) v compared (rows_from nets (value_at m.inputs) (drop v vectors)) verdict
+ends l nets vectors v compared acts m after decision verdict means within here played is =
+    let x : Row = row_of nets (value_at m.inputs) acts in
+    let old : ℕ → Tri = value_at m.cells in
+    let r : Round = played.round in
+    let holds : IsRound l x.vector old r = subst (λ (k : Logic). IsRound k x.vector old r) means played.holds in
+    let rest : List Row = rows_from nets x.vector.ports (drop (suc v) vectors) in
+    let Later : Type 0 = HasVerdictFrom l (after_round l x.vector old r) (suc v) (compared + length x.compared) rest verdict in
+    let stops : Stops (decided r.strobe v x.compared) verdict Later = subst (λ (d : Option Verdict). Stops d verdict Later) (sym is ∙ played.says) refl in
+    subst (λ (rows : List Row). HasVerdictFrom l old v compared rows verdict) (sym (rows_split nets (value_at m.inputs) vectors v acts within here)) (r, (holds, stops))
+
+-- a vector that decided nothing leaves the verdict to the others
+pub goes_on : (l : Logic) (nets : List ℕ) (vectors : List (List Act)) (v compared count : ℕ) (acts : List Act) (m after : Machine) (decision : Option Verdict) (verdict : Verdict) → logic m ≡ l → v < length vectors → get_or vectors v [] ≡ acts → length acts ≡ length nets → count ≡ count_by is_compared acts →
+    IsPlayed m (row_of nets (value_at m.inputs) acts) v decision after → decision ≡ None → HasVerdictFrom l (value_at after.cells) (v + 1) (compared + count) (rows_from nets (value_at after.inputs) (drop (v + 1) vectors)) verdict →
+    HasVerdictFrom l (value_at m.cells) v compared (rows_from nets (value_at m.inputs) (drop v vectors)) verdict
+goes_on l nets vectors v compared count acts m after decision verdict means within here same counted played is later =
+    let x : Row = row_of nets (value_at m.inputs) acts in
+    let old : ℕ → Tri = value_at m.cells in
+    let r : Round = played.round in
+    let holds : IsRound l x.vector old r = subst (λ (k : Logic). IsRound k x.vector old r) means played.holds in
+    let cells : value_at after.cells ≡ after_round l x.vector old r = same_map _ _ (λ c. played.cells c ∙ ap (λ (k : Logic). after_round k x.vector old r c) means) in
+    let inputs : value_at after.inputs ≡ x.vector.ports = same_map _ _ played.inputs in
+    let number : v + 1 ≡ suc v = omega arith in
+    let sum : compared + count ≡ compared + length x.compared = ap (λ (k : ℕ). compared + k) (counted ∙ sym (count_compared 0 nets acts same)) in
+    let Later : Type 0 = HasVerdictFrom l (after_round l x.vector old r) (suc v) (compared + length x.compared) (rows_from nets x.vector.ports (drop (suc v) vectors)) verdict in
+    let then : Later = subst (λ (s : ℕ). HasVerdictFrom l (after_round l x.vector old r) (suc v) s (rows_from nets x.vector.ports (drop (suc v) vectors)) verdict) sum
+    (subst (λ (k : ℕ). HasVerdictFrom l (after_round l x.vector old r) k (compared + count) (rows_from nets x.vector.ports (drop k vectors)) verdict) number
+    (subst (λ (w : ℕ → Tri). HasVerdictFrom l (after_round l x.vector old r) (v + 1) (compared + count) (rows_from nets w (drop (v + 1) vectors)) verdict) inputs
+    (subst (λ (w : ℕ → Tri). HasVerdictFrom l w (v + 1) (compared + count) (rows_from nets (value_at after.inputs) (drop (v + 1) vectors)) verdict) cells later))) in
+    let stops : Stops (decided r.strobe v x.compared) verdict Later = subst (λ (d : Option Verdict). Stops d verdict Later) (sym is ∙ played.says) then in
+    subst (λ (rows : List Row). HasVerdictFrom l old v compared rows verdict) (sym (rows_split nets (value_at m.inputs) vectors v acts within here)) (r, (holds, stops))
+
+-- at the start nothing is known
+pub starts : (l : Logic) (n : Netlist) (clocks : List NetId) (m : Machine) (nets : List ℕ) (vectors : List (List Act)) (verdict : Verdict) → IsStart n clocks m →
+    HasVerdictFrom l (value_at m.cells) 0 0 (rows_from nets (value_at m.inputs) (drop 0 vectors)) verdict → HasVerdictFrom l all_unknown 0 0 (rows_from nets all_unknown vectors) verdict
+starts l n clocks m nets vectors verdict start h =
+    let cells : value_at m.cells ≡ all_unknown = same_map _ _ start.cells in
+    let inputs : value_at m.inputs ≡ all_unknown = same_map _ _ start.inputs in
+    subst (λ (w : ℕ → Tri). HasVerdictFrom l all_unknown 0 0 (rows_from nets w (drop 0 vectors)) verdict) inputs
+    (subst (λ (w : ℕ → Tri). HasVerdictFrom l w 0 0 (rows_from nets (value_at m.inputs) (drop 0 vectors)) verdict) cells h)

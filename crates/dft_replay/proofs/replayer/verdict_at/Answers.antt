@@ -1,0 +1,87 @@
+-- One vector more, or the verdict.
+use Rattle.std.proofs.Common.{◌≡◌, ◌<◌, ◌∙◌, ℕ, List, [], sym, ap, subst, length, map, get_or, rules, arith}
+use Rattle.std.proofs.lemmas.List.{length-map}
+use Rattle.dft_netlist.specs.declared.ids.NetId.{NetId}
+use Rattle.dft_netlist.specs.Netlist.{Netlist}
+use Rattle.dft_netlist.specs.Logic.{logic_of}
+use Rattle.dft_netlist.specs.Orders.{numbers_of}
+use Rattle.dft_cycle.specs.Machine.{Machine, AreNets, logic}
+use Rattle.dft_cycle.proofs.MachineRounds.{start_forced}
+use Rattle.dft_stil.specs.declared.act.Act.{Act}
+use Rattle.dft_replay.specs.Rows.{ports_in}
+use Rattle.dft_replay.specs.Vectors.{net_at, clocks_of, AreClocks}
+use Rattle.dft_replay.proofs.VectorLemmas.{clock_live, clock_nets_live, are_clocks}
+use Rattle.dft_replay.proofs.ReplayLemmas.{few_counted, read_at, long_at, machine_means, ends, goes_on, starts}
+use Rattle.dft_replay.proofs.replayer.verdict_at.Goals as goal
+
+pub prepare-requires : goal.prepare-requires
+prepare-requires c =
+    let nets : List NetId = c.args.nets.now in
+    let vectors : List (List Act) = c.args.vectors.now in
+    let are : c.deref-2.result.now ≡ map (net_at nets) (clocks_of (length nets) vectors) = c.deref-2.ensures.value ∙ c.in_ok-clock_nets.ensures ∙ ap (map (net_at nets)) (c.deref.ensures.value ∙ c.in_ok-clocks.ensures) in
+    subst (AreNets (length c.args.design.now.nets)) (sym are) (clock_nets_live (length c.args.design.now.nets) nets (clocks_of (length nets) vectors) c.requires.nets.live (λ s has. clock_live vectors (length nets) s has))
+
+pub loop-vector-init : goal.loop-vector-init
+loop-vector-init c =
+    let n : Netlist = c.args.design.now in
+    let nets : List NetId = c.args.nets.now in
+    let vectors : List (List Act) = c.args.vectors.now in
+    let m : Machine = c.in_ok-machine.machine in
+    let start = c.in_ok-machine.ensures in
+    let are : c.deref-2.result.now ≡ map (net_at nets) (clocks_of (length nets) vectors) = c.deref-2.ensures.value ∙ c.in_ok-clock_nets.ensures ∙ ap (map (net_at nets)) (c.deref.ensures.value ∙ c.in_ok-clocks.ensures) in
+    record {
+      netlist = start.netlist;
+      clocks = start.clocks ∙ are;
+      forced = (start_forced n c.deref-2.result.now m start).0;
+      flags = search rules;
+      rest = λ verdict h. starts (logic_of n (ports_in (numbers_of nets) vectors)) n c.deref-2.result.now m (numbers_of nets) vectors verdict start h;
+      few = omega arith;
+    }
+
+pub play-decision-requires-clause-clocks : goal.play-decision-requires-clause-clocks
+play-decision-requires-clause-clocks c =
+    let nets : List NetId = c.args.nets.now in
+    let vectors : List (List Act) = c.args.vectors.now in
+    let v : ℕ = c.loop-vector.vector in
+    let acts : List Act = c.as_slice-acts.result.now in
+    let less : v < length vectors = c.loop-vector-test.true in
+    let here : get_or vectors v [] ≡ acts = read_at vectors v c.index-vectors-vector.result acts less c.index-vectors-vector.is c.as_slice-acts.ensures in
+    subst (λ (signals : List ℕ). AreClocks c.loop-vector.machine nets signals acts) (sym (c.deref-in-loop-vector.ensures.value ∙ c.in_ok-clocks.ensures))
+    (are_clocks c.loop-vector.machine nets vectors v acts c.loop-vector.invariant.clocks less here (long_at vectors v (length nets) acts c.requires.acts less here))
+
+pub returns-in-Some-clause-verdict : goal.returns-in-Some-clause-verdict
+returns-in-Some-clause-verdict c =
+    let n : Netlist = c.args.design.now in
+    let nets : List NetId = c.args.nets.now in
+    let vectors : List (List Act) = c.args.vectors.now in
+    let v : ℕ = c.loop-vector.vector in
+    let acts : List Act = c.as_slice-acts.result.now in
+    let m : Machine = c.loop-vector.machine in
+    let less : v < length vectors = c.loop-vector-test.true in
+    let here : get_or vectors v [] ≡ acts = read_at vectors v c.index-vectors-vector.result acts less c.index-vectors-vector.is c.as_slice-acts.ensures in
+    let means : logic m ≡ logic_of n (ports_in (numbers_of nets) vectors) = machine_means n m nets vectors c.loop-vector.invariant.netlist c.loop-vector.invariant.clocks c.requires.nets.differ c.requires.acts in
+    c.loop-vector.invariant.rest c.in-Some.verdict
+    (ends (logic_of n (ports_in (numbers_of nets) vectors)) (numbers_of nets) vectors v c.loop-vector.compared acts m c.play-decision.new.machine c.play-decision.result c.in-Some.verdict means less here c.play-decision.ensures.played c.in-Some.is)
+
+pub loop-vector-preserved : goal.loop-vector-preserved
+loop-vector-preserved c =
+    let n : Netlist = c.args.design.now in
+    let nets : List NetId = c.args.nets.now in
+    let vectors : List (List Act) = c.args.vectors.now in
+    let v : ℕ = c.loop-vector.vector in
+    let acts : List Act = c.as_slice-acts.result.now in
+    let m : Machine = c.loop-vector.machine in
+    let played = c.play-decision.ensures.played in
+    let less : v < length vectors = c.loop-vector-test.true in
+    let here : get_or vectors v [] ≡ acts = read_at vectors v c.index-vectors-vector.result acts less c.index-vectors-vector.is c.as_slice-acts.ensures in
+    let same : length acts ≡ length nets = long_at vectors v (length nets) acts c.requires.acts less here in
+    let means : logic m ≡ logic_of n (ports_in (numbers_of nets) vectors) = machine_means n m nets vectors c.loop-vector.invariant.netlist c.loop-vector.invariant.clocks c.requires.nets.differ c.requires.acts in
+    record {
+      netlist = played.netlist ∙ c.loop-vector.invariant.netlist;
+      clocks = played.clocks ∙ c.loop-vector.invariant.clocks;
+      forced = played.forced;
+      flags = c.play-decision.auto.pulsed ∙ c.loop-vector.invariant.flags;
+      rest = λ verdict later. c.loop-vector.invariant.rest verdict
+          (goes_on (logic_of n (ports_in (numbers_of nets) vectors)) (numbers_of nets) vectors v c.loop-vector.compared c.compared_count.result acts m c.play-decision.new.machine c.play-decision.result verdict means less here (same ∙ sym (length-map nets (λ (k : NetId). k.0))) c.compared_count.ensures played c.in_default.is later);
+      few = few_counted c.loop-vector.compared v (length nets) c.compared_count.result acts c.loop-vector.invariant.few c.compared_count.ensures same;
+    }
