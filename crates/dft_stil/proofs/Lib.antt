@@ -7,5 +7,7 @@ pub mod LineLemmas
 pub mod HeadLemmas
 pub mod ReadLemmas
 pub mod GroupLemmas
+pub mod SteadyLemmas
+pub mod FormLemmas
 pub mod SignalLemmas
 pub mod Refusals

@@ -1,7 +1,7 @@
 -- The part of a pattern text before its vectors, and whole texts.
 use Rattle.std.specs.Prelude.{◌≡◌, ℕ, List, ◌++◌}
 use Rattle.dft_stil.specs.declared.signal.StilSignal.{StilSignal}
-use Rattle.dft_stil.specs.Patterns.{Patterns, IsDeclarable, HasBothWays, IsPatterns}
+use Rattle.dft_stil.specs.Patterns.{Patterns, IsDeclarable, HasBothWays, IsPatterns, IsWellFormed}
 use Rattle.dft_stil.specs.Written.{head, written}
 
 -- signals of which a set of patterns can be written
@@ -21,3 +21,7 @@ HasNoHead text = (signals : List StilSignal) (rest : List ℕ) → AreWritable s
 -- no patterns have this text as their written form
 abbrev pub HasNoPatterns : List ℕ → Type 0
 HasNoPatterns text = (p : Patterns) → IsPatterns p → written p ≡ text → ⊥
+
+-- no well-formed patterns of the written form have this text
+abbrev pub HasNoWellFormed : List ℕ → Type 0
+HasNoWellFormed text = (p : Patterns) → IsPatterns p → IsWellFormed p → written p ≡ text → ⊥

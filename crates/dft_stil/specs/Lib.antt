@@ -2,6 +2,7 @@ pub use Rattle.dft_base.specs.Words
 pub mod Acts
 pub mod Patterns
 pub mod Shown
+pub mod Steadiness
 pub mod Heads
 pub mod Laws
 pub mod Lines

@@ -78,9 +78,13 @@ pub record IsPatterns (p : Patterns) : Type 0 where
 abbrev pub act_at : Patterns → ℕ → ℕ → Act
 act_at p vector signal = get_or (get_or p.vectors vector []) signal Ignore
 
--- patterns that can be replayed: a signal that pulses in some vector is High or Unset in none
+-- a signal that pulses in some vector is High or Unset in none
+abbrev pub IsSteady : Patterns → Type 0
+IsSteady p = (signal pulsed other : ℕ) → act_at p pulsed signal ≡ Pulse → (act_at p other signal ≢ High) × (act_at p other signal ≢ Unset)
+
+-- patterns that can be replayed
 pub record IsWellFormed (p : Patterns) : Type 0 where
   pub distinct : AllPairs (λ s t. s.name ≢ t.name) p.signals
   pub few : length p.vectors < 2 ^ 32
   pub fits : All (λ acts. IsVector p.signals acts) p.vectors
-  pub steady : (signal pulsed other : ℕ) → act_at p pulsed signal ≡ Pulse → (act_at p other signal ≢ High) × (act_at p other signal ≢ Unset)
+  pub steady : IsSteady p

@@ -11,6 +11,7 @@ mod middle;
 mod pattern_set;
 mod reader;
 mod signal;
+mod steadiness;
 #[cfg(test)]
 mod tests;
 mod vectors;
@@ -20,6 +21,7 @@ pub use act::{Act, Acts};
 pub use error::StilError;
 pub use laws::one_reading;
 pub use pattern_set::PatternSet;
-pub use reader::read;
+pub use reader::{MAX_TEXT, read};
 pub use signal::StilSignal;
+pub use steadiness::{Unsteady, first_unsteady};
 pub use writer::write;

@@ -29,6 +29,14 @@ Pattern p {
 W w;
 ";
 
+// The outcome of a text, which is short.
+fn outcome(alloc: Global, text: &[u8]) -> Result<PatternSet, StilError> {
+    if text.len() > MAX_TEXT {
+        return Err(StilError::NotWritten);
+    }
+    read(alloc, text)
+}
+
 fn text_with(alloc: Global, vectors: &[u8]) -> Result<Vec<u8>, AllocError> {
     let mut text = Vec::from_slice(alloc, HEAD)?;
     text.extend_from_slice(vectors)?;
@@ -63,7 +71,9 @@ fn vectors_come_in_order(rt: HostRuntime) -> Result<(), Fail> {
     ];
     for (vectors, wanted) in cases {
         let text = text_with(rt.alloc(), vectors)?;
-        let set = read(rt.alloc(), &text).ok().ok_or("the text is written")?;
+        let set = outcome(rt.alloc(), &text)
+            .ok()
+            .ok_or("the text is written")?;
         assert_eq!(rt; set.vectors().len(), wanted.len());
         for (acts, wanted) in set.vectors().iter().zip(wanted.iter()) {
             assert_eq!(rt; acts.as_slice(), wanted.as_slice());
@@ -81,7 +91,9 @@ fn vectors_come_in_order(rt: HostRuntime) -> Result<(), Fail> {
 fn signals_come_in_order(rt: HostRuntime) -> Result<(), Fail> {
     let wanted: [(&[u8], Dir); 3] = [(b"c", Dir::Input), (b"d", Dir::Input), (b"q", Dir::Output)];
     let text = text_with(rt.alloc(), b"}\n")?;
-    let set = read(rt.alloc(), &text).ok().ok_or("the text is written")?;
+    let set = outcome(rt.alloc(), &text)
+        .ok()
+        .ok_or("the text is written")?;
     assert_eq!(rt; set.signals().len(), wanted.len());
     for (signal, (name, dir)) in set.signals().iter().zip(wanted.iter()) {
         assert_eq!(rt; signal.name.as_slice(), *name);
@@ -92,19 +104,20 @@ fn signals_come_in_order(rt: HostRuntime) -> Result<(), Fail> {
 
 #[test]
 fn another_text_is_refused(rt: HostRuntime) -> Result<(), Fail> {
-    let cases: [&[u8]; 6] = [
+    let cases: [&[u8]; 7] = [
         b"V { ins = P1; outs = X; }\n",
         b"V { ins = P2; outs = X; }\n}\n",
         b"V { ins = P; outs = X; }\n}\n",
         b"V { ins = P1;  outs = X; }\n}\n",
         b"Ann {* set-up *}\nV { ins = P1; outs = X; }\n}\n",
         b"}\n\n",
+        b"V { ins = 01; outs = X; }\nV { ins = 0P; outs = X; }\n}\n",
     ];
     for vectors in cases {
         let text = text_with(rt.alloc(), vectors)?;
-        assert!(rt; matches!(read(rt.alloc(), &text), Err(StilError::NotWritten)));
+        assert!(rt; matches!(outcome(rt.alloc(), &text), Err(StilError::NotWritten)));
     }
-    assert!(rt; matches!(read(rt.alloc(), b""), Err(StilError::NotWritten)));
+    assert!(rt; matches!(outcome(rt.alloc(), b""), Err(StilError::NotWritten)));
     Ok(())
 }
 
@@ -115,7 +128,7 @@ fn a_changed_byte_is_refused(rt: HostRuntime) -> Result<(), Fail> {
         let byte = text[place];
         text[place] = b'%';
         assert!(rt;
-            matches!(read(rt.alloc(), &text), Err(StilError::NotWritten)),
+            matches!(outcome(rt.alloc(), &text), Err(StilError::NotWritten)),
             "the byte at {place}"
         );
         text[place] = byte;
