@@ -14,7 +14,7 @@ use Rattle.dft_cells.specs.declared.cell.Cell.{Cell as ACell}
 use Rattle.dft_netlist.specs.declared.instance.Instance.{Instance}
 use Rattle.dft_netlist.specs.declared.instance.CellRef.{CellRef}
 use Rattle.dft_netlist.specs.declared.instance.CellRef.TheVariants as cell_ref
-use Rattle.dft_netlist.specs.Tokens.{Text}
+use Rattle.dft_base.specs.Lexing.{Text}
 use Rattle.dft_netlist.specs.Sound.{IsNetlist, IsCellOf, is_primitive}
 use Rattle.dft_netlist.specs.Netlist.{Netlist}
 use Rattle.dft_netlist.specs.Drivers.{Source, Connection, source_of, is_input, inputs_of, gate_roles, shape_of_cell, shape_of, connections_from, driver_of_kind, driver, kind_of, kind_at, pins_at, pins_of}

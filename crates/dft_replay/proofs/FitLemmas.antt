@@ -15,7 +15,7 @@ use Rattle.dft_netlist.specs.declared.named.Named.TheVariants.{Net}
 use Rattle.dft_netlist.specs.Netlist.{Netlist}
 use Rattle.dft_netlist.specs.Names.{bit_names, find_net, find_net_from}
 use Rattle.dft_netlist.specs.Sound.{IsNetlist, bit_names_of}
-use Rattle.dft_netlist.specs.Tokens.{Text}
+use Rattle.dft_base.specs.Lexing.{Text}
 use Rattle.dft_netlist.proofs.NamesLemmas.{same_of, bytes_eq-same}
 use Rattle.dft_netlist.proofs.LiveLemmas.{AreWide}
 use Rattle.dft_stil.specs.declared.signal.StilSignal.{StilSignal}
