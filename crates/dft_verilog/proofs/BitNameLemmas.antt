@@ -33,12 +33,6 @@ more_by : (rises : Bool) (from n : ℕ) → cond rises (going_up from (suc n)) (
 more_by true from n = going_up-more from n
 more_by false from n = going_down-more from n
 
-pub first_indices-none : (r : Range) → first_indices r 0 ≡ []
-first_indices-none r = none (nat_le r.left r.right) where
-  none : (rises : Bool) → cond rises (going_up r.left 0) (going_down r.left 0) ≡ []
-  none true = refl
-  none false = refl
-
 pub first_indices-more : (r : Range) (n : ℕ) → first_indices r (suc n) ≡ first_indices r n ++ index_at r n ∷ []
 first_indices-more r n = more_by (nat_le r.left r.right) r.left n
 

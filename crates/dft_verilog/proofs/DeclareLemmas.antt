@@ -1,5 +1,5 @@
 -- Declarations: what each gives where its tests pass or fail.
-use Rattle.std.proofs.Common.{◌≡◌, ℕ, ◌+◌, ◌<◌, ◌≤◌, Bool, true, false, cond, List, ◌++◌, length, drop, is_some, nat_lt, nat_le, Option, Some, None, Ok, Err, refl, sym, ap, ◌∙◌, arith, length-append, zero, suc, ◌-◌, not, subst}
+use Rattle.std.proofs.Common.{◌≡◌, ℕ, ◌+◌, ◌<◌, Bool, true, false, cond, List, ◌++◌, length, drop, is_some, nat_lt, nat_le, Option, Some, None, Ok, Err, refl, sym, ap, ◌∙◌, arith, length-append, zero, suc, ◌-◌, not, subst}
 use Rattle.std.proofs.lemmas.List.{length-map}
 use Rattle.std.proofs.Math.Seq.{drop-append_seam}
 use Rattle.std.proofs.lemmas.Bool.Decides.{nat_tests}
@@ -43,24 +43,9 @@ free_by (Some w) place next h = absurd (cc)
 pub full_by : (full b : Bool) (f : Fault) (next : Checked Fault Draft) → full ≡ b → cond full (Err f) next ≡ cond b (Err f) next
 full_by full b f next h = ap (λ (t : Bool). cond t (Err f) next) h
 
-not_true : (b : Bool) → not b ≡ true → b ≡ false
-not_true true h = absurd (cc)
-not_true false h = refl
-
-not_false : (b : Bool) → not b ≡ false → b ≡ true
-not_false true h = refl
-not_false false h = absurd (cc)
 
 ports_by : (n m : ℕ) → n ≡ m → n < MAX_PORTS → nat_le MAX_PORTS m ≡ false
 ports_by n m at few = grind (arith, nat_tests)
-
-fits_by : (full : Bool) (n : ℕ) → nat_lt MAX_NETS n ≡ full → full ≡ false → n ≤ MAX_NETS
-fits_by true n t h = absurd (cc)
-fits_by false n t h = grind (arith, nat_tests)
-
--- there is room
-pub room-fits : (n : ℕ) (b : Bool) → b ≡ not (nat_lt MAX_NETS n) → b ≡ true → n ≤ MAX_NETS
-room-fits n b is has = fits_by (nat_lt MAX_NETS n) n refl (not_true (nat_lt MAX_NETS n) (sym is ∙ has))
 
 length-going_up : (from n : ℕ) → length (going_up from n) ≡ n
 length-going_up from zero = refl

@@ -1,6 +1,5 @@
 -- What a draft keeps when it says more.
 use Rattle.std.proofs.Common.{◌≡◌, ℕ, ◌+◌, ◌≤◌, Bool, true, false, cond, List, [], ◌∷◌, ◌++◌, length, Option, Some, None, ap, arith, length-append, IfSome, option_map}
-use Rattle.std.specs.List.{All}
 use Rattle.std.specs.Str.{bytes_eq}
 use Rattle.dft_verilog.specs.TakenNames.{meaning_in}
 use Rattle.std.proofs.lemmas.List.Elements.{All-weaker, All-head, All-tail}
@@ -13,7 +12,7 @@ use Rattle.dft_netlist.specs.declared.instance.Signal.{Signal}
 use Rattle.dft_netlist.specs.declared.instance.Signal.TheVariants as signal
 use Rattle.dft_netlist.specs.declared.instance.Instance.{Instance}
 use Rattle.dft_netlist.specs.declared.instance.Join.{Join}
-use Rattle.dft_netlist.specs.declared.limits.TheConstants.{MAX_PORTS, MAX_NETS, MAX_INSTANCES}
+use Rattle.dft_netlist.specs.declared.limits.TheConstants.{MAX_NETS}
 use Rattle.dft_netlist.specs.Sound.{IsLive}
 use Rattle.dft_netlist.specs.Modules.{Draft, HeaderPort, Entry}
 use Rattle.dft_verilog.specs.Drafts.{IsDraft, IsMeaningWithin, AreNamesWithin, IsDeclaredWithin, InstanceFits, JoinFits, bare, nets_alone}
@@ -66,15 +65,6 @@ IsDraft-nets d nets more few h = record {
 
 pub IsDraft-names : (d : Draft) (names : List Entry) → AreNamesWithin (length d.nets) names → IsDraft d → IsDraft (record d { names = names })
 IsDraft-names d names within h = record { few_ports = h.few_ports; few_nets = h.few_nets; few_instances = h.few_instances; names = within; ports = h.ports; instances = h.instances; joins = h.joins }
-
-pub IsDraft-ports : (d : Draft) (ports : List HeaderPort) → length ports ≤ MAX_PORTS → All (λ (p : HeaderPort). IsDeclaredWithin (length d.nets) p.declared) ports → IsDraft d → IsDraft (record d { ports = ports })
-IsDraft-ports d ports few within h = record { few_ports = few; few_nets = h.few_nets; few_instances = h.few_instances; names = h.names; ports = within; instances = h.instances; joins = h.joins }
-
-pub IsDraft-instances : (d : Draft) (instances : List Instance) → length instances ≤ MAX_INSTANCES → All (InstanceFits (nets_alone d)) instances → IsDraft d → IsDraft (record d { instances = instances })
-IsDraft-instances d instances few fit h = record { few_ports = h.few_ports; few_nets = h.few_nets; few_instances = few; names = h.names; ports = h.ports; instances = fit; joins = h.joins }
-
-pub IsDraft-joins : (d : Draft) (joins : List Join) → All (JoinFits (nets_alone d)) joins → IsDraft d → IsDraft (record d { joins = joins })
-IsDraft-joins d joins fit h = record { few_ports = h.few_ports; few_nets = h.few_nets; few_instances = h.few_instances; names = h.names; ports = h.ports; instances = h.instances; joins = fit }
 
 -- names put behind others, or not
 pub length-appended : {A : Type 0} (ok : Bool) (xs ys zs : List A) → zs ≡ cond ok (xs ++ ys) xs → (length xs ≤ length zs) × (length zs ≤ length xs + length ys)

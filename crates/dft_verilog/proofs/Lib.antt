@@ -9,7 +9,6 @@ pub mod DraftLemmas
 pub mod ApartLemmas
 pub mod DeclareLemmas
 pub mod SelectLemmas
-pub mod LiveLemmas
 pub mod ConnectionLemmas
 pub mod DigitLemmas
 pub mod FaultLemmas

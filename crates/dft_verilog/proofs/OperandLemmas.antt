@@ -1,12 +1,10 @@
 -- Bits of constants, and what a draft keeps from one rule to the next.
-use Rattle.std.proofs.Common.{◌≡◌, ℕ, zero, suc, ◌+◌, ◌<◌, ◌≤◌, Bool, true, false, List, [], ◌∷◌, ◌++◌, length, map, drop, get_or, arith, refl, ap, subst, ◌∙◌}
-use Rattle.std.proofs.lemmas.List.{drop_more}
+use Rattle.std.proofs.Common.{◌≡◌, ℕ, zero, suc, ◌<◌, ◌≤◌, Bool, true, false, List, [], ◌∷◌, ◌++◌, length, map, get_or, arith, refl, subst, ◌∙◌}
 use Rattle.std.proofs.lemmas.List.Elements.{All-append, All-map}
 use Rattle.dft_netlist.specs.declared.ids.NetId.{NetId}
 use Rattle.dft_netlist.specs.declared.instance.Signal.{Signal}
 use Rattle.dft_netlist.specs.declared.instance.Signal.TheVariants as signal
-use Rattle.dft_netlist.specs.Modules.{Draft, with_join}
-use Rattle.dft_netlist.specs.Items.{net_of, with_joins}
+use Rattle.dft_netlist.specs.Modules.{Draft}
 use Rattle.dft_netlist.specs.Sound.{IsLive, IsConnected}
 use Rattle.dft_verilog.specs.Drafts.{JoinFits, nets_alone}
 use Rattle.dft_verilog.specs.Operands.{Grows, IsBit, AreBits}
@@ -79,23 +77,3 @@ bits_and count drives bits bit here h =
     last : (count : ℕ) (drives : Bool) (bit : Signal) → IsBit count drives bit → (k : ℕ) (d : Signal) → k < length (bit ∷ []) → IsBit count drives (get_or (bit ∷ []) k d)
     last count drives bit here zero d below = here
     last count drives bit here (suc k) d below = absurd (omega arith)
-
--- ---- joins
-
--- one join more
-pub joins_step : (targets sources : List Signal) (i : ℕ) (d : Draft) (t s : Signal) → i < length targets → i < length sources →
-    with_joins (drop i targets) (drop i sources) d ≡
-    with_joins (drop (i + 1) targets) (drop (i + 1) sources) (with_join (record { target = net_of (get_or targets i t); source = get_or sources i s }) d)
-joins_step targets sources i d t s less within =
-    ap (λ (x : List Signal). with_joins x (drop i sources) d) (drop_more targets i t less)
-    ∙ ap (λ (y : List Signal). with_joins (get_or targets i t ∷ drop (i + 1) targets) y d) (drop_more sources i s within)
-
-drop_none : (i : ℕ) (xs : List Signal) → length xs ≤ i → drop i xs ≡ []
-drop_none zero [] done = refl
-drop_none zero (x ∷ xs) done = absurd (omega arith)
-drop_none (suc i) [] done = refl
-drop_none (suc i) (x ∷ xs) done = drop_none i xs (omega arith)
-
--- all joins are made
-pub joins_done : (targets sources : List Signal) (i : ℕ) (d : Draft) → length targets ≤ i → with_joins (drop i targets) (drop i sources) d ≡ d
-joins_done targets sources i d done = ap (λ (x : List Signal). with_joins x (drop i sources) d) (drop_none i targets done)

@@ -38,10 +38,6 @@ signal-within d finals h (signal.Net net) live = net-within d finals h net live
 signal-within d finals h (signal.Constant bit) live = tt
 signal-within d finals h signal.Unconnected live = tt
 
--- a net of the draft has a number among the final ones
-pub live-final : (d : Draft) (finals : List NetId) → AreFinal d finals → (s : Signal) → IsLive (length d.nets) s → IsLive (length finals) s
-live-final d finals h s live = subst (λ n. IsLive n s) (sym h.count) live
-
 pub pins-final : (d : Draft) (finals : List NetId) → AreFinal d finals → (pins : List Signal) → AreLive (length d.nets) pins → map (signal_by finals) pins ≡ map (final_signal (net_order d)) pins
 pins-final d finals h [] live = refl
 pins-final d finals h (s ∷ ss) live = ap₂ (λ x xs. x ∷ xs) (signal-final d finals h s (live 0 s refl)) (pins-final d finals h ss (λ place t at. live (suc place) t at))

@@ -126,22 +126,6 @@ impl ModuleDraft {
         Ok(())
     }
 
-    /// A name stands for new nets. Refused where it is taken, or the name of one of its bits, or where there is no room.
-    pub fn declare_nets(
-        &mut self,
-        place: usize,
-        word: &[u8],
-        range: Option<Range>,
-    ) -> Result<(), ReadError>
-        requires { IsName word.now }
-        ensures { Checks (λ _. self.new) (spec.declare_nets place word.now range self.old) result }
-    {
-        if self.meaning(word).is_some() {
-            return Err(taken(self.alloc(), place, word));
-        }
-        self.declare_free(place, word, range)
-    }
-
     /// Adds a name to a header without directions. Refused where it is taken, or where there is no room for a port.
     pub fn announce(&mut self, place: usize, word: &[u8]) -> Result<(), ReadError>
         requires { IsName word.now }
