@@ -18,3 +18,4 @@ pub mod OpLemmas
 pub mod BuildLemmas
 pub mod Compiled
 pub mod Pasts
+pub mod AloneLemmas

@@ -132,7 +132,7 @@ turn_below x p clocks next old new is a b each among has other its closed over c
     ]
 
 -- past the end no flip-flop takes anything
-past_next : (x : Circuit) (p : Pulse) (view : ℕ → ℕ → Tri) (c : ℕ) → length x.flops.items ≤ c → next_value (logic_at x) p view c ≡ Unknown
+pub past_next : (x : Circuit) (p : Pulse) (view : ℕ → ℕ → Tri) (c : ℕ) → length x.flops.items ≤ c → next_value (logic_at x) p view c ≡ Unknown
 unfolding logic_at
 past_next x p view c far = ap (λ (k : Cell). next_value (record { net = (logic_at x).net; cell = λ n. k }) p view c) (cell_past x.flops.items c far)
 

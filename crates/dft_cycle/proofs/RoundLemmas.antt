@@ -59,9 +59,12 @@ latch_found (Some latch ∷ latches) zero found is = refl
 latch_found (None ∷ latches) (suc c) found is = latch_found latches c found is
 latch_found (Some latch ∷ latches) (suc c) found is = refl
 
-pub no_latch_held : (x : Circuit) (view : ℕ → ℕ → Tri) (held : List Tri) (r : ℕ) → IsCircuit x → list_any (λ latch. is_some latch) x.latches.items ≡ false → IsHeld x view held r
+pub no_latch : (x : Circuit) → IsCircuit x → list_any (λ latch. is_some latch) x.latches.items ≡ false → (net c e : ℕ) (source : Source) → (logic_at x).net net ≡ Lockup c e source → ⊥
 unfolding logic_at
-no_latch_held x view held r is none net c e source here low = (let found = latch_found x.latches.items c (e, source) (is.latched net c e source here) in absurd (true≢false (sym found ∙ none)))
+no_latch x is none net c e source here = (let found = latch_found x.latches.items c (e, source) (is.latched net c e source here) in true≢false (sym found ∙ none))
+
+pub no_latch_held : (x : Circuit) (view : ℕ → ℕ → Tri) (held : List Tri) (r : ℕ) → IsCircuit x → list_any (λ latch. is_some latch) x.latches.items ≡ false → IsHeld x view held r
+no_latch_held x view held r is none net c e source here low = absurd (no_latch x is none net c e source here)
 
 source_in : (x : Circuit) → IsCircuit x → (net c e : ℕ) (source : Source) → (m : Meaning) → (logic_at x).net net ≡ m → m ≡ Lockup c e source → AreBelow (rank_of x) (rank_of x net) (nets_of (source ∷ []))
 source_in x is net c e source m here lockup =

@@ -86,3 +86,8 @@ StaysBelow l p poss raised =
 abbrev pub AreNext : Logic → Cycle.Pulse → (view : ℕ → ℕ → Tri) → (poss next : List Tri) → Type 0
 AreNext l p view poss next =
     (c : ℕ) → p.pulsed (l.cell c).domain ≡ true → (value_at next c ≡ next_value l p view c) × AboveTri (value_at poss c) (next_value l p view c)
+
+-- one domain pulses at most, and there is no lock-up
+pub record IsAlone (l : Logic) (pulsed : ℕ → Bool) : Type 0 where
+  pub none : (net c e : ℕ) (source : Source) → l.net net ≡ Lockup c e source → ⊥
+  pub one : (e f : ℕ) → pulsed e ≡ true → pulsed f ≡ true → e ≡ f

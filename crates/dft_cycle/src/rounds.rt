@@ -1,12 +1,12 @@
 //! The views of a pulse: lock-ups by rounds over the domains, then the next values of flip-flops.
 
-ghost use Rattle.std.specs.Prelude.{◌≡◌, ℕ, suc, ◌<◌, length, map, count_by, is_some, true, false};
+ghost use Rattle.std.specs.Prelude.{◌≡◌, ◌⊎◌, ℕ, suc, ◌<◌, length, map, count_by, is_some, true, false};
 ghost use Rattle.std.specs.List.{list_any};
 ghost use Rattle.dft_base.specs.Tri.{AboveTri};
 ghost use Rattle.dft_cycle.specs.Cycle.{AreViews, IsLeast};
 ghost use Rattle.dft_cycle.specs.Machine as spec;
 ghost use Rattle.dft_cycle.specs.Circuit.{IsCircuit, logic_at, cell_of, cell_at, flag_at as is_up, pulse_at};
-ghost use Rattle.dft_cycle.specs.Views.{IsHeld, OwnsLatches, PulsesAmong, HasNext, raised_by, is_known, StaysBelow, AreNext};
+ghost use Rattle.dft_cycle.specs.Views.{IsHeld, OwnsLatches, PulsesAmong, HasNext, raised_by, is_known, StaysBelow, AreNext, IsAlone};
 
 use crate::circuit::{Circuit, FlipFlop, Latch};
 use crate::flops::{differ, hold, take_next};
@@ -133,11 +133,41 @@ fn raise(flops: &[FlipFlop], pulsed: &[bool], next: &[Tri], poss: &mut [Tri]) ->
     changed
 }
 
-/// One turn of the search for the least map: the next values at the map, joined to it. Whether it changed.
+/// How many of the clocks pulse.
+fn pulsing(pulsed: &[bool], clocks: &[NetId]) -> usize
+    ensures { result ≡ count_by (λ clock. is_up pulsed.now clock.0) clocks.now }
+{
+    clocks
+        .iter()
+        .filter(|clock| flag_at(pulsed, clock.0))
+        .count()
+}
+
+/// Whether one domain pulses at most, and there is no lock-up: then its next values do not depend on the map.
+fn is_alone(circuit: &Circuit, pulsed: &[bool], clocks: &[NetId]) -> bool
+    requires circuit { IsCircuit circuit.now }
+    requires pulsing { PulsesAmong pulsed.now clocks.now }
+    ensures { result ≡ true → IsAlone (logic_at circuit.now) (is_up pulsed.now) }
+{
+    let latched = has_latch(&circuit.latches);
+    let many = pulsing(pulsed, clocks);
+    !latched && many < 2
+}
+
+/// Whether a turn that changed the map, or not, is followed by another.
+fn goes_on(changed: bool, alone: bool) -> bool
+    ensures on { result ≡ true → changed ≡ true }
+    ensures off { result ≡ false → (changed ≡ false) ⊎ (alone ≡ true) }
+{
+    changed && !alone
+}
+
+/// One turn of the search for the least map: the next values at the map, joined to it. Whether there is another turn.
 fn turn(
     circuit: &Circuit,
     pulse: Pulse<'_>,
     clocks: &[NetId],
+    alone: bool,
     poss: &mut [Tri],
     held: &mut [Tri],
     values: &mut [Tri],
@@ -146,6 +176,7 @@ fn turn(
     requires circuit { IsCircuit circuit.now }
     requires owned { OwnsLatches circuit.now clocks.now }
     requires pulsing { PulsesAmong pulse.pulsed.now clocks.now }
+    requires alone { alone ≡ true → IsAlone (logic_at circuit.now) (is_up pulse.pulsed.now) }
     requires poss { length poss.old ≡ length circuit.now.flops.items }
     requires held { length held.old ≡ length circuit.now.flops.items }
     requires values { length values.old ≡ length circuit.now.ops.items }
@@ -157,7 +188,8 @@ fn turn(
 {
     hold_lockups(circuit, pulse, clocks, poss, held, values);
     next_values(circuit, pulse, clocks, poss, held, values, next);
-    raise(&circuit.flops, pulse.pulsed, next, poss)
+    let changed = raise(&circuit.flops, pulse.pulsed, next, poss);
+    goes_on(changed, alone)
 }
 
 /// Finds the least map above the old values and above the next value of each flip-flop of a pulsed domain, and these
@@ -182,5 +214,6 @@ pub(crate) fn find_least(
     ensures least { (view : ℕ → ℕ → Tri) → AreViews (logic_at circuit.now) (pulse_at pulse.entry) (spec.value_at poss.new) view → IsLeast (logic_at circuit.now) (pulse_at pulse.entry) (spec.value_at poss.new) view }
     ensures next { (view : ℕ → ℕ → Tri) → AreViews (logic_at circuit.now) (pulse_at pulse.entry) (spec.value_at poss.new) view → AreNext (logic_at circuit.now) (pulse_at pulse.entry) view poss.new next.new }
 {
-    while turn(circuit, pulse, clocks, poss, held, values, next) {}
+    let alone = is_alone(circuit, pulse.pulsed, clocks);
+    while turn(circuit, pulse, clocks, alone, poss, held, values, next) {}
 }
