@@ -3,6 +3,7 @@ pub mod Uniqueness
 pub mod PlainLemmas
 pub mod ExampleLemmas
 pub mod Existence
+pub mod TestLemmas
 pub mod FitLemmas
 pub mod VectorLemmas
 pub mod SignalLemmas

@@ -1,8 +1,7 @@
 -- A vector on the machine: which inputs are told, which clocks pulse, and what its compared bits decide.
-use Rattle.std.proofs.Common.{ℕ, zero, suc, ◌+◌, ◌<◌, ◌≤◌, ◌≢◌, ◌==◌, Bool, true, false, ◌&&◌, ◌||◌, List, [], ◌∷◌, ◌++◌, ◌≡◌, ◌⊎◌, inl, inr, Option, None, Some, length, map, drop, refl, sym, ap, ◌∙◌, slice_get, get_or, below_more, arith}
-use Rattle.std.specs.Prelude.{if◌then◌else◌, filter, All, AllPairs, IfSome, count_by}
+use Rattle.std.proofs.Common.{ℕ, zero, suc, ◌+◌, ◌<◌, ◌≤◌, ◌≢◌, ◌==◌, Bool, true, false, ◌&&◌, List, [], ◌∷◌, ◌++◌, ◌≡◌, ◌⊎◌, inl, inr, Option, Some, length, map, drop, refl, sym, ap, ◌∙◌, slice_get, get_or, below_more, arith}
+use Rattle.std.specs.Prelude.{if◌then◌else◌, filter, All, AllPairs, count_by}
 use Rattle.std.specs.List.{range_with_len}
-use Rattle.std.proofs.Math.Seq.{drop-cons}
 use Rattle.std.proofs.lemmas.Bool.Decides.{eqb_tells}
 use Rattle.std.proofs.lemmas.List.Folds.{list_any_at}
 use Rattle.std.proofs.lemmas.List.Sums.{sum_by-cons}
@@ -10,7 +9,6 @@ use Rattle.std.proofs.lemmas.List.{length-map, append-nil}
 use Rattle.std.proofs.lemmas.List.Elements.{filter-append}
 use Rattle.std.proofs.lemmas.Option.{slice_get-get_or}
 use Rattle.dft_base.specs.declared.tri.Tri.{Tri}
-use Rattle.dft_base.specs.declared.tri.Tri.TheVariants.{Zero, One, Unknown}
 use Rattle.dft_netlist.specs.declared.ids.NetId.{NetId}
 use Rattle.dft_netlist.specs.Orders.{Has, numbers_of}
 use Rattle.dft_cycle.specs.Machine.{Machine, value_at, logic, is_one_of, pulses, IsSet, IsStrobed, IsPulsed}
@@ -21,8 +19,9 @@ use Rattle.dft_stil.specs.declared.act.Act.TheVariants.{Unset, Low, High, Pulse,
 use Rattle.dft_replay.specs.declared.verdict.Verdict.{Verdict}
 use Rattle.dft_replay.specs.Rows.{Compared, Row, act_on, set_by, is_pulse, compared_at, compared_from, row_of}
 use Rattle.dft_replay.specs.Rows as rows
-use Rattle.dft_replay.specs.Vectors.{act_at, net_at, is_compared, judged, pulses_at, clocks_of, AreClocks, IsPlayed}
-use Rattle.dft_replay.specs.Verdicts.{decided_by, decided, IsPlaced}
+use Rattle.dft_replay.specs.Vectors.{act_at, net_at, is_compared, pulses_at, clocks_of, AreClocks, IsPlayed}
+use Rattle.dft_replay.specs.Verdicts.{decided}
+use Rattle.dft_replay.proofs.TestLemmas.{or_cases, or_left, or_right, and_parts, and_both}
 
 -- ---- the act at a net
 
@@ -144,26 +143,6 @@ same_tests : (a b : Bool) → (a ≡ true → b ≡ true) → (b ≡ true → a 
 same_tests true b to from = sym (to refl)
 same_tests false true to from = from refl
 same_tests false false to from = refl
-
-or_cases : (a b : Bool) → (a || b) ≡ true → (a ≡ true) ⊎ (b ≡ true)
-or_cases true b h = inl refl
-or_cases false b h = inr h
-
-or_left : (a b : Bool) → a ≡ true → (a || b) ≡ true
-or_left true b h = refl
-or_left false b h = absurd cc
-
-or_right : (a b : Bool) → b ≡ true → (a || b) ≡ true
-or_right true b h = refl
-or_right false b h = h
-
-and_parts : (a b : Bool) → (a && b) ≡ true → (a ≡ true) × (b ≡ true)
-and_parts true b h = (refl, h)
-and_parts false b h = absurd cc
-
-and_both : (a b : Bool) → a ≡ true → b ≡ true → (a && b) ≡ true
-and_both true b p q = q
-and_both false b p q = absurd cc
 
 eqb_is : (a b : ℕ) → (a == b) ≡ true → a ≡ b
 eqb_is a b h = elim (eqb_tells a b) [ inl is ↦ is.1 | inr other ↦ absurd (let f : true ≡ false = sym h ∙ other.0 in let g : ⊥ = cc in g) ]
@@ -351,69 +330,9 @@ clocks_pulse nets vectors e differ same =
 
 -- ---- what compared bits decide
 
--- the first decision of two
-abbrev pub or_later : Option Verdict → Option Verdict → Option Verdict
-or_later None later = later
-or_later (Some d) later = Some d
-
-later_by : (v i : ℕ) (t : Tri) (printed : Bool) (rest : Option Verdict) → decided_by v i t printed rest ≡ or_later (decided_by v i t printed None) rest
-later_by v i Unknown printed rest = refl
-later_by v i Zero true rest = refl
-later_by v i Zero false rest = refl
-later_by v i One true rest = refl
-later_by v i One false rest = refl
-
-decided_step : (values : ℕ → Tri) (v i net : ℕ) (act : Act) (rest : List Compared) → decided values v (compared_at i net act rest) ≡ or_later (judged v i (values net) act) (decided values v rest)
-decided_step values v i net ExpectLow rest = later_by v i (values net) false (decided values v rest)
-decided_step values v i net ExpectHigh rest = later_by v i (values net) true (decided values v rest)
-decided_step values v i net Unset rest = refl
-decided_step values v i net Low rest = refl
-decided_step values v i net High rest = refl
-decided_step values v i net Pulse rest = refl
-decided_step values v i net Ignore rest = refl
-
 -- what the signals from one on decide
 abbrev pub decided_from : (values : ℕ → Tri) → (vector : ℕ) → List NetId → List Act → (signal : ℕ) → Option Verdict
 decided_from values v nets acts i = decided values v (compared_from i (numbers_of (drop i nets)) (drop i acts))
-
-pub decided_at : (values : ℕ → Tri) (v i : ℕ) (nets : List NetId) (acts : List Act) (net : NetId) → i < length nets → length acts ≡ length nets → net ≡ get_or nets i net →
-    decided_from values v nets acts i ≡ or_later (judged v i (values net.0) (act_at acts i)) (decided_from values v nets acts (i + 1))
-decided_at values v i nets acts net within same here =
-    let later : List Compared = compared_from (suc i) (numbers_of (drop (suc i) nets)) (drop (suc i) acts) in
-    let split : compared_from i (numbers_of (drop i nets)) (drop i acts) ≡ compared_at i net.0 (act_at acts i) later =
-    (λ t. compared_from i (numbers_of (drop-cons nets i net within t)) (drop-cons acts i Unset (let e = same in omega arith) t)) ∙ ap (λ (k : NetId). compared_at i k.0 (act_at acts i) later) (sym here) in
-    let next : suc i ≡ i + 1 = omega arith in
-    ap (decided values v) split ∙ decided_step values v i net.0 (act_at acts i) later ∙ ap (λ (k : ℕ). or_later (judged v i (values net.0) (act_at acts i)) (decided_from values v nets acts k)) next
-
-pub none_later : (d later : Option Verdict) → d ≡ None → or_later d later ≡ later
-none_later d later h = ap (λ (o : Option Verdict). or_later o later) h
-
-pub some_first : (d later : Option Verdict) (verdict : Verdict) → d ≡ Some verdict → or_later d later ≡ Some verdict
-some_first d later verdict h = ap (λ (o : Option Verdict). or_later o later) h
-
-pub all_decided : (values : ℕ → Tri) (v i : ℕ) (nets : List NetId) (acts : List Act) → length nets ≤ i → decided_from values v nets acts i ≡ None
-all_decided values v i nets acts far = ap (λ (ns : List NetId). decided values v (compared_from i (numbers_of ns) (drop i acts))) (past_all i nets far) where
-  past_all : {X : Type 0} (k : ℕ) (xs : List X) → length xs ≤ k → drop k xs ≡ []
-  past_all zero [] h = refl
-  past_all (suc k) [] h = refl
-  past_all zero (x ∷ xs) h = absurd (omega arith)
-  past_all (suc k) (x ∷ xs) h = past_all k xs (omega arith)
-
-decision_placed : (v i : ℕ) (t : Tri) (printed : Bool) (vectors signals : ℕ) → v < vectors → i < signals → IfSome (decided_by v i t printed None) (IsPlaced vectors signals)
-decision_placed v i Unknown printed vectors signals a b = (a, b)
-decision_placed v i Zero true vectors signals a b = (a, b)
-decision_placed v i Zero false vectors signals a b = tt
-decision_placed v i One true vectors signals a b = tt
-decision_placed v i One false vectors signals a b = (a, b)
-
-pub judged_placed : (v i : ℕ) (t : Tri) (act : Act) (vectors signals : ℕ) → v < vectors → i < signals → IfSome (judged v i t act) (IsPlaced vectors signals)
-judged_placed v i t ExpectLow vectors signals a b = decision_placed v i t false vectors signals a b
-judged_placed v i t ExpectHigh vectors signals a b = decision_placed v i t true vectors signals a b
-judged_placed v i t Unset vectors signals a b = tt
-judged_placed v i t Low vectors signals a b = tt
-judged_placed v i t High vectors signals a b = tt
-judged_placed v i t Pulse vectors signals a b = tt
-judged_placed v i t Ignore vectors signals a b = tt
 
 -- ---- counts
 
