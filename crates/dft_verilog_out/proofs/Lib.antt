@@ -1,1 +1,6 @@
 pub mod FormLemmas
+pub mod CutLemmas
+pub mod RuleLemmas
+pub mod ItemLemmas
+pub mod CountLemmas
+pub mod DraftLemmas
