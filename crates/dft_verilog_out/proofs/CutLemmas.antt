@@ -144,11 +144,13 @@ pub data Ending : Type 0 where
   Close : Ending
   Comma : Ending
   Semicolon : Ending
+  Space : Ending
 
 abbrev pub ending : Ending → ℕ
 ending Close = 41
 ending Comma = 44
 ending Semicolon = 59
+ending Space = 32
 
 abbrev pub digit : Bool → ℕ
 digit false = 48
@@ -164,9 +166,11 @@ unfolding cut_up blank_len lexeme quote
 cut_up-constant false Close rest = simp minus_zero
 cut_up-constant false Comma rest = simp minus_zero
 cut_up-constant false Semicolon rest = simp minus_zero
+cut_up-constant false Space rest = simp minus_zero
 cut_up-constant true Close rest = simp minus_zero
 cut_up-constant true Comma rest = simp minus_zero
 cut_up-constant true Semicolon rest = simp minus_zero
+cut_up-constant true Space rest = simp minus_zero
 
 -- ---- names
 

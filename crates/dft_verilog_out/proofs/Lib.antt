@@ -4,3 +4,4 @@ pub mod RuleLemmas
 pub mod ItemLemmas
 pub mod CountLemmas
 pub mod DraftLemmas
+pub mod OperandLemmas
