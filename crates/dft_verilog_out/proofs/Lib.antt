@@ -5,3 +5,4 @@ pub mod ItemLemmas
 pub mod CountLemmas
 pub mod DraftLemmas
 pub mod OperandLemmas
+pub mod LineLemmas
