@@ -6,3 +6,5 @@ pub mod CountLemmas
 pub mod DraftLemmas
 pub mod OperandLemmas
 pub mod LineLemmas
+pub mod InstanceLemmas
+pub mod PhaseLemmas

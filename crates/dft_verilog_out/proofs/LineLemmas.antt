@@ -74,6 +74,12 @@ lines_more count other text more d mid new a b = record {
   none = λ e. let x = a.none (omega arith) in let y = b.none (omega arith) in rw (x, y) refl;
 }
 
+-- a line, and others behind it
+pub lines_cons : (k : ℕ) (line more : Text) (d mid new end : Draft) → Line line d mid → Lines k more mid new → new ≡ end → Lines (suc k) (line ++ more) d end
+lines_cons k line more d mid new end one rest e =
+    let count : 1 + k ≡ suc k = omega arith in
+    subst (λ (x : Draft). Lines (suc k) (line ++ more) d x) e (subst (λ n. Lines n (line ++ more) d new) count (lines_more 1 k line more d mid new (one_line line d mid one) rest))
+
 goes_on_by : (k : TokenKind) (word : Text) (l : ℕ) (ts : List Token) (us : List Token) → sees kind.Endmodule (token k word l ∷ ts) ≡ false → us ≡ token k word l ∷ ts → sees kind.Endmodule us ≡ false
 goes_on_by k word l ts us h e = ap (sees kind.Endmodule) e ∙ h
 
