@@ -8,3 +8,5 @@ pub mod OperandLemmas
 pub mod LineLemmas
 pub mod InstanceLemmas
 pub mod PhaseLemmas
+pub mod FindLemmas
+pub mod PartLemmas

@@ -17,6 +17,7 @@ use Rattle.dft_netlist.specs.Steps.{kind_of, left, same_kind, sees}
 use Rattle.dft_netlist.specs.Modules.{Draft, declare_port, declare_wire, with_join}
 use Rattle.dft_netlist.specs.Expressions.{small_number, range_if_any}
 use Rattle.dft_netlist.specs.Items.{item, items_from}
+use Rattle.dft_verilog_out.specs.Named.{IsSmallRange}
 use Rattle.dft_verilog_out.specs.Written.{name_text, signal_text, dir_text, range_text, port_line, wire_line, join_line}
 use Rattle.dft_verilog_out.proofs.CutLemmas.{cut_up, token, cut_up-input, cut_up-output, cut_up-wire, cut_up-assign, cut_up-open_bracket, cut_up-close_bracket, cut_up-colon, cut_up-space, name_at, IsSmall, number_at}
 use Rattle.dft_verilog_out.proofs.RuleLemmas.{range_tokens, range-at}
@@ -128,11 +129,6 @@ no_end_dir : (dir : Dir) (word : Text) (l : ℕ) (ts : List Token) → sees kind
 unfolding sees kind_of same_kind
 no_end_dir dir.Input word l ts = refl
 no_end_dir dir.Output word l ts = refl
-
--- the numbers of a range are small
-abbrev pub IsSmallRange : Option Range → Type 0
-IsSmallRange None = Unit {0}
-IsSmallRange (Some r) = IsSmall r.left × IsSmall r.right
 
 no_wire_name : (word : Text) (l : ℕ) (ts : List Token) → sees kind.Wire (token kind.Name word l ∷ ts) ≡ false
 unfolding sees kind_of same_kind

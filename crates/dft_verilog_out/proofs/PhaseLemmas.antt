@@ -20,10 +20,11 @@ use Rattle.dft_netlist.specs.Names.{bit_name, bit_names, indices_of}
 use Rattle.dft_netlist.specs.Sound.{bit_names_of}
 use Rattle.dft_netlist.specs.Modules.{HeaderPort, Entry, Draft, net_count, width, falls, names_of_bits, declared_at, declare_port, declare_wire}
 use Rattle.dft_netlist.proofs.BitLemmas.{indices_length}
+use Rattle.dft_verilog_out.specs.Named.{IsNamedPort}
 use Rattle.dft_verilog_out.specs.Written.{name_text, port_line, wire_line}
 use Rattle.dft_verilog_out.proofs.CountLemmas.{Once, look, look-kept, words}
 use Rattle.dft_verilog_out.proofs.DraftLemmas.{entry, Fresh, fresh_of, free_at, bit_entries, words-bits, words-append, declare_port-is, declare_wire-is}
-use Rattle.dft_verilog_out.proofs.LineLemmas.{Lines, no_lines, lines_cons, IsSmallRange, port_read, wire_read}
+use Rattle.dft_verilog_out.proofs.LineLemmas.{Lines, no_lines, lines_cons, port_read, wire_read}
 
 -- ---- what a draft holds
 
@@ -67,14 +68,13 @@ pub net_count-is : (word : Text) (range : Option Range) → net_count range ≡ 
 net_count-is word None = refl
 net_count-is word (Some r) = width_by (nat_le r.right r.left) r.left r.right (length (indices_of r)) refl (indices_length r) ∙ sym (length-map (indices_of r) (bit_name word))
 
--- a port's name and range
-pub record IsGoodPort (p : Port) : Type 0 where
-  pub name : IsName p.name
-  pub range : IsSmallRange p.range
-
 abbrev pub GoodPorts : List Port → Type 0
 GoodPorts [] = Unit {0}
-GoodPorts (p ∷ ps) = IsGoodPort p × GoodPorts ps
+GoodPorts (p ∷ ps) = IsNamedPort p × GoodPorts ps
+
+pub good_ports : (ps : List Port) → ((k : ℕ) (p : Port) → slice_get ps k ≡ Some p → IsNamedPort p) → GoodPorts ps
+good_ports [] h = tt
+good_ports (p ∷ ps) h = (h 0 p refl, good_ports ps (λ k q at. h (suc k) q at))
 
 -- these ports stand in the header, from this place on
 pub record IsAnnounced (names : List Entry) (place : ℕ) (p : Port) : Type 0 where
@@ -102,7 +102,7 @@ get_at [] rest x (suc place) e = absurd (omega arith)
 get_at (z ∷ done) rest x zero e = absurd (omega arith)
 get_at (z ∷ done) rest x (suc place) e = get_at done rest x place (omega arith)
 
-port_step : (n : Netlist) (p : Port) (todo : List Port) (names : List Entry) (done : List HeaderPort) (nets rest : List Text) → IsGoodPort p → IsAnnounced names (length done) p
+port_step : (n : Netlist) (p : Port) (todo : List Port) (names : List Entry) (done : List HeaderPort) (nets rest : List Text) → IsNamedPort p → IsAnnounced names (length done) p
     → Once (words names ++ (names_of_bits p.name p.range ++ rest)) → length nets + length (bit_names p.name p.range) ≤ MAX_NETS → (place : ℕ)
     → declare_port place p.name p.dir p.range (stage n names (done ++ undeclared (p ∷ todo)) nets [] [])
     ≡ Ok (stage n (names ++ bit_entries (names_of_bits p.name p.range)) ((done ++ declared_port (length nets) p ∷ []) ++ undeclared todo) (nets ++ bit_names p.name p.range) [] [])
@@ -148,6 +148,10 @@ ports_read n (p ∷ todo) names done nets rest good known once room =
 abbrev pub AllNames : List Text → Type 0
 AllNames [] = Unit {0}
 AllNames (w ∷ ws) = IsName w × AllNames ws
+
+pub all_names : (ws : List Text) → ((k : ℕ) (w : Text) → slice_get ws k ≡ Some w → IsName w) → AllNames ws
+all_names [] h = tt
+all_names (w ∷ ws) h = (h 0 w refl, all_names ws (λ k v at. h (suc k) v at))
 
 pub wires_read : (n : Netlist) (ws : List Text) (names : List Entry) (ports : List HeaderPort) (nets rest : List Text) → AllNames ws → Once (words names ++ (ws ++ rest)) → length nets + length ws ≤ MAX_NETS
     → Lines (length ws) (flat_map wire_line (map name_text ws)) (stage n names ports nets [] []) (stage n (names ++ wire_entries (length nets) ws) ports (nets ++ ws) [] [])
