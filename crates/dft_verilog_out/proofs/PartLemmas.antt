@@ -1,6 +1,6 @@
 -- The lines of joins and of instances, one after another.
 use Rattle.std.proofs.Common.{◌≡◌, ℕ, zero, suc, ◌+◌, ◌-◌, ◌<◌, ◌≤◌, Bool, true, false, not, cond, eqb, leb, List, [], ◌∷◌, ◌++◌, length, map, flat_map, take, drop, get_or, codes, Option, Some, None, Ok, IsTrue, IsSome, refl, sym, ap, ◌∙◌, subst, arith, append_assoc, append-nil, length-append, slice_get}
-use Rattle.std.specs.List.{filter_map}
+use Rattle.std.specs.List.{filter_map, cons_option}
 use Rattle.std.proofs.lemmas.Bool.Decides.{nat_tests}
 use Rattle.std.proofs.lemmas.List.{length-map}
 use Rattle.std.proofs.lemmas.Option.{slice_get-get_or}
@@ -152,3 +152,168 @@ first_is ins output =
 gate_line-is : (texts : List Text) (k : Kind) (i : Instance) (ins : List Signal) (output : Signal) → i.pins ≡ ins ++ output ∷ [] → gate_line texts k i ≡ gate_form texts k i.name output ins
 unfolding gate_line
 gate_line-is texts k i ins output e = rw (e, first_is ins output) refl
+
+-- ---- cells
+
+drives_is : (r : Role) → is_driving r ≡ is_output r
+drives_is role.Input = refl
+drives_is role.Clock = refl
+drives_is role.Din = refl
+drives_is role.Reset = refl
+drives_is role.Preset = refl
+drives_is role.ScanIn = refl
+drives_is role.ScanEnable = refl
+drives_is role.Output = refl
+drives_is role.Inverted = refl
+
+false_by : (t : Bool) → (t ≡ true → ⊥) → t ≡ false
+false_by true h = absurd (h refl)
+false_by false h = refl
+
+joined_is : (s : Signal) → is_joined s ≡ true → IsConnected s
+joined_is (signal.Net net) h = tt
+joined_is (signal.Constant bit) h = tt
+joined_is signal.Unconnected h = absurd (cc)
+
+-- what is known of the pins of a cell
+record OfCell (d : Draft) (texts : List Text) (cell : Cell) (signals : List Signal) : Type 0 where
+  nets : NetsAt d.names d.ports texts
+  named : IsNamedCell cell signals
+  differ : all_differ (map pin_name cell.pins) ≡ true
+  live : AreLive (length texts) signals
+  outputs : (place : ℕ) (pin : Pin) (bit : Bool) → slice_get cell.pins place ≡ Some pin → slice_get signals place ≡ Some (signal.Constant bit) → is_driving pin.role ≡ false
+
+pin_of : (d : Draft) (texts : List Text) (cell : Cell) (signals : List Signal) (place : ℕ) (pin : Pin) (to : Signal) → OfCell d texts cell signals → slice_get cell.pins place ≡ Some pin → slice_get signals place ≡ Some to → IsPin d texts cell place pin to
+pin_of d texts cell signals place pin to c at is = record {
+  found = pin_place-at cell place pin c.differ at;
+  at = at;
+  name = λ joined. c.named.pins place pin to at is joined;
+  reads = λ joined. signal_operand d (site.Pin (is_driving pin.role)) texts to c.nets (c.live place to is) (joined_is to joined) (λ bit e. c.outputs place pin bit at (is ∙ ap Some e));
+}
+
+pins_of : (d : Draft) (texts : List Text) (cell : Cell) (all : List Signal) (place : ℕ) (pins : List Pin) (signals : List Signal) → OfCell d texts cell all → length signals ≡ length pins
+    → ((k : ℕ) (pin : Pin) → slice_get pins k ≡ Some pin → slice_get cell.pins (place + k) ≡ Some pin) → ((k : ℕ) (to : Signal) → slice_get signals k ≡ Some to → slice_get all (place + k) ≡ Some to)
+    → ArePins d texts cell place pins signals
+pins_of d texts cell all place [] [] c w ps ss = tt
+pins_of d texts cell all place [] (to ∷ signals) c w ps ss = absurd (omega arith)
+pins_of d texts cell all place (pin ∷ pins) [] c w ps ss = absurd (omega arith)
+pins_of d texts cell all place (pin ∷ pins) (to ∷ signals) c w ps ss =
+    let here : place + 0 ≡ place = omega arith in
+    (pin_of d texts cell all place pin to c (ap (slice_get cell.pins) (sym here) ∙ ps 0 pin refl) (ap (slice_get all) (sym here) ∙ ss 0 to refl),
+      pins_of d texts cell all (suc place) pins signals c (omega arith)
+      (λ k p at. let e : suc place + k ≡ place + suc k = omega arith in ap (slice_get cell.pins) e ∙ ps (suc k) p at)
+      (λ k s at. let e : suc place + k ≡ place + suc k = omega arith in ap (slice_get all) e ∙ ss (suc k) s at))
+
+from_zero : {X : Type 0} (xs : List X) (k : ℕ) (x : X) → slice_get xs k ≡ Some x → slice_get xs (0 + k) ≡ Some x
+from_zero xs k x at = let e : 0 + k ≡ k = omega arith in ap (slice_get xs) e ∙ at
+
+cell_line-is : (texts : List Text) (cell : Cell) (w : Text) (ref : CellRef) (pins : List Signal) → cell_line texts cell (record { name = Some w; cell = ref; pins = pins }) ≡ cell_form texts cell w pins
+unfolding cell_line
+cell_line-is texts cell w ref pins = refl
+
+pub some_at : {X : Type 0} (xs : List X) (k : ℕ) → k < length xs → (x : X) × (slice_get xs k ≡ Some x)
+some_at [] k lt = absurd (omega arith)
+some_at (x ∷ xs) zero lt = (x, refl)
+some_at (x ∷ xs) (suc k) lt = some_at xs k (omega arith)
+
+role_at : (pins : List Pin) (k : ℕ) (pin : Pin) → slice_get pins k ≡ Some pin → slice_get (map (λ (p : Pin). p.role) pins) k ≡ Some pin.role
+role_at [] k pin at = absurd (cc)
+role_at (p ∷ pins) zero pin at = let e : p ≡ pin = cc in ap (λ (x : Pin). Some x.role) e
+role_at (p ∷ pins) (suc k) pin at = role_at pins k pin at
+
+-- ---- instances
+
+abbrev inst : Option Text → CellRef → List Signal → Instance
+inst name cell pins = record { name = name; cell = cell; pins = pins }
+
+abbrev pub own_entries : Option Text → List Entry
+own_entries None = []
+own_entries (Some w) = entry w meaning.Instance ∷ []
+
+pub nets_kept : (names more : List Entry) (ports : List HeaderPort) (texts : List Text) → NetsAt names ports texts → NetsAt (names ++ more) ports texts
+nets_kept names more ports texts known k lt = net_at-kept names more ports (get_or texts k []) k (known k lt)
+
+-- an instance, and what it needs to be written and read
+pub record IsReadable (library : List Cell) (count : ℕ) (i : Instance) : Type 0 where
+  pub stands : IsInstance library count i.name i.cell i.pins
+  pub named : IsNamedInstance library i
+  pub joined : IsJoinedGate i
+
+made_gate : (k : Kind) (name : Option Text) (inputs : ℕ) (pins ins : List Signal) (output : Signal) → length ins ≡ inputs → pins ≡ ins ++ output ∷ [] → gate_instance k name output ins ≡ inst name (cell_ref.Gate k inputs) pins
+made_gate k name inputs pins ins output size is = ap (λ m. inst name (cell_ref.Gate k m) (ins ++ output ∷ [])) size ∙ ap (λ (ss : List Signal). inst name (cell_ref.Gate k inputs) ss) (sym is)
+
+instance_step : (n : Netlist) (name : Option Text) (ref : CellRef) (pins : List Signal) (names : List Entry) (ports : List HeaderPort) (nets : List Text) (done : List Instance) (joins : List Join) (texts : List Text)
+    → IsWellFormed n.library → IsReadable n.library (length texts) (inst name ref pins) → NetsAt names ports texts → ((w : Text) → name ≡ Some w → look names w ≡ None) → length done < MAX_INSTANCES
+    → Line (line_of n.library texts (inst name ref pins)) (stage n names ports nets done joins) (stage n (names ++ own_entries name) ports nets (done ++ inst name ref pins ∷ []) joins)
+instance_step n (Some w) (cell_ref.Gate k inputs) pins names ports nets done joins texts well r known free room =
+    let start = stage n names ports nets done joins in
+    let named = stage n (names ++ entry w meaning.Instance ∷ []) ports nets done joins in
+    let p = split pins inputs (r.stands.width ∙ length-gate_roles inputs) in
+    let g = gate_of named n.library texts (Some w) k inputs pins p (nets_kept names (entry w meaning.Instance ∷ []) ports texts known) r.stands r.joined in
+    let line = named_gate_read k start named w texts p.output p.ins g r.named.own (λ place. name_instance-is place w start (free w refl) room) in
+    let made = made_gate k (Some w) inputs pins p.ins p.output p.size p.is in
+    subst (λ (text : Text). Line text start (stage n (names ++ entry w meaning.Instance ∷ []) ports nets (done ++ inst (Some w) (cell_ref.Gate k inputs) pins ∷ []) joins)) (sym (gate_line-is texts k (inst (Some w) (cell_ref.Gate k inputs) pins) p.ins p.output p.is))
+    (subst (λ (i : Instance). Line (gate_form texts k (Some w) p.output p.ins) start (stage n (names ++ entry w meaning.Instance ∷ []) ports nets (done ++ i ∷ []) joins)) made line)
+instance_step n None (cell_ref.Gate k inputs) pins names ports nets done joins texts well r known free room =
+    let start = stage n names ports nets done joins in
+    let p = split pins inputs (r.stands.width ∙ length-gate_roles inputs) in
+    let g = gate_of start n.library texts None k inputs pins p known r.stands r.joined in
+    let line = unnamed_gate_read k start texts p.output p.ins g (λ place. room_for_instance-is place start room) in
+    let made = made_gate k None inputs pins p.ins p.output p.size p.is in
+    subst (λ (x : List Entry). Line (line_of n.library texts (inst None (cell_ref.Gate k inputs) pins)) start (stage n x ports nets (done ++ inst None (cell_ref.Gate k inputs) pins ∷ []) joins)) (sym (append-nil names))
+    (subst (λ (text : Text). Line text start (stage n names ports nets (done ++ inst None (cell_ref.Gate k inputs) pins ∷ []) joins)) (sym (gate_line-is texts k (inst None (cell_ref.Gate k inputs) pins) p.ins p.output p.is))
+    (subst (λ (i : Instance). Line (gate_form texts k None p.output p.ins) start (stage n names ports nets (done ++ i ∷ []) joins)) made line))
+instance_step n None (cell_ref.Library id) pins names ports nets done joins texts well r known free room = absurd (let f = r.stands.fits.1 in cc)
+instance_step n (Some w) (cell_ref.Library id) pins names ports nets done joins texts well r known free room =
+    let start = stage n names ports nets done joins in
+    let named = stage n (names ++ entry w meaning.Instance ∷ []) ports nets done joins in
+    let at = some_at n.library id.0 r.stands.fits.0 in
+    let cell = at.0 in
+    let is_cell = well.each id.0 cell at.1 in
+    let is_named = r.named.cell cell at.1 in
+    let roles : (shape_of n.library (cell_ref.Library id)).roles ≡ map (λ (p : Pin). p.role) cell.pins = ap (λ (o : Option Cell). (shape_of_cell o).roles) at.1 in
+    let width : length pins ≡ length cell.pins = r.stands.width ∙ ap length roles ∙ length-map cell.pins (λ (p : Pin). p.role) in
+    let c : OfCell named texts cell pins = record {
+      nets = nets_kept names (entry w meaning.Instance ∷ []) ports texts known;
+      named = is_named;
+      differ = is_cell.differ;
+      live = r.stands.live;
+      outputs = λ place pin bit here to.
+          drives_is pin.role ∙ false_by (is_output pin.role) (λ out. r.stands.outputs place pin.role bit (ap (λ (rs : List Role). slice_get rs place) roles ∙ role_at cell.pins place pin here) out to);
+    } in
+    let line = cell_read start named texts id cell w pins (find_cell-at n.library id.0 cell well.names at.1) at.1 is_named.name r.named.own (λ place. name_instance-is place w start (free w refl) room)
+    (pins_of named texts cell pins 0 cell.pins pins c width (from_zero cell.pins) (from_zero pins)) width in
+    let made : cell_instance id w (map as_joined pins) ≡ inst (Some w) (cell_ref.Library id) pins = ap (λ (ss : List Signal). inst (Some w) (cell_ref.Library id) ss) (signals-back pins) in
+    let text : line_of n.library texts (inst (Some w) (cell_ref.Library id) pins) ≡ cell_form texts cell w pins =
+    ap (λ (o : Option Cell). found_cell_line texts o (inst (Some w) (cell_ref.Library id) pins)) at.1 ∙ cell_line-is texts cell w (cell_ref.Library id) pins in
+    subst (λ (t : Text). Line t start (stage n (names ++ entry w meaning.Instance ∷ []) ports nets (done ++ inst (Some w) (cell_ref.Library id) pins ∷ []) joins)) (sym text)
+    (subst (λ (i : Instance). Line (cell_form texts cell w pins) start (stage n (names ++ entry w meaning.Instance ∷ []) ports nets (done ++ i ∷ []) joins)) made line)
+
+abbrev pub instance_entries : List Instance → List Entry
+instance_entries [] = []
+instance_entries (i ∷ is) = own_entries i.name ++ instance_entries is
+
+own_words : (names : List Entry) (name : Option Text) (rest : List Text) → words names ++ cons_option name rest ≡ words (names ++ own_entries name) ++ rest
+own_words names None rest = ap (λ (es : List Entry). words es ++ rest) (sym (append-nil names))
+own_words names (Some w) rest = sym (append_assoc (words names) (w ∷ []) rest) ∙ ap (λ ws. ws ++ rest) (sym (words-append names (entry w meaning.Instance ∷ [])))
+
+own_free : (names : List Entry) (name : Option Text) (rest : List Text) → Once (words names ++ cons_option name rest) → (w : Text) → name ≡ Some w → look names w ≡ None
+own_free names None rest once w e = absurd (cc)
+own_free names (Some v) rest once w e = let same : v ≡ w = cc in subst (λ x. look names x ≡ None) same (free_at names v rest once)
+
+pub instances_read : (n : Netlist) (todo : List Instance) (names : List Entry) (ports : List HeaderPort) (nets : List Text) (done : List Instance) (joins : List Join) (texts : List Text)
+    → IsWellFormed n.library → ((place : ℕ) (i : Instance) → slice_get todo place ≡ Some i → IsReadable n.library (length texts) i) → NetsAt names ports texts → Once (words names ++ filter_map instance_name todo) → length done + length todo ≤ MAX_INSTANCES
+    → Lines (length todo) (flat_map (line_of n.library texts) todo) (stage n names ports nets done joins) (stage n (names ++ instance_entries todo) ports nets (done ++ todo) joins)
+instances_read n [] names ports nets done joins texts well r known once room =
+    subst (λ (x : List Entry). Lines 0 [] (stage n names ports nets done joins) (stage n x ports nets (done ++ []) joins)) (sym (append-nil names))
+    (subst (λ (x : List Instance). Lines 0 [] (stage n names ports nets done joins) (stage n names ports nets x joins)) (sym (append-nil done)) (no_lines (stage n names ports nets done joins)))
+instances_read n (i ∷ todo) names ports nets done joins texts well r known once room =
+    let rest : List Text = filter_map instance_name todo in
+    let start = stage n names ports nets done joins in
+    let mid = stage n (names ++ own_entries i.name) ports nets (done ++ i ∷ []) joins in
+    let first = instance_step n i.name i.cell i.pins names ports nets done joins texts well (r 0 i refl) known (own_free names i.name rest once) (omega arith) in
+    let more = instances_read n todo (names ++ own_entries i.name) ports nets (done ++ i ∷ []) joins texts well (λ place j at. r (suc place) j at) (nets_kept names (own_entries i.name) ports texts known)
+    (subst Once (own_words names i.name rest) once) (omega (arith, length-append done (i ∷ []))) in
+    lines_cons (length todo) (line_of n.library texts i) (flat_map (line_of n.library texts) todo) start mid
+    (stage n ((names ++ own_entries i.name) ++ instance_entries todo) ports nets ((done ++ i ∷ []) ++ todo) joins) (stage n (names ++ instance_entries (i ∷ todo)) ports nets (done ++ i ∷ todo) joins) first more
+    (rw (append_assoc names (own_entries i.name) (instance_entries todo), append_assoc done (i ∷ []) todo) refl)
