@@ -10,3 +10,6 @@ pub mod InstanceLemmas
 pub mod PhaseLemmas
 pub mod FindLemmas
 pub mod PartLemmas
+pub mod HeaderLemmas
+pub mod KnownLemmas
+pub mod BuiltLemmas
