@@ -4,7 +4,7 @@ use Rattle.std.specs.Prelude.{slice_index_or, ◌||◌}
 use Rattle.std.specs.List.{filter_map, cons_option, list_any}
 use Rattle.std.specs.Str.{bytes_eq}
 use Rattle.std.proofs.lemmas.Bool.Decides.{nat_tests}
-use Rattle.std.proofs.lemmas.List.Elements.{filter_map-append}
+use Rattle.std.proofs.lemmas.List.Elements.{filter_map-append, filter-append}
 use Rattle.dft_base.specs.declared.place.Range.{Range}
 use Rattle.dft_base.specs.Lexing.{Text}
 use Rattle.dft_cells.specs.declared.cell.Cell.{Cell}
@@ -69,3 +69,195 @@ filter_bits bits from (suc n) le = let e : list_any (λ bit. eqb bit from) (coun
 filter_others : (bits from n : ℕ) → bits ≤ from → filter (is_other bits) (count_from from n) ≡ count_from from n
 filter_others bits from zero le = refl
 filter_others bits from (suc n) le = let e : list_any (λ bit. eqb bit from) (count_from 0 bits) ≡ false = any_out from 0 bits (omega arith) in rw (e, filter_others bits (suc from) n (omega arith)) refl
+
+-- the nets of a draft whose ports have the first numbers are in their order
+module _ (d : Draft) (ps : List Port) (ws : List Text) (ports : d.ports ≡ declared_ports 0 ps) (nets : d.nets ≡ bit_names_of ps ++ ws) where
+  bits_first : nets_of_ports d.ports ≡ count_from 0 (length (bit_names_of ps))
+  bits_first = ap nets_of_ports ports ∙ ports_count 0 ps
+
+  pub others_count : other_nets d ≡ count_from (length (bit_names_of ps)) (length ws)
+  others_count =
+      let bits : ℕ = length (bit_names_of ps) in
+      let size : length d.nets ≡ bits + length ws = ap length nets ∙ length-append (bit_names_of ps) ws in
+      let zeroth : 0 + bits ≡ bits = omega arith in
+      ap (λ (ks : List ℕ). filter (λ net. not (list_any (λ bit. eqb bit net) ks)) (count_from 0 (length d.nets))) bits_first
+      ∙ ap (filter (is_other bits)) (ap (count_from 0) size ∙ count_append 0 bits (length ws) ∙ ap (λ k. count_from 0 bits ++ count_from k (length ws)) zeroth)
+      ∙ filter-append (is_other bits) (count_from 0 bits) (count_from bits (length ws))
+      ∙ ap (λ ks. ks ++ filter (is_other bits) (count_from bits (length ws))) (filter_bits bits 0 bits (omega arith)) ∙ filter_others bits bits (length ws) (omega arith)
+
+  pub order_count : net_order d ≡ count_from 0 (length d.nets)
+  order_count =
+      let bits : ℕ = length (bit_names_of ps) in
+      let size : length d.nets ≡ bits + length ws = ap length nets ∙ length-append (bit_names_of ps) ws in
+      let zeroth : 0 + bits ≡ bits = omega arith in
+      ap (λ ks. ks ++ other_nets d) bits_first ∙ ap (λ ks. count_from 0 bits ++ ks) others_count
+      ∙ sym (ap (count_from 0) size ∙ count_append 0 bits (length ws) ∙ ap (λ k. count_from 0 bits ++ count_from k (length ws)) zeroth)
+
+  others_named : names_of_others d ≡ ws
+  others_named =
+      ap (map (λ net. slice_index_or d.nets net [])) others_count ∙ ap (λ (xs : List Text). map (λ net. slice_index_or xs net []) (count_from (length (bit_names_of ps)) (length ws))) nets ∙ named_from (bit_names_of ps) ws
+    where
+      here : (front : List Text) (w : Text) (rest : List Text) → get_or (front ++ w ∷ rest) (length front) [] ≡ w
+      here [] w rest = refl
+      here (x ∷ front) w rest = here front w rest
+
+      named_from : (front rest : List Text) → map (λ net. slice_index_or (front ++ rest) net []) (count_from (length front) (length rest)) ≡ rest
+      named_from front [] = refl
+      named_from front (w ∷ rest) =
+          let next : length (front ++ w ∷ []) ≡ suc (length front) = omega (arith, length-append front (w ∷ [])) in
+          ap (λ x. x ∷ map (λ net. slice_index_or (front ++ w ∷ rest) net []) (count_from (suc (length front)) (length rest))) (here front w rest)
+          ∙ ap (λ xs. w ∷ xs) (ap (λ (xs : List Text). map (λ net. slice_index_or xs net []) (count_from (suc (length front)) (length rest))) (sym (append_assoc front (w ∷ []) rest))
+          ∙ ap (λ k. map (λ net. slice_index_or ((front ++ w ∷ []) ++ rest) net []) (count_from k (length rest))) (sym next) ∙ named_from (front ++ w ∷ []) rest)
+
+-- ---- final numbers
+
+place_of : (from n k : ℕ) → k < n → position (λ other. eqb other (from + k)) (count_from from n) ≡ Some k
+place_of from zero k lt = absurd (omega arith)
+place_of from (suc n) zero lt =
+    let e : eqb from (from + 0) ≡ true = grind (arith, nat_tests) in
+    position-cons (λ other. eqb other (from + 0)) from (count_from (suc from) n) ∙ rw e refl
+place_of from (suc n) (suc k) lt =
+    let e : eqb from (from + suc k) ≡ false = grind (arith, nat_tests) in
+    let next : from + suc k ≡ suc from + k = omega arith in
+    position-cons (λ other. eqb other (from + suc k)) from (count_from (suc from) n)
+    ∙ rw e (ap (λ m. option_map suc (position (λ other. eqb other m) (count_from (suc from) n))) next ∙ ap (option_map suc) (place_of (suc from) n k (omega arith)))
+
+pub final_same : (count : ℕ) (net : NetId) → net.0 < count → final_net (count_from 0 count) net ≡ net
+final_same count net lt =
+    let zeroth : 0 + net.0 ≡ net.0 = omega arith in
+    ap (λ (o : Option ℕ). record { 0 = unwrap_or o 0 }) (ap (λ m. position (λ other. eqb other m) (count_from 0 count)) (sym zeroth) ∙ place_of 0 count net.0 lt)
+
+signal_same : (count : ℕ) (s : Signal) → IsLive count s → final_signal (count_from 0 count) s ≡ s
+signal_same count (signal.Net net) live = ap signal.Net (final_same count net live)
+signal_same count (signal.Constant bit) live = refl
+signal_same count signal.Unconnected live = refl
+
+pub pins_same : (count : ℕ) (pins : List Signal) → AreLive count pins → map (final_signal (count_from 0 count)) pins ≡ pins
+pins_same count [] live = refl
+pins_same count (s ∷ pins) live =
+    ap (λ x. x ∷ map (final_signal (count_from 0 count)) pins) (signal_same count s (live 0 s refl)) ∙ ap (λ xs. s ∷ xs) (pins_same count pins (λ place t at. live (suc place) t at))
+
+joins_same : (count : ℕ) (joins : List Join) → ((place : ℕ) (j : Join) → slice_get joins place ≡ Some j → IsAJoin count j.target j.source) → map (final_join (count_from 0 count)) joins ≡ joins
+joins_same count [] stands = refl
+joins_same count (j ∷ joins) stands =
+    let here = stands 0 j refl in
+    let one : final_join (count_from 0 count) j ≡ j =
+    ap (λ (t : NetId). record { target = t; source = final_signal (count_from 0 count) j.source }) (final_same count j.target here.target_live) ∙ ap (λ (s : Signal). record { target = j.target; source = s }) (signal_same count j.source here.source_live) in
+    ap (λ (x : Join). x ∷ map (final_join (count_from 0 count)) joins) one ∙ ap (λ (xs : List Join). j ∷ xs) (joins_same count joins (λ place k at. stands (suc place) k at))
+
+-- ---- parts that are not refused
+
+-- there is room for these names besides those that are taken
+abbrev Room : Netlist → List Text → Type 0
+Room m xs = (word : Text) → times word (names_taken m) + times word xs ≤ 1
+
+free_by : (m : Netlist) (word : Text) → times word (names_taken m) ≡ 0 → is_taken m word ≡ false
+free_by m word none = has_name-none (names_taken m) word none
+
+later_some : (b : Bool) (n : ℕ) → 1 ≤ n → 1 ≤ one_if b + n
+later_some true n h = omega arith
+later_some false n h = omega arith
+
+none_taken : (m : Netlist) (xs : List Text) → ((word : Text) → 1 ≤ times word xs → times word (names_taken m) ≡ 0) → first_taken m xs ≡ None
+none_taken m [] h = refl
+none_taken m (x ∷ xs) h = rw (free_by m x (h x (omega (arith, times-head x xs)))) (none_taken m xs (λ word some. h word (later_some (bytes_eq x word) (times word xs) some)))
+
+room_none : (m : Netlist) (xs rest : List Text) → Room m (xs ++ rest) → first_taken m xs ≡ None
+room_none m xs rest room = none_taken m xs (λ word some. let r = room word in omega (arith, times-append word xs rest))
+
+limit_by : (a b : Bool) (x y : NetlistError) → a ≡ true → b ≡ true → cond a (cond b None (Some x)) (Some y) ≡ None
+limit_by true true x y p q = refl
+limit_by true false x y p q = absurd (cc)
+limit_by false b x y p q = absurd (cc)
+
+port_taken : (m : Netlist) (word : Text) (range : Option Range) (rest : List Text) → Room m (port_names word range ++ rest) → length m.ports + 1 ≤ MAX_PORTS → length m.nets + length (bit_names word range) ≤ MAX_NETS → port_refusal m word range ≡ None
+port_taken m word range rest room ports nets =
+    let a : leb (length m.ports + 1) MAX_PORTS ≡ true = grind (arith, nat_tests) in
+    let b : leb (length m.nets + length (bit_names word range)) MAX_NETS ≡ true = grind (arith, nat_tests) in
+    ap (λ o. taken_or o (port_limit m word range)) (room_none m (port_names word range) rest room)
+    ∙ limit_by (leb (length m.ports + 1) MAX_PORTS) (leb (length m.nets + length (bit_names word range)) MAX_NETS) (error.TooMany counted.Nets (pos MAX_NETS)) (error.TooMany counted.Ports (pos MAX_PORTS)) a b
+
+-- ---- ports
+
+-- the names that ports take
+abbrev pub all_port_names : List Port → List Text
+all_port_names [] = []
+all_port_names (p ∷ ps) = port_names p.name p.range ++ all_port_names ps
+
+net_id : ℕ → NetId
+net_id k = record { 0 = k }
+
+-- numbers in two parts
+numbers_split : (xs ys : List NetId) (from n : ℕ) → xs ++ ys ≡ nets_from from n → (xs ≡ nets_from from (length xs)) × (ys ≡ nets_from (from + length xs) (n - length xs))
+numbers_split [] ys from n e = (refl, e ∙ (let f : from ≡ from + 0 = omega arith in ap (λ k. nets_from k n) f) ∙ (let m : n ≡ n - 0 = omega arith in ap (nets_from (from + 0)) m))
+numbers_split (x ∷ xs) ys from zero e = absurd (cc)
+numbers_split (x ∷ xs) ys from (suc n) e =
+    let tail : xs ++ ys ≡ nets_from (suc from) n = cc in
+    let head : x ≡ record { 0 = from } = cc in
+    let r = numbers_split xs ys (suc from) n tail in
+    let a : suc from + length xs ≡ from + suc (length xs) = omega arith in
+    let b : n - length xs ≡ suc n - suc (length xs) = omega arith in
+    (ap (λ (k : NetId). k ∷ xs) head ∙ ap (λ (ks : List NetId). record { 0 = from } ∷ ks) r.0, r.1 ∙ ap (λ k. nets_from k (n - length xs)) a ∙ ap (nets_from (from + suc (length xs))) b)
+
+abbrev with_parts : Netlist → List Port → List Text → Netlist
+with_parts m ports nets = record m { ports = ports; nets = nets }
+
+-- these ports have numbers from this one on, one for each name
+abbrev AreNumbered : (first : ℕ) → List Port → Type 0
+AreNumbered first [] = Unit {0}
+AreNumbered first (p ∷ ps) = (p.bits ≡ nets_from first (length (bit_names p.name p.range))) × AreNumbered (first + length (bit_names p.name p.range)) ps
+
+numbered_from : (first n : ℕ) (ps : List Port) → ((place : ℕ) (p : Port) → slice_get ps place ≡ Some p → length p.bits ≡ length (bit_names p.name p.range)) → bits_of ps ≡ nets_from first n → AreNumbered first ps
+numbered_from first n [] widths e = tt
+numbered_from first n (p ∷ ps) widths e =
+    let r = numbers_split p.bits (bits_of ps) first n e in
+    let w = widths 0 p refl in
+    (r.0 ∙ ap (nets_from first) w, numbered_from (first + length (bit_names p.name p.range)) (n - length p.bits) ps (λ place q at. widths (suc place) q at) (r.1 ∙ ap (λ k. nets_from (first + k) (n - length p.bits)) w))
+
+cons_taken : (word name : Text) (range : Option Range) → times word (cons_option (vector_name_in name range) []) + times word (bit_names name range) ≡ times word (port_names name range)
+cons_taken word name None = omega arith
+cons_taken word name (Some r) = omega arith
+
+port_room : (m : Netlist) (p : Port) (bits : List NetId) (rest : List Text) → Room m (port_names p.name p.range ++ rest)
+    → Room (with_parts m (m.ports ++ port_of p.name p.dir p.range bits ∷ []) (m.nets ++ bit_names p.name p.range)) rest
+port_room m p bits rest room word =
+    let r = room word in
+    let vs : List Text = filter_map vector_name m.ports in
+    let os : List Text = filter_map instance_name m.instances in
+    let here : List Text = cons_option (vector_name_in p.name p.range) [] in
+    omega (arith, times-append word (port_names p.name p.range) rest, cons_taken word p.name p.range, times-append word m.nets (vs ++ os), times-append word vs os,
+      ap (times word) (filter_map-append vector_name m.ports (port_of p.name p.dir p.range bits ∷ [])), times-append word vs here,
+      times-append word (m.nets ++ bit_names p.name p.range) (filter_map vector_name (m.ports ++ port_of p.name p.dir p.range bits ∷ []) ++ os), times-append word m.nets (bit_names p.name p.range),
+      times-append word (filter_map vector_name (m.ports ++ port_of p.name p.dir p.range bits ∷ [])) os)
+
+add_port-is : (m : Netlist) (p : Port) (rest : List Text) → Room m (port_names p.name p.range ++ rest) → length m.ports + 1 ≤ MAX_PORTS → length m.nets + length (bit_names p.name p.range) ≤ MAX_NETS
+    → p.bits ≡ nets_from (length m.nets) (length (bit_names p.name p.range)) → add_port m p.name p.dir p.range ≡ Ok (with_parts m (m.ports ++ p ∷ []) (m.nets ++ bit_names p.name p.range))
+add_port-is m p rest room ports nets bits =
+    let made : port_of p.name p.dir p.range (nets_from (length m.nets) (length (bit_names p.name p.range))) ≡ p = ap (λ (bs : List NetId). port_of p.name p.dir p.range bs) (sym bits) in
+    ap (λ o. unless_refused o (with_parts m (m.ports ++ port_of p.name p.dir p.range (nets_from (length m.nets) (length (bit_names p.name p.range))) ∷ []) (m.nets ++ bit_names p.name p.range))) (port_taken m p.name p.range rest room ports nets)
+    ∙ ap (λ (q : Port). Ok (with_parts m (m.ports ++ q ∷ []) (m.nets ++ bit_names p.name p.range))) made
+
+-- a netlist with these parts, and room for these names
+record Added (outcome : Grown) (new : Netlist) (rest : List Text) : Type 0 where
+  is : outcome ≡ Ok new
+  room : Room new rest
+
+ports_added : (todo : List Port) (m : Netlist) (rest : List Text) → Room m (all_port_names todo ++ rest) → AreNumbered (length m.nets) todo → length m.ports + length todo ≤ MAX_PORTS → length m.nets + length (bit_names_of todo) ≤ MAX_NETS
+    → Added (add_ports (declared_ports (length m.nets) todo) m) (with_parts m (m.ports ++ todo) (m.nets ++ bit_names_of todo)) rest
+ports_added [] m rest room numbered ports nets =
+    let same : with_parts m (m.ports ++ []) (m.nets ++ []) ≡ m = rw (append-nil m.ports, append-nil m.nets) refl in
+    record { is = ap (λ (x : Netlist). Ok x) (sym same); room = subst (λ (x : Netlist). Room x rest) (sym same) room }
+ports_added (p ∷ todo) m rest room numbered ports nets =
+    let bits : List Text = bit_names p.name p.range in
+    let next = with_parts m (m.ports ++ p ∷ []) (m.nets ++ bits) in
+    let size : length (m.nets ++ bits) ≡ length m.nets + length bits = length-append m.nets bits in
+    let more = length-append bits (bit_names_of todo) in
+    let room_here : Room m (port_names p.name p.range ++ (all_port_names todo ++ rest)) = subst (λ (xs : List Text). Room m xs) (append_assoc (port_names p.name p.range) (all_port_names todo) rest) room in
+    let here = add_port-is m p (all_port_names todo ++ rest) room_here (omega arith) (omega arith) numbered.0 in
+    let later = ports_added todo next rest (port_room m p p.bits (all_port_names todo ++ rest) room_here) (subst (λ k. AreNumbered k todo) (sym size) numbered.1) (omega (arith, length-append m.ports (p ∷ []))) (omega arith) in
+    let ends : with_parts next (next.ports ++ todo) (next.nets ++ bit_names_of todo) ≡ with_parts m (m.ports ++ p ∷ todo) (m.nets ++ bit_names_of (p ∷ todo)) =
+    rw (append_assoc m.ports (p ∷ []) todo, append_assoc m.nets bits (bit_names_of todo)) refl in
+    record {
+      is = ap (λ g. and_grown g (add_ports (declared_ports (length m.nets + length bits) todo))) here ∙ ap (λ k. add_ports (declared_ports k todo) next) (sym size) ∙ later.is ∙ ap (λ (x : Netlist). Ok x) ends;
+      room = subst (λ (x : Netlist). Room x rest) ends later.room;
+    }
