@@ -22,11 +22,11 @@ use Rattle.dft_netlist.specs.declared.limits.TheConstants.{MAX_PORTS, MAX_NETS, 
 use Rattle.dft_netlist.specs.Netlist.{Netlist}
 use Rattle.dft_netlist.specs.Names.{bit_names, port_names, names_taken, is_taken, first_taken, vector_name, vector_name_in, instance_name}
 use Rattle.dft_netlist.specs.NetNumbers.{nets_from}
-use Rattle.dft_netlist.specs.Sound.{IsLive, AreLive, bits_of, bit_names_of, IsAJoin, IsInstance}
+use Rattle.dft_netlist.specs.Sound.{IsLive, AreLive, bits_of, bit_names_of, IsAJoin, IsInstance, IsNetlist}
 use Rattle.dft_netlist.specs.Building.{empty_netlist, port_of, taken_or, port_limit, own_names, port_refusal, net_refusal, instance_refusal}
 use Rattle.dft_netlist.specs.Modules.{HeaderPort, Entry, Draft, count_from, net_count}
 use Rattle.dft_netlist.specs.NetlistText.{nets_of_ports, other_nets, net_order, final_net, final_signal, Grown, unless_refused, and_grown, add_port, add_ports, add_net, add_nets, add_instance, add_instances, final_join, add_joins, names_of_others, built}
-use Rattle.dft_verilog_out.proofs.CountLemmas.{times, times-append, times-head, one_if, has_name-none}
+use Rattle.dft_verilog_out.proofs.CountLemmas.{Once, times, times-append, times-head, one_if, has_name-none}
 use Rattle.dft_verilog_out.proofs.FindLemmas.{position-cons}
 use Rattle.dft_verilog_out.proofs.PhaseLemmas.{stage, declared_ports, net_count-is}
 
@@ -261,3 +261,116 @@ ports_added (p ∷ todo) m rest room numbered ports nets =
       is = ap (λ g. and_grown g (add_ports (declared_ports (length m.nets + length bits) todo))) here ∙ ap (λ k. add_ports (declared_ports k todo) next) (sym size) ∙ later.is ∙ ap (λ (x : Netlist). Ok x) ends;
       room = subst (λ (x : Netlist). Room x rest) ends later.room;
     }
+
+-- ---- other nets
+
+abbrev with_more_nets : Netlist → List Text → Netlist
+with_more_nets m nets = record m { nets = nets }
+
+net_room : (m : Netlist) (w : Text) (rest : List Text) → Room m (w ∷ rest) → Room (with_more_nets m (m.nets ++ w ∷ [])) rest
+net_room m w rest room word =
+    let r = room word in
+    let others : List Text = filter_map vector_name m.ports ++ filter_map instance_name m.instances in
+    omega (arith, times-append word m.nets others, times-append word (m.nets ++ w ∷ []) others, times-append word m.nets (w ∷ []))
+
+net_by : (taken room : Bool) (x y : NetlistError) → taken ≡ false → room ≡ true → cond taken (Some x) (cond room None (Some y)) ≡ None
+net_by true room x y p q = absurd (cc)
+net_by false true x y p q = refl
+net_by false false x y p q = absurd (cc)
+
+nets_added : (ws : List Text) (m : Netlist) (rest : List Text) → Room m (ws ++ rest) → length m.nets + length ws ≤ MAX_NETS → Added (add_nets ws m) (with_more_nets m (m.nets ++ ws)) rest
+nets_added [] m rest room nets =
+    let same : with_more_nets m (m.nets ++ []) ≡ m = rw (append-nil m.nets) refl in
+    record { is = ap (λ (x : Netlist). Ok x) (sym same); room = subst (λ (x : Netlist). Room x rest) (sym same) room }
+nets_added (w ∷ ws) m rest room nets =
+    let next = with_more_nets m (m.nets ++ w ∷ []) in
+    let free : is_taken m w ≡ false = free_by m w (let r = room w in omega (arith, times-head w (ws ++ rest))) in
+    let fits : leb (length m.nets + 1) MAX_NETS ≡ true = grind (arith, nat_tests) in
+    let here : add_net m w ≡ Ok next = ap (λ o. unless_refused o next) (net_by (is_taken m w) (leb (length m.nets + 1) MAX_NETS) (error.DuplicateName w) (error.TooMany counted.Nets (pos MAX_NETS)) free fits) in
+    let later = nets_added ws next rest (net_room m w (ws ++ rest) room) (omega (arith, length-append m.nets (w ∷ []))) in
+    let ends : with_more_nets next (next.nets ++ ws) ≡ with_more_nets m (m.nets ++ w ∷ ws) = rw (append_assoc m.nets (w ∷ []) ws) refl in
+    record { is = ap (λ g. and_grown g (add_nets ws)) here ∙ later.is ∙ ap (λ (x : Netlist). Ok x) ends; room = subst (λ (x : Netlist). Room x rest) ends later.room }
+
+-- ---- instances
+
+abbrev with_more_instances : Netlist → List Instance → Netlist
+with_more_instances m instances = record m { instances = instances }
+
+own_times : (word : Text) (name : Option Text) (rest : List Text) → times word (cons_option name rest) ≡ times word (own_names name) + times word rest
+own_times word None rest = omega arith
+own_times word (Some w) rest = omega arith
+
+instance_room : (m : Netlist) (i : Instance) (rest : List Text) → Room m (cons_option i.name rest) → Room (with_more_instances m (m.instances ++ i ∷ [])) rest
+instance_room m i rest room word =
+    let r = room word in
+    let vs : List Text = filter_map vector_name m.ports in
+    let os : List Text = filter_map instance_name m.instances in
+    let here : List Text = cons_option i.name [] in
+    omega (arith, own_times word i.name rest, own_times word i.name [], times-append word m.nets (vs ++ os), times-append word vs os,
+      ap (times word) (filter_map-append instance_name m.instances (i ∷ [])), times-append word os here,
+      times-append word m.nets (vs ++ filter_map instance_name (m.instances ++ i ∷ [])), times-append word vs (filter_map instance_name (m.instances ++ i ∷ [])))
+
+own_free : (m : Netlist) (name : Option Text) (rest : List Text) → Room m (cons_option name rest) → first_taken m (own_names name) ≡ None
+own_free m None rest room = refl
+own_free m (Some w) rest room = none_taken m (w ∷ []) (λ word some. let r = room word in omega arith)
+
+instances_added : (order : List ℕ) (count : ℕ) (todo : List Instance) (m : Netlist) → order ≡ count_from 0 count → ((place : ℕ) (i : Instance) → slice_get todo place ≡ Some i → AreLive count i.pins)
+    → Room m (filter_map instance_name todo) → length m.instances + length todo ≤ MAX_INSTANCES → add_instances order todo m ≡ Ok (with_more_instances m (m.instances ++ todo))
+instances_added order count [] m ordered live room few = ap (λ (is : List Instance). Ok (with_more_instances m is)) (sym (append-nil m.instances))
+instances_added order count (i ∷ todo) m ordered live room few =
+    let next = with_more_instances m (m.instances ++ i ∷ []) in
+    let same : map (final_signal order) i.pins ≡ i.pins = ap (λ (ks : List ℕ). map (final_signal ks) i.pins) ordered ∙ pins_same count i.pins (live 0 i refl) in
+    let fits : leb (length m.instances + 1) MAX_INSTANCES ≡ true = grind (arith, nat_tests) in
+    let rest : List Text = filter_map instance_name todo in
+    let allowed : instance_refusal m i.name ≡ None =
+    ap (λ o. taken_or o (cond (leb (length m.instances + 1) MAX_INSTANCES) None (Some (error.TooMany counted.Instances (pos MAX_INSTANCES))))) (own_free m i.name rest room) ∙ ap (λ t. cond t None (Some (error.TooMany counted.Instances (pos MAX_INSTANCES)))) fits in
+    let here : add_instance order m i ≡ Ok next =
+    ap (λ o. unless_refused o (with_more_instances m (m.instances ++ record { name = i.name; cell = i.cell; pins = map (final_signal order) i.pins } ∷ []))) allowed
+    ∙ ap (λ (ss : List Signal). Ok (with_more_instances m (m.instances ++ record { name = i.name; cell = i.cell; pins = ss } ∷ []))) same in
+    ap (λ g. and_grown g (add_instances order todo)) here
+    ∙ instances_added order count todo next ordered (λ place j at. live (suc place) j at) (instance_room m i rest room) (omega (arith, length-append m.instances (i ∷ [])))
+    ∙ ap (λ (is : List Instance). Ok (with_more_instances m is)) (append_assoc m.instances (i ∷ []) todo)
+
+-- ---- the whole
+
+names_of_all : (n : Netlist) (ws : List Text) → n.nets ≡ bit_names_of n.ports ++ ws → Once (names_taken n) → Room (empty_netlist n.name n.library) (all_port_names n.ports ++ (ws ++ filter_map instance_name n.instances))
+names_of_all n ws nets once word =
+    let o = once word in
+    let owns : List Text = filter_map instance_name n.instances in
+    omega (arith, times_all word n.ports, ap (times word) nets, times-append word (bit_names_of n.ports) ws, times-append word n.nets (filter_map vector_name n.ports ++ owns), times-append word (filter_map vector_name n.ports) owns,
+      times-append word (all_port_names n.ports) (ws ++ owns), times-append word ws owns)
+  where
+    one_by : (name : Text) (range : Option Range) (bs vs : List Text) → times word (port_names name range) + (times word bs + times word vs) ≡ times word (bit_names name range ++ bs) + times word (cons_option (vector_name_in name range) vs)
+    one_by name None bs vs = omega arith
+    one_by name (Some r) bs vs = omega (arith, times-append word (bit_names name (Some r)) bs)
+
+    times_all : (word' : Text) (ps : List Port) → times word (all_port_names ps) ≡ times word (bit_names_of ps) + times word (filter_map vector_name ps)
+    times_all word' [] = refl
+    times_all word' (p ∷ ps) = omega (arith, times-append word (port_names p.name p.range) (all_port_names ps), times_all word' ps, one_by p.name p.range (bit_names_of ps) (filter_map vector_name ps))
+
+-- the draft of a text that was written is built to the netlist
+pub draft_built : (n : Netlist) (names : List Entry) (ws : List Text) → IsNetlist n → n.nets ≡ bit_names_of n.ports ++ ws → Once (names_taken n) → built (stage n names (declared_ports 0 n.ports) (bit_names_of n.ports ++ ws) n.instances n.joins) ≡ Ok n
+unfolding built
+draft_built n names ws sound nets once =
+    let d = stage n names (declared_ports 0 n.ports) (bit_names_of n.ports ++ ws) n.instances n.joins in
+    let owns : List Text = filter_map instance_name n.instances in
+    let start = empty_netlist n.name n.library in
+    let size : length n.nets ≡ length (bit_names_of n.ports) + length ws = ap length nets ∙ length-append (bit_names_of n.ports) ws in
+    let few = sound.few_nets in
+    let count : ℕ = length d.nets in
+    let count_is : count ≡ length n.nets = ap length (sym nets) in
+    let ports = ports_added n.ports start (ws ++ owns) (names_of_all n ws nets once) (numbered_from 0 (length (bits_of n.ports)) n.ports sound.widths sound.numbered) (let p = sound.few_ports in omega arith) (omega arith) in
+    let with_ports = with_parts start n.ports (bit_names_of n.ports) in
+    let others = nets_added ws with_ports owns ports.room (omega arith) in
+    let with_nets = with_more_nets with_ports (bit_names_of n.ports ++ ws) in
+    let ordered = order_count d n.ports ws refl refl in
+    let joins : map (final_join (net_order d)) n.joins ≡ n.joins =
+    ap (λ (ks : List ℕ). map (final_join ks) n.joins) ordered ∙ joins_same count n.joins (λ place j at. subst (λ k. IsAJoin k j.target j.source) (sym count_is) (sound.joins place j at)) in
+    let with_joins : Netlist = record with_nets { joins = n.joins } in
+    let joined : add_joins (net_order d) n.joins with_nets ≡ with_joins = ap (λ (js : List Join). record with_nets { joins = js }) joins in
+    let all = instances_added (net_order d) count n.instances with_joins ordered (λ place i at. subst (λ k. AreLive k i.pins) (sym count_is) (sound.instances place i at).live) others.room (let i = sound.few_instances in omega arith) in
+    ap (λ g. and_grown g (λ m. and_grown (add_nets (names_of_others d) m) (λ k. add_instances (net_order d) n.instances (add_joins (net_order d) n.joins k)))) ports.is
+    ∙ ap (λ (xs : List Text). and_grown (add_nets xs with_ports) (λ k. add_instances (net_order d) n.instances (add_joins (net_order d) n.joins k))) (others_named d n.ports ws refl refl)
+    ∙ ap (λ g. and_grown g (λ k. add_instances (net_order d) n.instances (add_joins (net_order d) n.joins k))) others.is
+    ∙ ap (add_instances (net_order d) n.instances) joined ∙ all
+    ∙ ap (λ (xs : List Text). Ok (record n { nets = xs })) (sym nets)
