@@ -13,3 +13,4 @@ pub mod PartLemmas
 pub mod HeaderLemmas
 pub mod KnownLemmas
 pub mod BuiltLemmas
+pub mod RoundTrip
