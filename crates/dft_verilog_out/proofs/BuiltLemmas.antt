@@ -225,10 +225,18 @@ port_room m p bits rest room word =
     let vs : List Text = filter_map vector_name m.ports in
     let os : List Text = filter_map instance_name m.instances in
     let here : List Text = cons_option (vector_name_in p.name p.range) [] in
-    omega (arith, times-append word (port_names p.name p.range) rest, cons_taken word p.name p.range, times-append word m.nets (vs ++ os), times-append word vs os,
-      ap (times word) (filter_map-append vector_name m.ports (port_of p.name p.dir p.range bits ∷ [])), times-append word vs here,
-      times-append word (m.nets ++ bit_names p.name p.range) (filter_map vector_name (m.ports ++ port_of p.name p.dir p.range bits ∷ []) ++ os), times-append word m.nets (bit_names p.name p.range),
-      times-append word (filter_map vector_name (m.ports ++ port_of p.name p.dir p.range bits ∷ [])) os)
+    omega (
+      arith,
+      times-append word (port_names p.name p.range) rest,
+      cons_taken word p.name p.range,
+      times-append word m.nets (vs ++ os),
+      times-append word vs os,
+      ap (times word) (filter_map-append vector_name m.ports (port_of p.name p.dir p.range bits ∷ [])),
+      times-append word vs here,
+      times-append word (m.nets ++ bit_names p.name p.range) (filter_map vector_name (m.ports ++ port_of p.name p.dir p.range bits ∷ []) ++ os),
+      times-append word m.nets (bit_names p.name p.range),
+      times-append word (filter_map vector_name (m.ports ++ port_of p.name p.dir p.range bits ∷ [])) os,
+    )
 
 add_port-is : (m : Netlist) (p : Port) (rest : List Text) → Room m (port_names p.name p.range ++ rest) → length m.ports + 1 ≤ MAX_PORTS → length m.nets + length (bit_names p.name p.range) ≤ MAX_NETS
     → p.bits ≡ nets_from (length m.nets) (length (bit_names p.name p.range)) → add_port m p.name p.dir p.range ≡ Ok (with_parts m (m.ports ++ p ∷ []) (m.nets ++ bit_names p.name p.range))
@@ -306,9 +314,17 @@ instance_room m i rest room word =
     let vs : List Text = filter_map vector_name m.ports in
     let os : List Text = filter_map instance_name m.instances in
     let here : List Text = cons_option i.name [] in
-    omega (arith, own_times word i.name rest, own_times word i.name [], times-append word m.nets (vs ++ os), times-append word vs os,
-      ap (times word) (filter_map-append instance_name m.instances (i ∷ [])), times-append word os here,
-      times-append word m.nets (vs ++ filter_map instance_name (m.instances ++ i ∷ [])), times-append word vs (filter_map instance_name (m.instances ++ i ∷ [])))
+    omega (
+      arith,
+      own_times word i.name rest,
+      own_times word i.name [],
+      times-append word m.nets (vs ++ os),
+      times-append word vs os,
+      ap (times word) (filter_map-append instance_name m.instances (i ∷ [])),
+      times-append word os here,
+      times-append word m.nets (vs ++ filter_map instance_name (m.instances ++ i ∷ [])),
+      times-append word vs (filter_map instance_name (m.instances ++ i ∷ [])),
+    )
 
 own_free : (m : Netlist) (name : Option Text) (rest : List Text) → Room m (cons_option name rest) → first_taken m (own_names name) ≡ None
 own_free m None rest room = refl
@@ -337,8 +353,16 @@ names_of_all : (n : Netlist) (ws : List Text) → n.nets ≡ bit_names_of n.port
 names_of_all n ws nets once word =
     let o = once word in
     let owns : List Text = filter_map instance_name n.instances in
-    omega (arith, times_all word n.ports, ap (times word) nets, times-append word (bit_names_of n.ports) ws, times-append word n.nets (filter_map vector_name n.ports ++ owns), times-append word (filter_map vector_name n.ports) owns,
-      times-append word (all_port_names n.ports) (ws ++ owns), times-append word ws owns)
+    omega (
+      arith,
+      times_all word n.ports,
+      ap (times word) nets,
+      times-append word (bit_names_of n.ports) ws,
+      times-append word n.nets (filter_map vector_name n.ports ++ owns),
+      times-append word (filter_map vector_name n.ports) owns,
+      times-append word (all_port_names n.ports) (ws ++ owns),
+      times-append word ws owns,
+    )
   where
     one_by : (name : Text) (range : Option Range) (bs vs : List Text) → times word (port_names name range) + (times word bs + times word vs) ≡ times word (bit_names name range ++ bs) + times word (cons_option (vector_name_in name range) vs)
     one_by name None bs vs = omega arith

@@ -168,7 +168,7 @@ apart_net_vector n word differ = elim (none_or_some (times word n.nets)) [
   | inr some ↦ (
       let net = times-where n.nets word some in
       inr (shown-zero vector_name n.ports word (λ k at.
-          let e : named.Net (record { 0 = net.0 }) ≡ named.Vector (record { 0 = k }) = differ word (named.Net (record { 0 = net.0 })) (named.Vector (record { 0 = k })) net.1 at in let f : ⊥ = cc in f)))
+      let e : named.Net (record { 0 = net.0 }) ≡ named.Vector (record { 0 = k }) = differ word (named.Net (record { 0 = net.0 })) (named.Vector (record { 0 = k })) net.1 at in let f : ⊥ = cc in f)))
 ]
 
 apart_net_instance : (n : Netlist) (word : Text) → NamesDiffer n → (times word n.nets ≡ 0) ⊎ (times word (filter_map instance_name n.instances) ≡ 0)
@@ -177,7 +177,7 @@ apart_net_instance n word differ = elim (none_or_some (times word n.nets)) [
   | inr some ↦ (
       let net = times-where n.nets word some in
       inr (shown-zero instance_name n.instances word (λ k at.
-          let e : named.Net (record { 0 = net.0 }) ≡ named.Instance (record { 0 = k }) = differ word (named.Net (record { 0 = net.0 })) (named.Instance (record { 0 = k })) net.1 at in let f : ⊥ = cc in f)))
+      let e : named.Net (record { 0 = net.0 }) ≡ named.Instance (record { 0 = k }) = differ word (named.Net (record { 0 = net.0 })) (named.Instance (record { 0 = k })) net.1 at in let f : ⊥ = cc in f)))
 ]
 
 apart_vector_instance : (n : Netlist) (word : Text) → NamesDiffer n → (times word (filter_map vector_name n.ports) ≡ 0) ⊎ (times word (filter_map instance_name n.instances) ≡ 0)
@@ -186,7 +186,7 @@ apart_vector_instance n word differ = elim (none_or_some (times word (filter_map
   | inr some ↦ (
       let port = shown-where vector_name n.ports word some in
       inr (shown-zero instance_name n.instances word (λ k at.
-          let e : named.Vector (record { 0 = port.0 }) ≡ named.Instance (record { 0 = k }) = differ word (named.Vector (record { 0 = port.0 })) (named.Instance (record { 0 = k })) port.1 at in let f : ⊥ = cc in f)))
+      let e : named.Vector (record { 0 = port.0 }) ≡ named.Instance (record { 0 = k }) = differ word (named.Vector (record { 0 = port.0 })) (named.Instance (record { 0 = k })) port.1 at in let f : ⊥ = cc in f)))
 ]
 
 at_most_one : (a b c : ℕ) → a ≤ 1 → b ≤ 1 → c ≤ 1 → (a ≡ 0) ⊎ (b ≡ 0) → (a ≡ 0) ⊎ (c ≡ 0) → (b ≡ 0) ⊎ (c ≡ 0) → a + (b + c) ≤ 1

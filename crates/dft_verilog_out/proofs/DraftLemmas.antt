@@ -115,10 +115,10 @@ declare_wire-is place word d free room =
 pub declare_port-is : (place port : ℕ) (word : Text) (dir : Dir) (range : Option Range) (d : Draft) (e : Entry) → look d.names word ≡ Some e → e.meaning ≡ meaning.Port port
     → declared_at d port ≡ None → Fresh d.names (names_of_bits word range) → length d.nets + net_count range ≤ MAX_NETS
     → declare_port place word dir range d ≡ Ok (record d {
-        names = d.names ++ bit_entries (names_of_bits word range);
-        ports = slice_set d.ports port (record { name = word; declared = Some (record { dir = dir; shape = next_shape d range; repeated = false }) });
-        nets = d.nets ++ bit_names word range;
-      })
+      names = d.names ++ bit_entries (names_of_bits word range);
+      ports = slice_set d.ports port (record { name = word; declared = Some (record { dir = dir; shape = next_shape d range; repeated = false }) });
+      nets = d.nets ++ bit_names word range;
+    })
 declare_port-is place port word dir range d e found is undeclared fresh room =
     let known : meaning_of d word ≡ Some (meaning.Port port) = meaning_some d word e found ∙ ap Some is in
     rw (known, undeclared, first_taken-none d (names_of_bits word range) fresh, room_is (length d.nets) (net_count range) room)

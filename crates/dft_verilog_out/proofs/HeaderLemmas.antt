@@ -76,8 +76,8 @@ header_read n (p ∷ ps) others rest good once room =
     let behind : Text = listed_behind (codes ", ") (header_texts ps) ++ 41 ∷ rest in
     let is : listed (header_texts (p ∷ ps)) ++ 41 ∷ rest ≡ name_text p.name ++ behind = append_assoc (name_text p.name) (listed_behind (codes ", ") (header_texts ps)) (41 ∷ rest) in
     first_token d p ps behind refl good.0.name (λ l ts at size.
-        ap (λ t. header_names d (cut_up t)) is ∙ ap (header_names d) at ∙ header_names-some d p.name (suc l) ts ∙ ap (announced_names_from (suc l) d) (sym at)
-        ∙ names_read (suc l) n p ps [] [] others rest good (omega (arith, size, listed_long (header_texts ps) rest, length-map ps (λ (q : Port). name_text q.name), length-append (name_text p.name) behind)) once (omega arith))
+    ap (λ t. header_names d (cut_up t)) is ∙ ap (header_names d) at ∙ header_names-some d p.name (suc l) ts ∙ ap (announced_names_from (suc l) d) (sym at)
+    ∙ names_read (suc l) n p ps [] [] others rest good (omega (arith, size, listed_long (header_texts ps) rest, length-map ps (λ (q : Port). name_text q.name), length-append (name_text p.name) behind)) once (omega arith))
   where
     first_token : {P : Type 0} (d : Draft) (p : Port) (ps : List Port) (behind : Text) → behind ≡ listed_behind (codes ", ") (header_texts ps) ++ 41 ∷ rest → IsName p.name
         → ((l : ℕ) (ts : List Token) → cut_up (name_text p.name ++ behind) ≡ token kind.Name p.name (suc l) ∷ ts → length (name_text p.name ++ behind) ≡ suc l → P) → P
@@ -94,14 +94,14 @@ header_opens [] rest = record { first = 41; others = rest; is = refl; other = λ
 header_opens (p ∷ ps) rest =
     subst Opens (sym (append_assoc (name_text p.name) (listed_behind (codes ", ") (header_texts ps)) (41 ∷ rest))) (name_opens p.name (listed_behind (codes ", ") (header_texts ps) ++ 41 ∷ rest))
 
-heading_parts : (n : Netlist) (rest : Text) → heading n ++ rest ≡ codes "module " ++ (name_text n.name ++ 32 ∷ 40 ∷ (listed (header_texts n.ports) ++ 41 ∷ 59 ∷ 10 ∷ rest))
+heading_parts : (n : Netlist) (rest : Text) → heading n.name n.ports ++ rest ≡ codes "module " ++ (name_text n.name ++ 32 ∷ 40 ∷ (listed (header_texts n.ports) ++ 41 ∷ 59 ∷ 10 ∷ rest))
 unfolding heading
 heading_parts n rest =
     ap (λ t. codes "module " ++ t) (append_assoc (name_text n.name) (codes " (" ++ (listed (header_texts n.ports) ++ codes ");\n")) rest
     ∙ ap (λ t. name_text n.name ++ (32 ∷ 40 ∷ t)) (append_assoc (listed (header_texts n.ports)) (codes ");\n") rest))
 
 pub heading_read : (n : Netlist) (others : List Text) (rest : Text) → IsName n.name → GoodPorts n.ports → Once (header_words n.ports ++ others) → length n.ports ≤ MAX_PORTS
-    → text.heading n.library (cut_up (heading n ++ rest)) ≡ Ok (stage n (header_entries 0 n.ports) (undeclared n.ports) [] [] [], cut_up rest)
+    → text.heading n.library (cut_up (heading n.name n.ports ++ rest)) ≡ Ok (stage n (header_entries 0 n.ports) (undeclared n.ports) [] [] [], cut_up rest)
 heading_read n others rest name good once room =
     let inside : Text = listed (header_texts n.ports) ++ 41 ∷ 59 ∷ 10 ∷ rest in
     let w = name_at n.name 32 (40 ∷ inside) name refl in

@@ -229,26 +229,26 @@ pub named_gate_read : (k : Kind) (d named : Draft) (name : Text) (nets : List Te
     → Line (gate_form nets k (Some name) output ins) d (with_instance (gate_instance k (Some name) output ins) named)
 named_gate_read k d named name nets output ins g is_name says =
     gate_line_of k (Some name) (listed (map (signal_text nets) (output ∷ ins))) d (with_instance (gate_instance k (Some name) output ins) named) g.primitive (λ rest.
-        let inside : Text = listed (map (signal_text nets) (output ∷ ins)) in
-        let n = name_at name 32 (40 ∷ bracketed inside rest) is_name refl in
-        ap (λ t. item d (cut_up t)) (form_parts (gate_text k) (Some name) inside rest)
-        ∙ ap (item d) (cut_up-gate k (name_text name ++ 32 ∷ 40 ∷ bracketed inside rest) g.primitive ∙ ap (λ ts. token (gate_token k) (gate_text k) (length (gate_text k ++ 32 ∷ (name_text name ++ 32 ∷ 40 ∷ bracketed inside rest))) ∷ ts)
-        (n.at ∙ ap (λ ts. token kind.Name name (suc n.left) ∷ ts) (open_at inside rest (gate_opens named nets k output ins rest g))))
-        ∙ gate-named k d named (with_instance (gate_instance k (Some name) output ins) named) name (gate_text k) _ n.left (suc (length (bracketed inside rest))) (suc (suc (length rest))) (cut_up (bracketed inside rest)) (cut_up rest) g.primitive (says (suc n.left))
-        (terminals_read k named (Some name) nets output ins (suc (length (bracketed inside rest))) (59 ∷ 10 ∷ rest) g.output_reads g.inputs_read g.fits
-        ∙ ap (λ ts. Ok (with_instance (gate_instance k (Some name) output ins) named, ts)) (semicolon_line rest)))
+    let inside : Text = listed (map (signal_text nets) (output ∷ ins)) in
+    let n = name_at name 32 (40 ∷ bracketed inside rest) is_name refl in
+    ap (λ t. item d (cut_up t)) (form_parts (gate_text k) (Some name) inside rest)
+    ∙ ap (item d) (cut_up-gate k (name_text name ++ 32 ∷ 40 ∷ bracketed inside rest) g.primitive ∙ ap (λ ts. token (gate_token k) (gate_text k) (length (gate_text k ++ 32 ∷ (name_text name ++ 32 ∷ 40 ∷ bracketed inside rest))) ∷ ts)
+    (n.at ∙ ap (λ ts. token kind.Name name (suc n.left) ∷ ts) (open_at inside rest (gate_opens named nets k output ins rest g))))
+    ∙ gate-named k d named (with_instance (gate_instance k (Some name) output ins) named) name (gate_text k) _ n.left (suc (length (bracketed inside rest))) (suc (suc (length rest))) (cut_up (bracketed inside rest)) (cut_up rest) g.primitive (says (suc n.left))
+    (terminals_read k named (Some name) nets output ins (suc (length (bracketed inside rest))) (59 ∷ 10 ∷ rest) g.output_reads g.inputs_read g.fits
+    ∙ ap (λ ts. Ok (with_instance (gate_instance k (Some name) output ins) named, ts)) (semicolon_line rest)))
 
 pub unnamed_gate_read : (k : Kind) (d : Draft) (nets : List Text) (output : Signal) (ins : List Signal) → IsGate d nets k output ins → ((place : ℕ) → room_for_instance place d ≡ Ok d)
     → Line (gate_form nets k None output ins) d (with_instance (gate_instance k None output ins) d)
 unnamed_gate_read k d nets output ins g says =
     gate_line_of k None (listed (map (signal_text nets) (output ∷ ins))) d (with_instance (gate_instance k None output ins) d) g.primitive (λ rest.
-        let inside : Text = listed (map (signal_text nets) (output ∷ ins)) in
-        ap (λ t. item d (cut_up t)) (form_parts (gate_text k) None inside rest)
-        ∙ ap (item d) (cut_up-gate k (40 ∷ bracketed inside rest) g.primitive ∙ ap (λ ts. token (gate_token k) (gate_text k) (length (gate_text k ++ 32 ∷ 40 ∷ bracketed inside rest)) ∷ ts)
-        (cut_up-opened (bracketed inside rest) (gate_opens d nets k output ins rest g)))
-        ∙ gate-unnamed k d (with_instance (gate_instance k None output ins) d) (gate_text k) _ (length (bracketed inside rest)) (suc (suc (length rest))) (cut_up (bracketed inside rest)) (cut_up rest) g.primitive (says (suc (length (bracketed inside rest))))
-        (terminals_read k d None nets output ins (suc (length (bracketed inside rest))) (59 ∷ 10 ∷ rest) g.output_reads g.inputs_read g.fits
-        ∙ ap (λ ts. Ok (with_instance (gate_instance k None output ins) d, ts)) (semicolon_line rest)))
+    let inside : Text = listed (map (signal_text nets) (output ∷ ins)) in
+    ap (λ t. item d (cut_up t)) (form_parts (gate_text k) None inside rest)
+    ∙ ap (item d) (cut_up-gate k (40 ∷ bracketed inside rest) g.primitive ∙ ap (λ ts. token (gate_token k) (gate_text k) (length (gate_text k ++ 32 ∷ 40 ∷ bracketed inside rest)) ∷ ts)
+    (cut_up-opened (bracketed inside rest) (gate_opens d nets k output ins rest g)))
+    ∙ gate-unnamed k d (with_instance (gate_instance k None output ins) d) (gate_text k) _ (length (bracketed inside rest)) (suc (suc (length rest))) (cut_up (bracketed inside rest)) (cut_up rest) g.primitive (says (suc (length (bracketed inside rest))))
+    (terminals_read k d None nets output ins (suc (length (bracketed inside rest))) (59 ∷ 10 ∷ rest) g.output_reads g.inputs_read g.fits
+    ∙ ap (λ ts. Ok (with_instance (gate_instance k None output ins) d, ts)) (semicolon_line rest)))
 
 -- ---- instances of cells
 

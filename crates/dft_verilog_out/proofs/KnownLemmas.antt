@@ -73,17 +73,19 @@ module _ (names : List Entry) (ports : List HeaderPort) (word : Text) (r : Range
   bits_up zero j from e le = tt
   bits_up (suc count) j from e le =
       let i = index_up (nat_le r.right r.left) r j refl (omega arith) in
-      let next : first + suc j ≡ suc (first + j) = omega arith in
-      (bit_at from j (first + j) (let s = small.1 in omega arith) (ap (has_index r) e ∙ i.0) (ap (place_in r) e ∙ i.1) refl,
-        subst (λ k. TextsAt names ports k (map (bit_text word) (going_up (suc from) count))) next (bits_up count (suc j) (suc from) (omega arith) (omega arith)))
+      let next : first + suc j ≡ suc (first + j) = omega arith in (
+        bit_at from j (first + j) (let s = small.1 in omega arith) (ap (has_index r) e ∙ i.0) (ap (place_in r) e ∙ i.1) refl,
+        subst (λ k. TextsAt names ports k (map (bit_text word) (going_up (suc from) count))) next (bits_up count (suc j) (suc from) (omega arith) (omega arith)),
+      )
 
   bits_down : (count j from : ℕ) → r.right < r.left → from ≡ r.left - j → j + count + r.right ≤ suc r.left → TextsAt names ports (first + j) (map (bit_text word) (going_down from count))
   bits_down zero j from lt e le = tt
   bits_down (suc count) j from lt e le =
       let i = index_down r j lt (omega arith) in
-      let next : first + suc j ≡ suc (first + j) = omega arith in
-      (bit_at from j (first + j) (let s = small.0 in omega arith) (ap (has_index r) e ∙ i.0) (ap (place_in r) e ∙ i.1) refl,
-        subst (λ k. TextsAt names ports k (map (bit_text word) (going_down (from - 1) count))) next (bits_down count (suc j) (from - 1) lt (omega arith) (omega arith)))
+      let next : first + suc j ≡ suc (first + j) = omega arith in (
+        bit_at from j (first + j) (let s = small.0 in omega arith) (ap (has_index r) e ∙ i.0) (ap (place_in r) e ∙ i.1) refl,
+        subst (λ k. TextsAt names ports k (map (bit_text word) (going_down (from - 1) count))) next (bits_down count (suc j) (from - 1) lt (omega arith) (omega arith)),
+      )
 
   vector_by : (t : Bool) → nat_le r.left r.right ≡ t → TextsAt names ports first (map (bit_text word) (indices_of r))
   vector_by true is =
@@ -114,10 +116,11 @@ PortsFrom ports place first (p ∷ ps) = (option_and_then (λ (h : HeaderPort). 
 
 ports_from : (done : List HeaderPort) (first : ℕ) (ps : List Port) (place : ℕ) → place ≡ length done → PortsFrom (done ++ declared_ports first ps) place first ps
 ports_from done first [] place e = tt
-ports_from done first (p ∷ ps) place e =
-    (get_at done (declared_ports (first + length (bit_names p.name p.range)) ps) (declared_port first p) place e,
-      subst (λ (xs : List HeaderPort). PortsFrom xs (suc place) (first + length (bit_names p.name p.range)) ps) (append_assoc done (declared_port first p ∷ []) (declared_ports (first + length (bit_names p.name p.range)) ps))
-      (ports_from (done ++ declared_port first p ∷ []) (first + length (bit_names p.name p.range)) ps (suc place) (omega (arith, length-append done (declared_port first p ∷ [])))))
+ports_from done first (p ∷ ps) place e = (
+  get_at done (declared_ports (first + length (bit_names p.name p.range)) ps) (declared_port first p) place e,
+  subst (λ (xs : List HeaderPort). PortsFrom xs (suc place) (first + length (bit_names p.name p.range)) ps) (append_assoc done (declared_port first p ∷ []) (declared_ports (first + length (bit_names p.name p.range)) ps))
+      (ports_from (done ++ declared_port first p ∷ []) (first + length (bit_names p.name p.range)) ps (suc place) (omega (arith, length-append done (declared_port first p ∷ [])))),
+)
 
 ports_at : (names : List Entry) (ports : List HeaderPort) (ps : List Port) (place first : ℕ) → GoodPorts ps → AreAnnounced names place ps → PortsFrom ports place first ps → TextsAt names ports first (flat_map port_texts ps)
 ports_at names ports [] place first good known there = tt
@@ -139,17 +142,19 @@ announced_at es place [] rest once = tt
 announced_at es place (p ∷ ps) rest once =
     let e : Entry = entry p.name (meaning.Port place) in
     let later : Once (words (es ++ e ∷ []) ++ (header_words ps ++ rest)) =
-    subst Once (sym (append_assoc (words es) (p.name ∷ []) (header_words ps ++ rest)) ∙ ap (λ ws. ws ++ (header_words ps ++ rest)) (sym (words-append es (e ∷ [])))) once in
-    (record { name = p.name; at = look-new es (header_entries (suc place) ps) e (new_here es p.name (header_words ps ++ rest) once) },
-      subst (λ (xs : List Entry). AreAnnounced xs (suc place) ps) (append_assoc es (e ∷ []) (header_entries (suc place) ps)) (announced_at (es ++ e ∷ []) (suc place) ps rest later))
+    subst Once (sym (append_assoc (words es) (p.name ∷ []) (header_words ps ++ rest)) ∙ ap (λ ws. ws ++ (header_words ps ++ rest)) (sym (words-append es (e ∷ [])))) once in (
+      record { name = p.name; at = look-new es (header_entries (suc place) ps) e (new_here es p.name (header_words ps ++ rest) once) },
+      subst (λ (xs : List Entry). AreAnnounced xs (suc place) ps) (append_assoc es (e ∷ []) (header_entries (suc place) ps)) (announced_at (es ++ e ∷ []) (suc place) ps rest later),
+    )
 
 wires_at : (es : List Entry) (ports : List HeaderPort) (first : ℕ) (ws rest : List Text) → AllNames ws → Once (words es ++ (ws ++ rest)) → TextsAt (es ++ wire_entries first ws) ports first (map name_text ws)
 wires_at es ports first [] rest good once = tt
 wires_at es ports first (w ∷ ws) rest good once =
     let e : Entry = entry w (meaning.Nets (record { range = None; first = record { 0 = first } })) in
-    let later : Once (words (es ++ e ∷ []) ++ (ws ++ rest)) = subst Once (sym (append_assoc (words es) (w ∷ []) (ws ++ rest)) ∙ ap (λ xs. xs ++ (ws ++ rest)) (sym (words-append es (e ∷ [])))) once in
-    (Whole w refl good.0 (AsNets w (look-new es (wire_entries (suc first) ws) e (new_here es w (ws ++ rest) once))),
-      subst (λ (xs : List Entry). TextsAt xs ports (suc first) (map name_text ws)) (append_assoc es (e ∷ []) (wire_entries (suc first) ws)) (wires_at (es ++ e ∷ []) ports (suc first) ws rest good.1 later))
+    let later : Once (words (es ++ e ∷ []) ++ (ws ++ rest)) = subst Once (sym (append_assoc (words es) (w ∷ []) (ws ++ rest)) ∙ ap (λ xs. xs ++ (ws ++ rest)) (sym (words-append es (e ∷ [])))) once in (
+      Whole w refl good.0 (AsNets w (look-new es (wire_entries (suc first) ws) e (new_here es w (ws ++ rest) once))),
+      subst (λ (xs : List Entry). TextsAt xs ports (suc first) (map name_text ws)) (append_assoc es (e ∷ []) (wire_entries (suc first) ws)) (wires_at (es ++ e ∷ []) ports (suc first) ws rest good.1 later),
+    )
 
 -- all nets of a draft are read where they are written
 pub all_nets_at : (es : List Entry) (ports : List HeaderPort) (ps : List Port) (ws rest : List Text) (bits : ℕ) → bits ≡ length (flat_map port_texts ps) → GoodPorts ps → AllNames ws → AreAnnounced (es ++ wire_entries bits ws) 0 ps → ports ≡ declared_ports 0 ps
@@ -178,5 +183,14 @@ pub text_names_once : (n : Netlist) (ws : List Text) → n.nets ≡ bit_names_of
 text_names_once n ws nets once word =
     let o = once word in
     let owns : List Text = filter_map instance_name n.instances in
-    omega (arith, times-ports word n.ports, ap (times word) nets, times-append word (bit_names_of n.ports) ws, times-append word n.nets (filter_map vector_name n.ports ++ owns), times-append word (filter_map vector_name n.ports) owns,
-      times-append word (header_words n.ports) (bit_words n.ports ++ (ws ++ owns)), times-append word (bit_words n.ports) (ws ++ owns), times-append word ws owns)
+    omega (
+      arith,
+      times-ports word n.ports,
+      ap (times word) nets,
+      times-append word (bit_names_of n.ports) ws,
+      times-append word n.nets (filter_map vector_name n.ports ++ owns),
+      times-append word (filter_map vector_name n.ports) owns,
+      times-append word (header_words n.ports) (bit_words n.ports ++ (ws ++ owns)),
+      times-append word (bit_words n.ports) (ws ++ owns),
+      times-append word ws owns,
+    )

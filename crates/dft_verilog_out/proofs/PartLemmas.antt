@@ -198,11 +198,12 @@ pins_of d texts cell all place [] [] c w ps ss = tt
 pins_of d texts cell all place [] (to ∷ signals) c w ps ss = absurd (omega arith)
 pins_of d texts cell all place (pin ∷ pins) [] c w ps ss = absurd (omega arith)
 pins_of d texts cell all place (pin ∷ pins) (to ∷ signals) c w ps ss =
-    let here : place + 0 ≡ place = omega arith in
-    (pin_of d texts cell all place pin to c (ap (slice_get cell.pins) (sym here) ∙ ps 0 pin refl) (ap (slice_get all) (sym here) ∙ ss 0 to refl),
+    let here : place + 0 ≡ place = omega arith in (
+      pin_of d texts cell all place pin to c (ap (slice_get cell.pins) (sym here) ∙ ps 0 pin refl) (ap (slice_get all) (sym here) ∙ ss 0 to refl),
       pins_of d texts cell all (suc place) pins signals c (omega arith)
-      (λ k p at. let e : suc place + k ≡ place + suc k = omega arith in ap (slice_get cell.pins) e ∙ ps (suc k) p at)
-      (λ k s at. let e : suc place + k ≡ place + suc k = omega arith in ap (slice_get all) e ∙ ss (suc k) s at))
+          (λ k p at. let e : suc place + k ≡ place + suc k = omega arith in ap (slice_get cell.pins) e ∙ ps (suc k) p at)
+          (λ k s at. let e : suc place + k ≡ place + suc k = omega arith in ap (slice_get all) e ∙ ss (suc k) s at),
+    )
 
 from_zero : {X : Type 0} (xs : List X) (k : ℕ) (x : X) → slice_get xs k ≡ Some x → slice_get xs (0 + k) ≡ Some x
 from_zero xs k x at = let e : 0 + k ≡ k = omega arith in ap (slice_get xs) e ∙ at

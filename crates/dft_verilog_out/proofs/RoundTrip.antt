@@ -154,7 +154,7 @@ module_read : (n : Netlist) → IsWritten n → value_of (module_text n.library 
 unfolding written
 module_read n h =
     let start = stage n (header_entries 0 n.ports) (undeclared n.ports) [] [] [] in
-    module-at n.library start (whole n) (codes "endmodule") 10 (cut_up (heading n ++ body n)) (cut_up (body n))
+    module-at n.library start (whole n) (codes "endmodule") 10 (cut_up (heading n.name n.ports ++ body n)) (cut_up (body n))
     (heading_read n (bit_words n.ports ++ (other_nets n ++ filter_map instance_name n.instances)) (body n) h.named.own (good_ports n.ports h.named.ports) (names_differ n h) h.sound.few_ports)
     (ap (λ t. items_from (left (cut_up t)) start (cut_up t)) (body-is n) ∙ items_read _ (item_text n) start (whole n) (all_lines n h))
     (all_declared 0 n.ports)

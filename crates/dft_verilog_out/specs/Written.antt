@@ -66,8 +66,8 @@ signal_text nets Unconnected = []
 -- ---- declarations
 
 -- `module`, its name and its ports
-unfoldable pub heading : Netlist → Text
-heading n = codes "module " ++ (name_text n.name ++ (codes " (" ++ (listed (map (λ (port : Port). name_text port.name) n.ports) ++ codes ");\n")))
+unfoldable pub heading : Text → List Port → Text
+heading name ports = codes "module " ++ (name_text name ++ (codes " (" ++ (listed (map (λ (port : Port). name_text port.name) ports) ++ codes ");\n")))
 
 abbrev pub dir_text : Dir → Text
 dir_text Input = codes "input "
@@ -156,4 +156,4 @@ body n = flat_map port_line n.ports ++ (flat_map wire_line (map name_text (other
 
 -- the written form
 unfoldable pub written : Netlist → Text
-written n = heading n ++ body n
+written n = heading n.name n.ports ++ body n

@@ -1,15 +1,19 @@
 //! Joins and instances.
 
-ghost use Rattle.std.specs.Prelude.{ℕ, ◌≡◌, ◌++◌, OnOk, Some, codes, flat_map, length, map, slice_get};
+ghost use Rattle.std.specs.Prelude.{ℕ, ◌≡◌, ◌++◌, OnOk, Some, codes, flat_map, length, map, slice_get, true};
+ghost use Rattle.dft_base.specs.Name.{IsName};
+ghost use Rattle.dft_cells.specs.declared.cell.Pin.{Pin as APin};
 ghost use Rattle.dft_netlist.specs.Sound.{AreLive, IsAJoin, IsInstance, IsLive};
 ghost use Rattle.dft_netlist.specs.declared.instance.Instance.{Instance as AnInstance};
 ghost use Rattle.dft_netlist.specs.declared.instance.Join.{Join as AJoin};
+ghost use Rattle.dft_netlist.specs.declared.instance.Signal.{Signal as ASignal};
+ghost use Rattle.dft_verilog_out.specs.Named.{IsNamedCell, IsNamedInstance, IsOwnName};
 ghost use Rattle.dft_verilog_out.specs.Written as form;
 
 use crate::names::add_name;
 use crate::nets::{NetText, add_signal};
 use dft_base::Name;
-use dft_cells::{Cell, Kind, Library, Pin};
+use dft_cells::{Cell, Kind, Pin};
 use dft_netlist::{CellRef, Instance, Join, Signal};
 use std::alloc::AllocError;
 
@@ -44,7 +48,8 @@ pub(crate) fn add_joins(
 /// Adds a pin and what it is joined to.
 fn add_joined(out: &mut Vec<u8>, nets: &[NetText], pin: &Name, to: Signal) -> Result<(), AllocError>
     requires { IsLive (length nets.now) to }
-    ensures { OnOk result (out.new.items ≡ out.old.items ++ form.joined_text nets.now pin.now to) }
+    ensures text { OnOk result (out.new.items ≡ out.old.items ++ form.joined_text nets.now pin.now to) }
+    ensures named { OnOk result (IsName pin.now) }
 {
     out.push(b'.')?;
     add_name(out, pin)?;
@@ -73,7 +78,8 @@ fn add_connections(
 ) -> Result<(), AllocError>
     requires live { AreLive (length nets.now) signals.now }
     requires width { length signals.now ≡ length pins.now }
-    ensures { OnOk result (out.new.items ≡ out.old.items ++ form.listed (form.connections_of nets.now pins.now signals.now)) }
+    ensures text { OnOk result (out.new.items ≡ out.old.items ++ form.listed (form.connections_of nets.now pins.now signals.now)) }
+    ensures named { OnOk result ((place : ℕ) (pin : APin) (to : ASignal) → slice_get pins.now place ≡ Some pin → slice_get signals.now place ≡ Some to → form.is_joined to ≡ true → IsName pin.name) }
 {
     let mut before: &[u8] = b"";
     for place in 0..pins.len() {
@@ -129,7 +135,8 @@ fn add_terminals(out: &mut Vec<u8>, nets: &[NetText], pins: &[Signal]) -> Result
 
 /// Adds a name, if there is one.
 fn add_own_name(out: &mut Vec<u8>, name: &Option<Name>) -> Result<(), AllocError>
-    ensures { OnOk result (out.new.items ≡ out.old.items ++ form.own_name_text name.now) }
+    ensures text { OnOk result (out.new.items ≡ out.old.items ++ form.own_name_text name.now) }
+    ensures named { OnOk result (IsOwnName name.now) }
 {
     match name {
         Some(name) => {
@@ -149,7 +156,8 @@ fn add_gate(
     instance: &Instance,
 ) -> Result<(), AllocError>
     requires { AreLive (length nets.now) instance.now.pins }
-    ensures { OnOk result (out.new.items ≡ out.old.items ++ form.gate_line nets.now kind instance.now) }
+    ensures text { OnOk result (out.new.items ≡ out.old.items ++ form.gate_line nets.now kind instance.now) }
+    ensures own { OnOk result (IsOwnName instance.now.name) }
 {
     out.extend_from_slice(gate_text(kind))?;
     add_own_name(out, &instance.name)?;
@@ -168,7 +176,9 @@ fn add_cell(
 ) -> Result<(), AllocError>
     requires live { AreLive (length nets.now) instance.now.pins }
     requires width { length instance.now.pins ≡ length cell.now.pins }
-    ensures { OnOk result (out.new.items ≡ out.old.items ++ form.cell_line nets.now cell.now instance.now) }
+    ensures text { OnOk result (out.new.items ≡ out.old.items ++ form.cell_line nets.now cell.now instance.now) }
+    ensures own { OnOk result (IsOwnName instance.now.name) }
+    ensures named { OnOk result (IsNamedCell cell.now instance.now.pins) }
 {
     add_name(out, &cell.name)?;
     add_own_name(out, &instance.name)?;
@@ -180,15 +190,16 @@ fn add_cell(
 /// Adds the line of an instance.
 fn add_instance(
     out: &mut Vec<u8>,
-    library: &Library,
+    cells: &[Cell],
     nets: &[NetText],
     instance: &Instance,
 ) -> Result<(), AllocError>
-    requires { IsInstance library.now (length nets.now) instance.now.name instance.now.cell instance.now.pins }
-    ensures { OnOk result (out.new.items ≡ out.old.items ++ form.line_of library.now nets.now instance.now) }
+    requires { IsInstance cells.now (length nets.now) instance.now.name instance.now.cell instance.now.pins }
+    ensures text { OnOk result (out.new.items ≡ out.old.items ++ form.line_of cells.now nets.now instance.now) }
+    ensures named { OnOk result (IsNamedInstance cells.now instance.now) }
 {
     match instance.cell {
-        CellRef::Library(id) => add_cell(out, nets, library.cell(id), instance),
+        CellRef::Library(id) => add_cell(out, nets, &cells[id.0 as usize], instance),
         CellRef::Gate(kind, _) => add_gate(out, nets, kind, instance),
     }
 }
@@ -196,15 +207,16 @@ fn add_instance(
 /// Adds the lines of instances.
 pub(crate) fn add_instances(
     out: &mut Vec<u8>,
-    library: &Library,
+    cells: &[Cell],
     nets: &[NetText],
     instances: &[Instance],
 ) -> Result<(), AllocError>
-    requires { (place : ℕ) (i : AnInstance) → slice_get instances.now place ≡ Some i → IsInstance library.now (length nets.now) i.name i.cell i.pins }
-    ensures { OnOk result (out.new.items ≡ out.old.items ++ flat_map (form.line_of library.now nets.now) instances.now) }
+    requires { (place : ℕ) (i : AnInstance) → slice_get instances.now place ≡ Some i → IsInstance cells.now (length nets.now) i.name i.cell i.pins }
+    ensures text { OnOk result (out.new.items ≡ out.old.items ++ flat_map (form.line_of cells.now nets.now) instances.now) }
+    ensures named { OnOk result ((place : ℕ) (i : AnInstance) → slice_get instances.now place ≡ Some i → IsNamedInstance cells.now i) }
 {
     for instance in instances {
-        add_instance(out, library, nets, instance)?;
+        add_instance(out, cells, nets, instance)?;
     }
     Ok(())
 }
