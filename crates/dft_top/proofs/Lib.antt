@@ -1,3 +1,10 @@
-pub mod Lengths
-pub mod Signals
-pub mod OutcomeLemmas
+pub mod Options
+pub mod Scan
+pub mod Turns
+pub mod Rows
+pub mod Walks
+pub mod Commands
+pub mod Refused
+pub mod NetlistRefusals
+pub mod OneOutcome
+pub mod Passing

@@ -1,7 +1,7 @@
 pub mod Words
 pub mod Named
+pub mod CommandLine
 pub mod Refusals
-pub mod Verdicts
 pub mod Outcomes
 pub mod Lines
 pub mod Answers

@@ -1,27 +1,71 @@
 -- The line that a command prints, with the line's end.
-use Rattle.std.specs.Prelude.{ℕ, List, [], ◌∷◌, ◌++◌, codes, Option, None, Some}
-use Rattle.std.specs.Fmt.{decimal}
+use Rattle.std.specs.Prelude.{ℕ, ℤ, List, [], ◌∷◌, ◌++◌, codes, Option, None, Some}
+use Rattle.std.specs.Fmt.{decimal, signed_decimal}
+use Rattle.dft_base.specs.declared.place.Place.{Place}
 use Rattle.dft_top.specs.declared.answer.Code.{Code}
-use Rattle.dft_top.specs.declared.answer.Code.TheVariants.{F1, V3, P2}
+use Rattle.dft_top.specs.declared.answer.Code.TheVariants.{F1, L1, L2, L3, L4, L5, L6, L7, V1, V2, V3, V4, V5, V6, V7, V8, V9, V10, V11, V12, N1, N2, N3, N4, P1, P2, P3, P4, P5, P7, P8, P9, P10}
 use Rattle.dft_top.specs.declared.answer.Refusal.{Refusal}
 use Rattle.dft_top.specs.declared.outcome.Outcome.{Outcome}
 use Rattle.dft_top.specs.declared.outcome.Outcome.TheVariants.{Usage, Refused, Passed, Mismatch, Undetermined}
 
 abbrev pub code_text : Code → List ℕ
 code_text F1 = codes "F1"
+code_text L1 = codes "L1"
+code_text L2 = codes "L2"
+code_text L3 = codes "L3"
+code_text L4 = codes "L4"
+code_text L5 = codes "L5"
+code_text L6 = codes "L6"
+code_text L7 = codes "L7"
+code_text V1 = codes "V1"
+code_text V2 = codes "V2"
 code_text V3 = codes "V3"
+code_text V4 = codes "V4"
+code_text V5 = codes "V5"
+code_text V6 = codes "V6"
+code_text V7 = codes "V7"
+code_text V8 = codes "V8"
+code_text V9 = codes "V9"
+code_text V10 = codes "V10"
+code_text V11 = codes "V11"
+code_text V12 = codes "V12"
+code_text N1 = codes "N1"
+code_text N2 = codes "N2"
+code_text N3 = codes "N3"
+code_text N4 = codes "N4"
+code_text P1 = codes "P1"
 code_text P2 = codes "P2"
+code_text P3 = codes "P3"
+code_text P4 = codes "P4"
+code_text P5 = codes "P5"
+code_text P7 = codes "P7"
+code_text P8 = codes "P8"
+code_text P9 = codes "P9"
+code_text P10 = codes "P10"
 
--- a name behind a blank
+-- ---- the parts of a refusal, each behind a blank
+
+-- a place as its line, a colon and its column
+abbrev pub place_part : Option Place → List ℕ
+place_part None = []
+place_part (Some place) = codes " " ++ (decimal place.line ++ (codes ":" ++ decimal place.column))
+
 abbrev pub name_part : Option (List ℕ) → List ℕ
 name_part None = []
 name_part (Some name) = 32 ∷ name
+
+abbrev pub number_part : Option ℤ → List ℕ
+number_part None = []
+number_part (Some number) = codes " " ++ signed_decimal number
+
+-- ---- lines
 
 abbrev pub usage_line : List ℕ
 usage_line = codes "usage: dft replay, scan, compile, certify or generate, each option once as --name value\n"
 
 abbrev pub refused_line : Refusal → List ℕ
-refused_line refusal = codes "refused " ++ (code_text refusal.code ++ (name_part refusal.name ++ codes "\n"))
+refused_line refusal =
+    codes "refused " ++ (code_text refusal.code ++ (place_part refusal.place ++ (name_part refusal.name ++ (number_part refusal.first ++ (number_part refusal.second ++ codes "\n")))))
 
 abbrev pub passed_line : (vectors compared : ℕ) → List ℕ
 passed_line vectors compared = codes "pass " ++ (decimal vectors ++ (codes " vectors " ++ (decimal compared ++ codes " compared\n")))

@@ -1,8 +1,71 @@
--- Refusals.
-use Rattle.std.specs.Prelude.{ℕ, List, Option, None}
+-- Refusals, and what the readers' and the replayer's errors come to.
+use Rattle.std.specs.Prelude.{ℕ, ℤ, List, codes, Option, None, Some}
+use Rattle.dft_base.specs.declared.place.Place.{Place}
+use Rattle.dft_cells.specs.declared.refusal.LibraryError.{LibraryError}
+use Rattle.dft_cells.specs.declared.refusal.LibraryError.TheVariants as library
+use Rattle.dft_netlist.specs.declared.error.Counted.{Counted}
+use Rattle.dft_netlist.specs.declared.error.Counted.TheVariants as counted
+use Rattle.dft_netlist.specs.declared.error.NetlistError.{NetlistError}
+use Rattle.dft_netlist.specs.declared.error.NetlistError.TheVariants as netlist
+use Rattle.dft_verilog.specs.declared.error.VerilogError.{VerilogError}
+use Rattle.dft_verilog.specs.declared.error.VerilogError.TheVariants as verilog
 use Rattle.dft_top.specs.declared.answer.Code.{Code}
+use Rattle.dft_top.specs.declared.answer.Code.TheVariants.{L1, L2, L3, L4, L5, L6, L7, V1, V2, V3, V4, V5, V6, V7, V8, V9, V10, V11, V12, N1, N2, N3, N4}
 use Rattle.dft_top.specs.declared.answer.Refusal.{Refusal}
 
--- the refusal with a code that has a name for its part, or no part
-abbrev pub refusal_of : Code → (name : Option (List ℕ)) → Refusal
-refusal_of code name = record { code = code; place = None; name = name; first = None; second = None }
+-- ---- refusals by their parts
+
+abbrev pub plain : Code → Refusal
+plain code = record { code = code; place = None; name = None; first = None; second = None }
+
+abbrev pub named : Code → (name : List ℕ) → Refusal
+named code name = record (plain code) { name = Some name }
+
+abbrev pub placed : Code → Place → Refusal
+placed code place = record (plain code) { place = Some place }
+
+abbrev pub worded : Code → Place → (word : List ℕ) → Refusal
+worded code place word = record (placed code place) { name = Some word }
+
+abbrev pub limited : Code → (counted : List ℕ) → (limit : ℤ) → Refusal
+limited code counted limit = record (named code counted) { first = Some limit }
+
+-- ---- the refusal that an error comes to; none where memory ran out
+
+abbrev pub library_refusal : LibraryError → Option Refusal
+library_refusal library.NotToml = Some (plain L6)
+library_refusal (library.L1 name) = Some (named L1 name)
+library_refusal (library.L2 name) = Some (named L2 name)
+library_refusal (library.L3 name) = Some (named L3 name)
+library_refusal (library.L4 name) = Some (named L4 name)
+library_refusal (library.L5 name) = Some (named L5 name)
+library_refusal (library.L7 name) = Some (named L7 name)
+library_refusal (library.Memory error) = None
+
+abbrev pub counted_text : Counted → List ℕ
+counted_text counted.Ports = codes "ports"
+counted_text counted.Nets = codes "nets"
+counted_text counted.Instances = codes "instances"
+
+abbrev pub netlist_refusal : NetlistError → Option Refusal
+netlist_refusal (netlist.MultipleDrivers net) = Some (named N1 net)
+netlist_refusal (netlist.Loop net) = Some (named N2 net)
+netlist_refusal (netlist.DuplicateName name) = Some (named N3 name)
+netlist_refusal (netlist.TooMany what limit) = Some (limited N4 (counted_text what) limit)
+netlist_refusal (netlist.Memory error) = None
+
+abbrev pub verilog_refusal : VerilogError → Option Refusal
+verilog_refusal (verilog.V1 place) = Some (placed V1 place)
+verilog_refusal (verilog.V2 place) = Some (placed V2 place)
+verilog_refusal (verilog.V3 place name) = Some (worded V3 place name)
+verilog_refusal (verilog.V4 place name) = Some (worded V4 place name)
+verilog_refusal (verilog.V5 place name) = Some (worded V5 place name)
+verilog_refusal (verilog.V6 place) = Some (placed V6 place)
+verilog_refusal (verilog.V7 place) = Some (placed V7 place)
+verilog_refusal (verilog.V8 place) = Some (placed V8 place)
+verilog_refusal (verilog.V9 place) = Some (placed V9 place)
+verilog_refusal (verilog.V10 place) = Some (placed V10 place)
+verilog_refusal (verilog.V11 place name) = Some (worded V11 place name)
+verilog_refusal (verilog.V12 place name) = Some (worded V12 place name)
+verilog_refusal (verilog.Netlist error) = netlist_refusal error
+verilog_refusal (verilog.Memory error) = None

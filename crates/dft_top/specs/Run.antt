@@ -7,8 +7,8 @@ use Rattle.dft_top.specs.declared.answer.Answer.{Answer}
 use Rattle.dft_top.specs.declared.outcome.Outcome.{Outcome}
 use Rattle.dft_top.specs.declared.outcome.Outcome.TheVariants as outcome
 use Rattle.dft_top.specs.Answers.{answer_of, stopped}
-use Rattle.dft_top.specs.Words.{ReplayFiles, files_named}
-use Rattle.dft_top.specs.Outcomes.{IsOutcome, HasTurn, IsNamed, PassesNamed}
+use Rattle.dft_top.specs.Words.{ReplayFiles, AreFor, IsReplay}
+use Rattle.dft_top.specs.Outcomes.{IsOutcomeFor, HasTurn, IsNamed, Passes}
 use Rattle.dft_top.specs.Lines.{line_of}
 
 abbrev pub IsNotUsage : Outcome → Type 0
@@ -23,15 +23,20 @@ abbrev pub Suits : Option ReplayFiles → Outcome → Type 0
 Suits None o = o ≡ outcome.Usage
 Suits (Some files) o = IsNotUsage o
 
--- the outcome is that of the words, and of the held files where they are told
-abbrev pub IsOutcomeTold : List (List ℕ) → Option Held → Outcome → Type 0
-IsOutcomeTold words held o = Suits (files_named words) o × Told (λ files. IsOutcome words files o) held
+-- the outcome is that of what the words are for, and of the held files where they are told
+pub record IsOutcomeTold (words : List (List ℕ)) (held : Option Held) (o : Outcome) : Type 0 where
+  pub named : Option ReplayFiles
+  pub are_for : AreFor words named
+  pub suits : Suits named o
+  pub told : Told (λ files. IsOutcomeFor named files o) held
 
 -- a load of a file whose turn came failed
 pub record FailedLoad (words : List (List ℕ)) (held : Option Held) (failed : List ℕ) (faults faults' : ℕ) : Type 0 where
+  pub files : ReplayFiles
+  pub replay : IsReplay words files
   pub rose : Rose faults faults'
-  pub named : IsNamed (files_named words) failed
-  pub turn : Told (λ files. HasTurn (files_named words) files failed) held
+  pub named : IsNamed files failed
+  pub turn : Told (λ h. HasTurn files.library files.netlist files.patterns h failed) held
 
 -- what is printed of an outcome: its line, or a prefix of it where the outside fails, or nothing where memory runs out
 abbrev pub Prints : Outcome → (faults faults' : ℕ) → (old new : Option (List ℕ)) → Answer → Type 0
@@ -57,9 +62,9 @@ WriteFails words held faults faults' old new answer =
 abbrev pub RunsOut : (old new : Option (List ℕ)) → Answer → Type 0
 RunsOut old new answer = (new ≡ old) × (answer ≡ stopped OutOfMemory)
 
--- where patterns pass, every run shows each compared bit as printed
+-- where patterns pass, the words are a replay of files whose netlist and patterns pass: every run shows each compared bit as printed
 abbrev pub PassesTold : List (List ℕ) → Option Held → Answer → Type 0
-PassesTold words held answer = answer.status ≡ Done → Told (PassesNamed (files_named words)) held
+PassesTold words held answer = answer.status ≡ Done → (files : ReplayFiles) × (IsReplay words files × Told (Passes files) held)
 
 -- a run ends in one of four ways
 abbrev pub Ends : List (List ℕ) → Option Held → (failed : List ℕ) → (read_faults read_faults' put_faults put_faults' : ℕ) → (old new : Option (List ℕ)) → Answer → Type 0

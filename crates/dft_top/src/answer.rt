@@ -26,12 +26,73 @@ pub enum Status {
 /// Why a file is refused.
 #[derive(Clone, Copy, Debug, PartialEq, Eq)]
 pub enum Code {
-    /// The file has more bytes than its limit. Its part is the name of the file's option.
+    /// A file has more bytes than its limit. Its part is the name of the file's option.
     F1,
-    /// The netlist is not of the form that is read.
+    /// A cell has a kind that is not known. Its part is the cell's name, as at L2, L3 and L5.
+    L1,
+    /// A cell has a wrong number of inputs, a table of another length or character, or a pin twice.
+    L2,
+    /// A cell has the name of a word that IEEE 1364 reserves.
+    L3,
+    /// No cell has a kind that a library needs. Its part is the kind.
+    L4,
+    /// A cell's `scan` names no scan cell that fits it.
+    L5,
+    /// The library is no TOML text. It has no part.
+    L6,
+    /// A cell, or the table `cells`, has a missing or another key, a value of another kind, or a name with other bytes.
+    L7,
+    /// A byte that no netlist text may have there. Its part is the place, as at all codes of netlist texts (IEEE 1364).
+    V1,
+    /// A token that stands where none such may, or a constant that is driven.
+    V2,
+    /// A word or directive that the structural part leaves out. Its parts are the place and the word, as at V4, V5, V11
+    /// and V12.
     V3,
-    /// The patterns are not of the form that is read, or do not fit the netlist.
+    /// A cell that the library has not.
+    V4,
+    /// A pin that the cell has not.
+    V5,
+    /// Widths, numbers of terminals, bits or sizes that do not fit.
+    V6,
+    /// `inout`.
+    V7,
+    /// A second module.
+    V8,
+    /// The text ends too early.
+    V9,
+    /// A number that is too large.
+    V10,
+    /// A name that was not declared.
+    V11,
+    /// A pin that was connected before.
+    V12,
+    /// A net has two drivers. Its part is the net's name.
+    N1,
+    /// The nets have no order. Its part is the name of a net of a loop.
+    N2,
+    /// A printed name is taken. Its part is the name.
+    N3,
+    /// There would be more than a limit. Its parts are what is counted and the limit.
+    N4,
+    /// A token of a pattern text (IEEE 1450-1999) that stands where none such may. Its part is the place.
+    P1,
+    /// The pattern text is not of the form that is read.
     P2,
+    /// A name in a pattern text that is not given before. Its parts are the place and the name.
+    P3,
+    /// A number or a length in a pattern text that does not fit. Its part is the place, as at P5 and P8.
+    P4,
+    /// A character or an act in a pattern text that its signal has not.
+    P5,
+    /// A signal is no bit of a port with its direction. Its part is the signal's name.
+    P7,
+    /// Times of a pattern text that do not fit.
+    P8,
+    /// A name in a pattern text that is given twice. Its parts are the place and the name.
+    P9,
+    /// A signal that pulses in a vector is high or unset in another. Its parts are the signal's name and the vector.
+    P10,
 }
 
 /// A refusal: its code, and the parts that are printed behind it.

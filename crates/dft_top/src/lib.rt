@@ -4,14 +4,16 @@
 mod answer;
 mod command;
 mod laws;
+mod limits;
+mod loading;
 mod outcome;
 mod printing;
+mod refusing;
 mod replaying;
-#[cfg(test)]
-mod tests;
 mod words;
 
 pub use answer::{Answer, Code, Refusal, Status};
-pub use command::{MAX_NETLIST_BYTES, MAX_PATTERN_BYTES, run};
+pub use command::run;
 pub use laws::outcome_is_one;
+pub use limits::{MAX_LIBRARY_BYTES, MAX_NETLIST_BYTES, MAX_PATTERN_BYTES};
 pub use outcome::Outcome;

@@ -1,6 +1,6 @@
 ghost use Rattle.std.specs.Prelude.{◌≡◌, IfOk};
 ghost use Rattle.dft_base.specs.Name.{IsName};
-ghost use Rattle.dft_top.specs.Refusals.{refusal_of};
+ghost use Rattle.dft_top.specs.Outcomes as spec;
 
 use crate::answer::{Code, Refusal};
 use dft_base::Name;
@@ -21,29 +21,11 @@ pub enum Outcome {
     Undetermined { vector: u32, signal: Name },
 }
 
-/// A refusal with this code and no part.
-pub(crate) fn refused(code: Code) -> Outcome
-    ensures { result ≡ Outcome.Refused (refusal_of code None) }
-{
-    Outcome::Refused(Refusal {
-        code,
-        place: None,
-        name: None,
-        first: None,
-        second: None,
-    })
-}
-
 /// The refusal of a file that is longer than its limit, with the name of its option.
 pub(crate) fn too_long(alloc: Global, option: &[u8]) -> Result<Outcome, AllocError>
     requires { IsName option.now }
-    ensures { IfOk result (λ o. o ≡ Outcome.Refused (refusal_of Code.F1 (Some option.now))) }
+    ensures { IfOk result (λ o. o ≡ spec.too_long option.now) }
 {
-    Ok(Outcome::Refused(Refusal {
-        code: Code::F1,
-        place: None,
-        name: Some(Name::from_slice(alloc, option)?),
-        first: None,
-        second: None,
-    }))
+    let name = Name::from_slice(alloc, option)?;
+    Ok(Outcome::Refused(Refusal::named(Code::F1, name)))
 }

@@ -1,11 +1,11 @@
 //! The line that a command prints.
 
-ghost use Rattle.std.specs.Prelude.{◌≡◌, IfOk};
+ghost use Rattle.std.specs.Prelude.{◌≡◌, ◌++◌, IfOk, OnOk, option_map};
 ghost use Rattle.dft_top.specs.Lines as spec;
 
 use crate::answer::{Code, Refusal};
 use crate::outcome::Outcome;
-use dft_base::Name;
+use dft_base::{Name, Place};
 use std::alloc::{AllocError, Global};
 
 const USAGE: &str =
@@ -16,8 +16,38 @@ fn code_text(code: Code) -> &'static str
 {
     match code {
         Code::F1 => "F1",
+        Code::L1 => "L1",
+        Code::L2 => "L2",
+        Code::L3 => "L3",
+        Code::L4 => "L4",
+        Code::L5 => "L5",
+        Code::L6 => "L6",
+        Code::L7 => "L7",
+        Code::V1 => "V1",
+        Code::V2 => "V2",
         Code::V3 => "V3",
+        Code::V4 => "V4",
+        Code::V5 => "V5",
+        Code::V6 => "V6",
+        Code::V7 => "V7",
+        Code::V8 => "V8",
+        Code::V9 => "V9",
+        Code::V10 => "V10",
+        Code::V11 => "V11",
+        Code::V12 => "V12",
+        Code::N1 => "N1",
+        Code::N2 => "N2",
+        Code::N3 => "N3",
+        Code::N4 => "N4",
+        Code::P1 => "P1",
         Code::P2 => "P2",
+        Code::P3 => "P3",
+        Code::P4 => "P4",
+        Code::P5 => "P5",
+        Code::P7 => "P7",
+        Code::P8 => "P8",
+        Code::P9 => "P9",
+        Code::P10 => "P10",
     }
 }
 
@@ -41,12 +71,42 @@ fn refused_line(alloc: Global, refusal: &Refusal) -> Result<Vec<u8>, AllocError>
 {
     let mut line = Vec::from_slice(alloc, b"refused ")?;
     line.extend_from_slice(code_text(refusal.code).as_bytes())?;
-    if let Some(name) = &refusal.name {
+    add_place(alloc, &mut line, refusal.place)?;
+    add_name(&mut line, refusal.name.as_ref())?;
+    add_number(alloc, &mut line, refusal.first)?;
+    add_number(alloc, &mut line, refusal.second)?;
+    line.push(b'\n')?;
+    Ok(line)
+}
+
+fn add_place(alloc: Global, line: &mut Vec<u8>, place: Option<Place>) -> Result<(), AllocError>
+    ensures { OnOk result (line.new.items ≡ line.old.items ++ spec.place_part place) }
+{
+    if let Some(place) = place {
+        let text = format!(in alloc; " {}:{}", place.line, place.column)?;
+        line.extend_from_slice(text.as_bytes())?;
+    }
+    Ok(())
+}
+
+fn add_name(line: &mut Vec<u8>, name: Option<&Name>) -> Result<(), AllocError>
+    ensures { OnOk result (line.new.items ≡ line.old.items ++ spec.name_part (option_map (λ name. name.now) name.entry)) }
+{
+    if let Some(name) = name {
         line.push(b' ')?;
         line.extend_from_slice(name.as_slice())?;
     }
-    line.push(b'\n')?;
-    Ok(line)
+    Ok(())
+}
+
+fn add_number(alloc: Global, line: &mut Vec<u8>, number: Option<i64>) -> Result<(), AllocError>
+    ensures { OnOk result (line.new.items ≡ line.old.items ++ spec.number_part number) }
+{
+    if let Some(number) = number {
+        let text = format!(in alloc; " {number}")?;
+        line.extend_from_slice(text.as_bytes())?;
+    }
+    Ok(())
 }
 
 fn passed_line(alloc: Global, vectors: u32, compared: u64) -> Result<Vec<u8>, AllocError>

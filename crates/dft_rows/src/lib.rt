@@ -1,0 +1,9 @@
+//! Cases worked by hand, as tests of whole runs of the tool over files in memory.
+#![tactic(auto)]
+
+#[cfg(test)]
+mod files;
+#[cfg(test)]
+mod rows;
+#[cfg(test)]
+mod words;

@@ -1,0 +1,177 @@
+//! Netlists and patterns that were worked by hand.
+
+use crate::files::{LIBRARY, NETLIST, VECTORS, patterns, replayed};
+use dft_top::Status;
+use std::test::Fail;
+
+static WORDS: [&str; 5] = ["replay", "--netlist", "n", "--patterns", "p"];
+
+const TWO_DOMAINS: &str =
+    "module r (ca, cb, d, q); input ca, cb, d; output q; DFF a (.CK(ca), .D(d), .Q(n)); DFF b (.CK(cb), .D(n), .Q(q)); endmodule";
+
+const LOCKED: &str =
+    "module r (ca, cb, d, q); input ca, cb, d; output q; DFF a (.CK(ca), .D(d), .Q(n)); LOCKUP l (.CK(ca), .D(n), .Q(p)); DFF b (.CK(cb), .D(p), .Q(q)); endmodule";
+
+const THREE_DOMAINS: &str =
+    "module t (ca, cb, cc, d, q); input ca, cb, cc, d; output q; DFF a (.CK(ca), .D(d), .Q(n)); DFF b (.CK(cb), .D(n), .Q(p)); DFF e (.CK(cc), .D(p), .Q(q)); endmodule";
+
+// A netlist, its inputs, the vectors, and what is printed. Its output is q.
+static VERDICTS: [(&str, &str, &str, &str, Status); 9] = [
+    (
+        NETLIST,
+        "c d",
+        "P1 X 00 H",
+        "pass 2 vectors 1 compared\n",
+        Status::Done,
+    ),
+    (
+        NETLIST,
+        "c d",
+        "P1 X 00 L",
+        "mismatch vector 1 signal q\n",
+        Status::NotPassed,
+    ),
+    (
+        NETLIST,
+        "c d",
+        "00 H P1 X",
+        "undetermined vector 0 signal q\n",
+        Status::NotPassed,
+    ),
+    (
+        NETLIST,
+        "c d",
+        "",
+        "pass 0 vectors 0 compared\n",
+        Status::Done,
+    ),
+    (
+        TWO_DOMAINS,
+        "ca cb d",
+        "PP0 X PP0 X PP1 L 000 L",
+        "undetermined vector 3 signal q\n",
+        Status::NotPassed,
+    ),
+    (
+        LOCKED,
+        "ca cb d",
+        "PP0 X PP0 X PP1 L 000 L",
+        "pass 4 vectors 2 compared\n",
+        Status::Done,
+    ),
+    (
+        LOCKED,
+        "ca cb d",
+        "PP0 X PP0 X PP1 L 000 H",
+        "mismatch vector 3 signal q\n",
+        Status::NotPassed,
+    ),
+    (
+        THREE_DOMAINS,
+        "ca cb cc d",
+        "PPP0 X PPP0 X PPP0 X PPP1 L 0000 L",
+        "undetermined vector 4 signal q\n",
+        Status::NotPassed,
+    ),
+    (
+        NETLIST,
+        "c zz",
+        "P1 X 00 H",
+        "refused P7 zz\n",
+        Status::Refused,
+    ),
+];
+
+#[test]
+fn patterns_get_their_verdicts(rt: HostRuntime) -> Result<(), Fail> {
+    for (netlist, inputs, vectors, line, status) in &VERDICTS {
+        let text = patterns(rt.alloc(), *inputs, "q", *vectors)?;
+        let end = replayed(
+            rt.alloc(),
+            &WORDS,
+            ("", *netlist, text.as_str()),
+            None,
+            None,
+        )?;
+        assert_eq!(rt; end.line.as_slice(), line.as_bytes(), "at {vectors}");
+        assert_eq!(rt; end.status, *status, "at {vectors}");
+    }
+    Ok(())
+}
+
+// Netlists, and what is printed for patterns that fit the least netlist. A netlist that is taken has no port of theirs.
+static NETLISTS: [(&str, &str); 9] = [
+    (
+        "module m (a); input a; wire \\cpu3 ; wire cpu3; endmodule",
+        "refused N3 cpu3\n",
+    ),
+    (
+        "module m (a); input a; wire cpu3; INV u (.A(a), .Y(\\cpu3 )); INV v (.A(cpu3), .Y(n)); endmodule",
+        "refused P7 c\n",
+    ),
+    ("module m (a); /* x", "refused V9 1:19\n"),
+    ("module m (a); input a; INV u (.A(", "refused V9 1:34\n"),
+    (
+        "module m (a); input a; INV u (.A(a), .Y(n)); INV v (.A(a), .Y(n)); endmodule",
+        "refused N1 n\n",
+    ),
+    (
+        "module m (a); input a; INV u (.A(p), .Y(q)); INV v (.A(q), .Y(p)); endmodule",
+        "refused N2 p\n",
+    ),
+    (
+        "module m (a); input a; LATCH u (.G(a), .D(p), .Q(q)); INV v (.A(q), .Y(p)); endmodule",
+        "refused P7 c\n",
+    ),
+    (
+        "module m (a); input a;\nINV u (.A(a), .A(a), .Y(n)); endmodule",
+        "refused V12 2:16 A\n",
+    ),
+    ("module m (a); inout a; endmodule", "refused V7 1:15\n"),
+];
+
+#[test]
+fn netlists_are_refused_by_the_first_fault(rt: HostRuntime) -> Result<(), Fail> {
+    let text = patterns(rt.alloc(), "c d", "q", VECTORS)?;
+    for (netlist, line) in &NETLISTS {
+        let end = replayed(
+            rt.alloc(),
+            &WORDS,
+            ("", *netlist, text.as_str()),
+            None,
+            None,
+        )?;
+        assert_eq!(rt; end.line.as_slice(), line.as_bytes(), "at {netlist}");
+        assert_eq!(rt; end.status, Status::Refused, "at {netlist}");
+    }
+    Ok(())
+}
+
+static WITH_LIBRARY: [&str; 6] = ["replay", "--patterns=p", "--library", "l", "--netlist", "n"];
+
+const OWN_CELL: &str =
+    "module m (c, d, q); input c, d; output q; FF f (.C(c), .D(d), .Q(q)); endmodule";
+
+// A library, a netlist, and what is printed.
+static LIBRARIES: [(&str, &str, &str); 5] = [
+    (LIBRARY, OWN_CELL, "pass 2 vectors 1 compared\n"),
+    (LIBRARY, NETLIST, "refused V4 1:43 DFF\n"),
+    (
+        "[cells.NAND2]\nkind = 'nand'\ninputs = ['A', 'B']\noutput = 'Y'\n",
+        NETLIST,
+        "refused L4 dff\n",
+    ),
+    ("[cells", "", "refused L6\n"),
+    ("[cells.'a b']\nkind = 'odd'\n", NETLIST, "refused L7 a?b\n"),
+];
+
+#[test]
+fn netlists_are_read_over_the_library(rt: HostRuntime) -> Result<(), Fail> {
+    let text = patterns(rt.alloc(), "c d", "q", VECTORS)?;
+    for (library, netlist, line) in &LIBRARIES {
+        let texts = (*library, *netlist, text.as_str());
+        let end = replayed(rt.alloc(), &WITH_LIBRARY, texts, None, None)?;
+        assert_eq!(rt; end.line.as_slice(), line.as_bytes(), "at {library}");
+    }
+    Ok(())
+}
