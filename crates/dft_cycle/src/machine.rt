@@ -83,7 +83,8 @@ impl<'a> AbstractMachine<'a> {
         })
     }
 
-    /// Sets the bit of an input port that is no clock; flip-flops that have it as their reset or set follow at once.
+    /// Sets the bit of an input port; flip-flops that have it as their reset or set follow at once. No call looks at what a
+    /// clock is set to.
     pub fn set(&mut self, net: NetId, value: Tri)
         requires { net.0 < length self.old.netlist.nets }
         ensures { IsSet (logic self.old) self.old net.0 value self.new }
