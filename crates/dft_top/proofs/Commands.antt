@@ -1,5 +1,5 @@
 -- What `clap` makes of a command line, and that it is what the words are for.
-use Rattle.std.proofs.Common.{◌≡◌, ◌≤◌, ◌&&◌, ◌||◌, ℕ, Bool, true, false, true≢false, not, List, [], ◌∷◌, ◌++◌, length, flat_map, cond, Option, Some, None, IfSome, option_map, is_some, fold, if◌then◌else◌, codes, bytes_eq, inl, inr, refl, sym, ap, ap₂, ◌∙◌, subst, arith, append-nil, append_assoc, ⊎_elim}
+use Rattle.std.proofs.Common.{◌≡◌, ◌≤◌, ◌||◌, Bool, true, false, true≢false, List, [], ◌∷◌, ◌++◌, length, flat_map, Option, Some, None, IfSome, option_map, is_some, fold, if◌then◌else◌, codes, bytes_eq, refl, sym, ap, ap₂, ◌∙◌, subst, arith, append-nil, append_assoc, ⊎_elim}
 use Rattle.std.specs.List.{AllByRecursion, list_all}
 use Rattle.std.specs.Option.{option_map_or}
 use Rattle.std.proofs.Math.Dec.{eqb-suc-zero}
@@ -9,17 +9,16 @@ use Rattle.clap.specs.Kinds.{HasKind, Kinds, or_else}
 use Rattle.clap.specs.Values.{kind_of}
 use Rattle.clap.specs.declared.error.Error.{Error}
 use Rattle.clap.specs.declared.error.kind.ErrorKind.TheVariants as kind
-use Rattle.clap.specs.Lexer.{long_of, short_of}
 use Rattle.clap.specs.Simple.{App, Shape, built, entered, names_of, subcommand_of}
 use Rattle.clap.specs.Walk.{Held, Names, Rule, Step, Walk, finished, idle, nothing_held, settled, subcommand_met, subcommand_or_other, value, walk, walk_from, walked, word_met}
 use Rattle.clap.proofs.OnLiterals.{clap_on_literals}
 use Rattle.dft_top.specs.Words.{AreFor, Given, IsReplay, ReplayFiles, Text, is_value, list_of, values_of, words_of}
-use Rattle.dft_top.specs.CommandLine.{dft_app, files_from, files_in, has_empty, is_empty, kept, may_stand}
+use Rattle.dft_top.specs.CommandLine.{dft_app, files_from, files_in, has_empty, is_empty, may_stand}
 use Rattle.dft_top.proofs.Options.{Name, is_plain, library, netlist, patterns, plain_value, text}
 use Rattle.dft_top.proofs.Scan.{AreRead, IsGood, IsKnown, IsRead, all_stand, name_from, scan, scan_back, scan_reads}
 use Rattle.dft_top.proofs.Turns.{IsLongWord, IsPlainWord, Shapes, at, first_none, not_empty, shape_of}
 use Rattle.dft_top.proofs.Rows.{AreWanted, Fits, first_text, first_value, rows}
-use Rattle.dft_top.proofs.Walks.{Claim, Claims, Idle, Waits, both, faults, left, walks}
+use Rattle.dft_top.proofs.Walks.{Claim, Claims, both, faults, left, walks}
 
 -- ---- the first word
 

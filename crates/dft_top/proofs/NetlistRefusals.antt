@@ -1,12 +1,12 @@
 -- A netlist is finished or refused, and for one reason.
-use Rattle.std.proofs.Common.{ℕ, zero, suc, ◌+◌, ◌<◌, ◌≤◌, ◌≡◌, ◌⊎◌, inl, inr, List, [], ◌∷◌, ◌++◌, length, Option, None, Some, refl, sym, ap, ◌∙◌, subst, arith, slice_get, ⊎_elim}
+use Rattle.std.proofs.Common.{ℕ, zero, suc, ◌<◌, ◌≤◌, ◌≡◌, ◌⊎◌, inl, inr, List, [], ◌∷◌, ◌++◌, length, Some, sym, ap, ◌∙◌, subst, arith, slice_get, ⊎_elim}
 use Rattle.std.specs.List.{AllByRecursion}
 use Rattle.dft_netlist.specs.declared.error.NetlistError.{NetlistError}
 use Rattle.dft_netlist.specs.declared.error.NetlistError.TheVariants.{MultipleDrivers, Loop, DuplicateName, TooMany, Memory}
 use Rattle.dft_netlist.specs.Netlist.{Netlist}
-use Rattle.dft_netlist.specs.NetDrivers.{IsSingle, IsFirstMultiple, times_driven}
-use Rattle.dft_netlist.specs.Orders.{Has, reads_of, IsOrderable, IsStuck, IsFirstStuck, IsNextStuck, IsWalk, AreOnce, IsLoopNet, Starts, Goes}
-use Rattle.dft_netlist.specs.Finishing.{IsFinished, IsMultiple, IsLoop, CannotFinish}
+use Rattle.dft_netlist.specs.NetDrivers.{IsSingle, IsFirstMultiple}
+use Rattle.dft_netlist.specs.Orders.{Has, IsOrderable, IsStuck, IsFirstStuck, IsNextStuck, IsWalk, AreOnce, IsLoopNet, Starts, Goes}
+use Rattle.dft_netlist.specs.Finishing.{IsFinished, CannotFinish}
 
 -- ---- the first of its kind is one
 

@@ -1,5 +1,5 @@
 -- Words and held files have one outcome at most.
-use Rattle.std.proofs.Common.{ℕ, ◌<◌, ◌≤◌, ◌≡◌, ◌⊎◌, inl, inr, List, codes, length, refl, sym, ap, ◌∙◌, arith, Option, None, Some, Result, Ok, Err, subst}
+use Rattle.std.proofs.Common.{ℕ, ◌≡◌, ◌⊎◌, inl, inr, List, codes, refl, sym, ap, ◌∙◌, arith, Option, None, Some, Result, Ok, Err, subst}
 use Rattle.dft_base.specs.Outside.{Held, file_at}
 use Rattle.dft_cells.specs.Data.{Members}
 use Rattle.dft_cells.specs.Text.{IsTable, IsNoTable}
@@ -23,16 +23,14 @@ use Rattle.dft_verilog.specs.Refusals.{IsFirstFault, IsUnfinished, IsRefused, to
 use Rattle.dft_base.specs.Lexing.{place_of}
 use Rattle.dft_stil.specs.Patterns.{Patterns}
 use Rattle.dft_stil.proofs.WrittenLemmas.{written_once}
-use Rattle.dft_replay.specs.declared.verdict.Verdict.{Verdict}
 use Rattle.dft_replay.specs.Fits.{first_misfit}
-use Rattle.dft_replay.specs.Verdicts.{HasVerdict}
 use Rattle.dft_replay.proofs.Uniqueness.{verdict_one}
 use Rattle.dft_top.specs.declared.answer.Refusal.{Refusal}
 use Rattle.dft_top.specs.declared.outcome.Outcome.{Outcome}
 use Rattle.dft_top.specs.declared.limits.TheConstants.{MAX_LIBRARY_BYTES, MAX_NETLIST_BYTES, MAX_PATTERN_BYTES}
 use Rattle.dft_top.specs.Refusals.{library_refusal, verilog_refusal}
 use Rattle.dft_top.specs.Words.{ReplayFiles}
-use Rattle.dft_top.specs.Outcomes.{IsRefusal, IsDesignOf, IsWrittenForm, outcome_of, IsOutcomeOn, IsOutcomeOfPatterns, IsOutcomeOfFile, IsOutcomeOfNetlist, IsOutcomeOver, IsOutcomeOfLibrary, IsOutcomeOfFiles, IsOutcomeFor}
+use Rattle.dft_top.specs.Outcomes.{IsRefusal, outcome_of, IsOutcomeOn, IsOutcomeOfPatterns, IsOutcomeOfFile, IsOutcomeOfNetlist, IsOutcomeOver, IsOutcomeOfLibrary, IsOutcomeOfFiles, IsOutcomeFor}
 use Rattle.dft_top.specs.Laws.{OutcomeIsOne}
 use Rattle.dft_top.proofs.Commands.{for_once}
 use Rattle.dft_top.proofs.NetlistRefusals.{IsReason, reason_one, finished_or_refused}

@@ -1,12 +1,11 @@
 -- Words that are options of a replay, and the options that words are.
-use Rattle.std.proofs.Common.{◌≡◌, ◌⊎◌, ◌==◌, ◌&&◌, ◌<◌, ◌≤◌, ℕ, Bool, true, false, not, zero, suc, List, [], ◌∷◌, ◌++◌, length, get_or, flat_map, Option, Some, None, IfSome, option_map, option_and_then, if◌then◌else◌, codes, bytes_eq, inl, inr, refl, sym, ap, ◌∙◌, subst, arith, append-nil, true≢false}
-use Rattle.std.specs.List.{AllByRecursion}
+use Rattle.std.proofs.Common.{◌≡◌, ◌⊎◌, ◌==◌, ℕ, Bool, true, false, not, zero, suc, List, [], ◌∷◌, ◌++◌, Option, Some, None, IfSome, option_and_then, if◌then◌else◌, codes, bytes_eq, inl, inr, refl, sym, ap, ◌∙◌, subst, arith, append-nil, true≢false}
 use Rattle.std.proofs.lemmas.Slice.Eq.{bytes_eq-Decides}
 use Rattle.std.proofs.lemmas.Bool.{eqb-true, eqb-false}
-use Rattle.clap.specs.Lexer.{long_of, long_of_rest, short_of, short_of_rest, strip_byte, name_and_value}
+use Rattle.clap.specs.Lexer.{long_of, long_of_rest, strip_byte, name_and_value}
 use Rattle.clap.proofs.CutLemmas.{Lacks}
 use Rattle.clap.proofs.LexerLemmas.{name_and_value-at, name_and_value-without}
-use Rattle.dft_top.specs.Words.{Text, Given, words_of, is_value, is_value_word, IsOneOf, replay_options}
+use Rattle.dft_top.specs.Words.{Text, Given, is_value_word}
 use Rattle.dft_top.specs.CommandLine.{may_stand}
 
 -- ---- the options of a replay

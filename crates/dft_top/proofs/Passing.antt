@@ -1,5 +1,5 @@
 -- What an outcome of Passed says of the files.
-use Rattle.std.proofs.Common.{ℕ, ◌≤◌, ◌≡◌, ◌⊎◌, inl, inr, List, codes, length, refl, sym, ap, ◌∙◌, subst, Option, None, Some}
+use Rattle.std.proofs.Common.{ℕ, ◌≤◌, ◌≡◌, inl, inr, List, codes, length, refl, sym, ap, ◌∙◌, subst, Option, None, Some}
 use Rattle.dft_base.specs.Outside.{Held, Told, file_at}
 use Rattle.dft_cells.specs.declared.cell.Cell.{Cell}
 use Rattle.dft_cells.specs.Standard.{standard_cells}

@@ -1,5 +1,5 @@
 -- The rows that `clap` keeps for options, and the options whose rows they are.
-use Rattle.std.proofs.Common.{◌≡◌, ◌≤◌, ◌&&◌, ◌||◌, ◌+◌, ◌<◌, ℕ, Bool, true, false, not, List, [], ◌∷◌, ◌++◌, map, length, cond, Option, Some, None, if◌then◌else◌, codes, bytes_eq, refl, sym, ap, ◌∙◌, subst, arith, append-nil, append_assoc, length-append, find, fold, true≢false, ap₂, option_and_then, slice_get}
+use Rattle.std.proofs.Common.{◌≡◌, ◌≤◌, ◌&&◌, ◌||◌, Bool, true, false, not, List, [], ◌∷◌, ◌++◌, map, length, cond, Option, Some, None, if◌then◌else◌, codes, bytes_eq, refl, sym, ap, ◌∙◌, subst, arith, append-nil, length-append, find, fold, true≢false, ap₂, option_and_then, slice_get}
 use Rattle.std.specs.Option.{option_map_or}
 use Rattle.std.proofs.lemmas.Slice.Eq.{bytes_eq-Decides}
 use Rattle.clap.specs.Facts.{explicit_source}

@@ -1,8 +1,7 @@
 -- The options of a replay, read from the front of words.
-use Rattle.std.proofs.Common.{◌≡◌, ◌⊎◌, ◌==◌, ◌&&◌, ◌+◌, ◌<◌, ◌≤◌, ℕ, Bool, true, false, not, zero, suc, List, [], ◌∷◌, ◌++◌, length, flat_map, Option, Some, None, IfSome, option_map, if◌then◌else◌, codes, bytes_eq, inl, inr, refl, sym, ap, ◌∙◌, subst, arith, append_assoc, append-nil}
+use Rattle.std.proofs.Common.{◌≡◌, ◌&&◌, Bool, true, false, List, [], ◌∷◌, ◌++◌, flat_map, Option, Some, None, IfSome, option_map, if◌then◌else◌, inl, inr, refl, sym, ap, ◌∙◌, subst}
 use Rattle.std.specs.List.{AllByRecursion, list_all}
-use Rattle.std.proofs.lemmas.Slice.Eq.{bytes_eq-Decides}
-use Rattle.dft_top.specs.Words.{Text, Given, words_of, is_value, is_value_word, IsOneOf, replay_options, values_of, AreWordsOf, IsReplay, ReplayFiles, list_of}
+use Rattle.dft_top.specs.Words.{Text, Given, words_of, is_value, IsOneOf, replay_options}
 use Rattle.dft_top.specs.CommandLine.{may_stand}
 use Rattle.dft_top.proofs.Options.{Name, netlist, patterns, library, text, word_of, apart, joined, option_of, option_is, option_found, option_stands, is_plain, value_plain, value_stands}
 

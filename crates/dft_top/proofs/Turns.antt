@@ -1,12 +1,11 @@
 -- What `clap` makes of one word behind `replay`.
-use Rattle.std.proofs.Common.{◌≡◌, ◌⊎◌, ◌==◌, ◌&&◌, ◌||◌, ℕ, Bool, true, false, not, zero, suc, List, [], ◌∷◌, ◌++◌, Option, Some, None, IfSome, option_map, if◌then◌else◌, codes, bytes_eq, inl, inr, refl, sym, ap, ◌∙◌, subst, cond, true≢false}
-use Rattle.std.specs.Option.{option_map_or}
+use Rattle.std.proofs.Common.{◌≡◌, ◌==◌, ◌||◌, ℕ, Bool, true, false, not, List, [], ◌∷◌, Option, Some, None, if◌then◌else◌, codes, bytes_eq, refl, sym, ap, ◌∙◌, subst, cond, true≢false}
 use Rattle.clap.specs.Lexer.{long_of, short_of, name_and_value}
 use Rattle.clap.specs.Faults.{long_fault, react_fault, repeat_fault, settle_fault, turn_fault, use_fault, word_fault}
 use Rattle.clap.specs.Kinds.{Kinds, or_else}
 use Rattle.clap.specs.declared.error.kind.ErrorKind.{ErrorKind}
 use Rattle.clap.specs.declared.error.kind.ErrorKind.TheVariants as kind
-use Rattle.clap.specs.Simple.{Shape, built, built_leaf, filled, inherited, on_top, with_leaf_noted, marked_built}
+use Rattle.clap.specs.Simple.{Shape, built_leaf, filled, inherited, on_top, with_leaf_noted, marked_built}
 use Rattle.clap.specs.Walk.{Held, Rule, Walk, Waiting, Row, option, idle, after_step, arg_by_long, plain_word, reacted, settled, used, walked, word_met}
 use Rattle.clap.proofs.OnLiterals.{clap_on_literals}
 use Rattle.dft_top.specs.Words.{Text}

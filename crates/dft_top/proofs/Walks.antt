@@ -1,5 +1,5 @@
 -- What `clap` makes of the words behind `replay`.
-use Rattle.std.proofs.Common.{◌≡◌, ◌&&◌, ℕ, Bool, true, false, true≢false, List, [], ◌∷◌, ◌++◌, Option, Some, None, IfSome, fold, if◌then◌else◌, refl, sym, ap, ap₂, ◌∙◌, subst, append_assoc, append-nil}
+use Rattle.std.proofs.Common.{◌≡◌, ◌&&◌, ℕ, Bool, true, false, true≢false, List, [], ◌∷◌, ◌++◌, Option, Some, None, IfSome, fold, refl, sym, ap, ap₂, ◌∙◌, subst, append_assoc, append-nil}
 use Rattle.std.specs.List.{list_all}
 use Rattle.std.proofs.lemmas.List.{map-append}
 use Rattle.clap.specs.Faults.{check_fault, defaults_fault, react_fault, repeat_fault, settle_fault, turn_fault, use_fault, walk_fault}
@@ -8,7 +8,7 @@ use Rattle.clap.specs.Walk.{Held, Row, Walk, finished, has_row, idle, option, re
 use Rattle.dft_top.specs.Words.{Text, Given}
 use Rattle.dft_top.specs.CommandLine.{may_stand}
 use Rattle.dft_top.proofs.Options.{Name, apart, is_plain, joined, option_is, option_of, text, word_of}
-use Rattle.dft_top.proofs.Scan.{at_end, met_option, met_value, met_word, more, scan}
+use Rattle.dft_top.proofs.Scan.{met_option, met_value, met_word, more, scan}
 use Rattle.dft_top.proofs.Turns.{at, first_none, flag_fails, has_value, joined_turn, joined_walked, name_turn, name_walked, not_empty, replay, rule, still_waits, unknown_fails, use_of, value_rows, value_settle, value_turn, value_walked, waits_settle}
 use Rattle.dft_top.proofs.Rows.{AreWanted, Fits, check_passes, check_wants, defaults_pass, fits_more, fits_not, no_defaults, no_repeat, one, repeats, row, rows, used_new}
 

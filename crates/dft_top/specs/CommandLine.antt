@@ -1,5 +1,5 @@
 -- What `clap` is told of the command line, and what it is not told.
-use Rattle.std.specs.Prelude.{ℕ, Bool, true, false, ◌==◌, List, [], ◌∷◌, codes, length, ◌||◌, if◌then◌else◌, Some, Option, None}
+use Rattle.std.specs.Prelude.{Bool, true, false, ◌==◌, List, [], ◌∷◌, codes, length, ◌||◌, if◌then◌else◌, Some, Option, None}
 use Rattle.clap.specs.Words.{App, Rule, new_app, new_rule, with_rule, with_subcommand}
 use Rattle.clap.specs.Simple.{on_top}
 use Rattle.clap.specs.Walk.{Row, first_of}

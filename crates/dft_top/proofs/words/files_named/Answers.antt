@@ -1,8 +1,7 @@
-use Rattle.std.proofs.Common.{rules, ◌≡◌, [], true, false, true≢false, map, string_bytes, sym, ap, ◌∙◌, Global, inl, inr, List, ℕ, ⊎_elim}
+use Rattle.std.proofs.Common.{rules, ◌≡◌, true, false, true≢false, map, string_bytes, sym, ap, ◌∙◌, Global, List, ℕ}
 use Rattle.std.specs.List.{list_all}
 use Rattle.std.proofs.lemmas.List.Folds.{list_all-map}
-use Rattle.clap.specs.Words.{fault_of, subcommand_of}
-use Rattle.dft_top.specs.CommandLine.{dft_app, files_in, may_stand}
+use Rattle.dft_top.specs.CommandLine.{files_in, may_stand}
 use Rattle.dft_top.proofs.Commands.{are_for, memory_alone, replay_taken}
 use Rattle.dft_top.proofs.words.files_named.Goals as goal
 

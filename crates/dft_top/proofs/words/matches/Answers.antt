@@ -1,6 +1,6 @@
 use Rattle.std.proofs.Common.{rules, ap, ap₂, map, List, ◌≡◌, ◌∙◌, string_bytes, Global}
 use Rattle.std.proofs.lemmas.Result.{IfOk-weaker}
-use Rattle.clap.specs.Words.{App, Shape, Text, app_of, fault_of, is_simple, is_simple_and_free, subcommand_of, with_subcommand}
+use Rattle.clap.specs.Words.{App, Text, app_of, fault_of, is_simple, is_simple_and_free, subcommand_of, with_subcommand}
 use Rattle.clap.proofs.FaultLemmas.{fails_as}
 use Rattle.dft_top.specs.CommandLine.{plain_top, dft_app}
 use Rattle.dft_top.proofs.words.matches.Goals as goal

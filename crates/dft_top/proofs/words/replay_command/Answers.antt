@@ -1,6 +1,5 @@
-use Rattle.std.proofs.Common.{rules, ap, ap₂, codes, true, false, ◌≡◌, ◌∙◌}
-use Rattle.clap.specs.Words.{rule_of, with_rule}
-use Rattle.dft_top.specs.CommandLine.{option_rule, replay_app}
+use Rattle.std.proofs.Common.{ap₂, ◌∙◌}
+use Rattle.clap.specs.Words.{with_rule}
 use Rattle.dft_top.proofs.words.replay_command.Goals as goal
 
 pub returns-clause-app : goal.returns-clause-app
