@@ -9,3 +9,5 @@ mod netlist_limits;
 mod netlist_lines;
 #[cfg(test)]
 mod netlist_tokens;
+#[cfg(test)]
+mod netlist_written;

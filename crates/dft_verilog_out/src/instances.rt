@@ -60,7 +60,7 @@ fn add_joined(out: &mut Vec<u8>, nets: &[NetText], pin: &Name, to: Signal) -> Re
 }
 
 /// Whether a pin is joined to something.
-fn is_joined(signal: Signal) -> bool
+pub(crate) fn is_joined(signal: Signal) -> bool
     ensures { result ≡ form.is_joined signal }
 {
     match signal {

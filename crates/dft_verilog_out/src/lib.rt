@@ -3,8 +3,10 @@
 
 mod declarations;
 mod instances;
+mod joined;
 mod names;
 mod nets;
 mod writer;
 
+pub use joined::gates_are_joined;
 pub use writer::write;
