@@ -43,7 +43,6 @@ free_by (Some w) place next h = absurd (cc)
 pub full_by : (full b : Bool) (f : Fault) (next : Checked Fault Draft) → full ≡ b → cond full (Err f) next ≡ cond b (Err f) next
 full_by full b f next h = ap (λ (t : Bool). cond t (Err f) next) h
 
-
 ports_by : (n m : ℕ) → n ≡ m → n < MAX_PORTS → nat_le MAX_PORTS m ≡ false
 ports_by n m at few = grind (arith, nat_tests)
 
