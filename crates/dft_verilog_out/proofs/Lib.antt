@@ -14,3 +14,4 @@ pub mod HeaderLemmas
 pub mod KnownLemmas
 pub mod BuiltLemmas
 pub mod RoundTrip
+mod WorkedText

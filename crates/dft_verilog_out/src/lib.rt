@@ -5,6 +5,8 @@ mod declarations;
 mod instances;
 mod names;
 mod nets;
+#[cfg(test)]
+mod tests;
 mod writer;
 
 pub use writer::write;
