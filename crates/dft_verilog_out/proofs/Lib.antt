@@ -15,3 +15,4 @@ pub mod KnownLemmas
 pub mod BuiltLemmas
 pub mod RoundTrip
 pub mod JoinedLemmas
+mod WorkedText
