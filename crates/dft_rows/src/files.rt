@@ -40,9 +40,18 @@ pub fn replayed(
     }
     let (library, netlist, patterns) = texts;
     let mut entries = Vec::new(alloc);
-    entries.push(entry(alloc, "l", library)?)?;
-    entries.push(entry(alloc, "n", netlist)?)?;
-    entries.push(entry(alloc, "p", patterns)?)?;
+    entries.push((
+        String::from_str(alloc, "l")?,
+        Vec::from_slice(alloc, library.as_bytes())?,
+    ))?;
+    entries.push((
+        String::from_str(alloc, "n")?,
+        Vec::from_slice(alloc, netlist.as_bytes())?,
+    ))?;
+    entries.push((
+        String::from_str(alloc, "p")?,
+        Vec::from_slice(alloc, patterns.as_bytes())?,
+    ))?;
     let mut files = MemoryFiles::new(alloc, entries, failing(alloc, failing_load)?);
     let mut out = MemorySink::new(alloc, failing(alloc, failing_put)?);
     let answer = run(alloc, owned.as_slice(), &mut files, &mut out);
@@ -50,13 +59,6 @@ pub fn replayed(
         status: answer.status,
         line: Vec::from_slice(alloc, out.bytes())?,
     })
-}
-
-fn entry(alloc: Global, name: &str, text: &str) -> Result<(String, Vec<u8>), AllocError> {
-    Ok((
-        String::from_str(alloc, name)?,
-        Vec::from_slice(alloc, text.as_bytes())?,
-    ))
 }
 
 // The call of this number fails, and keeps nothing.
