@@ -37,7 +37,7 @@ def netlist(gates, clocks, out):
     nets = [f"d{i}" for i in range(32)] + [f"q{i}" for i in range(flops)]
     for i in range(gates):
         cell = random.choice(["NAND2", "NOR2", "XOR2", "AND2"])
-        a, b = random.choice(nets[-2000:]), random.choice(nets)
+        a, b = nets[len(nets) - 1 - random.randrange(min(2000, len(nets)))], random.choice(nets)
         out.write(f"{cell} g{i} (.A({a}), .B({b}), .Y(n{i}));\n")
         nets.append(f"n{i}")
     for i in range(flops):
