@@ -9,8 +9,6 @@ mod outside;
 mod place;
 mod reserved;
 mod sinks;
-#[cfg(test)]
-mod tests;
 mod tri;
 mod words;
 

@@ -9,13 +9,9 @@ mod kind;
 mod laws;
 mod library;
 mod reader;
-#[cfg(test)]
-mod reading_tests;
 mod refusal;
 mod scans;
 mod standard;
-#[cfg(test)]
-mod tests;
 
 pub use cell::{Cell, CellId, Pin, Pins};
 pub use gates::{bit_of, tri_of};

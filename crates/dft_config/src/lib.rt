@@ -13,11 +13,7 @@ mod lists;
 mod port;
 mod reader;
 mod reading;
-#[cfg(test)]
-mod reading_tests;
 mod section;
-#[cfg(test)]
-mod tests;
 mod unknown;
 mod values;
 

@@ -5,8 +5,6 @@ mod impulses;
 mod making;
 mod row;
 mod table;
-#[cfg(test)]
-mod tests;
 
 pub use making::equations;
 pub use table::Equations;

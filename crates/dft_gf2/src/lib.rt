@@ -10,6 +10,3 @@ mod system;
 pub use fill::Fill;
 pub use laws::{certified_is_unsolvable, stated_is_unsolvable, unsolvable_is_stated};
 pub use system::{Outcome, System};
-
-#[cfg(test)]
-mod tests;

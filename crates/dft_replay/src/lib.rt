@@ -8,8 +8,6 @@ mod laws;
 mod nets;
 mod playing;
 mod replayer;
-#[cfg(test)]
-mod tests;
 mod verdict;
 
 pub use error::ReplayError;

@@ -21,8 +21,35 @@ const CHAIN: &str =
 const UNLOCKED_CHAIN: &str =
     "module s (ca, cb, d, scan_enable, scan_in0, q); input ca, cb, d, scan_enable, scan_in0; output q; SDFF f0 (.CK(ca), .D(d), .SI(scan_in0), .SE(scan_enable), .Q(n0)); SDFF f1 (.CK(cb), .D(n0), .SI(n2), .SE(scan_enable), .Q(n1)); SDFF f2 (.CK(ca), .D(n1), .SI(n0), .SE(scan_enable), .Q(n2)); SDFF f3 (.CK(cb), .D(n2), .SI(n1), .SE(scan_enable), .Q(q)); endmodule";
 
+// A lock-up clocked by the domain after.
+const LATE_LOCK: &str =
+    "module r (ca, cb, d, q); input ca, cb, d; output q; DFF a (.CK(ca), .D(d), .Q(n)); LOCKUP l (.CK(cb), .D(n), .Q(p)); DFF b (.CK(cb), .D(p), .Q(q)); endmodule";
+
+const SET: &str =
+    "module m (c, d, s, q); input c, d, s; output q; DFFS f (.CK(c), .D(d), .SN(s), .Q(q)); endmodule";
+
+// What a cell holds that is not modelled stands before a flip-flop.
+const OPAQUE: &str =
+    "module m (c, d, e, q); input c, d, e; output q; LATCH u (.G(d), .D(d), .Q(n)); AND2 g (.A(n), .B(e), .Y(p)); DFF f (.CK(c), .D(p), .Q(q)); endmodule";
+
+const UNCONNECTED: &str =
+    "module m (c, e, q); input c, e; output q; AND2 g (.A(), .B(e), .Y(p)); DFF f (.CK(c), .D(p), .Q(q)); endmodule";
+
+// One domain, whose clock goes through buffers on its way to the second flip-flop.
+const BUFFERED: &str =
+    "module m (c, d, q); input c, d; output q; DFF a (.CK(c), .D(d), .Q(n)); BUF u (.A(c), .Y(j)); buf v (k, j); DFF b (.CK(k), .D(n), .Q(q)); endmodule";
+
+const INVERTED: &str =
+    "module m (c, d, q); input c, d; output q; INV u (.A(c), .Y(k)); DFF f (.CK(k), .D(d), .Q(q)); endmodule";
+
+const CLOCK_SHOWN: &str =
+    "module m (c, d, q); input c, d; output q; assign q = c; DFF f (.CK(c), .D(d), .Q(n)); endmodule";
+
+const CLOCK_AS_DATA: &str =
+    "module m (ca, cb, q); input ca, cb; output q; DFF f (.CK(ca), .D(cb), .Q(q)); DFF g (.CK(cb), .D(ca), .Q(n)); endmodule";
+
 // A netlist, its inputs, the vectors, and what is printed. Its output is q.
-static VERDICTS: [(&str, &str, &str, &str, Status); 11] = [
+static VERDICTS: [(&str, &str, &str, &str, Status); 21] = [
     (
         NETLIST,
         "c d",
@@ -98,6 +125,76 @@ static VERDICTS: [(&str, &str, &str, &str, Status); 11] = [
         "ca cb d scan_enable scan_in0",
         "PP011 X PP010 X PP011 X PP010 X 00010 H",
         "undetermined vector 4 signal q\n",
+        Status::NotPassed,
+    ),
+    (
+        LATE_LOCK,
+        "ca cb d",
+        "PP0 X PP0 X PP1 L 000 L",
+        "undetermined vector 3 signal q\n",
+        Status::NotPassed,
+    ),
+    (
+        SET,
+        "c d s",
+        "000 H P01 H 001 L",
+        "pass 3 vectors 3 compared\n",
+        Status::Done,
+    ),
+    (
+        OPAQUE,
+        "c d e",
+        "P10 X 010 L P11 X 011 H",
+        "undetermined vector 3 signal q\n",
+        Status::NotPassed,
+    ),
+    (
+        UNCONNECTED,
+        "c e",
+        "P0 X 00 L P1 X 01 H",
+        "undetermined vector 3 signal q\n",
+        Status::NotPassed,
+    ),
+    (
+        BUFFERED,
+        "c d",
+        "P0 X P1 X P0 L 00 H",
+        "pass 4 vectors 2 compared\n",
+        Status::Done,
+    ),
+    (
+        INVERTED,
+        "c d",
+        "P1 X 00 H",
+        "undetermined vector 1 signal q\n",
+        Status::NotPassed,
+    ),
+    (
+        CLOCK_SHOWN,
+        "c d",
+        "P0 L 00 L",
+        "pass 2 vectors 2 compared\n",
+        Status::Done,
+    ),
+    (
+        CLOCK_SHOWN,
+        "c d",
+        "00 L P0 H",
+        "mismatch vector 1 signal q\n",
+        Status::NotPassed,
+    ),
+    (
+        CLOCK_AS_DATA,
+        "ca cb",
+        "P0 X 00 L",
+        "pass 2 vectors 1 compared\n",
+        Status::Done,
+    ),
+    (
+        CLOCK_AS_DATA,
+        "ca cb",
+        "PP X 00 L",
+        "undetermined vector 1 signal q\n",
         Status::NotPassed,
     ),
 ];

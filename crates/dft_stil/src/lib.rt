@@ -12,8 +12,6 @@ mod pattern_set;
 mod reader;
 mod signal;
 mod steadiness;
-#[cfg(test)]
-mod tests;
 mod vectors;
 mod writer;
 

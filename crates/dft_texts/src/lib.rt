@@ -11,3 +11,5 @@ mod netlist_lines;
 mod netlist_tokens;
 #[cfg(test)]
 mod netlist_written;
+#[cfg(test)]
+mod patterns;

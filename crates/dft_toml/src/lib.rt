@@ -4,8 +4,6 @@
 mod keys;
 mod lookup;
 mod name;
-#[cfg(test)]
-mod tests;
 mod text;
 
 pub use keys::{has_only, has_word};

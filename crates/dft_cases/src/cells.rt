@@ -1,5 +1,5 @@
-use super::*;
 use dft_base::Tri;
+use dft_cells::{CellId, Kind, Library, bit_of, tri_of};
 use std::test::Fail;
 
 #[test]

@@ -1,4 +1,7 @@
-use super::*;
+use dft_base::{
+    Failing, Files, HostFiles, LoadError, MemoryFiles, MemorySink, Name, NeverFails, OutSink, PutError, SaveError, Sink,
+    is_simple_name, needs_escape,
+};
 use std::test::Fail;
 
 #[test]

@@ -1,4 +1,4 @@
-use super::*;
+use dft_config::Config;
 use std::test::Fail;
 
 // A text, and the configuration that it is, worked by hand.

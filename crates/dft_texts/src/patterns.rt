@@ -1,5 +1,5 @@
-use super::*;
 use dft_netlist::Dir;
+use dft_stil::{Act, MAX_TEXT, PatternSet, StilError, read, write};
 use std::alloc::{AllocError, Global};
 use std::test::Fail;
 

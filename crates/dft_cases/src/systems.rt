@@ -1,6 +1,6 @@
 ghost use Rattle.std.specs.Prelude.{◌<◌, length};
 
-use super::*;
+use dft_gf2::{Fill, Outcome, System};
 use std::alloc::{AllocError, Global};
 use std::test::Fail;
 

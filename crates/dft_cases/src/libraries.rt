@@ -1,5 +1,5 @@
-use super::*;
 use dft_base::Name;
+use dft_cells::{Kind, Library, LibraryError, MAX_CELLS};
 use std::alloc::{AllocError, Global};
 use std::test::Fail;
 

@@ -1,7 +1,7 @@
 -- The literal parts are in range.
 use Rattle.std.proofs.Common.{refl, lit≤}
 use Rattle.dft_equations.proofs.Fits.{ring_is}
-use Rattle.dft_equations.proofs.tests.small_ring.Goals as goal
+use Rattle.dft_cases.proofs.rings.small_ring.Goals as goal
 
 pub returns : goal.returns
 returns c =

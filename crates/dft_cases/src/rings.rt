@@ -2,9 +2,9 @@ ghost use Rattle.std.specs.Prelude.{◌≡◌, ◌<◌, ◌≤◌, ◌*◌, leng
 ghost use Rattle.std.specs.List.{list_all};
 ghost use Rattle.dft_config.specs.Range.{IsRingInRange};
 
-use crate::equations;
 use dft_base::Name;
 use dft_config::{CompactorConfig, Config, FillRule, Injector, Listed, PortNames, RingConfig, Tap};
+use dft_equations::equations;
 use dft_toml::Names;
 use std::alloc::{AllocError, Global};
 use std::test::Fail;

@@ -1,0 +1,19 @@
+//! Cases worked by hand, as tests of the readers of TOML, the load equations, elimination and the outside.
+#![tactic(auto)]
+
+#[cfg(test)]
+mod cells;
+#[cfg(test)]
+mod configurations;
+#[cfg(test)]
+mod keys;
+#[cfg(test)]
+mod libraries;
+#[cfg(test)]
+mod outside;
+#[cfg(test)]
+mod refusals;
+#[cfg(test)]
+mod rings;
+#[cfg(test)]
+mod systems;
