@@ -1,0 +1,76 @@
+-- Marks by numbers.
+use Rattle.std.proofs.Common.{◌≡◌, ℕ, zero, suc, ◌+◌, ◌<◌, ◌≤◌, ◌==◌, Bool, true, false, ◌||◌, List, [], ◌∷◌, ◌++◌, length, get_or, set, take, drop, replicate, Option, Some, refl, sym, ◌∙◌, ap, subst, arith, inl, inr}
+use Rattle.std.specs.List.{list_any}
+use Rattle.std.proofs.lemmas.Bool.{cases_eq}
+use Rattle.std.proofs.lemmas.Bool.Decides.{nat_tests}
+use Rattle.std.proofs.lemmas.List.{get_or-set_same, get_or-set_other, take_all, drop_all, append-nil}
+use Rattle.std.proofs.lemmas.List.Folds.{list_any_more}
+use Rattle.dft_base.specs.Lexing.{Text}
+use Rattle.dft_cells.specs.declared.cell.Cell.{Cell}
+use Rattle.dft_netlist.specs.declared.ids.InstanceId.{InstanceId}
+use Rattle.dft_netlist.specs.declared.instance.Instance.{Instance}
+use Rattle.dft_netlist.specs.Netlist.{Netlist}
+use Rattle.dft_rules.specs.Findings.{AreUsed}
+use Rattle.dft_rules.specs.Refusals.{is_data_of}
+use Rattle.dft_rules.specs.Rules.{flip_flop_named, is_instance, is_kept}
+
+or_true : (b : Bool) → (b || true) ≡ true
+or_true true = refl
+or_true false = refl
+
+or_false : (b : Bool) → (b || false) ≡ b
+or_false true = refl
+or_false false = refl
+
+same_test : (k : ℕ) → (k == k) ≡ true
+same_test k = grind (arith, nat_tests)
+
+other_test : (i k : ℕ) → (i ≡ k → ⊥) → (k == i) ≡ false
+other_test i k apart = grind (arith, nat_tests)
+
+-- a mark more
+pub marked : (marks : List Bool) (k i : ℕ) → k < length marks → get_or (set marks k true) i false ≡ (get_or marks i false || (k == i))
+marked marks k i live = elim (cases_eq i k) [
+  | inl e ↦ ap (λ (j : ℕ). get_or (set marks k true) j false) e ∙ get_or-set_same marks k true false live ∙ sym (ap (λ (j : ℕ). get_or marks i false || (k == j)) e ∙ ap (λ (b : Bool). get_or marks i false || b) (same_test k) ∙ or_true (get_or marks i false))
+  | inr apart ↦ get_or-set_other marks k i true false apart ∙ sym (ap (λ (b : Bool). get_or marks i false || b) (other_test i k apart) ∙ or_false (get_or marks i false))
+]
+
+-- the flip-flop of one name more is kept
+pub kept_more : (n : Netlist) (names : List Text) (k i : ℕ) (d : Text) (marks : List Bool) (id : InstanceId) → k < length names → flip_flop_named n (get_or names k d) ≡ Some id → id.0 < length marks →
+    get_or marks i false ≡ is_kept n (take k names) i → get_or (set marks id.0 true) i false ≡ is_kept n (take (k + 1) names) i
+kept_more n names k i d marks id less found live h =
+    marked marks id.0 i live
+    ∙ ap (λ (b : Bool). b || (id.0 == i)) h
+    ∙ sym (list_any_more (λ name. is_instance i (flip_flop_named n name)) names k d less ∙ ap (λ (o : Option InstanceId). is_kept n (take k names) i || is_instance i o) found)
+
+pub kept_all : (n : Netlist) (names : List Text) (k i : ℕ) → length names ≤ k → is_kept n (take k names) i ≡ is_kept n names i
+kept_all n names k i past = ap (λ (xs : List Text). is_kept n xs i) (take_all k names past)
+
+-- ---- what instances take as data
+
+-- marks that were lent whole are as they were left
+pub refilled : (old new : List Bool) (count : ℕ) → count ≡ length old → length new ≡ length old → take count (new ++ drop (length new) old) ≡ new
+refilled old new count size same =
+    let none : drop (length new) old ≡ [] = drop_all (length new) old (omega arith) in
+    ap (λ (rest : List Bool). take count (new ++ rest)) none ∙ ap (take count) (append-nil new) ∙ take_all count new (omega arith)
+
+pub used_none : (library : List Cell) (instances : List Instance) (nets : ℕ) (marks : List Bool) → length marks ≡ nets → ((net : ℕ) → get_or marks net false ≡ false) → AreUsed library (take 0 instances) nets marks
+used_none library instances nets marks count none = record { count = count; each = λ net less. none net }
+
+pub used_more : (library : List Cell) (instances : List Instance) (k nets : ℕ) (d : Instance) (old new : List Bool) → k < length instances → length new ≡ length old →
+    ((net : ℕ) → net < length old → get_or new net false ≡ (get_or old net false || is_data_of library net (get_or instances k d))) →
+    AreUsed library (take k instances) nets old → AreUsed library (take (k + 1) instances) nets new
+used_more library instances k nets d old new less same marks h = record {
+  count = same ∙ h.count;
+  each = λ net live. (
+      let c = h.count in
+      marks net (omega arith) ∙ ap (λ (b : Bool). b || is_data_of library net (get_or instances k d)) (h.each net live) ∙ sym (list_any_more (is_data_of library net) instances k d less));
+}
+
+pub used_all : (library : List Cell) (instances : List Instance) (k nets : ℕ) (marks : List Bool) → length instances ≤ k → AreUsed library (take k instances) nets marks → AreUsed library instances nets marks
+used_all library instances k nets marks past h = let P : List Instance → Type 0 = λ xs. AreUsed library xs nets marks in subst P (take_all k instances past) h
+
+pub none_marked : (count net : ℕ) → get_or (replicate count false) net false ≡ false
+none_marked zero net = refl
+none_marked (suc count) zero = refl
+none_marked (suc count) (suc net) = none_marked count net

@@ -1,0 +1,4 @@
+pub mod Rules
+pub mod Refusals
+pub mod Roots
+pub mod Findings

@@ -1,0 +1,17 @@
+//! The scan rules: which flip-flops of a design are scanned and in which domain, and why a design is refused.
+#![tactic(auto)]
+
+mod cells;
+mod checks;
+mod clocks;
+mod error;
+mod findings;
+mod judged;
+mod judging;
+mod roots;
+mod verdicts;
+
+pub use error::RuleError;
+pub use judged::{Judged, Rule};
+pub use judging::judge;
+pub use verdicts::Verdicts;

@@ -1,0 +1,5 @@
+pub mod RangeLemmas
+pub mod BlockLemmas
+pub mod TableLemmas
+pub mod EvenLemmas
+pub mod OnceLemmas

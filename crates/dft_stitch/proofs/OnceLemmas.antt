@@ -1,0 +1,270 @@
+-- Each scanned cell stands at one place.
+use Rattle.std.proofs.Common.{◌≡◌, ℕ, zero, suc, ◌+◌, ◌<◌, ◌≤◌, ◌==◌, Bool, true, false, cond, List, [], ◌∷◌, ◌++◌, length, get_or, map, flat_map, Option, None, Some, option_and_then, slice_get, refl, sym, ◌∙◌, ap, subst, arith, ◌⊎◌, inl, inr, rules, tests}
+use Rattle.std.specs.Prelude.{position, nat_lt, is_some, position_or_len}
+use Rattle.std.specs.List.{filter_map, cons_option, range_with_len}
+use Rattle.std.proofs.lemmas.Bool.{cases_eq}
+use Rattle.std.proofs.lemmas.Bool.Decides.{nat_tests}
+use Rattle.std.proofs.lemmas.Option.{slice_get_within, slice_get_past}
+use Rattle.std.proofs.lemmas.List.FromFn.{get_or-map-range_with_len, length-map-range_with_len}
+use Rattle.dft_base.specs.Lexing.{Text}
+use Rattle.dft_cells.specs.declared.kind.Kind.{Kind}
+use Rattle.dft_cells.specs.declared.kind.Role.TheVariants.{Clock}
+use Rattle.dft_netlist.specs.declared.ids.InstanceId.{InstanceId}
+use Rattle.dft_netlist.specs.declared.instance.Instance.{Instance}
+use Rattle.dft_netlist.specs.Netlist.{Netlist}
+use Rattle.dft_netlist.specs.Drivers.{Source, pins_of, kind_of, kind_at}
+use Rattle.dft_netlist.specs.Logic.{pin_of}
+use Rattle.dft_netlist.specs.Traces.{Root, Port, Constant, Other, root_of}
+use Rattle.dft_netlist.proofs.LiveLemmas.{le_or_lt}
+use Rattle.dft_netlist.proofs.Places.{get_left}
+use Rattle.dft_config.specs.declared.config.Config.{Config}
+use Rattle.dft_config.specs.Range.{IsInRange}
+use Rattle.dft_rules.specs.declared.judged.Judged.{Judged}
+use Rattle.dft_rules.specs.declared.judged.Judged.TheVariants.{Scanned}
+use Rattle.dft_rules.specs.Rules.{judged, judged_by, judgements, place_of_root, place_of_source, may_be_scanned, is_net, input_net, domain_of as clock_domain, are_held_at, scan_cell_of, is_kept}
+use Rattle.dft_stitch.specs.Chains.{cell_in, cells_in, cells_of, chains_of, domain_of, domain_in, if_domain, plan_of, scanned_cells}
+use Rattle.dft_stitch.specs.Laws.{CellsStandOnce, StandsOnce}
+use Rattle.dft_stitch.specs.Plans.{cell_at}
+use Rattle.dft_stitch.proofs.EvenLemmas.{chains_hold}
+
+-- ---- items of lists, by their places
+
+get_right : {X : Type 0} (xs ys : List X) (k : ℕ) (x : X) → slice_get ys k ≡ Some x → slice_get (xs ++ ys) (length xs + k) ≡ Some x
+get_right [] ys k x h = let e : 0 + k ≡ k = omega arith in rw e h
+get_right (y ∷ xs) ys k x h = let e : suc (length xs) + k ≡ suc (length xs + k) = omega arith in rw e (get_right xs ys k x h)
+
+pub record Behind {X : Type 0} (xs ys : List X) (k : ℕ) (x : X) : Type 0 where
+  pub place : ℕ
+  pub far : k ≡ length xs + place
+  pub at : slice_get ys place ≡ Some x
+
+split_at : {X : Type 0} (xs ys : List X) (k : ℕ) (x : X) → slice_get (xs ++ ys) k ≡ Some x → (slice_get xs k ≡ Some x) ⊎ Behind xs ys k x
+split_at [] ys k x h = inr (record { place = k; far = omega arith; at = h })
+split_at (y ∷ xs) ys zero x h = inl h
+split_at (y ∷ xs) ys (suc k) x h = elim (split_at xs ys k x h) [ inl here ↦ inl here | inr b ↦ inr (record { place = b.place; far = (let f = b.far in omega arith); at = b.at }) ]
+
+-- no item stands at two places
+abbrev Once : {X : Type 0} → List X → Type 0
+Once {X} xs = (a b : ℕ) (x : X) → slice_get xs a ≡ Some x → slice_get xs b ≡ Some x → a ≡ b
+
+once_append : {X : Type 0} (xs ys : List X) → Once xs → Once ys → ((a b : ℕ) (x : X) → slice_get xs a ≡ Some x → slice_get ys b ≡ Some x → ⊥) → Once (xs ++ ys)
+once_append xs ys one two apart a b x p q = elim (split_at xs ys a x p) [
+  | inl p1 ↦ elim (split_at xs ys b x q) [ inl q1 ↦ one a b x p1 q1 | inr q2 ↦ absurd (apart a q2.place x p1 q2.at) ]
+  | inr p2 ↦ elim (split_at xs ys b x q) [
+    | inl q1 ↦ absurd (apart b p2.place x q1 p2.at)
+    | inr q2 ↦ (let e = two p2.place q2.place x p2.at q2.at in let f = p2.far in let g = q2.far in omega arith)
+  ]
+]
+
+once_right : {X : Type 0} (xs ys : List X) → Once (xs ++ ys) → Once ys
+once_right xs ys once a b x p q = let e = once (length xs + a) (length xs + b) x (get_right xs ys a x p) (get_right xs ys b x q) in omega arith
+
+once_none : {X : Type 0} → Once {X} []
+once_none a b x p q = absurd (let f : ⊥ = cc in f)
+
+-- ---- places of chains
+
+in_chains : (chains : List (List InstanceId)) (r : ℕ) (x : InstanceId) → slice_get (flat_map (λ chain. chain) chains) r ≡ Some x → (c : ℕ) × (k : ℕ) × (cell_at chains c k ≡ Some x)
+in_chains [] r x h = absurd (let f : ⊥ = cc in f)
+in_chains (cells ∷ rest) r x h = elim (split_at cells (flat_map (λ chain. chain) rest) r x h) [
+  | inl here ↦ (0, r, here)
+  | inr b ↦ (let more = in_chains rest b.place x b.at in (suc more.0, more.1, more.2))
+]
+
+in_cells : (chains : List (List InstanceId)) (c k : ℕ) (x : InstanceId) → cell_at chains c k ≡ Some x → (r : ℕ) × (slice_get (flat_map (λ chain. chain) chains) r ≡ Some x)
+in_cells [] c k x h = absurd (let f : ⊥ = cc in f)
+in_cells (cells ∷ rest) zero k x h = (k, get_left cells (flat_map (λ chain. chain) rest) k x h)
+in_cells (cells ∷ rest) (suc c) k x h = let more = in_cells rest c k x h in (length cells + more.0, get_right cells (flat_map (λ chain. chain) rest) more.0 x more.1)
+
+one_place : (chains : List (List InstanceId)) → Once (flat_map (λ chain. chain) chains) → (c k d l : ℕ) (x : InstanceId) → cell_at chains c k ≡ Some x → cell_at chains d l ≡ Some x → (c ≡ d) × (k ≡ l)
+one_place [] once c k d l x p q = absurd (let f : ⊥ = cc in f)
+one_place (cells ∷ rest) once zero k zero l x p q =
+    (refl, once k l x (get_left cells (flat_map (λ chain. chain) rest) k x p) (get_left cells (flat_map (λ chain. chain) rest) l x q))
+one_place (cells ∷ rest) once zero k (suc d) l x p q =
+    let more = in_cells rest d l x q in
+    let e = once k (length cells + more.0) x (get_left cells (flat_map (λ chain. chain) rest) k x p) (get_right cells (flat_map (λ chain. chain) rest) more.0 x more.1) in
+    let within = slice_get_within cells k x p in
+    absurd (let f : ⊥ = omega arith in f)
+one_place (cells ∷ rest) once (suc c) k zero l x p q =
+    let more = in_cells rest c k x p in
+    let e = once l (length cells + more.0) x (get_left cells (flat_map (λ chain. chain) rest) l x q) (get_right cells (flat_map (λ chain. chain) rest) more.0 x more.1) in
+    let within = slice_get_within cells l x q in
+    absurd (let f : ⊥ = omega arith in f)
+one_place (cells ∷ rest) once (suc c) k (suc d) l x p q =
+    let same = one_place rest (once_right cells (flat_map (λ chain. chain) rest) once) c k d l x p q in (ap suc same.0, same.1)
+
+-- ---- the scanned cells of a domain
+
+abbrev IsHead : (v : List (Option Judged)) (d k : ℕ) (x : InstanceId) → Type 0
+IsHead v d k x = (x ≡ record { 0 = k }) × (domain_of v (record { 0 = k }) ≡ Some d)
+
+abbrev IsLater : (rest : List InstanceId) (x : InstanceId) → Type 0
+IsLater rest x = (q : ℕ) × (slice_get rest q ≡ Some x)
+
+same_number : (a b : ℕ) → (a == b) ≡ true → a ≡ b
+same_number a b h = grind (arith, nat_tests)
+
+number_same : (a : ℕ) → (a == a) ≡ true
+number_same a = grind (arith, nat_tests)
+
+by_domain : (v : List (Option Judged)) (d k : ℕ) (rest : List InstanceId) (p : ℕ) (x : InstanceId) (o : Option ℕ) → domain_of v (record { 0 = k }) ≡ o →
+    slice_get (cons_option (if_domain d o (record { 0 = k })) rest) p ≡ Some x → IsHead v d k x ⊎ IsLater rest x
+by_domain v d k rest p x None is h = inr (p, h)
+by_domain v d k rest p x (Some e) is h = by (e == d) refl p h
+  where
+    by : (t : Bool) → (e == d) ≡ t → (p : ℕ) → slice_get (cons_option (cond t (Some (record { 0 = k })) None) rest) p ≡ Some x → IsHead v d k x ⊎ IsLater rest x
+    by true same zero at = inl (cc, is ∙ ap Some (same_number e d same))
+    by true same (suc q) at = inr (q, at)
+    by false same q at = inr (q, at)
+
+head_or_later : (v : List (Option Judged)) (d k : ℕ) (rest : List InstanceId) (p : ℕ) (x : InstanceId) → slice_get (cons_option (cell_in v d k) rest) p ≡ Some x → IsHead v d k x ⊎ IsLater rest x
+head_or_later v d k rest p x h = by_domain v d k rest p x (domain_of v (record { 0 = k })) refl h
+
+pub record IsIn (v : List (Option Judged)) (d k : ℕ) (x : InstanceId) : Type 0 where
+  pub low : k ≤ x.0
+  pub domain : domain_of v x ≡ Some d
+
+in_range : (v : List (Option Judged)) (d k m p : ℕ) (x : InstanceId) → slice_get (filter_map (cell_in v d) (range_with_len k m)) p ≡ Some x → IsIn v d k x
+in_range v d k zero p x h = absurd (let f : ⊥ = cc in f)
+in_range v d k (suc m) p x h = elim (head_or_later v d k (filter_map (cell_in v d) (range_with_len (k + 1) m)) p x h) [
+  | inl here ↦ record { low = (let e : x.0 ≡ k = ap (λ (y : InstanceId). y.0) here.0 in omega arith); domain = ap (domain_of v) here.0 ∙ here.1 }
+  | inr more ↦ (let ih = in_range v d (k + 1) m more.0 x more.1 in let low = ih.low in record { low = omega arith; domain = ih.domain })
+]
+
+once_option : (v : List (Option Judged)) (d k : ℕ) (rest : List InstanceId) → ((q : ℕ) (x : InstanceId) → slice_get rest q ≡ Some x → k < x.0) → Once rest → (o : Option InstanceId) → (o ≡ None) ⊎ (o ≡ Some (record { 0 = k })) → Once (cons_option o rest)
+once_option v d k rest high once None is = once
+once_option v d k rest high once (Some y) is = by
+  where
+    y_is : y.0 ≡ k
+    y_is = elim is [ inl e ↦ absurd (let f : ⊥ = cc in f) | inr e ↦ (let g : y ≡ record { 0 = k } = cc in ap (λ (z : InstanceId). z.0) g) ]
+
+    never : (q : ℕ) (x : InstanceId) → y ≡ x → slice_get rest q ≡ Some x → ⊥
+    never q x e at = let h = high q x at in let i : y.0 ≡ x.0 = ap (λ (z : InstanceId). z.0) e in let j = y_is in let f : ⊥ = omega arith in f
+
+    by : Once (y ∷ rest)
+    by zero zero x p q = refl
+    by zero (suc b) x p q = absurd (never b x (let e : y ≡ x = cc in e) q)
+    by (suc a) zero x p q = absurd (never a x (let e : y ≡ x = cc in e) p)
+    by (suc a) (suc b) x p q = ap suc (once a b x p q)
+
+which : (d : ℕ) (o : Option ℕ) (x : InstanceId) → (if_domain d o x ≡ None) ⊎ (if_domain d o x ≡ Some x)
+which d None x = inl refl
+which d (Some e) x = by (e == d)
+  where
+    by : (t : Bool) → (cond t (Some x) None ≡ None) ⊎ (cond t (Some x) None ≡ Some x)
+    by true = inr refl
+    by false = inl refl
+
+once_range : (v : List (Option Judged)) (d k m : ℕ) → Once (filter_map (cell_in v d) (range_with_len k m))
+once_range v d k zero = once_none
+once_range v d k (suc m) =
+    once_option v d k (filter_map (cell_in v d) (range_with_len (k + 1) m)) (λ q x at. (let low = (in_range v d (k + 1) m q x at).low in omega arith)) (once_range v d (k + 1) m)
+    (cell_in v d k) (which d (domain_of v (record { 0 = k })) (record { 0 = k }))
+
+later : (o : Option InstanceId) (rest : List InstanceId) (x : InstanceId) → IsLater rest x → IsLater (cons_option o rest) x
+later None rest x h = h
+later (Some y) rest x h = (suc h.0, h.1)
+
+taken : (d k : ℕ) (rest : List InstanceId) (o : Option ℕ) → o ≡ Some d → IsLater (cons_option (if_domain d o (record { 0 = k })) rest) (record { 0 = k })
+taken d k rest None is = absurd (let f : ⊥ = cc in f)
+taken d k rest (Some e) is = let same : e ≡ d = cc in let yes : (e == d) ≡ true = ap (λ (j : ℕ). j == d) same ∙ number_same d in rw yes (0, refl)
+
+has_cell : (v : List (Option Judged)) (d k m i : ℕ) → k ≤ i → i < k + m → domain_of v (record { 0 = i }) ≡ Some d → IsLater (filter_map (cell_in v d) (range_with_len k m)) (record { 0 = i })
+has_cell v d k zero i low high is = absurd (let f : ⊥ = omega arith in f)
+has_cell v d k (suc m) i low high is = elim (cases_eq k i) [
+  | inl e ↦ (
+      let P : ℕ → Type 0 = λ j. IsLater (cons_option (cell_in v d k) (filter_map (cell_in v d) (range_with_len (k + 1) m))) (record { 0 = j }) in
+      subst P e (taken d k (filter_map (cell_in v d) (range_with_len (k + 1) m)) (domain_of v (record { 0 = k })) (ap (λ (j : ℕ). domain_of v (record { 0 = j })) e ∙ is)))
+  | inr apart ↦ later (cell_in v d k) (filter_map (cell_in v d) (range_with_len (k + 1) m)) (record { 0 = i }) (has_cell v d (k + 1) m i (omega arith) (omega arith) is)
+]
+
+-- ---- the scanned cells of all domains
+
+in_domains : (v : List (Option Judged)) (d m p : ℕ) (x : InstanceId) → slice_get (flat_map (cells_in v) (range_with_len d m)) p ≡ Some x → (e : ℕ) × (d ≤ e) × (domain_of v x ≡ Some e)
+in_domains v d zero p x h = absurd (let f : ⊥ = cc in f)
+in_domains v d (suc m) p x h = elim (split_at (cells_in v d) (flat_map (cells_in v) (range_with_len (d + 1) m)) p x h) [
+  | inl here ↦ (d, omega arith, (in_range v d 0 (length v) p x here).domain)
+  | inr b ↦ (let more = in_domains v (d + 1) m b.place x b.at in let low = more.1 in (more.0, omega arith, more.2))
+]
+
+once_domains : (v : List (Option Judged)) (d m : ℕ) → Once (flat_map (cells_in v) (range_with_len d m))
+once_domains v d zero = once_none
+once_domains v d (suc m) = once_append (cells_in v d) (flat_map (cells_in v) (range_with_len (d + 1) m)) (once_range v d 0 (length v)) (once_domains v (d + 1) m)
+    (λ a b x p q. (
+    let here = (in_range v d 0 (length v) a x p).domain in
+    let there = in_domains v (d + 1) m b x q in
+    let same : d ≡ there.0 = (let e : Some d ≡ Some there.0 = sym here ∙ there.2 in cc) in
+    let low = there.1 in
+    let f : ⊥ = omega arith in f))
+
+has_domain : (v : List (Option Judged)) (d e m : ℕ) (x : InstanceId) → d ≤ e → e < d + m → IsLater (cells_in v e) x → IsLater (flat_map (cells_in v) (range_with_len d m)) x
+has_domain v d e zero x low high has = absurd (let f : ⊥ = omega arith in f)
+has_domain v d e (suc m) x low high has = elim (cases_eq d e) [
+  | inl same ↦ (
+      let here : IsLater (cells_in v d) x = (let P : ℕ → Type 0 = λ j. IsLater (cells_in v j) x in subst P (sym same) has) in
+      (here.0, get_left (cells_in v d) (flat_map (cells_in v) (range_with_len (d + 1) m)) here.0 x here.1))
+  | inr apart ↦ (
+      let there = has_domain v (d + 1) e m x (omega arith) (omega arith) has in
+      (length (cells_in v d) + there.0, get_right (cells_in v d) (flat_map (cells_in v) (range_with_len (d + 1) m)) there.0 x there.1))
+]
+
+-- ---- a scanned flip-flop has a domain of the configuration
+
+scanned_in : (t : Bool) (domain : Option ℕ) (held scans kept : Bool) (d : ℕ) → cond t (judged_by domain held scans kept) None ≡ Some (Scanned d) → domain ≡ Some d
+scanned_in false domain held scans kept d h = absurd (let f : ⊥ = cc in f)
+scanned_in true None held scans kept d h = absurd (let f : ⊥ = cc in f)
+scanned_in true (Some e) false scans kept d h = absurd (let f : ⊥ = cc in f)
+scanned_in true (Some e) true false kept d h = absurd (let f : ⊥ = cc in f)
+scanned_in true (Some e) true true true d h = absurd (let f : ⊥ = cc in f)
+scanned_in true (Some e) true true false d h = cc
+
+within_names : (t : Bool) (p count d : ℕ) → nat_lt p count ≡ t → cond t (Some p) None ≡ Some d → d < count
+within_names true p count d is h = let e : p ≡ d = cc in grind (arith, nat_tests)
+within_names false p count d is h = absurd (let f : ⊥ = cc in f)
+
+root_within_names : (n : Netlist) (names : List Text) (root : Root) (d : ℕ) → place_of_root n names root ≡ Some d → d < length names
+root_within_names n names (Port net) d h = within_names (nat_lt (position_or_len (λ name. is_net net (input_net n name)) names) (length names)) (position_or_len (λ name. is_net net (input_net n name)) names) (length names) d refl h
+root_within_names n names (Constant bit) d h = absurd (let f : ⊥ = cc in f)
+root_within_names n names Other d h = absurd (let f : ⊥ = cc in f)
+
+source_within_names : (n : Netlist) (names : List Text) (o : Option Source) (d : ℕ) → option_and_then (place_of_source n names) o ≡ Some d → d < length names
+source_within_names n names None d h = absurd (let f : ⊥ = cc in f)
+source_within_names n names (Some source) d h = root_within_names n names (root_of n source) d h
+
+domain_within : (n : Netlist) (config : Config) (i d : ℕ) → judged n config i ≡ Some (Scanned d) → d < length config.domains
+domain_within n config i d h =
+    source_within_names n config.domains (pin_of Clock i (pins_of n i)) d
+    (scanned_in (may_be_scanned (kind_at n i)) (clock_domain n config i) (are_held_at n config i) (is_some (scan_cell_of n i)) (is_kept n config.keep i) d h)
+
+no_instance : (n : Netlist) (config : Config) (i d : ℕ) → slice_get n.instances i ≡ None → judged n config i ≡ Some (Scanned d) → ⊥
+no_instance n config i d none h =
+    let opaque : may_be_scanned (kind_at n i) ≡ false = ap (λ (o : Option Instance). may_be_scanned (kind_of n.library o)) none in
+    let not : judged n config i ≡ None = ap (λ (t : Bool). cond t (judged_by (clock_domain n config i) (are_held_at n config i) (is_some (scan_cell_of n i)) (is_kept n config.keep i)) None) opaque in
+    let f : ⊥ = cc in f
+
+instance_there : (n : Netlist) (config : Config) (i d : ℕ) → judged n config i ≡ Some (Scanned d) → i < length n.instances
+instance_there n config i d h = elim (le_or_lt (length n.instances) i) [ inl past ↦ absurd (no_instance n config i d (slice_get_past n.instances i past) h) | inr less ↦ less ]
+
+-- ---- the law
+
+pub cells_once : CellsStandOnce
+cells_once = λ n config i d ranged scanned. (
+    let v = judgements n config in
+    let cells = cells_of n config in
+    let x : InstanceId = record { 0 = i } in
+    let less = instance_there n config i d scanned in
+    let verdict : get_or v i None ≡ Some (Scanned d) = get_or-map-range_with_len (judged n config) 0 (length n.instances) i i None less (omega arith) ∙ scanned in
+    let domain : domain_of v x ≡ Some d = ap domain_in verdict in
+    let count = length-map-range_with_len (judged n config) 0 (length n.instances) in
+    let in_domain = has_cell v d 0 (length v) i (omega arith) (omega arith) domain in
+    let in_all = has_domain v 0 d (length config.domains) x (omega arith) (let w = domain_within n config i d scanned in omega arith) in_domain in
+    let chains = chains_of cells config.chains in
+    let whole : flat_map (λ chain. chain) chains ≡ cells = chains_hold cells config.chains ranged.chains.0 in
+    let once : Once (flat_map (λ chain. chain) chains) = rw whole (once_domains v 0 (length config.domains)) in
+    let place = in_chains chains in_all.0 x (ap (λ (xs : List InstanceId). slice_get xs in_all.0) whole ∙ in_all.1) in
+    record {
+      chain = place.0;
+      place = place.1;
+      stands = place.2;
+      only = λ other after at. one_place chains once other after place.0 place.1 x at place.2;
+    })

@@ -1,0 +1,35 @@
+-- What numbers up to a bound give, one after another.
+use Rattle.std.proofs.Common.{◌≡◌, ℕ, zero, suc, ◌+◌, ◌-◌, ◌<◌, ◌≤◌, List, [], ◌∷◌, ◌++◌, flat_map, Option, None, Some, refl, sym, ◌∙◌, ap, arith, append_assoc}
+use Rattle.std.proofs.lemmas.List.{append-nil}
+use Rattle.std.specs.List.{filter_map, cons_option, range_with_len}
+use Rattle.dft_stitch.specs.Chains.{listed}
+
+one_left : (k total : ℕ) → k < total → total - k ≡ suc (total - (k + 1))
+one_left k total less = omega arith
+
+pub range_over : (k total : ℕ) → total ≤ k → range_with_len k (total - k) ≡ []
+range_over k total past = let none : total - k ≡ 0 = omega arith in ap (range_with_len k) none
+
+cons_listed : {T : Type 0} (o : Option T) (xs : List T) → cons_option o xs ≡ listed o ++ xs
+cons_listed None xs = refl
+cons_listed (Some x) xs = refl
+
+pub filter_on : {T : Type 0} (h : ℕ → Option T) (k total : ℕ) → k < total → filter_map h (range_with_len k (total - k)) ≡ listed (h k) ++ filter_map h (range_with_len (k + 1) (total - (k + 1)))
+filter_on h k total less = ap (λ (m : ℕ). filter_map h (range_with_len k m)) (one_left k total less) ∙ cons_listed (h k) (filter_map h (range_with_len (k + 1) (total - (k + 1))))
+
+pub filter_over : {T : Type 0} (h : ℕ → Option T) (k total : ℕ) → total ≤ k → filter_map h (range_with_len k (total - k)) ≡ []
+filter_over h k total past = ap (filter_map h) (range_over k total past)
+
+pub flat_on : {T : Type 0} (f : ℕ → List T) (k total : ℕ) → k < total → flat_map f (range_with_len k (total - k)) ≡ f k ++ flat_map f (range_with_len (k + 1) (total - (k + 1)))
+flat_on f k total less = ap (λ (m : ℕ). flat_map f (range_with_len k m)) (one_left k total less)
+
+pub flat_over : {T : Type 0} (f : ℕ → List T) (k total : ℕ) → total ≤ k → flat_map f (range_with_len k (total - k)) ≡ []
+flat_over f k total past = ap (flat_map f) (range_over k total past)
+
+-- what is there grows by what the rest begins with
+pub grown : {T : Type 0} (old new more rest after whole : List T) → new ≡ old ++ more → rest ≡ more ++ after → old ++ rest ≡ whole → new ++ after ≡ whole
+grown {T = T} old new more rest after whole e r h = ap (λ (xs : List T). xs ++ after) e ∙ append_assoc old more after ∙ sym (ap (λ (xs : List T). old ++ xs) r) ∙ h
+
+-- nothing is left
+pub ended : {T : Type 0} (now rest whole : List T) → rest ≡ [] → now ++ rest ≡ whole → now ≡ whole
+ended {T = T} now rest whole none h = sym (append-nil now) ∙ ap (λ (xs : List T). now ++ xs) (sym none) ∙ h

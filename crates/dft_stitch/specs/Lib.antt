@@ -1,0 +1,6 @@
+pub mod Chains
+pub mod Limits
+pub mod Shown
+pub mod Plans
+pub mod Tables
+pub mod Laws

@@ -1,0 +1,71 @@
+ghost use Rattle.std.specs.Prelude.{◌≡◌, ◌<◌, ℕ, IfNone, IfSome, Some, length, slice_get};
+ghost use Rattle.dft_stitch.specs.Plans.{cell_at};
+
+use crate::cells::Cells;
+use crate::places::{CellPlace, LockupPlace};
+use dft_netlist::InstanceId;
+use std::marker::Model;
+
+/// Scan chains. A clause sees them as a record of lists.
+#[derive(Debug, Drop)]
+pub struct Chains {
+    pub(crate) chains: Vec<Cells>,
+    pub(crate) lockups: Vec<LockupPlace>,
+    /// The place of each instance, by its number.
+    pub(crate) places: Vec<Option<CellPlace>>,
+    pub(crate) cycles: u16,
+}
+
+impl Model for Chains {
+    ghost use Rattle.dft_stitch.specs.Plans.{Plan};
+
+    ghost Value = { Plan };
+
+    ghost use Rattle.dft_stitch.specs.Shown.{AreChains, plan_in};
+
+    ghost view = { plan_in };
+
+    ghost invariant = { AreChains };
+}
+
+impl Chains {
+    /// The cells of this chain, from the one nearest the scan input on.
+    pub fn chain(&self, c: u16) -> &[InstanceId]
+        requires { c < length self.now.chains }
+        ensures { slice_get self.now.chains c ≡ Some result.now }
+    {
+        self.chains[usize::from(c)].as_slice()
+    }
+
+    /// How many chains there are.
+    pub fn count(&self) -> u16
+        ensures { result ≡ length self.now.chains }
+    {
+        self.chains.len() as u16
+    }
+
+    /// The shift cycles of a load.
+    pub fn cycles(&self) -> u16
+        ensures { result ≡ self.now.cycles }
+    {
+        self.cycles
+    }
+
+    /// Where this cell stands, if it is scanned.
+    pub fn place_of(&self, cell: InstanceId) -> Option<CellPlace>
+        ensures stands { IfSome result (λ at. cell_at self.now.chains at.chain at.place ≡ Some cell) }
+        ensures nowhere { IfNone result ((chain place : ℕ) → cell_at self.now.chains chain place ≡ Some cell → ⊥) }
+    {
+        match self.places.get(cell.0 as usize) {
+            Some(place) => *place,
+            None => None,
+        }
+    }
+
+    /// The lock-ups between cells of different domains, chain by chain and by their places.
+    pub fn lockups(&self) -> &[LockupPlace]
+        ensures { result.now ≡ self.now.lockups }
+    {
+        &self.lockups
+    }
+}

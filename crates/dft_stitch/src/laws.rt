@@ -1,0 +1,18 @@
+//! Laws about chains, as contracts of functions that do nothing.
+
+ghost use Rattle.dft_stitch.specs.Laws.{CellsStandOnce, ChainsAreEven, ChainsHoldCells};
+
+/// The cells of the chains, one chain after the other, are the scanned cells in their order.
+pub fn chains_hold_cells()
+    ensures { ChainsHoldCells }
+{}
+
+/// No chain is longer than another by more than one cell.
+pub fn chains_are_even()
+    ensures { ChainsAreEven }
+{}
+
+/// Each scanned flip-flop stands at one place of the chains, and at no other.
+pub fn cells_stand_once()
+    ensures { CellsStandOnce }
+{}

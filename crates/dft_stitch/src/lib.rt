@@ -1,0 +1,21 @@
+//! Scan chains: how the scanned cells of a design are stitched together, and where lock-ups stand.
+#![tactic(none)]
+
+mod cells;
+mod chains;
+mod cutting;
+mod error;
+mod laws;
+mod limits;
+mod lockups;
+mod places;
+mod planning;
+mod table;
+
+pub use cells::Cells;
+pub use chains::Chains;
+pub use error::{Counted, StitchError};
+pub use laws::{cells_stand_once, chains_are_even, chains_hold_cells};
+pub use limits::{MAX_CELLS, MAX_CYCLES, MAX_VARIABLES};
+pub use places::{CellPlace, LockupPlace};
+pub use planning::plan;

@@ -1,0 +1,86 @@
+//! Lock-ups between cells of different domains.
+
+ghost use Rattle.std.specs.Prelude.{◌≡◌, ◌≤◌, ◌<◌, ◌++◌, IfOk, OnOk, length};
+ghost use Rattle.std.specs.List.{All, filter_map, range_with_len};
+ghost use Rattle.dft_stitch.specs.Chains as spec;
+
+use crate::cells::Cells;
+use crate::cutting::domain_of;
+use crate::places::LockupPlace;
+use dft_netlist::InstanceId;
+use dft_rules::Verdicts;
+use std::alloc::{AllocError, Global};
+
+/// The lock-ups, chain by chain and by their places.
+pub(crate) fn find_lockups(
+    alloc: Global,
+    verdicts: &Verdicts,
+    chains: &[Cells],
+) -> Result<Vec<LockupPlace>, AllocError>
+    requires few { length chains.now ≤ 1024 }
+    requires short { All (λ cells. length cells ≤ 65536) chains.now }
+    ensures { IfOk result (λ lockups. lockups.items ≡ spec.lockups_of verdicts.now chains.now) }
+{
+    let mut lockups = Vec::new(alloc);
+    for (chain, cells) in chains.iter().enumerate() {
+        add_lockups(&mut lockups, verdicts, chain as u16, cells.as_slice())?;
+    }
+    Ok(lockups)
+}
+
+fn add_lockups(
+    lockups: &mut Vec<LockupPlace>,
+    verdicts: &Verdicts,
+    chain: u16,
+    cells: &[InstanceId],
+) -> Result<(), AllocError>
+    requires { length cells.now ≤ 65536 }
+    ensures { OnOk result (lockups.new.items ≡ lockups.old.items ++ filter_map (spec.lockup_after verdicts.now chain cells.now) (range_with_len 0 (length cells.now))) }
+{
+    for place in 0..cells.len() {
+        add(lockups, lockup_after(verdicts, chain, cells, place))?;
+    }
+    Ok(())
+}
+
+/// Adds a lock-up, if there is one.
+fn add(lockups: &mut Vec<LockupPlace>, lockup: Option<LockupPlace>) -> Result<(), AllocError>
+    ensures { OnOk result (lockups.new.items ≡ lockups.old.items ++ spec.listed lockup) }
+{
+    if let Some(lockup) = lockup {
+        lockups.push(lockup)?;
+    }
+    Ok(())
+}
+
+/// The lock-up after a place, if the next cell has another domain.
+fn lockup_after(
+    verdicts: &Verdicts,
+    chain: u16,
+    cells: &[InstanceId],
+    place: usize,
+) -> Option<LockupPlace>
+    requires { place < 65536 }
+    ensures { result ≡ spec.lockup_after verdicts.now chain cells.now place }
+{
+    let domain = domain_at(verdicts, cells, place)?;
+    let next = domain_at(verdicts, cells, place + 1)?;
+    if domain == next {
+        None
+    } else {
+        Some(LockupPlace {
+            chain,
+            after: place as u16,
+            domain,
+        })
+    }
+}
+
+fn domain_at(verdicts: &Verdicts, cells: &[InstanceId], place: usize) -> Option<u8>
+    ensures { result ≡ spec.domain_at verdicts.now cells.now place }
+{
+    match cells.get(place) {
+        Some(cell) => domain_of(verdicts, *cell),
+        None => None,
+    }
+}
