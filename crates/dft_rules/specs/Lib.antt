@@ -2,3 +2,4 @@ pub mod Rules
 pub mod Refusals
 pub mod Roots
 pub mod Findings
+pub mod Laws

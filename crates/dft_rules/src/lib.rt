@@ -8,10 +8,12 @@ mod error;
 mod findings;
 mod judged;
 mod judging;
+mod laws;
 mod roots;
 mod verdicts;
 
 pub use error::RuleError;
 pub use judged::{Judged, Rule};
 pub use judging::judge;
+pub use laws::flip_flops_are_judged;
 pub use verdicts::Verdicts;
