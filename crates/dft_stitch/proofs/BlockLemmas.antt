@@ -9,28 +9,36 @@ use Rattle.dft_config.specs.Cycles.{part_length}
 use Rattle.dft_rules.specs.declared.judged.Judged.{Judged}
 use Rattle.dft_stitch.specs.Chains.{blocks, chain_lengths, chains_of, cell_in, cells_in, scanned_cells, domain_of, if_domain}
 use Rattle.dft_stitch.specs.Tables.{AreBelow}
-use Rattle.dft_stitch.proofs.RangeLemmas.{grown}
+use Rattle.dft_stitch.proofs.RangeLemmas.{begun, ended, grown}
 
 -- ---- the cut
 
 -- the blocks from a chain on
-abbrev pub blocks_from : {T : Type 0} (cells chains : ℕ) → (chain : ℕ) → List T → List (List T)
+abbrev pub blocks_from : (cells chains chain : ℕ) → List InstanceId → List (List InstanceId)
 blocks_from cells chains chain items = blocks (map (part_length cells chains) (range_with_len chain (chains - chain))) items
 
-block_on : {T : Type 0} (cells chains k : ℕ) (items : List T) → k < chains → blocks_from cells chains k items ≡ take (part_length cells chains k) items ∷ blocks_from cells chains (k + 1) (drop (part_length cells chains k) items)
+block_on : (cells chains k : ℕ) (items : List InstanceId) → k < chains → blocks_from cells chains k items ≡ take (part_length cells chains k) items ∷ blocks_from cells chains (k + 1) (drop (part_length cells chains k) items)
 block_on cells chains k items less = let left : chains - k ≡ suc (chains - (k + 1)) = omega arith in ap (λ (m : ℕ). blocks (map (part_length cells chains) (range_with_len k m)) items) left
 
-pub block_over : {T : Type 0} (cells chains k : ℕ) (items : List T) → chains ≤ k → blocks_from cells chains k items ≡ []
+pub block_over : (cells chains k : ℕ) (items : List InstanceId) → chains ≤ k → blocks_from cells chains k items ≡ []
 block_over cells chains k items past = let left : chains - k ≡ 0 = omega arith in ap (λ (m : ℕ). blocks (map (part_length cells chains) (range_with_len k m)) items) left
 
 -- the chains so far and the rest
-pub record IsCut {T : Type 0} (xs : List T) (chains : ℕ) (done : List (List T)) (chain start : ℕ) : Type 0 where
+pub record IsCut (xs : List InstanceId) (chains : ℕ) (done : List (List InstanceId)) (chain start : ℕ) : Type 0 where
   pub within : start ≤ length xs
   pub same : done ++ blocks_from (length xs) chains chain (drop start xs) ≡ chains_of xs chains
 
-pub cut_more : {T : Type 0} (xs : List T) (chains k start part end : ℕ) (done new : List (List T)) → k < chains → part ≡ part_length (length xs) chains k → end ≡ start + min part (length xs - start) → new ≡ done ++ slice_range xs start end ∷ [] →
+pub cut_none : (xs : List InstanceId) (chains : ℕ) (done : List (List InstanceId)) → done ≡ [] → IsCut xs chains done 0 0
+cut_none xs chains done e =
+    let all : chains - 0 ≡ chains = omega arith in
+    record { within = omega arith; same = begun done (blocks_from (length xs) chains 0 xs) (chains_of xs chains) e (ap (λ (m : ℕ). blocks (map (part_length (length xs) chains) (range_with_len 0 m)) xs) all) }
+
+pub cut_all : (xs : List InstanceId) (chains k start : ℕ) (done : List (List InstanceId)) → chains ≤ k → IsCut xs chains done k start → done ≡ chains_of xs chains
+cut_all xs chains k start done past h = ended done (blocks_from (length xs) chains k (drop start xs)) (chains_of xs chains) (block_over (length xs) chains k (drop start xs) past) h.same
+
+pub cut_more : (xs : List InstanceId) (chains k start part end : ℕ) (done new : List (List InstanceId)) → k < chains → part ≡ part_length (length xs) chains k → end ≡ start + min part (length xs - start) → new ≡ done ++ slice_range xs start end ∷ [] →
     IsCut xs chains done k start → IsCut xs chains new (k + 1) end
-cut_more {T = T} xs chains k start part end done new less is ends e h =
+cut_more xs chains k start part end done new less is ends e h =
     let le = h.within in
     let size : length (drop start xs) ≡ length xs - start = length-drop start xs in
     let some : end - start ≡ min part (length (drop start xs)) = omega arith in
@@ -40,10 +48,10 @@ cut_more {T = T} xs chains k start part end done new less is ends e h =
     record {
       within = omega arith;
       same = grown done new (take part (drop start xs) ∷ []) (blocks_from (length xs) chains k (drop start xs)) (blocks_from (length xs) chains (k + 1) (drop end xs)) (chains_of xs chains)
-        (e ∙ ap (λ (x : List T). done ++ x ∷ []) front)
+        (e ∙ ap (λ (x : List InstanceId). done ++ x ∷ []) front)
         (block_on (length xs) chains k (drop start xs) less
         ∙ ap (λ (m : ℕ). take m (drop start xs) ∷ blocks_from (length xs) chains (k + 1) (drop m (drop start xs))) (sym is)
-        ∙ ap (λ (r : List T). take part (drop start xs) ∷ blocks_from (length xs) chains (k + 1) r) (sym back))
+        ∙ ap (λ (r : List InstanceId). take part (drop start xs) ∷ blocks_from (length xs) chains (k + 1) r) (sym back))
         h.same;
     }
 
@@ -85,7 +93,7 @@ length-blocks : {T : Type 0} (lengths : List ℕ) (items : List T) → length (b
 length-blocks [] items = refl
 length-blocks (l ∷ lengths) items = ap suc (length-blocks lengths (drop l items))
 
-pub chain_count : {T : Type 0} (xs : List T) (chains : ℕ) → length (chains_of xs chains) ≡ chains
+pub chain_count : (xs : List InstanceId) (chains : ℕ) → length (chains_of xs chains) ≡ chains
 chain_count xs chains = length-blocks (chain_lengths (length xs) chains) xs ∙ length-map (range_with_len 0 chains) (part_length (length xs) chains) ∙ length-range_with_len 0 chains
 
 -- ---- each scanned cell is an instance

@@ -1,5 +1,6 @@
 pub mod RangeLemmas
 pub mod BlockLemmas
 pub mod TableLemmas
+pub mod PlanLemmas
 pub mod EvenLemmas
 pub mod OnceLemmas

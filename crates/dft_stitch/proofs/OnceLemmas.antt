@@ -1,9 +1,10 @@
 -- Each scanned cell stands at one place.
 use Rattle.std.proofs.Common.{◌≡◌, ℕ, zero, suc, ◌+◌, ◌<◌, ◌≤◌, ◌==◌, Bool, true, false, cond, List, [], ◌∷◌, ◌++◌, length, get_or, map, flat_map, Option, None, Some, option_and_then, slice_get, refl, sym, ◌∙◌, ap, subst, arith, ◌⊎◌, inl, inr, rules, tests}
-use Rattle.std.specs.Prelude.{position, nat_lt, is_some, position_or_len}
-use Rattle.std.specs.List.{filter_map, cons_option, range_with_len}
+use Rattle.std.specs.Prelude.{position, nat_lt, is_some}
+use Rattle.std.specs.List.{filter_map, cons_option, position_or_len, range_with_len}
 use Rattle.std.proofs.lemmas.Bool.{cases_eq}
 use Rattle.std.proofs.lemmas.Bool.Decides.{nat_tests}
+use Rattle.std.proofs.lemmas.List.{get_or_past}
 use Rattle.std.proofs.lemmas.Option.{slice_get_within, slice_get_past}
 use Rattle.std.proofs.lemmas.List.FromFn.{get_or-map-range_with_len, length-map-range_with_len}
 use Rattle.dft_base.specs.Lexing.{Text}
@@ -20,10 +21,10 @@ use Rattle.dft_netlist.proofs.Places.{get_left}
 use Rattle.dft_config.specs.declared.config.Config.{Config}
 use Rattle.dft_config.specs.Range.{IsInRange}
 use Rattle.dft_rules.specs.declared.judged.Judged.{Judged}
-use Rattle.dft_rules.specs.declared.judged.Judged.TheVariants.{Scanned}
+use Rattle.dft_rules.specs.declared.judged.Judged.TheVariants.{Scanned, Unscanned}
 use Rattle.dft_rules.specs.Rules.{judged, judged_by, judgements, place_of_root, place_of_source, may_be_scanned, is_net, input_net, domain_of as clock_domain, are_held_at, scan_cell_of, is_kept}
 use Rattle.dft_stitch.specs.Chains.{cell_in, cells_in, cells_of, chains_of, domain_of, domain_in, if_domain, plan_of, scanned_cells}
-use Rattle.dft_stitch.specs.Laws.{CellsStandOnce, StandsOnce}
+use Rattle.dft_stitch.specs.Laws.{CellsAreScanned, CellsStandOnce, StandsOnce}
 use Rattle.dft_stitch.specs.Plans.{cell_at}
 use Rattle.dft_stitch.proofs.EvenLemmas.{chains_hold}
 
@@ -59,7 +60,7 @@ once_append xs ys one two apart a b x p q = elim (split_at xs ys a x p) [
 once_right : {X : Type 0} (xs ys : List X) → Once (xs ++ ys) → Once ys
 once_right xs ys once a b x p q = let e = once (length xs + a) (length xs + b) x (get_right xs ys a x p) (get_right xs ys b x q) in omega arith
 
-once_none : {X : Type 0} → Once {X} []
+once_none : {X : Type 0} → Once {X = X} []
 once_none a b x p q = absurd (let f : ⊥ = cc in f)
 
 -- ---- places of chains
@@ -245,7 +246,7 @@ no_instance n config i d none h =
 instance_there : (n : Netlist) (config : Config) (i d : ℕ) → judged n config i ≡ Some (Scanned d) → i < length n.instances
 instance_there n config i d h = elim (le_or_lt (length n.instances) i) [ inl past ↦ absurd (no_instance n config i d (slice_get_past n.instances i past) h) | inr less ↦ less ]
 
--- ---- the law
+-- ---- the laws
 
 pub cells_once : CellsStandOnce
 cells_once = λ n config i d ranged scanned. (
@@ -268,3 +269,28 @@ cells_once = λ n config i d ranged scanned. (
       stands = place.2;
       only = λ other after at. one_place chains once other after place.0 place.1 x at place.2;
     })
+
+scanned_by : (o : Option Judged) (d : ℕ) → domain_in o ≡ Some d → o ≡ Some (Scanned d)
+scanned_by None d h = absurd (let f : ⊥ = cc in f)
+scanned_by (Some (Scanned e)) d h = let same : e ≡ d = cc in ap (λ (x : ℕ). Some (Scanned x)) same
+scanned_by (Some (Unscanned rule)) d h = absurd (let f : ⊥ = cc in f)
+
+verdict_of : (n : Netlist) (config : Config) (i : ℕ) (verdict : Judged) → get_or (judgements n config) i None ≡ Some verdict → judged n config i ≡ Some verdict
+verdict_of n config i verdict h = elim (le_or_lt (length n.instances) i) [
+  | inl past ↦ absurd (let f : ⊥ = (
+      let count = length-map-range_with_len (judged n config) 0 (length n.instances) in
+      let none : get_or (judgements n config) i None ≡ None = get_or_past (judgements n config) i None (omega arith) in
+      cc) in f)
+  | inr less ↦ sym (get_or-map-range_with_len (judged n config) 0 (length n.instances) i i None less (omega arith)) ∙ h
+]
+
+pub cells_scanned : CellsAreScanned
+cells_scanned = λ n config chain place cell ranged at. (
+    let v = judgements n config in
+    let cells = cells_of n config in
+    let chains = chains_of cells config.chains in
+    let whole : flat_map (λ chain. chain) chains ≡ cells = chains_hold cells config.chains ranged.chains.0 in
+    let there = in_cells chains chain place cell at in
+    let in_all : slice_get cells there.0 ≡ Some cell = ap (λ (xs : List InstanceId). slice_get xs there.0) (sym whole) ∙ there.1 in
+    let d = in_domains v 0 (length config.domains) there.0 cell in_all in
+    record { domain = d.0; is = verdict_of n config cell.0 (Scanned d.0) (scanned_by (get_or v cell.0 None) d.0 d.2) })

@@ -26,6 +26,16 @@ flat_on f k total less = ap (λ (m : ℕ). flat_map f (range_with_len k m)) (one
 pub flat_over : {T : Type 0} (f : ℕ → List T) (k total : ℕ) → total ≤ k → flat_map f (range_with_len k (total - k)) ≡ []
 flat_over f k total past = ap (flat_map f) (range_over k total past)
 
+pub filter_start : {T : Type 0} (h : ℕ → Option T) (total : ℕ) → filter_map h (range_with_len 0 (total - 0)) ≡ filter_map h (range_with_len 0 total)
+filter_start h total = let all : total - 0 ≡ total = omega arith in ap (λ (m : ℕ). filter_map h (range_with_len 0 m)) all
+
+pub flat_start : {T : Type 0} (f : ℕ → List T) (total : ℕ) → flat_map f (range_with_len 0 (total - 0)) ≡ flat_map f (range_with_len 0 total)
+flat_start f total = let all : total - 0 ≡ total = omega arith in ap (λ (m : ℕ). flat_map f (range_with_len 0 m)) all
+
+-- nothing is there yet
+pub begun : {T : Type 0} (now rest whole : List T) → now ≡ [] → rest ≡ whole → now ++ rest ≡ whole
+begun {T = T} now rest whole none h = ap (λ (xs : List T). xs ++ rest) none ∙ h
+
 -- what is there grows by what the rest begins with
 pub grown : {T : Type 0} (old new more rest after whole : List T) → new ≡ old ++ more → rest ≡ more ++ after → old ++ rest ≡ whole → new ++ after ≡ whole
 grown {T = T} old new more rest after whole e r h = ap (λ (xs : List T). xs ++ after) e ∙ append_assoc old more after ∙ sym (ap (λ (xs : List T). old ++ xs) r) ∙ h

@@ -1,8 +1,9 @@
 -- The table of places, as it is filled.
-use Rattle.std.proofs.Common.{◌≡◌, ℕ, zero, suc, ◌+◌, ◌<◌, ◌≤◌, List, length, get_or, set, Option, None, Some, option_and_then, slice_get, replicate, refl, sym, ◌∙◌, ap, subst, arith, ◌⊎◌, inl, inr}
+use Rattle.std.proofs.Common.{◌≡◌, ℕ, zero, suc, ◌+◌, ◌<◌, ◌≤◌, List, [], length, get_or, set, take, drop, ◌++◌, Option, None, Some, option_and_then, slice_get, replicate, refl, sym, ◌∙◌, ap, subst, arith, ◌⊎◌, inl, inr}
+use Rattle.std.specs.Prelude.{IfNone, IfSome}
 use Rattle.std.specs.List.{All}
 use Rattle.std.proofs.lemmas.Bool.{cases_eq}
-use Rattle.std.proofs.lemmas.List.{length-set, length-replicate, get_or-set_same, get_or-set_other, get_or_past, get_or-replicate}
+use Rattle.std.proofs.lemmas.List.{length-set, length-replicate, get_or-set_same, get_or-set_other, take_all, drop_all, append-nil}
 use Rattle.std.proofs.lemmas.Option.{slice_get_within}
 use Rattle.dft_netlist.specs.declared.ids.InstanceId.{InstanceId}
 use Rattle.dft_stitch.specs.declared.places.CellPlace.{CellPlace}
@@ -40,29 +41,36 @@ one_noted chain cells k old now cell live at h = record {
     here : Option CellPlace
     here = Some (record { chain = chain; place = k })
 
+pub all_noted : (chain : ℕ) (cells : List InstanceId) (done : ℕ) (old now : List (Option CellPlace)) → length cells ≤ done → Noted chain cells done old now → Noted chain cells (length cells) old now
+all_noted chain cells done old now past h = record {
+  count = h.count;
+  says = h.says;
+  misses = λ i is. (let was = h.misses i is in (was.0, λ place less stands. was.1 place (omega arith) stands));
+}
+
 -- ---- all chains
 
 -- the table knows the first so many chains
 pub record KnowsSome (count : ℕ) (chains : List (List InstanceId)) (done : ℕ) (places : List (Option CellPlace)) : Type 0 where
-  pub count : length places ≡ count
+  pub size : length places ≡ count
   pub says : (i : ℕ) (p : CellPlace) → get_or places i None ≡ Some p → cell_at chains p.chain p.place ≡ Some (record { 0 = i })
   pub misses : (i : ℕ) → get_or places i None ≡ None → (chain place : ℕ) → chain < done → cell_at chains chain place ≡ Some (record { 0 = i }) → ⊥
 
-nothing_there : (count i : ℕ) → get_or (replicate count None) i None ≡ None {A = CellPlace}
-nothing_there zero i = refl
-nothing_there (suc count) zero = refl
-nothing_there (suc count) (suc i) = nothing_there count i
+nothing_there : {X : Type 0} (count i : ℕ) (x : X) → get_or (replicate count x) i x ≡ x
+nothing_there zero i x = refl
+nothing_there (suc count) zero x = refl
+nothing_there (suc count) (suc i) x = nothing_there count i x
 
 pub knows_none : (count : ℕ) (chains : List (List InstanceId)) (done : ℕ) (places : List (Option CellPlace)) → done ≡ 0 → places ≡ replicate count None → KnowsSome count chains done places
 knows_none count chains done places e is = record {
-  count = ap length is ∙ length-replicate count None;
-  says = λ i p some. absurd (let f : ⊥ = (let none : get_or places i None ≡ None = ap (λ (xs : List (Option CellPlace)). get_or xs i None) is ∙ nothing_there count i in cc) in f);
+  size = ap length is ∙ length-replicate count None;
+  says = λ i p some. absurd (let f : ⊥ = (let none : get_or places i None ≡ None = ap (λ (xs : List (Option CellPlace)). get_or xs i None) is ∙ nothing_there count i None in cc) in f);
   misses = λ i none chain place less. absurd (omega arith);
 }
 
 pub knows_more : (count : ℕ) (chains : List (List InstanceId)) (k : ℕ) (cells : List InstanceId) (old new : List (Option CellPlace)) → slice_get chains k ≡ Some cells → KnowsSome count chains k old → Noted k cells (length cells) old new → KnowsSome count chains (k + 1) new
 knows_more count chains k cells old new at h noted = record {
-  count = noted.count ∙ h.count;
+  size = noted.count ∙ h.size;
   says = λ i p is. elim (noted.says i p is) [
     | inl was ↦ h.says i p was
     | inr here ↦ ap (λ (j : ℕ). cell_at chains j p.place) here.0 ∙ ap (λ (o : Option (List InstanceId)). option_and_then (λ (x : List InstanceId). slice_get x p.place) o) at ∙ here.1
@@ -88,3 +96,20 @@ knows_all count chains done places past h = record {
     let within = slice_get_within chains chain there.0 there.1 in
     h.misses i none chain place (omega arith) stands);
 }
+
+-- a table that was lent whole is as it was left
+pub refilled : {X : Type 0} (old new : List X) (count : ℕ) → count ≡ length old → length new ≡ length old → take count (new ++ drop (length new) old) ≡ new
+refilled {X = X} old new count size same =
+    let none : drop (length new) old ≡ [] = drop_all (length new) old (omega arith) in
+    ap (λ (rest : List X). take count (new ++ rest)) none ∙ ap (take count) (append-nil new) ∙ take_all count new (omega arith)
+
+-- ---- what the table says
+
+pub stands_at : (chains : List (List InstanceId)) (places : List (Option CellPlace)) (cell : InstanceId) (place : Option CellPlace) → Knows chains places → get_or places cell.0 None ≡ place → IfSome place (λ p. cell_at chains p.chain p.place ≡ Some cell)
+stands_at chains places cell None knows is = tt
+stands_at chains places cell (Some p) knows is = knows.says cell.0 p is
+
+pub stands_nowhere : (chains : List (List InstanceId)) (places : List (Option CellPlace)) (cell : InstanceId) (place : Option CellPlace) → Knows chains places → get_or places cell.0 None ≡ place →
+    IfNone place ((chain at : ℕ) → cell_at chains chain at ≡ Some cell → ⊥)
+stands_nowhere chains places cell None knows is = λ chain at stands. knows.misses cell.0 chain at is stands
+stands_nowhere chains places cell (Some p) knows is = tt

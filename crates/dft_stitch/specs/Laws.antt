@@ -31,3 +31,13 @@ abbrev pub CellsStandOnce : Type 0
 CellsStandOnce =
     (n : Netlist) (config : Config) (i domain : ℕ) → IsInRange config → judged n config i ≡ Some (Scanned domain) →
     StandsOnce (plan_of n config).chains (record { 0 = i })
+
+-- an instance is a scanned flip-flop
+pub record IsScanned (n : Netlist) (config : Config) (i : ℕ) : Type 0 where
+  pub domain : ℕ
+  pub is : judged n config i ≡ Some (Scanned domain)
+
+-- Each cell of the chains of a design is one of its scanned flip-flops.
+abbrev pub CellsAreScanned : Type 0
+CellsAreScanned =
+    (n : Netlist) (config : Config) (chain place : ℕ) (cell : InstanceId) → IsInRange config → cell_at (plan_of n config).chains chain place ≡ Some cell → IsScanned n config cell.0

@@ -1,4 +1,4 @@
-ghost use Rattle.std.specs.Prelude.{◌≡◌, ◌<◌, ℕ, IfNone, IfSome, Some, length, slice_get};
+ghost use Rattle.std.specs.Prelude.{◌≡◌, ◌<◌, ℕ, IfNone, IfSome, None, Some, length, slice_get, slice_index_or};
 ghost use Rattle.dft_stitch.specs.Plans.{cell_at};
 
 use crate::cells::Cells;
@@ -56,10 +56,7 @@ impl Chains {
         ensures stands { IfSome result (λ at. cell_at self.now.chains at.chain at.place ≡ Some cell) }
         ensures nowhere { IfNone result ((chain place : ℕ) → cell_at self.now.chains chain place ≡ Some cell → ⊥) }
     {
-        match self.places.get(cell.0 as usize) {
-            Some(place) => *place,
-            None => None,
-        }
+        place_at(&self.places, cell)
     }
 
     /// The lock-ups between cells of different domains, chain by chain and by their places.
@@ -67,5 +64,15 @@ impl Chains {
         ensures { result.now ≡ self.now.lockups }
     {
         &self.lockups
+    }
+}
+
+/// What the table has for this cell, and nothing past its end.
+fn place_at(places: &[Option<CellPlace>], cell: InstanceId) -> Option<CellPlace>
+    ensures { result ≡ slice_index_or places.now cell.0 None }
+{
+    match places.get(cell.0 as usize) {
+        Some(place) => *place,
+        None => None,
     }
 }

@@ -1,6 +1,6 @@
 //! The scanned cells, and the cut of them into chains.
 
-ghost use Rattle.std.specs.Prelude.{◌≡◌, ◌≤◌, ◌++◌, ◌<◌, ◌^◌, IfOk, OnOk, length};
+ghost use Rattle.std.specs.Prelude.{◌≡◌, ◌≤◌, ◌++◌, IfOk, OnOk, length};
 ghost use Rattle.dft_config.specs.Cycles.{part_length};
 ghost use Rattle.dft_stitch.specs.Chains as spec;
 
@@ -78,7 +78,8 @@ pub(crate) fn cut(
     cells: &[InstanceId],
     count: u16,
 ) -> Result<Vec<Cells>, AllocError>
-    requires { 1 ≤ count }
+    requires some { 1 ≤ count }
+    requires few { length cells.now ≤ 65536 }
     ensures { IfOk result (λ chains. chains.items ≡ spec.chains_of cells.now count) }
 {
     let mut chains = Vec::with_capacity(alloc, usize::from(count))?;
@@ -104,7 +105,7 @@ pub(crate) fn longest_chain(cells: usize, chains: u16) -> u32
 /// The length of this chain.
 fn length_of(cells: usize, chains: usize, chain: usize) -> usize
     requires some { 1 ≤ chains }
-    requires few { cells < 2 ^ 63 }
+    requires few { cells ≤ 65536 }
     ensures { result ≡ part_length cells chains chain }
 {
     let each = cells / chains;

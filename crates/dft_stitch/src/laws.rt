@@ -1,6 +1,6 @@
 //! Laws about chains, as contracts of functions that do nothing.
 
-ghost use Rattle.dft_stitch.specs.Laws.{CellsStandOnce, ChainsAreEven, ChainsHoldCells};
+ghost use Rattle.dft_stitch.specs.Laws.{CellsAreScanned, CellsStandOnce, ChainsAreEven, ChainsHoldCells};
 
 /// The cells of the chains, one chain after the other, are the scanned cells in their order.
 pub fn chains_hold_cells()
@@ -15,4 +15,9 @@ pub fn chains_are_even()
 /// Each scanned flip-flop stands at one place of the chains, and at no other.
 pub fn cells_stand_once()
     ensures { CellsStandOnce }
+{}
+
+/// Each cell of the chains is a scanned flip-flop.
+pub fn cells_are_scanned()
+    ensures { CellsAreScanned }
 {}

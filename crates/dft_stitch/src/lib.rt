@@ -1,5 +1,5 @@
 //! Scan chains: how the scanned cells of a design are stitched together, and where lock-ups stand.
-#![tactic(none)]
+#![tactic(auto)]
 
 mod cells;
 mod chains;
@@ -15,7 +15,7 @@ mod table;
 pub use cells::Cells;
 pub use chains::Chains;
 pub use error::{Counted, StitchError};
-pub use laws::{cells_stand_once, chains_are_even, chains_hold_cells};
+pub use laws::{cells_are_scanned, cells_stand_once, chains_are_even, chains_hold_cells};
 pub use limits::{MAX_CELLS, MAX_CYCLES, MAX_VARIABLES};
 pub use places::{CellPlace, LockupPlace};
 pub use planning::plan;
