@@ -10,7 +10,6 @@ use Rattle.dft_cells.specs.declared.kind.Role.TheVariants.{Clock, Reset, Preset}
 use Rattle.dft_netlist.specs.declared.ids.NetId.{NetId}
 use Rattle.dft_netlist.specs.declared.instance.Instance.{Instance}
 use Rattle.dft_netlist.specs.declared.instance.Signal.{Signal}
-use Rattle.dft_netlist.specs.declared.instance.Signal.TheVariants as signal
 use Rattle.dft_netlist.specs.declared.root.Root as declared
 use Rattle.dft_netlist.specs.declared.root.Root.TheVariants.{Port, Constant, Other}
 use Rattle.dft_netlist.specs.Netlist.{Netlist}
@@ -25,7 +24,7 @@ use Rattle.dft_rules.specs.declared.findings.Findings.{Findings}
 use Rattle.dft_rules.specs.declared.judged.Judged.{Judged}
 use Rattle.dft_rules.specs.Findings.{AreNets, AreFindings, AreUsed, place_among, signal_of, joined_to, domain_at, is_held_at, are_held_by, is_marked_clock}
 use Rattle.dft_rules.specs.Refusals.{is_clock_as_data}
-use Rattle.dft_rules.specs.Roots.{AreRoots, root_in, root_among}
+use Rattle.dft_rules.specs.Roots.{AreRoots, root_in}
 use Rattle.dft_rules.specs.Rules.{input_net, is_net, may_be_scanned, place_of_root, place_of_source, is_held, are_held, scan_cell_in, judged, judged_by}
 
 -- ---- places of nets

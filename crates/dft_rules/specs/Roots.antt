@@ -1,5 +1,5 @@
 -- The roots of nets, as lists by the nets' numbers.
-use Rattle.std.specs.Prelude.{ℕ, ◌≡◌, List, length, slice_index_or}
+use Rattle.std.specs.Prelude.{◌≡◌, List, length, slice_index_or}
 use Rattle.dft_netlist.specs.declared.instance.Signal.{Signal}
 use Rattle.dft_netlist.specs.declared.instance.Signal.TheVariants as signal
 use Rattle.dft_netlist.specs.declared.root.Root.{Root}

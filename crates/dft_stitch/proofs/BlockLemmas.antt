@@ -1,5 +1,5 @@
 -- Lists cut into blocks.
-use Rattle.std.proofs.Common.{◌≡◌, ℕ, zero, suc, ◌+◌, ◌-◌, ◌<◌, ◌≤◌, min, List, [], ◌∷◌, ◌++◌, length, get_or, take, drop, map, flat_map, Bool, true, false, cond, ◌==◌, Option, None, Some, refl, sym, ◌∙◌, ap, arith}
+use Rattle.std.proofs.Common.{◌≡◌, ℕ, zero, suc, ◌+◌, ◌-◌, ◌<◌, ◌≤◌, min, List, [], ◌∷◌, ◌++◌, length, take, drop, map, flat_map, Bool, true, false, cond, ◌==◌, Option, None, Some, refl, sym, ◌∙◌, ap, arith}
 use Rattle.std.specs.Prelude.{slice_range}
 use Rattle.std.specs.List.{All, filter_map, cons_option, range_with_len}
 use Rattle.std.proofs.lemmas.List.{length-take, length-drop, length-map, drop-drop, take_min, drop_min}
@@ -48,11 +48,11 @@ cut_more xs chains k start part end done new less is ends e h =
     record {
       within = omega arith;
       same = grown done new (take part (drop start xs) ∷ []) (blocks_from (length xs) chains k (drop start xs)) (blocks_from (length xs) chains (k + 1) (drop end xs)) (chains_of xs chains)
-        (e ∙ ap (λ (x : List InstanceId). done ++ x ∷ []) front)
-        (block_on (length xs) chains k (drop start xs) less
-        ∙ ap (λ (m : ℕ). take m (drop start xs) ∷ blocks_from (length xs) chains (k + 1) (drop m (drop start xs))) (sym is)
-        ∙ ap (λ (r : List InstanceId). take part (drop start xs) ∷ blocks_from (length xs) chains (k + 1) r) (sym back))
-        h.same;
+          (e ∙ ap (λ (x : List InstanceId). done ++ x ∷ []) front)
+          (block_on (length xs) chains k (drop start xs) less
+          ∙ ap (λ (m : ℕ). take m (drop start xs) ∷ blocks_from (length xs) chains (k + 1) (drop m (drop start xs))) (sym is)
+          ∙ ap (λ (r : List InstanceId). take part (drop start xs) ∷ blocks_from (length xs) chains (k + 1) r) (sym back))
+          h.same;
     }
 
 -- ---- what holds of each block

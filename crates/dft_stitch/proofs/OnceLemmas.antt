@@ -1,6 +1,6 @@
 -- Each scanned cell stands at one place.
-use Rattle.std.proofs.Common.{◌≡◌, ℕ, zero, suc, ◌+◌, ◌<◌, ◌≤◌, ◌==◌, Bool, true, false, cond, List, [], ◌∷◌, ◌++◌, length, get_or, map, flat_map, Option, None, Some, option_and_then, slice_get, refl, sym, ◌∙◌, ap, subst, arith, ◌⊎◌, inl, inr, rules, tests}
-use Rattle.std.specs.Prelude.{position, nat_lt, is_some}
+use Rattle.std.proofs.Common.{◌≡◌, ℕ, zero, suc, ◌+◌, ◌<◌, ◌≤◌, ◌==◌, Bool, true, false, cond, List, [], ◌∷◌, ◌++◌, length, get_or, flat_map, Option, None, Some, option_and_then, slice_get, refl, sym, ◌∙◌, ap, subst, arith, ◌⊎◌, inl, inr}
+use Rattle.std.specs.Prelude.{nat_lt, is_some}
 use Rattle.std.specs.List.{filter_map, cons_option, position_or_len, range_with_len}
 use Rattle.std.proofs.lemmas.Bool.{cases_eq}
 use Rattle.std.proofs.lemmas.Bool.Decides.{nat_tests}
@@ -8,7 +8,6 @@ use Rattle.std.proofs.lemmas.List.{get_or_past}
 use Rattle.std.proofs.lemmas.Option.{slice_get_within, slice_get_past}
 use Rattle.std.proofs.lemmas.List.FromFn.{get_or-map-range_with_len, length-map-range_with_len}
 use Rattle.dft_base.specs.Lexing.{Text}
-use Rattle.dft_cells.specs.declared.kind.Kind.{Kind}
 use Rattle.dft_cells.specs.declared.kind.Role.TheVariants.{Clock}
 use Rattle.dft_netlist.specs.declared.ids.InstanceId.{InstanceId}
 use Rattle.dft_netlist.specs.declared.instance.Instance.{Instance}
@@ -19,12 +18,11 @@ use Rattle.dft_netlist.specs.Traces.{Root, Port, Constant, Other, root_of}
 use Rattle.dft_netlist.proofs.LiveLemmas.{le_or_lt}
 use Rattle.dft_netlist.proofs.Places.{get_left}
 use Rattle.dft_config.specs.declared.config.Config.{Config}
-use Rattle.dft_config.specs.Range.{IsInRange}
 use Rattle.dft_rules.specs.declared.judged.Judged.{Judged}
 use Rattle.dft_rules.specs.declared.judged.Judged.TheVariants.{Scanned, Unscanned}
 use Rattle.dft_rules.specs.Rules.{judged, judged_by, judgements, place_of_root, place_of_source, may_be_scanned, is_net, input_net, domain_of as clock_domain, are_held_at, scan_cell_of, is_kept}
-use Rattle.dft_stitch.specs.Chains.{cell_in, cells_in, cells_of, chains_of, domain_of, domain_in, if_domain, plan_of, scanned_cells}
-use Rattle.dft_stitch.specs.Laws.{CellsAreScanned, CellsStandOnce, StandsOnce}
+use Rattle.dft_stitch.specs.Chains.{cell_in, cells_in, cells_of, chains_of, domain_of, domain_in, if_domain}
+use Rattle.dft_stitch.specs.Laws.{CellsAreScanned, CellsStandOnce}
 use Rattle.dft_stitch.specs.Plans.{cell_at}
 use Rattle.dft_stitch.proofs.EvenLemmas.{chains_hold}
 

@@ -9,7 +9,7 @@ use Rattle.dft_rules.specs.declared.judged.Judged.{Judged}
 use Rattle.dft_rules.specs.Rules.{judgements}
 use Rattle.dft_stitch.specs.declared.error.Counted.TheVariants.{Cells, Cycles, Variables}
 use Rattle.dft_stitch.specs.declared.error.StitchError.{StitchError}
-use Rattle.dft_stitch.specs.declared.error.StitchError.TheVariants.{TooMany, Memory}
+use Rattle.dft_stitch.specs.declared.error.StitchError.TheVariants.{TooMany}
 use Rattle.dft_stitch.specs.declared.limits.TheConstants.{MAX_CELLS, MAX_CYCLES, MAX_VARIABLES}
 use Rattle.dft_stitch.specs.declared.places.LockupPlace.{LockupPlace}
 use Rattle.dft_stitch.specs.Chains.{cells_of, chains_of, cycles_of, lockups_of, plan_of}

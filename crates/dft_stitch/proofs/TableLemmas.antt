@@ -1,7 +1,6 @@
 -- The table of places, as it is filled.
-use Rattle.std.proofs.Common.{◌≡◌, ℕ, zero, suc, ◌+◌, ◌<◌, ◌≤◌, List, [], length, get_or, set, take, drop, ◌++◌, Option, None, Some, option_and_then, slice_get, replicate, refl, sym, ◌∙◌, ap, subst, arith, ◌⊎◌, inl, inr}
+use Rattle.std.proofs.Common.{◌≡◌, ℕ, zero, suc, ◌+◌, ◌<◌, ◌≤◌, List, [], length, get_or, set, take, drop, ◌++◌, Option, None, Some, option_and_then, slice_get, replicate, refl, sym, ◌∙◌, ap, arith, inl, inr}
 use Rattle.std.specs.Prelude.{IfNone, IfSome}
-use Rattle.std.specs.List.{All}
 use Rattle.std.proofs.lemmas.Bool.{cases_eq}
 use Rattle.std.proofs.lemmas.List.{length-set, length-replicate, get_or-set_same, get_or-set_other, take_all, drop_all, append-nil}
 use Rattle.std.proofs.lemmas.Option.{slice_get_within}
@@ -9,7 +8,7 @@ use Rattle.dft_netlist.specs.declared.ids.InstanceId.{InstanceId}
 use Rattle.dft_stitch.specs.declared.places.CellPlace.{CellPlace}
 use Rattle.dft_stitch.specs.Plans.{cell_at}
 use Rattle.dft_stitch.specs.Shown.{Knows}
-use Rattle.dft_stitch.specs.Tables.{AreBelow, Noted}
+use Rattle.dft_stitch.specs.Tables.{Noted}
 
 -- ---- the cells of a chain
 
@@ -30,11 +29,13 @@ one_noted chain cells k old now cell live at h = record {
   misses = λ i is. elim (cases_eq i cell.0) [
     | inl e ↦ absurd (let f : ⊥ = (let same : here ≡ None = sym (get_or-set_same now cell.0 here None live) ∙ ap (λ (j : ℕ). get_or (set now cell.0 here) j None) (sym e) ∙ is in cc) in f)
     | inr apart ↦ (
-        let was = h.misses i (sym (get_or-set_other now cell.0 i here None apart) ∙ is) in
-        (was.0, λ place less stands. elim (cases_eq place k) [
-          | inl e ↦ apart (let same : Some (record { 0 = i }) ≡ Some cell = sym stands ∙ ap (slice_get cells) e ∙ at in let c : record { 0 = i } ≡ cell = cc in ap (λ (x : InstanceId). x.0) c)
-          | inr other ↦ was.1 place (omega arith) stands
-        ]))
+        let was = h.misses i (sym (get_or-set_other now cell.0 i here None apart) ∙ is) in (
+          was.0,
+          λ place less stands. elim (cases_eq place k) [
+            | inl e ↦ apart (let same : Some (record { 0 = i }) ≡ Some cell = sym stands ∙ ap (slice_get cells) e ∙ at in let c : record { 0 = i } ≡ cell = cc in ap (λ (x : InstanceId). x.0) c)
+            | inr other ↦ was.1 place (omega arith) stands
+          ],
+        ))
   ];
 }
   where
@@ -78,7 +79,7 @@ knows_more count chains k cells old new at h noted = record {
   misses = λ i none chain place less stands. elim (cases_eq chain k) [
     | inl e ↦ (
         let there : slice_get cells place ≡ Some (record { 0 = i }) =
-          sym (ap (λ (j : ℕ). cell_at chains j place) e ∙ ap (λ (o : Option (List InstanceId)). option_and_then (λ (x : List InstanceId). slice_get x place) o) at) ∙ stands in
+        sym (ap (λ (j : ℕ). cell_at chains j place) e ∙ ap (λ (o : Option (List InstanceId)). option_and_then (λ (x : List InstanceId). slice_get x place) o) at) ∙ stands in
         (noted.misses i none).1 place (slice_get_within cells place _ there) there)
     | inr other ↦ h.misses i (noted.misses i none).0 chain place (omega arith) stands
   ];
@@ -92,9 +93,9 @@ pub knows_all : (count : ℕ) (chains : List (List InstanceId)) (done : ℕ) (pl
 knows_all count chains done places past h = record {
   says = h.says;
   misses = λ i chain place none stands. (
-    let there = chain_there (slice_get chains chain) place _ stands in
-    let within = slice_get_within chains chain there.0 there.1 in
-    h.misses i none chain place (omega arith) stands);
+      let there = chain_there (slice_get chains chain) place _ stands in
+      let within = slice_get_within chains chain there.0 there.1 in
+      h.misses i none chain place (omega arith) stands);
 }
 
 -- a table that was lent whole is as it was left

@@ -73,11 +73,7 @@ pub(crate) fn domain_of(verdicts: &Verdicts, cell: InstanceId) -> Option<u8>
 }
 
 /// Cuts the cells into so many chains, of which the first ones are one longer where they do not come out even.
-pub(crate) fn cut(
-    alloc: Global,
-    cells: &[InstanceId],
-    count: u16,
-) -> Result<Vec<Cells>, AllocError>
+pub(crate) fn cut(alloc: Global, cells: &[InstanceId], count: u16) -> Result<Vec<Cells>, AllocError>
     requires some { 1 ≤ count }
     requires few { length cells.now ≤ 65536 }
     ensures { IfOk result (λ chains. chains.items ≡ spec.chains_of cells.now count) }

@@ -1,4 +1,4 @@
-use Rattle.std.proofs.Common.{◌≡◌, ◌<◌, ◌≤◌, ◌∙◌, sym, ap, length, Option}
+use Rattle.std.proofs.Common.{◌<◌, ◌≤◌, ◌∙◌, sym, ap, length, Option}
 use Rattle.dft_netlist.specs.declared.instance.Signal.TheVariants.{Unconnected}
 use Rattle.dft_netlist.specs.Drivers.{Connection, shape_of}
 use Rattle.dft_rules.specs.Findings.{joined_to}

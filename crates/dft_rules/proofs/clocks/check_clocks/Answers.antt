@@ -1,9 +1,9 @@
-use Rattle.std.proofs.Common.{◌≡◌, ◌<◌, ◌∙◌, ℕ, List, Bool, [], sym, ap, subst, arith, length, find, Option, Some, None, option_map, get_or, slice_get}
+use Rattle.std.proofs.Common.{◌≡◌, ◌∙◌, ℕ, List, Bool, [], sym, ap, subst, length, find, Option, Some, None, option_map, get_or}
 use Rattle.std.specs.List.{range_with_len}
 use Rattle.dft_netlist.specs.declared.ids.NetId.{NetId}
 use Rattle.std.proofs.lemmas.Option.{get_or_from_slice_get}
 use Rattle.dft_rules.specs.declared.error.RuleError.TheVariants.{ClockAsData}
-use Rattle.dft_rules.specs.Findings.{AreUsed, is_marked_clock}
+use Rattle.dft_rules.specs.Findings.{AreUsed}
 use Rattle.dft_rules.specs.Refusals.{is_clock_as_data}
 use Rattle.dft_rules.proofs.JudgeLemmas.{first_same}
 use Rattle.dft_rules.proofs.clocks.check_clocks.Goals as goal

@@ -1,11 +1,10 @@
 use Rattle.std.proofs.Common.{◌≡◌, ◌<◌, ◌+◌, ◌∙◌, ◌||◌, ℕ, Bool, List, sym, ap, subst, arith, length, get_or, false, Some, slice_get}
 use Rattle.dft_netlist.specs.declared.instance.Instance.{Instance}
-use Rattle.dft_netlist.specs.Sound.{IsInstance}
 use Rattle.dft_netlist.proofs.NotesLemmas.{item_at}
 use Rattle.dft_rules.specs.Findings.{AreUsed}
 use Rattle.dft_rules.specs.Refusals.{is_data_of}
 use Rattle.std.proofs.Common.{take}
-use Rattle.dft_rules.proofs.MarkLemmas.{refilled, used_none, used_more, used_all, none_marked}
+use Rattle.dft_rules.proofs.MarkLemmas.{refilled, used_more, used_all}
 use Rattle.dft_rules.proofs.clocks.data_nets.Goals as goal
 
 pub mark_data-requires : goal.mark_data-requires

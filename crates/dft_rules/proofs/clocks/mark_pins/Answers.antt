@@ -1,9 +1,6 @@
-use Rattle.std.proofs.Common.{◌≡◌, ◌<◌, ◌≤◌, ◌∙◌, sym, length, false, ◌||◌, ◌&&◌, Bool, get_or, Some, arith}
+use Rattle.std.proofs.Common.{◌<◌, ◌≤◌, ◌∙◌, sym, length, false, get_or, arith}
 use Rattle.std.proofs.lemmas.Option.{slice_get-get_or}
-use Rattle.dft_netlist.specs.declared.instance.Signal.TheVariants.{Net}
 use Rattle.dft_netlist.specs.Drivers.{shape_of}
-use Rattle.dft_netlist.specs.Sound.{IsLive}
-use Rattle.dft_rules.specs.Refusals.{is_joined_to}
 use Rattle.dft_rules.proofs.PinLemmas.{take_pin, take_over}
 use Rattle.dft_rules.proofs.clocks.mark_pins.Goals as goal
 

@@ -1,4 +1,4 @@
-use Rattle.std.proofs.Common.{◌≡◌, ◌<◌, ◌∙◌, sym, length, true, false, Some, slice_get}
+use Rattle.std.proofs.Common.{◌≡◌, ◌∙◌, sym, true, false, Some, slice_get}
 use Rattle.dft_netlist.specs.Drivers.{shape_of}
 use Rattle.dft_netlist.proofs.NotesLemmas.{item_at}
 use Rattle.dft_rules.specs.Rules.{may_be_scanned}

@@ -1,9 +1,4 @@
-use Rattle.std.proofs.Common.{◌≡◌, ◌∙◌, ◌++◌, List, [], sym, ap, true, false, is_none, Option, None, Some, option_map, map, get_or}
-use Rattle.dft_base.specs.Lexing.{Text}
-use Rattle.dft_netlist.specs.declared.ids.NetId.{NetId}
-use Rattle.dft_rules.specs.declared.error.RuleError.{RuleError}
-use Rattle.dft_rules.specs.declared.error.RuleError.TheVariants.{UnknownName}
-use Rattle.dft_rules.specs.Refusals.{IsRefusal, unknown_port}
+use Rattle.std.proofs.Common.{◌≡◌, ◌∙◌, sym, None, Some}
 use Rattle.dft_rules.specs.Rules.{input_net}
 use Rattle.dft_rules.proofs.NameLemmas.{looked_on, looked_here, looked_over, nets_on, nets_over}
 use Rattle.dft_rules.proofs.findings.input_nets.Goals as goal

@@ -1,8 +1,8 @@
-use Rattle.std.proofs.Common.{◌≡◌, ◌∙◌, List, [], sym, ap, arith, length, get_or, None, Some}
+use Rattle.std.proofs.Common.{◌≡◌, ◌∙◌, sym, ap, arith, get_or, None, Some}
 use Rattle.std.proofs.lemmas.List.{length-set}
 use Rattle.dft_rules.specs.Rules.{flip_flop_named}
 use Rattle.dft_rules.proofs.NameLemmas.{looked_on, looked_here, looked_over, flip_flop_there}
-use Rattle.dft_rules.proofs.MarkLemmas.{kept_more, kept_all, none_marked}
+use Rattle.dft_rules.proofs.MarkLemmas.{kept_more, kept_all}
 use Rattle.dft_rules.proofs.findings.kept_cells.Goals as goal
 
 pub index_mut-requires : goal.index_mut-requires

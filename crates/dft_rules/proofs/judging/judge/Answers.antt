@@ -1,4 +1,4 @@
-use Rattle.std.proofs.Common.{◌≡◌, ◌≤◌, ◌∙◌, ap, arith, length, List, Option, []}
+use Rattle.std.proofs.Common.{◌≡◌, ◌∙◌, ap, arith, length, List, Option, []}
 use Rattle.std.proofs.lemmas.List.FromFn.{length-map-range_with_len}
 use Rattle.std.proofs.lemmas.Result.{err_from_is_err_and}
 use Rattle.dft_rules.specs.declared.judged.Judged.{Judged}

@@ -1,11 +1,10 @@
-use Rattle.std.proofs.Common.{◌≡◌, ◌≤◌, ◌<◌, ◌∙◌, ℕ, Bool, Option, Some, None, sym, ap, arith, length, slice_get, true, false, is_some, get_or, cond}
+use Rattle.std.proofs.Common.{◌≡◌, ◌<◌, ◌∙◌, Some, sym, arith, length, slice_get, true, false, is_some}
 use Rattle.std.proofs.lemmas.List.{get_or_read}
 use Rattle.dft_netlist.specs.Drivers.{connections_of, shape_of}
-use Rattle.dft_netlist.specs.declared.instance.Instance.{Instance}
 use Rattle.dft_netlist.proofs.NotesLemmas.{item_at}
 use Rattle.dft_cells.specs.declared.kind.Role.TheVariants.{Clock, Reset, Preset}
 use Rattle.dft_rules.specs.Findings.{are_held_by, domain_at, signal_of}
-use Rattle.dft_rules.specs.Rules.{judged_by, may_be_scanned, scan_cell_in}
+use Rattle.dft_rules.specs.Rules.{may_be_scanned, scan_cell_in}
 use Rattle.dft_rules.proofs.JudgeLemmas.{same_judged, judged_no, judged_yes}
 use Rattle.dft_rules.proofs.judging.judge_instance.Goals as goal
 

@@ -1,4 +1,4 @@
-use Rattle.std.proofs.Common.{◌≡◌, ◌≤◌, length, arith}
+use Rattle.std.proofs.Common.{◌≡◌, length, arith}
 use Rattle.std.proofs.lemmas.Result.{err_from_is_err_and}
 use Rattle.dft_rules.specs.Findings.{AreNets}
 use Rattle.dft_rules.specs.Refusals.{clock_as_data, first_present, quoted_port, unknown_cell, unknown_port}

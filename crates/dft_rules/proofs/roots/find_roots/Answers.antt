@@ -1,6 +1,5 @@
-use Rattle.std.proofs.Common.{◌≡◌, ◌<◌, ◌≤◌, ◌∙◌, ◌+◌, ◌∷◌, sym, ap, subst, arith, length, drop, List, map, get_or, ℕ}
-use Rattle.std.proofs.lemmas.List.{at_drop_more, drop_all, length-replicate}
-use Rattle.dft_netlist.specs.declared.ids.NetId.{NetId}
+use Rattle.std.proofs.Common.{◌≡◌, ◌+◌, ap, subst, arith, length, drop, List, get_or, ℕ}
+use Rattle.std.proofs.lemmas.List.{at_drop_more, drop_all}
 use Rattle.dft_netlist.specs.Orders.{numbers_of}
 use Rattle.dft_netlist.proofs.RankLemmas.{order_ranks}
 use Rattle.dft_rules.proofs.RootLemmas.{Rooted, nothing_rooted, one_rooted, all_rooted, next_live}

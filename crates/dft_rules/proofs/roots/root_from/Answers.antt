@@ -1,11 +1,8 @@
-use Rattle.std.proofs.Common.{◌≡◌, ◌<◌, ◌∙◌, sym, ap, subst, length, Some, slice_get}
+use Rattle.std.proofs.Common.{◌∙◌, sym, ap}
 use Rattle.std.proofs.lemmas.Option.{slice_get_within, slice_get-get_or}
-use Rattle.dft_netlist.specs.declared.net_driver.NetDriver.TheVariants.{Pin, Join}
-use Rattle.dft_netlist.specs.Drivers.{driver}
-use Rattle.dft_netlist.specs.NetDrivers.{driver_at, joined_by}
+use Rattle.dft_netlist.specs.NetDrivers.{joined_by}
 use Rattle.dft_netlist.specs.Roots.{shown_root}
 use Rattle.dft_netlist.specs.Traces.{root_of_driver}
-use Rattle.dft_netlist.proofs.NotesLemmas.{item_at}
 use Rattle.dft_rules.specs.Roots.{root_among}
 use Rattle.dft_rules.proofs.RootLemmas.{shown_in}
 use Rattle.dft_rules.proofs.roots.root_from.Goals as goal

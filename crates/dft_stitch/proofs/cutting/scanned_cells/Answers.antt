@@ -1,6 +1,5 @@
-use Rattle.std.proofs.Common.{◌≡◌, ◌-◌, ◌+◌, ◌++◌, ℕ, List, ap, flat_map}
+use Rattle.std.proofs.Common.{◌-◌, ◌+◌, flat_map}
 use Rattle.std.specs.List.{range_with_len}
-use Rattle.dft_netlist.specs.declared.ids.InstanceId.{InstanceId}
 use Rattle.dft_stitch.specs.Chains.{cells_in, scanned_cells}
 use Rattle.dft_stitch.proofs.RangeLemmas.{begun, ended, flat_on, flat_over, flat_start, grown}
 use Rattle.dft_stitch.proofs.cutting.scanned_cells.Goals as goal

@@ -1,4 +1,4 @@
-use Rattle.std.proofs.Common.{◌≡◌, ◌≤◌, ◌*◌, ◌∙◌, ap, arith}
+use Rattle.std.proofs.Common.{◌≡◌, ◌∙◌, ap, arith}
 use Rattle.dft_config.specs.Cycles.{load_cycles}
 use Rattle.dft_stitch.specs.Chains.{cycles_of}
 use Rattle.dft_stitch.proofs.PlanLemmas.{fits}

@@ -4,7 +4,7 @@ use Rattle.std.proofs.lemmas.List.FromFn.{length-map-range_with_len}
 use Rattle.std.proofs.lemmas.Result.{err_from_is_err_and}
 use Rattle.dft_netlist.specs.declared.ids.InstanceId.{InstanceId}
 use Rattle.dft_rules.specs.declared.judged.Judged.{Judged}
-use Rattle.dft_rules.specs.Rules.{judged, judgements}
+use Rattle.dft_rules.specs.Rules.{judged}
 use Rattle.dft_stitch.specs.Chains.{cells_of, chain_lengths, chains_of, cycles_of, lockups_of, scanned_cells}
 use Rattle.dft_stitch.specs.Limits.{IsRefusal, refusal_of}
 use Rattle.dft_stitch.specs.Shown.{Knows}
@@ -66,9 +66,9 @@ find_places-requires-clause-below c =
     let scanned : cells ≡ scanned_cells v (length c.args.config.now.domains) = c.deref.ensures.value ∙ c.in_ok-cells.ensures ∙ ap (λ (xs : List (List ℕ)). scanned_cells v (length xs)) c.as_slice.ensures in
     let size : length v ≡ length c.instances-count.result.now = ap length c.requires.verdicts ∙ length-map-range_with_len (judged n c.args.config.now) 0 (length n.instances) ∙ sym (ap length c.instances-count.ensures.instances) in
     let below : AreBelow (length c.instances-count.result.now) cells = (
-        let P : List InstanceId → Type 0 = λ xs. AreBelow (length c.instances-count.result.now) xs in
-        let Q : ℕ → Type 0 = λ m. AreBelow m (scanned_cells v (length c.args.config.now.domains)) in
-        subst P (sym scanned) (subst Q size (cells_below v (length c.args.config.now.domains)))) in
+    let P : List InstanceId → Type 0 = λ xs. AreBelow (length c.instances-count.result.now) xs in
+    let Q : ℕ → Type 0 = λ m. AreBelow m (scanned_cells v (length c.args.config.now.domains)) in
+    subst P (sym scanned) (subst Q size (cells_below v (length c.args.config.now.domains)))) in
     let R : List (List InstanceId) → Type 0 = λ chains. All (AreBelow (length c.instances-count.result.now)) chains in
     subst R (sym is) (blocks_below (length c.instances-count.result.now) (chain_lengths (length cells) c.args.config.now.chains) cells below)
 
