@@ -1,0 +1,6 @@
+use Rattle.std.proofs.Common.{◌≡◌, ◌++◌, flat_map, drop}
+use Rattle.dft_report.specs.Written.{unscanned_line}
+use Rattle.dft_report.proofs.writer.add_unscanned.Given as goal
+
+abbrev pub invariant-loop-line : goal.invariant-loop-line
+invariant-loop-line l = l.out.items ++ flat_map unscanned_line (drop l.line-index l.lines) ≡ l.fn.out.items ++ flat_map unscanned_line l.lines
