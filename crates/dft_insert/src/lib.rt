@@ -1,0 +1,12 @@
+//! The scanned netlist of a design: its scan cells, its scan chains and their ports, and the laws of shifting and of scan off.
+#![tactic(auto)]
+
+mod error;
+mod laws;
+mod scanned;
+mod style;
+
+pub use error::InsertError;
+pub use laws::{chains_shift, scan_off_agrees};
+pub use scanned::Scanned;
+pub use style::Style;
