@@ -1,0 +1,93 @@
+-- What holds of scanned netlists.
+use Rattle.std.specs.Prelude.{ℕ, ◌+◌, ◌<◌, ◌≡◌, Bool, List, length, None, is_some}
+use Rattle.std.specs.List.{list_any}
+use Rattle.dft_cells.specs.WellFormed.{IsWellFormed}
+use Rattle.dft_netlist.specs.Netlist.{Netlist}
+use Rattle.dft_netlist.specs.Drivers.{Net}
+use Rattle.dft_netlist.specs.NetDrivers.{IsSingle}
+use Rattle.dft_netlist.specs.Orders.{IsOrder, IsOrderable}
+use Rattle.dft_netlist.specs.Sound.{IsNetlist}
+use Rattle.dft_netlist.specs.Logic.{Ports, logic_of, flip_flop}
+use Rattle.dft_config.specs.declared.config.Config.{Config}
+use Rattle.dft_config.specs.Range.{IsInRange}
+use Rattle.dft_rules.specs.Rules.{input_net, is_net, judged}
+use Rattle.dft_rules.specs.Refusals.{is_scanned}
+use Rattle.dft_rules.specs.Refusals as rules
+use Rattle.dft_stitch.specs.Chains.{plan_of}
+use Rattle.dft_insert.specs.declared.style.Style.{Style}
+use Rattle.dft_insert.specs.declared.style.Style.TheVariants.{Plain}
+use Rattle.dft_insert.specs.Moves.{Gap, gap_of, moved}
+use Rattle.dft_insert.specs.AddedPorts.{added_ports, enable_net, scan_in_net, scan_out_net}
+use Rattle.dft_insert.specs.Stitching.{Layout, scan_input}
+use Rattle.dft_insert.specs.Written.{plain_layout, scanned_netlist}
+use Rattle.dft_insert.specs.Refusals.{refusal}
+use Rattle.dft_insert.specs.Keeping.{Keeps}
+use Rattle.dft_insert.specs.Hardware.{ScanNets, IsPlain}
+use Rattle.dft_insert.specs.ScanOff.{Places, Contains}
+
+-- a finished design that the scan rules pass
+pub record IsReady (n : Netlist) (config : Config) : Type 0 where
+  pub netlist : IsNetlist n
+  pub library : IsWellFormed n.library
+  pub single : IsSingle n
+  pub order : List ℕ
+  pub ordered : IsOrder n order
+  pub range : IsInRange config
+  pub passed : rules.refusal n config ≡ None
+
+-- the clock ports and the reset ports of a configuration
+abbrev pub config_ports : Netlist → Config → Ports
+config_ports n config = record {
+  is_clock = λ net. list_any (λ name. is_net net (input_net n name)) config.domains;
+  is_reset = λ net. list_any (λ name. is_net net (input_net n name)) config.resets;
+}
+
+-- the scanned netlist of a design, with the chains that are planned for it
+abbrev pub scanned : Style → Netlist → Config → Netlist
+scanned style n config = scanned_netlist style n config (plan_of n config)
+
+abbrev pub gap_in : Style → Netlist → Config → Gap
+gap_in style n config = gap_of n (length (added_ports style config))
+
+-- It keeps the design, but that the scanned flip-flops are scan cells.
+abbrev pub KeepsDesign : Type 0
+KeepsDesign = (style : Style) (n : Netlist) (config : Config) → IsReady n config → Keeps n (gap_in style n config) (λ i. is_scanned (judged n config i)) (scanned style n config)
+
+-- It is sound where nothing that is added is refused, no net of it has two drivers, and its nets can be ordered.
+pub record CanFinish (n : Netlist) : Type 0 where
+  pub netlist : IsNetlist n
+  pub single : IsSingle n
+  pub orderable : (net : ℕ) → net < length n.nets → IsOrderable n net
+
+abbrev pub CanBeFinished : Type 0
+CanBeFinished = (style : Style) (n : Netlist) (config : Config) → IsReady n config → refusal style n config (plan_of n config) ≡ None → CanFinish (scanned style n config)
+
+-- the nets of the chains of style Plain
+abbrev pub plain_nets : Layout → Config → ScanNets
+plain_nets y config = record {
+  enable = enable_net y.gap;
+  scan_in = scan_in_net y.gap;
+  scan_out = scan_out_net y.gap config.chains;
+  into = λ chain place. Net (scan_input y (scan_in_net y.gap) chain place);
+}
+
+-- In style Plain it has the chains between ports of their own.
+abbrev pub HasHardware : Type 0
+HasHardware =
+    (n : Netlist) (config : Config) → IsReady n config →
+    IsPlain (logic_of (scanned Plain n config) (config_ports n config)) (config_ports n config) (plan_of n config).chains (plain_nets (plain_layout n config (plan_of n config)) config)
+
+-- where the design stands in it
+abbrev pub places_in : Style → Netlist → Config → Places
+places_in style n config = record {
+  moved = moved (gap_in style n config);
+  size = length n.nets;
+  is_flop = λ i. is_some (flip_flop n (config_ports n config) i);
+  enable = enable_net (gap_in style n config);
+}
+
+-- It contains the design.
+abbrev pub ContainsDesign : Type 0
+ContainsDesign =
+    (style : Style) (n : Netlist) (config : Config) → IsReady n config →
+    Contains (logic_of n (config_ports n config)) (logic_of (scanned style n config) (config_ports n config)) (places_in style n config)
