@@ -1,3 +1,10 @@
+pub mod Moves
+pub mod AddedPorts
+pub mod Stitching
+pub mod Written
+pub mod Refusals
+pub mod Keeping
 pub mod Hardware
 pub mod Shifts
 pub mod ScanOff
+pub mod Statements
