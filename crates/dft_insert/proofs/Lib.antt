@@ -2,4 +2,13 @@ pub mod Shiftings
 pub mod ScanOffLemmas
 pub mod Mergings
 pub mod ScanPairs
+pub mod Pairs
+pub mod Carried
+pub mod Standing
+pub mod Whole
+pub mod AddedDrivers
+pub mod MovedRoots
+pub mod Fine
+pub mod Kept
+pub mod Contained
 pub mod WorkedScan

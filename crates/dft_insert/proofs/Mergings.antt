@@ -1,7 +1,8 @@
 -- The drivers of a design, with their nets moved, among those of a netlist that contains it.
-use Rattle.std.proofs.Common.{ℕ, zero, suc, ◌+◌, ◌≡◌, ◌==◌, Bool, true, false, List, [], ◌∷◌, ◌++◌, map, cond, count_by, refl, sym, ap, ◌∙◌}
+use Rattle.std.proofs.Common.{ℕ, zero, suc, ◌+◌, ◌≡◌, ◌==◌, Bool, true, false, List, [], ◌∷◌, ◌++◌, map, cond, count_by, refl, sym, ap, arith, ◌∙◌}
 use Rattle.std.specs.Prelude.{if◌then◌else◌}
 use Rattle.std.proofs.lemmas.List.{map-append}
+use Rattle.std.proofs.lemmas.List.Sums.{sum_by-cons}
 use Rattle.dft_cells.specs.declared.kind.Kind.{Kind}
 use Rattle.dft_cells.specs.declared.kind.Kind.TheVariants as kind
 use Rattle.dft_cells.specs.declared.kind.Role.{Role}
@@ -89,17 +90,27 @@ added_driver f net _ _ _ apart (Added {d = d} {old = old} {added = added} {all =
 abbrev pub times : (net : ℕ) → List Driven → ℕ
 times net ds = count_by (λ d. d.0 == net) ds
 
+times-cons : (net : ℕ) (d : Driven) (ds : List Driven) → times net (d ∷ ds) ≡ cond (d.0 == net) 1 0 + times net ds
+times-cons net d ds = sum_by-cons (λ (x : Driven). cond (x.0 == net) 1 0) d ds
+
+one_more : (net : ℕ) (d : Driven) (ds : List Driven) (b : Bool) (rest : ℕ) → (d.0 == net) ≡ b → times net ds ≡ rest → times net (d ∷ ds) ≡ cond b 1 0 + rest
+one_more net d ds b rest e h = times-cons net d ds ∙ ap (λ t. cond t 1 0 + times net ds) e ∙ ap (λ n. cond b 1 0 + n) h
+
+none_more : (net : ℕ) (d : Driven) (ds : List Driven) (rest : ℕ) → (d.0 == net) ≡ false → times net ds ≡ rest → times net (d ∷ ds) ≡ rest
+none_more net d ds rest e h = let q : times net (d ∷ ds) ≡ 0 + rest = one_more net d ds false rest e h in omega (arith, q)
+
 pub old_times : (f : ℕ → ℕ) (net : ℕ) (old added all : List Driven) → ((a b : ℕ) → (f a == f b) ≡ (a == b)) → Merges f old added all → NoneAt added (f net) → times (f net) all ≡ times net old
 old_times f net _ _ _ apart Nothing none = refl
 old_times f net _ _ _ apart (Kept {d = d} {old = old} {added = added} {all = all} m) none =
-    ap (λ b. cond b 1 0 + times (f net) all) (apart d.0 net) ∙ ap (λ n. cond (d.0 == net) 1 0 + n) (old_times f net old added all apart m none)
+    one_more (f net) (moved_driven f d) all (d.0 == net) (times net old) (apart d.0 net) (old_times f net old added all apart m none) ∙ sym (times-cons net d old)
 old_times f net _ _ _ apart (Added {d = d} {old = old} {added = added} {all = all} m) none =
-    ap (λ b. cond b 1 0 + times (f net) all) none.0 ∙ old_times f net old added all apart m none.1
+    none_more (f net) d all (times net old) none.0 (old_times f net old added all apart m none.1)
 
 pub added_times : (f : ℕ → ℕ) (net : ℕ) (old added all : List Driven) → ((k : ℕ) → (f k == net) ≡ false) → Merges f old added all → times net all ≡ times net added
 added_times f net _ _ _ apart Nothing = refl
-added_times f net _ _ _ apart (Kept {d = d} {old = old} {added = added} {all = all} m) = ap (λ b. cond b 1 0 + times net all) (apart d.0) ∙ added_times f net old added all apart m
-added_times f net _ _ _ apart (Added {d = d} {old = old} {added = added} {all = all} m) = ap (λ n. cond (d.0 == net) 1 0 + n) (added_times f net old added all apart m)
+added_times f net _ _ _ apart (Kept {d = d} {old = old} {added = added} {all = all} m) = none_more net (moved_driven f d) all (times net added) (apart d.0) (added_times f net old added all apart m)
+added_times f net _ _ _ apart (Added {d = d} {old = old} {added = added} {all = all} m) =
+    one_more net d all (d.0 == net) (times net added) refl (added_times f net old added all apart m) ∙ sym (times-cons net d added)
 
 -- ---- an instance that is moved
 

@@ -70,7 +70,7 @@ opened i (Some Unconnected) net = (net, Flop i false) ∷ []
 
 -- the net at the output is the pin's own, where it has one; and no output is a constant
 abbrev pub FitsOutput : Gap → (output : Option Signal) → (net : ℕ) → Type 0
-FitsOutput gap None net = ⊥
+FitsOutput gap None net = Unit {0}
 FitsOutput gap (Some (Net own)) net = net ≡ moved gap own.0
 FitsOutput gap (Some (Constant bit)) net = ⊥
 FitsOutput gap (Some Unconnected) net = Unit {0}

@@ -1,5 +1,6 @@
 -- The scanned netlist of four flip-flops on two clocks, worked by hand.
 use Rattle.std.proofs.Common.{◌≡◌, ℕ, List, [], ◌∷◌, codes, pos, Some, None, refl}
+use Rattle.std.specs.Fmt as fmt
 use Rattle.dft_base.specs.Lexing.{Text}
 use Rattle.dft_cells.specs.declared.kind.Kind.TheVariants.{Buf}
 use Rattle.dft_cells.specs.Standard.{standard_cells}
@@ -87,13 +88,14 @@ scanned = record {
 }
 
 is_scanned : scanned_netlist Plain (four (codes "n2") (net 3)) one_chain (plan_of (four (codes "n2") (net 3)) one_chain) ≡ scanned
+unfolding fmt.digits
 is_scanned = refl
 
 added : added_ids Plain (four (codes "n2") (net 3)) one_chain ≡ record { 0 = 4 } ∷ record { 0 = 5 } ∷ record { 0 = 6 } ∷ []
 added = refl
 
 accepted : refusal Plain (four (codes "n2") (net 3)) one_chain (plan_of (four (codes "n2") (net 3)) one_chain) ≡ None
-unfolding refusal
+unfolding refusal fmt.digits
 accepted = refl
 
 -- where the last flip-flop's output is joined to nothing, it gets the first made net, and the lock-up the second
@@ -110,9 +112,10 @@ scanned_open = record {
 }
 
 is_scanned_open : scanned_netlist Plain (four (codes "n2") Unconnected) one_chain (plan_of (four (codes "n2") Unconnected) one_chain) ≡ scanned_open
+unfolding fmt.digits
 is_scanned_open = refl
 
 -- a made name that the design has is a clash
 clashes : refusal Plain (four (codes "dft_n0") (net 3)) one_chain (plan_of (four (codes "dft_n0") (net 3)) one_chain) ≡ Some (NameClash (codes "dft_n0"))
-unfolding refusal
+unfolding refusal fmt.digits
 clashes = refl

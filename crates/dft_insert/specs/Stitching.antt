@@ -1,5 +1,5 @@
 -- How scan chains are stitched: the nets at the outputs and at the scan inputs of their cells.
-use Rattle.std.specs.Prelude.{ℕ, zero, suc, ◌+◌, ◌==◌, Bool, ◌&&◌, List, [], length, map, filter, flat_map, position, Option, None, Some, is_none, option_and_then, slice_index_or}
+use Rattle.std.specs.Prelude.{ℕ, zero, suc, ◌==◌, Bool, ◌&&◌, List, [], ◌∷◌, length, map, filter, flat_map, Option, None, Some, is_none, option_and_then, slice_index_or, if◌then◌else◌}
 use Rattle.std.specs.List.{range_with_len}
 use Rattle.dft_cells.specs.declared.kind.Role.TheVariants.{Output}
 use Rattle.dft_netlist.specs.declared.ids.InstanceId.{InstanceId}
@@ -20,13 +20,16 @@ places_in chain cells = map (λ place. record { chain = chain; place = place }) 
 abbrev pub places_of : List (List InstanceId) → List CellPlace
 places_of chains = flat_map (λ chain. places_in chain (slice_index_or chains chain [])) (range_with_len 0 (length chains))
 
--- the number of a place in a list of places
-abbrev pub place_number : (chain place : ℕ) → List CellPlace → Option ℕ
-place_number chain place places = position (λ p. (p.chain == chain) && (p.place == place)) places
+-- the number of the first item that passes a test, where the items are numbered from a number on
+abbrev pub number_of : {T : Type 0} → (T → Bool) → (first : ℕ) → List T → Option ℕ
+number_of test first [] = None
+number_of test first (x ∷ xs) = if test x then Some first else number_of test (suc first) xs
 
--- the number of the lock-up that stands after a place
-abbrev pub lockup_number : (chain after : ℕ) → List LockupPlace → Option ℕ
-lockup_number chain after lockups = position (λ l. (l.chain == chain) && (l.after == after)) lockups
+abbrev pub is_place : (chain place : ℕ) → CellPlace → Bool
+is_place chain place p = (p.chain == chain) && (p.place == place)
+
+abbrev pub stands_after : (chain place : ℕ) → LockupPlace → Bool
+stands_after chain place lockup = (lockup.chain == chain) && (lockup.after == place)
 
 -- ---- outputs
 
@@ -58,24 +61,24 @@ pub record Layout : Type 0 where
   pub first_output : ℕ
   pub first_lockup : ℕ
 
--- the made net with this number, from the first on, if there is one; else the net that is there
-abbrev pub made_or : (first : ℕ) → (number : Option ℕ) → (own : ℕ) → ℕ
-made_or first None own = own
-made_or first (Some number) own = first + number
+-- the made net, if there is one, else the one that is there
+abbrev pub made_or : (made : Option ℕ) → (own : ℕ) → ℕ
+made_or None own = own
+made_or (Some net) own = net
 
 -- the net of a design, where it is there
 abbrev pub moved_or_none : Gap → Option ℕ → ℕ
 moved_or_none gap None = zero
 moved_or_none gap (Some net) = moved gap net
 
--- the net at the output of the cell at a place: the made one where it was joined to nothing, else its own
+-- the net at the output of the cell at a place: where it was joined to nothing the one that is made for it, else its own
 abbrev pub output_net : Layout → (chain place : ℕ) → ℕ
 output_net y chain place =
-    made_or y.first_output (place_number chain place (open_places y.design y.plan.chains)) (moved_or_none y.gap (output_at y.design y.plan.chains chain place))
+    made_or (number_of (is_place chain place) y.first_output (open_places y.design y.plan.chains)) (moved_or_none y.gap (output_at y.design y.plan.chains chain place))
 
 -- the net that leads on from a place: that of the lock-up after it, if there is one, else the cell's output
 abbrev pub link_net : Layout → (chain place : ℕ) → ℕ
-link_net y chain place = made_or y.first_lockup (lockup_number chain place y.plan.lockups) (output_net y chain place)
+link_net y chain place = made_or (number_of (stands_after chain place) y.first_lockup y.plan.lockups) (output_net y chain place)
 
 -- the net at the scan input of a place: the chain's entry, or what leads on from the place before
 abbrev pub scan_input : Layout → (entry : ℕ → ℕ) → (chain place : ℕ) → ℕ

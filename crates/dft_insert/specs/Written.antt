@@ -1,5 +1,5 @@
 -- The scanned netlist of a design.
-use Rattle.std.specs.Prelude.{ℕ, zero, suc, ◌+◌, ◌-◌, ◌==◌, Bool, true, false, List, [], ◌∷◌, ◌++◌, length, map, take, drop, find, position, Option, None, Some, option_map, slice_index_or}
+use Rattle.std.specs.Prelude.{ℕ, zero, suc, ◌+◌, ◌-◌, ◌==◌, Bool, true, false, List, [], ◌∷◌, ◌++◌, length, map, take, drop, find, Option, None, Some, option_map, slice_index_or}
 use Rattle.std.specs.List.{range_with_len}
 use Rattle.dft_base.specs.Lexing.{Text}
 use Rattle.dft_cells.specs.declared.kind.Kind.{Kind}
@@ -25,7 +25,7 @@ use Rattle.dft_insert.specs.declared.style.Style.{Style}
 use Rattle.dft_insert.specs.declared.style.Style.TheVariants.{Plain}
 use Rattle.dft_insert.specs.Moves.{Gap, gap_of, moved_signal, moved_instance, moved_join}
 use Rattle.dft_insert.specs.AddedPorts.{added_ports, port_name, ports_from, enable_net, scan_in_net, scan_out_net, made_net, made_instance}
-use Rattle.dft_insert.specs.Stitching.{Layout, places_of, open_places, moved_or_none, output_net, scan_input}
+use Rattle.dft_insert.specs.Stitching.{number_of, Layout, places_of, open_places, moved_or_none, output_net, scan_input}
 
 -- each item with its number, from a number on
 abbrev pub map_from : {A B : Type 0} → (ℕ → A → B) → (number : ℕ) → List A → List B
@@ -87,7 +87,7 @@ cell_number (Some number) = record { 0 = number }
 
 -- the first lock-up of a library
 abbrev pub first_lockup : List Cell → CellId
-first_lockup library = cell_number (position (λ cell. is_lockup cell.kind) library)
+first_lockup library = cell_number (number_of (λ cell. is_lockup cell.kind) zero library)
 
 -- the net of the port of a domain
 abbrev pub domain_net : Layout → Config → (domain : ℕ) → ℕ
