@@ -84,7 +84,7 @@ plain_gate kind.Tie0 h = refl
 plain_gate kind.Tie1 h = refl
 
 plain_by : (library : List Cell) (name : Option Text) (ref : CellRef) → IsCellOf library name ref → present_as (shape_of library ref).kind name ≡ None → is_plain (shape_of library ref).kind ≡ true
-plain_by library None (cell_ref.Library cell) fits e = absurd fits.1
+plain_by library None (cell_ref.Library cell) fits e = let f : false ≡ true = fits.1 in absurd cc
 plain_by library (Some name) (cell_ref.Library cell) fits e = plain_named (shape_of library (cell_ref.Library cell)).kind name e
 plain_by library name (cell_ref.Gate k inputs) fits e = plain_gate k fits.0
 

@@ -8,7 +8,8 @@ use Rattle.dft_netlist.specs.declared.port.Dir.{Dir}
 use Rattle.dft_netlist.specs.declared.port.Dir.TheVariants as dir
 use Rattle.dft_netlist.specs.declared.instance.Instance.{Instance}
 use Rattle.dft_netlist.specs.Netlist.{Netlist}
-use Rattle.dft_netlist.specs.Sound.{bits_of}
+use Rattle.dft_netlist.specs.Sound.{bits_of, bit_names_of, IsNetlist}
+use Rattle.dft_netlist.proofs.LiveLemmas.{length-bits}
 use Rattle.dft_netlist.specs.Drivers.{Source, Driver, Input, Driven, driven_by, driven_by_instances, driven_by_ports, driver, nets_read, AreBelow, IsOrdered}
 use Rattle.dft_netlist.specs.Orders.{Has, reads_of, IsOrderFrom, IsOrder}
 use Rattle.dft_netlist.specs.Traces.{Root, Port, Traces, AtPort, AtConstant, AtTie, ThroughBuffer, ThroughJoin, root_of}
@@ -38,7 +39,7 @@ length_range from zero = refl
 length_range from (suc count) = ap suc (length_range (from + 1) count)
 
 numbered_count : (d : Dir) (name : Text) (count : ℕ) → length (numbered_ports d name count) ≡ count
-numbered_count d name count = length-map (λ number. new_port d (numbered name number)) (range_with_len 0 count) ∙ length_range 0 count
+numbered_count d name count = length-map (range_with_len 0 count) (λ number. new_port d (numbered name number)) ∙ length_range 0 count
 
 -- style Plain adds scan_enable and two ports for each chain
 pub ports_count : (config : Config) → length (added_ports Plain config) ≡ 1 + config.chains + config.chains
@@ -91,6 +92,11 @@ reads_inside n config net ready less = reads_before n [] ready.order ready.order
 pub drivers_kept : (n : Netlist) (config : Config) → IsReady n config → AreDriversKept n (scanned Plain n config) (moved (layout n config).gap) (length n.nets)
 drivers_kept n config ready = record { kept = λ net less. original_driver n config net ready less; closed = λ net less. reads_inside n config net ready less }
 
+-- the ports' nets are among all nets
+ports_fit : (n : Netlist) → IsNetlist n → length (bits_of n.ports) ≤ length n.nets
+ports_fit n sound =
+    omega (arith, ap length sound.bits.same, length-append (bit_names_of n.ports) sound.bits.rest, length-bits n.ports sound.widths)
+
 -- ---- roots
 
 length_split : (k : ℕ) (xs : List Text) → length (take k xs) + length (drop k xs) ≡ length xs
@@ -110,7 +116,7 @@ root_kept n config source ready inside =
     let order = order_ranks n ready.order ready.netlist ready.ordered in
     root_moved n (scanned Plain n config) (moved (layout n config).gap) (length n.nets) order.0 source (drivers_kept n config ready) order.1 (longer n config) inside
 
-port_driven : {source : Source} {root : Root} (n : Netlist) (net : ℕ) → Traces n source root → root ≡ Port net → driver n net ≡ Input
+port_driven : (n : Netlist) (net : ℕ) {source : Source} {root : Root} → Traces n source root → root ≡ Port net → driver n net ≡ Input
 port_driven n net (AtPort {net = k} is) e = let same : k ≡ net = cc in ap (driver n) (sym same) ∙ is
 port_driven n net AtConstant e = absurd cc
 port_driven n net (AtTie is passes) e = absurd cc
@@ -125,3 +131,7 @@ pub root_stays : (n : Netlist) (config : Config) (source : Source) (net : ℕ) �
 root_stays n config source net ready is =
     let driven : driver n net ≡ Input = port_driven n net (port_found n source net is) refl in
     (input_stays n config net ready driven, subst (λ (d : Driver). fine.FineBy n net d) driven (driver_fine n config net ready))
+
+-- a port's net is one of the design's
+pub design_ports_few : (n : Netlist) (config : Config) (net : ℕ) → IsReady n config → net < length (bits_of n.ports) → net < length n.nets
+design_ports_few n config net ready less = omega (arith, less, ports_fit n ready.netlist)

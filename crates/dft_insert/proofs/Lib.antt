@@ -11,4 +11,5 @@ pub mod MovedRoots
 pub mod Fine
 pub mod Kept
 pub mod Contained
+pub mod Containing
 pub mod WorkedScan

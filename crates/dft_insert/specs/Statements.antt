@@ -1,5 +1,5 @@
 -- What holds of scanned netlists.
-use Rattle.std.specs.Prelude.{ℕ, ◌+◌, ◌<◌, ◌≡◌, Bool, List, length, None, is_some}
+use Rattle.std.specs.Prelude.{ℕ, ◌+◌, ◌<◌, ◌≡◌, Bool, true, List, ◌∷◌, length, None, is_some}
 use Rattle.std.specs.List.{list_any}
 use Rattle.dft_cells.specs.WellFormed.{IsWellFormed}
 use Rattle.dft_netlist.specs.Netlist.{Netlist}
@@ -8,6 +8,9 @@ use Rattle.dft_netlist.specs.NetDrivers.{IsSingle}
 use Rattle.dft_netlist.specs.Orders.{IsOrder, IsOrderable}
 use Rattle.dft_netlist.specs.Sound.{IsNetlist}
 use Rattle.dft_netlist.specs.Logic.{Ports, logic_of, flip_flop}
+use Rattle.dft_netlist.specs.Runs.{Now, Moment, Step, next_now, AreSteps, AreLow}
+use Rattle.dft_base.specs.declared.tri.Tri.{Tri}
+use Rattle.dft_base.specs.declared.tri.Tri.TheVariants.{Zero}
 use Rattle.dft_config.specs.declared.config.Config.{Config}
 use Rattle.dft_config.specs.Range.{IsInRange}
 use Rattle.dft_rules.specs.Rules.{input_net, is_net, judged}
@@ -23,7 +26,7 @@ use Rattle.dft_insert.specs.Written.{plain_layout, scanned_netlist}
 use Rattle.dft_insert.specs.Refusals.{refusal}
 use Rattle.dft_insert.specs.Keeping.{Keeps}
 use Rattle.dft_insert.specs.Hardware.{ScanNets, IsPlain}
-use Rattle.dft_insert.specs.ScanOff.{Places, Contains}
+use Rattle.dft_insert.specs.ScanOff.{Places, Contains, AreFreeAlike, AreSameSteps, AllAgree, set_to}
 
 -- a finished design that the scan rules pass
 pub record IsReady (n : Netlist) (config : Config) : Type 0 where
@@ -91,3 +94,16 @@ abbrev pub ContainsDesign : Type 0
 ContainsDesign =
     (style : Style) (n : Netlist) (config : Config) → IsReady n config →
     Contains (logic_of n (config_ports n config)) (logic_of (scanned style n config) (config_ports n config)) (places_in style n config)
+
+-- It behaves as the design while scan is off: let all clocks be low and the design's modelled flip-flops have equal bits, and let the
+-- same events follow, a Set with scan_enable 0 first. Then at each moment every net of the design has the same bit in both.
+abbrev pub AgreesWhileOff : Type 0
+AgreesWhileOff =
+    (style : Style) (n : Netlist) (config : Config) (now its : Now) (given ports : ℕ → Tri) (m o : Moment) (steps others : List Step) → IsReady n config →
+    let p = places_in style n config in
+    let original = logic_of n (config_ports n config) in
+    AreLow now.state → AreLow its.state → ((cell : ℕ) → p.is_flop cell ≡ true → now.state.flops cell ≡ its.state.flops cell) →
+    given p.enable ≡ Zero → ((net : ℕ) → net < p.size → given (p.moved net) ≡ ports net) → AreFreeAlike p m o →
+    AreSameSteps original p (next_now original its (set_to ports o)) steps others →
+    AreSteps (logic_of (scanned style n config) (config_ports n config)) now (set_to given m ∷ steps) → AreSteps original its (set_to ports o ∷ others) →
+    AllAgree p (set_to given m ∷ steps) (set_to ports o ∷ others)

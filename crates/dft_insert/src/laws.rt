@@ -2,6 +2,7 @@
 
 ghost use Rattle.dft_insert.specs.Shifts.{EndsShow, EndsShowBefore, LinkLaw, EntryLaw, ShiftInRuns, ShiftExperiment};
 ghost use Rattle.dft_insert.specs.ScanOff.{ScanOff};
+ghost use Rattle.dft_insert.specs.Statements.{AgreesWhileOff, ContainsDesign};
 
 /// What shift vectors do to the chains, on the abstract cycle and in every run: whatever the order of the edges and the
 /// free bits, each cell takes the bit of the one before it.
@@ -17,4 +18,10 @@ pub fn chains_shift()
 /// While scan is off, a design that contains another behaves as it.
 pub fn scan_off_agrees()
     ensures { ScanOff }
+{}
+
+/// A scanned netlist contains its design, and behaves as it while scan is off.
+pub fn scanned_agrees()
+    ensures contains { ContainsDesign }
+    ensures agrees { AgreesWhileOff }
 {}
