@@ -124,18 +124,37 @@ loose_pin : (r : Role) (i : ℕ) (cs : List Connection) → signal_at r cs ≡ S
 loose_pin r i [] e = absurd (none-some signal.Unconnected e)
 loose_pin r i (c ∷ cs) e = loose_more r i c cs (same_role r c.role) (loose_pin r i cs) e
 
--- the net at an output that was joined to nothing is made for it
-pub open_made : (y : Layout) (i : ℕ) (instance : Instance) (p : CellPlace) → slice_get y.design.instances i ≡ Some instance → place_in y.plan.chains i ≡ Some p → signal_at Output (connections_of y.design.library instance) ≡ Some signal.Unconnected →
-    y.first_output ≤ output_net y p.chain p.place
-open_made y i instance p at placed loose =
+-- the place of an output that was joined to nothing has a number
+pub open_from : (y : Layout) (i : ℕ) (instance : Instance) (p : CellPlace) → slice_get y.design.instances i ≡ Some instance → place_in y.plan.chains i ≡ Some p → signal_at Output (connections_of y.design.library instance) ≡ Some signal.Unconnected →
+    IsFrom y.first_output (number_of (is_place p.chain p.place) y.first_output (open_places y.design y.plan.chains))
+open_from y i instance p at placed loose =
     let stands : cell_at y.plan.chains p.chain p.place ≡ Some (record { 0 = i }) = placed_stands y.plan.chains i p placed in
     let none : output_at y.design y.plan.chains p.chain p.place ≡ None =
         ap (option_and_then (own_output y.design)) stands
         ∙ ap (λ (o : Option Instance). option_and_then net_of (pin_of Output i (pins_at y.design.library o))) at
         ∙ loose_pin Output i (connections_of y.design.library instance) loose in
-    made_from y.first_output (number_of (is_place p.chain p.place) y.first_output (open_places y.design y.plan.chains)) (moved_or_none y.gap (output_at y.design y.plan.chains p.chain p.place))
-    (number_from (is_place p.chain p.place) (λ q. is_cell i (cell_at y.plan.chains q.chain q.place)) (λ q. is_none (output_at y.design y.plan.chains q.chain q.place)) p (places_of y.plan.chains)
-    (is_itself p) (ap is_none none) placed y.first_output)
+    number_from (is_place p.chain p.place) (λ q. is_cell i (cell_at y.plan.chains q.chain q.place)) (λ q. is_none (output_at y.design y.plan.chains q.chain q.place)) p (places_of y.plan.chains)
+    (is_itself p) (ap is_none none) placed y.first_output
+
+-- the net at an output that was joined to nothing is made for it
+pub open_made : (y : Layout) (i : ℕ) (instance : Instance) (p : CellPlace) → slice_get y.design.instances i ≡ Some instance → place_in y.plan.chains i ≡ Some p → signal_at Output (connections_of y.design.library instance) ≡ Some signal.Unconnected →
+    y.first_output ≤ output_net y p.chain p.place
+open_made y i instance p at placed loose =
+    made_from y.first_output (number_of (is_place p.chain p.place) y.first_output (open_places y.design y.plan.chains)) (moved_or_none y.gap (output_at y.design y.plan.chains p.chain p.place)) (open_from y i instance p at placed loose)
+
+-- that number, which is the net's
+pub record IsOpen (y : Layout) (p : CellPlace) : Type 0 where
+  pub number : ℕ
+  pub is : number_of (is_place p.chain p.place) y.first_output (open_places y.design y.plan.chains) ≡ Some number
+  pub net : output_net y p.chain p.place ≡ number
+
+open_by : (y : Layout) (p : CellPlace) (o : Option ℕ) → number_of (is_place p.chain p.place) y.first_output (open_places y.design y.plan.chains) ≡ o → IsFrom y.first_output o → IsOpen y p
+open_by y p None is h = absurd h
+open_by y p (Some number) is h = record { number = number; is = is; net = ap (λ o. made_or o (moved_or_none y.gap (output_at y.design y.plan.chains p.chain p.place))) is }
+
+pub open_number : (y : Layout) (i : ℕ) (instance : Instance) (p : CellPlace) → slice_get y.design.instances i ≡ Some instance → place_in y.plan.chains i ≡ Some p → signal_at Output (connections_of y.design.library instance) ≡ Some signal.Unconnected → IsOpen y p
+open_number y i instance p at placed loose =
+    open_by y p (number_of (is_place p.chain p.place) y.first_output (open_places y.design y.plan.chains)) refl (open_from y i instance p at placed loose)
 
 opened_new : (y : Layout) (i : ℕ) (instance : Instance) (p : CellPlace) (o : Option Signal) → slice_get y.design.instances i ≡ Some instance → place_in y.plan.chains i ≡ Some p → signal_at Output (connections_of y.design.library instance) ≡ o → AreNew y (opened i o (output_net y p.chain p.place))
 opened_new y i instance p None at placed is = tt

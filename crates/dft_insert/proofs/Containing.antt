@@ -183,7 +183,7 @@ written_matched n w config ports p y entry i x (Some q) ready same_library same_
 
 -- ---- the design and its scanned netlist
 
-get_from : {A B : Type 0} (f : ℕ → A → B) (from number k : ℕ) (xs : List A) (x : A) → number ≡ from + k → slice_get xs k ≡ Some x → slice_get (map_from f from xs) k ≡ Some (f number x)
+pub get_from : {A B : Type 0} (f : ℕ → A → B) (from number k : ℕ) (xs : List A) (x : A) → number ≡ from + k → slice_get xs k ≡ Some x → slice_get (map_from f from xs) k ≡ Some (f number x)
 get_from f from number k [] x is at = absurd (none-some x at)
 get_from f from number zero (z ∷ xs) x is at = ap (λ m. Some (f m z)) (omega (arith, is)) ∙ ap (λ v. Some (f number v)) (same_Some z x at)
 get_from f from number (suc k) (z ∷ xs) x is at = get_from f (suc from) number k xs x (omega (arith, is)) at

@@ -38,7 +38,7 @@ length_range : (from count : ℕ) → length (range_with_len from count) ≡ cou
 length_range from zero = refl
 length_range from (suc count) = ap suc (length_range (from + 1) count)
 
-numbered_count : (d : Dir) (name : Text) (count : ℕ) → length (numbered_ports d name count) ≡ count
+pub numbered_count : (d : Dir) (name : Text) (count : ℕ) → length (numbered_ports d name count) ≡ count
 numbered_count d name count = length-map (range_with_len 0 count) (λ number. new_port d (numbered name number)) ∙ length_range 0 count
 
 -- style Plain adds scan_enable and two ports for each chain
@@ -52,7 +52,7 @@ buffers_new : (y : Layout) (count lockups k chain : ℕ) (cs : List (List Instan
 buffers_new y count lockups k chain [] width less = tt
 buffers_new y count lockups k chain (cells ∷ cs) width less = (inl (omega arith, omega (arith, width, less)), buffers_new y count lockups (suc k) (suc chain) cs width (omega (arith, less)))
 
-all_new : (n : Netlist) (config : Config) → IsReady n config → AreNew (layout n config) (all_added_drivers n config)
+pub all_new : (n : Netlist) (config : Config) → IsReady n config → AreNew (layout n config) (all_added_drivers n config)
 all_new n config ready =
     let y : Layout = layout n config in
     let locks : List Instance = map_from (lockup_instance y config) 0 y.plan.lockups in
@@ -93,7 +93,7 @@ pub drivers_kept : (n : Netlist) (config : Config) → IsReady n config → AreD
 drivers_kept n config ready = record { kept = λ net less. original_driver n config net ready less; closed = λ net less. reads_inside n config net ready less }
 
 -- the ports' nets are among all nets
-ports_fit : (n : Netlist) → IsNetlist n → length (bits_of n.ports) ≤ length n.nets
+pub ports_fit : (n : Netlist) → IsNetlist n → length (bits_of n.ports) ≤ length n.nets
 ports_fit n sound =
     omega (arith, ap length sound.bits.same, length-append (bit_names_of n.ports) sound.bits.rest, length-bits n.ports sound.widths)
 

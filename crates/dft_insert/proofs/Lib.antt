@@ -12,4 +12,10 @@ pub mod Fine
 pub mod Kept
 pub mod Contained
 pub mod Containing
+pub mod PlacesFound
+pub mod LiveDriven
+pub mod Times
+pub mod AddedOnce
+pub mod Single
+pub mod Listed
 pub mod WorkedScan

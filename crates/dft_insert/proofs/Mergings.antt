@@ -90,13 +90,13 @@ added_driver f net _ _ _ apart (Added {d = d} {old = old} {added = added} {all =
 abbrev pub times : (net : ℕ) → List Driven → ℕ
 times net ds = count_by (λ d. d.0 == net) ds
 
-times-cons : (net : ℕ) (d : Driven) (ds : List Driven) → times net (d ∷ ds) ≡ cond (d.0 == net) 1 0 + times net ds
+pub times-cons : (net : ℕ) (d : Driven) (ds : List Driven) → times net (d ∷ ds) ≡ cond (d.0 == net) 1 0 + times net ds
 times-cons net d ds = sum_by-cons (λ (x : Driven). cond (x.0 == net) 1 0) d ds
 
 one_more : (net : ℕ) (d : Driven) (ds : List Driven) (b : Bool) (rest : ℕ) → (d.0 == net) ≡ b → times net ds ≡ rest → times net (d ∷ ds) ≡ cond b 1 0 + rest
 one_more net d ds b rest e h = times-cons net d ds ∙ ap (λ t. cond t 1 0 + times net ds) e ∙ ap (λ n. cond b 1 0 + n) h
 
-none_more : (net : ℕ) (d : Driven) (ds : List Driven) (rest : ℕ) → (d.0 == net) ≡ false → times net ds ≡ rest → times net (d ∷ ds) ≡ rest
+pub none_more : (net : ℕ) (d : Driven) (ds : List Driven) (rest : ℕ) → (d.0 == net) ≡ false → times net ds ≡ rest → times net (d ∷ ds) ≡ rest
 none_more net d ds rest e h = let q : times net (d ∷ ds) ≡ 0 + rest = one_more net d ds false rest e h in omega (arith, q)
 
 pub old_times : (f : ℕ → ℕ) (net : ℕ) (old added all : List Driven) → ((a b : ℕ) → (f a == f b) ≡ (a == b)) → Merges f old added all → NoneAt added (f net) → times (f net) all ≡ times net old

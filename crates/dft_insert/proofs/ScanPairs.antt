@@ -26,23 +26,23 @@ pub data ScanPair : Kind → List Role → Kind → List Role → Type 0 where
 
 -- ---- lists of a known length
 
-abbrev ListOf3 : List Signal → Type 0
+abbrev pub ListOf3 : List Signal → Type 0
 ListOf3 pins = (a : Signal) × (b : Signal) × (c : Signal) × (pins ≡ a ∷ b ∷ c ∷ [])
 
-abbrev ListOf4 : List Signal → Type 0
+abbrev pub ListOf4 : List Signal → Type 0
 ListOf4 pins = (a : Signal) × (b : Signal) × (c : Signal) × (d : Signal) × (pins ≡ a ∷ b ∷ c ∷ d ∷ [])
 
-abbrev ListOf5 : List Signal → Type 0
+abbrev pub ListOf5 : List Signal → Type 0
 ListOf5 pins = (a : Signal) × (b : Signal) × (c : Signal) × (d : Signal) × (e : Signal) × (pins ≡ a ∷ b ∷ c ∷ d ∷ e ∷ [])
 
-three : (pins : List Signal) → length pins ≡ 3 → ListOf3 pins
+pub three : (pins : List Signal) → length pins ≡ 3 → ListOf3 pins
 three [] h = absurd (omega (arith, h))
 three (a ∷ []) h = absurd (omega (arith, h))
 three (a ∷ b ∷ []) h = absurd (omega (arith, h))
 three (a ∷ b ∷ c ∷ []) h = (a, b, c, refl)
 three (a ∷ b ∷ c ∷ d ∷ pins) h = absurd (omega (arith, h))
 
-four : (pins : List Signal) → length pins ≡ 4 → ListOf4 pins
+pub four : (pins : List Signal) → length pins ≡ 4 → ListOf4 pins
 four [] h = absurd (omega (arith, h))
 four (a ∷ []) h = absurd (omega (arith, h))
 four (a ∷ b ∷ []) h = absurd (omega (arith, h))
@@ -50,7 +50,7 @@ four (a ∷ b ∷ c ∷ []) h = absurd (omega (arith, h))
 four (a ∷ b ∷ c ∷ d ∷ []) h = (a, b, c, d, refl)
 four (a ∷ b ∷ c ∷ d ∷ e ∷ pins) h = absurd (omega (arith, h))
 
-five : (pins : List Signal) → length pins ≡ 5 → ListOf5 pins
+pub five : (pins : List Signal) → length pins ≡ 5 → ListOf5 pins
 five [] h = absurd (omega (arith, h))
 five (a ∷ []) h = absurd (omega (arith, h))
 five (a ∷ b ∷ []) h = absurd (omega (arith, h))
