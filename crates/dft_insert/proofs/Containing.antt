@@ -196,7 +196,7 @@ roots_kept n config ready = record {
 }
 
 -- each instance is matched
-instance_matched : (n : Netlist) (config : Config) (i : ℕ) (x : Instance) → IsReady n config → slice_get n.instances i ≡ Some x → AreMatched (places_in Plain n config) (flip_flop n (config_ports n config) i) (flip_flop (scanned Plain n config) (config_ports n config) i)
+pub instance_matched : (n : Netlist) (config : Config) (i : ℕ) (x : Instance) → IsReady n config → slice_get n.instances i ≡ Some x → AreMatched (places_in Plain n config) (flip_flop n (config_ports n config) i) (flip_flop (scanned Plain n config) (config_ports n config) i)
 instance_matched n config i x ready at =
     let y : Layout = layout n config in
     let ports : Ports = config_ports n config in

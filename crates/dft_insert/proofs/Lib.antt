@@ -18,4 +18,6 @@ pub mod Times
 pub mod AddedOnce
 pub mod Single
 pub mod Listed
+pub mod Modelled
+pub mod Linked
 pub mod WorkedScan
