@@ -327,7 +327,7 @@ enable_driven n config ready =
 less_apart : (a b : ℕ) → a < b → (a == b) ≡ false
 less_apart = grind arith
 
-input_less : (n : Netlist) (net : ℕ) (d : drivers.Driver) → is_input d ≡ true → FineBy n net d → net < length (bits_of n.ports)
+pub input_less : (n : Netlist) (net : ℕ) (d : drivers.Driver) → is_input d ≡ true → FineBy n net d → net < length (bits_of n.ports)
 input_less n net drivers.Input is fine = fine
 input_less n net (drivers.Gate k inputs) is fine = absurd cc
 input_less n net (drivers.Joined source) is fine = absurd cc
@@ -352,7 +352,7 @@ no_clock : (n : Netlist) (config : Config) (names : List Text) → IsReady n con
 no_clock n config [] ready = refl
 no_clock n config (name ∷ names) ready = none_any (is_net (length (bits_of n.ports)) (input_net n name)) (list_any (λ other. is_net (length (bits_of n.ports)) (input_net n other)) names) (not_found n config (find_net n name) ready) (no_clock n config names ready)
 
-enable_input : (n : Netlist) (config : Config) → IsReady n config → (logic_of (scanned Plain n config) (config_ports n config)).net (layout n config).gap.before ≡ logic.Input
+pub enable_input : (n : Netlist) (config : Config) → IsReady n config → (logic_of (scanned Plain n config) (config_ports n config)).net (layout n config).gap.before ≡ logic.Input
 enable_input n config ready =
     ap (meaning_of (scanned Plain n config) (config_ports n config) (layout n config).gap.before) (enable_driven n config ready)
     ∙ ap (λ b. if b then logic.Clock else logic.Input) (no_clock n config config.domains ready)

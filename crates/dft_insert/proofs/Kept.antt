@@ -116,7 +116,7 @@ root_kept n config source ready inside =
     let order = order_ranks n ready.order ready.netlist ready.ordered in
     root_moved n (scanned Plain n config) (moved (layout n config).gap) (length n.nets) order.0 source (drivers_kept n config ready) order.1 (longer n config) inside
 
-port_driven : (n : Netlist) (net : ℕ) {source : Source} {root : Root} → Traces n source root → root ≡ Port net → driver n net ≡ Input
+pub port_driven : (n : Netlist) (net : ℕ) {source : Source} {root : Root} → Traces n source root → root ≡ Port net → driver n net ≡ Input
 port_driven n net (AtPort {net = k} is) e = let same : k ≡ net = cc in ap (driver n) (sym same) ∙ is
 port_driven n net AtConstant e = absurd cc
 port_driven n net (AtTie is passes) e = absurd cc

@@ -20,4 +20,5 @@ pub mod Single
 pub mod Listed
 pub mod Modelled
 pub mod Linked
+pub mod KeepingLemmas
 pub mod WorkedScan

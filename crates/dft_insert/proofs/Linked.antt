@@ -6,6 +6,7 @@ use Rattle.std.proofs.lemmas.Bool.{eqb-true, eq-eqb}
 use Rattle.std.proofs.lemmas.List.FromFn.{get_or-map-range_with_len}
 use Rattle.std.proofs.lemmas.Option.{none-some, same_Some, slice_get_within, get_or_from_slice_get}
 use Rattle.dft_base.specs.Lexing.{Text}
+use Rattle.dft_cells.specs.declared.kind.Kind.TheVariants as kind
 use Rattle.dft_cells.specs.declared.kind.Role.TheVariants.{Clock, Din, Output}
 use Rattle.dft_netlist.specs.declared.ids.NetId.{NetId}
 use Rattle.dft_netlist.specs.declared.ids.InstanceId.{InstanceId}
@@ -33,8 +34,10 @@ use Rattle.dft_insert.specs.Moves.{Gap, moved}
 use Rattle.dft_insert.specs.AddedPorts.{enable_net, scan_in_net, scan_out_net}
 use Rattle.dft_insert.specs.Stitching.{number_of, stands_after, Layout, made_or, moved_or_none, output_net, link_net, scan_input}
 use Rattle.dft_insert.specs.Written.{at_net, first_lockup, domain_net, lockup_instance}
+use Rattle.dft_insert.specs.Hardware as hardware
 use Rattle.dft_insert.specs.Hardware.{ScanNets, IsScanCell, Leads, Directly, ByLockup, HasChains, Enters, Shows, IsPlain}
-use Rattle.dft_insert.specs.Statements.{IsReady, config_ports, scanned, plain_nets, HasHardware}
+use Rattle.dft_insert.specs.Statements.{IsReady, config_ports, scanned, plain_nets, HasHardware, ScannedShifts, ScannedShows}
+use Rattle.dft_insert.proofs.Mergings as mergings
 use Rattle.dft_insert.proofs.Whole.{layout}
 use Rattle.dft_insert.proofs.AddedDrivers.{lockup_shape, first_lockup_shape}
 use Rattle.dft_insert.proofs.AddedOnce.{IsNumbered, numbered_item}
@@ -43,6 +46,7 @@ use Rattle.dft_insert.proofs.Kept.{original_driver, root_stays, port_driven, des
 use Rattle.dft_insert.proofs.Containing.{enable_input, input_less}
 use Rattle.dft_insert.proofs.PlacesFound.{get_flat, get_range, HasChain, has_chain}
 use Rattle.dft_insert.proofs.Listed.{output_driven, lockup_there, lockup_driven, buffer_driven, scan_in_driven}
+use Rattle.dft_insert.proofs.Shiftings.{shift_experiment, ends_show}
 use Rattle.dft_insert.proofs.Modelled.{IsClocked, clock_is, IsStitched, stitched}
 
 -- ---- lists
@@ -185,3 +189,172 @@ same_domain v cs cells chain place d e first cell at here one other none = by (d
       let kept = get_filter (lockup_after v chain (slice_index_or cs chain [])) (range_with_len 0 (length (slice_index_or cs chain []))) place place l (get_range 0 (length (slice_index_or cs chain [])) place within ∙ ap Some (omega arith)) made in
       let listed = get_flat (lockups_in v cs) (range_with_len 0 (length cs)) chain kept.0 chain l (get_range 0 (length cs) chain (slice_get_within cs chain cells at) ∙ ap Some (omega arith)) kept.1 in
       absurd (number_some (stands_after chain place) first listed.0 (lockups_of v cs) l listed.1 (is_itself chain place) none))
+
+-- ---- what the nets of the chains mean
+
+-- the output of a cell
+output_means : (n : Netlist) (config : Config) (chain place : ℕ) (cell : InstanceId) → IsReady n config → cell_at (plan_of n config).chains chain place ≡ Some cell → (s : IsStitched n config chain place cell) →
+    (logic_of (scanned Plain n config) (config_ports n config)).net (output_net (layout n config) chain place) ≡ Flop cell.0 false
+output_means n config chain place cell ready stands s =
+    ap (meaning_of (scanned Plain n config) (config_ports n config) (output_net (layout n config) chain place)) (output_driven n config chain place cell s.instance ready stands s.at)
+    ∙ ap (flop_meaning cell.0 false) s.is
+
+-- the flip-flop of a cell
+flop_is : (n : Netlist) (config : Config) (chain place : ℕ) (cell : InstanceId) (s : IsStitched n config chain place cell) → (logic_of (scanned Plain n config) (config_ports n config)).cell cell.0 ≡ s.flop
+flop_is n config chain place cell s = ap (cell_or_none cell.0) s.is
+
+-- the port of a cell's domain
+clock_driven : (n : Netlist) (config : Config) (i domain : ℕ) → IsReady n config → (c : IsClocked n config i domain) → driver (scanned Plain n config) c.net ≡ drivers.Input
+clock_driven n config i domain ready c =
+    let stays = root_stays n config c.source c.net ready c.root in
+    let less : c.net < length n.nets = design_ports_few n config c.net ready stays.1 in
+    ap (driver (scanned Plain n config)) (sym stays.0) ∙ original_driver n config c.net ready less ∙ ap (mergings.moved_driver (moved (layout n config).gap)) (port_driven n c.net (port_found n c.source c.net c.root) refl)
+
+-- a pin at that port is clocked by the domain
+port_clocks : (n : Netlist) (config : Config) (i domain : ℕ) → IsReady n config → (c : IsClocked n config i domain) → domain_at (scanned Plain n config) (config_ports n config) (Some (Net c.net)) ≡ Some c.net
+port_clocks n config i domain ready c =
+    let w : Netlist = scanned Plain n config in
+    ap (λ (d : drivers.Driver). logic.domain_of (config_ports n config) (root_of_driver (root_within w (length w.nets)) c.net d)) (clock_driven n config i domain ready c)
+    ∙ ap (λ b. if b then Some c.net else None) (clock_is n config i domain c)
+
+-- the net of the port of a domain
+domain_net_is : (n : Netlist) (config : Config) (i domain : ℕ) → IsReady n config → (c : IsClocked n config i domain) → domain_net (layout n config) config domain ≡ c.net
+domain_net_is n config i domain ready c =
+    ap (λ (name : Text). moved_or_none (layout n config).gap (option_map (λ (net : NetId). net.0) (input_net n name))) (get_or_from_slice_get config.domains domain c.name [] c.named)
+    ∙ ap (λ (o : Option NetId). moved_or_none (layout n config).gap (option_map (λ (net : NetId). net.0) o)) (net_is c.net (input_net n c.name) c.is)
+    ∙ (root_stays n config c.source c.net ready c.root).0
+
+-- the pins of a lock-up
+lockup_connected : (n : Netlist) (config : Config) (number : ℕ) (l : LockupPlace) → IsReady n config → slice_get (plan_of n config).lockups number ≡ Some l →
+    pins_of (scanned Plain n config) (length n.instances + number) ≡ connections_from 0 (Clock ∷ Din ∷ Output ∷ []) (lockup_instance (layout n config) config number l).pins
+lockup_connected n config number l ready at =
+    ap (pins_at n.library) (lockup_there n config number l at)
+    ∙ ap (λ (s : Shape). connections_from 0 s.roles (lockup_instance (layout n config) config number l).pins) (first_lockup_shape n.library ready.library)
+
+-- the lock-up behind a cell
+lockup_means : (n : Netlist) (config : Config) (chain place number : ℕ) (cell : InstanceId) (l : LockupPlace) → IsReady n config → (s : IsStitched n config chain place cell) → slice_get (plan_of n config).lockups number ≡ Some l →
+    l.chain ≡ chain → l.after ≡ place → l.domain ≡ s.domain →
+    (logic_of (scanned Plain n config) (config_ports n config)).net ((layout n config).first_lockup + number) ≡ Lockup (length n.instances + number) s.clock.net (Net (output_net (layout n config) chain place))
+lockup_means n config chain place number cell l ready s at chain_is after_is domain_is =
+    let y : Layout = layout n config in
+    let w : Netlist = scanned Plain n config in
+    let ports : Ports = config_ports n config in
+    let i : ℕ = length n.instances + number in
+    ap (meaning_of w ports (y.first_lockup + number)) (lockup_driven n config number l ready at)
+    ∙ ap (λ (cs : List Connection). lockup_meaning i (domain_at w ports (pin_of Clock i cs)) (or_loose i (pin_of Din i cs))) (lockup_connected n config number l ready at)
+    ∙ ap (λ k. lockup_meaning i (domain_at w ports (Some (Net k))) (Net (output_net y l.chain l.after))) (ap (domain_net y config) domain_is ∙ domain_net_is n config cell.0 s.domain ready s.clock)
+    ∙ ap (λ o. lockup_meaning i o (Net (output_net y l.chain l.after))) (port_clocks n config cell.0 s.domain ready s.clock)
+    ∙ ap (λ c. Lockup i s.clock.net (Net (output_net y c l.after))) chain_is ∙ ap (λ k. Lockup i s.clock.net (Net (output_net y chain k))) after_is
+
+-- ---- from cell to cell
+
+link_by : (n : Netlist) (config : Config) (chain place : ℕ) (cell next : InstanceId) (o : Option ℕ) → IsReady n config → cell_at (plan_of n config).chains chain place ≡ Some cell → cell_at (plan_of n config).chains chain (suc place) ≡ Some next →
+    number_of (stands_after chain place) (layout n config).first_lockup (plan_of n config).lockups ≡ o → Leads (logic_of (scanned Plain n config) (config_ports n config)) cell.0 next.0 (Net (made_or o (output_net (layout n config) chain place)))
+link_by n config chain place cell next None ready stands follows is =
+    let l : Logic = logic_of (scanned Plain n config) (config_ports n config) in
+    let a : IsStitched n config chain place cell = stitched n config chain place cell ready stands in
+    let b : IsStitched n config chain (suc place) next = stitched n config chain (suc place) next ready follows in
+    let has : HasChain (plan_of n config).chains chain place cell = has_chain (plan_of n config).chains chain place cell stands in
+    let later : slice_get has.cells (suc place) ≡ Some next = sym (ap (option_and_then (λ (cells : List InstanceId). slice_get cells (suc place))) has.at) ∙ follows in
+    let same : a.domain ≡ b.domain =
+        same_domain (judgements n config) (plan_of n config).chains has.cells chain place a.domain b.domain (layout n config).first_lockup cell has.at has.here
+        (cell_domain n config chain place cell has.cells a has.here) (cell_domain n config chain (suc place) next has.cells b later) is in
+    Directly (output_means n config chain place cell ready stands a)
+    (ap (λ (c : Cell). c.domain) (flop_is n config chain place cell a) ∙ a.on ∙ same_clock n config cell.0 next.0 a.domain b.domain a.clock b.clock same ∙ sym b.on ∙ sym (ap (λ (c : Cell). c.domain) (flop_is n config chain (suc place) next b)))
+link_by n config chain place cell next (Some net) ready stands follows is =
+    let l : Logic = logic_of (scanned Plain n config) (config_ports n config) in
+    let y : Layout = layout n config in
+    let a : IsStitched n config chain place cell = stitched n config chain place cell ready stands in
+    let has : HasChain (plan_of n config).chains chain place cell = has_chain (plan_of n config).chains chain place cell stands in
+    let it : IsNumbered (stands_after chain place) y.first_lockup (plan_of n config).lockups net = numbered_item (stands_after chain place) y.first_lockup net (plan_of n config).lockups is in
+    let tests = both_true (it.item.chain == chain) (it.item.after == place) it.passes in
+    let chain_is : it.item.chain ≡ chain = eqb-true it.item.chain chain tests.0 in
+    let after_is : it.item.after ≡ place = eqb-true it.item.after place tests.1 in
+    let own : slice_index_or (plan_of n config).chains chain [] ≡ has.cells = get_or_from_slice_get (plan_of n config).chains chain has.cells [] has.at in
+    let listed : chains.domain_at (judgements n config) has.cells place ≡ Some it.item.domain =
+        sym (ap (λ (z : List InstanceId). chains.domain_at (judgements n config) z place) own)
+        ∙ sym (ap (λ k. chains.domain_at (judgements n config) (slice_index_or (plan_of n config).chains chain []) k) after_is)
+        ∙ sym (ap (λ c. chains.domain_at (judgements n config) (slice_index_or (plan_of n config).chains c []) it.item.after) chain_is)
+        ∙ lockup_domain (judgements n config) (plan_of n config).chains it.place it.item it.at in
+    let domain_is : it.item.domain ≡ a.domain = same_Some it.item.domain a.domain (sym listed ∙ cell_domain n config chain place cell has.cells a has.here) in
+    let clock : (l.cell cell.0).domain ≡ a.clock.net = ap (λ (c : Cell). c.domain) (flop_is n config chain place cell a) ∙ a.on in
+    ByLockup {net = net} {lockup = length n.instances + it.place} {output = output_net y chain place}
+    (ap l.net it.is ∙ lockup_means n config chain place it.place cell it.item ready a it.at chain_is after_is domain_is
+    ∙ ap (λ d. Lockup (length n.instances + it.place) d (Net (output_net y chain place))) (sym clock))
+    (output_means n config chain place cell ready stands a)
+
+scan_cell : (n : Netlist) (config : Config) (chain place : ℕ) (cell : InstanceId) → IsReady n config → cell_at (plan_of n config).chains chain place ≡ Some cell →
+    IsScanCell (logic_of (scanned Plain n config) (config_ports n config)) (config_ports n config) (plain_nets (layout n config) config).enable ((plain_nets (layout n config) config).into chain place) cell.0
+scan_cell n config chain place cell ready stands =
+    let s : IsStitched n config chain place cell = stitched n config chain place cell ready stands in
+    let same : (logic_of (scanned Plain n config) (config_ports n config)).cell cell.0 ≡ s.flop = flop_is n config chain place cell s in
+    record {
+      scan = ap (λ (c : Cell). c.scan) same ∙ s.scan;
+      domain = ap (λ (c : Cell). (config_ports n config).is_clock c.domain) same ∙ ap (config_ports n config).is_clock s.on ∙ clock_is n config cell.0 s.domain s.clock;
+      force = subst (λ (c : Cell). hardware.ActsByPort (config_ports n config) c.force) (sym same) s.acts;
+    }
+
+-- ---- ports
+
+less_apart : (a b : ℕ) → a < b → (a == b) ≡ false
+less_apart = grind arith
+
+not_this : (n : Netlist) (at : ℕ) (net : NetId) (b : Bool) → length (bits_of n.ports) ≤ at → (b ≡ true → net.0 < length (bits_of n.ports)) → is_net at (if b then Some net else None) ≡ false
+not_this n at net true past h = less_apart net.0 at (omega (arith, h refl, past))
+not_this n at net false past h = refl
+
+not_found : (n : Netlist) (config : Config) (at : ℕ) (o : Option NetId) → IsReady n config → length (bits_of n.ports) ≤ at → is_net at (option_and_then (λ (net : NetId). if is_input (driver n net.0) then Some net else None) o) ≡ false
+not_found n config at None ready past = refl
+not_found n config at (Some net) ready past = not_this n at net (is_input (driver n net.0)) past (λ is. input_less n net.0 (driver n net.0) is (driver_fine n config net.0 ready))
+
+none_any : (a b : Bool) → a ≡ false → b ≡ false → (a || b) ≡ false
+none_any false false e f = refl
+none_any true b e f = absurd cc
+none_any false true e f = absurd cc
+
+no_clock : (n : Netlist) (config : Config) (at : ℕ) (names : List Text) → IsReady n config → length (bits_of n.ports) ≤ at → list_any (λ name. is_net at (input_net n name)) names ≡ false
+no_clock n config at [] ready past = refl
+no_clock n config at (name ∷ names) ready past = none_any (is_net at (input_net n name)) (list_any (λ other. is_net at (input_net n other)) names) (not_found n config at (find_net n name) ready past) (no_clock n config at names ready past)
+
+scan_in_means : (n : Netlist) (config : Config) (chain : ℕ) → IsReady n config → chain < config.chains → (logic_of (scanned Plain n config) (config_ports n config)).net (scan_in_net (layout n config).gap chain) ≡ Input
+scan_in_means n config chain ready less =
+    ap (meaning_of (scanned Plain n config) (config_ports n config) (scan_in_net (layout n config).gap chain)) (scan_in_driven n config chain ready less)
+    ∙ ap (λ b. if b then logic.Clock else Input) (no_clock n config (scan_in_net (layout n config).gap chain) config.domains ready (omega arith))
+
+chain_less : (n : Netlist) (config : Config) (chain place : ℕ) (cell : InstanceId) → cell_at (plan_of n config).chains chain place ≡ Some cell → chain < config.chains
+chain_less n config chain place cell stands =
+    let has : HasChain (plan_of n config).chains chain place cell = has_chain (plan_of n config).chains chain place cell stands in
+    omega (arith, slice_get_within (plan_of n config).chains chain has.cells has.at, chain_count (cells_of n config) config.chains)
+
+end_shows : (n : Netlist) (config : Config) (chain place : ℕ) (cell : InstanceId) → IsReady n config → cell_at (plan_of n config).chains chain place ≡ Some cell → cell_at (plan_of n config).chains chain (suc place) ≡ None →
+    Shows (logic_of (scanned Plain n config) (config_ports n config)) cell.0 (scan_out_net (layout n config).gap config.chains chain)
+end_shows n config chain place cell ready stands last =
+    let y : Layout = layout n config in
+    let s : IsStitched n config chain place cell = stitched n config chain place cell ready stands in
+    let has : HasChain (plan_of n config).chains chain place cell = has_chain (plan_of n config).chains chain place cell stands in
+    let past : slice_get has.cells (suc place) ≡ None = sym (ap (option_and_then (λ (cells : List InstanceId). slice_get cells (suc place))) has.at) ∙ last in
+    let at : length has.cells - 1 ≡ place = omega (arith, slice_get_within has.cells place cell has.here, none_past has.cells (suc place) past) in
+    record {
+      output = output_net y chain place;
+      buffer = ap (meaning_of (scanned Plain n config) (config_ports n config) (scan_out_net y.gap config.chains chain)) (buffer_driven n config chain has.cells ready has.at) ∙ ap (λ k. Gate kind.Buf (Net (output_net y chain k) ∷ [])) at;
+      flop = output_means n config chain place cell ready stands s;
+    }
+
+pub has_hardware : HasHardware
+has_hardware n config ready = record {
+  has = record {
+    enable = enable_input n config ready;
+    cells = λ chain place cell stands. scan_cell n config chain place cell ready stands;
+    links = λ chain place cell next stands follows. link_by n config chain place cell next (number_of (stands_after chain place) (layout n config).first_lockup (plan_of n config).lockups) ready stands follows refl;
+  };
+  entries = λ chain cell stands. record { first = refl; port = scan_in_means n config chain ready (chain_less n config chain zero cell stands) };
+  ends = λ chain place cell stands last. end_shows n config chain place cell ready stands last;
+}
+
+pub scanned_shifts : ScannedShifts
+scanned_shifts n config rank before shifts start ts us ready ranked run are turns =
+    shift_experiment (logic_of (scanned Plain n config) (config_ports n config)) rank (config_ports n config) (plan_of n config).chains (plain_nets (layout n config) config) before shifts start ts us ranked (has_hardware n config ready) run are turns
+
+pub scanned_shows : ScannedShows
+scanned_shows n config x now t ready turn chain place cell stands last =
+    ends_show (logic_of (scanned Plain n config) (config_ports n config)) (config_ports n config) (plan_of n config).chains (plain_nets (layout n config) config) x now t (has_hardware n config ready) turn chain place cell stands last

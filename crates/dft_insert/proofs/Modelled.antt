@@ -60,7 +60,7 @@ position_item test from number [] e = absurd (none-some number e)
 position_item test from number (x ∷ xs) e = position_by test from number x xs (test x) refl (position_item test (from + 1) number xs) e
 
 pub position_at : {A : Type 0} (test : A → Bool) (number : ℕ) (xs : List A) → position test xs ≡ Some number → IsAt test 0 xs number
-position_at test number xs e = position_item test 0 number xs (position_from-zero test xs ∙ e)
+position_at test number xs e = position_item test 0 number xs (sym (position_from-zero test xs) ∙ e)
 
 or_right : (a b : Bool) → b ≡ true → (a || b) ≡ true
 or_right true b e = refl

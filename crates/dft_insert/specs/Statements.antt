@@ -1,5 +1,5 @@
 -- What holds of scanned netlists.
-use Rattle.std.specs.Prelude.{ℕ, ◌+◌, ◌<◌, ◌≡◌, Bool, true, List, ◌∷◌, length, None, is_some}
+use Rattle.std.specs.Prelude.{ℕ, suc, ◌+◌, ◌<◌, ◌≡◌, Bool, true, List, ◌∷◌, length, None, Some, is_some}
 use Rattle.std.specs.List.{list_any}
 use Rattle.dft_cells.specs.WellFormed.{IsWellFormed}
 use Rattle.dft_netlist.specs.Netlist.{Netlist}
@@ -7,8 +7,8 @@ use Rattle.dft_netlist.specs.Drivers.{Net}
 use Rattle.dft_netlist.specs.NetDrivers.{IsSingle}
 use Rattle.dft_netlist.specs.Orders.{IsOrder, IsOrderable}
 use Rattle.dft_netlist.specs.Sound.{IsNetlist}
-use Rattle.dft_netlist.specs.Logic.{Ports, logic_of, flip_flop}
-use Rattle.dft_netlist.specs.Runs.{Now, Moment, Step, next_now, AreSteps, AreLow}
+use Rattle.dft_netlist.specs.Logic.{Ports, logic_of, flip_flop, IsRanked}
+use Rattle.dft_netlist.specs.Runs.{Now, Moment, Step, next_now, AreSteps, AreLow, Vector, Turn, IsTurn, AreTurns, IsRun}
 use Rattle.dft_base.specs.declared.tri.Tri.{Tri}
 use Rattle.dft_base.specs.declared.tri.Tri.TheVariants.{Zero}
 use Rattle.dft_config.specs.declared.config.Config.{Config}
@@ -16,7 +16,10 @@ use Rattle.dft_config.specs.Range.{IsInRange}
 use Rattle.dft_rules.specs.Rules.{input_net, is_net, judged}
 use Rattle.dft_rules.specs.Refusals.{is_scanned}
 use Rattle.dft_rules.specs.Refusals as rules
+use Rattle.dft_netlist.specs.declared.ids.InstanceId.{InstanceId}
+use Rattle.dft_cycle.specs.Laws.{shown}
 use Rattle.dft_stitch.specs.Chains.{plan_of}
+use Rattle.dft_stitch.specs.Plans.{cell_at}
 use Rattle.dft_insert.specs.declared.style.Style.{Style}
 use Rattle.dft_insert.specs.declared.style.Style.TheVariants.{Plain}
 use Rattle.dft_insert.specs.Moves.{Gap, gap_of, moved}
@@ -26,6 +29,7 @@ use Rattle.dft_insert.specs.Written.{plain_layout, scanned_netlist}
 use Rattle.dft_insert.specs.Refusals.{refusal}
 use Rattle.dft_insert.specs.Keeping.{Keeps}
 use Rattle.dft_insert.specs.Hardware.{ScanNets, IsPlain}
+use Rattle.dft_insert.specs.Shifts.{after_turns, AreShifts, AreShifted, at_strobe}
 use Rattle.dft_insert.specs.ScanOff.{Places, Contains, AreFreeAlike, AreSameSteps, AllAgree, set_to}
 
 -- a finished design that the scan rules pass
@@ -107,3 +111,22 @@ AgreesWhileOff =
     AreSameSteps original p (next_now original its (set_to ports o)) steps others →
     AreSteps (logic_of (scanned style n config) (config_ports n config)) now (set_to given m ∷ steps) → AreSteps original its (set_to ports o ∷ others) →
     AllAgree p (set_to given m ∷ steps) (set_to ports o ∷ others)
+
+-- In style Plain its chains shift: in every run, after any vectors and then shift vectors, each cell holds the bit of its scan input
+-- port in the vector so many before the end as it stands places behind it, or the bit of the cell as many places before it as there
+-- were shift vectors.
+abbrev pub ScannedShifts : Type 0
+ScannedShifts =
+    (n : Netlist) (config : Config) (rank : ℕ → ℕ) (before shifts : List Vector) (start : Now) (ts us : List Turn) → IsReady n config →
+    let l = logic_of (scanned Plain n config) (config_ports n config) in
+    let w = plain_nets (plain_layout n config (plan_of n config)) config in
+    IsRanked l rank → IsRun l before start ts → AreShifts (config_ports n config) w shifts → AreTurns l (after_turns l start before ts) shifts us →
+    AreShifted (plan_of n config).chains w shifts (after_turns l start before ts).state.flops (after_turns l (after_turns l start before ts) shifts us).state.flops
+
+-- At every strobe each of its scan outputs shows the bit of its last cell.
+abbrev pub ScannedShows : Type 0
+ScannedShows =
+    (n : Netlist) (config : Config) (x : Vector) (now : Now) (t : Turn) → IsReady n config →
+    let l = logic_of (scanned Plain n config) (config_ports n config) in
+    IsTurn l x now t → (chain place : ℕ) (cell : InstanceId) → cell_at (plan_of n config).chains chain place ≡ Some cell → cell_at (plan_of n config).chains chain (suc place) ≡ None →
+    shown t (scan_out_net (gap_in Plain n config) config.chains chain) ≡ (at_strobe l x now t).flops cell.0

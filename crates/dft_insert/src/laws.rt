@@ -2,7 +2,7 @@
 
 ghost use Rattle.dft_insert.specs.Shifts.{EndsShow, EndsShowBefore, LinkLaw, EntryLaw, ShiftInRuns, ShiftExperiment};
 ghost use Rattle.dft_insert.specs.ScanOff.{ScanOff};
-ghost use Rattle.dft_insert.specs.Statements.{AgreesWhileOff, ContainsDesign};
+ghost use Rattle.dft_insert.specs.Statements.{AgreesWhileOff, ContainsDesign, HasHardware, KeepsDesign, ScannedShifts, ScannedShows};
 
 /// What shift vectors do to the chains, on the abstract cycle and in every run: whatever the order of the edges and the
 /// free bits, each cell takes the bit of the one before it.
@@ -24,4 +24,17 @@ pub fn scan_off_agrees()
 pub fn scanned_agrees()
     ensures contains { ContainsDesign }
     ensures agrees { AgreesWhileOff }
+{}
+
+/// In style Plain a scanned netlist has the planned chains between ports of their own, and they shift in every run.
+pub fn scanned_shifts()
+    ensures hardware { HasHardware }
+    ensures shifts { ScannedShifts }
+    ensures shows { ScannedShows }
+{}
+
+/// A scanned netlist keeps its design: its ports, nets, joins and instances in order and under their names, but that the
+/// scanned flip-flops are their scan cells.
+pub fn scanned_keeps()
+    ensures { KeepsDesign }
 {}
