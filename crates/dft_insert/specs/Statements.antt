@@ -26,7 +26,6 @@ use Rattle.dft_insert.specs.Moves.{Gap, gap_of, moved}
 use Rattle.dft_insert.specs.AddedPorts.{added_ports, enable_net, scan_in_net, scan_out_net}
 use Rattle.dft_insert.specs.Stitching.{Layout, scan_input}
 use Rattle.dft_insert.specs.Written.{plain_layout, scanned_netlist}
-use Rattle.dft_insert.specs.Refusals.{refusal}
 use Rattle.dft_insert.specs.Keeping.{Keeps}
 use Rattle.dft_insert.specs.Hardware.{ScanNets, IsPlain}
 use Rattle.dft_insert.specs.Shifts.{after_turns, AreShifts, AreShifted, at_strobe}
@@ -60,14 +59,14 @@ gap_in style n config = gap_of n (length (added_ports style config))
 abbrev pub KeepsDesign : Type 0
 KeepsDesign = (style : Style) (n : Netlist) (config : Config) → IsReady n config → Keeps n (gap_in style n config) (λ i. is_scanned (judged n config i)) (scanned style n config)
 
--- It is sound where nothing that is added is refused, no net of it has two drivers, and its nets can be ordered.
+-- no net has two drivers, and every net can be ordered
 pub record CanFinish (n : Netlist) : Type 0 where
-  pub netlist : IsNetlist n
   pub single : IsSingle n
   pub orderable : (net : ℕ) → net < length n.nets → IsOrderable n net
 
+-- No net of it has two drivers, and its nets can be ordered.
 abbrev pub CanBeFinished : Type 0
-CanBeFinished = (style : Style) (n : Netlist) (config : Config) → IsReady n config → refusal style n config (plan_of n config) ≡ None → CanFinish (scanned style n config)
+CanBeFinished = (style : Style) (n : Netlist) (config : Config) → IsReady n config → CanFinish (scanned style n config)
 
 -- the nets of the chains of style Plain
 abbrev pub plain_nets : Layout → Config → ScanNets
