@@ -21,4 +21,5 @@ pub mod Listed
 pub mod Modelled
 pub mod Linked
 pub mod KeepingLemmas
+pub mod Orderable
 pub mod WorkedScan

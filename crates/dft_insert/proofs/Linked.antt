@@ -225,7 +225,7 @@ domain_net_is n config i domain ready c =
     ∙ (root_stays n config c.source c.net ready c.root).0
 
 -- the pins of a lock-up
-lockup_connected : (n : Netlist) (config : Config) (number : ℕ) (l : LockupPlace) → IsReady n config → slice_get (plan_of n config).lockups number ≡ Some l →
+pub lockup_connected : (n : Netlist) (config : Config) (number : ℕ) (l : LockupPlace) → IsReady n config → slice_get (plan_of n config).lockups number ≡ Some l →
     pins_of (scanned Plain n config) (length n.instances + number) ≡ connections_from 0 (Clock ∷ Din ∷ Output ∷ []) (lockup_instance (layout n config) config number l).pins
 lockup_connected n config number l ready at =
     ap (pins_at n.library) (lockup_there n config number l at)

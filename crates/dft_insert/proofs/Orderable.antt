@@ -4,6 +4,7 @@ use Rattle.std.specs.Prelude.{if◌then◌else◌}
 use Rattle.std.proofs.lemmas.Bool.{eqb-true}
 use Rattle.std.proofs.lemmas.Option.{none-some, same_Some, slice_get_within}
 use Rattle.dft_base.specs.Lexing.{Text}
+use Rattle.dft_cells.specs.WellFormed as library_cells
 use Rattle.dft_cells.specs.declared.kind.Role.TheVariants.{Clock, Din, Output}
 use Rattle.dft_netlist.specs.declared.ids.NetId.{NetId}
 use Rattle.dft_netlist.specs.declared.ids.InstanceId.{InstanceId}
@@ -21,8 +22,10 @@ use Rattle.dft_netlist.specs.Orders.{Has, reads_of, IsOrder, IsOrderable, Follow
 use Rattle.dft_netlist.proofs.StandLemmas.{order_orderable}
 use Rattle.dft_config.specs.declared.config.Config.{Config}
 use Rattle.dft_rules.specs.Rules.{is_input, input_net}
+use Rattle.dft_stitch.specs.declared.places.CellPlace as places
 use Rattle.dft_stitch.specs.declared.places.LockupPlace.{LockupPlace}
-use Rattle.dft_stitch.specs.Chains.{plan_of}
+use Rattle.dft_stitch.specs.Chains.{cells_of, plan_of}
+use Rattle.dft_stitch.proofs.BlockLemmas.{chain_count}
 use Rattle.dft_stitch.specs.Plans.{cell_at}
 use Rattle.dft_insert.specs.declared.style.Style.TheVariants.{Plain}
 use Rattle.dft_insert.specs.Moves.{Gap, moved}
@@ -181,3 +184,131 @@ buffers_calm : (w : Netlist) (y : Layout) (count lockups net k chain : ℕ) (cs 
 buffers_calm w y count lockups net k chain [] width less outside = tt
 buffers_calm w y count lockups net k chain (cells ∷ cs) width less outside =
     (λ e. absurd (outside_apart y count chain net width (omega (arith, less)) outside e), buffers_calm w y count lockups net (suc k) (suc chain) cs width (omega (arith, less)) outside)
+
+-- ---- every net
+
+added_ready : (n : Netlist) (config : Config) (net : ℕ) →
+    AreReady (scanned Plain n config) net (driven_by_instances n.library (length n.instances) (map_from (lockup_instance (layout n config) config) 0 (plan_of n config).lockups)) →
+    AreReady (scanned Plain n config) net (driven_by_instances n.library (length n.instances + length (map_from (lockup_instance (layout n config) config) 0 (plan_of n config).lockups))
+    (map_from (λ chain. buffer_instance (layout n config) (scan_out_net (layout n config).gap config.chains) (length (plan_of n config).lockups + chain) chain) 0 (plan_of n config).chains)) →
+    AreReady (scanned Plain n config) net (all_added_drivers n config)
+added_ready n config net locks_ok buffers_ok =
+    let y : Layout = layout n config in
+    let w : Netlist = scanned Plain n config in
+    let count : ℕ = length n.instances in
+    let locks : List Instance = map_from (lockup_instance y config) 0 y.plan.lockups in
+    let buffers : List Instance = map_from (λ chain. buffer_instance y (scan_out_net y.gap config.chains) (length y.plan.lockups + chain) chain) 0 y.plan.chains in
+    let m : List Driven = driven_by_ports (ports_from y.gap.before (added_ports Plain config)) in
+    let o : List Driven = all_opened n config in
+    let made : List Driven = driven_by_instances n.library count (made_instances n config) in
+    ready_append w net (m ++ (o ++ made)) []
+    (ready_append w net m (o ++ made) (ports_ready w net y.gap.before (added_ports Plain config))
+    (ready_append w net o made (opened_ready w y net 0 n.instances)
+    (subst (AreReady w net) (sym (instances_append n.library count (count + length locks) locks buffers refl))
+    (ready_append w net (driven_by_instances n.library count locks) (driven_by_instances n.library (count + length locks) buffers) locks_ok buffers_ok))))
+    tt
+
+by_kind : (n : Netlist) (config : Config) (net : ℕ) → IsReady n config → IsMovedOrNew (layout n config).gap (length n.nets) net → AreReady (scanned Plain n config) net (all_added_drivers n config) → IsOrderable (scanned Plain n config) net
+by_kind n config net ready (IsMoved {own = own} less is) ok = subst (IsOrderable (scanned Plain n config)) is (own_orderable n config own ready less)
+by_kind n config net ready (IsNone apart) ok = new_orderable n config net ready apart ok
+
+few_chains : (n : Netlist) (config : Config) → 0 + length (plan_of n config).chains ≤ config.chains
+few_chains n config = omega (arith, chain_count (cells_of n config) config.chains)
+
+calm_orderable : (n : Netlist) (config : Config) (net : ℕ) → IsReady n config → IsCalm (layout n config) config.chains net → IsOrderable (scanned Plain n config) net
+calm_orderable n config net ready calm =
+    let y : Layout = layout n config in
+    by_kind n config net ready (moved_or_new y.gap (length n.nets) net (ports_fit n ready.netlist))
+    (added_ready n config net (lockups_calm (scanned Plain n config) y config net (length n.instances) 0 y.plan.lockups ready.library calm.below)
+    (buffers_calm (scanned Plain n config) y config.chains (length y.plan.lockups) net (length n.instances + length (map_from (lockup_instance y config) 0 y.plan.lockups)) 0 y.plan.chains (ports_count config) (few_chains n config) calm.outside))
+
+zero_orderable : (n : Netlist) (config : Config) → IsReady n config → IsOrderable (scanned Plain n config) zero
+zero_orderable n config ready = calm_orderable n config zero ready (record { below = omega (arith, ports_count config); outside = inl (omega arith) })
+
+-- ---- outputs
+
+own_by : (size own : ℕ) (o : Option Source) → IsPinWithin size o → option_and_then net_of o ≡ Some own → own < size
+own_by size own None inside e = absurd (none-some own e)
+own_by size own (Some (Net k)) inside e = subst (λ m. m < size) (same_Some k own e) inside
+own_by size own (Some (Tied bit)) inside e = absurd (none-some own e)
+own_by size own (Some (Loose i pin)) inside e = absurd (none-some own e)
+
+own_at : (n : Netlist) (config : Config) (i own : ℕ) (o : Option Instance) → IsReady n config → slice_get n.instances i ≡ o → option_and_then net_of (pin_of Output i (pins_at n.library o)) ≡ Some own → own < length n.nets
+own_at n config i own None ready at e = absurd (none-some own e)
+own_at n config i own (Some x) ready at e =
+    own_by (length n.nets) own (pin_of Output i (connections_of n.library x)) (pin_inside (length n.nets) i 0 (shape_of n.library x.cell).roles x.pins Output (ready.netlist.instances i x at).live) e
+
+own_less : (n : Netlist) (config : Config) (own : ℕ) (o : Option InstanceId) → IsReady n config → option_and_then (own_output n) o ≡ Some own → own < length n.nets
+own_less n config own None ready e = absurd (none-some own e)
+own_less n config own (Some cell) ready e = own_at n config cell.0 own (slice_get n.instances cell.0) ready refl e
+
+output_by : (n : Netlist) (config : Config) (chain place : ℕ) (o own : Option ℕ) → IsReady n config → number_of (is_place chain place) (layout n config).first_output (open_places n (plan_of n config).chains) ≡ o → output_at n (plan_of n config).chains chain place ≡ own →
+    IsOrderable (scanned Plain n config) (made_or o (moved_or_none (layout n config).gap own))
+output_by n config chain place (Some number) own ready is at =
+    let y : Layout = layout n config in
+    let it : IsNumbered (is_place chain place) y.first_output (open_places n (plan_of n config).chains) number = numbered_item (is_place chain place) y.first_output number (open_places n (plan_of n config).chains) is in
+    calm_orderable n config number ready (record {
+      below = omega (arith, it.is, slice_get_within (open_places n (plan_of n config).chains) it.place it.item it.at);
+      outside = inr (omega (arith, it.is, ports_fit n ready.netlist));
+    })
+output_by n config chain place None (Some own) ready is at = own_orderable n config own ready (own_less n config own (cell_at (plan_of n config).chains chain place) ready at)
+output_by n config chain place None None ready is at = zero_orderable n config ready
+
+output_orderable : (n : Netlist) (config : Config) (chain place : ℕ) → IsReady n config → IsOrderable (scanned Plain n config) (output_net (layout n config) chain place)
+output_orderable n config chain place ready =
+    output_by n config chain place (number_of (is_place chain place) (layout n config).first_output (open_places n (plan_of n config).chains)) (output_at n (plan_of n config).chains chain place) ready refl refl
+
+-- ---- ports of domains
+
+port_by : (n : Netlist) (config : Config) (net : NetId) (b : Bool) → IsReady n config → is_input (driver n net.0) ≡ b → IsOrderable (scanned Plain n config) (moved_or_none (layout n config).gap (option_map (λ (k : NetId). k.0) (if b then Some net else None)))
+port_by n config net true ready is = own_orderable n config net.0 ready (design_ports_few n config net.0 ready (input_less n net.0 (driver n net.0) is (driver_fine n config net.0 ready)))
+port_by n config net false ready is = zero_orderable n config ready
+
+port_found_by : (n : Netlist) (config : Config) (o : Option NetId) → IsReady n config → IsOrderable (scanned Plain n config) (moved_or_none (layout n config).gap (option_map (λ (k : NetId). k.0) (option_and_then (λ (net : NetId). if is_input (driver n net.0) then Some net else None) o)))
+port_found_by n config None ready = zero_orderable n config ready
+port_found_by n config (Some net) ready = port_by n config net (is_input (driver n net.0)) ready refl
+
+domain_orderable : (n : Netlist) (config : Config) (domain : ℕ) → IsReady n config → IsOrderable (scanned Plain n config) (domain_net (layout n config) config domain)
+domain_orderable n config domain ready = port_found_by n config (find_net n (slice_index_or config.domains domain [])) ready
+
+-- ---- lock-ups and buffers
+
+lockup_reads : (n : Netlist) (config : Config) (number k : ℕ) (l : LockupPlace) → IsReady n config → k ≡ length n.instances + number → slice_get (plan_of n config).lockups number ≡ Some l → ReadsReady (scanned Plain n config) (Lockup k)
+lockup_reads n config number k l ready is at = λ read has.
+    either read (domain_net (layout n config) config l.domain) (output_net (layout n config) l.chain l.after) (domain_orderable n config l.domain ready) (output_orderable n config l.chain l.after ready)
+    (subst (λ (cs : List Connection). Has (nets_of (lockup_inputs k cs)) read) (ap (pins_of (scanned Plain n config)) is ∙ lockup_connected n config number l ready at) has)
+  where
+    either : (read a b : ℕ) → IsOrderable (scanned Plain n config) a → IsOrderable (scanned Plain n config) b → Has (a ∷ b ∷ []) read → IsOrderable (scanned Plain n config) read
+    either read a b p q (inl e) = subst (IsOrderable (scanned Plain n config)) (sym e) p
+    either read a b p q (inr (inl e)) = subst (IsOrderable (scanned Plain n config)) (sym e) q
+    either read a b p q (inr (inr h)) = absurd h
+
+lockups_ready : (n : Netlist) (config : Config) (net k number : ℕ) (ls : List LockupPlace) → IsReady n config → k ≡ length n.instances + number → ((m j : ℕ) (l : LockupPlace) → j ≡ number + m → slice_get ls m ≡ Some l → slice_get (plan_of n config).lockups j ≡ Some l) →
+    AreReady (scanned Plain n config) net (driven_by_instances n.library k (map_from (lockup_instance (layout n config) config) number ls))
+lockups_ready n config net k number [] ready is at = tt
+lockups_ready n config net k number (l ∷ ls) ready is at =
+    let y : Layout = layout n config in
+    ready_append (scanned Plain n config) net (driven_by n.library k (lockup_instance y config number l)) (driven_by_instances n.library (suc k) (map_from (lockup_instance y config) (suc number) ls))
+    (subst (AreReady (scanned Plain n config) net) (sym (lockup_drives y config k number l ready.library)) (λ e. lockup_reads n config number k l ready is (at zero number l (omega arith) refl), tt))
+    (lockups_ready n config net (suc k) (suc number) ls ready (omega (arith, is)) (λ m j z e z_at. at (suc m) j z (omega (arith, e)) z_at))
+
+buffers_ready : (n : Netlist) (config : Config) (net k chain : ℕ) (cs : List (List InstanceId)) → IsReady n config →
+    AreReady (scanned Plain n config) net (driven_by_instances n.library k (map_from (λ c. buffer_instance (layout n config) (scan_out_net (layout n config).gap config.chains) (length (plan_of n config).lockups + c) c) chain cs))
+buffers_ready n config net k chain [] ready = tt
+buffers_ready n config net k chain (cells ∷ cs) ready =
+    (λ e read has. one read (output_net (layout n config) chain (length cells - 1)) (output_orderable n config chain (length cells - 1) ready) has, buffers_ready n config net (suc k) (suc chain) cs ready)
+  where
+    one : (read a : ℕ) → IsOrderable (scanned Plain n config) a → Has (a ∷ []) read → IsOrderable (scanned Plain n config) read
+    one read a p (inl e) = subst (IsOrderable (scanned Plain n config)) (sym e) p
+    one read a p (inr h) = absurd h
+
+-- every net can be ordered
+pub scanned_orderable : (n : Netlist) (config : Config) (net : ℕ) → IsReady n config → IsOrderable (scanned Plain n config) net
+scanned_orderable n config net ready =
+    let y : Layout = layout n config in
+    by_kind n config net ready (moved_or_new y.gap (length n.nets) net (ports_fit n ready.netlist))
+    (added_ready n config net (lockups_ready n config net (length n.instances) 0 y.plan.lockups ready (omega arith) (λ m j l e at. ap (slice_get y.plan.lockups) (omega (arith, e)) ∙ at))
+    (buffers_ready n config net (length n.instances + length (map_from (lockup_instance y config) 0 y.plan.lockups)) 0 y.plan.chains ready))
+
+pub can_be_finished : CanBeFinished
+can_be_finished Plain n config ready = record { single = scanned_single n config ready; orderable = λ net less. scanned_orderable n config net ready }

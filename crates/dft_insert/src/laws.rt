@@ -2,7 +2,7 @@
 
 ghost use Rattle.dft_insert.specs.Shifts.{EndsShow, EndsShowBefore, LinkLaw, EntryLaw, ShiftInRuns, ShiftExperiment};
 ghost use Rattle.dft_insert.specs.ScanOff.{ScanOff};
-ghost use Rattle.dft_insert.specs.Statements.{AgreesWhileOff, ContainsDesign, HasHardware, KeepsDesign, ScannedShifts, ScannedShows};
+ghost use Rattle.dft_insert.specs.Statements.{AgreesWhileOff, CanBeFinished, ContainsDesign, HasHardware, KeepsDesign, ScannedShifts, ScannedShows};
 
 /// What shift vectors do to the chains, on the abstract cycle and in every run: whatever the order of the edges and the
 /// free bits, each cell takes the bit of the one before it.
@@ -37,4 +37,9 @@ pub fn scanned_shifts()
 /// scanned flip-flops are their scan cells.
 pub fn scanned_keeps()
     ensures { KeepsDesign }
+{}
+
+/// No net of a scanned netlist has two drivers, and its nets can be ordered; so it is never refused when it is finished.
+pub fn scanned_finishes()
+    ensures { CanBeFinished }
 {}
