@@ -130,9 +130,9 @@ pub open_from : (y : Layout) (i : ℕ) (instance : Instance) (p : CellPlace) →
 open_from y i instance p at placed loose =
     let stands : cell_at y.plan.chains p.chain p.place ≡ Some (record { 0 = i }) = placed_stands y.plan.chains i p placed in
     let none : output_at y.design y.plan.chains p.chain p.place ≡ None =
-        ap (option_and_then (own_output y.design)) stands
-        ∙ ap (λ (o : Option Instance). option_and_then net_of (pin_of Output i (pins_at y.design.library o))) at
-        ∙ loose_pin Output i (connections_of y.design.library instance) loose in
+    ap (option_and_then (own_output y.design)) stands
+    ∙ ap (λ (o : Option Instance). option_and_then net_of (pin_of Output i (pins_at y.design.library o))) at
+    ∙ loose_pin Output i (connections_of y.design.library instance) loose in
     number_from (is_place p.chain p.place) (λ q. is_cell i (cell_at y.plan.chains q.chain q.place)) (λ q. is_none (output_at y.design y.plan.chains q.chain q.place)) p (places_of y.plan.chains)
     (is_itself p) (ap is_none none) placed y.first_output
 

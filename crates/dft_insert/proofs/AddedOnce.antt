@@ -157,9 +157,12 @@ AreFrom y from xs = (k number : ℕ) (x : Instance) → number ≡ from + k → 
 later_none : (y : Layout) (net i from : ℕ) (p : CellPlace) (xs : List Instance) → IsOpened y i p → output_net y p.chain p.place ≡ net → i < from → AreFrom y from xs → times net (lists_from (opened_list y) from xs) ≡ 0
 later_none y net i from p [] here is less at = refl
 later_none y net i from p (x ∷ xs) here is less at =
-    omega (arith, times_append net (opened_list y from x) (lists_from (opened_list y) (suc from) xs),
-    times_none net (opened_list y from x) (place_apart y from net x (place_in y.plan.chains from) (at zero from x (omega arith) refl) refl (λ q there e. (let same : i ≡ from = opened_same y i from p q here there (is ∙ sym e) in absurd (omega (arith, same, less))))),
-    later_none y net i (suc from) p xs here is (omega (arith, less)) (λ k number z e z_at. at (suc k) number z (omega (arith, e)) z_at))
+    omega (
+      arith,
+      times_append net (opened_list y from x) (lists_from (opened_list y) (suc from) xs),
+      times_none net (opened_list y from x) (place_apart y from net x (place_in y.plan.chains from) (at zero from x (omega arith) refl) refl (λ q there e. (let same : i ≡ from = opened_same y i from p q here there (is ∙ sym e) in absurd (omega (arith, same, less))))),
+      later_none y net i (suc from) p xs here is (omega (arith, less)) (λ k number z e z_at. at (suc k) number z (omega (arith, e)) z_at),
+    )
 
 signal_once : (y : Layout) (net i : ℕ) (x : Instance) (p : CellPlace) (xs : List Instance) (o : Option Signal) → slice_get y.design.instances i ≡ Some x → place_in y.plan.chains i ≡ Some p → signal_at Output (connections_of y.design.library x) ≡ o → AreFrom y (suc i) xs →
     times net (lists_from (opened_list y) (suc i) xs) ≤ 1 → times net (opened i o (output_net y p.chain p.place) ++ lists_from (opened_list y) (suc i) xs) ≤ 1
@@ -185,9 +188,12 @@ opened_once y net from (x ∷ xs) at =
 pub opened_none : (y : Layout) (net from : ℕ) (xs : List Instance) → AreFrom y from xs → ((i : ℕ) (q : CellPlace) → IsOpened y i q → output_net y q.chain q.place ≡ net → ⊥) → times net (lists_from (opened_list y) from xs) ≡ 0
 opened_none y net from [] at h = refl
 opened_none y net from (x ∷ xs) at h =
-    omega (arith, times_append net (opened_list y from x) (lists_from (opened_list y) (suc from) xs),
-    times_none net (opened_list y from x) (place_apart y from net x (place_in y.plan.chains from) (at zero from x (omega arith) refl) refl (h from)),
-    opened_none y net (suc from) xs (λ k number z e z_at. at (suc k) number z (omega (arith, e)) z_at) h)
+    omega (
+      arith,
+      times_append net (opened_list y from x) (lists_from (opened_list y) (suc from) xs),
+      times_none net (opened_list y from x) (place_apart y from net x (place_in y.plan.chains from) (at zero from x (omega arith) refl) refl (h from)),
+      opened_none y net (suc from) xs (λ k number z e z_at. at (suc k) number z (omega (arith, e)) z_at) h,
+    )
 
 -- such a net stands from the first on, and before the first of the lock-ups'
 pub opened_between : (y : Layout) (i : ℕ) (p : CellPlace) → IsOpened y i p → (y.first_output ≤ output_net y p.chain p.place) × (output_net y p.chain p.place < y.first_output + length (open_places y.design y.plan.chains))

@@ -143,13 +143,13 @@ moved_matched n w ports p gap i x same_library same_moved kept whole live plain 
     subst (λ (l : List library_cells.Cell). AreMatched p (flop_in n ports i (Some x)) (if is_flip_flop (kind_of l (Some (moved_instance gap x))) then modelled_of w ports i (pins_at l (Some (moved_instance gap x))) else None)) (sym same_library)
     (match_if p (is_flip_flop (shape_of n.library x.cell).kind) (is_flip_flop (shape_of n.library x.cell).kind) (modelled_of n ports i old) (modelled_of w ports i new) refl
     (λ flop. (
-        let none : pin_of role.ScanEnable i old ≡ None = no_pin role.ScanEnable i 0 (shape_of n.library x.cell).roles x.pins (ref_no_role n.library x.cell whole plain flop) in
-        modelled_kept n w ports p i old new kept
-        (subst (λ f. SamePins f i old new) (sym same_moved) (record { clock = pin role.Clock; data_in = pin role.Din; reset = pin role.Reset; preset = pin role.Preset }))
-        (pin_inside p.size i 0 (shape_of n.library x.cell).roles x.pins role.Clock live) (pin_inside p.size i 0 (shape_of n.library x.cell).roles x.pins role.Din live)
-        (pin_inside p.size i 0 (shape_of n.library x.cell).roles x.pins role.Reset live) (pin_inside p.size i 0 (shape_of n.library x.cell).roles x.pins role.Preset live)
-        none (subst (λ (o : Option Source). IsEnabledBy p.enable (scan_of o (pin_of role.ScanIn i new))) (sym (pin role.ScanEnable ∙ ap (option_map (moved_source (moved gap))) none)) tt)
-        )))
+    let none : pin_of role.ScanEnable i old ≡ None = no_pin role.ScanEnable i 0 (shape_of n.library x.cell).roles x.pins (ref_no_role n.library x.cell whole plain flop) in
+    modelled_kept n w ports p i old new kept
+    (subst (λ f. SamePins f i old new) (sym same_moved) (record { clock = pin role.Clock; data_in = pin role.Din; reset = pin role.Reset; preset = pin role.Preset }))
+    (pin_inside p.size i 0 (shape_of n.library x.cell).roles x.pins role.Clock live) (pin_inside p.size i 0 (shape_of n.library x.cell).roles x.pins role.Din live)
+    (pin_inside p.size i 0 (shape_of n.library x.cell).roles x.pins role.Reset live) (pin_inside p.size i 0 (shape_of n.library x.cell).roles x.pins role.Preset live)
+    none (subst (λ (o : Option Source). IsEnabledBy p.enable (scan_of o (pin_of role.ScanIn i new))) (sym (pin role.ScanEnable ∙ ap (option_map (moved_source (moved gap))) none)) tt)
+    )))
 
 -- a flip-flop and the scan cell that stands for it
 stitched_matched : (n w : Netlist) (ports : Ports) (p : Places) (y : Layout) (entry : ℕ → ℕ) (i : ℕ) (x : Instance) (q : CellPlace) → w.library ≡ n.library → y.design ≡ n → p.moved ≡ moved y.gap → RootsKept n w p.moved p.size → AreLive p.size x.pins →
@@ -203,8 +203,8 @@ instance_matched n config i x ready at =
     let p : Places = places_in Plain n config in
     let w : Netlist = scanned Plain n config in
     let at_new : slice_get w.instances i ≡ Some (written_instance y (scan_in_net y.gap) (enable_net y.gap) i x) =
-        get_left (map_from (written_instance y (scan_in_net y.gap) (enable_net y.gap)) 0 n.instances) _ i (written_instance y (scan_in_net y.gap) (enable_net y.gap) i x)
-        (get_from (written_instance y (scan_in_net y.gap) (enable_net y.gap)) 0 i i n.instances x (omega arith) at) in
+    get_left (map_from (written_instance y (scan_in_net y.gap) (enable_net y.gap)) 0 n.instances) _ i (written_instance y (scan_in_net y.gap) (enable_net y.gap) i x)
+    (get_from (written_instance y (scan_in_net y.gap) (enable_net y.gap)) 0 i i n.instances x (omega arith) at) in
     subst (λ (o : Option Instance). AreMatched p (flop_in n ports i o) (flop_in w ports i (slice_get w.instances i))) (sym at)
     (subst (λ (o : Option Instance). AreMatched p (flop_in n ports i (Some x)) (flop_in w ports i o)) (sym at_new)
     (written_matched n w config ports p y (scan_in_net y.gap) i x (place_in y.plan.chains i) ready refl refl refl (roots_kept n config ready)

@@ -215,7 +215,7 @@ driver_fine n config net ready =
     (fine_append n (driven_by_ports n.ports) (driven_by_instances n.library 0 n.instances)
     (ports_fine n n.ports (subst (AreBefore (length (bits_of n.ports))) (sym ready.netlist.numbered) (nets_before 0 (length (bits_of n.ports)) (length (bits_of n.ports)) (omega arith))))
     (instances_fine n 0 n.instances (λ k number x is at. (
-        let here : slice_get n.instances number ≡ Some x = ap (slice_get n.instances) (omega (arith, is)) ∙ at in
-        (here, instance_plain n config number x ready here)
-        ))))
+    let here : slice_get n.instances number ≡ Some x = ap (slice_get n.instances) (omega (arith, is)) ∙ at in
+    (here, instance_plain n config number x ready here)
+    ))))
     (joins_fine n n.joins))

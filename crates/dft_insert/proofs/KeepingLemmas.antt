@@ -157,14 +157,17 @@ scan_kept n config i x ready at e =
     let can : CanBeStitched y x p = can_stitch n config y i x p ready refl refl at placed in
     let pair : HasPair n.library x.cell = can.pair in
     let s = shape_of n.library x.cell in
-    let t = shape_of n.library (Library pair.id) in
-    (scan_cell_at n config x p pair.id, scan_cell_there n config i x p pair at placed, record {
-      cell = pair.id;
-      name = refl;
-      scan = pair.names;
-      is = refl;
-      pins = pins_kept y.gap (scan_input y (scan_in_net y.gap) once.chain once.place) (enable_net y.gap) (output_net y once.chain once.place) s.kind s.roles t.kind t.roles x.pins pair.pair (ready.netlist.instances i x at).width can.fits;
-    })
+    let t = shape_of n.library (Library pair.id) in (
+      scan_cell_at n config x p pair.id,
+      scan_cell_there n config i x p pair at placed,
+      record {
+        cell = pair.id;
+        name = refl;
+        scan = pair.names;
+        is = refl;
+        pins = pins_kept y.gap (scan_input y (scan_in_net y.gap) once.chain once.place) (enable_net y.gap) (output_net y once.chain once.place) s.kind s.roles t.kind t.roles x.pins pair.pair (ready.netlist.instances i x at).width can.fits;
+      },
+    )
 
 -- ---- the whole
 

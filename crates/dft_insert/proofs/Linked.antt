@@ -177,18 +177,18 @@ same_domain v cs cells chain place d e first cell at here one other none = by (d
     by : (b : Bool) → (d == e) ≡ b → d ≡ e
     by true is = eqb-true d e is
     by false is = (
-      let l : LockupPlace = record { chain = chain; after = place; domain = d } in
-      let own : slice_index_or cs chain [] ≡ cells = get_or_from_slice_get cs chain cells [] at in
-      let next : place + 1 ≡ suc place = omega arith in
-      let made : lockup_after v chain (slice_index_or cs chain []) place ≡ Some l =
-          ap (λ (z : List InstanceId). lockup_after v chain z place) own
-          ∙ ap (λ o. lockup_between chain place o (chains.domain_at v cells (place + 1))) one
-          ∙ ap (λ o. lockup_between chain place (Some d) o) (ap (chains.domain_at v cells) next ∙ other)
-          ∙ ap (λ b. if b then None else Some l) is in
-      let within : place < length (slice_index_or cs chain []) = subst (λ (z : List InstanceId). place < length z) (sym own) (slice_get_within cells place cell here) in
-      let kept = get_filter (lockup_after v chain (slice_index_or cs chain [])) (range_with_len 0 (length (slice_index_or cs chain []))) place place l (get_range 0 (length (slice_index_or cs chain [])) place within ∙ ap Some (omega arith)) made in
-      let listed = get_flat (lockups_in v cs) (range_with_len 0 (length cs)) chain kept.0 chain l (get_range 0 (length cs) chain (slice_get_within cs chain cells at) ∙ ap Some (omega arith)) kept.1 in
-      absurd (number_some (stands_after chain place) first listed.0 (lockups_of v cs) l listed.1 (is_itself chain place) none))
+        let l : LockupPlace = record { chain = chain; after = place; domain = d } in
+        let own : slice_index_or cs chain [] ≡ cells = get_or_from_slice_get cs chain cells [] at in
+        let next : place + 1 ≡ suc place = omega arith in
+        let made : lockup_after v chain (slice_index_or cs chain []) place ≡ Some l =
+        ap (λ (z : List InstanceId). lockup_after v chain z place) own
+        ∙ ap (λ o. lockup_between chain place o (chains.domain_at v cells (place + 1))) one
+        ∙ ap (λ o. lockup_between chain place (Some d) o) (ap (chains.domain_at v cells) next ∙ other)
+        ∙ ap (λ b. if b then None else Some l) is in
+        let within : place < length (slice_index_or cs chain []) = subst (λ (z : List InstanceId). place < length z) (sym own) (slice_get_within cells place cell here) in
+        let kept = get_filter (lockup_after v chain (slice_index_or cs chain [])) (range_with_len 0 (length (slice_index_or cs chain []))) place place l (get_range 0 (length (slice_index_or cs chain [])) place within ∙ ap Some (omega arith)) made in
+        let listed = get_flat (lockups_in v cs) (range_with_len 0 (length cs)) chain kept.0 chain l (get_range 0 (length cs) chain (slice_get_within cs chain cells at) ∙ ap Some (omega arith)) kept.1 in
+        absurd (number_some (stands_after chain place) first listed.0 (lockups_of v cs) l listed.1 (is_itself chain place) none))
 
 -- ---- what the nets of the chains mean
 
@@ -257,8 +257,8 @@ link_by n config chain place cell next None ready stands follows is =
     let has : HasChain (plan_of n config).chains chain place cell = has_chain (plan_of n config).chains chain place cell stands in
     let later : slice_get has.cells (suc place) ≡ Some next = sym (ap (option_and_then (λ (cells : List InstanceId). slice_get cells (suc place))) has.at) ∙ follows in
     let same : a.domain ≡ b.domain =
-        same_domain (judgements n config) (plan_of n config).chains has.cells chain place a.domain b.domain (layout n config).first_lockup cell has.at has.here
-        (cell_domain n config chain place cell has.cells a has.here) (cell_domain n config chain (suc place) next has.cells b later) is in
+    same_domain (judgements n config) (plan_of n config).chains has.cells chain place a.domain b.domain (layout n config).first_lockup cell has.at has.here
+    (cell_domain n config chain place cell has.cells a has.here) (cell_domain n config chain (suc place) next has.cells b later) is in
     Directly (output_means n config chain place cell ready stands a)
     (ap (λ (c : Cell). c.domain) (flop_is n config chain place cell a) ∙ a.on ∙ same_clock n config cell.0 next.0 a.domain b.domain a.clock b.clock same ∙ sym b.on ∙ sym (ap (λ (c : Cell). c.domain) (flop_is n config chain (suc place) next b)))
 link_by n config chain place cell next (Some net) ready stands follows is =
@@ -272,10 +272,10 @@ link_by n config chain place cell next (Some net) ready stands follows is =
     let after_is : it.item.after ≡ place = eqb-true it.item.after place tests.1 in
     let own : slice_index_or (plan_of n config).chains chain [] ≡ has.cells = get_or_from_slice_get (plan_of n config).chains chain has.cells [] has.at in
     let listed : chains.domain_at (judgements n config) has.cells place ≡ Some it.item.domain =
-        sym (ap (λ (z : List InstanceId). chains.domain_at (judgements n config) z place) own)
-        ∙ sym (ap (λ k. chains.domain_at (judgements n config) (slice_index_or (plan_of n config).chains chain []) k) after_is)
-        ∙ sym (ap (λ c. chains.domain_at (judgements n config) (slice_index_or (plan_of n config).chains c []) it.item.after) chain_is)
-        ∙ lockup_domain (judgements n config) (plan_of n config).chains it.place it.item it.at in
+    sym (ap (λ (z : List InstanceId). chains.domain_at (judgements n config) z place) own)
+    ∙ sym (ap (λ k. chains.domain_at (judgements n config) (slice_index_or (plan_of n config).chains chain []) k) after_is)
+    ∙ sym (ap (λ c. chains.domain_at (judgements n config) (slice_index_or (plan_of n config).chains c []) it.item.after) chain_is)
+    ∙ lockup_domain (judgements n config) (plan_of n config).chains it.place it.item it.at in
     let domain_is : it.item.domain ≡ a.domain = same_Some it.item.domain a.domain (sym listed ∙ cell_domain n config chain place cell has.cells a has.here) in
     let clock : (l.cell cell.0).domain ≡ a.clock.net = ap (λ (c : Cell). c.domain) (flop_is n config chain place cell a) ∙ a.on in
     ByLockup {net = net} {lockup = length n.instances + it.place} {output = output_net y chain place}

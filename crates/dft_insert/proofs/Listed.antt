@@ -153,18 +153,19 @@ input_listed net j [] name at = absurd (none-some (new_port dir.Input name) at)
 input_listed net zero (port ∷ ports) name at =
     (0, ap (λ (p : NewPort). slice_get (driven_by_bits p.dir (record { 0 = net } ∷ []) ++ driven_by_ports (ports_from (suc net) ports)) 0) (same_Some port (new_port dir.Input name) at) ∙ ap (λ k. Some (k, Input)) (omega arith))
 input_listed net (suc j) (port ∷ ports) name at =
-    let more = input_listed (suc net) j ports name at in
-    (length (driven_by_bits port.dir (record { 0 = net } ∷ [])) + more.0,
-    get_behind (driven_by_bits port.dir (record { 0 = net } ∷ [])) (driven_by_ports (ports_from (suc net) ports)) more.0 (suc net + j, Input) more.1 ∙ ap (λ k. Some (k, Input)) (omega arith))
+    let more = input_listed (suc net) j ports name at in (
+      length (driven_by_bits port.dir (record { 0 = net } ∷ [])) + more.0,
+      get_behind (driven_by_bits port.dir (record { 0 = net } ∷ [])) (driven_by_ports (ports_from (suc net) ports)) more.0 (suc net + j, Input) more.1 ∙ ap (λ k. Some (k, Input)) (omega arith),
+    )
 
 pub scan_in_driven : (n : Netlist) (config : Config) (chain : ℕ) → IsReady n config → chain < config.chains → driver (scanned Plain n config) (scan_in_net (layout n config).gap chain) ≡ Input
 scan_in_driven n config chain ready less =
     let y : Layout = layout n config in
     let name : Text = numbered config.names.scan_in chain in
     let here : slice_get (added_ports Plain config) (suc chain) ≡ Some (new_port dir.Input name) =
-        get_left (numbered_ports dir.Input config.names.scan_in config.chains) (numbered_ports dir.Output config.names.scan_out config.chains) chain (new_port dir.Input name)
-        (slice_get-map (λ number. new_port dir.Input (numbered config.names.scan_in number)) (range_with_len 0 config.chains) chain
-        ∙ ap (option_map (λ number. new_port dir.Input (numbered config.names.scan_in number))) (get_range 0 config.chains chain less ∙ ap Some (omega arith))) in
+    get_left (numbered_ports dir.Input config.names.scan_in config.chains) (numbered_ports dir.Output config.names.scan_out config.chains) chain (new_port dir.Input name)
+    (slice_get-map (λ number. new_port dir.Input (numbered config.names.scan_in number)) (range_with_len 0 config.chains) chain
+    ∙ ap (option_map (λ number. new_port dir.Input (numbered config.names.scan_in number))) (get_range 0 config.chains chain less ∙ ap Some (omega arith))) in
     let listed = input_listed y.gap.before (suc chain) (added_ports Plain config) name here in
     let old : List Driven = driven_by_ports n.ports in
     let more : List Driven = driven_by_ports (ports_from y.gap.before (added_ports Plain config)) in

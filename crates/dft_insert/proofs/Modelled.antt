@@ -205,9 +205,9 @@ stitched n config chain place cell ready stands =
     let input : Source = or_loose i (pin_of role.Din i (pins_of n i)) in
     let scan : Option Scan = scan_of (pin_of role.ScanEnable i (pins_of n i)) (pin_of role.ScanIn i (pins_of n i)) in
     let old : flip_flop n ports i ≡ Some (record { domain = clock.net; input = input; scan = scan; force = force.force }) =
-        ap (λ b. if b then modelled_of n ports i (pins_of n i) else None) (scannable_flop (kind_at n i) it.kind)
-        ∙ ap (λ d. modelled d (forcing n ports (pin_of role.Reset i (pins_of n i)) (pin_of role.Preset i (pins_of n i))) input scan) (domain_is n config i it.domain clock)
-        ∙ ap (λ f. modelled (Some clock.net) f input scan) force.is in
+    ap (λ b. if b then modelled_of n ports i (pins_of n i) else None) (scannable_flop (kind_at n i) it.kind)
+    ∙ ap (λ d. modelled d (forcing n ports (pin_of role.Reset i (pins_of n i)) (pin_of role.Preset i (pins_of n i))) input scan) (domain_is n config i it.domain clock)
+    ∙ ap (λ f. modelled (Some clock.net) f input scan) force.is in
     let new = matched_new (places_in Plain n config) (flip_flop n ports i) (flip_flop w ports i) (record { domain = clock.net; input = input; scan = scan; force = force.force }) old (instance_matched n config i x ready there.1) in
     let placed : place_in (plan_of n config).chains i ≡ Some p = is_placed n config chain place cell ready stands in
     let pair : HasPair n.library x.cell = (can_stitch n config y i x p ready refl refl there.1 placed).pair in
@@ -217,7 +217,7 @@ stitched n config chain place cell ready stands =
     let cs : List Connection = stitched_connections y.gap into (enable_net y.gap) (output_net y chain place) t.roles x.pins in
     let pins : KeepsPins y.gap i into (enable_net y.gap) (output_net y chain place) _ cs = scan_pins y.gap i into (enable_net y.gap) (output_net y chain place) s.kind s.roles t.kind t.roles x.pins pair.pair (ready.netlist.instances i x there.1).width in
     let here : (if is_flip_flop t.kind then modelled_of w ports i cs else None) ≡ Some new.0 =
-        sym (ap (λ (o : Option Instance). if is_flip_flop (kind_of w.library o) then modelled_of w ports i (pins_at w.library o) else None) (scan_cell_there n config i x p pair there.1 placed)) ∙ new.1 in
+    sym (ap (λ (o : Option Instance). if is_flip_flop (kind_of w.library o) then modelled_of w ports i (pins_at w.library o) else None) (scan_cell_there n config i x p pair there.1 placed)) ∙ new.1 in
     record {
       instance = x;
       at = there.1;

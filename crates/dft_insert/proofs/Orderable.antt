@@ -85,7 +85,7 @@ has_below size (x ∷ nets) net below (inr h) = has_below size nets net below.1 
 original_orderable : (n : Netlist) (config : Config) (net : ℕ) → IsReady n config → net < length n.nets → IsOrderable n net → IsOrderable (scanned Plain n config) (moved (layout n config).gap net)
 original_orderable n config net ready less (Follows h) = Follows (λ read has. (
     let it = moved_reads n (scanned Plain n config) (moved (layout n config).gap) net read (driver n net) (driver_fine n config net ready)
-        (subst (λ (d : Driver). Has (nets_read (scanned Plain n config) d) read) (original_driver n config net ready less) has) in
+    (subst (λ (d : Driver). Has (nets_read (scanned Plain n config) d) read) (original_driver n config net ready less) has) in
     subst (IsOrderable (scanned Plain n config)) (sym it.is)
     (original_orderable n config it.own ready (has_below (length n.nets) (reads_of n net) it.own (reads_inside n config net ready less) it.has) (h it.own it.has))
     ))

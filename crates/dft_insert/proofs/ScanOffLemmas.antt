@@ -155,8 +155,8 @@ agree original written rank p now its (step ∷ steps) (other ∷ others) ranked
     let next : Now = next_now written now step in
     let there : Now = next_now original its other in
     let on : AreAlike p next.state there.state = moment_alike original written p (after_event written now step.event) (after_event original its other.event) step.moment other.moment has
-        (after_alike original written p now its step.event other.event has alike free (enable_low original written p now has alike.off settled)
-        (seen_same original written rank p now its ranked has alike free settled its_settled) same.0) same.1 in
+    (after_alike original written p now its step.event other.event has alike free (enable_low original written p now has alike.off settled)
+    (seen_same original written rank p now its ranked has alike free settled its_settled) same.0) same.1 in
     (seen_same original written rank p next there ranked has on same.1 are.0 its_are.0, agree original written rank p next there steps others ranked has on same.1 are.0 its_are.0 same.2 are.1 its_are.1)
 
 pub scan_off : ScanOff
@@ -164,5 +164,5 @@ scan_off original written rank p now its given ports m o steps others ranked has
     let next : Now = next_now written now (set_to given m) in
     let there : Now = next_now original its (set_to ports o) in
     let on : AreAlike p next.state there.state = moment_alike original written p (after_event written now (Set given)) (after_event original its (Set ports)) m o has
-        (record { ports = set; off = off; flops = flops; high = λ domain. low (p.moved domain) ∙ sym (its_low domain) }) free in
+    (record { ports = set; off = off; flops = flops; high = λ domain. low (p.moved domain) ∙ sym (its_low domain) }) free in
     (seen_same original written rank p next there ranked has on free are.0 its_are.0, agree original written rank p next there steps others ranked has on free are.0 its_are.0 same are.1 its_are.1)

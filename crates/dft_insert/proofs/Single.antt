@@ -62,22 +62,28 @@ added_once n config net ready =
     let start : scan_out_net y.gap config.chains 0 ≡ ports = omega (arith, in_count) in
     let few : 0 + length y.plan.chains ≤ config.chains = omega (arith, chain_count (cells_of n config) config.chains) in
     let once : times net m + (times net o + (times net k + times net b)) ≤ 1 =
-        sum_once (times net m) (times net o) (times net k) (times net b) net ports (y.gap.before + y.gap.width) y.first_output (y.first_lockup + 0)
-        (rises_once net y.gap.before m (ports_rise y.gap.before (added_ports Plain config)))
-        (opened_once y net 0 n.instances (design_instances n config))
-        (rises_once net (y.first_lockup + 0) k (lockups_rise y config count 0 y.plan.lockups ready.library))
-        (rises_once net (scan_out_net y.gap config.chains 0) b (buffers_rise y config.chains (length y.plan.lockups) (count + length locks) 0 y.plan.chains))
-        (omega (arith, width, in_count)) (omega (arith, ports_fit n ready.netlist)) (omega arith)
-        (λ h. past_none net ports m (ports_below y.gap.before inputs outputs (λ j. outputs_none j config.names.scan_out 0 config.chains)) h)
-        (λ h. rises_none net (scan_out_net y.gap config.chains 0) b (buffers_rise y config.chains (length y.plan.lockups) (count + length locks) 0 y.plan.chains) (omega (arith, h, start)))
-        (λ h. past_none net (y.gap.before + y.gap.width) b (buffers_below y config.chains (length y.plan.lockups) (count + length locks) 0 y.plan.chains width few) h)
-        (λ h. opened_none y net 0 n.instances (design_instances n config) (λ i q is e. (let between = opened_between y i q is in absurd (omega (arith, between.0, e, h)))))
-        (λ h. opened_none y net 0 n.instances (design_instances n config) (λ i q is e. (let between = opened_between y i q is in absurd (omega (arith, between.1, e, h)))))
-        (λ h. rises_none net (y.first_lockup + 0) k (lockups_rise y config count 0 y.plan.lockups ready.library) h) in
+    sum_once (times net m) (times net o) (times net k) (times net b) net ports (y.gap.before + y.gap.width) y.first_output (y.first_lockup + 0)
+    (rises_once net y.gap.before m (ports_rise y.gap.before (added_ports Plain config)))
+    (opened_once y net 0 n.instances (design_instances n config))
+    (rises_once net (y.first_lockup + 0) k (lockups_rise y config count 0 y.plan.lockups ready.library))
+    (rises_once net (scan_out_net y.gap config.chains 0) b (buffers_rise y config.chains (length y.plan.lockups) (count + length locks) 0 y.plan.chains))
+    (omega (arith, width, in_count)) (omega (arith, ports_fit n ready.netlist)) (omega arith)
+    (λ h. past_none net ports m (ports_below y.gap.before inputs outputs (λ j. outputs_none j config.names.scan_out 0 config.chains)) h)
+    (λ h. rises_none net (scan_out_net y.gap config.chains 0) b (buffers_rise y config.chains (length y.plan.lockups) (count + length locks) 0 y.plan.chains) (omega (arith, h, start)))
+    (λ h. past_none net (y.gap.before + y.gap.width) b (buffers_below y config.chains (length y.plan.lockups) (count + length locks) 0 y.plan.chains width few) h)
+    (λ h. opened_none y net 0 n.instances (design_instances n config) (λ i q is e. (let between = opened_between y i q is in absurd (omega (arith, between.0, e, h)))))
+    (λ h. opened_none y net 0 n.instances (design_instances n config) (λ i q is e. (let between = opened_between y i q is in absurd (omega (arith, between.1, e, h)))))
+    (λ h. rises_none net (y.first_lockup + 0) k (lockups_rise y config count 0 y.plan.lockups ready.library) h) in
     let made : times net (driven_by_instances n.library count (made_instances n config)) ≡ times net k + times net b =
-        ap (times net) (instances_append n.library count (count + length locks) locks buffers refl) ∙ times_append net k b in
-    omega (arith, once, made, times_append net (m ++ (o ++ driven_by_instances n.library count (made_instances n config))) [],
-    times_append net m (o ++ driven_by_instances n.library count (made_instances n config)), times_append net o (driven_by_instances n.library count (made_instances n config)))
+    ap (times net) (instances_append n.library count (count + length locks) locks buffers refl) ∙ times_append net k b in
+    omega (
+      arith,
+      once,
+      made,
+      times_append net (m ++ (o ++ driven_by_instances n.library count (made_instances n config))) [],
+      times_append net m (o ++ driven_by_instances n.library count (made_instances n config)),
+      times_append net o (driven_by_instances n.library count (made_instances n config)),
+    )
 
 -- ---- every net
 

@@ -118,10 +118,10 @@ old_instances n config ready =
     let y : Layout = layout n config in
     instances_merge (moved y.gap) n.library (written_instance y (scan_in_net y.gap) (enable_net y.gap)) (λ i instance. opened_at y i instance (place_in y.plan.chains i)) 0 n.instances
     (λ k number instance is at. (
-        let here : slice_get n.instances number ≡ Some instance = ap (slice_get n.instances) (omega (arith, is)) ∙ at in
-        instance_merges y (scan_in_net y.gap) (enable_net y.gap) number instance (place_in y.plan.chains number) (ready.netlist.instances number instance here).width
-        (λ p placed. can_stitch n config y number instance p ready refl refl here placed)
-        ))
+    let here : slice_get n.instances number ≡ Some instance = ap (slice_get n.instances) (omega (arith, is)) ∙ at in
+    instance_merges y (scan_in_net y.gap) (enable_net y.gap) number instance (place_in y.plan.chains number) (ready.netlist.instances number instance here).width
+    (λ p placed. can_stitch n config y number instance p ready refl refl here placed)
+    ))
 
 all_instances : (n : Netlist) (config : Config) → IsReady n config →
     Merges (moved (layout n config).gap) (driven_by_instances n.library 0 n.instances) (all_opened n config ++ driven_by_instances n.library (length n.instances) (made_instances n config)) (driven_by_instances n.library 0 (plain_instances (layout n config) config))

@@ -119,7 +119,11 @@ abbrev pub plain_layout : Netlist → Config → Plan → Layout
 plain_layout n config plan =
     let gap = gap_of n (length (added_ports Plain config)) in
     let first = length n.nets + gap.width in record {
-      design = n; plan = plan; gap = gap; first_output = first; first_lockup = first + length (open_places n plan.chains)
+      design = n;
+      plan = plan;
+      gap = gap;
+      first_output = first;
+      first_lockup = first + length (open_places n plan.chains);
     }
 
 abbrev pub plain_instances : Layout → Config → List Instance

@@ -7,6 +7,8 @@ mod scanned;
 mod style;
 
 pub use error::InsertError;
-pub use laws::{chains_shift, scan_off_agrees, scanned_agrees, scanned_finishes, scanned_keeps, scanned_shifts};
+pub use laws::{
+    chains_shift, scan_off_agrees, scanned_agrees, scanned_finishes, scanned_keeps, scanned_shifts,
+};
 pub use scanned::Scanned;
 pub use style::Style;
