@@ -9,24 +9,22 @@ use Rattle.dft_cells.specs.declared.kind.Role.{Role}
 use Rattle.dft_cells.specs.declared.kind.Role.TheVariants.{Clock, Din, Output}
 use Rattle.dft_cells.specs.declared.cell.Cell.{Cell}
 use Rattle.dft_cells.specs.WellFormed.{IsWellFormed, HasRoles, role_of}
-use Rattle.dft_netlist.specs.declared.ids.InstanceId.{InstanceId}
 use Rattle.dft_netlist.specs.declared.port.Dir.{Dir}
 use Rattle.dft_netlist.specs.declared.port.Dir.TheVariants as dir
 use Rattle.dft_netlist.specs.declared.instance.Signal.{Signal}
 use Rattle.dft_netlist.specs.declared.instance.Signal.TheVariants as signal
 use Rattle.dft_netlist.specs.declared.instance.CellRef.TheVariants.{Library}
 use Rattle.dft_netlist.specs.declared.instance.Instance.{Instance}
-use Rattle.dft_netlist.specs.Netlist.{Netlist}
-use Rattle.dft_netlist.specs.Drivers.{Source, Loose, Driver, Lockup, Driven, Shape, shape_of, shape_of_cell, Connection, connections_of, source_of, pins_at, driven_by, driven_by_instances, driven_by_bits, driven_by_ports}
+use Rattle.dft_netlist.specs.Drivers.{Lockup, Driven, Shape, shape_of, shape_of_cell, Connection, connections_of, source_of, pins_at, driven_by, driven_by_instances, driven_by_bits, driven_by_ports}
 use Rattle.dft_netlist.specs.Logic.{same_role, pin_of}
 use Rattle.dft_config.specs.declared.config.Config.{Config}
 use Rattle.dft_stitch.specs.declared.places.CellPlace.{CellPlace}
 use Rattle.dft_stitch.specs.declared.places.LockupPlace.{LockupPlace}
 use Rattle.dft_stitch.specs.Plans.{cell_at}
-use Rattle.dft_insert.specs.Moves.{Gap, moved}
+use Rattle.dft_insert.specs.Moves.{moved}
 use Rattle.dft_insert.specs.AddedPorts.{NewPort, ports_from}
 use Rattle.dft_insert.specs.Stitching.{number_of, is_place, net_of, own_output, output_at, places_of, open_places, Layout, made_or, moved_or_none, output_net}
-use Rattle.dft_insert.specs.Written.{map_from, is_cell, place_in, is_lockup, first_lockup, cell_number, lockup_instance, buffer_instance}
+use Rattle.dft_insert.specs.Written.{map_from, is_cell, place_in, is_lockup, first_lockup, cell_number, lockup_instance}
 use Rattle.dft_insert.proofs.Mergings.{NoneAt}
 use Rattle.dft_insert.proofs.ScanPairs.{signal_at, opened}
 use Rattle.dft_insert.proofs.Carried.{drives, opened_at, lists_from}

@@ -1,5 +1,5 @@
 -- Each net that insertion adds is driven once at most.
-use Rattle.std.proofs.Common.{ℕ, zero, suc, ◌+◌, ◌-◌, ◌≡◌, ◌==◌, ◌<◌, ◌≤◌, ◌⊎◌, inl, inr, Bool, true, false, ◌&&◌, List, [], ◌∷◌, ◌++◌, cond, filter, length, map, Option, None, Some, is_none, slice_get, refl, sym, subst, ap, arith, ◌∙◌}
+use Rattle.std.proofs.Common.{ℕ, zero, suc, ◌+◌, ◌≡◌, ◌==◌, ◌<◌, ◌≤◌, Bool, true, false, ◌&&◌, List, [], ◌∷◌, ◌++◌, length, map, Option, None, Some, slice_get, refl, sym, subst, ap, arith, ◌∙◌}
 use Rattle.std.specs.Prelude.{if◌then◌else◌}
 use Rattle.std.specs.List.{range_with_len}
 use Rattle.std.proofs.lemmas.Bool.{eqb-true}
@@ -12,15 +12,14 @@ use Rattle.dft_netlist.specs.declared.port.Dir.TheVariants as dir
 use Rattle.dft_netlist.specs.declared.instance.Signal.{Signal}
 use Rattle.dft_netlist.specs.declared.instance.Signal.TheVariants as signal
 use Rattle.dft_netlist.specs.declared.instance.Instance.{Instance}
-use Rattle.dft_netlist.specs.Netlist.{Netlist}
-use Rattle.dft_netlist.specs.Drivers.{Driver, Flop, Driven, driven_by, driven_by_instances, driven_by_bits, driven_by_ports, connections_of}
+use Rattle.dft_netlist.specs.Drivers.{Flop, Driven, driven_by_instances, driven_by_bits, driven_by_ports, connections_of}
 use Rattle.dft_config.specs.declared.config.Config.{Config}
 use Rattle.dft_stitch.specs.declared.places.CellPlace.{CellPlace}
 use Rattle.dft_stitch.specs.declared.places.LockupPlace.{LockupPlace}
 use Rattle.dft_stitch.specs.Plans.{cell_at}
 use Rattle.dft_cells.specs.WellFormed.{IsWellFormed}
-use Rattle.dft_insert.specs.AddedPorts.{NewPort, new_port, numbered, numbered_ports, ports_from, scan_out_net}
-use Rattle.dft_insert.specs.Stitching.{number_of, is_place, output_at, places_of, open_places, Layout, made_or, moved_or_none, output_net}
+use Rattle.dft_insert.specs.AddedPorts.{NewPort, new_port, numbered, ports_from, scan_out_net}
+use Rattle.dft_insert.specs.Stitching.{number_of, is_place, open_places, Layout, output_net}
 use Rattle.dft_insert.specs.Written.{map_from, place_in, lockup_instance, buffer_instance}
 use Rattle.dft_insert.proofs.Mergings.{times, NoneAt}
 use Rattle.dft_insert.proofs.ScanPairs.{signal_at, opened}

@@ -1,6 +1,5 @@
 -- The instances of a design, as they are written, drive what they drove, moved, and the nets at outputs that were joined to nothing.
-use Rattle.std.proofs.Common.{ℕ, zero, suc, ◌+◌, ◌≡◌, Bool, true, false, List, [], ◌∷◌, ◌++◌, length, map, Option, None, Some, is_some, option_and_then, slice_get, MatchOption, refl, sym, subst, ap, arith, ◌∙◌}
-use Rattle.dft_cells.specs.declared.kind.Role.{Role}
+use Rattle.std.proofs.Common.{ℕ, zero, suc, ◌+◌, ◌≡◌, true, List, [], ◌∷◌, ◌++◌, length, map, Option, None, Some, is_some, option_and_then, slice_get, MatchOption, refl, sym, subst, ap, arith, ◌∙◌}
 use Rattle.dft_cells.specs.declared.kind.Role.TheVariants.{Output}
 use Rattle.dft_cells.specs.declared.cell.Cell.{Cell}
 use Rattle.dft_cells.specs.declared.cell.CellId.{CellId}
@@ -15,7 +14,7 @@ use Rattle.dft_stitch.specs.declared.places.CellPlace.{CellPlace}
 use Rattle.dft_insert.specs.Moves.{Gap, moved, moved_signal}
 use Rattle.dft_insert.specs.Stitching.{Layout, output_net, scan_input}
 use Rattle.dft_insert.specs.Written.{map_from, at_net, stitched_pins, as_scan_cell, written_at}
-use Rattle.dft_insert.proofs.Mergings.{moved_driven, Merges, Nothing, append_merges, all_kept, moved_instance_drives}
+use Rattle.dft_insert.proofs.Mergings.{Merges, Nothing, append_merges, all_kept, moved_instance_drives}
 use Rattle.dft_insert.proofs.ScanPairs.{ScanPair, opened, FitsOutput, signal_at, stitched_connections, scan_drives}
 use Rattle.dft_insert.proofs.Pairs.{roles_of_shared, pair_of}
 

@@ -1,30 +1,18 @@
 -- A scanned netlist contains its design: each net means the same, and each flip-flop is kept.
-use Rattle.std.proofs.Common.{ℕ, zero, suc, ◌+◌, ◌≡◌, ◌==◌, ◌<◌, ◌≤◌, ◌⊎◌, inl, inr, Bool, true, false, ◌||◌, nat_lt, List, [], ◌∷◌, ◌++◌, length, map, Option, None, Some, is_some, option_map, option_and_then, slice_get, refl, sym, subst, ap, arith, ◌∙◌}
+use Rattle.std.proofs.Common.{ℕ, zero, suc, ◌≡◌, ◌<◌, Bool, true, false, List, [], ◌∷◌, map, Option, None, Some, option_map, refl, sym, subst, ap, ◌∙◌}
 use Rattle.std.specs.Prelude.{if◌then◌else◌}
-use Rattle.std.specs.List.{list_any}
-use Rattle.std.proofs.lemmas.Bool.{eq-eqb}
 use Rattle.std.proofs.lemmas.Option.{none-some, same_Some}
-use Rattle.dft_base.specs.Lexing.{Text}
-use Rattle.dft_cells.specs.declared.kind.Kind.{Kind}
-use Rattle.dft_cells.specs.declared.kind.Kind.TheVariants as kind
 use Rattle.dft_cells.specs.declared.kind.Role.{Role}
 use Rattle.dft_cells.specs.declared.kind.Role.TheVariants as role
-use Rattle.dft_cells.specs.FlipFlops.{is_flip_flop}
-use Rattle.dft_cells.specs.WellFormed.{IsWellFormed, HasRoles, role_of}
 use Rattle.dft_netlist.specs.declared.instance.Signal.{Signal}
 use Rattle.dft_netlist.specs.declared.instance.Signal.TheVariants as signal
-use Rattle.dft_netlist.specs.declared.instance.CellRef.{CellRef}
-use Rattle.dft_netlist.specs.declared.instance.CellRef.TheVariants as cell_ref
-use Rattle.dft_netlist.specs.declared.instance.Instance.{Instance}
 use Rattle.dft_netlist.specs.Netlist.{Netlist}
-use Rattle.dft_netlist.specs.Sound.{IsLive, AreLive, IsCellOf, is_primitive}
-use Rattle.dft_netlist.specs.Drivers.{Source, Net, Tied, Loose, Connection, connections_from, connections_of, source_of, shape_of, shape_of_cell, kind_of, kind_at, pins_at, pins_of}
+use Rattle.dft_netlist.specs.Sound.{IsLive, AreLive}
+use Rattle.dft_netlist.specs.Drivers.{Source, Connection, connections_from, source_of}
 use Rattle.dft_netlist.specs.Traces.{Root, Port, Constant, Other, root_of}
-use Rattle.dft_netlist.specs.Logic.{Ports, Force, Scan, Cell, same_role, pin_of, or_loose, domain_of, domain_at, force_of, forcing, scan_of, modelled, modelled_of, flip_flop}
-use Rattle.dft_config.specs.declared.config.Config.{Config}
+use Rattle.dft_netlist.specs.Logic.{Ports, Force, Scan, Cell, same_role, pin_of, or_loose, domain_of, domain_at, force_of, forcing, scan_of, modelled, modelled_of}
 use Rattle.dft_insert.specs.Moves.{Gap, moved, moved_signal}
 use Rattle.dft_insert.specs.ScanOff.{moved_source, moved_force, IsWithin, IsForceWithin, IsEnabledBy, Places, KeepsFlop}
-use Rattle.dft_insert.specs.Statements.{IsReady, scanned, places_in}
 use Rattle.dft_insert.proofs.MovedRoots.{moved_root}
 use Rattle.dft_insert.proofs.Mergings as mergings
 

@@ -1,5 +1,5 @@
 -- A scanned netlist contains its design.
-use Rattle.std.proofs.Common.{ℕ, zero, suc, ◌+◌, ◌≡◌, ◌==◌, ◌<◌, ◌≤◌, ◌⊎◌, inl, inr, Bool, true, false, ◌||◌, nat_lt, option_and_then, List, [], ◌∷◌, ◌++◌, length, map, Option, None, Some, is_some, option_map, slice_get, refl, sym, subst, ap, arith, ◌∙◌}
+use Rattle.std.proofs.Common.{ℕ, zero, suc, ◌+◌, ◌≡◌, ◌==◌, ◌<◌, inl, inr, Bool, true, false, ◌||◌, nat_lt, option_and_then, List, [], ◌∷◌, ◌++◌, length, map, Option, None, Some, is_some, option_map, slice_get, refl, sym, subst, ap, arith, ◌∙◌}
 use Rattle.std.specs.Prelude.{if◌then◌else◌}
 use Rattle.std.specs.List.{list_any}
 use Rattle.std.proofs.lemmas.Bool.{eq-eqb}
@@ -32,7 +32,6 @@ use Rattle.dft_netlist.proofs.Ranks.{order_is_rank}
 use Rattle.dft_config.specs.declared.config.Config.{Config}
 use Rattle.dft_rules.specs.Rules.{is_input, input_net, is_net, scan_cell_in}
 use Rattle.dft_stitch.specs.declared.places.CellPlace.{CellPlace}
-use Rattle.dft_stitch.specs.Chains.{plan_of}
 use Rattle.dft_insert.specs.declared.style.Style.TheVariants.{Plain}
 use Rattle.dft_insert.specs.Moves as moves
 use Rattle.dft_insert.specs.Moves.{Gap, moved, moved_instance}
@@ -41,18 +40,18 @@ use Rattle.dft_insert.specs.AddedPorts.{enable_net, scan_in_net}
 use Rattle.dft_insert.specs.Stitching.{Layout, scan_input, output_net}
 use Rattle.dft_insert.specs.Written as written
 use Rattle.dft_insert.specs.Written.{map_from, as_scan_cell, place_in, written_at, written_instance, plain_instances}
-use Rattle.dft_insert.specs.ScanOff.{moved_source, moved_meaning, IsWithin, IsEnabledBy, Places, KeepsFlop}
+use Rattle.dft_insert.specs.ScanOff.{moved_source, moved_meaning, IsEnabledBy, Places, KeepsFlop}
 use Rattle.dft_insert.specs.Statements.{IsReady, config_ports, scanned, places_in, ContainsDesign, AgreesWhileOff}
 use Rattle.dft_insert.proofs.Mergings.{moved_driver, added_driver, moved_connection, moved_connections}
 use Rattle.dft_insert.proofs.ScanPairs.{ScanPair, KeepsPins, scan_pins, stitched_connections}
 use Rattle.dft_insert.proofs.ScanPairs as pairs
-use Rattle.dft_insert.proofs.Carried.{HasPair, CanBeStitched}
+use Rattle.dft_insert.proofs.Carried.{HasPair}
 use Rattle.dft_insert.proofs.Standing.{can_stitch}
 use Rattle.dft_insert.proofs.Whole.{layout, moved_front, moved_apart, all_opened, made_instances, all_added_drivers, whole_merges}
 use Rattle.dft_insert.proofs.Fine.{is_plain, FineBy, instance_plain, driver_fine}
 use Rattle.dft_insert.proofs.Kept.{ports_count, original_driver, reads_inside, root_kept, root_stays, design_ports_few}
 use Rattle.dft_insert.proofs.ScanOffLemmas.{scan_off}
-use Rattle.dft_insert.proofs.Contained.{RootsKept, SamePins, IsPinWithin, AreMatched, modelled_kept, pin_inside, pin_moved}
+use Rattle.dft_insert.proofs.Contained.{RootsKept, SamePins, AreMatched, modelled_kept, pin_inside, pin_moved}
 
 -- ---- a flip-flop before scan has no scan pin
 

@@ -1,6 +1,6 @@
 -- What a design that the scan rules pass has: input ports before its other nets, no lock-up, and no scan cell.
 use Rattle.std.proofs.Common.{ℕ, zero, suc, ◌+◌, ◌≡◌, ◌==◌, ◌<◌, Bool, true, false, List, [], ◌∷◌, ◌++◌, length, map, Option, None, Some, slice_get, refl, sym, subst, ap, arith, ◌∙◌}
-use Rattle.std.specs.Prelude.{if◌then◌else◌, IsSome, IsTrue}
+use Rattle.std.specs.Prelude.{if◌then◌else◌, IsTrue}
 use Rattle.std.proofs.lemmas.Bool.{eqb-true}
 use Rattle.std.proofs.lemmas.Option.{none-some, same_Some}
 use Rattle.dft_base.specs.Lexing.{Text}
@@ -20,11 +20,11 @@ use Rattle.dft_netlist.specs.declared.instance.CellRef.TheVariants as cell_ref
 use Rattle.dft_netlist.specs.declared.instance.Instance.{Instance}
 use Rattle.dft_netlist.specs.declared.instance.Join.{Join}
 use Rattle.dft_netlist.specs.Netlist.{Netlist}
-use Rattle.dft_netlist.specs.Sound.{bits_of, IsNetlist, IsCellOf, is_primitive}
+use Rattle.dft_netlist.specs.Sound.{bits_of, IsCellOf, is_primitive}
 use Rattle.dft_netlist.specs.Drivers.{Source, Driver, Input, Gate, Joined, Flop, Lockup, Free, Driven, Connection, driver_of_kind, at_signal, at_role, driven_by_pins, driven_by, driven_by_instances, driven_by_bits, driven_by_ports, driven_by_joins, all_driven, driver_in, driver, inputs_of, connections_of, shape_of}
 use Rattle.dft_config.specs.declared.config.Config.{Config}
 use Rattle.dft_rules.specs.declared.error.RuleError.{RuleError}
-use Rattle.dft_rules.specs.Refusals.{present_as, present, first_present, first_failing, checks, refusal, unknown_port, unknown_cell, clock_as_data, quoted_port, too_few}
+use Rattle.dft_rules.specs.Refusals.{present_as, present, first_present, first_failing, refusal, unknown_port, unknown_cell, clock_as_data, quoted_port, too_few}
 use Rattle.dft_rules.specs.Rules.{judgements}
 use Rattle.dft_insert.specs.Statements.{IsReady}
 use Rattle.dft_insert.proofs.Whole.{AreBefore, nets_before, before_front, before_back}

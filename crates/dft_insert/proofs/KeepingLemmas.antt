@@ -1,18 +1,16 @@
 -- A scanned netlist keeps its design.
-use Rattle.std.proofs.Common.{ℕ, zero, suc, ◌+◌, ◌≡◌, ◌⊎◌, inl, inr, Bool, true, false, List, [], ◌∷◌, length, map, Option, None, Some, option_map, slice_get, refl, sym, subst, ap, ◌∙◌}
+use Rattle.std.proofs.Common.{ℕ, suc, ◌+◌, ◌≡◌, ◌⊎◌, inl, inr, true, false, List, [], ◌∷◌, length, map, Option, None, Some, option_map, slice_get, refl, sym, subst, ap, ◌∙◌}
 use Rattle.std.proofs.lemmas.List.{length-map}
-use Rattle.std.proofs.lemmas.Option.{none-some}
 use Rattle.dft_cells.specs.declared.kind.Role.{Role}
 use Rattle.dft_cells.specs.declared.kind.Role.TheVariants.{Input, Clock, Din, Reset, Preset, ScanIn, ScanEnable, Output, Inverted}
 use Rattle.dft_cells.specs.declared.kind.Kind.{Kind}
 use Rattle.dft_cells.specs.WellFormed.{is_scan_role}
-use Rattle.dft_netlist.specs.declared.ids.InstanceId.{InstanceId}
 use Rattle.dft_netlist.specs.declared.instance.Signal.{Signal}
 use Rattle.dft_netlist.specs.declared.instance.Signal.TheVariants as signal
 use Rattle.dft_netlist.specs.declared.instance.CellRef.TheVariants.{Library}
 use Rattle.dft_netlist.specs.declared.instance.Instance.{Instance}
 use Rattle.dft_netlist.specs.Netlist.{Netlist}
-use Rattle.dft_netlist.specs.Drivers.{connections_from, connections_of, shape_of}
+use Rattle.dft_netlist.specs.Drivers.{connections_from, shape_of}
 use Rattle.dft_config.specs.declared.config.Config.{Config}
 use Rattle.dft_rules.specs.declared.judged.Judged.{Judged}
 use Rattle.dft_rules.specs.declared.judged.Judged.TheVariants.{Scanned, Unscanned}
@@ -23,11 +21,11 @@ use Rattle.dft_stitch.specs.declared.places.CellPlace.{CellPlace}
 use Rattle.dft_stitch.specs.Chains.{plan_of}
 use Rattle.dft_stitch.proofs.OnceLemmas.{cells_once}
 use Rattle.dft_insert.specs.declared.style.Style.TheVariants.{Plain}
-use Rattle.dft_insert.specs.Moves.{Gap, moved, moved_signal, moved_instance}
+use Rattle.dft_insert.specs.Moves.{Gap, moved_signal, moved_instance}
 use Rattle.dft_insert.specs.AddedPorts.{NewPort, added_ports, port_name, ports_from, enable_net, scan_in_net}
 use Rattle.dft_insert.specs.Stitching.{Layout, open_places, output_net, scan_input}
 use Rattle.dft_insert.specs.Written.{at_net, place_in, written_at, made_nets}
-use Rattle.dft_insert.specs.Keeping.{IsJoinedNow, IsScanCellFor, Keeps}
+use Rattle.dft_insert.specs.Keeping.{IsJoinedNow, IsScanCellFor}
 use Rattle.dft_insert.specs.Statements.{IsReady, scanned, gap_in, KeepsDesign}
 use Rattle.dft_insert.proofs.ScanPairs as pairs
 use Rattle.dft_insert.proofs.ScanPairs.{ScanPair, FitsOutput, signal_at, stitched_connections, three, four, five, ListOf3, ListOf4, ListOf5}

@@ -1,5 +1,5 @@
 -- The nets of a design keep their drivers in the scanned netlist, and trace to where they traced.
-use Rattle.std.proofs.Common.{ℕ, zero, suc, ◌+◌, ◌≡◌, ◌==◌, ◌<◌, ◌≤◌, ◌⊎◌, inl, inr, Bool, true, false, ◌&&◌, List, [], ◌∷◌, ◌++◌, length, map, take, drop, Option, None, Some, slice_get, refl, sym, subst, ap, arith, ◌∙◌}
+use Rattle.std.proofs.Common.{ℕ, zero, suc, ◌+◌, ◌≡◌, ◌<◌, ◌≤◌, inl, inr, List, [], ◌∷◌, ◌++◌, length, map, take, drop, refl, sym, subst, ap, arith, ◌∙◌}
 use Rattle.std.specs.List.{AllByRecursion, range_with_len}
 use Rattle.std.proofs.lemmas.List.{length-append, length-map}
 use Rattle.dft_base.specs.Lexing.{Text}
@@ -10,23 +10,23 @@ use Rattle.dft_netlist.specs.declared.instance.Instance.{Instance}
 use Rattle.dft_netlist.specs.Netlist.{Netlist}
 use Rattle.dft_netlist.specs.Sound.{bits_of, bit_names_of, IsNetlist}
 use Rattle.dft_netlist.proofs.LiveLemmas.{length-bits}
-use Rattle.dft_netlist.specs.Drivers.{Source, Driver, Input, Driven, driven_by, driven_by_instances, driven_by_ports, driver, nets_read, AreBelow, IsOrdered}
-use Rattle.dft_netlist.specs.Orders.{Has, reads_of, IsOrderFrom, IsOrder}
+use Rattle.dft_netlist.specs.Drivers.{Source, Driver, Input, driven_by_instances, driven_by_ports, driver, nets_read, AreBelow}
+use Rattle.dft_netlist.specs.Orders.{Has, reads_of, IsOrderFrom}
 use Rattle.dft_netlist.specs.Traces.{Root, Port, Traces, AtPort, AtConstant, AtTie, ThroughBuffer, ThroughJoin, root_of}
 use Rattle.dft_netlist.proofs.Walks.{port_found}
 use Rattle.dft_netlist.proofs.RankLemmas.{order_ranks}
 use Rattle.dft_config.specs.declared.config.Config.{Config}
-use Rattle.dft_stitch.specs.Chains.{plan_of, chains_of, cells_of}
+use Rattle.dft_stitch.specs.Chains.{plan_of, cells_of}
 use Rattle.dft_stitch.proofs.BlockLemmas.{chain_count}
 use Rattle.dft_insert.specs.declared.style.Style.TheVariants.{Plain}
-use Rattle.dft_insert.specs.Moves.{Gap, moved}
-use Rattle.dft_insert.specs.AddedPorts.{NewPort, port_name, new_port, numbered, numbered_ports, added_ports, ports_from, scan_out_net}
+use Rattle.dft_insert.specs.Moves.{moved}
+use Rattle.dft_insert.specs.AddedPorts.{port_name, new_port, numbered, numbered_ports, added_ports, ports_from, scan_out_net}
 use Rattle.dft_insert.specs.Stitching.{Layout, open_places}
-use Rattle.dft_insert.specs.Written.{map_from, lockup_instance, buffer_instance, made_nets, plain_instances}
+use Rattle.dft_insert.specs.Written.{map_from, lockup_instance, buffer_instance, made_nets}
 use Rattle.dft_insert.specs.ScanOff.{moved_source, IsWithin}
 use Rattle.dft_insert.specs.Statements.{IsReady, scanned}
 use Rattle.dft_insert.proofs.Mergings.{moved_driver}
-use Rattle.dft_insert.proofs.Whole.{layout, made_instances, all_opened, all_added_drivers, driver_kept, moved_front, instances_append, length_map_from}
+use Rattle.dft_insert.proofs.Whole.{layout, made_instances, all_opened, all_added_drivers, driver_kept, moved_front, instances_append}
 use Rattle.dft_insert.proofs.AddedDrivers.{AreNew, new_append, none_at, ports_new, all_opened_new, lockups_new}
 use Rattle.dft_insert.proofs.MovedRoots.{moved_root, AreDriversKept, root_moved}
 use Rattle.dft_insert.proofs.Fine as fine

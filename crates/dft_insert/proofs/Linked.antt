@@ -1,8 +1,8 @@
 -- A scanned netlist has the chains between ports of their own.
-use Rattle.std.proofs.Common.{ℕ, zero, suc, ◌+◌, ◌-◌, ◌≡◌, ◌==◌, ◌<◌, ◌≤◌, ◌⊎◌, inl, inr, Bool, true, false, ◌&&◌, ◌||◌, List, [], ◌∷◌, ◌++◌, length, map, flat_map, filter_map, Option, None, Some, option_map, option_and_then, slice_get, slice_index_or, refl, sym, subst, ap, arith, ◌∙◌}
+use Rattle.std.proofs.Common.{ℕ, zero, suc, ◌+◌, ◌-◌, ◌≡◌, ◌==◌, ◌<◌, ◌≤◌, ◌⊎◌, inl, inr, Bool, true, false, ◌&&◌, ◌||◌, List, [], ◌∷◌, ◌++◌, length, flat_map, filter_map, Option, None, Some, option_map, option_and_then, slice_get, slice_index_or, refl, sym, subst, ap, arith, ◌∙◌}
 use Rattle.std.specs.Prelude.{if◌then◌else◌}
 use Rattle.std.specs.List.{list_any, range_with_len, cons_option}
-use Rattle.std.proofs.lemmas.Bool.{eqb-true, eq-eqb}
+use Rattle.std.proofs.lemmas.Bool.{eqb-true}
 use Rattle.std.proofs.lemmas.List.FromFn.{get_or-map-range_with_len}
 use Rattle.std.proofs.lemmas.Option.{none-some, same_Some, slice_get_within, get_or_from_slice_get}
 use Rattle.dft_base.specs.Lexing.{Text}
@@ -16,7 +16,7 @@ use Rattle.dft_netlist.specs.Names.{find_net}
 use Rattle.dft_netlist.specs.Sound.{bits_of}
 use Rattle.dft_netlist.specs.Drivers.{Source, Net, Connection, Shape, connections_from, pins_at, pins_of, shape_of, driver}
 use Rattle.dft_netlist.specs.Drivers as drivers
-use Rattle.dft_netlist.specs.Traces.{Port, root_of, root_of_driver, root_within}
+use Rattle.dft_netlist.specs.Traces.{root_of_driver, root_within}
 use Rattle.dft_netlist.specs.Logic.{Ports, Logic, Meaning, Input, Gate, Flop, Lockup, Cell, pin_of, or_loose, domain_at, flop_meaning, lockup_meaning, cell_or_none, meaning_of, logic_of, flip_flop}
 use Rattle.dft_netlist.specs.Logic as logic
 use Rattle.dft_netlist.proofs.Walks.{port_found}
@@ -30,18 +30,18 @@ use Rattle.dft_stitch.specs.Chains as chains
 use Rattle.dft_stitch.specs.Plans.{cell_at}
 use Rattle.dft_stitch.proofs.BlockLemmas.{chain_count}
 use Rattle.dft_insert.specs.declared.style.Style.TheVariants.{Plain}
-use Rattle.dft_insert.specs.Moves.{Gap, moved}
-use Rattle.dft_insert.specs.AddedPorts.{enable_net, scan_in_net, scan_out_net}
-use Rattle.dft_insert.specs.Stitching.{number_of, stands_after, Layout, made_or, moved_or_none, output_net, link_net, scan_input}
-use Rattle.dft_insert.specs.Written.{at_net, first_lockup, domain_net, lockup_instance}
+use Rattle.dft_insert.specs.Moves.{moved}
+use Rattle.dft_insert.specs.AddedPorts.{scan_in_net, scan_out_net}
+use Rattle.dft_insert.specs.Stitching.{number_of, stands_after, Layout, made_or, moved_or_none, output_net}
+use Rattle.dft_insert.specs.Written.{domain_net, lockup_instance}
 use Rattle.dft_insert.specs.Hardware as hardware
 use Rattle.dft_insert.specs.Hardware.{ScanNets, IsScanCell, Leads, Directly, ByLockup, HasChains, Enters, Shows, IsPlain}
 use Rattle.dft_insert.specs.Statements.{IsReady, config_ports, scanned, plain_nets, HasHardware, ScannedShifts, ScannedShows}
 use Rattle.dft_insert.proofs.Mergings as mergings
 use Rattle.dft_insert.proofs.Whole.{layout}
-use Rattle.dft_insert.proofs.AddedDrivers.{lockup_shape, first_lockup_shape}
+use Rattle.dft_insert.proofs.AddedDrivers.{first_lockup_shape}
 use Rattle.dft_insert.proofs.AddedOnce.{IsNumbered, numbered_item}
-use Rattle.dft_insert.proofs.Fine.{FineBy, driver_fine}
+use Rattle.dft_insert.proofs.Fine.{driver_fine}
 use Rattle.dft_insert.proofs.Kept.{original_driver, root_stays, port_driven, design_ports_few}
 use Rattle.dft_insert.proofs.Containing.{enable_input, input_less}
 use Rattle.dft_insert.proofs.PlacesFound.{get_flat, get_range, HasChain, has_chain}

@@ -1,5 +1,5 @@
 -- What drives the nets of the chains in a scanned netlist.
-use Rattle.std.proofs.Common.{ℕ, zero, suc, ◌+◌, ◌-◌, ◌≡◌, ◌==◌, ◌<◌, ◌≤◌, Bool, true, false, List, [], ◌∷◌, ◌++◌, length, map, Option, None, Some, option_map, slice_get, refl, sym, subst, ap, arith, ◌∙◌}
+use Rattle.std.proofs.Common.{ℕ, zero, suc, ◌+◌, ◌-◌, ◌≡◌, ◌<◌, false, List, [], ◌∷◌, ◌++◌, length, Option, Some, option_map, slice_get, refl, sym, subst, ap, arith, ◌∙◌}
 use Rattle.std.specs.List.{range_with_len}
 use Rattle.std.proofs.lemmas.Option.{none-some, same_Some, slice_get-map}
 use Rattle.dft_base.specs.Lexing.{Text}
@@ -16,24 +16,23 @@ use Rattle.dft_netlist.specs.declared.instance.CellRef.TheVariants.{Library}
 use Rattle.dft_netlist.specs.declared.instance.Instance.{Instance}
 use Rattle.dft_netlist.specs.Netlist.{Netlist}
 use Rattle.dft_netlist.specs.NetDrivers.{IsSingle}
-use Rattle.dft_netlist.specs.Drivers.{Source, Net, Driver, Input, Gate, Flop, Lockup, Driven, driven_by_pins, driven_by, driven_by_instances, driven_by_bits, driven_by_ports, driven_by_joins, all_driven, driver, shape_of, inputs_of}
+use Rattle.dft_netlist.specs.Drivers.{Source, Net, Input, Gate, Flop, Lockup, Driven, driven_by_pins, driven_by, driven_by_instances, driven_by_bits, driven_by_ports, driven_by_joins, driver, shape_of, inputs_of}
 use Rattle.dft_netlist.proofs.DriverLaws.{listed_drives}
 use Rattle.dft_netlist.proofs.Places.{get_left}
 use Rattle.dft_config.specs.declared.config.Config.{Config}
-use Rattle.dft_rules.specs.Rules.{scan_cell_in}
 use Rattle.dft_stitch.specs.declared.places.CellPlace.{CellPlace}
 use Rattle.dft_stitch.specs.declared.places.LockupPlace.{LockupPlace}
 use Rattle.dft_stitch.specs.Chains.{plan_of}
 use Rattle.dft_stitch.specs.Plans.{cell_at}
 use Rattle.dft_insert.specs.declared.style.Style.TheVariants.{Plain}
-use Rattle.dft_insert.specs.Moves.{Gap, moved}
+use Rattle.dft_insert.specs.Moves.{Gap}
 use Rattle.dft_insert.specs.AddedPorts.{NewPort, new_port, numbered, numbered_ports, added_ports, ports_from, enable_net, scan_in_net, scan_out_net}
 use Rattle.dft_insert.specs.Stitching.{Layout, output_net, scan_input}
-use Rattle.dft_insert.specs.Written.{map_from, at_net, as_scan_cell, place_in, written_at, written_instance, lockup_instance, buffer_instance, plain_instances}
+use Rattle.dft_insert.specs.Written.{map_from, as_scan_cell, place_in, written_at, written_instance, lockup_instance, buffer_instance, plain_instances}
 use Rattle.dft_insert.specs.Statements.{IsReady, scanned}
 use Rattle.dft_insert.proofs.ScanPairs as pairs
 use Rattle.dft_insert.proofs.ScanPairs.{ScanPair, stitched_connections, three, four, five, ListOf3, ListOf4, ListOf5}
-use Rattle.dft_insert.proofs.Carried.{HasPair, CanBeStitched}
+use Rattle.dft_insert.proofs.Carried.{HasPair}
 use Rattle.dft_insert.proofs.Standing.{can_stitch}
 use Rattle.dft_insert.proofs.Whole.{layout, length_map_from}
 use Rattle.dft_insert.proofs.Mergings.{ports_append}

@@ -1,5 +1,5 @@
 -- What a design drives are its nets.
-use Rattle.std.proofs.Common.{ℕ, zero, suc, ◌+◌, ◌≡◌, ◌==◌, ◌<◌, ◌≤◌, Bool, true, false, List, [], ◌∷◌, ◌++◌, length, Some, slice_get, refl, sym, subst, ap, arith, ◌∙◌}
+use Rattle.std.proofs.Common.{ℕ, zero, suc, ◌≡◌, ◌<◌, ◌≤◌, true, false, List, [], ◌∷◌, ◌++◌, length, Some, slice_get, refl, sym, subst, arith}
 use Rattle.dft_cells.specs.declared.kind.Kind.{Kind}
 use Rattle.dft_cells.specs.declared.kind.Role.{Role}
 use Rattle.dft_cells.specs.declared.kind.Role.TheVariants as role
@@ -13,7 +13,7 @@ use Rattle.dft_netlist.specs.declared.instance.Instance.{Instance}
 use Rattle.dft_netlist.specs.declared.instance.Join.{Join}
 use Rattle.dft_netlist.specs.Netlist.{Netlist}
 use Rattle.dft_netlist.specs.Sound.{bits_of, IsNetlist, IsLive, AreLive}
-use Rattle.dft_netlist.specs.Drivers.{Source, Driver, Driven, Connection, connections_from, connections_of, inputs_of, driver_of_kind, at_signal, at_role, driven_by_pins, driven_by, driven_by_instances, driven_by_bits, driven_by_ports, driven_by_joins, all_driven, shape_of}
+use Rattle.dft_netlist.specs.Drivers.{Source, Driver, Driven, connections_from, connections_of, inputs_of, driver_of_kind, at_signal, at_role, driven_by_pins, driven_by, driven_by_instances, driven_by_bits, driven_by_ports, driven_by_joins, all_driven, shape_of}
 use Rattle.dft_insert.proofs.Whole.{AreBefore, nets_before, before_front, before_back}
 use Rattle.dft_insert.proofs.Kept.{ports_fit}
 

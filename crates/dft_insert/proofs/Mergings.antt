@@ -1,5 +1,5 @@
 -- The drivers of a design, with their nets moved, among those of a netlist that contains it.
-use Rattle.std.proofs.Common.{ℕ, zero, suc, ◌+◌, ◌≡◌, ◌==◌, Bool, true, false, List, [], ◌∷◌, ◌++◌, map, cond, count_by, refl, sym, ap, arith, ◌∙◌}
+use Rattle.std.proofs.Common.{ℕ, suc, ◌+◌, ◌≡◌, ◌==◌, Bool, true, false, List, [], ◌∷◌, ◌++◌, map, cond, count_by, refl, sym, ap, arith, ◌∙◌}
 use Rattle.std.specs.Prelude.{if◌then◌else◌}
 use Rattle.std.proofs.lemmas.List.{map-append}
 use Rattle.std.proofs.lemmas.List.Sums.{sum_by-cons}
@@ -13,8 +13,8 @@ use Rattle.dft_netlist.specs.declared.instance.Signal.TheVariants as signal
 use Rattle.dft_netlist.specs.declared.instance.Instance.{Instance}
 use Rattle.dft_netlist.specs.declared.instance.Join.{Join}
 use Rattle.dft_netlist.specs.declared.port.Port.{Port}
-use Rattle.dft_netlist.specs.Drivers.{Source, Driver, Input, Gate, Joined, Flop, Lockup, Free, Driven, Connection, connections_from, connections_of, source_of, is_input, inputs_of, driver_of_kind, at_role, driven_by_pins, driven_by, driven_by_instances, driven_by_bits, driven_by_ports, driven_by_joins, driver_in, shape_of}
-use Rattle.dft_insert.specs.Moves.{Gap, moved, moved_net, moved_signal, moved_instance, moved_join}
+use Rattle.dft_netlist.specs.Drivers.{Source, Driver, Input, Gate, Joined, Flop, Lockup, Free, Driven, Connection, connections_from, connections_of, source_of, is_input, inputs_of, driver_of_kind, at_role, driven_by_pins, driven_by, driven_by_bits, driven_by_ports, driven_by_joins, driver_in, shape_of}
+use Rattle.dft_insert.specs.Moves.{Gap, moved, moved_signal, moved_instance, moved_join}
 use Rattle.dft_insert.specs.ScanOff.{moved_source}
 
 -- ---- merges

@@ -1,5 +1,5 @@
 -- A flip-flop in the chains is modelled: on the port of its domain, with its reset or set, and with its scan pins as stitched.
-use Rattle.std.proofs.Common.{ℕ, zero, suc, ◌+◌, ◌≡◌, ◌==◌, ◌<◌, Bool, true, false, ◌||◌, List, [], ◌∷◌, cond, length, position, Option, None, Some, is_some, option_and_then, slice_get, refl, sym, subst, ap, arith, ◌∙◌}
+use Rattle.std.proofs.Common.{ℕ, zero, suc, ◌+◌, ◌≡◌, Bool, true, false, ◌||◌, List, [], ◌∷◌, cond, position, Option, None, Some, is_some, option_and_then, slice_get, refl, sym, subst, ap, arith, ◌∙◌}
 use Rattle.std.specs.Prelude.{if◌then◌else◌}
 use Rattle.std.specs.List.{list_any, position_from}
 use Rattle.std.proofs.lemmas.Iterator.Adapters.{position_from-zero}
@@ -18,13 +18,13 @@ use Rattle.dft_netlist.specs.Traces.{Root, Port, Constant, Other, root_of}
 use Rattle.dft_netlist.specs.Logic.{Ports, Force, Scan, Cell, pin_of, or_loose, domain_at, force_of, forcing, scan_of, modelled, modelled_of, flip_flop}
 use Rattle.dft_netlist.specs.Logic as logic
 use Rattle.dft_config.specs.declared.config.Config.{Config}
-use Rattle.dft_rules.specs.Rules.{input_net, is_net, place_of_root, place_of_source, domain_of, is_held, are_held, are_held_at, may_be_scanned, judged}
+use Rattle.dft_rules.specs.Rules.{input_net, is_net, place_of_root, place_of_source, domain_of, is_held, are_held, may_be_scanned, judged}
 use Rattle.dft_rules.specs.declared.judged.Judged.TheVariants.{Scanned}
 use Rattle.dft_stitch.specs.declared.places.CellPlace.{CellPlace}
 use Rattle.dft_stitch.specs.Chains.{plan_of}
 use Rattle.dft_stitch.specs.Plans.{cell_at}
 use Rattle.dft_insert.specs.declared.style.Style.TheVariants.{Plain}
-use Rattle.dft_insert.specs.Moves.{Gap, moved}
+use Rattle.dft_insert.specs.Moves.{moved}
 use Rattle.dft_insert.specs.AddedPorts.{enable_net, scan_in_net}
 use Rattle.dft_insert.specs.Stitching.{Layout, output_net, scan_input}
 use Rattle.dft_insert.specs.Written.{place_in}
@@ -39,7 +39,7 @@ use Rattle.dft_insert.proofs.Kept.{root_stays}
 use Rattle.dft_insert.proofs.Contained.{AreMatched}
 use Rattle.dft_insert.proofs.Containing.{instance_matched}
 use Rattle.dft_insert.proofs.PlacesFound.{is_placed}
-use Rattle.dft_insert.proofs.Listed.{scan_cell_at, scan_cell_there}
+use Rattle.dft_insert.proofs.Listed.{scan_cell_there}
 
 -- ---- places of names
 

@@ -1,10 +1,10 @@
 -- A net of a design traces in the scanned netlist to where it traced, moved.
-use Rattle.std.proofs.Common.{ℕ, zero, suc, ◌≡◌, ◌<◌, ◌≤◌, Bool, List, [], ◌∷◌, length, map, refl, sym, ap, arith, ◌∙◌}
+use Rattle.std.proofs.Common.{ℕ, zero, suc, ◌≡◌, ◌<◌, ◌≤◌, List, [], ◌∷◌, length, map, refl, ap, arith, ◌∙◌}
 use Rattle.dft_cells.specs.declared.kind.Kind.{Kind}
 use Rattle.dft_cells.specs.declared.kind.Kind.TheVariants as kind
 use Rattle.dft_netlist.specs.Netlist.{Netlist}
 use Rattle.dft_netlist.specs.Drivers.{Source, Net, Tied, Loose, Driver, Input, Gate, Joined, Flop, Lockup, Free, driver, nets_of, nets_read, AreBelow, IsOrdered}
-use Rattle.dft_netlist.specs.Traces.{Root, Port, Constant, Other, Passed, From, Bit, Nothing, passed_by_buffer, passed_by_gate, root_of_passed, root_of_driver, root_within, root_of}
+use Rattle.dft_netlist.specs.Traces.{Root, Port, Constant, Other, passed_by_buffer, passed_by_gate, root_of_passed, root_of_driver, root_within, root_of}
 use Rattle.dft_insert.specs.ScanOff.{moved_source, IsWithin}
 use Rattle.dft_insert.proofs.Mergings.{moved_driver}
 

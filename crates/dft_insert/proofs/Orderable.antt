@@ -3,9 +3,8 @@ use Rattle.std.proofs.Common.{ℕ, zero, suc, ◌+◌, ◌-◌, ◌≡◌, ◌==
 use Rattle.std.specs.Prelude.{if◌then◌else◌}
 use Rattle.std.proofs.lemmas.Bool.{eqb-true}
 use Rattle.std.proofs.lemmas.Option.{none-some, same_Some, slice_get_within}
-use Rattle.dft_base.specs.Lexing.{Text}
 use Rattle.dft_cells.specs.WellFormed as library_cells
-use Rattle.dft_cells.specs.declared.kind.Role.TheVariants.{Clock, Din, Output}
+use Rattle.dft_cells.specs.declared.kind.Role.TheVariants.{Output}
 use Rattle.dft_netlist.specs.declared.ids.NetId.{NetId}
 use Rattle.dft_netlist.specs.declared.ids.InstanceId.{InstanceId}
 use Rattle.dft_netlist.specs.declared.port.Dir.{Dir}
@@ -15,26 +14,25 @@ use Rattle.dft_netlist.specs.declared.instance.Signal.{Signal}
 use Rattle.dft_netlist.specs.declared.instance.Signal.TheVariants as signal
 use Rattle.dft_netlist.specs.Netlist.{Netlist}
 use Rattle.dft_netlist.specs.Names.{find_net}
-use Rattle.dft_netlist.specs.Sound.{bits_of}
-use Rattle.dft_netlist.specs.Drivers.{Source, Net, Tied, Loose, Driver, Input, Gate, Joined, Flop, Lockup, Free, Driven, Connection, connections_from, connections_of, shape_of, pins_at, pins_of, nets_of, nets_read, driven_by, driven_by_instances, driven_by_bits, driven_by_ports, all_driven, driver_in, driver, AreBelow, lockup_inputs}
+use Rattle.dft_netlist.specs.Drivers.{Source, Net, Tied, Loose, Driver, Input, Gate, Joined, Flop, Lockup, Free, Driven, Connection, connections_of, shape_of, pins_at, pins_of, nets_of, nets_read, driven_by, driven_by_instances, driven_by_bits, driven_by_ports, all_driven, driver_in, driver, AreBelow, lockup_inputs}
 use Rattle.dft_netlist.specs.Logic.{pin_of}
-use Rattle.dft_netlist.specs.Orders.{Has, reads_of, IsOrder, IsOrderable, Follows}
+use Rattle.dft_netlist.specs.Orders.{Has, reads_of, IsOrderable, Follows}
 use Rattle.dft_netlist.proofs.StandLemmas.{order_orderable}
 use Rattle.dft_config.specs.declared.config.Config.{Config}
-use Rattle.dft_rules.specs.Rules.{is_input, input_net}
+use Rattle.dft_rules.specs.Rules.{is_input}
 use Rattle.dft_stitch.specs.declared.places.CellPlace as places
 use Rattle.dft_stitch.specs.declared.places.LockupPlace.{LockupPlace}
 use Rattle.dft_stitch.specs.Chains.{cells_of, plan_of}
 use Rattle.dft_stitch.proofs.BlockLemmas.{chain_count}
 use Rattle.dft_stitch.specs.Plans.{cell_at}
 use Rattle.dft_insert.specs.declared.style.Style.TheVariants.{Plain}
-use Rattle.dft_insert.specs.Moves.{Gap, moved}
+use Rattle.dft_insert.specs.Moves.{moved}
 use Rattle.dft_insert.specs.AddedPorts.{NewPort, added_ports, ports_from, scan_out_net}
 use Rattle.dft_insert.specs.Stitching.{number_of, is_place, net_of, own_output, output_at, open_places, Layout, made_or, moved_or_none, output_net}
 use Rattle.dft_insert.specs.Written.{map_from, place_in, domain_net, lockup_instance, buffer_instance}
 use Rattle.dft_insert.specs.ScanOff.{moved_source}
-use Rattle.dft_insert.specs.Statements.{IsReady, scanned, CanFinish, CanBeFinished}
-use Rattle.dft_insert.proofs.Mergings.{moved_driver, moved_driven, Merges, Nothing, Kept, Added}
+use Rattle.dft_insert.specs.Statements.{IsReady, scanned, CanBeFinished}
+use Rattle.dft_insert.proofs.Mergings.{moved_driver, Merges, Nothing, Kept, Added}
 use Rattle.dft_insert.proofs.ScanPairs.{signal_at, opened}
 use Rattle.dft_insert.proofs.Carried.{opened_at, lists_from}
 use Rattle.dft_insert.proofs.Whole.{layout, made_instances, all_opened, all_added_drivers, whole_merges, instances_append}

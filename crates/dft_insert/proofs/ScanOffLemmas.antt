@@ -1,7 +1,6 @@
 -- With scan off the nets of the original have the same bits.
 use Rattle.std.proofs.Common.{ℕ, zero, suc, Bool, true, false, List, [], ◌∷◌, ◌≡◌, ◌==◌, ◌<◌, refl, sym, ap, arith, map, ◌∙◌, Option, None, Some}
 use Rattle.std.specs.Prelude.{if◌then◌else◌, not}
-use Rattle.dft_base.specs.declared.tri.Tri.{Tri}
 use Rattle.dft_base.specs.declared.tri.Tri.TheVariants.{Zero}
 use Rattle.dft_base.specs.Tri.{completed}
 use Rattle.dft_cells.specs.Gates.{bit_of}
@@ -9,7 +8,7 @@ use Rattle.dft_cells.specs.FlipFlops.{forced, chosen}
 use Rattle.dft_netlist.specs.Drivers.{Source, Net, Tied, Loose, nets_of, AreBelow}
 use Rattle.dft_netlist.specs.Logic.{Logic, Meaning, Input, Clock, Gate, Joined, Flop, Lockup, Free, Force, Scan, Cell, reads, IsRanked}
 use Rattle.dft_netlist.specs.Settled.{Sources, bit_from, bit_given}
-use Rattle.dft_netlist.specs.Runs.{State, Moment, Now, port_bits, sources_of, IsNow, forced_by, taken_by, next_bit, Event, Set, Rise, Fall, after_event, at_moment, Step, next_now, AreSteps}
+use Rattle.dft_netlist.specs.Runs.{State, Moment, Now, port_bits, sources_of, IsNow, forced_by, taken_by, next_bit, Event, Set, after_event, at_moment, Step, next_now, AreSteps}
 use Rattle.dft_insert.specs.ScanOff.{moved_source, moved_force, moved_meaning, Places, IsWithin, IsForceWithin, IsEnabledBy, KeepsFlop, Contains, IsSameEvent, SameSet, SameRise, SameFall, AddedRise, AddedFall, AreFreeAlike, AreSameSteps, AllAgree, set_to, ScanOff}
 
 -- what both have in common at a moment, but for free bits

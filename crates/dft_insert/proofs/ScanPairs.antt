@@ -1,5 +1,5 @@
 -- A scan cell beside the flip-flop that it stands for: it drives the same nets, and its other pins are joined to the same.
-use Rattle.std.proofs.Common.{ℕ, zero, suc, ◌≡◌, Bool, true, false, List, [], ◌∷◌, ◌++◌, length, map, Option, None, Some, refl, sym, subst, ap, arith, ◌∙◌, ◌⊎◌, inl, inr, option_map}
+use Rattle.std.proofs.Common.{ℕ, ◌≡◌, true, false, List, [], ◌∷◌, ◌++◌, length, map, Option, None, Some, refl, sym, subst, ap, arith, option_map}
 use Rattle.dft_cells.specs.declared.kind.Kind.{Kind}
 use Rattle.dft_cells.specs.declared.kind.Kind.TheVariants.{Dff, Dffr, Dffs, Sdff, Sdffr, Sdffs}
 use Rattle.dft_cells.specs.declared.kind.Role.{Role}
@@ -13,7 +13,7 @@ use Rattle.dft_netlist.specs.Logic.{same_role, pin_of}
 use Rattle.dft_insert.specs.Moves.{Gap, moved, moved_signal}
 use Rattle.dft_insert.specs.ScanOff.{moved_source}
 use Rattle.dft_insert.specs.Written.{at_net, stitched_pins}
-use Rattle.dft_insert.proofs.Mergings.{Merges, Nothing, Kept, Added, append_merges, all_kept, moved_source_of}
+use Rattle.dft_insert.proofs.Mergings.{Merges, Nothing, Kept, Added, moved_source_of}
 
 -- the kind and the roles of a flip-flop, and those of its scan cell
 pub data ScanPair : Kind → List Role → Kind → List Role → Type 0 where

@@ -1,23 +1,22 @@
 -- What shift vectors do to scan chains: one vector in the views of its domains, then by induction over the vectors.
-use Rattle.std.proofs.Common.{ℕ, zero, suc, ◌+◌, ◌≡◌, ◌==◌, ◌<◌, ◌≤◌, Bool, true, false, List, [], ◌∷◌, length, get_or, slice_get, option_and_then, Option, None, Some, refl, sym, subst, ap, arith, ◌∙◌}
+use Rattle.std.proofs.Common.{ℕ, zero, suc, ◌+◌, ◌≡◌, ◌==◌, ◌≤◌, Bool, true, false, List, [], ◌∷◌, length, get_or, slice_get, option_and_then, Option, None, Some, refl, sym, subst, ap, arith, ◌∙◌}
 use Rattle.std.specs.Prelude.{if◌then◌else◌}
 use Rattle.std.proofs.lemmas.Bool.{eq-eqb}
 use Rattle.std.proofs.lemmas.Option.{none-some, same_Some, slice_get_within, slice_get-get_or}
 use Rattle.dft_base.specs.declared.tri.Tri.{Tri}
 use Rattle.dft_base.specs.declared.tri.Tri.TheVariants.{Zero, One, Unknown}
 use Rattle.dft_base.specs.Tri.{known, Above}
-use Rattle.dft_cells.specs.declared.kind.Kind.TheVariants.{Buf}
-use Rattle.dft_cells.specs.FlipFlops.{tri_forced, tri_chosen, forced}
+use Rattle.dft_cells.specs.FlipFlops.{tri_forced, tri_chosen}
 use Rattle.dft_netlist.specs.declared.ids.InstanceId.{InstanceId}
 use Rattle.dft_netlist.specs.Drivers.{Source, Net}
-use Rattle.dft_netlist.specs.Logic.{Logic, Ports, Meaning, Force, Scan, Input, Gate, Flop, Lockup, IsRanked}
+use Rattle.dft_netlist.specs.Logic.{Logic, Ports, Meaning, Force, Scan, Input, Flop, Lockup, IsRanked}
 use Rattle.dft_netlist.specs.Settled.{TriSources, value_from, value_given, IsTriSettled, bit_given}
-use Rattle.dft_netlist.specs.Runs.{Now, Moment, State, next_now, set_step, sources_of, port_bits, forced_by, Vector, Turn, IsTurn, after_turn, AreTurns, AreLow}
+use Rattle.dft_netlist.specs.Runs.{Now, Moment, State, next_now, set_step, sources_of, port_bits, forced_by, Vector, Turn, after_turn, AreTurns, AreLow}
 use Rattle.dft_cycle.specs.Cycle.{Pulse, tri_forced_by, tri_taken_by, view_sources, AreViews, next_value, after_pulse, pulse_of}
-use Rattle.dft_cycle.specs.Laws.{bits, shown}
+use Rattle.dft_cycle.specs.Laws.{bits}
 use Rattle.dft_cycle.proofs.Lifts.{known_after_turn, low_after_turn}
 use Rattle.dft_stitch.specs.Plans.{cell_at}
-use Rattle.dft_insert.specs.Hardware.{ScanNets, ActsByPort, IsScanCell, Leads, Directly, ByLockup, HasChains, Enters, Shows, IsPlain}
+use Rattle.dft_insert.specs.Hardware.{ScanNets, ActsByPort, IsScanCell, Leads, Directly, ByLockup, HasChains, Shows, IsPlain}
 use Rattle.dft_insert.specs.Shifts.{IsShift, LinkLaw, EntryLaw, IsShifted, ShiftInRuns, after_turns, AreShifts, AreShifted, ShiftExperiment, at_strobe, EndsShow, EndsShowBefore}
 
 -- ---- values

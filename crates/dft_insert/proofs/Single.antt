@@ -1,11 +1,10 @@
 -- No net of a scanned netlist has two drivers.
-use Rattle.std.proofs.Common.{ℕ, zero, suc, ◌+◌, ◌-◌, ◌≡◌, ◌==◌, ◌<◌, ◌≤◌, ◌⊎◌, inl, inr, Bool, true, false, List, [], ◌∷◌, ◌++◌, length, map, nat_lt, Some, slice_get, refl, sym, subst, ap, arith, ◌∙◌}
+use Rattle.std.proofs.Common.{ℕ, ◌+◌, ◌-◌, ◌≡◌, ◌==◌, ◌<◌, ◌≤◌, inl, inr, false, List, [], ◌∷◌, ◌++◌, length, nat_lt, slice_get, refl, sym, subst, ap, arith, ◌∙◌}
 use Rattle.std.specs.Prelude.{if◌then◌else◌}
 use Rattle.dft_netlist.specs.declared.port.Dir.TheVariants as dir
 use Rattle.dft_netlist.specs.declared.instance.Instance.{Instance}
 use Rattle.dft_netlist.specs.Netlist.{Netlist}
 use Rattle.dft_netlist.specs.NetDrivers.{IsSingle}
-use Rattle.dft_netlist.specs.Sound.{bits_of}
 use Rattle.dft_netlist.specs.Drivers.{Driven, driven_by_instances, driven_by_ports, all_driven}
 use Rattle.dft_netlist.proofs.LiveLemmas.{le_or_lt}
 use Rattle.dft_config.specs.declared.config.Config.{Config}
@@ -14,17 +13,16 @@ use Rattle.dft_stitch.proofs.BlockLemmas.{chain_count}
 use Rattle.dft_insert.specs.declared.style.Style.TheVariants.{Plain}
 use Rattle.dft_insert.specs.Moves.{Gap, moved}
 use Rattle.dft_insert.specs.AddedPorts.{NewPort, new_port, numbered_ports, added_ports, ports_from, scan_out_net}
-use Rattle.dft_insert.specs.Stitching.{Layout, output_net}
+use Rattle.dft_insert.specs.Stitching.{Layout}
 use Rattle.dft_insert.specs.Written.{map_from, lockup_instance, buffer_instance}
 use Rattle.dft_insert.specs.Statements.{IsReady, scanned}
 use Rattle.dft_insert.proofs.Mergings.{times, old_times}
-use Rattle.dft_insert.proofs.Carried.{lists_from}
 use Rattle.dft_insert.proofs.Whole.{layout, made_instances, all_opened, all_added_drivers, whole_merges, moved_front, moved_back, moved_apart, instances_append}
 use Rattle.dft_insert.proofs.AddedDrivers.{none_at}
 use Rattle.dft_insert.proofs.Kept.{ports_count, ports_fit, all_new, numbered_count}
-use Rattle.dft_insert.proofs.LiveDriven.{DriveBelow, drives_below}
+use Rattle.dft_insert.proofs.LiveDriven.{drives_below}
 use Rattle.dft_insert.proofs.Times.{times_append, rises_none, rises_once, past_none, added_times_live}
-use Rattle.dft_insert.proofs.AddedOnce.{ports_rise, ports_below, outputs_none, lockups_rise, buffers_rise, buffers_below, IsOpened, AreFrom, opened_once, opened_none, opened_between}
+use Rattle.dft_insert.proofs.AddedOnce.{ports_rise, ports_below, outputs_none, lockups_rise, buffers_rise, buffers_below, AreFrom, opened_once, opened_none, opened_between}
 
 -- of four numbers that count in ranges of their own, one at most is not zero
 sum_once : (m o k b net ports gap first last : ℕ) → m ≤ 1 → o ≤ 1 → k ≤ 1 → b ≤ 1 → ports ≤ gap → gap ≤ first → first ≤ last → (ports ≤ net → m ≡ 0) → (net < ports → b ≡ 0) → (gap ≤ net → b ≡ 0) → (net < first → o ≡ 0) → (last ≤ net → o ≡ 0) → (net < last → k ≡ 0) →

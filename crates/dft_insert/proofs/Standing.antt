@@ -1,5 +1,5 @@
 -- An instance that stands at a place of the planned chains is a scanned flip-flop, and the net at its output is its own, if it has one.
-use Rattle.std.proofs.Common.{ℕ, zero, suc, ◌+◌, ◌≡◌, ◌==◌, Bool, true, false, ◌&&◌, List, [], ◌∷◌, filter, find, cond, length, Option, None, Some, is_some, is_none, option_and_then, slice_get, refl, sym, subst, ap, arith, ◌∙◌}
+use Rattle.std.proofs.Common.{ℕ, zero, suc, ◌≡◌, ◌==◌, Bool, true, false, ◌&&◌, List, [], ◌∷◌, filter, find, cond, Option, None, Some, is_some, is_none, option_and_then, slice_get, refl, sym, subst, ap, ◌∙◌}
 use Rattle.std.specs.Prelude.{if◌then◌else◌}
 use Rattle.std.proofs.lemmas.Bool.{eqb-true}
 use Rattle.std.proofs.lemmas.Option.{none-some, same_Some}
@@ -11,19 +11,18 @@ use Rattle.dft_netlist.specs.declared.instance.Signal.{Signal}
 use Rattle.dft_netlist.specs.declared.instance.Signal.TheVariants as signal
 use Rattle.dft_netlist.specs.declared.instance.Instance.{Instance}
 use Rattle.dft_netlist.specs.Netlist.{Netlist}
-use Rattle.dft_netlist.specs.Drivers.{Source, Net, Connection, connections_from, connections_of, source_of, shape_of, kind_at, pins_at, pins_of}
+use Rattle.dft_netlist.specs.Drivers.{Net, Connection, connections_from, connections_of, source_of, shape_of, kind_at, pins_at}
 use Rattle.dft_netlist.specs.Sound.{NoConstantOutput}
 use Rattle.dft_netlist.specs.Logic.{same_role, pin_of}
 use Rattle.dft_config.specs.declared.config.Config.{Config}
-use Rattle.dft_rules.specs.declared.judged.Judged.{Judged}
 use Rattle.dft_rules.specs.declared.judged.Judged.TheVariants.{Scanned}
 use Rattle.dft_rules.specs.Rules.{may_be_scanned, domain_of, are_held_at, scan_cell_in, scan_cell_of, is_kept, judged_by, judged}
 use Rattle.dft_stitch.specs.declared.places.CellPlace.{CellPlace}
 use Rattle.dft_stitch.specs.Chains.{plan_of}
 use Rattle.dft_stitch.specs.Plans.{Plan, cell_at}
 use Rattle.dft_stitch.proofs.OnceLemmas.{cells_scanned}
-use Rattle.dft_insert.specs.Moves.{Gap, moved}
-use Rattle.dft_insert.specs.Stitching.{number_of, is_place, net_of, own_output, output_at, places_of, open_places, Layout, made_or, moved_or_none, output_net}
+use Rattle.dft_insert.specs.Moves.{moved}
+use Rattle.dft_insert.specs.Stitching.{number_of, is_place, net_of, own_output, output_at, places_of, Layout, made_or, moved_or_none, output_net}
 use Rattle.dft_insert.specs.Written.{is_cell, place_in}
 use Rattle.dft_insert.specs.Statements.{IsReady}
 use Rattle.dft_insert.proofs.Pairs.{PassesRules, passes}

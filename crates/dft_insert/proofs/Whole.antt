@@ -1,5 +1,5 @@
 -- The drivers of a scanned netlist: those of its design, moved, and those that were added.
-use Rattle.std.proofs.Common.{ℕ, zero, suc, ◌+◌, ◌≡◌, ◌==◌, ◌<◌, ◌≤◌, Bool, true, false, nat_lt, List, [], ◌∷◌, ◌++◌, length, map, take, drop, Option, None, Some, slice_get, refl, sym, subst, ap, arith, ◌∙◌}
+use Rattle.std.proofs.Common.{ℕ, zero, suc, ◌+◌, ◌≡◌, ◌==◌, ◌<◌, ◌≤◌, true, false, nat_lt, List, [], ◌∷◌, ◌++◌, length, map, Some, slice_get, refl, sym, subst, ap, arith, ◌∙◌}
 use Rattle.std.specs.Prelude.{if◌then◌else◌}
 use Rattle.std.proofs.lemmas.List.{append_assoc, append-nil}
 use Rattle.dft_cells.specs.declared.cell.Cell.{Cell}
@@ -11,7 +11,7 @@ use Rattle.dft_netlist.specs.declared.instance.Instance.{Instance}
 use Rattle.dft_netlist.specs.Netlist.{Netlist}
 use Rattle.dft_netlist.specs.NetNumbers.{nets_from}
 use Rattle.dft_netlist.specs.Sound.{bits_of}
-use Rattle.dft_netlist.specs.Drivers.{Driver, Input, Driven, driven_by, driven_by_instances, driven_by_bits, driven_by_ports, driven_by_joins, all_driven, driver_in, driver}
+use Rattle.dft_netlist.specs.Drivers.{Input, Driven, driven_by, driven_by_instances, driven_by_bits, driven_by_ports, driven_by_joins, all_driven, driver}
 use Rattle.dft_config.specs.declared.config.Config.{Config}
 use Rattle.dft_stitch.specs.Chains.{plan_of}
 use Rattle.dft_insert.specs.declared.style.Style.TheVariants.{Plain}

@@ -1,10 +1,9 @@
 -- The scanned netlist of four flip-flops on two clocks, worked by hand.
-use Rattle.std.proofs.Common.{◌≡◌, ℕ, List, [], ◌∷◌, codes, pos, Some, None, refl}
+use Rattle.std.proofs.Common.{◌≡◌, ℕ, List, [], ◌∷◌, codes, Some, None, refl}
 use Rattle.std.specs.Fmt as fmt
 use Rattle.dft_base.specs.Lexing.{Text}
 use Rattle.dft_cells.specs.declared.kind.Kind.TheVariants.{Buf}
 use Rattle.dft_cells.specs.Standard.{standard_cells}
-use Rattle.dft_netlist.specs.declared.ids.NetId.{NetId}
 use Rattle.dft_netlist.specs.declared.instance.CellRef.TheVariants.{Library, Gate}
 use Rattle.dft_netlist.specs.declared.instance.Instance.{Instance}
 use Rattle.dft_netlist.specs.declared.instance.Signal.{Signal}

@@ -1,5 +1,5 @@
 -- Why scan chains cannot be inserted: the first thing that is added and refused.
-use Rattle.std.specs.Prelude.{ℕ, ◌+◌, ◌-◌, ◌≡◌, pos, nat_le, Bool, ◌||◌, List, [], ◌∷◌, ◌++◌, length, map, flat_map, Option, None, Some, if◌then◌else◌}
+use Rattle.std.specs.Prelude.{ℕ, ◌+◌, ◌-◌, ◌≡◌, pos, nat_le, ◌||◌, List, [], ◌∷◌, ◌++◌, length, map, flat_map, Option, None, Some, if◌then◌else◌}
 use Rattle.std.specs.List.{range_with_len}
 use Rattle.dft_base.specs.Lexing.{Text}
 use Rattle.dft_cells.specs.WellFormed.{has_name}
@@ -13,9 +13,8 @@ use Rattle.dft_insert.specs.declared.style.Style.{Style}
 use Rattle.dft_insert.specs.declared.style.Style.TheVariants.{Plain}
 use Rattle.dft_insert.specs.declared.error.InsertError.{InsertError}
 use Rattle.dft_insert.specs.declared.error.InsertError.TheVariants.{NameClash, TooMany, Memory}
-use Rattle.dft_insert.specs.Moves.{Gap}
-use Rattle.dft_insert.specs.AddedPorts.{NewPort, added_ports, made_net, made_instance}
-use Rattle.dft_insert.specs.Stitching.{Layout, open_places}
+use Rattle.dft_insert.specs.AddedPorts.{added_ports, made_net, made_instance}
+use Rattle.dft_insert.specs.Stitching.{open_places}
 use Rattle.dft_insert.specs.Written.{plain_layout}
 
 -- ---- what is added, in order

@@ -1,5 +1,5 @@
 -- What holds of scanned netlists.
-use Rattle.std.specs.Prelude.{ℕ, suc, ◌+◌, ◌<◌, ◌≡◌, Bool, true, List, ◌∷◌, length, None, Some, is_some}
+use Rattle.std.specs.Prelude.{ℕ, suc, ◌<◌, ◌≡◌, true, List, ◌∷◌, length, None, Some, is_some}
 use Rattle.std.specs.List.{list_any}
 use Rattle.dft_cells.specs.WellFormed.{IsWellFormed}
 use Rattle.dft_netlist.specs.Netlist.{Netlist}

@@ -23,7 +23,7 @@ use Rattle.dft_stitch.specs.declared.places.LockupPlace.{LockupPlace}
 use Rattle.dft_stitch.specs.Plans.{Plan, cell_at}
 use Rattle.dft_insert.specs.declared.style.Style.{Style}
 use Rattle.dft_insert.specs.declared.style.Style.TheVariants.{Plain}
-use Rattle.dft_insert.specs.Moves.{Gap, gap_of, moved_signal, moved_instance, moved_join}
+use Rattle.dft_insert.specs.Moves.{gap_of, moved_signal, moved_instance, moved_join}
 use Rattle.dft_insert.specs.AddedPorts.{added_ports, port_name, ports_from, enable_net, scan_in_net, scan_out_net, made_net, made_instance}
 use Rattle.dft_insert.specs.Stitching.{number_of, Layout, places_of, open_places, moved_or_none, output_net, scan_input}
 
