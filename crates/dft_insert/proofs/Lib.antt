@@ -22,4 +22,6 @@ pub mod Modelled
 pub mod Linked
 pub mod KeepingLemmas
 pub mod Orderable
+pub mod Numbers
+pub mod Additions
 pub mod WorkedScan
