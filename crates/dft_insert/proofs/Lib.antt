@@ -23,5 +23,7 @@ pub mod Linked
 pub mod KeepingLemmas
 pub mod Orderable
 pub mod Numbers
+pub mod Heights
+pub mod Shifted
 pub mod Additions
 pub mod WorkedScan

@@ -36,7 +36,7 @@ use Rattle.dft_insert.specs.Stitching.{number_of, stands_after, Layout, made_or,
 use Rattle.dft_insert.specs.Written.{domain_net, lockup_instance}
 use Rattle.dft_insert.specs.Hardware as hardware
 use Rattle.dft_insert.specs.Hardware.{ScanNets, IsScanCell, Leads, Directly, ByLockup, HasChains, Enters, Shows, IsPlain}
-use Rattle.dft_insert.specs.Statements.{IsReady, config_ports, scanned, plain_nets, HasHardware, ScannedShifts, ScannedShows}
+use Rattle.dft_insert.specs.Statements.{IsReady, config_ports, scanned, plain_nets, HasHardware}
 use Rattle.dft_insert.proofs.Mergings as mergings
 use Rattle.dft_insert.proofs.Whole.{layout}
 use Rattle.dft_insert.proofs.AddedDrivers.{first_lockup_shape}
@@ -46,7 +46,6 @@ use Rattle.dft_insert.proofs.Kept.{original_driver, root_stays, port_driven, des
 use Rattle.dft_insert.proofs.Containing.{enable_input, input_less}
 use Rattle.dft_insert.proofs.PlacesFound.{get_flat, get_range, HasChain, has_chain}
 use Rattle.dft_insert.proofs.Listed.{output_driven, lockup_there, lockup_driven, buffer_driven, scan_in_driven}
-use Rattle.dft_insert.proofs.Shiftings.{shift_experiment, ends_show}
 use Rattle.dft_insert.proofs.Modelled.{IsClocked, clock_is, IsStitched, stitched}
 
 -- ---- lists
@@ -350,11 +349,3 @@ has_hardware n config ready = record {
   entries = λ chain cell stands. record { first = refl; port = scan_in_means n config chain ready (chain_less n config chain zero cell stands) };
   ends = λ chain place cell stands last. end_shows n config chain place cell ready stands last;
 }
-
-pub scanned_shifts : ScannedShifts
-scanned_shifts n config rank before shifts start ts us ready ranked run are turns =
-    shift_experiment (logic_of (scanned Plain n config) (config_ports n config)) rank (config_ports n config) (plan_of n config).chains (plain_nets (layout n config) config) before shifts start ts us ranked (has_hardware n config ready) run are turns
-
-pub scanned_shows : ScannedShows
-scanned_shows n config x now t ready turn chain place cell stands last =
-    ends_show (logic_of (scanned Plain n config) (config_ports n config)) (config_ports n config) (plan_of n config).chains (plain_nets (layout n config) config) x now t (has_hardware n config ready) turn chain place cell stands last

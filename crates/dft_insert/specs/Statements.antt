@@ -7,7 +7,7 @@ use Rattle.dft_netlist.specs.Drivers.{Net}
 use Rattle.dft_netlist.specs.NetDrivers.{IsSingle}
 use Rattle.dft_netlist.specs.Orders.{IsOrder, IsOrderable}
 use Rattle.dft_netlist.specs.Sound.{IsNetlist}
-use Rattle.dft_netlist.specs.Logic.{Ports, logic_of, flip_flop, IsRanked}
+use Rattle.dft_netlist.specs.Logic.{Ports, logic_of, flip_flop}
 use Rattle.dft_netlist.specs.Runs.{Now, Moment, Step, next_now, AreSteps, AreLow, Vector, Turn, IsTurn, AreTurns, IsRun}
 use Rattle.dft_base.specs.declared.tri.Tri.{Tri}
 use Rattle.dft_base.specs.declared.tri.Tri.TheVariants.{Zero}
@@ -116,10 +116,10 @@ AgreesWhileOff =
 -- were shift vectors.
 abbrev pub ScannedShifts : Type 0
 ScannedShifts =
-    (n : Netlist) (config : Config) (rank : ℕ → ℕ) (before shifts : List Vector) (start : Now) (ts us : List Turn) → IsReady n config →
+    (n : Netlist) (config : Config) (before shifts : List Vector) (start : Now) (ts us : List Turn) → IsReady n config →
     let l = logic_of (scanned Plain n config) (config_ports n config) in
     let w = plain_nets (plain_layout n config (plan_of n config)) config in
-    IsRanked l rank → IsRun l before start ts → AreShifts (config_ports n config) w shifts → AreTurns l (after_turns l start before ts) shifts us →
+    IsRun l before start ts → AreShifts (config_ports n config) w shifts → AreTurns l (after_turns l start before ts) shifts us →
     AreShifted (plan_of n config).chains w shifts (after_turns l start before ts).state.flops (after_turns l (after_turns l start before ts) shifts us).state.flops
 
 -- At every strobe each of its scan outputs shows the bit of its last cell.
