@@ -11,18 +11,19 @@ use Rattle.dft_netlist.specs.declared.port.Dir.TheVariants as dir
 use Rattle.dft_netlist.specs.Netlist.{Netlist}
 use Rattle.dft_config.specs.declared.config.Config.{Config}
 use Rattle.dft_config.specs.declared.config.FillRule.TheVariants.{Zeros}
-use Rattle.dft_rules.specs.declared.error.RuleError.TheVariants.{ClockAsData, TooFewCells, UnknownName}
+use Rattle.dft_rules.specs.declared.error.RuleError.TheVariants.{ClockAsData, LockupPresent, PortName, ScanCellPresent, TooFewCells, UnknownName}
 use Rattle.dft_rules.specs.declared.judged.Judged.TheVariants.{Scanned, Unscanned}
 use Rattle.dft_rules.specs.declared.judged.Rule.TheVariants.{S1, S4}
 use Rattle.dft_rules.specs.Refusals.{refusal}
 use Rattle.dft_rules.specs.Rules.{judgements}
 
--- a flip-flop, its scan cell and a clock gate
+-- a flip-flop, its scan cell, a clock gate and a lock-up
 abbrev library : List Cell
 library =
     record { name = codes "DFF"; kind = kind.Dff; pins = record { name = codes "CK"; role = role.Clock } ∷ record { name = codes "D"; role = role.Din } ∷ record { name = codes "Q"; role = role.Output } ∷ []; scan = Some (record { 0 = 1 }) }
     ∷ record { name = codes "SDFF"; kind = kind.Sdff; pins = record { name = codes "CK"; role = role.Clock } ∷ record { name = codes "D"; role = role.Din } ∷ record { name = codes "SI"; role = role.ScanIn } ∷ record { name = codes "SE"; role = role.ScanEnable } ∷ record { name = codes "Q"; role = role.Output } ∷ []; scan = None }
     ∷ record { name = codes "CKGATE"; kind = kind.Opaque; pins = record { name = codes "CK"; role = role.Input } ∷ record { name = codes "EN"; role = role.Input } ∷ record { name = codes "GCK"; role = role.Output } ∷ []; scan = None }
+    ∷ record { name = codes "LOCKUP"; kind = kind.Lockup; pins = record { name = codes "CK"; role = role.Clock } ∷ record { name = codes "D"; role = role.Din } ∷ record { name = codes "Q"; role = role.Output } ∷ []; scan = None }
     ∷ []
 
 abbrev joined : (name : Text) → (cell a b c : ℕ) → Instance
@@ -79,6 +80,17 @@ behind_a_gate = refl
 kept : judgements (example 1) (example_config two_clocks (codes "f3" ∷ []) 1) ≡ Some (Scanned 0) ∷ Some (Scanned 1) ∷ Some (Scanned 0) ∷ Some (Unscanned S4) ∷ None ∷ []
 kept = refl
 
+-- the same with another instance before all others
+abbrev with_instance : Instance → Netlist
+with_instance instance = record (example 1) { instances = instance ∷ (example 1).instances }
+
+abbrev scan_cell : Instance
+scan_cell = record { name = Some (codes "s0"); cell = cell_ref.Library (record { 0 = 1 }); pins = signal.Unconnected ∷ signal.Unconnected ∷ signal.Unconnected ∷ signal.Unconnected ∷ signal.Unconnected ∷ [] }
+
+-- the same with a port that no pattern text can name
+abbrev with_quoted_port : Netlist
+with_quoted_port = record (example 1) { ports = record { name = codes "a\"b"; dir = dir.Output; range = None; bits = [] } ∷ (example 1).ports }
+
 accepted : refusal (example 1) (example_config two_clocks [] 4) ≡ None
 unfolding refusal
 accepted = refl
@@ -94,3 +106,15 @@ no_flip_flop = refl
 used_as_data : refusal (example 1) (example_config (codes "d" ∷ two_clocks) [] 1) ≡ Some (ClockAsData (codes "d"))
 unfolding refusal
 used_as_data = refl
+
+scan_cell_there : refusal (with_instance scan_cell) (example_config two_clocks [] 1) ≡ Some (ScanCellPresent (codes "s0"))
+unfolding refusal
+scan_cell_there = refl
+
+lockup_there : refusal (with_instance (joined (codes "l0") 3 0 2 7)) (example_config two_clocks [] 1) ≡ Some (LockupPresent (codes "l0"))
+unfolding refusal
+lockup_there = refl
+
+quoted_port : refusal with_quoted_port (example_config two_clocks [] 1) ≡ Some (PortName (codes "a\"b"))
+unfolding refusal
+quoted_port = refl
