@@ -111,7 +111,7 @@ fn set_of(alloc: Global, inputs: &str, outputs: &str, vectors: &str, notes: Vec<
 }
 
 fn acts_of(alloc: Global, letters: &str) -> Result<Acts, AllocError> {
-    let mut acts = Vec::new(alloc);
+    let mut acts = Acts::new(alloc);
     for letter in letters.chars() {
         acts.push(match letter {
             '0' => Act::Low,
@@ -122,7 +122,7 @@ fn acts_of(alloc: Global, letters: &str) -> Result<Acts, AllocError> {
             _ => Act::Ignore,
         })?;
     }
-    Ok(Acts::from_vec(acts))
+    Ok(acts)
 }
 
 #[test]
