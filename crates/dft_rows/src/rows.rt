@@ -246,8 +246,16 @@ const UNSET: &str =
 const LATE: &str =
     "STIL 1.0; Signals { c In; d In; q Out; } Timing { WaveformTable t { Period '100ns'; Waveforms { c { P { '0ns' D; '50ns' U; '80ns' D; } } q { H { '60ns' H; } } }\n} } PatternBurst b { PatList { p; } } PatternExec { PatternBurst b; } Pattern p { }";
 
+const TWO_OUTPUTS: &str =
+    "module m (c, d, p, q); input c, d; output p, q; assign p = d; assign q = d; DFF f (.CK(c), .D(d), .Q(n)); endmodule";
+
+// The second output differs in the first vector, and the first one in the second.
+const DIFFERING: &str =
+    "STIL 1.0; Signals { c In; d In; p Out; q Out; } Timing { WaveformTable t { Period '20ns'; Waveforms { c { 0 { '0ns' D; } } d { 0 { '0ns' D; } 1 { '0ns' U; } } p { L { '5ns' L; } } q { L { '5ns' L; } H { '5ns' H; } } } } } PatternBurst b { PatList { p; } } PatternExec { PatternBurst b; } Pattern p { W t; V { c = 0; d = 0; p = L; q = H; } V { d = 1; } }";
+
 // A netlist, a pattern text, and what is printed.
-static TEXTS: [(&str, &str, &str); 3] = [
+static TEXTS: [(&str, &str, &str); 4] = [
+    (TWO_OUTPUTS, DIFFERING, "mismatch vector 0 signal q\n"),
     (NETLIST, KEPT, "pass 2 vectors 1 compared\n"),
     (RESET, UNSET, "undetermined vector 3 signal q\n"),
     (NETLIST, LATE, "refused P8 2:1\n"),
