@@ -24,17 +24,37 @@ static LINES: [(&str, &str, &str); 47] = [
     ("", "STIL 1.1;", "P1 1:6"),
     ("", "STIL 1.0;\nLoop", "P2 2:1 Loop"),
     ("", "STIL 1.0;\nsignals", "P1 2:1"),
-    ("", "STIL 1.0;Header{Title \"{\" {}}\nSignal", "P2 2:1 Signal"),
-    ("", "STIL 1.0; /* x */ // y\nAnn {* z *}\nSignals{c In;c Out;}", "P9 3:14 c"),
+    (
+        "",
+        "STIL 1.0;Header{Title \"{\" {}}\nSignal",
+        "P2 2:1 Signal",
+    ),
+    (
+        "",
+        "STIL 1.0; /* x */ // y\nAnn {* z *}\nSignals{c In;c Out;}",
+        "P9 3:14 c",
+    ),
     ("", "STIL 1.0;Signals{\nc InOut;", "P2 2:3 InOut"),
     ("", "STIL 1.0;Ann {* x", "P1 1:18"),
     ("", "STIL 1.0;Signals{\"a b\" In;", "P1 1:20"),
     (SIGNALS, "SignalGroups{g='c+z';}", "P3 2:19 z"),
     (SIGNALS, "SignalGroups{g='c';g='d';}", "P9 2:20 g"),
-    (SIGNALS, "Timing t{WaveformTable w{Period'1000000000ns", "P1 2:34"),
+    (
+        SIGNALS,
+        "Timing t{WaveformTable w{Period'1000000000ns",
+        "P1 2:34",
+    ),
     (SIGNALS, "Timing t{WaveformTable w{Period'5Ns", "P2 2:35 Ns"),
-    (SIGNALS, "Timing{}PatternBurst b{PatList{p;}}PatternExec{PatternBurst e;", "P3 2:61 e"),
-    (SIGNALS, "Timing{}PatternBurst b{PatList{p;}}PatternExec{Timing t;", "P3 2:55 t"),
+    (
+        SIGNALS,
+        "Timing{}PatternBurst b{PatList{p;}}PatternExec{PatternBurst e;",
+        "P3 2:61 e",
+    ),
+    (
+        SIGNALS,
+        "Timing{}PatternBurst b{PatList{p;}}PatternExec{Timing t;",
+        "P3 2:55 t",
+    ),
     (SHAPES, "z{", "P3 2:1 z"),
     (SHAPES, "c{0{'0ns'D;}0{", "P9 2:13 0"),
     (SHAPES, "c{01{", "P2 2:3 01"),
@@ -43,9 +63,17 @@ static LINES: [(&str, &str, &str); 47] = [
     (SHAPES, "c{P{'0ns'D;'50ns'U;'50ns'D;", "P2 2:26 D"),
     (SHAPES, "q{H{'1ns'X;'1000ps'H;", "P2 2:20 H"),
     (SHAPES, "c{0{'40ns'D;}}q{H{'40ns'H;}}}}", "P8 2:30"),
-    (SHAPES, "c{P{'0ns'D;'50ns'U;'80ns'D;}}q{H{'60ns'H;}}}}", "P8 2:46"),
+    (
+        SHAPES,
+        "c{P{'0ns'D;'50ns'U;'80ns'D;}}q{H{'60ns'H;}}}}",
+        "P8 2:46",
+    ),
     (SHAPES, "c{0{'100ns'D;}}}}", "P8 2:17"),
-    (SHAPES, "c{0{'50ns'D;}P{'0ns'D;'50ns'U;'80ns'D;}}}}", "P8 2:43"),
+    (
+        SHAPES,
+        "c{0{'50ns'D;}P{'0ns'D;'50ns'U;'80ns'D;}}}}",
+        "P8 2:43",
+    ),
     (VECTORS, "}", "ok"),
     (VECTORS, "V{c=P;d=1;}V{c=0;q=H;}}", "ok P1- 01H"),
     (VECTORS, "V{q=X;}V{d=1;}V{}}", "ok --X -1X -1X"),
@@ -63,10 +91,26 @@ static LINES: [(&str, &str, &str); 47] = [
     (VECTORS, "V{c=0;}V{c=P;}}", "ok 0-- P--"),
     (VECTORS, "V{q=H;}} x", "P1 2:10"),
     (VECTORS, "V{q=H;}", "P1 2:8"),
-    (SHAPES, "c{1{'0ns'U;}P{'0ns'D;'5ns'U;'9ns'D;}}}}}PatternBurst b{PatList{p;}}PatternExec{PatternBurst b;}Pattern p{W w;V{c=P;}V{c=P;}V{c=1;}}", "P10 1 2"),
-    (SHAPES, "}}}PatternBurst b{PatList{p;}}PatternExec{PatternBurst b;}Pattern p{V{c=0;}}", "P5 2:73"),
-    (SHAPES, "}}}PatternBurst b{PatList{p;}}PatternExec{PatternBurst b;}Pattern o", "P3 2:67 o"),
-    ("STIL 1.0; Signals { c In; d In; q Out; } Timing { WaveformTable t { Period '20ns'; Waveforms { c { 0 { '0ns' D; } P { '0ns' D; '10ns' U; '15ns' D; } } d { 1 { '0ns' U; } } q { H { '5ns' H; } } } } } ", "PatternBurst b { PatList { p; } } PatternExec { PatternBurst b; } Pattern p { W t; V { c = P; d = 1; } V { c = 0; q = H; } }", "ok P1- 01H"),
+    (
+        SHAPES,
+        "c{1{'0ns'U;}P{'0ns'D;'5ns'U;'9ns'D;}}}}}PatternBurst b{PatList{p;}}PatternExec{PatternBurst b;}Pattern p{W w;V{c=P;}V{c=P;}V{c=1;}}",
+        "P10 1 2",
+    ),
+    (
+        SHAPES,
+        "}}}PatternBurst b{PatList{p;}}PatternExec{PatternBurst b;}Pattern p{V{c=0;}}",
+        "P5 2:73",
+    ),
+    (
+        SHAPES,
+        "}}}PatternBurst b{PatList{p;}}PatternExec{PatternBurst b;}Pattern o",
+        "P3 2:67 o",
+    ),
+    (
+        "STIL 1.0; Signals { c In; d In; q Out; } Timing { WaveformTable t { Period '20ns'; Waveforms { c { 0 { '0ns' D; } P { '0ns' D; '10ns' U; '15ns' D; } } d { 1 { '0ns' U; } } q { H { '5ns' H; } } } } } ",
+        "PatternBurst b { PatList { p; } } PatternExec { PatternBurst b; } Pattern p { W t; V { c = P; d = 1; } V { c = 0; q = H; } }",
+        "ok P1- 01H",
+    ),
 ];
 
 #[test]
@@ -74,7 +118,11 @@ fn pattern_texts_read_as_by_hand(rt: HostRuntime) -> Result<(), Fail> {
     for (begun, rest, line) in &LINES {
         let mut text = String::from_str(rt.alloc(), *begun)?;
         text.push_str(*rest)?;
-        assert_eq!(rt; line_of(rt.alloc(), text.as_bytes())?.as_str(), *line, "at {rest}");
+        assert_eq!(rt;
+            line_of(rt.alloc(), text.as_bytes())?.as_str(),
+            *line,
+            "at {rest}"
+        );
     }
     Ok(())
 }
@@ -95,13 +143,25 @@ fn cut_pattern_texts_are_refused(rt: HostRuntime) -> Result<(), Fail> {
 }
 
 // A set with these signals, as `c d > q`, and these vectors of letters.
-fn set_of(alloc: Global, inputs: &str, outputs: &str, vectors: &str, notes: Vec<Note>) -> Result<PatternSet, AllocError> {
+fn set_of(
+    alloc: Global,
+    inputs: &str,
+    outputs: &str,
+    vectors: &str,
+    notes: Vec<Note>,
+) -> Result<PatternSet, AllocError> {
     let mut signals = Vec::new(alloc);
     for name in inputs.split_whitespace() {
-        signals.push(StilSignal { name: Name::from_slice(alloc, name.as_bytes())?, dir: Dir::Input })?;
+        signals.push(StilSignal {
+            name: Name::from_slice(alloc, name.as_bytes())?,
+            dir: Dir::Input,
+        })?;
     }
     for name in outputs.split_whitespace() {
-        signals.push(StilSignal { name: Name::from_slice(alloc, name.as_bytes())?, dir: Dir::Output })?;
+        signals.push(StilSignal {
+            name: Name::from_slice(alloc, name.as_bytes())?,
+            dir: Dir::Output,
+        })?;
     }
     let mut rows = Vec::new(alloc);
     for letters in vectors.split_whitespace() {
@@ -128,7 +188,20 @@ fn acts_of(alloc: Global, letters: &str) -> Result<Acts, AllocError> {
 #[test]
 fn notes_are_written(rt: HostRuntime) -> Result<(), Fail> {
     let alloc = rt.alloc();
-    let notes = vec![in alloc; Note { before: 0, what: NoteKind::SetUp }, Note { before: 1, what: NoteKind::Pattern(7) }, Note { before: 1, what: NoteKind::Unload }]?;
+    let notes = vec![in alloc;
+        Note {
+            before: 0,
+            what: NoteKind::SetUp
+        },
+        Note {
+            before: 1,
+            what: NoteKind::Pattern(7)
+        },
+        Note {
+            before: 1,
+            what: NoteKind::Unload
+        },
+    ]?;
     let set = set_of(alloc, "c d", "q", "P1X 00H", notes)?;
     match write(alloc, &set) {
         Ok(text) => {

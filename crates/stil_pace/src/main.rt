@@ -48,7 +48,9 @@ fn time(rt: &(impl Clock + Eprint), alloc: Global, vectors: u32) -> io::Result<(
         Err(_) => false,
     };
     let reading = start.elapsed(rt)?.as_nanos();
-    eprintln!(rt; "{vectors} vectors, {length} bytes: {writing} ns to write, {reading} ns to read, read back: {same}")
+    eprintln!(rt;
+        "{vectors} vectors, {length} bytes: {writing} ns to write, {reading} ns to read, read back: {same}"
+    )
 }
 
 // Inputs i0, i1, .. and then outputs o0, o1, ..
