@@ -1,6 +1,7 @@
 -- Where a text has no patterns, and where it has.
 use Rattle.std.proofs.Common.{◌≡◌, ℕ, List, [], ◌∷◌, ◌++◌, codes, flat_map, All, Err, refl, sym, ap, subst, ◌∙◌}
 use Rattle.dft_stil.specs.declared.act.Act.{Act}
+use Rattle.dft_stil.specs.declared.notes.Note.{Note}
 use Rattle.dft_stil.specs.declared.signal.StilSignal.{StilSignal}
 use Rattle.dft_stil.specs.Patterns.{Patterns, IsPatterns, IsFullVector, inputs, outputs, input_count}
 use Rattle.dft_stil.specs.Written.{head, vector_line, written}
@@ -40,10 +41,16 @@ no_end text ahead behind ss shown vs b s l g n p h e =
     n (vectors_once shown vs p.vectors behind (codes "}\n") l.valid v.0 g (no_vector (inputs shown) (outputs shown) _) (l.lines ∙ sym v.1)).1
 
 pub patterns_read : (text ahead behind : List ℕ) (ss shown : List StilSignal) (vs : List (List Act)) → IsHead ss ahead text → shown ≡ ss → IsLines (vector_line (input_count shown)) (IsFullVector shown) vs behind ahead
-    → behind ≡ codes "}\n" → IsPatterns (record { signals = ss; vectors = vs }) × (written (record { signals = ss; vectors = vs }) ≡ text)
+    → behind ≡ codes "}\n" → IsPatterns (record { signals = ss; vectors = vs; notes = [] }) × (written (record { signals = ss; vectors = vs; notes = [] }) ≡ text)
 unfolding written
 patterns_read text ahead behind ss shown vs b s l g =
     let k = subst (λ ss. IsLines (vector_line (input_count ss)) (IsFullVector ss) vs behind ahead) s l in (
-      record { both = b.writable.both; declarable = b.writable.declarable; vectors = k.valid },
+      record { bare = refl; both = b.writable.both; declarable = b.writable.declarable; vectors = k.valid },
       ap (λ x. head ss ++ x) (ap (λ x. flat_map (vector_line (input_count ss)) vs ++ x) (sym g) ∙ k.lines) ∙ b.begins,
     )
+
+pub patterns_same : (p : Patterns) (ss : List StilSignal) (vs : List (List Act)) → p.signals ≡ ss → p.vectors ≡ vs → p.notes ≡ [] → p ≡ record { signals = ss; vectors = vs; notes = [] }
+patterns_same p ss vs s v n =
+    ap (λ (s : List StilSignal). record { signals = s; vectors = p.vectors; notes = p.notes }) s
+    ∙ ap (λ (v : List (List Act)). record { signals = ss; vectors = v; notes = p.notes }) v
+    ∙ ap (λ (n : List Note). record { signals = ss; vectors = vs; notes = n }) n

@@ -2,6 +2,7 @@
 use Rattle.std.proofs.Common.{◌≡◌, ℕ, List, ◌∷◌, ◌++◌, codes, flat_map, All, Err, refl, sym, ap, subst, ◌∙◌, append_assoc}
 use Rattle.std.proofs.lemmas.List.{append_cancel_left}
 use Rattle.dft_stil.specs.declared.act.Act.{Act}
+use Rattle.dft_stil.specs.declared.notes.Note.{Note}
 use Rattle.dft_stil.specs.declared.signal.StilSignal.{StilSignal}
 use Rattle.dft_stil.specs.Patterns.{IsSimple, IsFullVector, inputs, outputs, input_count}
 use Rattle.dft_stil.specs.Written.{declaration, middle, head, vector_line, written}
@@ -58,4 +59,6 @@ unfolding written
 written_once a b ha hb e =
     let s = head_once a.signals b.signals _ _ ha.declarable.simple hb.declarable.simple e in
     let v = same_vectors a.signals b.signals a.vectors b.vectors s.0 ha.vectors hb.vectors s.1 in
-    ap (λ (v : List (List Act)). record { signals = a.signals; vectors = v }) v ∙ ap (λ (s : List StilSignal). record { signals = s; vectors = b.vectors }) s.0
+    ap (λ (v : List (List Act)). record { signals = a.signals; vectors = v; notes = a.notes }) v
+    ∙ ap (λ (s : List StilSignal). record { signals = s; vectors = b.vectors; notes = a.notes }) s.0
+    ∙ ap (λ (n : List Note). record { signals = b.signals; vectors = b.vectors; notes = n }) (ha.bare ∙ sym hb.bare)

@@ -28,7 +28,7 @@ fn patterns(alloc: Global, bytes: &[u8]) -> Result<PatternSet, StilError>
     if !text.is(b"}\n") {
         return Err(StilError::NotWritten);
     }
-    Ok(PatternSet::new(signals, vectors))
+    Ok(PatternSet::new(alloc, signals, vectors))
 }
 
 #[tactic(auto, using(crate::proofs::FormLemmas::have_length))]

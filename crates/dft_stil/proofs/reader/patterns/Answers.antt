@@ -1,10 +1,8 @@
-use Rattle.std.proofs.Common.{◌≡◌, List, Err, true≢false, subst, subst₂, sym, ap, ◌∙◌}
-use Rattle.dft_stil.specs.declared.act.Act.{Act}
-use Rattle.dft_stil.specs.declared.signal.StilSignal.{StilSignal}
-use Rattle.dft_stil.specs.Patterns.{IsPatterns}
+use Rattle.std.proofs.Common.{◌≡◌, [], Err, true≢false, subst, sym, ap, ◌∙◌}
+use Rattle.dft_stil.specs.Patterns.{Patterns, IsPatterns}
 use Rattle.dft_stil.specs.Written.{written}
 use Rattle.dft_stil.specs.Heads.{HasNoHead, IsHead}
-use Rattle.dft_stil.proofs.ReadLemmas.{no_head, no_vectors, no_end, patterns_read}
+use Rattle.dft_stil.proofs.ReadLemmas.{no_head, no_vectors, no_end, patterns_read, patterns_same}
 use Rattle.dft_stil.proofs.Refusals.{same_error}
 use Rattle.dft_stil.proofs.reader.patterns.Goals as goal
 
@@ -24,7 +22,9 @@ returns-then-not-is-clause-err c = λ e.
 
 pub returns-clause-ok : goal.returns-clause-ok
 returns-clause-ok c =
-    subst₂ (λ (s : List StilSignal) (v : List (List Act)). IsPatterns (record { signals = s; vectors = v }) × (written (record { signals = s; vectors = v }) ≡ c.args.bytes.now))
-    (sym c.new.ensures.signals) (sym c.new.ensures.vectors)
-    (patterns_read c.args.bytes.now _ _ _ _ _ (subst (IsHead _ _) c.new-text.ensures c.in_ok-signals.ensures.ok) c.deref.ensures.value
-    c.in_ok-vectors.ensures.lines (c.is.ensures.0 c.if-not-is.false))
+    let text = c.args.bytes.now in
+    let read = patterns_read text _ _ _ _ _ (subst (IsHead _ _) c.new-text.ensures c.in_ok-signals.ensures.ok) c.deref.ensures.value
+    c.in_ok-vectors.ensures.lines (c.is.ensures.0 c.if-not-is.false) in
+    let same : c.new.result ≡ record { signals = c.in_ok-signals.signals.items; vectors = c.in_ok-vectors.vectors.items; notes = [] } =
+    patterns_same c.new.result _ _ c.new.ensures.signals c.new.ensures.vectors c.new.ensures.notes in
+    subst (λ (p : Patterns). IsPatterns p × (written p ≡ text)) (sym same) read
