@@ -28,3 +28,5 @@ pub mod NamesLemmas
 pub mod TableLemmas
 pub mod FlagLemmas
 pub mod WrittenTokens
+pub mod WrittenSignals
+pub mod WrittenGroups

@@ -51,7 +51,11 @@ pub cut_up-out : (rest : Text) → cut_up false (codes " Out;\n" ++ rest) ≡ to
 unfolding cut_up comment_rest note_rest gap_len gaps_from blank_len mark_kind quoted_text word_or_note lexeme
 cut_up-out rest = simp minus_zero
 
-pub cut_up-groups : (rest : Text) → cut_up false (codes "}\nSignalGroups {\n" ++ rest) ≡ token kind.CloseBrace (codes "}") (ahead 17 rest) ∷ token kind.Word (codes "SignalGroups") (ahead 15 rest) ∷ token kind.OpenBrace (codes "{") (ahead 2 rest) ∷ cut_up false rest
+pub cut_up-close : (rest : Text) → cut_up false (codes "}" ++ rest) ≡ token kind.CloseBrace (codes "}") (ahead 1 rest) ∷ cut_up false rest
+unfolding cut_up comment_rest note_rest gap_len gaps_from blank_len mark_kind quoted_text word_or_note lexeme
+cut_up-close rest = simp minus_zero
+
+pub cut_up-groups : (rest : Text) → cut_up false (codes "\nSignalGroups {\n" ++ rest) ≡ token kind.Word (codes "SignalGroups") (ahead 15 rest) ∷ token kind.OpenBrace (codes "{") (ahead 2 rest) ∷ cut_up false rest
 unfolding cut_up comment_rest note_rest gap_len gaps_from blank_len mark_kind quoted_text word_or_note lexeme
 cut_up-groups rest = simp minus_zero
 
@@ -71,7 +75,7 @@ pub cut_up-listed : (rest : Text) → cut_up true (codes "';\n" ++ rest) ≡ tok
 unfolding cut_up comment_rest note_rest gap_len gaps_from blank_len mark_kind quoted_text word_or_note lexeme
 cut_up-listed rest = simp minus_zero
 
-pub cut_up-timing : (rest : Text) → cut_up false (codes "}\nTiming {\nWaveformTable w {\nPeriod '100ns';\nWaveforms {\n" ++ rest) ≡ token kind.CloseBrace (codes "}") (ahead 57 rest) ∷ token kind.Word (codes "Timing") (ahead 55 rest) ∷ token kind.OpenBrace (codes "{") (ahead 48 rest) ∷ token kind.Word (codes "WaveformTable") (ahead 46 rest) ∷ token kind.Word (codes "w") (ahead 32 rest) ∷ token kind.OpenBrace (codes "{") (ahead 30 rest) ∷ token kind.Word (codes "Period") (ahead 28 rest) ∷ token kind.Quote (codes "'") (ahead 21 rest) ∷ token kind.Number (codes "100") (ahead 20 rest) ∷ token kind.Word (codes "ns") (ahead 17 rest) ∷ token kind.Quote (codes "'") (ahead 15 rest) ∷ token kind.Semicolon (codes ";") (ahead 14 rest) ∷ token kind.Word (codes "Waveforms") (ahead 12 rest) ∷ token kind.OpenBrace (codes "{") (ahead 2 rest) ∷ cut_up false rest
+pub cut_up-timing : (rest : Text) → cut_up false (codes "\nTiming {\nWaveformTable w {\nPeriod '100ns';\nWaveforms {\n" ++ rest) ≡ token kind.Word (codes "Timing") (ahead 55 rest) ∷ token kind.OpenBrace (codes "{") (ahead 48 rest) ∷ token kind.Word (codes "WaveformTable") (ahead 46 rest) ∷ token kind.Word (codes "w") (ahead 32 rest) ∷ token kind.OpenBrace (codes "{") (ahead 30 rest) ∷ token kind.Word (codes "Period") (ahead 28 rest) ∷ token kind.Quote (codes "'") (ahead 21 rest) ∷ token kind.Number (codes "100") (ahead 20 rest) ∷ token kind.Word (codes "ns") (ahead 17 rest) ∷ token kind.Quote (codes "'") (ahead 15 rest) ∷ token kind.Semicolon (codes ";") (ahead 14 rest) ∷ token kind.Word (codes "Waveforms") (ahead 12 rest) ∷ token kind.OpenBrace (codes "{") (ahead 2 rest) ∷ cut_up false rest
 unfolding cut_up comment_rest note_rest gap_len gaps_from blank_len mark_kind quoted_text word_or_note lexeme
 cut_up-timing rest = simp minus_zero
 
@@ -83,7 +87,19 @@ pub cut_up-output_waves : (rest : Text) → cut_up false (codes "outs { L { '0ns
 unfolding cut_up comment_rest note_rest gap_len gaps_from blank_len mark_kind quoted_text word_or_note lexeme
 cut_up-output_waves rest = simp minus_zero
 
-pub cut_up-pattern : (rest : Text) → cut_up false (codes "}\n}\n}\nPatternBurst b { PatList { p; } }\nPatternExec { PatternBurst b; }\nPattern p {\nW w;\n" ++ rest) ≡ token kind.CloseBrace (codes "}") (ahead 89 rest) ∷ token kind.CloseBrace (codes "}") (ahead 87 rest) ∷ token kind.CloseBrace (codes "}") (ahead 85 rest) ∷ token kind.Word (codes "PatternBurst") (ahead 83 rest) ∷ token kind.Word (codes "b") (ahead 70 rest) ∷ token kind.OpenBrace (codes "{") (ahead 68 rest) ∷ token kind.Word (codes "PatList") (ahead 66 rest) ∷ token kind.OpenBrace (codes "{") (ahead 58 rest) ∷ token kind.Word (codes "p") (ahead 56 rest) ∷ token kind.Semicolon (codes ";") (ahead 55 rest) ∷ token kind.CloseBrace (codes "}") (ahead 53 rest) ∷ token kind.CloseBrace (codes "}") (ahead 51 rest) ∷ token kind.Word (codes "PatternExec") (ahead 49 rest) ∷ token kind.OpenBrace (codes "{") (ahead 37 rest) ∷ token kind.Word (codes "PatternBurst") (ahead 35 rest) ∷ token kind.Word (codes "b") (ahead 22 rest) ∷ token kind.Semicolon (codes ";") (ahead 21 rest) ∷ token kind.CloseBrace (codes "}") (ahead 19 rest) ∷ token kind.Word (codes "Pattern") (ahead 17 rest) ∷ token kind.Word (codes "p") (ahead 9 rest) ∷ token kind.OpenBrace (codes "{") (ahead 7 rest) ∷ token kind.Word (codes "W") (ahead 5 rest) ∷ token kind.Word (codes "w") (ahead 3 rest) ∷ token kind.Semicolon (codes ";") (ahead 2 rest) ∷ cut_up false rest
+pub cut_up-table_end : (rest : Text) → cut_up false (codes "\n}\n}\n" ++ rest) ≡ token kind.CloseBrace (codes "}") (ahead 4 rest) ∷ token kind.CloseBrace (codes "}") (ahead 2 rest) ∷ cut_up false rest
+unfolding cut_up comment_rest note_rest gap_len gaps_from blank_len mark_kind quoted_text word_or_note lexeme
+cut_up-table_end rest = simp minus_zero
+
+pub cut_up-burst : (rest : Text) → cut_up false (codes "PatternBurst b { PatList { p; } }\n" ++ rest) ≡ token kind.Word (codes "PatternBurst") (ahead 34 rest) ∷ token kind.Word (codes "b") (ahead 21 rest) ∷ token kind.OpenBrace (codes "{") (ahead 19 rest) ∷ token kind.Word (codes "PatList") (ahead 17 rest) ∷ token kind.OpenBrace (codes "{") (ahead 9 rest) ∷ token kind.Word (codes "p") (ahead 7 rest) ∷ token kind.Semicolon (codes ";") (ahead 6 rest) ∷ token kind.CloseBrace (codes "}") (ahead 4 rest) ∷ token kind.CloseBrace (codes "}") (ahead 2 rest) ∷ cut_up false rest
+unfolding cut_up comment_rest note_rest gap_len gaps_from blank_len mark_kind quoted_text word_or_note lexeme
+cut_up-burst rest = simp minus_zero
+
+pub cut_up-exec : (rest : Text) → cut_up false (codes "PatternExec { PatternBurst b; }\n" ++ rest) ≡ token kind.Word (codes "PatternExec") (ahead 32 rest) ∷ token kind.OpenBrace (codes "{") (ahead 20 rest) ∷ token kind.Word (codes "PatternBurst") (ahead 18 rest) ∷ token kind.Word (codes "b") (ahead 5 rest) ∷ token kind.Semicolon (codes ";") (ahead 4 rest) ∷ token kind.CloseBrace (codes "}") (ahead 2 rest) ∷ cut_up false rest
+unfolding cut_up comment_rest note_rest gap_len gaps_from blank_len mark_kind quoted_text word_or_note lexeme
+cut_up-exec rest = simp minus_zero
+
+pub cut_up-pattern : (rest : Text) → cut_up false (codes "Pattern p {\nW w;\n" ++ rest) ≡ token kind.Word (codes "Pattern") (ahead 17 rest) ∷ token kind.Word (codes "p") (ahead 9 rest) ∷ token kind.OpenBrace (codes "{") (ahead 7 rest) ∷ token kind.Word (codes "W") (ahead 5 rest) ∷ token kind.Word (codes "w") (ahead 3 rest) ∷ token kind.Semicolon (codes ";") (ahead 2 rest) ∷ cut_up false rest
 unfolding cut_up comment_rest note_rest gap_len gaps_from blank_len mark_kind quoted_text word_or_note lexeme
 cut_up-pattern rest = simp minus_zero
 
