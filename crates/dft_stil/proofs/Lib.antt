@@ -30,3 +30,4 @@ pub mod FlagLemmas
 pub mod WrittenTokens
 pub mod WrittenSignals
 pub mod WrittenGroups
+pub mod WrittenTiming

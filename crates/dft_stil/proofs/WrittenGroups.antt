@@ -209,7 +209,7 @@ group_read d k names prefix (s ∷ ss) last rest is quotable new free =
 -- ---- the block of groups
 
 -- the first token's place is the text's begin
-abbrev IsFront : Text → Type 0
+abbrev pub IsFront : Text → Type 0
 IsFront text = left (cut_up false text) ≡ length text
 
 group_front : (d : Dir) (ss : List StilSignal) (rest : Text) → IsFront rest → IsFront (form.group (label d) ss ++ rest)
@@ -220,14 +220,14 @@ group_front d (s ∷ ss) rest h =
     let e = group-text d s ss rest in
     ap (λ t. left (cut_up false t)) e ∙ ap left l.at ∙ left-token kind.Word (label d) l.a _ ∙ sym l.size ∙ sym (ap length e)
 
-close_front : (rest : Text) → IsFront (codes "}" ++ rest)
+pub close_front : (rest : Text) → IsFront (codes "}" ++ rest)
 close_front rest = ap left (cut_up-close rest) ∙ left-token kind.CloseBrace (codes "}") (ahead 1 rest) _
 
-record Enough (ins outs : List StilSignal) (n : ℕ) : Type 0 where
-  more : ℕ
-  is : n ≡ turns ins (turns outs (suc more))
+pub record Enough (ins outs : List StilSignal) (n : ℕ) : Type 0 where
+  pub more : ℕ
+  pub is : n ≡ turns ins (turns outs (suc more))
 
-enough : (ins outs : List StilSignal) (n : ℕ) → 3 ≤ n → Enough ins outs n
+pub enough : (ins outs : List StilSignal) (n : ℕ) → 3 ≤ n → Enough ins outs n
 unfolding turns
 enough [] [] n h = record { more = n - 1; is = omega arith }
 enough [] (o ∷ outs) n h = record { more = n - 2; is = omega arith }
@@ -263,7 +263,7 @@ blocks-at : (a b l : ℕ) (names new : Names) (us vs : List Token) → groups_fr
 unfolding group_blocks group_blocks_from sees_groups after_groups after_word sees_word sees kind_of bytes left next group_block name_if_any sees_name expect
 blocks-at a b l names new us vs e = rw e refl
 
-abbrev timing_text : Text → Text
+abbrev pub timing_text : Text → Text
 timing_text rest = codes "\nTiming {\nWaveformTable w {\nPeriod '100ns';\nWaveforms {\n" ++ rest
 
 pub groups_read : (ins outs : List StilSignal) (a b : ℕ) (rest : Text) → AllQuotable ins → AllQuotable outs → AllNew [] (ins ++ outs)
