@@ -31,3 +31,4 @@ pub mod WrittenTokens
 pub mod WrittenSignals
 pub mod WrittenGroups
 pub mod WrittenTiming
+pub mod WrittenVectors

@@ -222,12 +222,12 @@ waves_from-end : (k : ℕ) (names : Names) (t : Table) (word : Text) (l : ℕ) (
 unfolding waves_from sees kind_of after next
 waves_from-end k names t word l ts = refl
 
-ins_known : (i : StilSignal) (ins outs : List StilSignal) → elsewhere (grouped (i ∷ ins) outs) (codes "ins") ≡ Some (group_of 0 (suc (length ins)))
+pub ins_known : (i : StilSignal) (ins outs : List StilSignal) → elsewhere (grouped (i ∷ ins) outs) (codes "ins") ≡ Some (group_of 0 (suc (length ins)))
 unfolding grown label
 ins_known i ins [] = refl
 ins_known i ins (o ∷ outs) = refl
 
-outs_known : (ins : List StilSignal) (o : StilSignal) (outs : List StilSignal) → elsewhere (grouped ins (o ∷ outs)) (codes "outs") ≡ Some (group_of (length ins) (suc (length outs)))
+pub outs_known : (ins : List StilSignal) (o : StilSignal) (outs : List StilSignal) → elsewhere (grouped ins (o ∷ outs)) (codes "outs") ≡ Some (group_of (length ins) (suc (length outs)))
 unfolding grown label
 outs_known [] o outs = refl
 outs_known (i ∷ ins) o outs = refl

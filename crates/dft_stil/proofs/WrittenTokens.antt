@@ -218,7 +218,7 @@ run_kind Low = kind.Number
 run_kind High = kind.Number
 run_kind _ = kind.Word
 
-letter_passes : (a : Act) → IsTold a → is_ascii_alphanumeric (letter a) ≡ true
+pub letter_passes : (a : Act) → IsTold a → is_ascii_alphanumeric (letter a) ≡ true
 letter_passes Unset h = absurd h
 letter_passes Low h = refl
 letter_passes High h = refl
@@ -244,7 +244,7 @@ in_name : (c : ℕ) → is_ascii_alphanumeric c ≡ true → continues_name c �
 in_name c h = or_true (is_ascii_alphanumeric c) _ h
 
 -- the text of a run, and a semicolon behind it
-abbrev run_text : Act → List Act → Text → Text
+abbrev pub run_text : Act → List Act → Text → Text
 run_text a acts rest = map letter (a ∷ acts) ++ 59 ∷ rest
 
 number_len : (a : Act) (acts : List Act) (rest : Text) → AllTold (a ∷ acts) → prefix_len (is_in_number false) (run_text a acts rest) ≡ suc (length (map letter acts))
