@@ -32,3 +32,4 @@ pub mod WrittenSignals
 pub mod WrittenGroups
 pub mod WrittenTiming
 pub mod WrittenVectors
+pub mod WrittenLines

@@ -129,7 +129,7 @@ abbrev pub one_table : Shapes → Tables
 one_table shapes = record { names = codes "w" ∷ []; shapes = shapes ∷ [] }
 
 -- a vector of inputs alone
-inputs_read : (most : ℕ) (i : StilSignal) (ins : List StilSignal) (shapes : Shapes) (x : Act) (xs olds : List Act) (vectors : List (List Act)) (rest : Text) → Means (Some shapes) Input 0 (suc (length ins)) → AllActs Input (x ∷ xs)
+pub inputs_read : (most : ℕ) (i : StilSignal) (ins : List StilSignal) (shapes : Shapes) (x : Act) (xs olds : List Act) (vectors : List (List Act)) (rest : Text) → Means (Some shapes) Input 0 (suc (length ins)) → AllActs Input (x ∷ xs)
     → length xs ≡ length ins → length olds ≡ suc (length ins) → length vectors < most
     → vector most (grouped (i ∷ ins) []) (one_table shapes) (so_far olds vectors) (cut_up false (codes "V { " ++ (codes "ins = " ++ run_text x xs (codes " }\n" ++ rest)))) ≡ Ok (so_far (x ∷ xs) (vectors ++ (x ∷ xs) ∷ []), cut_up false rest)
 inputs_read most i ins shapes x xs olds vectors rest means acts many old room =
@@ -157,7 +157,7 @@ inputs_read most i ins shapes x xs olds vectors rest means acts many old room =
     ∙ assignments_from-end (ahead 4 run) names (Some shapes) v (codes "}") (ahead 2 rest) (cut_up false rest))
 
 -- a vector of inputs and outputs
-both_read : (most : ℕ) (i : StilSignal) (ins : List StilSignal) (o : StilSignal) (outs : List StilSignal) (shapes : Shapes) (x : Act) (xs : List Act) (y : Act) (ys olds others : List Act) (vectors : List (List Act)) (rest : Text)
+pub both_read : (most : ℕ) (i : StilSignal) (ins : List StilSignal) (o : StilSignal) (outs : List StilSignal) (shapes : Shapes) (x : Act) (xs : List Act) (y : Act) (ys olds others : List Act) (vectors : List (List Act)) (rest : Text)
     → Means (Some shapes) Input 0 (suc (length ins)) → Means (Some shapes) Output (suc (length ins)) (suc (length outs)) → AllActs Input (x ∷ xs) → AllActs Output (y ∷ ys)
     → length xs ≡ length ins → length ys ≡ length outs → length olds ≡ suc (length ins) → length others ≡ suc (length outs) → length vectors < most
     → vector most (grouped (i ∷ ins) (o ∷ outs)) (one_table shapes) (so_far (olds ++ others) vectors) (cut_up false (codes "V { " ++ (codes "ins = " ++ run_text x xs (codes " outs = " ++ run_text y ys (codes " }\n" ++ rest)))))
