@@ -33,3 +33,4 @@ pub mod WrittenGroups
 pub mod WrittenTiming
 pub mod WrittenVectors
 pub mod WrittenLines
+pub mod WrittenStands

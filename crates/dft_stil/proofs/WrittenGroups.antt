@@ -1,5 +1,5 @@
 -- The written lists of groups are read.
-use Rattle.std.proofs.Common.{◌≡◌, ℕ, zero, suc, ◌+◌, ◌-◌, ◌<◌, ◌≤◌, Bool, true, false, not, cond, List, [], ◌∷◌, ◌++◌, length, map, codes, Option, Some, None, is_some, Ok, inl, inr, ◌⊎◌, subst, refl, sym, ap, ◌∙◌, arith, length-append, append_assoc, append-nil}
+use Rattle.std.proofs.Common.{◌≡◌, ℕ, zero, suc, ◌+◌, ◌-◌, ◌<◌, ◌≤◌, true, false, List, [], ◌∷◌, ◌++◌, length, map, codes, Some, Ok, inl, inr, ◌⊎◌, subst, refl, sym, ap, ◌∙◌, arith, length-append, append_assoc, append-nil}
 use Rattle.std.specs.Prelude.{nat_eq}
 use Rattle.std.specs.List.{join_with_byte}
 use Rattle.std.proofs.lemmas.Bool.Decides.{nat_tests}
@@ -10,7 +10,7 @@ use Rattle.dft_netlist.specs.declared.port.Dir.TheVariants.{Input, Output}
 use Rattle.dft_stil.specs.declared.signal.StilSignal.{StilSignal}
 use Rattle.dft_stil.specs.declared.text.TokenKind.TheVariants as kind
 use Rattle.dft_stil.specs.Lexemes.{Token}
-use Rattle.dft_stil.specs.Steps.{kind_of, bytes, left, next, sees, sees_word, sees_name, expect, after, after_word, keyword, name}
+use Rattle.dft_stil.specs.Steps.{kind_of, bytes, left, next, sees, sees_word, sees_name, expect, after, after_word, name}
 use Rattle.dft_stil.specs.Namings.{Names, Members, number_of, is_known, names_of_signals, one_signal, has, joined, member, members_from, members, with_group, group, groups_from, name_if_any, group_block, sees_groups, after_groups, group_blocks_from, group_blocks}
 use Rattle.dft_stil.specs.Written.{quoted}
 use Rattle.dft_stil.specs.Written as form
@@ -107,7 +107,7 @@ behind_read (suc k) from n t names prefix (s ∷ todo) last rest few is at total
     ap (λ x. members_from (suc (suc k)) names (group_of from n) (cut_up true x)) (behind-text s todo (codes "';\n" ++ rest))
     ∙ ap (members_from (suc (suc k)) names (group_of from n)) (cut_up-plus (34 ∷ (s.name ++ 34 ∷ later)) ∙ ap (λ ts. token kind.Plus (codes "+") (ahead 1 (34 ∷ (s.name ++ 34 ∷ later))) ∷ ts) (cut_up-name true s.name later quotable.0))
     ∙ members_from-more (suc k) names (group_of from n) (one_signal (length prefix)) (codes "+") _ _ (cut_up true later)
-      (member-at names s.name (length prefix) _ (cut_up true later) (number_here names.signals prefix s (todo ++ last) is new.0))
+    (member-at names s.name (length prefix) _ (cut_up true later) (number_here names.signals prefix s (todo ++ last) is new.0))
     ∙ ap (λ m. members_from (suc k) names m (cut_up true later)) (joined-one from n (length prefix) at)
     ∙ behind_read k from (suc n) t names (prefix ++ s ∷ []) todo last rest (omega arith) (is ∙ sym (append_assoc prefix (s ∷ []) (todo ++ last))) (omega (arith, length-append prefix (s ∷ []))) (omega arith) quotable.1 new.1
 

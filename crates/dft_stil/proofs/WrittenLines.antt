@@ -1,5 +1,5 @@
 -- The written lines of vectors and notes are read.
-use Rattle.std.proofs.Common.{◌≡◌, ℕ, zero, suc, ◌+◌, ◌-◌, ◌<◌, ◌≤◌, Bool, true, false, List, [], ◌∷◌, ◌++◌, length, map, flat_map, take, drop, codes, Option, Some, None, Ok, inl, inr, ◌⊎◌, refl, sym, ap, subst, ◌∙◌, arith, length-append, append_assoc, append-nil}
+use Rattle.std.proofs.Common.{◌≡◌, ℕ, zero, suc, ◌+◌, ◌<◌, ◌≤◌, false, List, [], ◌∷◌, ◌++◌, length, map, flat_map, take, drop, codes, Some, Ok, inl, inr, ◌⊎◌, refl, sym, ap, subst, ◌∙◌, arith, length-append, append_assoc, append-nil}
 use Rattle.std.proofs.lemmas.List.{take-append-drop, length-take, length-drop}
 use Rattle.std.proofs.Math.Seq.{take-append_seam, drop-append_seam}
 use Rattle.dft_base.specs.Lexing.{Text}
@@ -10,13 +10,13 @@ use Rattle.dft_stil.specs.declared.signal.StilSignal.{StilSignal}
 use Rattle.dft_stil.specs.declared.text.TokenKind.TheVariants as kind
 use Rattle.dft_stil.specs.Acts.{letter}
 use Rattle.dft_stil.specs.Lexemes.{Token}
-use Rattle.dft_stil.specs.Steps.{kind_of, bytes, left, next, sees, sees_word, sees_left_out, after}
+use Rattle.dft_stil.specs.Steps.{kind_of, bytes, next, sees, sees_word, after}
 use Rattle.dft_stil.specs.Namings.{Names}
 use Rattle.dft_stil.specs.Timings.{Shapes, Tables}
 use Rattle.dft_stil.specs.Statements.{Pattern, vector, statement, statements_from}
 use Rattle.dft_stil.specs.Written.{vector_line, note_line, due, noted_lines}
 use Rattle.dft_stil.specs.Written as form
-use Rattle.dft_stil.proofs.WrittenTokens.{cut_up, token, ahead, run_text, cut_up-vector, cut_up-end, IsLine, AVector, AnEnd, cut_up-note, note_is_line}
+use Rattle.dft_stil.proofs.WrittenTokens.{cut_up, token, ahead, run_text, cut_up-vector, cut_up-end, IsLine, AVector, cut_up-note, note_is_line}
 use Rattle.dft_stil.proofs.WrittenGroups.{grouped}
 use Rattle.dft_stil.proofs.WrittenVectors.{AllActs, Means, so_far, one_table, inputs_read, both_read}
 
@@ -121,7 +121,7 @@ notes_passed (n ∷ notes) rest l =
 
 -- ---- all lines
 
-abbrev end_text : Text
+abbrev pub end_text : Text
 end_text = codes "}\n"
 
 lines-none : (count place : ℕ) (notes : List Note) → noted_lines count place [] notes ++ end_text ≡ end_text

@@ -1,10 +1,10 @@
 -- The written declarations of signals are read.
-use Rattle.std.proofs.Common.{◌≡◌, ◌≢◌, ℕ, zero, suc, ◌+◌, ◌-◌, ◌<◌, ◌≤◌, Bool, true, false, not, cond, List, [], ◌∷◌, ◌++◌, length, map, flat_map, codes, Option, Some, None, is_some, Ok, All, AllPairs, refl, sym, ap, subst, ◌∙◌, arith, get_or, length-append, append_assoc, append-nil}
-use Rattle.std.specs.Prelude.{◌&&◌, position, nat_lt}
+use Rattle.std.proofs.Common.{◌≡◌, ◌≢◌, ℕ, zero, suc, ◌+◌, ◌-◌, ◌<◌, ◌≤◌, Bool, true, false, not, cond, List, [], ◌∷◌, ◌++◌, length, flat_map, codes, Some, None, is_some, Ok, All, AllPairs, refl, sym, ap, subst, ◌∙◌, arith, get_or, length-append, append_assoc, append-nil}
+use Rattle.std.specs.Prelude.{◌&&◌, nat_lt}
 use Rattle.std.specs.List.{prefix_len, list_all, position_or_len}
 use Rattle.std.specs.Str.{bytes_eq}
 use Rattle.std.proofs.lemmas.Bool.Decides.{nat_tests}
-use Rattle.std.proofs.lemmas.List.{get_or_append_left, map-append, length-map}
+use Rattle.std.proofs.lemmas.List.{get_or_append_left}
 use Rattle.std.proofs.lemmas.Slice.Eq.{bytes_eq-Decides}
 use Rattle.std.proofs.Math.Seq.{get_or-append_seam}
 use Rattle.dft_base.specs.Lexing.{Text}

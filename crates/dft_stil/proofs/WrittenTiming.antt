@@ -1,5 +1,5 @@
 -- The written table of waveforms is read.
-use Rattle.std.proofs.Common.{◌≡◌, ◌≢◌, ℕ, zero, suc, ◌+◌, ◌-◌, ◌*◌, ◌<◌, ◌≤◌, Bool, true, false, not, cond, List, [], ◌∷◌, ◌++◌, length, map, replicate, codes, Option, Some, None, is_some, Ok, inl, inr, ◌⊎◌, refl, sym, ap, ◌∙◌, arith, get_or, slice_set, get_or-set_same, get_or-set_other, length-append, append_assoc, append-nil}
+use Rattle.std.proofs.Common.{◌≡◌, ◌≢◌, ℕ, zero, suc, ◌+◌, ◌*◌, ◌<◌, ◌≤◌, true, false, List, [], ◌∷◌, ◌++◌, length, map, replicate, codes, Option, Some, None, Ok, inl, inr, ◌⊎◌, refl, sym, ap, ◌∙◌, arith, get_or, slice_set, get_or-set_same, get_or-set_other, length-append, append-nil}
 use Rattle.std.specs.Prelude.{slice_index_or}
 use Rattle.std.proofs.lemmas.Bool.{cases_lt}
 use Rattle.std.proofs.lemmas.List.{length-set, length-replicate}
@@ -10,7 +10,7 @@ use Rattle.dft_stil.specs.declared.act.Act.{Act}
 use Rattle.dft_stil.specs.declared.act.Act.TheVariants.{Unset, Low, High, Pulse, ExpectLow, ExpectHigh, Ignore}
 use Rattle.dft_stil.specs.declared.shapes.Event.{Event}
 use Rattle.dft_stil.specs.declared.shapes.Drawing.{Drawing}
-use Rattle.dft_stil.specs.declared.shapes.Drawing.TheVariants.{Begun, One, Two, Three, Many}
+use Rattle.dft_stil.specs.declared.shapes.Drawing.TheVariants.{One, Two, Three}
 use Rattle.dft_stil.specs.declared.signal.StilSignal.{StilSignal}
 use Rattle.dft_stil.specs.declared.text.TokenKind.{TokenKind}
 use Rattle.dft_stil.specs.declared.text.TokenKind.TheVariants as kind
@@ -18,10 +18,10 @@ use Rattle.dft_stil.specs.Acts.{IsActOf, IsTold}
 use Rattle.dft_stil.specs.Acts as acts
 use Rattle.dft_stil.specs.Lexemes.{Token}
 use Rattle.dft_stil.specs.Steps.{kind_of, bytes, left, next, sees, sees_word, sees_name, expect, after, keyword, name, sees_run, character, letter, number_from, small_number, unit}
-use Rattle.dft_stil.specs.Namings.{Names, Members, elsewhere, name_if_any, is_known}
-use Rattle.dft_stil.specs.Timings.{begins_shape, Shapes, place_in, act_of, no_shapes, with_shape, is_given, Table, empty_table, drawn, times_fit, dir_of, begin_all, time, event_letter, event, events_from, shape, shapes_from, wave, waves_from, table_body, table, tables_from, timing, Timing}
+use Rattle.dft_stil.specs.Namings.{Names, Members, elsewhere, name_if_any}
+use Rattle.dft_stil.specs.Timings.{begins_shape, Shapes, place_in, act_of, with_shape, is_given, Table, empty_table, drawn, times_fit, dir_of, begin_all, time, event_letter, event, events_from, shape, shapes_from, wave, waves_from, table_body, table, tables_from, timing, Timing}
 use Rattle.dft_stil.specs.Written.{input_waves, output_waves}
-use Rattle.dft_stil.proofs.WrittenTokens.{cut_up, token, ahead, cut_up-timing, cut_up-input_waves, cut_up-output_waves, cut_up-close, cut_up-table_end, cut_up-burst}
+use Rattle.dft_stil.proofs.WrittenTokens.{cut_up, token, ahead, cut_up-timing, cut_up-input_waves, cut_up-output_waves, cut_up-close, cut_up-table_end}
 use Rattle.dft_stil.proofs.WrittenSignals.{left-token}
 use Rattle.dft_stil.proofs.WrittenGroups.{counted, group_of, label, grown, grouped, grouped-signals, turns, enough, IsFront, close_front, timing_text}
 
@@ -51,14 +51,14 @@ unfolding counted
 same_signal from zero c a shapes i low high lc room = absurd (omega arith)
 same_signal from (suc n) c a shapes i low high lc room =
     by (cases_lt from i) (λ h. same_signal (suc from) n c a (record { acts = slice_set shapes.acts (place_in from c) (Some a) }) i (omega arith) (omega arith) lc (omega (arith, length-set shapes.acts (place_in from c) (Some a)))) where
-  by : ((from < i) ⊎ (i ≤ from)) → (from < i → act_of (with_shape (counted (suc from) n) c a (record { acts = slice_set shapes.acts (place_in from c) (Some a) })) i c ≡ Some a)
-      → act_of (with_shape (counted from (suc n)) c a shapes) i c ≡ Some a
-  by (inr h) more =
-      let here : i ≡ from = omega arith in
-      ap (λ k. act_of (with_shape (counted (suc from) n) c a (record { acts = slice_set shapes.acts (place_in from c) (Some a) })) k c) here
-      ∙ other_signal (suc from) n c a (record { acts = slice_set shapes.acts (place_in from c) (Some a) }) from c (inl (omega arith)) lc lc
-      ∙ get_or-set_same shapes.acts (place_in from c) (Some a) None (omega arith)
-  by (inl h) more = more h
+      by : ((from < i) ⊎ (i ≤ from)) → (from < i → act_of (with_shape (counted (suc from) n) c a (record { acts = slice_set shapes.acts (place_in from c) (Some a) })) i c ≡ Some a)
+          → act_of (with_shape (counted from (suc n)) c a shapes) i c ≡ Some a
+      by (inr h) more =
+          let here : i ≡ from = omega arith in
+          ap (λ k. act_of (with_shape (counted (suc from) n) c a (record { acts = slice_set shapes.acts (place_in from c) (Some a) })) k c) here
+          ∙ other_signal (suc from) n c a (record { acts = slice_set shapes.acts (place_in from c) (Some a) }) from c (inl (omega arith)) lc lc
+          ∙ get_or-set_same shapes.acts (place_in from c) (Some a) None (omega arith)
+      by (inl h) more = more h
 
 with_shape-length : (signals : List ℕ) (c : ℕ) (a : Act) (shapes : Shapes) → length (with_shape signals c a shapes).acts ≡ length shapes.acts
 with_shape-length [] c a shapes = refl

@@ -1,14 +1,13 @@
 -- The written pieces are cut into their tokens.
-use Rattle.std.proofs.Common.{◌≡◌, ℕ, zero, suc, ◌+◌, ◌-◌, ◌<◌, ◌≤◌, Bool, true, false, not, cond, eqb, ltb, List, [], ◌∷◌, ◌++◌, length, map, take, drop, codes, decimal, refl, sym, ap, ◌∙◌, arith, get_or, inl, inr, ◌⊎◌, ◌/◌, ◌%◌, length-append, append_assoc, Option, Some, None}
+use Rattle.std.proofs.Common.{◌≡◌, ℕ, zero, suc, ◌+◌, ◌-◌, ◌<◌, ◌≤◌, Bool, true, false, not, cond, eqb, ltb, List, [], ◌∷◌, ◌++◌, length, map, drop, codes, refl, ap, ◌∙◌, arith, get_or, inl, inr, ◌⊎◌, ◌/◌, ◌%◌, length-append, append_assoc, Some}
 use Rattle.std.specs.Prelude.{◌&&◌, ◌||◌}
-use Rattle.std.specs.List.{prefix_len, list_all, All}
-use Rattle.std.specs.Char.{is_ascii_digit, is_ascii_alphanumeric}
+use Rattle.std.specs.List.{prefix_len, list_all}
+use Rattle.std.specs.Char.{is_ascii_alphanumeric}
 use Rattle.std.specs.Fmt.{digits_onto, digits, digit_glyph}
 use Rattle.std.proofs.lemmas.Bool.Decides.{nat_tests}
 use Rattle.std.proofs.lemmas.List.Sums.{list_all-from_AllPass}
 use Rattle.std.proofs.Math.Seq.{take-append_seam, drop-append_seam}
 use Rattle.dft_base.specs.Lexing.{Text, Blank, Cut, tokens_from}
-use Rattle.dft_base.specs.Name.{IsName}
 use Rattle.dft_base.proofs.LexingLemmas.{tokens_from-cut, tokens_from-blank}
 use Rattle.dft_stil.specs.declared.act.Act.{Act}
 use Rattle.dft_stil.specs.declared.act.Act.TheVariants.{Unset, Low, High, Pulse, ExpectLow, ExpectHigh, Ignore}
@@ -18,7 +17,7 @@ use Rattle.dft_stil.specs.declared.notes.NoteKind.TheVariants.{SetUp, Pattern, U
 use Rattle.dft_stil.specs.declared.text.TokenKind.{TokenKind}
 use Rattle.dft_stil.specs.declared.text.TokenKind.TheVariants as kind
 use Rattle.dft_stil.specs.Acts.{IsTold, letter}
-use Rattle.dft_stil.specs.Lexemes.{Token, Lexeme, plain, is_printed, continues_name, is_in_number, to_quote, closed_quote, unclosed, token_of, quoted_behind, front, comment_rest, note_rest, gap_len, gaps_from, blank_len, mark_kind, quoted_text, word_or_note, lexeme, begins_with, index_len, word_len, semicolon_len, note_opening}
+use Rattle.dft_stil.specs.Lexemes.{Token, Lexeme, plain, is_printed, continues_name, is_in_number, to_quote, closed_quote, token_of, quoted_behind, front, comment_rest, note_rest, gap_len, gaps_from, blank_len, mark_kind, quoted_text, word_or_note, lexeme, begins_with, index_len, word_len, semicolon_len, note_opening}
 use Rattle.dft_stil.specs.Written.{note_words, note_line}
 use Rattle.dft_stil.specs.Writable.{IsQuotable}
 
@@ -335,9 +334,9 @@ no_star-digits zero n acc h = h
 no_star-digits (suc k) n acc h =
     let one : list_all no_star (digit_glyph false (n % 10) ∷ acc) ≡ true = both_true (no_star (digit_glyph false (n % 10))) _ (no_star-glyph (n % 10)) h in
     by (eqb (n / 10) 0) (digit_glyph false (n % 10) ∷ acc) (digits_onto k 10 false (n / 10) (digit_glyph false (n % 10) ∷ acc)) one (no_star-digits k (n / 10) (digit_glyph false (n % 10) ∷ acc) one) where
-  by : (t : Bool) (xs ys : Text) → list_all no_star xs ≡ true → list_all no_star ys ≡ true → list_all no_star (cond t xs ys) ≡ true
-  by true xs ys f g = f
-  by false xs ys f g = g
+      by : (t : Bool) (xs ys : Text) → list_all no_star xs ≡ true → list_all no_star ys ≡ true → list_all no_star (cond t xs ys) ≡ true
+      by true xs ys f g = f
+      by false xs ys f g = g
 
 no_star-words : (w : NoteKind) → list_all no_star (note_words w) ≡ true
 unfolding digits

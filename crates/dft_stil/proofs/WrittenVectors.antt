@@ -1,28 +1,24 @@
 -- The written vectors are read.
-use Rattle.std.proofs.Common.{◌≡◌, ℕ, zero, suc, ◌+◌, ◌-◌, ◌<◌, ◌≤◌, Bool, true, false, not, cond, List, [], ◌∷◌, ◌++◌, length, map, flat_map, take, drop, codes, Option, Some, None, Ok, inl, inr, ◌⊎◌, refl, sym, ap, subst, ◌∙◌, arith, slice_set, length-append, append_assoc, append-nil}
-use Rattle.std.specs.Prelude.{◌||◌, nat_lt}
+use Rattle.std.proofs.Common.{◌≡◌, ℕ, zero, suc, ◌+◌, ◌-◌, ◌<◌, ◌≤◌, Bool, true, false, List, [], ◌∷◌, ◌++◌, length, map, codes, Option, Some, Ok, inr, refl, sym, ap, subst, ◌∙◌, arith, slice_set, length-append, append_assoc, append-nil}
+use Rattle.std.specs.Prelude.{nat_lt}
 use Rattle.std.specs.List.{list_any}
-use Rattle.std.specs.Char.{is_ascii_alphanumeric}
-use Rattle.std.proofs.Math.Seq.{set-append_seam, take-append_seam, drop-append_seam}
+use Rattle.std.proofs.Math.Seq.{set-append_seam}
 use Rattle.std.proofs.lemmas.Bool.Decides.{nat_tests}
 use Rattle.dft_base.specs.Lexing.{Text}
 use Rattle.dft_netlist.specs.declared.port.Dir.{Dir}
 use Rattle.dft_netlist.specs.declared.port.Dir.TheVariants.{Input, Output}
 use Rattle.dft_stil.specs.declared.act.Act.{Act}
 use Rattle.dft_stil.specs.declared.act.Act.TheVariants.{Unset, Low, High, Pulse, ExpectLow, ExpectHigh, Ignore}
-use Rattle.dft_stil.specs.declared.notes.Note.{Note}
 use Rattle.dft_stil.specs.declared.signal.StilSignal.{StilSignal}
 use Rattle.dft_stil.specs.declared.text.TokenKind.{TokenKind}
 use Rattle.dft_stil.specs.declared.text.TokenKind.TheVariants as kind
 use Rattle.dft_stil.specs.Acts.{IsActOf, IsTold, letter}
 use Rattle.dft_stil.specs.Lexemes.{Token}
 use Rattle.dft_stil.specs.Steps.{kind_of, bytes, left, next, sees, sees_word, sees_name, expect, after, keyword, name}
-use Rattle.dft_stil.specs.Namings.{Names, Members, elsewhere, has}
-use Rattle.dft_stil.specs.Timings.{Shapes, Tables, act_of}
-use Rattle.dft_stil.specs.Statements.{Pattern, Filling, act_in, shapes_at, filled_by, sees_characters, run_of_characters, runs_from, characters, Vector, begun, is_told, with_told, assignment, assignments_from, vector, statement, statements_from}
-use Rattle.dft_stil.specs.Written.{vector_line, note_line, due, noted_lines}
-use Rattle.dft_stil.specs.Written as form
-use Rattle.dft_stil.proofs.WrittenTokens.{cut_up, token, ahead, AllTold, run_kind, run_text, letter_passes, cut_up-run, cut_up-vector, cut_up-ins_set, cut_up-outs_set, cut_up-vector_end, cut_up-end, IsLine, AVector, AnEnd, cut_up-note, note_is_line}
+use Rattle.dft_stil.specs.Namings.{Names, Members, elsewhere}
+use Rattle.dft_stil.specs.Timings.{Shapes, Tables}
+use Rattle.dft_stil.specs.Statements.{Pattern, Filling, act_in, shapes_at, filled_by, sees_characters, run_of_characters, runs_from, characters, Vector, begun, is_told, with_told, assignment, assignments_from, vector}
+use Rattle.dft_stil.proofs.WrittenTokens.{cut_up, token, ahead, AllTold, run_kind, run_text, letter_passes, cut_up-run, cut_up-vector, cut_up-ins_set, cut_up-outs_set, cut_up-vector_end}
 use Rattle.dft_stil.proofs.WrittenSignals.{left-token}
 use Rattle.dft_stil.proofs.WrittenGroups.{counted, has-past, group_of, grouped}
 use Rattle.dft_stil.proofs.WrittenTiming.{ins_known, outs_known}

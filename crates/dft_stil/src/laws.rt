@@ -1,6 +1,6 @@
 //! Laws about the written form, as contracts of functions that do nothing.
 
-ghost use Rattle.dft_stil.specs.Laws.{HasOneForm, HasOneReading, IsReadWellFormed};
+ghost use Rattle.dft_stil.specs.Laws.{HasOneForm, HasOneReading, HasWrittenReading, IsReadWellFormed};
 
 /// A text is the written form of at most one set of patterns.
 pub fn one_reading()
@@ -15,4 +15,9 @@ pub fn one_form()
 /// The patterns that a text stands for are well formed.
 pub fn well_formed()
     ensures { IsReadWellFormed }
+{}
+
+/// What is written is read back as its signals and its vectors.
+pub fn written_reading()
+    ensures { HasWrittenReading }
 {}
