@@ -15,4 +15,5 @@ pub mod NumberLemmas
 pub mod MemberLemmas
 pub mod NamesLemmas
 pub mod TableLemmas
+pub mod CharacterLemmas
 pub mod FlagLemmas
