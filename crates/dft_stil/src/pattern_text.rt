@@ -262,5 +262,5 @@ pub fn pattern_text(
     exec(alloc, &timing, burst, tokens)?;
     let pattern = the_pattern(alloc, most, &names, &timing, burst, tokens)?;
     tokens.expect(TokenKind::End)?;
-    Ok(PatternSet::new(names.into_signals(), pattern.vectors))
+    Ok(PatternSet::new(alloc, names.into_signals(), pattern.vectors))
 }
