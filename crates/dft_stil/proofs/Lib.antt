@@ -27,3 +27,4 @@ pub mod MemberLemmas
 pub mod NamesLemmas
 pub mod TableLemmas
 pub mod FlagLemmas
+pub mod CharacterLemmas
