@@ -15,5 +15,6 @@ pub mod NumberLemmas
 pub mod MemberLemmas
 pub mod NamesLemmas
 pub mod TableLemmas
-pub mod CharacterLemmas
+pub mod CharacterNames
 pub mod FlagLemmas
+pub mod CharacterLemmas
