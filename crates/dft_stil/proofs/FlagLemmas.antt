@@ -17,7 +17,8 @@ flag_at told n k false less e =
 swap : (a b c : Bool) → (a || (b || c)) ≡ ((b || a) || c)
 swap true true c = refl
 swap true false c = refl
-swap false b c = refl
+swap false true c = refl
+swap false false c = refl
 
 flagged : (told : List Bool) (n : ℕ) (rest : List ℕ) → n < length told → (k : ℕ) → with_told rest (told_of (slice_set told n true)) k ≡ with_told (n ∷ rest) (told_of told) k
 flagged told n rest less k = ap (λ t. has rest k || t) (flag_at told n k (n == k) less refl) ∙ swap (has rest k) (n == k) (get_or told k false)

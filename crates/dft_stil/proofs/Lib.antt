@@ -1,16 +1,5 @@
-pub mod Outcomes
-pub mod NameLemmas
-pub mod DeclarationLemmas
-pub mod VectorLemmas
-pub mod WrittenLemmas
-pub mod LineLemmas
-pub mod HeadLemmas
-pub mod ReadLemmas
 pub mod GroupLemmas
 pub mod SteadyLemmas
-pub mod FormLemmas
-pub mod SignalLemmas
-pub mod Refusals
 pub mod PatternExamples
 pub mod NoteLemmas
 pub mod KnownNameLemmas
@@ -26,7 +15,9 @@ pub mod NumberLemmas
 pub mod MemberLemmas
 pub mod NamesLemmas
 pub mod TableLemmas
+pub mod CharacterNames
 pub mod FlagLemmas
+pub mod CharacterLemmas
 pub mod WrittenTokens
 pub mod WrittenSignals
 pub mod WrittenGroups

@@ -1,13 +1,9 @@
 -- What the written form promises.
 use Rattle.std.specs.Prelude.{◌≡◌, ◌<◌, ◌≤◌, ◌^◌, ℕ, List, [], length, Ok}
-use Rattle.dft_stil.specs.Patterns.{Patterns, IsPatterns, IsWellFormed}
+use Rattle.dft_stil.specs.Patterns.{Patterns, IsWellFormed}
 use Rattle.dft_stil.specs.PatternText.{patterns_of}
 use Rattle.dft_stil.specs.Writable.{IsWritable}
 use Rattle.dft_stil.specs.Written.{noted, written}
-
--- patterns with the same written form are the same
-abbrev pub HasOneReading : Type 0
-HasOneReading = (a b : Patterns) → IsPatterns a → IsPatterns b → written a ≡ written b → a ≡ b
 
 -- without notes the two written forms are one
 abbrev pub HasOneForm : Type 0

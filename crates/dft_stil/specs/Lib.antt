@@ -3,13 +3,9 @@ pub mod Acts
 pub mod Patterns
 pub mod Shown
 pub mod Steadiness
-pub mod Heads
 pub mod Laws
 pub mod Lengths
-pub mod Lines
-pub mod Reads
 pub mod Written
-pub mod Rules
 pub mod Lexemes
 pub mod Steps
 pub mod Namings

@@ -39,19 +39,6 @@ outputs signals = drop (input_count signals) signals
 abbrev pub IsSimple : StilSignal → Type 0
 IsSimple s = is_simple_name s.name ≡ true
 
--- some signal has this name
-abbrev pub is_named : List StilSignal → List ℕ → Bool
-is_named signals name = list_any (λ s. bytes_eq s.name name) signals
-
--- no name stands twice
-abbrev pub are_distinct : List StilSignal → Bool
-are_distinct [] = true
-are_distinct (s ∷ signals) = not (is_named signals s.name) && are_distinct signals
-
--- no input is among them
-abbrev pub are_outputs : List StilSignal → Bool
-are_outputs signals = list_all (λ s. not (is_input s.dir)) signals
-
 -- signals that can be written: inputs before outputs, with simple names that all differ
 pub record IsDeclarable (signals : List StilSignal) : Type 0 where
   pub ordered : All (λ s. s.dir ≡ Output) (outputs signals)

@@ -32,7 +32,7 @@ fn act_in(
 ) -> Option<Act>
     requires wide { IfSome shapes (λ s. IsWide count s.now) }
     requires inside { signal < count }
-    ensures { result ≡ spec.act_in (option_map (λ s. s.now) shapes) signal character }
+    ensures { result ≡ spec.act_in (option_map (λ s. s.now) shapes.entry) signal character }
 {
     shapes?.act(count, signal, character)
 }
@@ -46,7 +46,7 @@ fn fill_one(
 ) -> Result<(), ReadError>
     requires wide { IfSome shapes (λ s. IsWide (length filling.old.acts) s.now) }
     requires ahead { AreBelow (length filling.old.acts) filling.old.ahead.now }
-    ensures check { Checks (λ _. filling_as filling.new) (spec.filled (option_map (λ s. s.now) shapes) place character (filling_as filling.old).ahead (filling_as filling.old)) result }
+    ensures check { Checks (λ _. filling_as filling.new) (spec.filled (option_map (λ s. s.now) shapes.entry) place character (filling_as filling.old).ahead (filling_as filling.old)) result }
     ensures ahead { OnOk result (AreBelow (length filling.new.acts) filling.new.ahead.now) }
     ensures length { OnOk result (length filling.new.acts ≡ length filling.old.acts) }
 {
@@ -73,7 +73,7 @@ fn fill(
 ) -> Result<(), ReadError>
     requires wide { IfSome shapes (λ s. IsWide (length filling.old.acts) s.now) }
     requires ahead { AreBelow (length filling.old.acts) filling.old.ahead.now }
-    ensures check { Checks (λ _. filling_as filling.new) (spec.filled_by (option_map (λ s. s.now) shapes) place characters.now (filling_as filling.old)) result }
+    ensures check { Checks (λ _. filling_as filling.new) (spec.filled_by (option_map (λ s. s.now) shapes.entry) place characters.now (filling_as filling.old)) result }
     ensures ahead { OnOk result (AreBelow (length filling.new.acts) filling.new.ahead.now) }
     ensures length { OnOk result (length filling.new.acts ≡ length filling.old.acts) }
 {
@@ -107,7 +107,7 @@ fn run(
 ) -> Result<(), ReadError>
     requires wide { IfSome shapes (λ s. IsWide (length filling.old.acts) s.now) }
     requires ahead { AreBelow (length filling.old.acts) filling.old.ahead.now }
-    ensures read { ReadsText (λ _. filling_as filling.new) (spec.run_of_characters (option_map (λ s. s.now) shapes) (filling_as filling.old) tokens.old) result tokens.new }
+    ensures read { ReadsText (λ _. filling_as filling.new) (spec.run_of_characters (option_map (λ s. s.now) shapes.entry) (filling_as filling.old) tokens.old) result tokens.new }
     ensures ahead { OnOk result (AreBelow (length filling.new.acts) filling.new.ahead.now) }
     ensures length { OnOk result (length filling.new.acts ≡ length filling.old.acts) }
 {
@@ -127,7 +127,7 @@ fn runs(
 ) -> Result<(), ReadError>
     requires wide { IfSome shapes (λ s. IsWide (length filling.old.acts) s.now) }
     requires ahead { AreBelow (length filling.old.acts) filling.old.ahead.now }
-    ensures read { ReadsText (λ _. filling_as filling.new) (spec.runs_from (left tokens.old) (option_map (λ s. s.now) shapes) (filling_as filling.old) tokens.old) result tokens.new }
+    ensures read { ReadsText (λ _. filling_as filling.new) (spec.runs_from (left tokens.old) (option_map (λ s. s.now) shapes.entry) (filling_as filling.old) tokens.old) result tokens.new }
     ensures length { OnOk result (length filling.new.acts ≡ length filling.old.acts) }
 {
     'turns: for _turn in 0..tokens.left() {
@@ -137,6 +137,14 @@ fn runs(
         }
     }
     Err(tokens.no_token())
+}
+
+#[tactic(auto, using(crate::proofs::CharacterLemmas::signals_left))]
+// Whether there was a character for each signal, and no more.
+fn is_full(filling: &Filling<'_>) -> bool
+    ensures { result ≡ spec.is_full (filling_as filling.now) }
+{
+    !filling.over && filling.ahead.is_empty()
 }
 
 #[tactic(auto, unfolding(crate::specs::Statements::characters))]
@@ -149,7 +157,7 @@ pub fn characters(
 ) -> Result<Acts, ReadError>
     requires wide { IfSome shapes (λ s. IsWide (length acts) s.now) }
     requires ahead { AreBelow (length acts) signals.now }
-    ensures read { ReadsText (λ a. a) (spec.characters (option_map (λ s. s.now) shapes) signals.now acts tokens.old) result tokens.new }
+    ensures read { ReadsText (λ a. a) (spec.characters (option_map (λ s. s.now) shapes.entry) signals.now acts tokens.old) result tokens.new }
     ensures length { IfOk result (λ a. length a ≡ length acts) }
 {
     let mut filling = Filling {
@@ -160,7 +168,7 @@ pub fn characters(
     runs(shapes, &mut filling, tokens)?;
     let place = tokens.left();
     tokens.expect(TokenKind::Semicolon)?;
-    if !filling.over && filling.ahead.is_empty() {
+    if is_full(&filling) {
         Ok(filling.acts)
     } else {
         Err(fault_at(Cause::Count, place))

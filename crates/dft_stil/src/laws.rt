@@ -1,11 +1,6 @@
 //! Laws about the written form, as contracts of functions that do nothing.
 
-ghost use Rattle.dft_stil.specs.Laws.{HasOneForm, HasOneReading, HasWrittenReading, IsReadWellFormed};
-
-/// A text is the written form of at most one set of patterns.
-pub fn one_reading()
-    ensures { HasOneReading }
-{}
+ghost use Rattle.dft_stil.specs.Laws.{HasOneForm, HasWrittenReading, IsReadWellFormed};
 
 /// Patterns without notes have one written form.
 pub fn one_form()

@@ -130,7 +130,7 @@ fn the_burst<'a>(tokens: &mut Tokens<'a>) -> Result<Burst<'a>, ReadError>
 
 // Whether a name was given so.
 fn is_name(known: Option<&[u8]>, word: &[u8]) -> bool
-    ensures { result ≡ spec.is_name (option_map (λ w. w.now) known) word.now }
+    ensures { result ≡ spec.is_name (option_map (λ w. w.now) known.entry) word.now }
 {
     match known {
         Some(known) => known == word,
@@ -145,7 +145,7 @@ fn known_name<'a>(
     known: Option<&[u8]>,
     tokens: &mut Tokens<'a>,
 ) -> Result<&'a [u8], ReadError>
-    ensures { ReadsText (λ w. w.now) (spec.known_name (option_map (λ w. w.now) known) tokens.old) result tokens.new }
+    ensures { ReadsText (λ w. w.now) (spec.known_name (option_map (λ w. w.now) known.entry) tokens.old) result tokens.new }
 {
     let place = tokens.left();
     let word = tokens.name()?;
@@ -163,7 +163,7 @@ fn known_name_if_any(
     known: Option<&[u8]>,
     tokens: &mut Tokens<'_>,
 ) -> Result<bool, ReadError>
-    ensures { ReadsText (λ b. b) (spec.known_name_if_any (option_map (λ w. w.now) known) tokens.old) result tokens.new }
+    ensures { ReadsText (λ b. b) (spec.known_name_if_any (option_map (λ w. w.now) known.entry) tokens.old) result tokens.new }
 {
     if tokens.sees(TokenKind::Semicolon) {
         return Ok(false);
@@ -262,5 +262,5 @@ pub fn pattern_text(
     exec(alloc, &timing, burst, tokens)?;
     let pattern = the_pattern(alloc, most, &names, &timing, burst, tokens)?;
     tokens.expect(TokenKind::End)?;
-    Ok(PatternSet::new(names.into_signals(), pattern.vectors))
+    Ok(PatternSet::new(alloc, names.into_signals(), pattern.vectors))
 }

@@ -59,7 +59,7 @@ fn assignments(
     requires acts { length begun.acts ≡ length names.now.signals }
     requires told { length begun.told.items ≡ length names.now.signals }
     requires wide { IfSome shapes (λ s. IsWide (length names.now.signals) s.now) }
-    ensures read { ReadsText vector_as (spec.assignments_from (left tokens.old) names.now (option_map (λ s. s.now) shapes) (vector_as begun) tokens.old) result tokens.new }
+    ensures read { ReadsText vector_as (spec.assignments_from (left tokens.old) names.now (option_map (λ s. s.now) shapes.entry) (vector_as begun) tokens.old) result tokens.new }
     ensures acts { IfOk result (λ v. length v.acts ≡ length names.now.signals) }
 {
     let mut vector = begun;

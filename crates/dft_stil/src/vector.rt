@@ -71,7 +71,7 @@ pub fn assignment(
     requires acts { length vector.acts ≡ length names.now.signals }
     requires told { length vector.told.items ≡ length names.now.signals }
     requires wide { IfSome shapes (λ s. IsWide (length names.now.signals) s.now) }
-    ensures read { ReadsText vector_as (spec.assignment names.now (option_map (λ s. s.now) shapes) (vector_as vector) tokens.old) result tokens.new }
+    ensures read { ReadsText vector_as (spec.assignment names.now (option_map (λ s. s.now) shapes.entry) (vector_as vector) tokens.old) result tokens.new }
     ensures acts { IfOk result (λ v. length v.acts ≡ length names.now.signals) }
     ensures told { IfOk result (λ v. length v.told.items ≡ length names.now.signals) }
 {
