@@ -25,3 +25,4 @@ pub mod WrittenTiming
 pub mod WrittenVectors
 pub mod WrittenLines
 pub mod WrittenStands
+pub mod WrittenExamples

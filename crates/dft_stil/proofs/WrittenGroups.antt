@@ -67,6 +67,7 @@ quoted_text s rest = ap (λ t. 34 ∷ t) (append_assoc s.name (codes "\"") rest)
 
 -- ---- the names behind the first
 
+-- the names of a list behind its first, each behind a plus
 list_behind : List StilSignal → Text
 list_behind [] = []
 list_behind (s ∷ ss) = 43 ∷ (quoted s ++ list_behind ss)
@@ -223,6 +224,7 @@ group_front d (s ∷ ss) rest h =
 pub close_front : (rest : Text) → IsFront (codes "}" ++ rest)
 close_front rest = ap left (cut_up-close rest) ∙ left-token kind.CloseBrace (codes "}") (ahead 1 rest) _
 
+-- so many turns are enough for two groups and a brace
 pub record Enough (ins outs : List StilSignal) (n : ℕ) : Type 0 where
   pub more : ℕ
   pub is : n ≡ turns ins (turns outs (suc more))
@@ -263,6 +265,7 @@ blocks-at : (a b l : ℕ) (names new : Names) (us vs : List Token) → groups_fr
 unfolding group_blocks group_blocks_from sees_groups after_groups after_word sees_word sees kind_of bytes left next group_block name_if_any sees_name expect
 blocks-at a b l names new us vs e = rw e refl
 
+-- the head of the table of waveforms, and what follows
 abbrev pub timing_text : Text → Text
 timing_text rest = codes "\nTiming {\nWaveformTable w {\nPeriod '100ns';\nWaveforms {\n" ++ rest
 

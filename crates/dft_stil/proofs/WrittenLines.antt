@@ -121,6 +121,7 @@ notes_passed (n ∷ notes) rest l =
 
 -- ---- all lines
 
+-- what ends the text
 abbrev pub end_text : Text
 end_text = codes "}\n"
 

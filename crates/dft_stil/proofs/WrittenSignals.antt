@@ -99,6 +99,7 @@ all_quotable (s ∷ ss) h = (h 0 s (omega arith), all_quotable ss (λ k d l. h (
 abbrev pub alone : List StilSignal → Names
 alone ss = record { signals = ss; group_names = []; groups = [] }
 
+-- the word of a direction
 pub dir_word : Dir → Text
 dir_word Input = codes "In"
 dir_word Output = codes "Out"

@@ -34,6 +34,7 @@ use Rattle.dft_stil.proofs.WrittenLines.{Parted, AllParted, end_text, lines_long
 
 -- ---- burst, execution and pattern
 
+-- the burst that is written
 abbrev the_burst : Burst
 the_burst = record { name = codes "b"; pattern = codes "p" }
 
@@ -58,9 +59,11 @@ text-at most first names t b p rest ts us vs ws xs ys e f g h i j = rw (e, f, g,
 
 -- ---- the text in its parts
 
+-- all between declarations and burst, and what follows
 abbrev middle_text : List StilSignal → List StilSignal → Text → Text
 middle_text ins outs rest = codes "}" ++ (codes "\nSignalGroups {\n" ++ (form.group (codes "ins") ins ++ (form.group (codes "outs") outs ++ (codes "}" ++ timing_text (input_waves ins ++ (output_waves outs ++ (codes "}" ++ (codes "\n}\n}\n" ++ rest))))))))
 
+-- the burst, its execution and the head of the pattern, and what follows
 abbrev tail_text : Text → Text
 tail_text rest = codes "PatternBurst b { PatList { p; } }\n" ++ (codes "PatternExec { PatternBurst b; }\n" ++ (codes "Pattern p {\nW w;\n" ++ rest))
 

@@ -75,6 +75,7 @@ not_given from (suc n) c shapes h = rw (h from (omega arith)) (not_given (suc fr
 
 -- ---- directions of signals
 
+-- each signal has this direction
 abbrev pub AllDir : Dir → List StilSignal → Type 0
 AllDir d [] = Unit {0}
 AllDir d (s ∷ ss) = (s.dir ≡ d) × AllDir d ss
@@ -100,6 +101,7 @@ all_begin names d from (suc n) drawing h b = rw (h from (omega arith) (omega ari
 
 -- ---- shapes
 
+-- an event
 abbrev pub at : (letter time : ℕ) → Event
 at letter time = record { letter = letter; time = time }
 
@@ -205,6 +207,7 @@ output_shapes names from n t rest free dirs =
 abbrev input_tokens : Text → List Token
 input_tokens rest = token kind.Number (codes "0") (ahead 67 rest) ∷ token kind.OpenBrace (codes "{") (ahead 65 rest) ∷ token kind.Quote (codes "'") (ahead 63 rest) ∷ token kind.Number (codes "0") (ahead 62 rest) ∷ token kind.Word (codes "ns") (ahead 61 rest) ∷ token kind.Quote (codes "'") (ahead 59 rest) ∷ token kind.Word (codes "D") (ahead 57 rest) ∷ token kind.Semicolon (codes ";") (ahead 56 rest) ∷ token kind.CloseBrace (codes "}") (ahead 54 rest) ∷ token kind.Number (codes "1") (ahead 52 rest) ∷ token kind.OpenBrace (codes "{") (ahead 50 rest) ∷ token kind.Quote (codes "'") (ahead 48 rest) ∷ token kind.Number (codes "0") (ahead 47 rest) ∷ token kind.Word (codes "ns") (ahead 46 rest) ∷ token kind.Quote (codes "'") (ahead 44 rest) ∷ token kind.Word (codes "U") (ahead 42 rest) ∷ token kind.Semicolon (codes ";") (ahead 41 rest) ∷ token kind.CloseBrace (codes "}") (ahead 39 rest) ∷ token kind.Word (codes "P") (ahead 37 rest) ∷ token kind.OpenBrace (codes "{") (ahead 35 rest) ∷ token kind.Quote (codes "'") (ahead 33 rest) ∷ token kind.Number (codes "0") (ahead 32 rest) ∷ token kind.Word (codes "ns") (ahead 31 rest) ∷ token kind.Quote (codes "'") (ahead 29 rest) ∷ token kind.Word (codes "D") (ahead 27 rest) ∷ token kind.Semicolon (codes ";") (ahead 26 rest) ∷ token kind.Quote (codes "'") (ahead 24 rest) ∷ token kind.Number (codes "50") (ahead 23 rest) ∷ token kind.Word (codes "ns") (ahead 21 rest) ∷ token kind.Quote (codes "'") (ahead 19 rest) ∷ token kind.Word (codes "U") (ahead 17 rest) ∷ token kind.Semicolon (codes ";") (ahead 16 rest) ∷ token kind.Quote (codes "'") (ahead 14 rest) ∷ token kind.Number (codes "80") (ahead 13 rest) ∷ token kind.Word (codes "ns") (ahead 11 rest) ∷ token kind.Quote (codes "'") (ahead 9 rest) ∷ token kind.Word (codes "D") (ahead 7 rest) ∷ token kind.Semicolon (codes ";") (ahead 6 rest) ∷ token kind.CloseBrace (codes "}") (ahead 4 rest) ∷ token kind.CloseBrace (codes "}") (ahead 2 rest) ∷ cut_up false rest
 
+-- the same of outputs
 abbrev output_tokens : Text → List Token
 output_tokens rest = token kind.Word (codes "L") (ahead 67 rest) ∷ token kind.OpenBrace (codes "{") (ahead 65 rest) ∷ token kind.Quote (codes "'") (ahead 63 rest) ∷ token kind.Number (codes "0") (ahead 62 rest) ∷ token kind.Word (codes "ns") (ahead 61 rest) ∷ token kind.Quote (codes "'") (ahead 59 rest) ∷ token kind.Word (codes "X") (ahead 57 rest) ∷ token kind.Semicolon (codes ";") (ahead 56 rest) ∷ token kind.Quote (codes "'") (ahead 54 rest) ∷ token kind.Number (codes "40") (ahead 53 rest) ∷ token kind.Word (codes "ns") (ahead 51 rest) ∷ token kind.Quote (codes "'") (ahead 49 rest) ∷ token kind.Word (codes "L") (ahead 47 rest) ∷ token kind.Semicolon (codes ";") (ahead 46 rest) ∷ token kind.CloseBrace (codes "}") (ahead 44 rest) ∷ token kind.Word (codes "H") (ahead 42 rest) ∷ token kind.OpenBrace (codes "{") (ahead 40 rest) ∷ token kind.Quote (codes "'") (ahead 38 rest) ∷ token kind.Number (codes "0") (ahead 37 rest) ∷ token kind.Word (codes "ns") (ahead 36 rest) ∷ token kind.Quote (codes "'") (ahead 34 rest) ∷ token kind.Word (codes "X") (ahead 32 rest) ∷ token kind.Semicolon (codes ";") (ahead 31 rest) ∷ token kind.Quote (codes "'") (ahead 29 rest) ∷ token kind.Number (codes "40") (ahead 28 rest) ∷ token kind.Word (codes "ns") (ahead 26 rest) ∷ token kind.Quote (codes "'") (ahead 24 rest) ∷ token kind.Word (codes "H") (ahead 22 rest) ∷ token kind.Semicolon (codes ";") (ahead 21 rest) ∷ token kind.CloseBrace (codes "}") (ahead 19 rest) ∷ token kind.Word (codes "X") (ahead 17 rest) ∷ token kind.OpenBrace (codes "{") (ahead 15 rest) ∷ token kind.Quote (codes "'") (ahead 13 rest) ∷ token kind.Number (codes "0") (ahead 12 rest) ∷ token kind.Word (codes "ns") (ahead 11 rest) ∷ token kind.Quote (codes "'") (ahead 9 rest) ∷ token kind.Word (codes "X") (ahead 7 rest) ∷ token kind.Semicolon (codes ";") (ahead 6 rest) ∷ token kind.CloseBrace (codes "}") (ahead 4 rest) ∷ token kind.CloseBrace (codes "}") (ahead 2 rest) ∷ cut_up false rest
 
@@ -275,6 +278,7 @@ timing-at : (names : Names) (t : Table) (rest : Text) (us vs : List Token) (a b 
 unfolding timing tables_from table table_body time small_number unit number_from name name_if_any sees_name keyword sees_word sees kind_of bytes left next expect after
 timing-at names t rest us vs a b e fit = rw (e, fit) refl
 
+-- no act
 abbrev no_act : Option Act
 no_act = None
 

@@ -25,6 +25,7 @@ use Rattle.dft_stil.specs.Writable.{IsQuotable}
 unfoldable pub cut_up : (quoted : Bool) → Text → List Token
 cut_up quoted text = tokens_from front quoted 0 text
 
+-- a token of a kind with these bytes, and so many bytes left
 abbrev pub token : TokenKind → Text → ℕ → Token
 token k bytes left = record { kind = k; bytes = bytes; left = left }
 
@@ -172,6 +173,7 @@ no_quote b low high other = grind (arith, nat_tests, other)
 printed : (b : ℕ) → 33 ≤ b → b ≤ 126 → (b ≡ 34 → ⊥) → is_printed b ≡ true
 printed b low high other = grind (arith, nat_tests)
 
+-- a name in double quotes
 abbrev quoted_lexeme : Text → Lexeme
 quoted_lexeme name = record { kind = kind.Quoted; len = suc (suc (length name)); prefix = 1; end = suc (length name); at = 0 }
 
@@ -309,6 +311,7 @@ pub data Opening : Type 0 where
   ANote : Opening
   AnEnd : Opening
 
+-- the byte that begins such a line
 abbrev pub opening : Opening → ℕ
 opening AVector = 86
 opening ANote = 65
@@ -320,6 +323,7 @@ pub record IsLine (text : Text) : Type 0 where
   pub more : Text
   pub is : text ≡ opening what ∷ more
 
+-- the byte does not begin the end of an annotation
 abbrev no_star : ℕ → Bool
 no_star b = not (eqb b 42)
 
