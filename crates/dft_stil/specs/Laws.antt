@@ -1,8 +1,18 @@
 -- What the written form promises.
-use Rattle.std.specs.Prelude.{◌≡◌}
-use Rattle.dft_stil.specs.Patterns.{Patterns, IsPatterns}
-use Rattle.dft_stil.specs.Written.{written}
+use Rattle.std.specs.Prelude.{◌≡◌, ◌<◌, ◌≤◌, ◌^◌, ℕ, List, [], length, Ok}
+use Rattle.dft_stil.specs.Patterns.{Patterns, IsWellFormed}
+use Rattle.dft_stil.specs.PatternText.{patterns_of}
+use Rattle.dft_stil.specs.Writable.{IsWritable}
+use Rattle.dft_stil.specs.Written.{noted, written}
 
--- patterns with the same written form are the same
-abbrev pub HasOneReading : Type 0
-HasOneReading = (a b : Patterns) → IsPatterns a → IsPatterns b → written a ≡ written b → a ≡ b
+-- without notes the two written forms are one
+abbrev pub HasOneForm : Type 0
+HasOneForm = (p : Patterns) → p.notes ≡ [] → noted p ≡ written p
+
+-- what a text stands for, of which a reader takes fewer than 2 ^ 32 vectors, is well formed
+abbrev pub IsReadWellFormed : Type 0
+IsReadWellFormed = (most : ℕ) (text : List ℕ) (p : Patterns) → patterns_of most text ≡ Ok p → most < 2 ^ 32 → IsWellFormed p
+
+-- what is written stands for its signals and its vectors
+abbrev pub HasWrittenReading : Type 0
+HasWrittenReading = (most : ℕ) (p : Patterns) → IsWellFormed p → IsWritable p → length p.vectors ≤ most → patterns_of most (noted p) ≡ Ok (record { signals = p.signals; vectors = p.vectors; notes = [] })

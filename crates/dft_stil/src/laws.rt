@@ -1,8 +1,18 @@
 //! Laws about the written form, as contracts of functions that do nothing.
 
-ghost use Rattle.dft_stil.specs.Laws.{HasOneReading};
+ghost use Rattle.dft_stil.specs.Laws.{HasOneForm, HasWrittenReading, IsReadWellFormed};
 
-/// A text is the written form of at most one set of patterns.
-pub fn one_reading()
-    ensures { HasOneReading }
+/// Patterns without notes have one written form.
+pub fn one_form()
+    ensures { HasOneForm }
+{}
+
+/// The patterns that a text stands for are well formed.
+pub fn well_formed()
+    ensures { IsReadWellFormed }
+{}
+
+/// What is written is read back as its signals and its vectors.
+pub fn written_reading()
+    ensures { HasWrittenReading }
 {}
