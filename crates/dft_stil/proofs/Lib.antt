@@ -17,3 +17,4 @@ pub mod NamesLemmas
 pub mod TableLemmas
 pub mod FlagLemmas
 pub mod CharacterLemmas
+pub mod ReaderLemmas

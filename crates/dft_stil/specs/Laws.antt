@@ -1,7 +1,7 @@
 -- What the written form promises.
 use Rattle.std.specs.Prelude.{◌≡◌, ◌<◌, ◌^◌, ℕ, List, [], Ok}
 use Rattle.dft_stil.specs.Patterns.{Patterns, IsWellFormed}
-use Rattle.dft_stil.specs.PatternText.{patterns_of}
+use Rattle.dft_stil.specs.PatternText.{StandsFor, patterns_of}
 use Rattle.dft_stil.specs.Written.{noted, written}
 
 -- without notes the two written forms are one
@@ -11,3 +11,7 @@ HasOneForm = (p : Patterns) → p.notes ≡ [] → noted p ≡ written p
 -- what a text stands for, of which a reader takes fewer than 2 ^ 32 vectors, is well formed
 abbrev pub IsReadWellFormed : Type 0
 IsReadWellFormed = (most : ℕ) (text : List ℕ) (p : Patterns) → patterns_of most text ≡ Ok p → most < 2 ^ 32 → IsWellFormed p
+
+-- a text stands for one set of patterns at most
+abbrev pub StandsForOne : Type 0
+StandsForOne = (text : List ℕ) (p q : Patterns) → StandsFor text p → StandsFor text q → p ≡ q
