@@ -9,6 +9,7 @@ use Rattle.dft_netlist.specs.declared.port.Dir.{Dir}
 use Rattle.dft_netlist.specs.declared.port.Dir.TheVariants.{Input, Output}
 use Rattle.dft_stil.specs.declared.act.Act.{Act}
 use Rattle.dft_stil.specs.declared.act.Act.TheVariants.{Unset}
+use Rattle.dft_stil.specs.declared.reader.TheConstants.{MAX_VECTORS}
 use Rattle.dft_stil.specs.declared.signal.StilSignal.{StilSignal}
 use Rattle.dft_stil.specs.declared.steadiness.Unsteady.{Unsteady}
 use Rattle.dft_stil.specs.declared.text.TokenKind.TheVariants as kind
@@ -216,4 +217,4 @@ written_reads most p well writable room =
     ∙ steady_told p well.steady
 
 pub written_stands : HasWrittenReading
-written_stands = written_reads
+written_stands = written_reads MAX_VECTORS
