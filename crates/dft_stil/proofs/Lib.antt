@@ -15,6 +15,15 @@ pub mod NumberLemmas
 pub mod MemberLemmas
 pub mod NamesLemmas
 pub mod TableLemmas
+pub mod CharacterNames
 pub mod FlagLemmas
 pub mod CharacterLemmas
 pub mod ReaderLemmas
+pub mod WrittenTokens
+pub mod WrittenSignals
+pub mod WrittenGroups
+pub mod WrittenTiming
+pub mod WrittenVectors
+pub mod WrittenLines
+pub mod WrittenStands
+pub mod WrittenExamples

@@ -1,7 +1,8 @@
 -- What the written form promises.
-use Rattle.std.specs.Prelude.{◌≡◌, ◌<◌, ◌^◌, ℕ, List, [], Ok}
+use Rattle.std.specs.Prelude.{◌≡◌, ◌<◌, ◌≤◌, ◌^◌, ℕ, List, [], length, Ok}
 use Rattle.dft_stil.specs.Patterns.{Patterns, IsWellFormed}
 use Rattle.dft_stil.specs.PatternText.{StandsFor, patterns_of}
+use Rattle.dft_stil.specs.Writable.{IsWritable}
 use Rattle.dft_stil.specs.Written.{noted, written}
 
 -- without notes the two written forms are one
@@ -15,3 +16,7 @@ IsReadWellFormed = (most : ℕ) (text : List ℕ) (p : Patterns) → patterns_of
 -- a text stands for one set of patterns at most
 abbrev pub StandsForOne : Type 0
 StandsForOne = (text : List ℕ) (p q : Patterns) → StandsFor text p → StandsFor text q → p ≡ q
+
+-- what is written stands for its signals and its vectors
+abbrev pub HasWrittenReading : Type 0
+HasWrittenReading = (most : ℕ) (p : Patterns) → IsWellFormed p → IsWritable p → length p.vectors ≤ most → patterns_of most (noted p) ≡ Ok (record { signals = p.signals; vectors = p.vectors; notes = [] })

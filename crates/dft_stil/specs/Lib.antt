@@ -24,3 +24,4 @@ pub mod KnownNamesShown
 pub mod MembersShown
 pub mod TokensAhead
 pub mod Reading
+pub mod Writable

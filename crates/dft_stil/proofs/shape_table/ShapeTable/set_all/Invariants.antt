@@ -5,6 +5,6 @@ use Rattle.dft_stil.proofs.shape_table.ShapeTable.set_all.Given as goal
 
 abbrev pub invariant-loop-signal : goal.invariant-loop-signal
 invariant-loop-signal l = record {
-  same : spec.with_shape (drop l.signal-index l.signals) l.character l.act (record { acts = l.self.acts.items }) ≡ spec.with_shape l.signals l.character l.act l.fn.self;
-  wide : IsWide l.count (record { acts = l.self.acts.items });
+  same : spec.with_shape (drop l.signal-index l.signals) l.character l.act (record { acts = l.self-inside.acts.items }) ≡ spec.with_shape l.signals l.character l.act l.fn.self;
+  wide : IsWide l.count (record { acts = l.self-inside.acts.items });
 }
