@@ -1,8 +1,6 @@
 //! Laws about the written form, as contracts of functions that do nothing.
 
-ghost use Rattle.dft_stil.specs.Laws.{
-    HasOneForm, HasWrittenReading, IsReadWellFormed, StandsForOne,
-};
+ghost use Rattle.dft_stil.specs.Laws.{HasOneForm, HasWrittenReading, IsReadWellFormed, StandsForOne};
 
 /// Patterns without notes have one written form.
 pub fn one_form()
