@@ -18,6 +18,7 @@ pub mod TableLemmas
 pub mod CharacterNames
 pub mod FlagLemmas
 pub mod CharacterLemmas
+pub mod ReaderLemmas
 pub mod WrittenTokens
 pub mod WrittenSignals
 pub mod WrittenGroups

@@ -4,6 +4,7 @@ use Rattle.dft_base.specs.Lexing.{Text}
 use Rattle.dft_base.specs.Parser.{value_of}
 use Rattle.dft_stil.specs.declared.signal.StilSignal.{StilSignal}
 use Rattle.dft_stil.specs.declared.text.TokenKind.TheVariants as kind
+use Rattle.dft_stil.specs.declared.text.Fault.{Fault}
 use Rattle.dft_stil.specs.declared.steadiness.Unsteady.{Unsteady}
 use Rattle.dft_stil.specs.Patterns.{Patterns, IsVector, IsWellFormed}
 use Rattle.dft_stil.specs.Steadiness.{first_unsteady}
@@ -45,6 +46,18 @@ text_fits most =
       few = h.few;
       fits = h.vectors;
     }))))))))))))
+
+abbrev pattern_or : Patterns → Result Patterns Fault → Patterns
+pattern_or d (Ok p) = p
+pattern_or d (Err f) = d
+
+value_fitting : (most : ℕ) (o : Outcome Patterns) (p : Patterns) → GivesOf (IsFitting most) o → value_of o ≡ Ok p → IsFitting most p
+value_fitting most (Ok q) p h e = subst (λ (r : Patterns). IsFitting most r) (ap (pattern_or p) e) (h q.0 q.1 refl)
+value_fitting most (Err f) p h e = absurd (true≢false (sym (ap is_ok e)))
+
+-- what a text says before its pulses are tested
+pub fitting : (most : ℕ) (text : Text) (p : Patterns) → value_of (pattern_text most (tokens text)) ≡ Ok p → IsFitting most p
+fitting most text p e = value_fitting most (pattern_text most (tokens text)) p (text_fits most (tokens text)) e
 
 value_fits : (most : ℕ) (o : Outcome Patterns) (p : Patterns) → GivesOf (IsFitting most) o → spec.tested (value_of o) ≡ Ok p → (IsFitting most p) × (first_unsteady p ≡ None)
 value_fits most (Ok q) p h e = steady q.0 (first_unsteady q.0) refl (h q.0 q.1 refl) e where

@@ -1,7 +1,8 @@
 -- What the written form promises.
 use Rattle.std.specs.Prelude.{◌≡◌, ◌<◌, ◌≤◌, ◌^◌, ℕ, List, [], length, Ok}
+use Rattle.dft_stil.specs.declared.reader.TheConstants.{MAX_VECTORS}
 use Rattle.dft_stil.specs.Patterns.{Patterns, IsWellFormed}
-use Rattle.dft_stil.specs.PatternText.{patterns_of}
+use Rattle.dft_stil.specs.PatternText.{StandsFor, patterns_of}
 use Rattle.dft_stil.specs.Writable.{IsWritable}
 use Rattle.dft_stil.specs.Written.{noted, written}
 
@@ -13,6 +14,10 @@ HasOneForm = (p : Patterns) → p.notes ≡ [] → noted p ≡ written p
 abbrev pub IsReadWellFormed : Type 0
 IsReadWellFormed = (most : ℕ) (text : List ℕ) (p : Patterns) → patterns_of most text ≡ Ok p → most < 2 ^ 32 → IsWellFormed p
 
+-- a text stands for one set of patterns at most
+abbrev pub StandsForOne : Type 0
+StandsForOne = (text : List ℕ) (p q : Patterns) → StandsFor text p → StandsFor text q → p ≡ q
+
 -- what is written stands for its signals and its vectors
 abbrev pub HasWrittenReading : Type 0
-HasWrittenReading = (most : ℕ) (p : Patterns) → IsWellFormed p → IsWritable p → length p.vectors ≤ most → patterns_of most (noted p) ≡ Ok (record { signals = p.signals; vectors = p.vectors; notes = [] })
+HasWrittenReading = (p : Patterns) → IsWellFormed p → IsWritable p → length p.vectors ≤ MAX_VECTORS → StandsFor (noted p) (record { signals = p.signals; vectors = p.vectors; notes = [] })

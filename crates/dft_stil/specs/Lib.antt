@@ -12,6 +12,7 @@ pub mod Namings
 pub mod Timings
 pub mod Statements
 pub mod PatternText
+pub mod Refusals
 pub mod Cut
 pub mod PatternShown
 pub mod VectorShown

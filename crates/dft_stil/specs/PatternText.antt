@@ -9,6 +9,7 @@ use Rattle.dft_stil.specs.declared.text.Cause.TheVariants as cause
 use Rattle.dft_stil.specs.declared.text.Fault.{Fault}
 use Rattle.dft_stil.specs.declared.act.Act.TheVariants as act
 use Rattle.dft_stil.specs.declared.steadiness.Unsteady.{Unsteady}
+use Rattle.dft_stil.specs.declared.reader.TheConstants.{MAX_VECTORS}
 use Rattle.dft_stil.specs.Lexemes.{tokens}
 use Rattle.dft_stil.specs.Steps.{Rule, kind_of, bytes, left, next, sees, refuse, mark_refusal, expect, eat_word, keyword, name, needed, fault}
 use Rattle.dft_stil.specs.Namings.{Names, signals_block, group_blocks, name_if_any}
@@ -152,10 +153,14 @@ pub data Refusal : Type 0 where
   At : (fault : Fault) → Refusal
   Unsteadily : (vector : ℕ) → (name : Text) → Refusal
 
+-- the name of a signal by number
+abbrev pub name_of_signal : Patterns → ℕ → Text
+name_of_signal p signal = slice_index_or (map (λ s. s.name) p.signals) signal []
+
 -- the patterns, where their pulses are steady
 abbrev pub steady_or : Patterns → Option Unsteady → Result Patterns Refusal
 steady_or p None = Ok p
-steady_or p (Some u) = Err (Unsteadily u.vector (slice_index_or (map (λ s. s.name) p.signals) u.signal []))
+steady_or p (Some u) = Err (Unsteadily u.vector (name_of_signal p u.signal))
 
 abbrev pub tested : Result Patterns Fault → Result Patterns Refusal
 tested (Ok p) = steady_or p (first_unsteady p)
@@ -165,6 +170,6 @@ tested (Err f) = Err (At f)
 unfoldable pub patterns_of : (most : ℕ) → Text → Result Patterns Refusal
 patterns_of most text = tested (value_of (pattern_text most (tokens text)))
 
--- the text stands for these patterns
+-- The text stands for these patterns. There may be 4194304 vectors at most.
 abbrev pub StandsFor : Text → Patterns → Type 0
-StandsFor text p = (most : ℕ) × (patterns_of most text ≡ Ok p)
+StandsFor text p = patterns_of MAX_VECTORS text ≡ Ok p

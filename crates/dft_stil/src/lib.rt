@@ -4,6 +4,7 @@
 mod act;
 mod blanks;
 mod characters;
+mod error;
 mod faults;
 mod known_names;
 mod laws;
@@ -33,10 +34,12 @@ mod write_error;
 mod writer;
 
 pub use act::{Act, Acts};
-pub use laws::{one_form, well_formed, written_reading};
+pub use blanks::MAX_TEXT;
+pub use error::StilError;
+pub use laws::{one_form, one_reading, well_formed, written_reading};
 pub use notes::{Note, NoteKind};
 pub use pattern_set::PatternSet;
-pub use reader::MAX_TEXT;
+pub use reader::{MAX_VECTORS, read};
 pub use shapes::{Drawing, Event};
 pub use signal::StilSignal;
 pub use steadiness::{Unsteady, first_unsteady};

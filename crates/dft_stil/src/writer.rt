@@ -6,10 +6,10 @@ ghost use Rattle.dft_stil.specs.Written as form;
 ghost use Rattle.dft_stil.specs.Lengths.{TellsLength};
 
 use crate::act::{Act, Acts};
+use crate::blanks::MAX_TEXT;
 use crate::middle::middle;
 use crate::notes::{Note, NoteKind};
 use crate::pattern_set::PatternSet;
-use crate::reader::MAX_TEXT;
 use crate::signal::{StilSignal, groups, input_count};
 use crate::write_error::WriteError;
 use dft_netlist::Dir;
