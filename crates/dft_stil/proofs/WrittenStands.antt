@@ -20,7 +20,7 @@ use Rattle.dft_stil.specs.Steps.{Outcome, kind_of, bytes, left, next, sees, sees
 use Rattle.dft_stil.specs.Namings.{Names, signals_block, group_blocks, name_if_any}
 use Rattle.dft_stil.specs.Timings.{Timing, Table, timing}
 use Rattle.dft_stil.specs.Statements.{Pattern, table_used, statement, statements_from}
-use Rattle.dft_stil.specs.PatternText.{version, header_if_any, Burst, burst, known_name, used_timing, exec, pattern, pattern_text, steady_or, tested, patterns_of}
+use Rattle.dft_stil.specs.PatternText.{version, header_if_any, Burst, burst, known_name, used_timing, exec, executed, pattern, pattern_text, steady_or, tested, patterns_of}
 use Rattle.dft_stil.specs.Written.{declaration, input_waves, output_waves, middle, head, noted_lines, noted}
 use Rattle.dft_stil.specs.Written as form
 use Rattle.dft_stil.specs.Laws.{HasWrittenReading}
@@ -43,7 +43,7 @@ unfolding burst keyword sees_word sees kind_of bytes next name sees_name expect
 burst-at rest us = refl
 
 exec-at : (table : Table) (rest : Text) (us : List Token) → exec (record { name = None; tables = one_table table.shapes }) the_burst (token kind.Word (codes "PatternExec") (ahead 32 rest) ∷ token kind.OpenBrace (codes "{") (ahead 20 rest) ∷ token kind.Word (codes "PatternBurst") (ahead 18 rest) ∷ token kind.Word (codes "b") (ahead 5 rest) ∷ token kind.Semicolon (codes ";") (ahead 4 rest) ∷ token kind.CloseBrace (codes "}") (ahead 2 rest) ∷ us) ≡ Ok (true, us)
-unfolding exec keyword sees_word sees kind_of bytes left next name sees_name expect name_if_any used_timing after_word known_name
+unfolding exec executed keyword sees_word sees kind_of bytes left next name sees_name expect name_if_any used_timing after_word known_name
 exec-at table rest us = refl
 
 pattern-at : (most : ℕ) (names : Names) (table : Table) (rest : Text) (us : List Token)

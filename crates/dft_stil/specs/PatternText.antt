@@ -104,17 +104,22 @@ used_timing t = do
   found ← eat_word (codes "Timing")
   if found then known_name_if_any t.name >> expect kind.Semicolon >> pure true else pure false
 
+-- the burst that is executed, and the end of the block
+unfoldable pub executed : Burst → Rule Bool
+executed b = do
+  keyword (codes "PatternBurst")
+  known_name (Some b.name)
+  expect kind.Semicolon
+  expect kind.CloseBrace
+  pure true
+
 unfoldable pub exec : Timing → Burst → Rule Bool
 exec t b = do
   keyword (codes "PatternExec")
   name_if_any
   expect kind.OpenBrace
   used_timing t
-  keyword (codes "PatternBurst")
-  known_name (Some b.name)
-  expect kind.Semicolon
-  expect kind.CloseBrace
-  pure true
+  executed b
 
 -- ---- the pattern
 

@@ -189,6 +189,22 @@ fn used_timing(
     Ok(true)
 }
 
+#[tactic(auto, unfolding(crate::specs::PatternText::executed))]
+// The burst that is executed, and the end of the block.
+fn executed(
+    alloc: Global,
+    burst: Burst<'_>,
+    tokens: &mut Tokens<'_>,
+) -> Result<bool, ReadError>
+    ensures { ReadsText (λ b. b) (spec.executed (burst_as burst.entry) tokens.old) result tokens.new }
+{
+    tokens.keyword(b"PatternBurst")?;
+    known_name(alloc, Some(burst.name), tokens)?;
+    tokens.expect(TokenKind::Semicolon)?;
+    tokens.expect(TokenKind::CloseBrace)?;
+    Ok(true)
+}
+
 #[tactic(auto, unfolding(crate::specs::PatternText::exec))]
 // What is executed.
 fn exec(
@@ -203,11 +219,7 @@ fn exec(
     name_if_any(tokens)?;
     tokens.expect(TokenKind::OpenBrace)?;
     used_timing(alloc, timing, tokens)?;
-    tokens.keyword(b"PatternBurst")?;
-    known_name(alloc, Some(burst.name), tokens)?;
-    tokens.expect(TokenKind::Semicolon)?;
-    tokens.expect(TokenKind::CloseBrace)?;
-    Ok(true)
+    executed(alloc, burst, tokens)
 }
 
 // A pattern that has no vector yet.
