@@ -1,5 +1,6 @@
 -- What the written form promises.
 use Rattle.std.specs.Prelude.{◌≡◌, ◌<◌, ◌≤◌, ◌^◌, ℕ, List, [], length, Ok}
+use Rattle.dft_stil.specs.declared.reader.TheConstants.{MAX_VECTORS}
 use Rattle.dft_stil.specs.Patterns.{Patterns, IsWellFormed}
 use Rattle.dft_stil.specs.PatternText.{StandsFor, patterns_of}
 use Rattle.dft_stil.specs.Writable.{IsWritable}
@@ -19,4 +20,4 @@ StandsForOne = (text : List ℕ) (p q : Patterns) → StandsFor text p → Stand
 
 -- what is written stands for its signals and its vectors
 abbrev pub HasWrittenReading : Type 0
-HasWrittenReading = (most : ℕ) (p : Patterns) → IsWellFormed p → IsWritable p → length p.vectors ≤ most → patterns_of most (noted p) ≡ Ok (record { signals = p.signals; vectors = p.vectors; notes = [] })
+HasWrittenReading = (p : Patterns) → IsWellFormed p → IsWritable p → length p.vectors ≤ MAX_VECTORS → StandsFor (noted p) (record { signals = p.signals; vectors = p.vectors; notes = [] })
