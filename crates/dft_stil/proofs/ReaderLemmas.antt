@@ -83,7 +83,7 @@ from_inside f n count (acts ∷ vectors) u h e =
     (λ g. let r = from_inside f (suc n) count vectors u (λ k d l. h (suc k) d (omega arith)) g in (let less = r.0 in omega arith, r.1)) e
 
 pub found_vector : (p : Patterns) (u : Unsteady) → HaveLength (length p.signals) p.vectors → first_unsteady p ≡ Some u → u.vector < length p.vectors
-found_vector p u h e = (from_inside (pulses p.vectors) 0 (length p.signals) p.vectors u h e).0
+found_vector p u h e = (let r = from_inside (pulses p.vectors) 0 (length p.signals) p.vectors u h e in omega (arith, r.0))
 
 pub found_signal : (p : Patterns) (u : Unsteady) → HaveLength (length p.signals) p.vectors → first_unsteady p ≡ Some u → u.signal < length p.signals
 found_signal p u h e = (from_inside (pulses p.vectors) 0 (length p.signals) p.vectors u h e).1
