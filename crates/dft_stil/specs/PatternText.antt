@@ -135,6 +135,15 @@ pattern most names t b = do
   expect kind.OpenBrace
   λ ts. statements_from (left ts) most names t.tables (no_vector_of (length names.signals)) ts
 
+-- the burst, what is executed and the pattern, and no token behind
+unfoldable pub pattern_part : (most : ℕ) → Names → Timing → Rule Patterns
+pattern_part most names t = do
+  b ← burst
+  exec t b
+  p ← pattern most names t b
+  expect kind.End
+  pure (record { signals = names.signals; vectors = p.vectors; notes = [] })
+
 -- the whole text
 unfoldable pub pattern_text : (most : ℕ) → Rule Patterns
 pattern_text most = do
@@ -145,11 +154,7 @@ pattern_text most = do
   signals ← signals_block
   names ← group_blocks signals
   t ← timing names
-  b ← burst
-  exec t b
-  p ← pattern most names t b
-  expect kind.End
-  pure (record { signals = names.signals; vectors = p.vectors; notes = [] })
+  pattern_part most names t
 
 -- ---- what a reader gives
 

@@ -257,6 +257,25 @@ fn the_pattern(
     Ok(pattern)
 }
 
+#[tactic(auto, unfolding(crate::specs::PatternText::pattern_part))]
+// The burst, what is executed and the pattern, and no token behind.
+fn pattern_part(
+    alloc: Global,
+    most: usize,
+    names: Names,
+    timing: &Timing<'_>,
+    tokens: &mut Tokens<'_>,
+) -> Result<PatternSet, ReadError>
+    requires { AreWide (length names.signals) timing.now.tables }
+    ensures { ReadsText (λ set. set) (spec.pattern_part most names (timing_as timing.now) tokens.old) result tokens.new }
+{
+    let burst = the_burst(tokens)?;
+    exec(alloc, timing, burst, tokens)?;
+    let pattern = the_pattern(alloc, most, &names, timing, burst, tokens)?;
+    tokens.expect(TokenKind::End)?;
+    Ok(PatternSet::new(alloc, names.into_signals(), pattern.vectors))
+}
+
 #[tactic(auto, unfolding(crate::specs::PatternText::pattern_text))]
 /// The whole text, with so many vectors at most.
 pub fn pattern_text(
@@ -273,9 +292,5 @@ pub fn pattern_text(
     let mut names = signals_block(alloc, tokens)?;
     group_blocks(alloc, &mut names, tokens)?;
     let timing = timing_block(alloc, &names, tokens)?;
-    let burst = the_burst(tokens)?;
-    exec(alloc, &timing, burst, tokens)?;
-    let pattern = the_pattern(alloc, most, &names, &timing, burst, tokens)?;
-    tokens.expect(TokenKind::End)?;
-    Ok(PatternSet::new(alloc, names.into_signals(), pattern.vectors))
+    pattern_part(alloc, most, names, &timing, tokens)
 }
