@@ -9,18 +9,20 @@ use Rattle.dft_netlist.specs.declared.port.Dir.{Dir}
 use Rattle.dft_netlist.specs.declared.port.Dir.TheVariants.{Input, Output}
 use Rattle.dft_stil.specs.declared.act.Act.{Act}
 use Rattle.dft_stil.specs.declared.act.Act.TheVariants.{Unset}
+use Rattle.dft_stil.specs.declared.reader.TheConstants.{MAX_VECTORS}
 use Rattle.dft_stil.specs.declared.signal.StilSignal.{StilSignal}
 use Rattle.dft_stil.specs.declared.steadiness.Unsteady.{Unsteady}
 use Rattle.dft_stil.specs.declared.text.TokenKind.TheVariants as kind
 use Rattle.dft_stil.specs.Acts.{IsActOf, IsTold}
 use Rattle.dft_stil.specs.Lexemes.{Token, tokens}
-use Rattle.dft_stil.specs.Patterns.{Patterns, IsSteady, is_input, input_count, inputs, outputs}
+use Rattle.dft_stil.specs.Patterns.{Patterns, IsWellFormed, IsSteady, is_input, input_count, inputs, outputs}
 use Rattle.dft_stil.specs.Steadiness.{first_unsteady}
 use Rattle.dft_stil.specs.Steps.{Outcome, kind_of, bytes, left, next, sees, sees_word, sees_name, expect, after, after_word, keyword, name}
 use Rattle.dft_stil.specs.Namings.{Names, signals_block, group_blocks, name_if_any}
 use Rattle.dft_stil.specs.Timings.{Timing, Table, timing}
 use Rattle.dft_stil.specs.Statements.{Pattern, table_used, statement, statements_from}
 use Rattle.dft_stil.specs.PatternText.{version, header_if_any, Burst, burst, known_name, used_timing, exec, executed, pattern, pattern_part, pattern_text, steady_or, tested, patterns_of}
+use Rattle.dft_stil.specs.Writable.{IsWritable}
 use Rattle.dft_stil.specs.Written.{declaration, input_waves, output_waves, middle, head, noted_lines, noted}
 use Rattle.dft_stil.specs.Written as form
 use Rattle.dft_stil.specs.Laws.{HasWrittenReading}
@@ -199,9 +201,10 @@ cut_up-is text = refl
 steady_told : (p : Patterns) → IsSteady p → steady_or (record { signals = p.signals; vectors = p.vectors; notes = [] }) (first_unsteady (record { signals = p.signals; vectors = p.vectors; notes = [] })) ≡ Ok (record { signals = p.signals; vectors = p.vectors; notes = [] })
 steady_told p h = ap (steady_or (record { signals = p.signals; vectors = p.vectors; notes = [] })) (none_unsteady _ p refl h)
 
-pub written_stands : HasWrittenReading
+-- what a reader of so many vectors at most gives of what is written
+pub written_reads : (most : ℕ) (p : Patterns) → IsWellFormed p → IsWritable p → length p.vectors ≤ most → patterns_of most (noted p) ≡ Ok (record { signals = p.signals; vectors = p.vectors; notes = [] })
 unfolding patterns_of
-written_stands most p well writable room =
+written_reads most p well writable room =
     let ss : List StilSignal = p.signals in
     let ins : List StilSignal = inputs ss in
     let outs : List StilSignal = outputs ss in
@@ -212,3 +215,6 @@ written_stands most p well writable room =
     ap (λ ts. tested (value_of (pattern_text most ts))) (cut_up-is (noted p) ∙ ap (cut_up false) (noted-parts p ∙ ap (λ ss. codes "STIL 1.0;\nSignals {\n" ++ (flat_map declaration ss ++ middle_text ins outs (tail_text (all_lines p)))) (sym is)))
     ∙ ap (λ (o : Outcome Patterns). tested (value_of o)) (text_reads most (input_count ss) ins outs p (sym is) (sym (length-prefix_len (λ (s : StilSignal). is_input s.dir) ss)) (inputs_dir ss) (outputs_dir outs writable.ordered) quotable new full writable.some room)
     ∙ steady_told p well.steady
+
+pub written_stands : HasWrittenReading
+written_stands = written_reads MAX_VECTORS

@@ -1,5 +1,6 @@
 -- What the written form promises.
 use Rattle.std.specs.Prelude.{◌≡◌, ◌<◌, ◌≤◌, ◌^◌, ℕ, List, [], length, Ok}
+use Rattle.dft_stil.specs.declared.reader.TheConstants.{MAX_VECTORS}
 use Rattle.dft_stil.specs.Patterns.{Patterns, IsWellFormed}
 use Rattle.dft_stil.specs.PatternText.{StandsFor, patterns_of}
 use Rattle.dft_stil.specs.Writable.{IsWritable}
@@ -17,6 +18,10 @@ IsReadWellFormed = (most : ℕ) (text : List ℕ) (p : Patterns) → patterns_of
 abbrev pub StandsForOne : Type 0
 StandsForOne = (text : List ℕ) (p q : Patterns) → StandsFor text p → StandsFor text q → p ≡ q
 
--- what is written stands for its signals and its vectors
+-- a text that is read as the signals and the vectors of these patterns, where they are well formed, can be written, and are no more than a text may have
+abbrev pub ReadsBack : Patterns → (text : List ℕ) → Type 0
+ReadsBack p text = IsWellFormed p → IsWritable p → length p.vectors ≤ MAX_VECTORS → StandsFor text (record { signals = p.signals; vectors = p.vectors; notes = [] })
+
+-- what is written is read back
 abbrev pub HasWrittenReading : Type 0
-HasWrittenReading = (most : ℕ) (p : Patterns) → IsWellFormed p → IsWritable p → length p.vectors ≤ most → patterns_of most (noted p) ≡ Ok (record { signals = p.signals; vectors = p.vectors; notes = [] })
+HasWrittenReading = (p : Patterns) → ReadsBack p (noted p)

@@ -15,8 +15,8 @@ use crate::namings::{group_blocks, name_if_any, signals_block};
 use crate::pattern_set::PatternSet;
 use crate::read_error::ReadError;
 use crate::statements::{Pattern, statements};
-use crate::timings::{Timing, timing_block};
 use crate::text::{Cause, TokenKind};
+use crate::timings::{Timing, timing_block};
 use crate::tokens::Tokens;
 use std::alloc::{AllocError, Global};
 
@@ -51,7 +51,10 @@ fn depth_behind(kind: TokenKind, depth: usize) -> usize
 fn ends_block(kind: TokenKind) -> bool
     ensures { result ≡ spec.ends_block kind }
 {
-    matches!(kind, TokenKind::Illegal | TokenKind::Unclosed | TokenKind::End)
+    matches!(
+        kind,
+        TokenKind::Illegal | TokenKind::Unclosed | TokenKind::End
+    )
 }
 
 // Where a token is refused in a block.
