@@ -1,5 +1,5 @@
 -- What a text stands for, and why it is refused.
-use Rattle.std.proofs.Common.{◌≡◌, ℕ, suc, ◌<◌, ◌≤◌, ◌+◌, ◌-◌, ◌&&◌, Bool, true, false, cond, true≢false, List, [], ◌∷◌, length, take, min, get_or, All, Option, Some, None, is_some, Result, Ok, Err, is_ok, pos, refl, sym, ap, subst, ◌∙◌, arith}
+use Rattle.std.proofs.Common.{◌≡◌, ℕ, suc, ◌<◌, ◌≤◌, ◌+◌, ◌-◌, ◌&&◌, Bool, true, false, cond, true≢false, List, [], ◌∷◌, length, take, min, get_or, All, Option, Some, None, is_some, Result, Ok, Err, is_ok, IfOk, pos, refl, sym, ap, subst, ◌∙◌, arith}
 use Rattle.dft_base.specs.Lexing.{Text, place_of, place_after}
 use Rattle.dft_base.specs.Parser.{value_of}
 use Rattle.dft_base.specs.declared.place.Place.{Place}
@@ -13,7 +13,9 @@ use Rattle.dft_stil.specs.declared.error.StilError.{StilError}
 use Rattle.dft_stil.specs.declared.error.StilError.TheVariants as told
 use Rattle.dft_stil.specs.declared.reader.TheConstants.{MAX_VECTORS}
 use Rattle.dft_stil.specs.Laws.{StandsForOne}
-use Rattle.dft_stil.specs.Lexemes.{tokens}
+use Rattle.dft_stil.specs.declared.read_error.ReadError.{ReadError}
+use Rattle.dft_stil.specs.Reading.{ReadsText}
+use Rattle.dft_stil.specs.Lexemes.{Token, tokens}
 use Rattle.dft_stil.specs.Patterns.{Patterns, IsVector, IsWellFormed}
 use Rattle.dft_stil.specs.PatternText.{pattern_text, patterns_of, tested, steady_or, StandsFor, At, Unsteadily, Refusal, name_of_signal}
 use Rattle.dft_stil.specs.Refusals.{IsFirstRefusal, IsRefused, IsFirstUnsteady, IsUnsteadyAs, told_at, told_of}
@@ -46,7 +48,14 @@ have_length most text p e k d l = vector_length p.signals (get_or p.vectors k d)
 pub have_few : (most : ℕ) (text : Text) (p : Patterns) → value_of (pattern_text most (tokens text)) ≡ Ok p → length p.vectors ≤ most
 have_few most text p e = (fitting most text p e).few
 
-pub ruleset lengths = (have_length, have_few)
+-- the same of what a reader of tokens gives
+pub lengths_read : (most : ℕ) (text : Text) (start rest : List Token) (r : Result Patterns ReadError) → start ≡ tokens text → ReadsText (λ p. p) (pattern_text most start) r rest → IfOk r (λ p. HaveLength (length p.signals) p.vectors)
+lengths_read most text start rest (Ok p) s h = have_length most text p (ap value_of (ap (pattern_text most) (sym s) ∙ h))
+lengths_read most text start rest (Err e) s h = tt
+
+pub few_read : (most : ℕ) (text : Text) (start rest : List Token) (r : Result Patterns ReadError) → start ≡ tokens text → ReadsText (λ p. p) (pattern_text most start) r rest → IfOk r (λ p. length p.vectors ≤ most)
+few_read most text start rest (Ok p) s h = have_few most text p (ap value_of (ap (pattern_text most) (sym s) ∙ h))
+few_read most text start rest (Err e) s h = tt
 
 -- ---- the first one that is not low
 
@@ -83,7 +92,7 @@ from_inside f n count (acts ∷ vectors) u h e =
     (λ g. let r = from_inside f (suc n) count vectors u (λ k d l. h (suc k) d (omega arith)) g in (let less = r.0 in omega arith, r.1)) e
 
 pub found_vector : (p : Patterns) (u : Unsteady) → HaveLength (length p.signals) p.vectors → first_unsteady p ≡ Some u → u.vector < length p.vectors
-found_vector p u h e = (from_inside (pulses p.vectors) 0 (length p.signals) p.vectors u h e).0
+found_vector p u h e = (let r = from_inside (pulses p.vectors) 0 (length p.signals) p.vectors u h e in omega (arith, r.0))
 
 pub found_signal : (p : Patterns) (u : Unsteady) → HaveLength (length p.signals) p.vectors → first_unsteady p ≡ Some u → u.signal < length p.signals
 found_signal p u h e = (from_inside (pulses p.vectors) 0 (length p.signals) p.vectors u h e).1

@@ -13,7 +13,7 @@ use Rattle.dft_stil.specs.Steps.{Outcome, left, expect, keyword}
 use Rattle.dft_stil.specs.Namings.{Names, signals_block, group_blocks}
 use Rattle.dft_stil.specs.Timings.{Timing, timing}
 use Rattle.dft_stil.specs.PatternText as spec
-use Rattle.dft_stil.specs.PatternText.{version, header_if_any, burst, exec, known_name, pattern, pattern_text, patterns_of}
+use Rattle.dft_stil.specs.PatternText.{version, header_if_any, burst, exec, known_name, pattern, pattern_part, pattern_text, patterns_of}
 use Rattle.dft_stil.proofs.GivenRules.{Gives, GivesOf, after_any, then_gives, pure_gives}
 use Rattle.dft_stil.proofs.SteadyLemmas.{none_is_steady}
 use Rattle.dft_stil.proofs.WellNamed.{Differ, Keeps, block_differs, groups_kept}
@@ -35,7 +35,7 @@ pub record IsFitting (most : ℕ) (p : Patterns) : Type 0 where
   pub fits : All (λ acts. IsVector p.signals acts) p.vectors
 
 text_fits : (most : ℕ) → Gives (IsFitting most) (pattern_text most)
-unfolding pattern_text
+unfolding pattern_text pattern_part
 text_fits most =
     after_any (IsFitting most) (keyword _) _ (λ a. after_any (IsFitting most) version _ (λ b. after_any (IsFitting most) (expect kind.Semicolon) _ (λ c. after_any (IsFitting most) header_if_any _ (λ d.
     then_gives Differ (IsFitting most) signals_block _ block_differs (λ first differ. then_gives (Keeps first) (IsFitting most) (group_blocks first) _ (groups_kept first) (λ names kept.

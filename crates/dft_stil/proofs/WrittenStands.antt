@@ -21,7 +21,7 @@ use Rattle.dft_stil.specs.Steps.{Outcome, kind_of, bytes, left, next, sees, sees
 use Rattle.dft_stil.specs.Namings.{Names, signals_block, group_blocks, name_if_any}
 use Rattle.dft_stil.specs.Timings.{Timing, Table, timing}
 use Rattle.dft_stil.specs.Statements.{Pattern, table_used, statement, statements_from}
-use Rattle.dft_stil.specs.PatternText.{version, header_if_any, Burst, burst, known_name, used_timing, exec, pattern, pattern_text, steady_or, tested, patterns_of}
+use Rattle.dft_stil.specs.PatternText.{version, header_if_any, Burst, burst, known_name, used_timing, exec, executed, pattern, pattern_part, pattern_text, steady_or, tested, patterns_of}
 use Rattle.dft_stil.specs.Writable.{IsWritable}
 use Rattle.dft_stil.specs.Written.{declaration, input_waves, output_waves, middle, head, noted_lines, noted}
 use Rattle.dft_stil.specs.Written as form
@@ -45,7 +45,7 @@ unfolding burst keyword sees_word sees kind_of bytes next name sees_name expect
 burst-at rest us = refl
 
 exec-at : (table : Table) (rest : Text) (us : List Token) → exec (record { name = None; tables = one_table table.shapes }) the_burst (token kind.Word (codes "PatternExec") (ahead 32 rest) ∷ token kind.OpenBrace (codes "{") (ahead 20 rest) ∷ token kind.Word (codes "PatternBurst") (ahead 18 rest) ∷ token kind.Word (codes "b") (ahead 5 rest) ∷ token kind.Semicolon (codes ";") (ahead 4 rest) ∷ token kind.CloseBrace (codes "}") (ahead 2 rest) ∷ us) ≡ Ok (true, us)
-unfolding exec keyword sees_word sees kind_of bytes left next name sees_name expect name_if_any used_timing after_word known_name
+unfolding exec executed keyword sees_word sees kind_of bytes left next name sees_name expect name_if_any used_timing after_word known_name
 exec-at table rest us = refl
 
 pattern-at : (most : ℕ) (names : Names) (table : Table) (rest : Text) (us : List Token)
@@ -56,7 +56,7 @@ pattern-at most names table rest us = refl
 text-at : (most : ℕ) (first names : Names) (t : Timing) (b : Burst) (p : Pattern) (rest : Text) (ts us vs ws xs ys : List Token) → signals_block (token kind.Word (codes "Signals") (ahead 10 rest) ∷ token kind.OpenBrace (codes "{") (ahead 2 rest) ∷ ts) ≡ Ok (first, us)
     → group_blocks first us ≡ Ok (names, vs) → timing names vs ≡ Ok (t, ws) → burst ws ≡ Ok (b, xs) → exec t b xs ≡ Ok (true, ys) → pattern most names t b ys ≡ Ok (p, [])
     → pattern_text most (token kind.Word (codes "STIL") (ahead 20 rest) ∷ token kind.Number (codes "1.0") (ahead 15 rest) ∷ token kind.Semicolon (codes ";") (ahead 12 rest) ∷ token kind.Word (codes "Signals") (ahead 10 rest) ∷ token kind.OpenBrace (codes "{") (ahead 2 rest) ∷ ts) ≡ Ok (record { signals = names.signals; vectors = p.vectors; notes = [] }, [])
-unfolding pattern_text version header_if_any keyword sees_word after_word sees kind_of bytes left next expect
+unfolding pattern_text pattern_part version header_if_any keyword sees_word after_word sees kind_of bytes left next expect
 text-at most first names t b p rest ts us vs ws xs ys e f g h i j = rw (e, f, g, h, i, j) refl
 
 -- ---- the text in its parts

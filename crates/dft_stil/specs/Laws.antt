@@ -18,6 +18,10 @@ IsReadWellFormed = (most : ℕ) (text : List ℕ) (p : Patterns) → patterns_of
 abbrev pub StandsForOne : Type 0
 StandsForOne = (text : List ℕ) (p q : Patterns) → StandsFor text p → StandsFor text q → p ≡ q
 
--- what is written stands for its signals and its vectors
+-- a text that is read as the signals and the vectors of these patterns, where they are well formed, can be written, and are no more than a text may have
+abbrev pub ReadsBack : Patterns → (text : List ℕ) → Type 0
+ReadsBack p text = IsWellFormed p → IsWritable p → length p.vectors ≤ MAX_VECTORS → StandsFor text (record { signals = p.signals; vectors = p.vectors; notes = [] })
+
+-- what is written is read back
 abbrev pub HasWrittenReading : Type 0
-HasWrittenReading = (p : Patterns) → IsWellFormed p → IsWritable p → length p.vectors ≤ MAX_VECTORS → StandsFor (noted p) (record { signals = p.signals; vectors = p.vectors; notes = [] })
+HasWrittenReading = (p : Patterns) → ReadsBack p (noted p)

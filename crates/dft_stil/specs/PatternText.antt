@@ -104,17 +104,22 @@ used_timing t = do
   found ← eat_word (codes "Timing")
   if found then known_name_if_any t.name >> expect kind.Semicolon >> pure true else pure false
 
+-- the burst that is executed, and the end of the block
+unfoldable pub executed : Burst → Rule Bool
+executed b = do
+  keyword (codes "PatternBurst")
+  known_name (Some b.name)
+  expect kind.Semicolon
+  expect kind.CloseBrace
+  pure true
+
 unfoldable pub exec : Timing → Burst → Rule Bool
 exec t b = do
   keyword (codes "PatternExec")
   name_if_any
   expect kind.OpenBrace
   used_timing t
-  keyword (codes "PatternBurst")
-  known_name (Some b.name)
-  expect kind.Semicolon
-  expect kind.CloseBrace
-  pure true
+  executed b
 
 -- ---- the pattern
 
@@ -130,6 +135,15 @@ pattern most names t b = do
   expect kind.OpenBrace
   λ ts. statements_from (left ts) most names t.tables (no_vector_of (length names.signals)) ts
 
+-- the burst, what is executed and the pattern, and no token behind
+unfoldable pub pattern_part : (most : ℕ) → Names → Timing → Rule Patterns
+pattern_part most names t = do
+  b ← burst
+  exec t b
+  p ← pattern most names t b
+  expect kind.End
+  pure (record { signals = names.signals; vectors = p.vectors; notes = [] })
+
 -- the whole text
 unfoldable pub pattern_text : (most : ℕ) → Rule Patterns
 pattern_text most = do
@@ -140,11 +154,7 @@ pattern_text most = do
   signals ← signals_block
   names ← group_blocks signals
   t ← timing names
-  b ← burst
-  exec t b
-  p ← pattern most names t b
-  expect kind.End
-  pure (record { signals = names.signals; vectors = p.vectors; notes = [] })
+  pattern_part most names t
 
 -- ---- what a reader gives
 

@@ -24,12 +24,7 @@ pub struct Filling<'a> {
 }
 
 // What a character means for a signal in a table, if there is one.
-fn act_in(
-    shapes: Option<&ShapeTable>,
-    count: usize,
-    signal: usize,
-    character: u8,
-) -> Option<Act>
+fn act_in(shapes: Option<&ShapeTable>, count: usize, signal: usize, character: u8) -> Option<Act>
     requires wide { IfSome shapes (λ s. IsWide count s.now) }
     requires inside { signal < count }
     ensures { result ≡ spec.act_in (option_map (λ s. s.now) shapes.entry) signal character }

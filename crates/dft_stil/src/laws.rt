@@ -1,6 +1,6 @@
 //! Laws about the written form, as contracts of functions that do nothing.
 
-ghost use Rattle.dft_stil.specs.Laws.{HasOneForm, HasWrittenReading, IsReadWellFormed, StandsForOne};
+ghost use Rattle.dft_stil.specs.Laws.{HasOneForm, IsReadWellFormed, StandsForOne};
 
 /// Patterns without notes have one written form.
 pub fn one_form()
@@ -15,9 +15,4 @@ pub fn well_formed()
 /// A text stands for one set of patterns at most.
 pub fn one_reading()
     ensures { StandsForOne }
-{}
-
-/// What is written is read back as its signals and its vectors.
-pub fn written_reading()
-    ensures { HasWrittenReading }
 {}

@@ -133,11 +133,29 @@ fn closed_quote(len: usize, printed: usize) -> Lexeme
     ensures printed { carries_name result.kind ≡ true → (0 < len) × (len ≤ printed) }
 {
     if len == 0 {
-        Lexeme { kind: TokenKind::Text, len: 2, prefix: 1, end: 1, at: 0 }
+        Lexeme {
+            kind: TokenKind::Text,
+            len: 2,
+            prefix: 1,
+            end: 1,
+            at: 0,
+        }
     } else if printed < len {
-        Lexeme { kind: TokenKind::Text, len: 2 + len, prefix: 1, end: 1 + len, at: 1 + printed }
+        Lexeme {
+            kind: TokenKind::Text,
+            len: 2 + len,
+            prefix: 1,
+            end: 1 + len,
+            at: 1 + printed,
+        }
     } else {
-        Lexeme { kind: TokenKind::Quoted, len: 2 + len, prefix: 1, end: 1 + len, at: 0 }
+        Lexeme {
+            kind: TokenKind::Quoted,
+            len: 2 + len,
+            prefix: 1,
+            end: 1 + len,
+            at: 0,
+        }
     }
 }
 

@@ -36,7 +36,7 @@ mod writer;
 pub use act::{Act, Acts};
 pub use blanks::MAX_TEXT;
 pub use error::StilError;
-pub use laws::{one_form, one_reading, well_formed, written_reading};
+pub use laws::{one_form, one_reading, well_formed};
 pub use notes::{Note, NoteKind};
 pub use pattern_set::PatternSet;
 pub use reader::{MAX_VECTORS, read};

@@ -148,7 +148,12 @@ impl Names {
     }
 
     /// Adds a group, whose name no other has.
-    pub fn add_group(&mut self, alloc: Global, word: &[u8], members: Members) -> Result<(), AllocError>
+    pub fn add_group(
+        &mut self,
+        alloc: Global,
+        word: &[u8],
+        members: Members,
+    ) -> Result<(), AllocError>
         requires fresh { spec.number_of self.old.group_names word.now ≡ None }
         requires inside { AreBelow (length self.old.signals) members.signals }
         ensures { OnOk result (self.new ≡ spec.with_group self.old word.now members) }

@@ -206,7 +206,11 @@ fn all_groups(alloc: Global, names: &mut Names, tokens: &mut Tokens<'_>) -> Resu
 
 #[tactic(auto, unfolding(crate::specs::Namings::group_blocks))]
 /// All blocks of groups.
-pub fn group_blocks(alloc: Global, names: &mut Names, tokens: &mut Tokens<'_>) -> Result<(), ReadError>
+pub fn group_blocks(
+    alloc: Global,
+    names: &mut Names,
+    tokens: &mut Tokens<'_>,
+) -> Result<(), ReadError>
     ensures { ReadsText (λ _. names.new) (spec.group_blocks names.old tokens.old) result tokens.new }
 {
     all_groups(alloc, names, tokens)

@@ -15,8 +15,8 @@ use crate::namings::{group_blocks, name_if_any, signals_block};
 use crate::pattern_set::PatternSet;
 use crate::read_error::ReadError;
 use crate::statements::{Pattern, statements};
-use crate::timings::{Timing, timing_block};
 use crate::text::{Cause, TokenKind};
+use crate::timings::{Timing, timing_block};
 use crate::tokens::Tokens;
 use std::alloc::{AllocError, Global};
 
@@ -51,7 +51,10 @@ fn depth_behind(kind: TokenKind, depth: usize) -> usize
 fn ends_block(kind: TokenKind) -> bool
     ensures { result ≡ spec.ends_block kind }
 {
-    matches!(kind, TokenKind::Illegal | TokenKind::Unclosed | TokenKind::End)
+    matches!(
+        kind,
+        TokenKind::Illegal | TokenKind::Unclosed | TokenKind::End
+    )
 }
 
 // Where a token is refused in a block.
@@ -189,6 +192,22 @@ fn used_timing(
     Ok(true)
 }
 
+#[tactic(auto, unfolding(crate::specs::PatternText::executed))]
+// The burst that is executed, and the end of the block.
+fn executed(
+    alloc: Global,
+    burst: Burst<'_>,
+    tokens: &mut Tokens<'_>,
+) -> Result<bool, ReadError>
+    ensures { ReadsText (λ b. b) (spec.executed (burst_as burst.entry) tokens.old) result tokens.new }
+{
+    tokens.keyword(b"PatternBurst")?;
+    known_name(alloc, Some(burst.name), tokens)?;
+    tokens.expect(TokenKind::Semicolon)?;
+    tokens.expect(TokenKind::CloseBrace)?;
+    Ok(true)
+}
+
 #[tactic(auto, unfolding(crate::specs::PatternText::exec))]
 // What is executed.
 fn exec(
@@ -203,11 +222,7 @@ fn exec(
     name_if_any(tokens)?;
     tokens.expect(TokenKind::OpenBrace)?;
     used_timing(alloc, timing, tokens)?;
-    tokens.keyword(b"PatternBurst")?;
-    known_name(alloc, Some(burst.name), tokens)?;
-    tokens.expect(TokenKind::Semicolon)?;
-    tokens.expect(TokenKind::CloseBrace)?;
-    Ok(true)
+    executed(alloc, burst, tokens)
 }
 
 // A pattern that has no vector yet.
@@ -242,6 +257,25 @@ fn the_pattern(
     Ok(pattern)
 }
 
+#[tactic(auto, unfolding(crate::specs::PatternText::pattern_part))]
+// The burst, what is executed and the pattern, and no token behind.
+fn pattern_part(
+    alloc: Global,
+    most: usize,
+    names: Names,
+    timing: &Timing<'_>,
+    tokens: &mut Tokens<'_>,
+) -> Result<PatternSet, ReadError>
+    requires { AreWide (length names.signals) timing.now.tables }
+    ensures { ReadsText (λ set. set) (spec.pattern_part most names (timing_as timing.now) tokens.old) result tokens.new }
+{
+    let burst = the_burst(tokens)?;
+    exec(alloc, timing, burst, tokens)?;
+    let pattern = the_pattern(alloc, most, &names, timing, burst, tokens)?;
+    tokens.expect(TokenKind::End)?;
+    Ok(PatternSet::new(alloc, names.into_signals(), pattern.vectors))
+}
+
 #[tactic(auto, unfolding(crate::specs::PatternText::pattern_text))]
 /// The whole text, with so many vectors at most.
 pub fn pattern_text(
@@ -258,9 +292,5 @@ pub fn pattern_text(
     let mut names = signals_block(alloc, tokens)?;
     group_blocks(alloc, &mut names, tokens)?;
     let timing = timing_block(alloc, &names, tokens)?;
-    let burst = the_burst(tokens)?;
-    exec(alloc, &timing, burst, tokens)?;
-    let pattern = the_pattern(alloc, most, &names, &timing, burst, tokens)?;
-    tokens.expect(TokenKind::End)?;
-    Ok(PatternSet::new(alloc, names.into_signals(), pattern.vectors))
+    pattern_part(alloc, most, names, &timing, tokens)
 }

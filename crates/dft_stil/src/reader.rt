@@ -26,7 +26,6 @@ use std::alloc::Global;
 /// The most vectors that a pattern text may have.
 pub const MAX_VECTORS: usize = 4_194_304;
 
-#[tactic(auto, using(crate::proofs::ReaderLemmas::lengths))]
 // The patterns of a text, steady or not.
 fn patterns(alloc: Global, bytes: &[u8]) -> Result<PatternSet, ReadError>
     requires { length bytes.now ≤ MAX_TEXT }

@@ -96,7 +96,9 @@ fn vector(
     let begun = begun(alloc, pattern.acts.as_slice())?;
     let shapes = shapes_at(tables, pattern.table);
     let vector = assignments(alloc, names, shapes, begun, tokens)?;
-    pattern.vectors.push(Acts::copied(alloc, vector.acts.as_slice())?)?;
+    pattern
+        .vectors
+        .push(Acts::copied(alloc, vector.acts.as_slice())?)?;
     pattern.acts = vector.acts;
     Ok(())
 }

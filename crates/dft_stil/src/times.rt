@@ -64,7 +64,10 @@ impl Times {
     fn with_setting(self, time: u64) -> Times
         ensures { result ≡ spec.with_setting time self }
     {
-        Times { last_setting: later(self.last_setting, time), ..self }
+        Times {
+            last_setting: later(self.last_setting, time),
+            ..self
+        }
     }
 
     fn with_strobe(self, time: u64) -> Times
@@ -91,7 +94,10 @@ impl Times {
     fn with_last(self, time: u64) -> Times
         ensures { result ≡ spec.with_last time self }
     {
-        Times { last: later(self.last, time), ..self }
+        Times {
+            last: later(self.last, time),
+            ..self
+        }
     }
 
     fn with_event(self, event: Event) -> Times
@@ -112,7 +118,9 @@ impl Times {
             Drawing::One(a) => self.with_event(a).with_last(a.time),
             Drawing::Two(_, b) => self.with_strobe(b.time).with_last(b.time),
             Drawing::Three(a, b, c) => {
-                self.with_setting(a.time).with_pulse(b.time, c.time).with_last(c.time)
+                self.with_setting(a.time)
+                    .with_pulse(b.time, c.time)
+                    .with_last(c.time)
             }
             _ => self,
         }

@@ -144,7 +144,8 @@ fn shape(
     }
     tokens.expect(TokenKind::OpenBrace)?;
     let drawing = events(alloc, names, signals, tokens)?;
-    table.shapes
+    table
+        .shapes
         .set_all(names.count(), signals, character, act_drawn(drawing));
     table.times = table.times.with_times(drawing);
     Ok(())
@@ -215,7 +216,11 @@ fn waves(
 
 #[tactic(auto, unfolding(crate::specs::Timings::table_body))]
 // What stands in a table. At its last brace its times must fit.
-fn table_body(alloc: Global, names: &Names, tokens: &mut Tokens<'_>) -> Result<ShapeTable, ReadError>
+fn table_body(
+    alloc: Global,
+    names: &Names,
+    tokens: &mut Tokens<'_>,
+) -> Result<ShapeTable, ReadError>
     ensures read { ReadsText (λ s. s) (spec.table_body names.now tokens.old) result tokens.new }
     ensures wide { IfOk result (λ s. IsWide (length names.now.signals) s) }
 {

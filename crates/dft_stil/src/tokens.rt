@@ -128,7 +128,11 @@ impl<'a> Tokens<'a> {
     {
         let bytes = self.bytes();
         let (_, rest) = self.ahead.split_at(self.front.len);
-        *self = Tokens::ahead(self.alloc, rest, quoted_behind(self.front.kind, self.quoted));
+        *self = Tokens::ahead(
+            self.alloc,
+            rest,
+            quoted_behind(self.front.kind, self.quoted),
+        );
         bytes
     }
 

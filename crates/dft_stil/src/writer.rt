@@ -3,6 +3,7 @@
 ghost use Rattle.std.specs.Prelude.{◌≡◌, ◌≤◌, ◌++◌, length, flat_map, map, OnOk, IfOk, IfErr};
 ghost use Rattle.dft_stil.specs.Acts as letters;
 ghost use Rattle.dft_stil.specs.Written as form;
+ghost use Rattle.dft_stil.specs.Laws.{ReadsBack};
 ghost use Rattle.dft_stil.specs.Lengths.{TellsLength};
 
 use crate::act::{Act, Acts};
@@ -158,10 +159,12 @@ fn text_of(alloc: Global, set: &PatternSet) -> Result<Vec<u8>, AllocError>
 }
 
 /// The written form (IEEE 1450-1999, one text for each set of patterns), with each note on a line before its vector.
-/// P6 where it is longer than a pattern text may be.
+/// It is read back as the same signals and vectors, where the set is well formed and can be written. P6 where the text is
+/// longer than a pattern text may be.
 pub fn write(alloc: Global, set: &PatternSet) -> Result<Vec<u8>, WriteError>
     ensures ok { IfOk result (λ bytes. bytes.items ≡ form.noted set.now) }
     ensures short { IfOk result (λ bytes. length bytes.items ≤ MAX_TEXT) }
+    ensures reads { IfOk result (λ bytes. ReadsBack set.now bytes.items) }
     ensures long { IfErr result (TellsLength (form.noted set.now)) }
 {
     let text = text_of(alloc, set)?;
