@@ -42,9 +42,9 @@ static LINES: [(&str, &str, &str); 47] = [
     (
         SIGNALS,
         "Timing t{WaveformTable w{Period'1000000000ns",
-        "P1 2:34",
+        "P1 2:33",
     ),
-    (SIGNALS, "Timing t{WaveformTable w{Period'5Ns", "P2 2:35 Ns"),
+    (SIGNALS, "Timing t{WaveformTable w{Period'5Ns", "P2 2:34 Ns"),
     (
         SIGNALS,
         "Timing{}PatternBurst b{PatList{p;}}PatternExec{PatternBurst e;",
@@ -66,13 +66,13 @@ static LINES: [(&str, &str, &str); 47] = [
     (
         SHAPES,
         "c{P{'0ns'D;'50ns'U;'80ns'D;}}q{H{'60ns'H;}}}}",
-        "P8 2:46",
+        "P8 2:45",
     ),
     (SHAPES, "c{0{'100ns'D;}}}}", "P8 2:17"),
     (
         SHAPES,
         "c{0{'50ns'D;}P{'0ns'D;'50ns'U;'80ns'D;}}}}",
-        "P8 2:43",
+        "P8 2:42",
     ),
     (VECTORS, "}", "ok"),
     (VECTORS, "V{c=P;d=1;}V{c=0;q=H;}}", "ok P1- 01H"),
