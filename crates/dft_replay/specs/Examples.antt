@@ -145,6 +145,7 @@ all_pulse = record {
       ∷ (Pulse ∷ Pulse ∷ Pulse ∷ High ∷ ExpectLow ∷ [])
       ∷ (Low ∷ Low ∷ Low ∷ Low ∷ ExpectLow ∷ [])
       ∷ [];
+  notes = [];
 }
 
 -- A new bit may pass three flip-flops in one vector, where their clocks rise one after another. This needs a second round.

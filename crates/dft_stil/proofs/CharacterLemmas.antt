@@ -1,5 +1,5 @@
 -- Signals that still have no character.
-use Rattle.std.proofs.Common.{◌≡◌, ℕ, suc, Bool, true, false, not, ◌==◌, List, [], ◌∷◌, length, refl, arith}
+use Rattle.std.proofs.Common.{◌≡◌, ℕ, suc, true, false, not, ◌==◌, List, [], ◌∷◌, length, refl, arith}
 use Rattle.std.proofs.lemmas.Bool.Decides.{nat_tests}
 use Rattle.std.specs.List.{list_any}
 

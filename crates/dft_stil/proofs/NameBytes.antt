@@ -1,5 +1,5 @@
 -- Words, numbers, marks and texts in double quotes have bytes of which names are made.
-use Rattle.std.proofs.Common.{zero, suc, drop, ◌==◌, ◌&&◌, true≢false, refl, ap, ◌∙◌, ◌≡◌, ℕ, ◌+◌, ◌-◌, ◌<◌, ◌≤◌, [], ◌∷◌, length, take, Bool, true, false, cond, length-take, sym, subst, arith}
+use Rattle.std.proofs.Common.{zero, suc, drop, ◌==◌, ◌&&◌, true≢false, refl, ap, ◌∙◌, ◌≡◌, ℕ, ◌+◌, ◌<◌, ◌≤◌, [], ◌∷◌, length, take, Bool, true, false, cond, length-take, sym, subst, arith}
 use Rattle.std.specs.Prelude.{slice_index}
 use Rattle.std.specs.List.{All, prefix_len}
 use Rattle.std.specs.Char.{is_ascii_digit}

@@ -1,5 +1,5 @@
 -- What a text stands for, and why it is refused.
-use Rattle.std.proofs.Common.{◌≡◌, ℕ, suc, ◌<◌, ◌≤◌, ◌+◌, ◌-◌, ◌&&◌, Bool, true, false, cond, true≢false, List, [], ◌∷◌, length, take, min, get_or, All, Option, Some, None, is_some, Result, Ok, Err, is_ok, IfOk, pos, refl, sym, ap, subst, ◌∙◌, arith}
+use Rattle.std.proofs.Common.{◌≡◌, ℕ, suc, ◌<◌, ◌≤◌, ◌+◌, ◌-◌, ◌&&◌, Bool, true, false, cond, true≢false, List, [], ◌∷◌, length, take, min, get_or, Option, Some, None, is_some, Result, Ok, Err, IfOk, refl, sym, ap, ◌∙◌, arith}
 use Rattle.dft_base.specs.Lexing.{Text, place_of, place_after}
 use Rattle.dft_base.specs.Parser.{value_of}
 use Rattle.dft_base.specs.declared.place.Place.{Place}
@@ -17,10 +17,10 @@ use Rattle.dft_stil.specs.declared.read_error.ReadError.{ReadError}
 use Rattle.dft_stil.specs.Reading.{ReadsText}
 use Rattle.dft_stil.specs.Lexemes.{Token, tokens}
 use Rattle.dft_stil.specs.Patterns.{Patterns, IsVector, IsWellFormed}
-use Rattle.dft_stil.specs.PatternText.{pattern_text, patterns_of, tested, steady_or, StandsFor, At, Unsteadily, Refusal, name_of_signal}
-use Rattle.dft_stil.specs.Refusals.{IsFirstRefusal, IsRefused, IsFirstUnsteady, IsUnsteadyAs, told_at, told_of}
+use Rattle.dft_stil.specs.PatternText.{pattern_text, patterns_of, tested, steady_or, StandsFor, At, Unsteadily, name_of_signal}
+use Rattle.dft_stil.specs.Refusals.{IsFirstRefusal, IsRefused, IsFirstUnsteady, IsUnsteadyAs, told_at}
 use Rattle.dft_stil.specs.Steadiness.{HaveLength, is_not_low, first_not_low, first_unsteady, first_unsteady_from, found_or, pulses}
-use Rattle.dft_stil.proofs.WellFormed.{IsFitting, fitting, well_formed}
+use Rattle.dft_stil.proofs.WellFormed.{fitting, well_formed}
 
 -- ---- places
 

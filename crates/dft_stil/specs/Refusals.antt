@@ -1,10 +1,9 @@
 -- What a reader tells of a refused text.
-use Rattle.std.specs.Prelude.{◌≡◌, pos, Option, Some, Result, Err}
+use Rattle.std.specs.Prelude.{◌≡◌, pos, Some, Err}
 use Rattle.dft_base.specs.Lexing.{Text, place_of}
 use Rattle.dft_base.specs.declared.place.Place.{Place}
 use Rattle.dft_stil.specs.declared.text.Cause.{Cause}
 use Rattle.dft_stil.specs.declared.text.Cause.TheVariants as cause
-use Rattle.dft_stil.specs.declared.text.Fault.{Fault}
 use Rattle.dft_stil.specs.declared.steadiness.Unsteady.{Unsteady}
 use Rattle.dft_stil.specs.declared.error.StilError.{StilError}
 use Rattle.dft_stil.specs.declared.error.StilError.TheVariants as told

@@ -194,11 +194,7 @@ fn used_timing(
 
 #[tactic(auto, unfolding(crate::specs::PatternText::executed))]
 // The burst that is executed, and the end of the block.
-fn executed(
-    alloc: Global,
-    burst: Burst<'_>,
-    tokens: &mut Tokens<'_>,
-) -> Result<bool, ReadError>
+fn executed(alloc: Global, burst: Burst<'_>, tokens: &mut Tokens<'_>) -> Result<bool, ReadError>
     ensures { ReadsText (λ b. b) (spec.executed (burst_as burst.entry) tokens.old) result tokens.new }
 {
     tokens.keyword(b"PatternBurst")?;

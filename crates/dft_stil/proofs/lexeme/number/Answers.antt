@@ -1,4 +1,4 @@
-use Rattle.std.proofs.Common.{◌≡◌, take, subst, sym, ap, ◌∙◌}
+use Rattle.std.proofs.Common.{take, subst, sym, ap, ◌∙◌}
 use Rattle.dft_base.specs.Name.{IsName}
 use Rattle.dft_stil.specs.Lexemes.{Lexeme}
 use Rattle.dft_stil.proofs.NameBytes.{number_is_name}

@@ -2,8 +2,7 @@ use Rattle.std.proofs.Common.{◌≡◌, ◌-◌}
 use Rattle.dft_stil.specs.Steps.{left}
 use Rattle.dft_stil.specs.Timings as spec
 use Rattle.std.proofs.Common.{length}
-use Rattle.dft_stil.specs.ShapeTableShown.{IsWide}
-use Rattle.dft_stil.specs.TablesShown.{table_as, AreWide}
+use Rattle.dft_stil.specs.TablesShown.{AreWide}
 use Rattle.dft_stil.proofs.timings.all_tables.Given as goal
 
 -- each turn reads one

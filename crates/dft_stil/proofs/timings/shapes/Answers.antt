@@ -3,9 +3,7 @@ use Rattle.std.proofs.lemmas.Grind.{common_steps}
 use Rattle.dft_base.proofs.Turns.{one_more, no_more}
 use Rattle.dft_stil.specs.Timings.{shapes_from}
 use Rattle.dft_stil.specs.Timings as spec
-use Rattle.std.proofs.Common.{length}
-use Rattle.dft_stil.specs.ShapeTableShown.{IsWide}
-use Rattle.dft_stil.specs.TablesShown.{table_as, AreWide}
+use Rattle.dft_stil.specs.TablesShown.{table_as}
 use Rattle.dft_stil.proofs.timings.shapes.Goals as goal
 
 pub returns-then-eat-clause-read : goal.returns-then-eat-clause-read

@@ -1,4 +1,4 @@
-use Rattle.std.proofs.Common.{◌≡◌, ◌<◌, ◌≤◌, ◌∙◌, ℕ, true, length, drop, get_or, [], refl, arith}
+use Rattle.std.proofs.Common.{◌<◌, ◌≤◌, ◌∙◌, ℕ, true, length, get_or, refl, arith}
 use Rattle.std.proofs.lemmas.List.{length-set, drop_all}
 use Rattle.dft_stil.proofs.FlagLemmas.{flag_more, flag_all}
 use Rattle.dft_stil.proofs.vector.flag.Goals as goal

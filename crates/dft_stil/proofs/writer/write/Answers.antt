@@ -1,4 +1,4 @@
-use Rattle.std.proofs.Common.{ℕ, List, sym, subst}
+use Rattle.std.proofs.Common.{sym, subst}
 use Rattle.dft_stil.specs.Laws.{ReadsBack}
 use Rattle.dft_stil.proofs.WrittenStands.{written_stands}
 use Rattle.dft_stil.proofs.writer.write.Goals as goal

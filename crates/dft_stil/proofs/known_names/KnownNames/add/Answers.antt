@@ -1,5 +1,4 @@
-use Rattle.std.proofs.Common.{List, ap, ◌∙◌, sym, cond, ◌++◌, ◌∷◌, [], map, refl}
-use Rattle.std.specs.Str.{bytes_eq}
+use Rattle.std.proofs.Common.{ap, ◌∙◌, cond, ◌++◌, ◌∷◌, [], refl}
 use Rattle.std.proofs.lemmas.List.{map-append}
 use Rattle.dft_stil.specs.Namings.{number_of}
 use Rattle.dft_stil.proofs.KnownNameLemmas.{number_of-none}

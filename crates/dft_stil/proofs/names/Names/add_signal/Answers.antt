@@ -1,4 +1,4 @@
-use Rattle.std.proofs.Common.{◌≡◌, ◌++◌, ◌∷◌, [], length, sym, ap, ◌∙◌, subst, length-append, arith}
+use Rattle.std.proofs.Common.{◌++◌, ◌∷◌, [], length, sym, ap, ◌∙◌, subst}
 use Rattle.dft_stil.specs.Namings as spec
 use Rattle.dft_stil.specs.NamesShown.{AreInside}
 use Rattle.dft_stil.proofs.NamesLemmas.{numbered_same, numbered_more, inside_more, longer}
