@@ -81,12 +81,12 @@ fn pin_name(
 
 #[tactic(auto, using(crate::proofs::ConnectionLemmas::pins), unfolding(dft_netlist::specs::Items::pin_signal))]
 // The expression of a pin; its width is tested at this place.
-fn pin_signal(
+fn pin_signal<'a>(
     cell: &Cell,
     place: usize,
-    draft: &mut ModuleDraft,
+    draft: &mut ModuleDraft<'a>,
     pin: usize,
-    tokens: &mut Tokens<'_>,
+    tokens: &mut Tokens<'a>,
 ) -> Result<Signal, ReadError>
     ensures read { Reads (λ to. (draft.new, to)) (spec.pin_signal cell.now place draft.old pin tokens.old) result tokens.new }
     ensures grown { OnOk result (Grows draft.old draft.new) }
@@ -94,17 +94,17 @@ fn pin_signal(
 {
     let drives = pin_drives(cell, pin);
     let bits = expression(Site::Pin { drives }, draft, tokens)?;
-    one_bit(place, &bits)
+    one_bit(place, bits.as_slice())
 }
 
 #[tactic(auto, using(crate::proofs::OperandLemmas::growing), unfolding(dft_netlist::specs::Items::pin_content))]
 // Nothing between the brackets leaves the pin unconnected.
-fn pin_content(
+fn pin_content<'a>(
     cell: &Cell,
     place: usize,
-    draft: &mut ModuleDraft,
+    draft: &mut ModuleDraft<'a>,
     pin: usize,
-    tokens: &mut Tokens<'_>,
+    tokens: &mut Tokens<'a>,
 ) -> Result<Signal, ReadError>
     ensures read { Reads (λ to. (draft.new, to)) (spec.pin_content cell.now place draft.old pin tokens.old) result tokens.new }
     ensures grown { OnOk result (Grows draft.old draft.new) }
@@ -119,11 +119,11 @@ fn pin_content(
 
 #[tactic(auto, using(crate::proofs::ConnectionLemmas::pins), unfolding(dft_netlist::specs::Items::connection))]
 // A point, a pin, and what it is joined to; the width is tested at the point.
-fn connection(
+fn connection<'a>(
     cell: &Cell,
     joined: &mut Vec<Option<Signal>>,
-    draft: &mut ModuleDraft,
-    tokens: &mut Tokens<'_>,
+    draft: &mut ModuleDraft<'a>,
+    tokens: &mut Tokens<'a>,
 ) -> Result<(), ReadError>
     requires { FitsCell (length draft.old.nets) cell.now joined.old.items }
     ensures read { Reads (λ _. (draft.new, joined.new.items)) (spec.connection cell.now (draft.old, joined.old.items) tokens.old) result tokens.new }
@@ -141,11 +141,11 @@ fn connection(
 }
 
 // Connections with commas between them.
-fn some_connections(
+fn some_connections<'a>(
     cell: &Cell,
     joined: &mut Vec<Option<Signal>>,
-    draft: &mut ModuleDraft,
-    tokens: &mut Tokens<'_>,
+    draft: &mut ModuleDraft<'a>,
+    tokens: &mut Tokens<'a>,
 ) -> Result<(), ReadError>
     requires { FitsCell (length draft.old.nets) cell.now joined.old.items }
     ensures read { Reads (λ _. (draft.new, joined.new.items)) (spec.some_connections cell.now (draft.old, joined.old.items) tokens.old) result tokens.new }
@@ -163,11 +163,11 @@ fn some_connections(
 
 #[tactic(auto, using(crate::proofs::OperandLemmas::growing), unfolding(dft_netlist::specs::Items::connections))]
 /// Connections, or none.
-pub fn connections(
+pub fn connections<'a>(
     cell: &Cell,
     joined: &mut Vec<Option<Signal>>,
-    draft: &mut ModuleDraft,
-    tokens: &mut Tokens<'_>,
+    draft: &mut ModuleDraft<'a>,
+    tokens: &mut Tokens<'a>,
 ) -> Result<(), ReadError>
     requires { FitsCell (length draft.old.nets) cell.now joined.old.items }
     ensures read { Reads (λ _. (draft.new, joined.new.items)) (spec.connections cell.now (draft.old, joined.old.items) tokens.old) result tokens.new }

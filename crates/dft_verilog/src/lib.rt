@@ -9,6 +9,7 @@ mod constants;
 mod cursor;
 mod declarations;
 mod declaring;
+mod draft_instance;
 mod error;
 mod faults;
 mod final_nets;
@@ -30,6 +31,7 @@ mod read_error;
 mod reader;
 mod selecting;
 mod taken_names;
+mod word;
 mod word_tokens;
 mod words;
 

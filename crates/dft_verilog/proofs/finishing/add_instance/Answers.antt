@@ -10,12 +10,12 @@ pub instance-requires : goal.instance-requires
 instance-requires c =
     let d : Draft = c.args.draft.now in
     let i : Instance = c.args.instance.now in
-    let pins : c.deref.result.now ≡ map (final_signal (net_order d)) i.pins = c.deref.ensures.value ∙ c.in_ok-pins.ensures ∙ ap (map _) c.as_slice.ensures ∙ pins-final d c.args.finals.now c.requires.finals i.pins c.requires.fits.live in
+    let pins : c.as_slice.result.now ≡ map (final_signal (net_order d)) i.pins = c.as_slice.ensures ∙ c.in_ok-pins.ensures ∙ ap (map _) c.pins.ensures ∙ pins-final d c.args.finals.now c.requires.finals i.pins c.requires.fits.live in
     rw (pins, c.in_ok-name.ensures) (instance-stands d c.args.finals.now c.args.builder.now i c.requires.nets c.requires.finals c.requires.fits)
 
 pub returns-clause-grown : goal.returns-clause-grown
 returns-clause-grown c =
     let d : Draft = c.args.draft.now in
     let i : Instance = c.args.instance.now in
-    let pins : c.deref.result.now ≡ map (final_signal (net_order d)) i.pins = c.deref.ensures.value ∙ c.in_ok-pins.ensures ∙ ap (map _) c.as_slice.ensures ∙ pins-final d c.args.finals.now c.requires.finals i.pins c.requires.fits.live in
-    add_instance-by (net_order d) c.args.builder.now c.instance.new.self i c.in_ok-name.name c.deref.result.now c.in_ok-name.ensures pins c.in_ok-instance.ensures.refused c.in_ok-instance.ensures.ok.grown
+    let pins : c.as_slice.result.now ≡ map (final_signal (net_order d)) i.pins = c.as_slice.ensures ∙ c.in_ok-pins.ensures ∙ ap (map _) c.pins.ensures ∙ pins-final d c.args.finals.now c.requires.finals i.pins c.requires.fits.live in
+    add_instance-by (net_order d) c.args.builder.now c.instance.new.self i c.in_ok-name.name c.as_slice.result.now c.in_ok-name.ensures pins c.in_ok-instance.ensures.refused c.in_ok-instance.ensures.ok.grown
