@@ -1,6 +1,6 @@
 //! The blanks between the tokens of a netlist text (IEEE 1364, lexical conventions).
 
-ghost use Rattle.std.specs.Prelude.{false, ◌≡◌, ◌≤◌, ◌<◌, ◌+◌, ◌-◌, ◌^◌, ◌==◌, not, [], ◌∷◌, length, drop, IfSome};
+ghost use Rattle.std.specs.Prelude.{false, ◌≡◌, ◌≤◌, ◌<◌, ◌+◌, ◌-◌, ◌^◌, ◌==◌, ◌&&◌, nat_le, not, [], ◌∷◌, length, drop, IfSome};
 ghost use Rattle.std.specs.List.{prefix_len};
 ghost use Rattle.dft_netlist.specs.Lexemes as spec;
 
@@ -21,6 +21,13 @@ pub fn is_printed(byte: u8) -> bool
     ensures { result ≡ spec.is_printed byte }
 {
     33 <= byte && byte <= 126
+}
+
+// Whether no blank begins with this byte: it is printed, and no slash, bracket or grave accent.
+fn begins_no_blank(byte: u8) -> bool
+    ensures { result ≡ (nat_le 33 byte && not (byte == 40) && not (byte == 47) && not (byte == 96)) }
+{
+    33 <= byte && byte != b'(' && byte != b'/' && byte != b'`'
 }
 
 /// How many bytes the word at the front has; a text may begin with none.
@@ -138,9 +145,22 @@ fn is_passed_directive(text: &[u8]) -> bool
     }
 }
 
-#[tactic(auto, unfolding(dft_netlist::specs::Lexemes::blank_len))]
+#[tactic(auto, using(crate::proofs::BlankLemmas::no_blank_begins))]
 /// How many bytes of blank stand at the front: a space, a comment, an attribute, or a directive that is passed over.
 pub fn blank_len(text: &[u8]) -> usize
+    requires { length text.now ≤ MAX_TEXT }
+    ensures value { result ≡ spec.blank_len text.now }
+    ensures within { result ≤ length text.now }
+{
+    match text {
+        [first, ..] if begins_no_blank(*first) => 0,
+        _ => any_blank_len(text),
+    }
+}
+
+#[tactic(auto, unfolding(dft_netlist::specs::Lexemes::blank_len))]
+// How many bytes of blank stand at the front.
+fn any_blank_len(text: &[u8]) -> usize
     requires { length text.now ≤ MAX_TEXT }
     ensures value { result ≡ spec.blank_len text.now }
     ensures within { result ≤ length text.now }
