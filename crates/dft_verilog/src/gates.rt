@@ -89,6 +89,13 @@ fn inputs<'a>(draft: &mut ModuleDraft<'a>, tokens: &mut Tokens<'a>) -> Result<Pi
     Err(tokens.refusal())
 }
 
+// How many inputs there are.
+fn input_count(inputs: &PinSignals) -> usize
+    ensures { result ≡ length inputs.now }
+{
+    inputs.as_slice().len()
+}
+
 #[tactic(auto, using(crate::proofs::GateLemmas::gates), unfolding(dft_netlist::specs::Items::terminals))]
 // The terminals of a gate behind the bracket that stands at this place, where the number of terminals is refused.
 fn terminals<'a>(
@@ -106,7 +113,7 @@ fn terminals<'a>(
     let output = terminal(true, draft, tokens)?;
     let mut pins = inputs(draft, tokens)?;
     tokens.expect(TokenKind::CloseParen)?;
-    let count = pins.as_slice().len();
+    let count = input_count(&pins);
     if !has_inputs(kind, count) {
         return Err(refused(place, Cause::Misfit));
     }
