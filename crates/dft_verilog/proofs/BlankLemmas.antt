@@ -1,5 +1,5 @@
 -- A text that begins with a `#` or a grave accent, and with no blank.
-use Rattle.std.proofs.Common.{◌≡◌, ℕ, suc, ◌<◌, ◌&&◌, ◌==◌, not, nat_le, [], ◌∷◌, length, Bool, true, false, cond, get_or, refl, sym, ap, ◌∙◌, subst, arith}
+use Rattle.std.proofs.Common.{◌≡◌, ℕ, suc, ◌<◌, ◌&&◌, ◌||◌, ◌==◌, not, nat_le, [], ◌∷◌, length, Bool, true, false, cond, get_or, refl, sym, ap, ◌∙◌, subst, arith}
 use Rattle.std.proofs.lemmas.Bool.Decides.{nat_tests}
 use Rattle.dft_base.specs.Lexing.{Text}
 use Rattle.std.specs.Prelude.{codes, drop, take}
@@ -53,25 +53,33 @@ nor : (a b : Bool) → a ≡ false → (a && b) ≡ false
 nor true b e = absurd (cc)
 nor false b e = refl
 
-none_in : (b : ℕ) (text : Text) → (nat_le 33 b && not (b == 40) && not (b == 47) && not (b == 96)) ≡ true → 0 ≡ blank_len (b ∷ text)
+nor_third : (a b c : Bool) → (a && b) ≡ false → (a && (b && c)) ≡ false
+nor_third true true c e = absurd (cc)
+nor_third true false c e = refl
+nor_third false b c e = refl
+
+none_in : (b d : ℕ) (text : Text) → (nat_le 33 b && not (b == 47) && not (b == 96) && (not (b == 40) || not (d == 42))) ≡ true → 0 ≡ blank_len (b ∷ d ∷ text)
 unfolding blank_len
-none_in b text e =
+none_in b d text e =
+    let whole = b ∷ d ∷ text in
     let space : is_space b ≡ false = grind (arith, nat_tests) in
-    let bracket : (40 == b) ≡ false = grind (arith, nat_tests) in
+    let pair : (40 == b && 42 == d) ≡ false = grind (arith, nat_tests) in
     let slash : (47 == b) ≡ false = grind (arith, nat_tests) in
     let accent : (b == 96) ≡ false = grind (arith, nat_tests) in
-    let line : begins_with (codes "//") (b ∷ text) ≡ false = nor (47 == b) (begins_with (codes "/") text) slash in
-    let comment : begins_with (codes "/*") (b ∷ text) ≡ false = nor (47 == b) (begins_with (codes "*") text) slash in
-    let attribute : begins_with (codes "(*") (b ∷ text) ≡ false = nor (40 == b) (begins_with (codes "*") text) bracket in
-    let directive : is_passed_directive (b ∷ text) ≡ false = nor (b == 96) (is_passed_over (take (word_len text) text)) accent in
-    in_none (is_space b) (begins_with (codes "//") (b ∷ text)) (begins_with (codes "/*") (b ∷ text)) (begins_with (codes "(*") (b ∷ text)) (is_passed_directive (b ∷ text))
-    (prefix_len (λ c. not (c == 10)) (b ∷ text)) (closed_len (comment_rest (drop 1 text))) (closed_len (attribute_rest false (drop 1 text))) (directive_len (b ∷ text))
+    let line : begins_with (codes "//") whole ≡ false = nor (47 == b) (begins_with (codes "/") (d ∷ text)) slash in
+    let comment : begins_with (codes "/*") whole ≡ false = nor (47 == b) (begins_with (codes "*") (d ∷ text)) slash in
+    let attribute : begins_with (codes "(*") whole ≡ false = nor_third (40 == b) (42 == d) (begins_with [] text) pair in
+    let directive : is_passed_directive whole ≡ false = nor (b == 96) (is_passed_over (take (word_len (d ∷ text)) (d ∷ text))) accent in
+    in_none (is_space b) (begins_with (codes "//") whole) (begins_with (codes "/*") whole) (begins_with (codes "(*") whole) (is_passed_directive whole)
+    (prefix_len (λ c. not (c == 10)) whole) (closed_len (comment_rest text)) (closed_len (attribute_rest false text)) (directive_len whole)
     space line comment attribute directive
 
--- no blank begins at a printed byte that is no slash, bracket or grave accent
-pub printed_begins : (text : Text) (d : ℕ) → 0 < length text → (nat_le 33 (get_or text 0 d) && not (get_or text 0 d == 40) && not (get_or text 0 d == 47) && not (get_or text 0 d == 96)) ≡ true → 0 ≡ blank_len text
+-- no blank begins at a printed byte that is no slash, grave accent, or bracket before a star
+pub printed_begins : (text : Text) (d : ℕ) → 1 < length text
+    → (nat_le 33 (get_or text 0 d) && not (get_or text 0 d == 47) && not (get_or text 0 d == 96) && (not (get_or text 0 d == 40) || not (get_or text 1 d == 42))) ≡ true → 0 ≡ blank_len text
 printed_begins [] d some e = absurd (omega arith)
-printed_begins (b ∷ text) d some e = none_in b text e
+printed_begins (b ∷ []) d some e = absurd (omega arith)
+printed_begins (b ∷ c ∷ text) d some e = none_in b c text e
 
 pub ruleset no_blank_begins = (printed_begins)
 

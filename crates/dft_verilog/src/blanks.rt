@@ -1,6 +1,6 @@
 //! The blanks between the tokens of a netlist text (IEEE 1364, lexical conventions).
 
-ghost use Rattle.std.specs.Prelude.{false, ◌≡◌, ◌≤◌, ◌<◌, ◌+◌, ◌-◌, ◌^◌, ◌==◌, ◌&&◌, nat_le, not, [], ◌∷◌, length, drop, IfSome};
+ghost use Rattle.std.specs.Prelude.{false, ◌≡◌, ◌≤◌, ◌<◌, ◌+◌, ◌-◌, ◌^◌, ◌==◌, ◌&&◌, ◌||◌, nat_le, not, [], ◌∷◌, length, drop, IfSome};
 ghost use Rattle.std.specs.List.{prefix_len};
 ghost use Rattle.dft_netlist.specs.Lexemes as spec;
 
@@ -23,11 +23,12 @@ pub fn is_printed(byte: u8) -> bool
     33 <= byte && byte <= 126
 }
 
-// Whether no blank begins with this byte: it is printed, and no slash, bracket or grave accent.
-fn begins_no_blank(byte: u8) -> bool
-    ensures { result ≡ (nat_le 33 byte && not (byte == 40) && not (byte == 47) && not (byte == 96)) }
+// Whether no blank begins with these bytes: the first is printed, no slash and no grave accent, and they open no
+// attribute.
+fn begin_no_blank(first: u8, second: u8) -> bool
+    ensures { result ≡ (nat_le 33 first && not (first == 47) && not (first == 96) && (not (first == 40) || not (second == 42))) }
 {
-    33 <= byte && byte != b'(' && byte != b'/' && byte != b'`'
+    33 <= first && first != b'/' && first != b'`' && (first != b'(' || second != b'*')
 }
 
 /// How many bytes the word at the front has; a text may begin with none.
@@ -153,7 +154,7 @@ pub fn blank_len(text: &[u8]) -> usize
     ensures within { result ≤ length text.now }
 {
     match text {
-        [first, ..] if begins_no_blank(*first) => 0,
+        [first, second, ..] if begin_no_blank(*first, *second) => 0,
         _ => any_blank_len(text),
     }
 }

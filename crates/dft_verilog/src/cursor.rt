@@ -73,20 +73,11 @@ impl<'a> Tokens<'a> {
         requires { length text.now ≤ MAX_TEXT }
         ensures { result ≡ lexical.tokens text.now }
     {
-        Tokens::ahead(alloc, text, false)
-    }
-
-    // The tokens of a text, behind a base or not.
-    fn ahead(alloc: Global, text: &'a [u8], behind_base: bool) -> Tokens<'a>
-        requires { length text.now ≤ MAX_TEXT }
-        ensures value { result ≡ tokens_from lexical.front behind_base 0 text.now }
-        ensures few { spec.left result ≤ length text.now }
-    {
         let ahead = skip_blanks(text);
-        let front = cut(behind_base, ahead);
+        let front = cut(false, ahead);
         Tokens {
             ahead,
-            behind_base,
+            behind_base: false,
             front,
             alloc,
         }
@@ -125,7 +116,9 @@ impl<'a> Tokens<'a> {
     {
         let bytes = self.bytes();
         let (_, rest) = self.ahead.split_at(self.front.len);
-        *self = Tokens::ahead(self.alloc, rest, is_base_kind(self.front.kind));
+        self.behind_base = is_base_kind(self.front.kind);
+        self.ahead = skip_blanks(rest);
+        self.front = cut(self.behind_base, self.ahead);
         bytes
     }
 
