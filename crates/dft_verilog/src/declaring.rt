@@ -104,8 +104,40 @@ impl<'a> ModuleDraft<'a> {
         }
     }
 
+    /// A name that is free stands for one net, of this name.
+    fn declare_scalar(&mut self, place: usize, word: &'a [u8]) -> Result<(), ReadError>
+        requires name { IsName word.now }
+        requires free { spec.meaning_of self.old word.now ≡ None }
+        ensures { Checks (λ _. self.new) (spec.declare_nets place word.now None self.old) result }
+    {
+        if !self.has_room_for_nets(1) {
+            return Err(full(place, Counted::Nets));
+        }
+        let shape = self.next_shape(None);
+        self.add_net(word)?;
+        self.take(word, Meaning::Nets(shape))?;
+        Ok(())
+    }
+
     /// A name that is free stands for new nets.
     pub(crate) fn declare_free(
+        &mut self,
+        place: usize,
+        word: &'a [u8],
+        range: Option<Range>,
+    ) -> Result<(), ReadError>
+        requires name { IsName word.now }
+        requires free { spec.meaning_of self.old word.now ≡ None }
+        ensures { Checks (λ _. self.new) (spec.declare_nets place word.now range self.old) result }
+    {
+        match range {
+            Some(_) => self.declare_bits(place, word, range),
+            None => self.declare_scalar(place, word),
+        }
+    }
+
+    /// A name that is free stands for the nets of its bits.
+    fn declare_bits(
         &mut self,
         place: usize,
         word: &'a [u8],

@@ -191,6 +191,16 @@ impl<'a> ModuleDraft<'a> {
         }
     }
 
+    /// Adds a net of this name.
+    pub(crate) fn add_net(&mut self, word: &'a [u8]) -> Result<(), AllocError>
+        requires name { IsName word.now }
+        requires room { length self.old.nets < MAX_NETS }
+        ensures { OnOk result (self.new ≡ record self.old { nets = self.old.nets ++ word.now ∷ [] }) }
+    {
+        self.nets.push(Word::read(word))?;
+        Ok(())
+    }
+
     /// Adds nets of these names.
     pub(crate) fn add_nets(&mut self, mut names: Vec<Word<'a>>) -> Result<(), AllocError>
         requires { length self.old.nets + length names.items ≤ MAX_NETS }
