@@ -148,6 +148,7 @@ fn is_passed_directive(text: &[u8]) -> bool
 
 #[tactic(auto, using(crate::proofs::BlankLemmas::no_blank_begins))]
 /// How many bytes of blank stand at the front: a space, a comment, an attribute, or a directive that is passed over.
+#[inline(always)]
 pub fn blank_len(text: &[u8]) -> usize
     requires { length text.now ≤ MAX_TEXT }
     ensures value { result ≡ spec.blank_len text.now }
@@ -161,6 +162,7 @@ pub fn blank_len(text: &[u8]) -> usize
 
 #[tactic(auto, unfolding(dft_netlist::specs::Lexemes::blank_len))]
 // How many bytes of blank stand at the front.
+#[inline(never)]
 fn any_blank_len(text: &[u8]) -> usize
     requires { length text.now ≤ MAX_TEXT }
     ensures value { result ≡ spec.blank_len text.now }

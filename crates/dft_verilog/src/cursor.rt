@@ -45,6 +45,7 @@ impl<'a> Model for Tokens<'a> {
 
 #[tactic(auto, using(crate::proofs::FrontLemmas::blanks_in_front))]
 // The text without the blanks that it begins with.
+#[inline(always)]
 fn skip_blanks(text: &[u8]) -> &[u8]
     requires { length text.now ≤ MAX_TEXT }
     ensures rest { (mode : Bool) → tokens_from lexical.front mode 0 result.now ≡ tokens_from lexical.front mode 0 text.now }
@@ -109,6 +110,7 @@ impl<'a> Tokens<'a> {
     }
 
     /// Takes the next token.
+    #[inline(never)]
     pub fn take(&mut self) -> &'a [u8]
         ensures bytes { result.now ≡ spec.bytes self.old }
         ensures next { self.new ≡ spec.next self.old }

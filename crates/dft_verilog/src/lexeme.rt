@@ -202,6 +202,7 @@ fn directive(text: &[u8]) -> Lexeme
 
 #[tactic(auto, using(crate::proofs::BlankLemmas::no_blank), unfolding(dft_netlist::specs::Lexemes::lexeme))]
 /// The token at the front of a text that begins with no blank. Behind a base a run of letters, digits and `_` is one token.
+#[inline(always)]
 pub fn cut(behind_base: bool, text: &[u8]) -> Lexeme
     requires { length text.now ≤ MAX_TEXT }
     ensures value { shown result ≡ spec.lexeme behind_base text.now }
