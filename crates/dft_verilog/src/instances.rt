@@ -56,7 +56,7 @@ fn instance<'a>(
     let mut joined = unjoined(draft.alloc(), cell)?;
     connections(cell, &mut joined, draft, tokens)?;
     tokens.expect(TokenKind::CloseParen)?;
-    let pins = pins_of(draft.alloc(), &joined)?;
+    let pins = pins_of(draft.alloc(), joined.as_slice())?;
     let name = Some(Word::read(word));
     draft.add_instance(DraftInstance::new(name, CellRef::Library(id), pins))?;
     Ok(())

@@ -18,6 +18,7 @@ mod gates;
 mod header;
 mod header_port;
 mod instances;
+mod joined_pins;
 mod laws;
 mod lexeme;
 mod module_draft;
