@@ -5,7 +5,7 @@ use Rattle.dft_netlist.specs.Modules.{Draft, with_name, next_shape, meaning_of}
 use Rattle.dft_verilog.specs.Free.{AreBitsApart, AreFreeBits}
 use Rattle.dft_verilog.proofs.ApartLemmas.{AreFreeBits-named}
 use Rattle.dft_verilog.proofs.DeclareLemmas.{new_bits-ok, name_by, tests, shape-within, free-at, with_nets-made}
-use Rattle.dft_verilog.proofs.module_draft.ModuleDraft.declare_free.Goals as goal
+use Rattle.dft_verilog.proofs.module_draft.ModuleDraft.declare_bits.Goals as goal
 
 pub returns-then-not-has_room_for_nets : goal.returns-then-not-has_room_for_nets
 returns-then-not-has_room_for_nets c =
