@@ -8,6 +8,7 @@ pub mod Lifts
 pub mod Settlings
 pub mod CircuitRanks
 pub mod Writings
+pub mod TableLemmas
 pub mod RoundLemmas
 pub mod NextLemmas
 pub mod Risings

@@ -58,6 +58,47 @@ impl Operands {
     }
 }
 
+/// Numbers of nets or of instances. A clause sees them as a list.
+#[derive(Debug, Drop)]
+pub(crate) struct Numbers {
+    numbers: Vec<u32>,
+}
+
+impl Model for Numbers {
+    ghost use Rattle.std.specs.Prelude.{ℕ, List};
+
+    ghost Value = { List ℕ };
+
+    ghost view = { λ n. n.numbers.items };
+}
+
+impl Numbers {
+    /// No number yet.
+    pub(crate) fn new(alloc: Global) -> Numbers
+        ensures { result ≡ [] }
+    {
+        Numbers {
+            numbers: Vec::new(alloc),
+        }
+    }
+
+    /// Adds a number at the end.
+    pub(crate) fn push(&mut self, number: u32) -> Result<(), AllocError>
+        ensures ok { OnOk result (self.new ≡ self.old ++ number ∷ []) }
+        ensures err { OnErr result (self.new ≡ self.old) }
+    {
+        self.numbers.push(number)?;
+        Ok(())
+    }
+
+    /// The numbers.
+    pub(crate) fn as_slice(&self) -> &[u32]
+        ensures { result.now ≡ self.now }
+    {
+        &self.numbers
+    }
+}
+
 /// What a net takes its value from.
 #[derive(Debug, Drop)]
 pub(crate) enum Op {
@@ -106,11 +147,16 @@ pub(crate) struct Latch {
 }
 
 /// What each net takes its value from, by net, in an order in which each comes after what it reads; and the flip-flop
-/// and the lock-up of each instance, by instance.
+/// and the lock-up of each instance, by instance. Then what is found by tables: by net the nets that read it, and by the
+/// net of a clock the nets that show it or its domain's flip-flops and lock-ups, and these flip-flops and lock-ups.
 #[derive(Debug, Drop)]
 pub(crate) struct Circuit {
     pub order: Vec<NetId>,
     pub ops: Vec<Op>,
     pub flops: Vec<FlipFlop>,
     pub latches: Vec<Option<Latch>>,
+    pub readers: Vec<Numbers>,
+    pub leaves: Vec<Numbers>,
+    pub cells: Vec<Numbers>,
+    pub holders: Vec<Numbers>,
 }

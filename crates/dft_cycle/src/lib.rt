@@ -9,6 +9,7 @@ mod laws;
 mod machine;
 mod rounds;
 mod settling;
+mod tables;
 mod wires;
 
 ghost use Rattle.dft_cycle.specs.Laws.{ClosedExists, StrobeExists, StrobeIsAbove, TurnIsAbove, StepIsBelow, RoundIsOne, OneDomain, KnownAfterTurn, KnownAtStrobe, LowAfterTurn};
