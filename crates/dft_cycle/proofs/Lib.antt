@@ -6,6 +6,7 @@ pub mod Least
 pub mod OneDomain
 pub mod Lifts
 pub mod Settlings
+pub mod Sweepings
 pub mod CircuitRanks
 pub mod Writings
 pub mod TableLemmas

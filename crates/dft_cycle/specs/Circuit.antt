@@ -8,7 +8,7 @@ use Rattle.dft_netlist.specs.Drivers.{Source}
 use Rattle.dft_netlist.specs.Drivers as drivers
 use Rattle.dft_netlist.specs.Logic.{Logic, Meaning, Cell, Scan, Force, reads, no_cell}
 use Rattle.dft_netlist.specs.Logic as meanings
-use Rattle.dft_netlist.specs.Settled.{TriSources, value_from}
+use Rattle.dft_netlist.specs.Settled.{TriSources, value_from, value_given}
 use Rattle.dft_netlist.specs.Orders.{Has, numbers_of}
 use Rattle.dft_cycle.specs.declared.circuit.Operand.{Operand}
 use Rattle.dft_cycle.specs.declared.circuit.Operand.TheVariants.{Net, Tied, Loose}
@@ -148,3 +148,8 @@ view_base cells v = view_sources (record { net = λ net. meanings.Free; cell = c
 
 abbrev pub held_in : View → Option (List Tri)
 held_in v = option_map (λ h. h.now) v.held
+
+-- the net has its driver's value in the view
+abbrev pub IsGiven : Circuit → View → (values : List Tri) → ℕ → Type 0
+IsGiven x v values k =
+    value_at values k ≡ value_given (leaves_from (view_base (map cell_of x.flops.items) v) (held_in v) (value_at values)) (value_at values) k (meaning (op_at x.ops.items k))

@@ -9,6 +9,7 @@ mod laws;
 mod machine;
 mod rounds;
 mod settling;
+mod sweeping;
 mod tables;
 mod wires;
 
