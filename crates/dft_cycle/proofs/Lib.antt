@@ -21,3 +21,4 @@ pub mod BuildLemmas
 pub mod Compiled
 pub mod Pasts
 pub mod AloneLemmas
+pub mod DomainLemmas

@@ -76,7 +76,7 @@ written ops base held values net k t live given blind before =
     given_agree P base held (value_at values) (value_at now) k (meaning (op_at ops k)) (all_other net (reads (meaning (op_at ops k))) blind) same in
     let fresh : k ≡ net → IsGiven ops base held now k =
     λ q. (let F : ℕ → Tri = value_at now in let G : ℕ → Tri = λ n. value_given (leaves_from base held (value_at values)) (value_at values) n (meaning (op_at ops n)) in
-        ap F q ∙ get_or-set_same values net t Unknown live ∙ given ∙ sym (ap G q) ∙ agree) in
+    ap F q ∙ get_or-set_same values net t Unknown live ∙ given ∙ sym (ap G q) ∙ agree) in
     elim (eqb_tells k net) [
       | inl q ↦ fresh q.1
       | inr q ↦ elim before [ inl e ↦ absurd (q.1 e) | inr is ↦ sym (same k q.1) ∙ is ∙ agree ]
@@ -124,9 +124,9 @@ sweeping_more ops base held order values new marked now j net d less is s given 
       clean = λ k h. down k (flag_at now k) refl (λ up. elim (raised k up) [
         | inl was ↦ elim h [ inl q ↦ was.1 q | inr older ↦ true≢false (sym was.0 ∙ s.clean k older) ]
         | inr reader ↦ elim h [
-            | inl q ↦ (let R : ℕ → Type 0 = λ n. Has (reads (meaning (op_at ops n))) net.0 in here.0 (all_has (Has s.before) (reads (meaning (op_at ops net.0))) net.0 here.2 (subst R q reader)))
-            | inr older ↦ here.0 (all_has (Has s.before) (reads (meaning (op_at ops k))) net.0 (s.closed k older) reader)
-          ]
+          | inl q ↦ (let R : ℕ → Type 0 = λ n. Has (reads (meaning (op_at ops n))) net.0 in here.0 (all_has (Has s.before) (reads (meaning (op_at ops net.0))) net.0 here.2 (subst R q reader)))
+          | inr older ↦ here.0 (all_has (Has s.before) (reads (meaning (op_at ops k))) net.0 (s.closed k older) reader)
+        ]
       ]);
       given = given;
       either = λ k h. elim (later k h) [

@@ -74,9 +74,9 @@ added_then a b c ps qs number p q = record {
   ];
   only = λ k n h. elim (q.only k n h) [
     | inl before ↦ elim (p.only k n before) [
-        | inl was ↦ inl was
-        | inr left ↦ inr (left.0, has_left ps qs k left.1)
-      ]
+      | inl was ↦ inl was
+      | inr left ↦ inr (left.0, has_left ps qs k left.1)
+    ]
     | inr right ↦ inr (right.0, has_right ps qs k right.1)
   ];
 }

@@ -149,7 +149,12 @@ view_base cells v = view_sources (record { net = λ net. meanings.Free; cell = c
 abbrev pub held_in : View → Option (List Tri)
 held_in v = option_map (λ h. h.now) v.held
 
+-- the net has its driver's value where the view is that of this domain
+abbrev pub IsGivenIn : Circuit → View → (domain : ℕ) → (values : List Tri) → ℕ → Type 0
+IsGivenIn x v d values k =
+    let base = view_sources (record { net = λ net. meanings.Free; cell = cell_at (map cell_of x.flops.items) }) (pulse_at v.pulse) (value_at v.poss.now) (λ e net. Unknown) d in
+    value_at values k ≡ value_given (leaves_from base (held_in v) (value_at values)) (value_at values) k (meaning (op_at x.ops.items k))
+
 -- the net has its driver's value in the view
 abbrev pub IsGiven : Circuit → View → (values : List Tri) → ℕ → Type 0
-IsGiven x v values k =
-    value_at values k ≡ value_given (leaves_from (view_base (map cell_of x.flops.items) v) (held_in v) (value_at values)) (value_at values) k (meaning (op_at x.ops.items k))
+IsGiven x v values k = IsGivenIn x v v.domain.0 values k

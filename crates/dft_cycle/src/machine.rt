@@ -30,6 +30,7 @@ pub struct AbstractMachine<'a> {
     poss: Vec<Tri>,
     next: Vec<Tri>,
     held: Vec<Tri>,
+    marked: Vec<bool>,
 }
 
 impl<'a> Model for AbstractMachine<'a> {
@@ -68,6 +69,7 @@ impl<'a> AbstractMachine<'a> {
         let poss = unknown(alloc, cells)?;
         let next = unknown(alloc, cells)?;
         let held = unknown(alloc, cells)?;
+        let marked = lowered(alloc, nets)?;
         Ok(AbstractMachine {
             design,
             clocks,
@@ -80,6 +82,7 @@ impl<'a> AbstractMachine<'a> {
             poss,
             next,
             held,
+            marked,
         })
     }
 
@@ -145,6 +148,7 @@ impl<'a> AbstractMachine<'a> {
             &mut self.poss,
             &mut self.held,
             &mut self.values,
+            &mut self.marked,
             &mut self.next,
         );
         take(

@@ -3,12 +3,12 @@
 ghost use Rattle.std.specs.Prelude.{◌≡◌, ◌⊎◌, ℕ, List, ◌<◌, length, true, false};
 ghost use Rattle.dft_netlist.specs.Logic.{reads};
 ghost use Rattle.dft_netlist.specs.Orders.{Has};
-ghost use Rattle.dft_cycle.specs.Circuit.{meaning, op_at, IsCircuit, IsGiven, flag_at as is_up};
+ghost use Rattle.dft_cycle.specs.Circuit.{meaning, op_at, IsCircuit, IsGivenIn, IsGiven, flag_at as is_up};
 ghost use Rattle.dft_cycle.specs.Tables.{list_at};
 
 use crate::circuit::Circuit;
 use crate::flops::differ;
-use crate::settling::{View, op_value};
+use crate::settling::{View, op_value, settle};
 use crate::tables::list_of;
 use dft_base::Tri;
 use dft_netlist::NetId;
@@ -103,12 +103,7 @@ fn settle_marked(
 }
 
 /// Evaluates the marked nets, in the circuit's order, and the readers of those that change.
-fn sweep(
-    circuit: &Circuit,
-    view: &View<'_, '_, '_>,
-    values: &mut [Tri],
-    marked: &mut [bool],
-)
+fn sweep(circuit: &Circuit, view: &View<'_, '_, '_>, values: &mut [Tri], marked: &mut [bool])
     requires circuit { IsCircuit circuit.now }
     requires values { length values.old ≡ length circuit.now.ops.items }
     requires marked { length marked.old ≡ length circuit.now.ops.items }
@@ -137,9 +132,69 @@ pub(crate) fn change_view(
     ensures given { (k : ℕ) → IsGiven circuit.now view.now values.new k }
     ensures clear { (k : ℕ) → is_up marked.new k ≡ false }
 {
-    let left = refresh(circuit, view, list_of(&circuit.leaves, last), values, marked);
-    let entered = refresh(circuit, view, list_of(&circuit.leaves, view.domain), values, marked);
+    let left = refresh(
+        circuit,
+        view,
+        list_of(&circuit.leaves, last),
+        values,
+        marked,
+    );
+    let entered = refresh(
+        circuit,
+        view,
+        list_of(&circuit.leaves, view.domain),
+        values,
+        marked,
+    );
     if left || entered {
         sweep(circuit, view, values, marked);
+    }
+}
+
+/// Lowers all flags.
+fn lower(flags: &mut [bool])
+    ensures { (k : ℕ) → is_up flags.new k ≡ false }
+{
+    for flag in flags.iter_mut() {
+        *flag = false;
+    }
+}
+
+/// Settles all nets in a view, whatever they had.
+pub(crate) fn first_view(
+    circuit: &Circuit,
+    view: &View<'_, '_, '_>,
+    values: &mut [Tri],
+    marked: &mut [bool],
+)
+    requires circuit { IsCircuit circuit.now }
+    requires values { length values.old ≡ length circuit.now.ops.items }
+    requires marked { length marked.old ≡ length circuit.now.ops.items }
+    ensures given { (k : ℕ) → IsGiven circuit.now view.now values.new k }
+    ensures clear { (k : ℕ) → is_up marked.new k ≡ false }
+{
+    settle(circuit, view, values);
+    lower(marked);
+}
+
+/// Settles all nets in a view, where they are settled in that of another domain.
+pub(crate) fn enter(
+    circuit: &Circuit,
+    view: &View<'_, '_, '_>,
+    last: NetId,
+    values: &mut [Tri],
+    marked: &mut [bool],
+)
+    requires circuit { IsCircuit circuit.now }
+    requires values { length values.old ≡ length circuit.now.ops.items }
+    requires marked { length marked.old ≡ length circuit.now.ops.items }
+    requires live { (last.0 < length circuit.now.ops.items) × (view.now.domain.0 < length circuit.now.ops.items) }
+    requires clear { (k : ℕ) → is_up marked.old k ≡ false }
+    requires given { (k : ℕ) → IsGivenIn circuit.now view.now last.0 values.old k }
+    ensures given { (k : ℕ) → IsGiven circuit.now view.now values.new k }
+    ensures clear { (k : ℕ) → is_up marked.new k ≡ false }
+{
+    if last.0 != view.domain.0 {
+        change_view(circuit, view, last, values, marked);
     }
 }

@@ -47,6 +47,7 @@ invariant_of-result c =
       poss = ap length c.in_ok-poss.ensures ∙ length-replicate _ _ ∙ cells;
       next = ap length c.in_ok-next.ensures ∙ length-replicate _ _ ∙ cells;
       held = ap length c.in_ok-held.ensures ∙ length-replicate _ _ ∙ cells;
+      marked = ap length c.in_ok-marked.ensures ∙ length-replicate _ _ ∙ count ∙ sym nets;
     }
 
 pub returns : goal.returns
