@@ -1,22 +1,24 @@
 -- What belongs to a domain is written by its lists, and from one domain's view to another's only leaves of the two differ.
-use Rattle.std.proofs.Common.{ℕ, zero, suc, Bool, true, false, List, [], ◌∷◌, ◌≡◌, ◌≢◌, ◌<◌, ◌≤◌, ◌+◌, ◌==◌, ◌⊎◌, inl, inr, Option, None, Some, length, map, drop, refl, sym, ap, ◌∙◌, subst, get_or, slice_set, get_or-set_same, get_or-set_other, arith}
+use Rattle.std.proofs.Common.{ℕ, Bool, true, false, List, ◌≡◌, ◌<◌, ◌≤◌, ◌+◌, ◌==◌, ◌⊎◌, inl, inr, Option, None, Some, length, map, drop, refl, sym, ap, ◌∙◌, subst, get_or, slice_set, get_or-set_same, get_or-set_other}
 use Rattle.std.specs.Prelude.{if◌then◌else◌}
 use Rattle.std.proofs.lemmas.Bool.Decides.{eqb_tells, leb_tells}
 use Rattle.std.proofs.lemmas.List.{get_or_past, drop_all}
 use Rattle.dft_base.specs.declared.tri.Tri.{Tri}
 use Rattle.dft_base.specs.declared.tri.Tri.TheVariants.{Zero, Unknown}
 use Rattle.dft_netlist.specs.Drivers.{Source}
-use Rattle.dft_netlist.specs.Logic.{Cell, Meaning, Input, Clock, Gate, Joined, Flop, Lockup, Free}
-use Rattle.dft_netlist.specs.Settled.{TriSources, value_from, value_given, inverse}
+use Rattle.dft_cells.specs.FlipFlops.{tri_forced}
+use Rattle.dft_netlist.specs.Logic.{Cell, Force, Meaning, Input, Clock, Gate, Joined, Flop, Lockup, Free}
+use Rattle.dft_netlist.specs.Settled.{TriSources, value_given, inverse}
 use Rattle.dft_netlist.specs.Orders.{Has}
 use Rattle.dft_cycle.specs.declared.circuit.Op.{Op}
 use Rattle.dft_cycle.specs.declared.circuit.Op.TheVariants as op
 use Rattle.dft_cycle.specs.declared.circuit.Circuit.{Circuit}
 use Rattle.dft_cycle.specs.Cycle.{Pulse, view_sources}
-use Rattle.dft_cycle.specs.Machine.{value_at}
-use Rattle.dft_cycle.specs.Circuit.{meaning, op_at, cell_of, cell_at, latch_at, latch_domains, leaf_domains, leaves_from, IsCircuit}
+use Rattle.dft_cycle.specs.Machine.{value_at, acted}
+use Rattle.dft_cycle.specs.Circuit.{meaning, op_at, cell_of, cell_at, latch_at, latch_domains, force_nets, leaf_domains, leaves_from, IsCircuit}
 use Rattle.dft_cycle.specs.Tables.{list_at}
 use Rattle.dft_cycle.specs.Views.{next_at, next_by, held_by}
+use Rattle.dft_cycle.proofs.MachineRounds.{forced_twice}
 use Rattle.dft_cycle.proofs.NextLemmas.{by_hit, by_miss}
 use Rattle.dft_cycle.proofs.RoundLemmas.{latch_hits, latch_misses, latch_live}
 use Rattle.dft_cycle.proofs.Settlings.{IsGiven}
@@ -66,6 +68,47 @@ pub next_listed : (cell : Cell) (d : ℕ) (ports values : ℕ → Tri) (t old : 
 next_listed cell d ports values t old own is = elim (eqb_tells cell.domain d) [
   | inl q ↦ is ∙ sym (by_hit cell d ports values old q.0)
   | inr q ↦ absurd (q.1 own)
+]
+
+-- ---- the flip-flops of a reset or set
+
+acted_misses : (force : Option Force) (net : ℕ) (value bit : Tri) → (Has (force_nets force) net → ⊥) → acted force net value bit ≡ bit
+acted_misses None net value bit none = refl
+acted_misses (Some force) net value bit none = elim (eqb_tells force.port net) [
+  | inl q ↦ absurd (none (inl (sym q.1)))
+  | inr q ↦ ap (λ (b : Bool). if b then tri_forced force.value value bit else bit) q.0
+]
+
+force_either : (force : Option Force) (net : ℕ) → Has (force_nets force) net ⊎ (Has (force_nets force) net → ⊥)
+force_either None net = inr (λ h. h)
+force_either (Some force) net = elim (eqb_tells force.port net) [
+  | inl q ↦ inl (inl (sym q.1))
+  | inr q ↦ inr (λ h. elim h [ inl e ↦ q.1 (sym e) | inr none ↦ none ])
+]
+
+-- acting twice is acting once
+acted_twice : (force : Option Force) (net : ℕ) (value bit : Tri) → acted force net value (acted force net value bit) ≡ acted force net value bit
+acted_twice None net value bit = refl
+acted_twice (Some force) net value bit = by (force.port == net) where
+  by : (b : Bool) → (if b then tri_forced force.value value (if b then tri_forced force.value value bit else bit) else (if b then tri_forced force.value value bit else bit)) ≡ (if b then tri_forced force.value value bit else bit)
+  by true = forced_twice force.value value bit
+  by false = refl
+
+pub followers_start : (x : Circuit) (net : ℕ) (value : Tri) (cells : List Tri) (xs : List ℕ) → IsCircuit x → net < length x.ops.items → xs ≡ list_at x.followers.items net →
+    Listed (length x.flops.items) cells cells (λ k old. acted (cell_at (map cell_of x.flops.items) k).force net value old) xs
+followers_start x net value cells xs is live e k less = elim (force_either (cell_at (map cell_of x.flops.items) k).force net) [
+  | inl own ↦ (let P : List ℕ → Type 0 = λ l. Has l k in inr (subst P (sym e) (is.tables.followers.each net k less live own), refl))
+  | inr other ↦ inl (sym (acted_misses (cell_at (map cell_of x.flops.items) k).force net value (value_at cells k) other))
+]
+
+pub follower_listed : (x : Circuit) (net c : ℕ) (xs : List ℕ) → IsCircuit x → xs ≡ list_at x.followers.items net → Has xs c → c < length x.flops.items
+follower_listed x net c xs is e h = (let P : List ℕ → Type 0 = λ l. Has l c in (is.tables.followers.only net c (subst P e h)).0)
+
+pub acted_once : (count : ℕ) (start now : List Tri) (force : ℕ → Option Force) (net c : ℕ) (value : Tri) (rest : List ℕ) → c < count → Listed count start now (λ k old. acted (force k) net value old) rest →
+    acted (force c) net value (value_at now c) ≡ acted (force c) net value (value_at start c)
+acted_once count start now force net c value rest less before = elim (before c less) [
+  | inl done ↦ ap (λ (t : Tri). acted (force c) net value t) done ∙ acted_twice (force c) net value (value_at start c)
+  | inr left ↦ ap (λ (t : Tri). acted (force c) net value t) left.1
 ]
 
 -- ---- the lock-ups of a domain

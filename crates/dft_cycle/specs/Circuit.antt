@@ -106,12 +106,17 @@ abbrev pub latch_domains : Option (ℕ × Source) → List ℕ
 latch_domains None = []
 latch_domains (Some latch) = latch.0 ∷ []
 
--- by net, what reads it; and for a clock what shows its domain, its flip-flops and its lock-ups
+abbrev pub force_nets : Option Force → List ℕ
+force_nets None = []
+force_nets (Some force) = force.port ∷ []
+
+-- by net, what reads it and what it resets or sets; and for a clock what shows its domain, its flip-flops and its lock-ups
 pub record AreTables (x : Circuit) : Type 0 where
   pub readers : IsTable (length x.ops.items) (length x.ops.items) (λ net. reads (meaning (op_at x.ops.items net))) x.readers.items
   pub leaves : IsTable (length x.ops.items) (length x.ops.items) (λ net. leaf_domains (map cell_of x.flops.items) net (meaning (op_at x.ops.items net))) x.leaves.items
   pub cells : IsTable (length x.ops.items) (length x.flops.items) (λ c. (cell_at (map cell_of x.flops.items) c).domain ∷ []) x.cells.items
   pub holders : IsTable (length x.ops.items) (length x.latches.items) (λ c. latch_domains (latch_at x.latches.items c)) x.holders.items
+  pub followers : IsTable (length x.ops.items) (length x.flops.items) (λ c. force_nets (cell_at (map cell_of x.flops.items) c).force) x.followers.items
 
 pub record IsCircuit (x : Circuit) : Type 0 where
   pub fits : (net : ℕ) → Fits (op_at x.ops.items net)

@@ -147,8 +147,9 @@ pub(crate) struct Latch {
 }
 
 /// What each net takes its value from, by net, in an order in which each comes after what it reads; and the flip-flop
-/// and the lock-up of each instance, by instance. Then what is found by tables: by net the nets that read it, and by the
-/// net of a clock the nets that show it or its domain's flip-flops and lock-ups, and these flip-flops and lock-ups.
+/// and the lock-up of each instance, by instance. Then what is found by tables: by net the nets that read it and the
+/// flip-flops that it resets or sets; and by the net of a clock the nets that show it or its domain's flip-flops and
+/// lock-ups, and these flip-flops and lock-ups.
 #[derive(Debug, Drop)]
 pub(crate) struct Circuit {
     pub order: Vec<NetId>,
@@ -159,4 +160,5 @@ pub(crate) struct Circuit {
     pub leaves: Vec<Numbers>,
     pub cells: Vec<Numbers>,
     pub holders: Vec<Numbers>,
+    pub followers: Vec<Numbers>,
 }

@@ -3,11 +3,11 @@
 ghost use Rattle.std.specs.Prelude.{◌≡◌, ◌∷◌, [], ◌<◌, ◌^◌, length, map, replicate, IfOk, OnOk};
 ghost use Rattle.dft_netlist.specs.Logic.{reads};
 ghost use Rattle.dft_netlist.specs.Drivers.{nets_of};
-ghost use Rattle.dft_cycle.specs.Circuit.{source_at, meaning, op_at, cell_of, cell_at, latch_at, leaf_domains, latch_domains};
+ghost use Rattle.dft_cycle.specs.Circuit.{source_at, meaning, op_at, cell_of, cell_at, latch_at, leaf_domains, latch_domains, force_nets};
 ghost use Rattle.dft_cycle.specs.Circuit as circuits;
 ghost use Rattle.dft_cycle.specs.Tables.{list_at, listed, IsAdded, IsTable};
 
-use crate::circuit::{FlipFlop, Latch, Numbers, Op, Operand};
+use crate::circuit::{Acting, FlipFlop, Latch, Numbers, Op, Operand};
 use crate::settling::domain_at;
 use dft_netlist::NetId;
 use std::alloc::{AllocError, Global};
@@ -163,6 +163,32 @@ pub(crate) fn holders(
     let mut table = empty(alloc, nets)?;
     for (place, latch) in latches.iter().enumerate() {
         add_at(&mut table, latch_domain(*latch), place as u32)?;
+    }
+    Ok(table)
+}
+
+/// The net of a reset or set.
+fn force_net(force: Option<Acting>) -> Option<NetId>
+    ensures { listed result ≡ force_nets (circuits.force_at force) }
+{
+    match force {
+        Some(acting) => Some(acting.port),
+        None => None,
+    }
+}
+
+/// The flip-flops that each reset or set acts on.
+pub(crate) fn followers(
+    alloc: Global,
+    flops: &[FlipFlop],
+    nets: usize,
+) -> Result<Vec<Numbers>, AllocError>
+    requires { length flops.now < 2 ^ 32 }
+    ensures { IfOk result (λ table. IsTable nets (length flops.now) (λ c. force_nets (cell_at (map cell_of flops.now) c).force) table.items) }
+{
+    let mut table = empty(alloc, nets)?;
+    for (place, flop) in flops.iter().enumerate() {
+        add_at(&mut table, force_net(flop.force), place as u32)?;
     }
     Ok(table)
 }

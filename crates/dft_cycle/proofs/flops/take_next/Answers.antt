@@ -1,5 +1,5 @@
 -- One flip-flop more has its value.
-use Rattle.std.proofs.Common.{ℕ, List, ◌≡◌, ◌<◌, ◌∙◌, refl, ap, sym, length, map, get_or, arith}
+use Rattle.std.proofs.Common.{ℕ, List, ◌≡◌, ◌<◌, ◌∙◌, refl, ap, length, map, get_or, arith}
 use Rattle.std.proofs.lemmas.List.{get_or_read}
 use Rattle.dft_base.specs.declared.tri.Tri.{Tri}
 use Rattle.dft_netlist.specs.Logic.{Cell}

@@ -1,11 +1,9 @@
 -- The flip-flops of one domain more have their next values.
-use Rattle.std.proofs.Common.{ℕ, List, ◌≡◌, ◌<◌, ◌∙◌, false, length, refl, sym, subst, get_or}
+use Rattle.std.proofs.Common.{ℕ, ◌<◌, ◌∙◌, length, refl, sym, get_or}
 use Rattle.std.proofs.lemmas.Option.{slice_get-get_or}
-use Rattle.dft_base.specs.declared.tri.Tri.{Tri}
 use Rattle.dft_netlist.specs.declared.ids.NetId.{NetId}
-use Rattle.dft_cycle.specs.Circuit.{logic_at, pulse_at, flag_at}
+use Rattle.dft_cycle.specs.Circuit.{logic_at, pulse_at}
 use Rattle.dft_cycle.specs.Machine.{value_at}
-use Rattle.dft_cycle.proofs.DomainLemmas.{GivenIn}
 use Rattle.dft_cycle.proofs.NextLemmas.{next_more, next_kept}
 use Rattle.dft_cycle.proofs.rounds.next_values.Goals as goal
 use Rattle.dft_cycle.proofs.rounds.next_values.Goals.{then-flag_at, else-flag_at}

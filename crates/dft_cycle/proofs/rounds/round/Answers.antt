@@ -1,5 +1,5 @@
 -- The lock-ups of one domain more are held higher.
-use Rattle.std.proofs.Common.{ℕ, ◌<◌, ◌∙◌, length, refl, sym, get_or, arith}
+use Rattle.std.proofs.Common.{◌<◌, ◌∙◌, length, refl, sym, get_or, arith}
 use Rattle.std.proofs.lemmas.Option.{slice_get-get_or}
 use Rattle.dft_netlist.specs.declared.ids.NetId.{NetId}
 use Rattle.dft_cycle.specs.Circuit.{logic_at, pulse_at}

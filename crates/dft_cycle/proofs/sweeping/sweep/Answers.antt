@@ -1,8 +1,7 @@
 -- One net more.
-use Rattle.std.proofs.Common.{ℕ, List, ◌≡◌, ◌<◌, ◌∙◌, ap, map, length, refl, get_or, arith}
+use Rattle.std.proofs.Common.{List, ◌≡◌, ◌<◌, ◌∙◌, ap, length, get_or, arith}
 use Rattle.dft_netlist.specs.declared.ids.NetId.{NetId}
-use Rattle.dft_cycle.specs.Circuit.{cell_of, view_base, held_in}
-use Rattle.dft_cycle.proofs.Sweepings.{sweeping_starts, swept_live, sweeping_more, swept}
+use Rattle.dft_cycle.proofs.Sweepings.{sweeping_starts, sweeping_more, swept}
 use Rattle.dft_cycle.proofs.sweeping.sweep.Goals as goal
 
 pub loop-net-init : goal.loop-net-init
