@@ -8,7 +8,7 @@ use std::alloc::{AllocError, Global};
 use std::marker::Model;
 
 /// Where an input pin takes its value from.
-#[derive(Clone, Copy, Debug, PartialEq, Eq)]
+#[derive(Clone, Copy)]
 pub(crate) enum Operand {
     Net(NetId),
     Tied(bool),
@@ -17,7 +17,7 @@ pub(crate) enum Operand {
 }
 
 /// Operands in order. A clause sees them as a list.
-#[derive(Debug, Drop)]
+#[derive(Drop)]
 pub(crate) struct Operands {
     operands: Vec<Operand>,
 }
@@ -59,7 +59,7 @@ impl Operands {
 }
 
 /// Numbers of nets or of instances. A clause sees them as a list.
-#[derive(Debug, Drop)]
+#[derive(Drop)]
 pub(crate) struct Numbers {
     numbers: Vec<u32>,
 }
@@ -100,7 +100,7 @@ impl Numbers {
 }
 
 /// What a net takes its value from.
-#[derive(Debug, Drop)]
+#[derive(Drop)]
 pub(crate) enum Op {
     /// The bit of an input port that is no clock.
     Input,
@@ -117,21 +117,21 @@ pub(crate) enum Op {
 }
 
 /// The pins of a scan cell that are there for scan.
-#[derive(Clone, Copy, Debug, PartialEq, Eq)]
+#[derive(Clone, Copy)]
 pub(crate) struct ScanPins {
     pub enable: Operand,
     pub input: Operand,
 }
 
 /// A reset (value 0) or a set (value 1), by the net of the port that is 0 where it acts.
-#[derive(Clone, Copy, Debug, PartialEq, Eq)]
+#[derive(Clone, Copy)]
 pub(crate) struct Acting {
     pub port: NetId,
     pub value: bool,
 }
 
 /// A flip-flop: the net of its clock port, and its pins.
-#[derive(Clone, Copy, Debug, PartialEq, Eq)]
+#[derive(Clone, Copy)]
 pub(crate) struct FlipFlop {
     pub domain: NetId,
     pub input: Operand,
@@ -140,7 +140,7 @@ pub(crate) struct FlipFlop {
 }
 
 /// A lock-up: the net of its clock port, and its input.
-#[derive(Clone, Copy, Debug, PartialEq, Eq)]
+#[derive(Clone, Copy)]
 pub(crate) struct Latch {
     pub domain: NetId,
     pub input: Operand,
@@ -150,7 +150,7 @@ pub(crate) struct Latch {
 /// and the lock-up of each instance, by instance. Then what is found by tables: by net the nets that read it and the
 /// flip-flops that it resets or sets; and by the net of a clock the nets that show it or its domain's flip-flops and
 /// lock-ups, and these flip-flops and lock-ups.
-#[derive(Debug, Drop)]
+#[derive(Drop)]
 pub(crate) struct Circuit {
     pub order: Vec<NetId>,
     pub ops: Vec<Op>,
