@@ -65,14 +65,13 @@ set_done m after x net value compiled n k s inputs live a b each =
     }
 
 -- what was read from other lists that are the same
-pub acted_read : (flops fs : List FlipFlop) (cells os new ws : List Tri) (net : ℕ) (value : Tri) → fs ≡ flops → os ≡ cells → new ≡ ws →
-    ((c : ℕ) → c < length fs → value_at ws c ≡ acted (cell_at (map cell_of fs) c).force net value (value_at os c)) →
+pub acted_read : (flops : List FlipFlop) (cells os new ws : List Tri) (net : ℕ) (value : Tri) → os ≡ cells → new ≡ ws →
+    ((c : ℕ) → c < length flops → value_at ws c ≡ acted (cell_at (map cell_of flops) c).force net value (value_at os c)) →
     (c : ℕ) → c < length flops → value_at new c ≡ acted (cell_at (map cell_of flops) c).force net value (value_at cells c)
-acted_read flops fs cells os new ws net value f o n each =
-    let F : List FlipFlop → Type 0 = λ l. (c : ℕ) → c < length l → value_at new c ≡ acted (cell_at (map cell_of l) c).force net value (value_at cells c) in
-    let O : List Tri → Type 0 = λ l. (c : ℕ) → c < length fs → value_at new c ≡ acted (cell_at (map cell_of fs) c).force net value (value_at l c) in
-    let N : List Tri → Type 0 = λ l. (c : ℕ) → c < length fs → value_at l c ≡ acted (cell_at (map cell_of fs) c).force net value (value_at os c) in
-    subst F f (subst O o (subst N (sym n) each))
+acted_read flops cells os new ws net value o n each =
+    let O : List Tri → Type 0 = λ l. (c : ℕ) → c < length flops → value_at new c ≡ acted (cell_at (map cell_of flops) c).force net value (value_at l c) in
+    let N : List Tri → Type 0 = λ l. (c : ℕ) → c < length flops → value_at l c ≡ acted (cell_at (map cell_of flops) c).force net value (value_at os c) in
+    subst O o (subst N (sym n) each)
 
 pub taken_read : (flops fs : List FlipFlop) (marks bs : List Bool) (next xs cells os new ws : List Tri) → fs ≡ flops → bs ≡ marks → xs ≡ next → os ≡ cells → new ≡ ws →
     ((c : ℕ) → c < length fs → value_at ws c ≡ (if flag_at bs (cell_at (map cell_of fs) c).domain then value_at xs c else value_at os c)) →

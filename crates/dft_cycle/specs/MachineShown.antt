@@ -24,3 +24,4 @@ pub record IsMachine (d : Inside) : Type 0 where
   pub poss : length d.poss.items ≡ length d.circuit.flops.items
   pub next : length d.next.items ≡ length d.circuit.flops.items
   pub held : length d.held.items ≡ length d.circuit.flops.items
+  pub marked : length d.marked.items ≡ length d.circuit.ops.items

@@ -3,13 +3,14 @@
 ghost use Rattle.std.specs.Prelude.{◌≡◌, ℕ, ◌<◌, length, map, replicate, true, false, Some, slice_get, IfOk, if◌then◌else◌};
 ghost use Rattle.dft_cycle.specs.Machine.{logic, AreNets, is_one_of, IsStart, IsSet, IsStrobed, IsPulsed, pulses, acted};
 ghost use Rattle.dft_cycle.specs.Machine as spec;
-ghost use Rattle.dft_cycle.specs.Circuit.{cell_of, cell_at, force_at, flag_at as is_up};
+ghost use Rattle.dft_cycle.specs.Circuit.{cell_of, cell_at, force_at, IsCircuit, flag_at as is_up};
 
 use crate::building::compile;
 use crate::circuit::{Acting, Circuit, FlipFlop};
 use crate::flops::forced;
 use crate::rounds::find_least;
 use crate::settling::{Pulse, View, flag_at, settle, value_at};
+use crate::tables::list_of;
 use dft_base::Tri;
 use dft_netlist::{Design, NetId};
 use std::alloc::{AllocError, Global};
@@ -30,6 +31,7 @@ pub struct AbstractMachine<'a> {
     poss: Vec<Tri>,
     next: Vec<Tri>,
     held: Vec<Tri>,
+    marked: Vec<bool>,
 }
 
 impl<'a> Model for AbstractMachine<'a> {
@@ -68,6 +70,7 @@ impl<'a> AbstractMachine<'a> {
         let poss = unknown(alloc, cells)?;
         let next = unknown(alloc, cells)?;
         let held = unknown(alloc, cells)?;
+        let marked = lowered(alloc, nets)?;
         Ok(AbstractMachine {
             design,
             clocks,
@@ -80,6 +83,7 @@ impl<'a> AbstractMachine<'a> {
             poss,
             next,
             held,
+            marked,
         })
     }
 
@@ -90,7 +94,7 @@ impl<'a> AbstractMachine<'a> {
         ensures { IsSet (logic self.old) self.old net.0 value self.new }
     {
         self.inputs[net.0 as usize] = value;
-        act(&self.circuit.flops, net, value, &mut self.cells);
+        act(&self.circuit, net, value, &mut self.cells);
     }
 
     /// The value of this input port's bit, and `Unknown` before it is set.
@@ -145,6 +149,7 @@ impl<'a> AbstractMachine<'a> {
             &mut self.poss,
             &mut self.held,
             &mut self.values,
+            &mut self.marked,
             &mut self.next,
         );
         take(
@@ -171,12 +176,16 @@ fn acted_on(force: Option<Acting>, net: NetId, value: Tri, bit: Tri) -> Tri
 }
 
 /// An input that gets a value acts on the flip-flops that have it as their reset or set.
-fn act(flops: &[FlipFlop], net: NetId, value: Tri, cells: &mut [Tri])
-    requires { length cells.old ≡ length flops.now }
-    ensures { (c : ℕ) → c < length flops.now → spec.value_at cells.new c ≡ acted (cell_at (map cell_of flops.now) c).force net.0 value (spec.value_at cells.old c) }
+fn act(circuit: &Circuit, net: NetId, value: Tri, cells: &mut [Tri])
+    requires circuit { IsCircuit circuit.now }
+    requires live { net.0 < length circuit.now.ops.items }
+    requires cells { length cells.old ≡ length circuit.now.flops.items }
+    ensures { (c : ℕ) → c < length circuit.now.flops.items → spec.value_at cells.new c ≡ acted (cell_at (map cell_of circuit.now.flops.items) c).force net.0 value (spec.value_at cells.old c) }
 {
-    for (place, flop) in flops.iter().enumerate() {
-        cells[place] = acted_on(flop.force, net, value, cells[place]);
+    for cell in list_of(&circuit.followers, net) {
+        let place = *cell as usize;
+        let bit = value_at(cells, *cell);
+        cells[place] = acted_on(circuit.flops[place].force, net, value, bit);
     }
 }
 

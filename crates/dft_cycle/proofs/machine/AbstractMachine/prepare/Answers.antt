@@ -1,12 +1,13 @@
 -- The machine's circuit is the design's.
-use Rattle.std.proofs.Common.{ℕ, Bool, ◌≡◌, ◌∙◌, Some, ap, sym, subst, length, slice_get, List, arith}
+use Rattle.std.proofs.Common.{ℕ, Bool, ◌≡◌, ◌∙◌, Some, refl, ap, sym, subst, length, slice_get, List, arith}
 use Rattle.std.proofs.lemmas.List.{length-replicate}
 use Rattle.std.specs.Vec.{with_items}
+use Rattle.dft_base.specs.declared.tri.Tri.{Tri}
 use Rattle.dft_netlist.specs.declared.ids.NetId.{NetId}
 use Rattle.dft_netlist.specs.Logic.{Ports, Logic, logic_of}
-use Rattle.dft_cycle.specs.Machine.{logic, is_one_of}
+use Rattle.dft_cycle.specs.Machine.{logic, is_one_of, value_at}
 use Rattle.dft_cycle.specs.Circuit.{flag_at}
-use Rattle.dft_cycle.proofs.MachineLemmas.{refilled, filled, one_among, same_ports}
+use Rattle.dft_cycle.proofs.MachineLemmas.{unknown_all, refilled, filled, one_among, same_ports}
 use Rattle.dft_cycle.proofs.machine.AbstractMachine.prepare.Goals as goal
 
 pub invariant_of-result : goal.invariant_of-result
@@ -46,4 +47,14 @@ invariant_of-result c =
       poss = ap length c.in_ok-poss.ensures ∙ length-replicate _ _ ∙ cells;
       next = ap length c.in_ok-next.ensures ∙ length-replicate _ _ ∙ cells;
       held = ap length c.in_ok-held.ensures ∙ length-replicate _ _ ∙ cells;
+      marked = ap length c.in_ok-marked.ensures ∙ length-replicate _ _ ∙ count ∙ sym nets;
     }
+
+pub returns : goal.returns
+returns c = record {
+  netlist = refl;
+  clocks = c.in_ok-clocks.ensures.items;
+  inputs = λ k. ap (λ (l : List Tri). value_at l k) c.in_ok-inputs.ensures ∙ unknown_all _ k;
+  cells = λ k. ap (λ (l : List Tri). value_at l k) c.in_ok-bits.ensures ∙ unknown_all _ k;
+  shown = λ k. ap (λ (l : List Tri). value_at l k) c.in_ok-shown.ensures ∙ unknown_all _ k;
+}

@@ -25,6 +25,7 @@ invariant_of-self c =
       poss = i.poss;
       next = i.next;
       held = i.held;
+      marked = i.marked;
     }
 
 pub returns : goal.returns
