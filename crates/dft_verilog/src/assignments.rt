@@ -94,7 +94,10 @@ fn assignments<'a>(draft: &mut ModuleDraft<'a>, tokens: &mut Tokens<'a>) -> Resu
 
 #[tactic(auto, unfolding(dft_netlist::specs::Items::assign_item))]
 /// `assign` and its assignments.
-pub fn assign_item<'a>(draft: &mut ModuleDraft<'a>, tokens: &mut Tokens<'a>) -> Result<(), ReadError>
+pub fn assign_item<'a>(
+    draft: &mut ModuleDraft<'a>,
+    tokens: &mut Tokens<'a>,
+) -> Result<(), ReadError>
     ensures read { Reads (λ _. draft.new) (spec.assign_item draft.old tokens.old) result tokens.new }
     ensures library { OnOk result (draft.new.library ≡ draft.old.library) }
 {

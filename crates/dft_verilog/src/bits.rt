@@ -49,11 +49,7 @@ fn bit_name<'a>(alloc: Global, word: &[u8], index: u16) -> Result<Word<'a>, Allo
 }
 
 /// The printed names of the bits of a vector, leftmost first.
-pub fn bit_names<'a>(
-    alloc: Global,
-    word: &[u8],
-    range: Range,
-) -> Result<Vec<Word<'a>>, AllocError>
+pub fn bit_names<'a>(alloc: Global, word: &[u8], range: Range) -> Result<Vec<Word<'a>>, AllocError>
     requires { IsName word.now }
     ensures names { IfOk result (λ list. list.items ≡ names.bit_names word.now (Some range)) }
     ensures apart { IfOk result (λ list. AreBitsApart word.now (Some range) list.items) }

@@ -120,7 +120,11 @@ impl<'a> Tokens<'a> {
         let (_, rest) = self.ahead.split_at(self.front.len);
         self.behind_base = is_base_kind(self.front.kind);
         self.ahead = skip_blanks(rest);
-        self.front = cut(self.behind_base, self.ahead);
+        let front = cut(self.behind_base, self.ahead);
+        self.front.kind = front.kind;
+        self.front.len = front.len;
+        self.front.prefix = front.prefix;
+        self.front.at = front.at;
         bytes
     }
 
@@ -148,6 +152,7 @@ impl<'a> Tokens<'a> {
 
     #[tactic(auto, unfolding(dft_netlist::specs::Steps::expect))]
     /// Takes a token of this kind, which must come next; else the next token is refused.
+    #[inline(always)]
     pub fn expect(&mut self, kind: TokenKind) -> Result<&'a [u8], ReadError>
         ensures read { Reads (λ bytes. bytes.now) (spec.expect kind self.old) result self.new }
         ensures name { kind ≡ kinds.Name → IfOk result (λ bytes. IsName bytes.now) }
@@ -161,6 +166,7 @@ impl<'a> Tokens<'a> {
 
     #[tactic(auto, unfolding(dft_netlist::specs::Steps::refusal))]
     /// That no rule takes the next token.
+    #[cold]
     pub fn refusal(&self) -> ReadError
         ensures { Faults (spec.refusal self.now) result }
     {

@@ -125,7 +125,11 @@ fn terminals<'a>(
 
 #[tactic(auto, using(crate::proofs::GateLemmas::naming), unfolding(dft_netlist::specs::Items::named_gate))]
 // A gate with a name.
-fn named_gate<'a>(kind: Kind, draft: &mut ModuleDraft<'a>, tokens: &mut Tokens<'a>) -> Result<(), ReadError>
+fn named_gate<'a>(
+    kind: Kind,
+    draft: &mut ModuleDraft<'a>,
+    tokens: &mut Tokens<'a>,
+) -> Result<(), ReadError>
     requires { IsTrue (is_primitive kind) }
     ensures read { Reads (λ _. draft.new) (spec.named_gate kind draft.old tokens.old) result tokens.new }
     ensures library { OnOk result (draft.new.library ≡ draft.old.library) }
@@ -157,7 +161,11 @@ fn unnamed_gate<'a>(
 
 #[tactic(auto, unfolding(dft_netlist::specs::Items::one_gate))]
 // A gate with or without a name.
-fn one_gate<'a>(kind: Kind, draft: &mut ModuleDraft<'a>, tokens: &mut Tokens<'a>) -> Result<(), ReadError>
+fn one_gate<'a>(
+    kind: Kind,
+    draft: &mut ModuleDraft<'a>,
+    tokens: &mut Tokens<'a>,
+) -> Result<(), ReadError>
     requires { IsTrue (is_primitive kind) }
     ensures read { Reads (λ _. draft.new) (spec.one_gate kind draft.old tokens.old) result tokens.new }
     ensures library { OnOk result (draft.new.library ≡ draft.old.library) }
@@ -170,7 +178,11 @@ fn one_gate<'a>(kind: Kind, draft: &mut ModuleDraft<'a>, tokens: &mut Tokens<'a>
 }
 
 // Gates of one kind with commas between them.
-fn gates<'a>(kind: Kind, draft: &mut ModuleDraft<'a>, tokens: &mut Tokens<'a>) -> Result<(), ReadError>
+fn gates<'a>(
+    kind: Kind,
+    draft: &mut ModuleDraft<'a>,
+    tokens: &mut Tokens<'a>,
+) -> Result<(), ReadError>
     requires { IsTrue (is_primitive kind) }
     ensures read { Reads (λ _. draft.new) (spec.gates kind draft.old tokens.old) result tokens.new }
     ensures library { OnOk result (draft.new.library ≡ draft.old.library) }

@@ -33,7 +33,10 @@ fn announced_name<'a>(draft: &mut ModuleDraft<'a>, tokens: &mut Tokens<'a>) -> R
 }
 
 // The names of a header without directions.
-fn announced_names<'a>(draft: &mut ModuleDraft<'a>, tokens: &mut Tokens<'a>) -> Result<(), ReadError>
+fn announced_names<'a>(
+    draft: &mut ModuleDraft<'a>,
+    tokens: &mut Tokens<'a>,
+) -> Result<(), ReadError>
     ensures read { Reads (λ _. draft.new) (spec.announced_names draft.old tokens.old) result tokens.new }
     ensures library { OnOk result (draft.new.library ≡ draft.old.library) }
 {

@@ -161,7 +161,12 @@ fn is_implied(spot: Spot, what: Select) -> bool
 
 impl<'a> ModuleDraft<'a> {
     /// A name that is free is a net from here on.
-    fn imply(&mut self, place: usize, word: &'a [u8], bits: &mut PinSignals) -> Result<(), ReadError>
+    fn imply(
+        &mut self,
+        place: usize,
+        word: &'a [u8],
+        bits: &mut PinSignals,
+    ) -> Result<(), ReadError>
         requires name { IsName word.now }
         requires free { meaning_of self.old word.now ≡ None }
         ensures { (what : Select) → Checks (λ _. (self.new, bits.new)) (behind bits.old (spec.implied_net (record { word = word.now; what = what; place = place }) self.old (declare_nets place word.now None self.old))) result }
