@@ -14,11 +14,11 @@ pub has_left : (xs ys : List ℕ) (k : ℕ) → Has xs k → Has (xs ++ ys) k
 has_left [] ys k h = absurd h
 has_left (x ∷ xs) ys k h = elim h [ inl e ↦ inl e | inr more ↦ inr (has_left xs ys k more) ]
 
-has_right : (xs ys : List ℕ) (k : ℕ) → Has ys k → Has (xs ++ ys) k
+pub has_right : (xs ys : List ℕ) (k : ℕ) → Has ys k → Has (xs ++ ys) k
 has_right [] ys k h = h
 has_right (x ∷ xs) ys k h = inr (has_right xs ys k h)
 
-has_either : (xs ys : List ℕ) (k : ℕ) → Has (xs ++ ys) k → Has xs k ⊎ Has ys k
+pub has_either : (xs ys : List ℕ) (k : ℕ) → Has (xs ++ ys) k → Has xs k ⊎ Has ys k
 has_either [] ys k h = inr h
 has_either (x ∷ xs) ys k h = elim h [ inl e ↦ inl (inl e) | inr more ↦ elim (has_either xs ys k more) [ inl left ↦ inl (inr left) | inr right ↦ inr right ] ]
 

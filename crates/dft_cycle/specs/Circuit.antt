@@ -1,9 +1,10 @@
 -- A design made ready for settling: what each net takes its value from, and the flip-flop of each instance.
-use Rattle.std.specs.Prelude.{ℕ, Bool, false, ◌≡◌, ◌<◌, List, [], ◌∷◌, map, length, Option, None, Some, slice_index_or, option_map}
+use Rattle.std.specs.Prelude.{ℕ, Bool, false, ◌≡◌, ◌<◌, List, [], ◌∷◌, ◌++◌, map, length, Option, None, Some, slice_index_or, option_map}
 use Rattle.std.specs.List.{AllByRecursion}
 use Rattle.dft_base.specs.declared.tri.Tri.{Tri}
 use Rattle.dft_base.specs.declared.tri.Tri.TheVariants.{Unknown}
 use Rattle.dft_cells.specs.WellFormed.{TakesInputs}
+use Rattle.dft_netlist.specs.declared.ids.NetId.{NetId}
 use Rattle.dft_netlist.specs.Drivers.{Source}
 use Rattle.dft_netlist.specs.Drivers as drivers
 use Rattle.dft_netlist.specs.Logic.{Logic, Meaning, Cell, Scan, Force, reads, no_cell}
@@ -24,7 +25,7 @@ use Rattle.dft_cycle.specs.declared.settling.View.{View}
 use Rattle.dft_cycle.specs.Cycle.{view_sources}
 use Rattle.dft_cycle.specs.Cycle as Cycle
 use Rattle.dft_cycle.specs.Machine.{value_at}
-use Rattle.dft_cycle.specs.Tables.{IsTable}
+use Rattle.dft_cycle.specs.Tables.{list_at, IsTable}
 
 -- ---- what the parts stand for
 
@@ -154,12 +155,33 @@ view_base cells v = view_sources (record { net = λ net. meanings.Free; cell = c
 abbrev pub held_in : View → Option (List Tri)
 held_in v = option_map (λ h. h.now) v.held
 
--- the net has its driver's value where the view is that of this domain
-abbrev pub IsGivenIn : Circuit → View → (domain : ℕ) → (values : List Tri) → ℕ → Type 0
-IsGivenIn x v d values k =
-    let base = view_sources (record { net = λ net. meanings.Free; cell = cell_at (map cell_of x.flops.items) }) (pulse_at v.pulse) (value_at v.poss.now) (λ e net. Unknown) d in
-    value_at values k ≡ value_given (leaves_from base (held_in v) (value_at values)) (value_at values) k (meaning (op_at x.ops.items k))
+-- what the view of a domain is settled from, but for its lock-ups
+abbrev pub base_of : List Cell → Cycle.Pulse → (poss : List Tri) → (domain : ℕ) → TriSources
+base_of cells p poss d = view_sources (record { net = λ net. meanings.Free; cell = cell_at cells }) p (value_at poss) (λ e net. Unknown) d
 
--- the net has its driver's value in the view
+-- the net has its driver's value in the view of a domain
+abbrev pub IsGivenBy : Circuit → Cycle.Pulse → (poss : List Tri) → Option (List Tri) → (domain : ℕ) → (values : List Tri) → ℕ → Type 0
+IsGivenBy x p poss held d values k =
+    value_at values k ≡ value_given (leaves_from (base_of (map cell_of x.flops.items) p poss d) held (value_at values)) (value_at values) k (meaning (op_at x.ops.items k))
+
+abbrev pub GivenIn : Circuit → Cycle.Pulse → (poss held : List Tri) → (domain : ℕ) → (values : List Tri) → ℕ → Type 0
+GivenIn x p poss held d values k = IsGivenBy x p poss (Some held) d values k
+
+-- the same where the view is that of this domain, and in the view itself
+abbrev pub IsGivenIn : Circuit → View → (domain : ℕ) → (values : List Tri) → ℕ → Type 0
+IsGivenIn x v d values k = IsGivenBy x (pulse_at v.pulse) v.poss.now (held_in v) d values k
+
 abbrev pub IsGiven : Circuit → View → (values : List Tri) → ℕ → Type 0
 IsGiven x v values k = IsGivenIn x v v.domain.0 values k
+
+-- all nets have the values of some view of the pulse
+pub record IsSettledIn (x : Circuit) (p : Cycle.Pulse) (values : List Tri) : Type 0 where
+  pub poss : List Tri
+  pub held : List Tri
+  pub domain : ℕ
+  pub given : (k : ℕ) → GivenIn x p poss held domain values k
+
+-- the nets that show one of these clocks, or a flip-flop or a lock-up of its domain
+abbrev pub all_leaves : (leaves : List (List ℕ)) → (clocks : List NetId) → List ℕ
+all_leaves leaves [] = []
+all_leaves leaves (clock ∷ clocks) = list_at leaves clock.0 ++ all_leaves leaves clocks
