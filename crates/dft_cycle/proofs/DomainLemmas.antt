@@ -1,29 +1,28 @@
 -- What belongs to a domain is written by its lists, and from one domain's view to another's only leaves of the two differ.
-use Rattle.std.proofs.Common.{ℕ, Bool, true, false, List, ◌≡◌, ◌<◌, ◌≤◌, ◌+◌, ◌==◌, ◌⊎◌, inl, inr, Option, None, Some, length, map, drop, refl, sym, ap, ◌∙◌, subst, get_or, slice_set, get_or-set_same, get_or-set_other, arith, ◌∷◌, [], zero, suc}
+use Rattle.std.proofs.Common.{ℕ, Bool, true, false, List, ◌≡◌, ◌<◌, ◌≤◌, ◌+◌, ◌==◌, ◌⊎◌, inl, inr, Option, None, Some, length, map, drop, refl, sym, ap, ◌∙◌, subst, get_or, slice_set, get_or-set_same, get_or-set_other, arith, []}
 use Rattle.std.specs.Prelude.{if◌then◌else◌}
 use Rattle.std.proofs.lemmas.Bool.Decides.{eqb_tells, leb_tells}
 use Rattle.std.proofs.lemmas.List.{get_or_past, drop_all}
-use Rattle.std.proofs.lemmas.Option.{slice_get-get_or}
 use Rattle.dft_base.specs.declared.tri.Tri.{Tri}
 use Rattle.dft_base.specs.declared.tri.Tri.TheVariants.{Zero, Unknown}
-use Rattle.dft_netlist.specs.declared.ids.NetId.{NetId}
 use Rattle.dft_netlist.specs.Drivers.{Source}
 use Rattle.dft_cells.specs.FlipFlops.{tri_forced}
 use Rattle.dft_netlist.specs.Logic.{Cell, Force, Meaning, Input, Clock, Gate, Joined, Flop, Lockup, Free}
-use Rattle.dft_netlist.specs.Settled.{value_given, inverse}
+use Rattle.dft_netlist.specs.Settled.{TriSources, value_given, inverse}
 use Rattle.dft_netlist.specs.Orders.{Has}
 use Rattle.dft_cycle.specs.declared.circuit.Op.{Op}
 use Rattle.dft_cycle.specs.declared.circuit.Op.TheVariants as op
 use Rattle.dft_cycle.specs.declared.circuit.Circuit.{Circuit}
+use Rattle.dft_cycle.specs.declared.settling.View.{View}
 use Rattle.dft_cycle.specs.Cycle.{Pulse}
-use Rattle.dft_cycle.specs.Machine.{value_at, acted, AreNets}
-use Rattle.dft_cycle.specs.Circuit.{base_of, GivenIn, IsSettledIn, all_leaves, meaning, op_at, cell_of, cell_at, latch_at, latch_domains, force_nets, leaf_domains, leaves_from, IsCircuit}
+use Rattle.dft_cycle.specs.Machine.{value_at, acted}
+use Rattle.dft_cycle.specs.Circuit.{base_of, pulse_at, held_in, IsGivenIn, GivenIn, IsReady, source_places, flag_at, meaning, op_at, cell_of, cell_at, latch_at, latch_domains, force_nets, leaf_domains, leaves_from, IsCircuit}
 use Rattle.dft_cycle.specs.Tables.{list_at}
-use Rattle.dft_cycle.specs.Views.{next_at, next_by, held_by, Among, OwnsLatches}
+use Rattle.dft_cycle.specs.Views.{next_at, next_by, held_by}
 use Rattle.dft_cycle.proofs.MachineRounds.{forced_twice}
 use Rattle.dft_cycle.proofs.NextLemmas.{by_hit, by_miss}
 use Rattle.dft_cycle.proofs.RoundLemmas.{latch_hits, latch_misses, latch_live}
-use Rattle.dft_cycle.proofs.TableLemmas.{has_left, has_right}
+use Rattle.dft_cycle.proofs.Settlings.{IsGiven}
 use Rattle.dft_cycle.proofs.Sweepings.{has_front}
 
 -- ---- writing by a list
@@ -226,48 +225,39 @@ held_near x p poss held new values d k is live each given =
       | inr same ↦ inr (given ∙ same)
     ]
 
--- ---- from any view of a pulse to any other
+-- ---- from any sources to any view
 
-has_all : (leaves : List (List ℕ)) (clocks : List NetId) (e k : ℕ) → Among clocks (length clocks) e → Has (list_at leaves e) k → Has (all_leaves leaves clocks) k
-has_all leaves clocks e k among h = at clocks among.place among.before among.here where
-  at : (cs : List NetId) (j : ℕ) → j < length cs → (get_or cs j (record { 0 = 0 })).0 ≡ e → Has (all_leaves leaves cs) k
-  at [] j less here = absurd (omega arith)
-  at (clock ∷ cs) zero less here = (let P : ℕ → Type 0 = λ n. Has (list_at leaves n) k in has_left (list_at leaves clock.0) (all_leaves leaves cs) k (subst P (sym here) h))
-  at (clock ∷ cs) (suc j) less here = has_right (list_at leaves clock.0) (all_leaves leaves cs) k (at cs j (omega arith) here)
+given_any : (base other : TriSources) (held hold : Option (List Tri)) (k : ℕ) (values : ℕ → Tri) (m : Meaning) →
+    Has (source_places m) 0 ⊎ (value_given (leaves_from base held values) values k m ≡ value_given (leaves_from other hold values) values k m)
+given_any base other held hold k values Input = inl (inl refl)
+given_any base other held hold k values Clock = inl (inl refl)
+given_any base other held hold k values (Gate kind inputs) = inr refl
+given_any base other held hold k values (Joined source) = inr refl
+given_any base other held hold k values (Flop c inverted) = inl (inl refl)
+given_any base other held hold k values (Lockup c e source) = inl (inl refl)
+given_any base other held hold k values Free = inr refl
 
--- a net whose value may differ shows a domain
-shown_any : (cells : List Cell) (p : Pulse) (poss held poss' held' : List Tri) (d e k : ℕ) (values : ℕ → Tri) (m : Meaning) (P : ℕ → Type 0) → ((a : ℕ) → p.pulsed a ≡ true → P a) → ((c a : ℕ) (source : Source) → m ≡ Lockup c a source → P a) →
-    ((a : ℕ) × (P a × Has (leaf_domains cells k m) a)) ⊎ (value_given (leaves_from (base_of cells p poss d) (Some held) values) values k m ≡ value_given (leaves_from (base_of cells p poss' e) (Some held') values) values k m)
-shown_any cells p poss held poss' held' d e k values Input P up lockup = inr refl
-shown_any cells p poss held poss' held' d e k values Clock P up lockup = by (p.pulsed k) refl where
-  by : (b : Bool) → p.pulsed k ≡ b → ((a : ℕ) × (P a × Has (k ∷ []) a)) ⊎ ((if p.pulsed k then (if k == d then Zero else Unknown) else Zero) ≡ (if p.pulsed k then (if k == e then Zero else Unknown) else Zero))
-  by true is = inl (k, (up k is, inl refl))
-  by false is = inr (ap (λ (b : Bool). if b then (if k == d then Zero else Unknown) else Zero) is ∙ sym (ap (λ (b : Bool). if b then (if k == e then Zero else Unknown) else Zero) is))
-shown_any cells p poss held poss' held' d e k values (Gate kind inputs) P up lockup = inr refl
-shown_any cells p poss held poss' held' d e k values (Joined source) P up lockup = inr refl
-shown_any cells p poss held poss' held' d e k values (Flop c inverted) P up lockup = by (p.pulsed (cell_at cells c).domain) refl where
-  shows : Tri → Tri
-  shows bit = if inverted then inverse bit else bit
+source : (x : Circuit) (k : ℕ) → IsCircuit x → Has (source_places (meaning (op_at x.ops.items k))) 0 → Has (list_at x.sources.items 0) k
+source x k is h = elim (leb_tells (length x.ops.items) k) [
+  | inl out ↦ (let P : Op → Type 0 = λ o. Has (source_places (meaning o)) 0 in absurd (subst P (get_or_past x.ops.items k op.Free out.1) h))
+  | inr less ↦ is.tables.sources.each 0 k less.1 (omega arith) h
+]
 
-  one : Bool → Tri
-  one b = if b then (if (cell_at cells c).domain == d then p.old c else value_at poss c) else p.old c
+-- once the sources have their values, each net that is not marked has its driver's
+pub ready_refreshed : (x : Circuit) (base : TriSources) (held : Option (List Tri)) (values new : List Tri) (first marked : List Bool) (xs : List ℕ) → IsCircuit x → xs ≡ list_at x.sources.items 0 → IsReady x values →
+    ((others : List ℕ) → ((k : ℕ) → flag_at first k ≡ false → Has xs k ⊎ (Has others k ⊎ IsGiven x.ops.items base held values k)) → (k : ℕ) → flag_at marked k ≡ false → Has others k ⊎ IsGiven x.ops.items base held new k) →
+    (k : ℕ) → flag_at marked k ≡ false → IsGiven x.ops.items base held new k
+ready_refreshed x base held values new first marked xs is e ready done k down =
+    let near : (m : ℕ) → flag_at first m ≡ false → Has xs m ⊎ (Has [] m ⊎ IsGiven x.ops.items base held values m) = λ m up.
+    (let P : List ℕ → Type 0 = λ l. Has l m in
+    elim (given_any ready.base base ready.held held m (value_at values) (meaning (op_at x.ops.items m))) [
+      | inl own ↦ inl (subst P (sym e) (source x m is own))
+      | inr same ↦ inr (inr (ready.given m ∙ same))
+    ]) in
+    elim (done [] near k down) [ inl none ↦ absurd none | inr given ↦ given ]
 
-  other : Bool → Tri
-  other b = if b then (if (cell_at cells c).domain == e then p.old c else value_at poss' c) else p.old c
+pub ready_in : (x : Circuit) (p : Pulse) (poss held values : List Tri) (d : ℕ) → ((k : ℕ) → GivenIn x p poss held d values k) → IsReady x values
+ready_in x p poss held values d given = record { base = base_of (map cell_of x.flops.items) p poss d; held = Some held; given = given }
 
-  by : (b : Bool) → p.pulsed (cell_at cells c).domain ≡ b → ((a : ℕ) × (P a × Has ((cell_at cells c).domain ∷ []) a)) ⊎ (shows (one (p.pulsed (cell_at cells c).domain)) ≡ shows (other (p.pulsed (cell_at cells c).domain)))
-  by true is = inl ((cell_at cells c).domain, (up (cell_at cells c).domain is, inl refl))
-  by false is = inr (ap (λ (b : Bool). shows (one b)) is ∙ sym (ap (λ (b : Bool). shows (other b)) is))
-shown_any cells p poss held poss' held' d e k values (Lockup c a source) P up lockup = inl (a, (lockup c a source refl, inl refl))
-shown_any cells p poss held poss' held' d e k values Free P up lockup = inr refl
-
-pub near_any : (x : Circuit) (p : Pulse) (poss held values : List Tri) (d : ℕ) (clocks : List NetId) → IsCircuit x → AreNets (length x.ops.items) clocks → OwnsLatches x clocks → ((a : ℕ) → p.pulsed a ≡ true → Among clocks (length clocks) a) → IsSettledIn x p values → (k : ℕ) →
-    Has (all_leaves x.leaves.items clocks) k ⊎ GivenIn x p poss held d values k
-near_any x p poss held values d clocks is live owned up s k =
-    let lockup : (c a : ℕ) (source : Source) → meaning (op_at x.ops.items k) ≡ Lockup c a source → Among clocks (length clocks) a = λ c a source h. owned c a source (is.latched k c a source h) in
-    elim (shown_any (map cell_of x.flops.items) p s.poss s.held poss held s.domain d k (value_at values) (meaning (op_at x.ops.items k)) (λ a. Among clocks (length clocks) a) up lockup) [
-      | inl own ↦ (let among = own.1.0 in
-          let less : own.0 < length x.ops.items = (let P : ℕ → Type 0 = λ n. n < length x.ops.items in subst P among.here (live among.place _ (slice_get-get_or clocks among.place (record { 0 = 0 }) among.before))) in
-          inl (has_all x.leaves.items clocks own.0 k among (leaf x own.0 k is less own.1.1)))
-      | inr same ↦ inr (s.given k ∙ same)
-    ]
+pub ready_view : (x : Circuit) (v : View) (values : List Tri) → ((k : ℕ) → IsGivenIn x v v.domain.0 values k) → IsReady x values
+ready_view x v values given = record { base = base_of (map cell_of x.flops.items) (pulse_at v.pulse) v.poss.now v.domain.0; held = held_in v; given = given }

@@ -15,7 +15,7 @@ use Rattle.dft_cycle.specs.declared.circuit.FlipFlop.{FlipFlop}
 use Rattle.dft_cycle.specs.declared.circuit.Circuit.{Circuit}
 use Rattle.dft_cycle.specs.Cycle.{Pulse, AreViews, next_value, after_pulse, IsLeast}
 use Rattle.dft_cycle.specs.Machine.{Machine, value_at, is_one_of, ports_of, logic, acted, IsSet, at_strobe, IsStrobed, pulses, pulse_from, IsPulsed}
-use Rattle.dft_cycle.specs.Circuit.{logic_at, cell_of, cell_at, flag_at, IsCircuit}
+use Rattle.dft_cycle.specs.Circuit.{IsReady, logic_at, cell_of, cell_at, flag_at, IsCircuit}
 use Rattle.dft_cycle.specs.Views.{rank_of, Among, AreNext}
 use Rattle.dft_cycle.specs.Compiling.{ports_by}
 use Rattle.dft_cycle.proofs.Views.{views_exist}
@@ -29,6 +29,12 @@ refilled v ws = sym (with_items v ws).ok.0 ∙ v.ok.0
 
 pub filled : {X : Type 0} (v : Vec X) (ws rs : List X) → length ws ≡ length rs → rs ≡ v.items → (with_items v ws).items ≡ ws
 filled v ws rs a e = with_items_is v ws (a ∙ ap length e ∙ sym v.ok.0)
+
+pub clear_kept : (v : Vec Bool) (ws rs : List Bool) → length ws ≡ length rs → rs ≡ v.items → ((k : ℕ) → flag_at ws k ≡ false) → (k : ℕ) → flag_at (with_items v ws).items k ≡ false
+clear_kept v ws rs a e clear k = ap (λ (l : List Bool). flag_at l k) (filled v ws rs a e) ∙ clear k
+
+pub ready_kept : (x : Circuit) (v : Vec Tri) (ws rs : List Tri) → length ws ≡ length rs → rs ≡ v.items → IsReady x ws → IsReady x (with_items v ws).items
+ready_kept x v ws rs a e ready = subst (IsReady x) (sym (filled v ws rs a e)) ready
 
 -- ---- a strobe
 

@@ -13,9 +13,8 @@ use Rattle.dft_cycle.specs.declared.circuit.Op.{Op}
 use Rattle.dft_cycle.specs.declared.circuit.Op.TheVariants.{Free}
 use Rattle.dft_cycle.specs.declared.circuit.Circuit.{Circuit}
 use Rattle.dft_cycle.specs.Machine.{value_at}
-use Rattle.dft_cycle.specs.Circuit.{all_leaves, meaning, op_at, leaves_from, AreOrdered, IsCircuit, flag_at}
+use Rattle.dft_cycle.specs.Circuit.{meaning, op_at, leaves_from, AreOrdered, IsCircuit, flag_at}
 use Rattle.dft_cycle.specs.Tables.{list_at}
-use Rattle.dft_cycle.proofs.TableLemmas.{has_either}
 use Rattle.dft_cycle.proofs.Settlings.{IsGiven, given_agree, all_more}
 
 -- ---- marks
@@ -179,11 +178,3 @@ both_refreshed first mid last a b la lb P Q R ea eb near one two k down =
     let start : (m : ℕ) → flag_at first m ≡ false → Has a m ⊎ (Has b m ⊎ P m) = λ m f.
     (let H : List ℕ → Type 0 = λ l. Has l m in elim (near m) [ inl h ↦ inl (subst H (sym ea) h) | inr rest ↦ elim rest [ inl h ↦ inr (inl (subst H (sym eb) h)) | inr is ↦ inr (inr is) ] ]) in
     elim (two [] (λ m f. elim (one b start m f) [ inl h ↦ inl h | inr is ↦ inr (inr is) ]) k down) [ inl none ↦ absurd none | inr is ↦ is ]
-
--- the leaves of a clock and those of the clocks behind it
-pub leaves_front : (leaves : List (List ℕ)) (clocks : List NetId) (j k : ℕ) → j < length clocks → Has (all_leaves leaves (drop j clocks)) k →
-    Has (list_at leaves (get_or clocks j (record { 0 = 0 })).0) k ⊎ Has (all_leaves leaves (drop (j + 1) clocks)) k
-leaves_front leaves clocks j k less h =
-    let clock : NetId = get_or clocks j (record { 0 = 0 }) in
-    let P : List NetId → Type 0 = λ l. Has (all_leaves leaves l) k in
-    rw (add-one) (has_either (list_at leaves clock.0) (all_leaves leaves (drop (suc j) clocks)) k (subst P (drop-cons clocks j (record { 0 = 0 }) less) h))

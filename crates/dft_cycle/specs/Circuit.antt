@@ -1,10 +1,9 @@
 -- A design made ready for settling: what each net takes its value from, and the flip-flop of each instance.
-use Rattle.std.specs.Prelude.{ℕ, Bool, false, ◌≡◌, ◌<◌, List, [], ◌∷◌, ◌++◌, map, length, Option, None, Some, slice_index_or, option_map}
+use Rattle.std.specs.Prelude.{ℕ, Bool, false, ◌≡◌, ◌<◌, List, [], ◌∷◌, map, length, Option, None, Some, slice_index_or, option_map}
 use Rattle.std.specs.List.{AllByRecursion}
 use Rattle.dft_base.specs.declared.tri.Tri.{Tri}
 use Rattle.dft_base.specs.declared.tri.Tri.TheVariants.{Unknown}
 use Rattle.dft_cells.specs.WellFormed.{TakesInputs}
-use Rattle.dft_netlist.specs.declared.ids.NetId.{NetId}
 use Rattle.dft_netlist.specs.Drivers.{Source}
 use Rattle.dft_netlist.specs.Drivers as drivers
 use Rattle.dft_netlist.specs.Logic.{Logic, Meaning, Cell, Scan, Force, reads, no_cell}
@@ -25,7 +24,7 @@ use Rattle.dft_cycle.specs.declared.settling.View.{View}
 use Rattle.dft_cycle.specs.Cycle.{view_sources}
 use Rattle.dft_cycle.specs.Cycle as Cycle
 use Rattle.dft_cycle.specs.Machine.{value_at}
-use Rattle.dft_cycle.specs.Tables.{list_at, IsTable}
+use Rattle.dft_cycle.specs.Tables.{IsTable}
 
 -- ---- what the parts stand for
 
@@ -93,6 +92,16 @@ AreOrdered ops before (net ∷ nets) =
     (Has before net → ⊥) × (net < length ops) × AllByRecursion (Has before) (reads (meaning (op_at ops net)))
     × AreOrdered ops (net ∷ before) nets
 
+-- a net that shows an input, a clock, a flip-flop or a lock-up is listed at place 0
+abbrev pub source_places : Meaning → List ℕ
+source_places meanings.Input = 0 ∷ []
+source_places meanings.Clock = 0 ∷ []
+source_places (meanings.Gate kind inputs) = []
+source_places (meanings.Joined source) = []
+source_places (meanings.Flop c inverted) = 0 ∷ []
+source_places (meanings.Lockup c e source) = 0 ∷ []
+source_places meanings.Free = []
+
 -- the domain whose clock, flip-flop or lock-up a net shows
 abbrev pub leaf_domains : List Cell → (net : ℕ) → Meaning → List ℕ
 leaf_domains cells net meanings.Input = []
@@ -114,6 +123,7 @@ force_nets (Some force) = force.port ∷ []
 -- by net, what reads it and what it resets or sets; and for a clock what shows its domain, its flip-flops and its lock-ups
 pub record AreTables (x : Circuit) : Type 0 where
   pub readers : IsTable (length x.ops.items) (length x.ops.items) (λ net. reads (meaning (op_at x.ops.items net))) x.readers.items
+  pub sources : IsTable 1 (length x.ops.items) (λ net. source_places (meaning (op_at x.ops.items net))) x.sources.items
   pub leaves : IsTable (length x.ops.items) (length x.ops.items) (λ net. leaf_domains (map cell_of x.flops.items) net (meaning (op_at x.ops.items net))) x.leaves.items
   pub cells : IsTable (length x.ops.items) (length x.flops.items) (λ c. (cell_at (map cell_of x.flops.items) c).domain ∷ []) x.cells.items
   pub holders : IsTable (length x.ops.items) (length x.latches.items) (λ c. latch_domains (latch_at x.latches.items c)) x.holders.items
@@ -174,14 +184,8 @@ IsGivenIn x v d values k = IsGivenBy x (pulse_at v.pulse) v.poss.now (held_in v)
 abbrev pub IsGiven : Circuit → View → (values : List Tri) → ℕ → Type 0
 IsGiven x v values k = IsGivenIn x v v.domain.0 values k
 
--- all nets have the values of some view of the pulse
-pub record IsSettledIn (x : Circuit) (p : Cycle.Pulse) (values : List Tri) : Type 0 where
-  pub poss : List Tri
-  pub held : List Tri
-  pub domain : ℕ
-  pub given : (k : ℕ) → GivenIn x p poss held domain values k
-
--- the nets that show one of these clocks, or a flip-flop or a lock-up of its domain
-abbrev pub all_leaves : (leaves : List (List ℕ)) → (clocks : List NetId) → List ℕ
-all_leaves leaves [] = []
-all_leaves leaves (clock ∷ clocks) = list_at leaves clock.0 ++ all_leaves leaves clocks
+-- all nets have the values that they have from some sources
+pub record IsReady (x : Circuit) (values : List Tri) : Type 0 where
+  pub base : TriSources
+  pub held : Option (List Tri)
+  pub given : (k : ℕ) → value_at values k ≡ value_given (leaves_from base held (value_at values)) (value_at values) k (meaning (op_at x.ops.items k))

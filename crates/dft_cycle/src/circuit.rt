@@ -147,7 +147,7 @@ pub(crate) struct Latch {
 }
 
 /// What each net takes its value from, by net, in an order in which each comes after what it reads; and the flip-flop
-/// and the lock-up of each instance, by instance. Then what is found by tables: by net the nets that read it and the
+/// and the lock-up of each instance, by instance. Then what is found by tables: the sources; by net the nets that read it and the
 /// flip-flops that it resets or sets; and by the net of a clock the nets that show it or its domain's flip-flops and
 /// lock-ups, and these flip-flops and lock-ups.
 #[derive(Drop)]
@@ -157,6 +157,7 @@ pub(crate) struct Circuit {
     pub flops: Vec<FlipFlop>,
     pub latches: Vec<Option<Latch>>,
     pub readers: Vec<Numbers>,
+    pub sources: Vec<Numbers>,
     pub leaves: Vec<Numbers>,
     pub cells: Vec<Numbers>,
     pub holders: Vec<Numbers>,

@@ -1,6 +1,6 @@
 //! The abstract machine of replay.
 
-ghost use Rattle.std.specs.Prelude.{◌≡◌, ℕ, ◌<◌, length, map, replicate, true, false, Some, slice_get, IfOk, if◌then◌else◌};
+ghost use Rattle.std.specs.Prelude.{◌≡◌, ℕ, ◌<◌, length, map, replicate, true, false, Some, None, slice_get, IfOk, if◌then◌else◌};
 ghost use Rattle.dft_cycle.specs.Machine.{logic, AreNets, is_one_of, IsStart, IsSet, IsStrobed, IsPulsed, pulses, acted};
 ghost use Rattle.dft_cycle.specs.Machine as spec;
 ghost use Rattle.dft_cycle.specs.Circuit.{cell_of, cell_at, force_at, IsCircuit, flag_at as is_up};
@@ -10,6 +10,7 @@ use crate::circuit::{Acting, Circuit, FlipFlop};
 use crate::flops::forced;
 use crate::rounds::find_least;
 use crate::settling::{Pulse, View, flag_at, settle, value_at};
+use crate::sweeping::settle_again;
 use crate::tables::list_of;
 use dft_base::Tri;
 use dft_netlist::{Design, NetId};
@@ -65,12 +66,18 @@ impl<'a> AbstractMachine<'a> {
         let cells = circuit.flops.len();
         let inputs = unknown(alloc, nets)?;
         let shown = unknown(alloc, nets)?;
-        let values = unknown(alloc, nets)?;
+        let mut values = unknown(alloc, nets)?;
         let bits = unknown(alloc, cells)?;
         let poss = unknown(alloc, cells)?;
         let next = unknown(alloc, cells)?;
         let held = unknown(alloc, cells)?;
         let marked = lowered(alloc, nets)?;
+        let pulse = Pulse {
+            ports: &inputs,
+            pulsed: &[],
+            old: &bits,
+        };
+        settle(&circuit, &strobe_view(pulse), &mut values);
         Ok(AbstractMachine {
             design,
             clocks,
@@ -113,13 +120,13 @@ impl<'a> AbstractMachine<'a> {
             pulsed: &[],
             old: &self.cells,
         };
-        let view = View {
-            pulse,
-            domain: NetId(0),
-            poss: &self.cells,
-            held: None,
-        };
-        settle(&self.circuit, &view, &mut self.shown);
+        settle_again(
+            &self.circuit,
+            &strobe_view(pulse),
+            &mut self.values,
+            &mut self.marked,
+        );
+        self.shown.as_mut_slice().copy_from_slice(&self.values);
     }
 
     /// The value of this net at the last strobe, and `Unknown` before the first.
@@ -158,6 +165,18 @@ impl<'a> AbstractMachine<'a> {
             &self.next,
             &mut self.cells,
         );
+    }
+}
+
+/// The view of a strobe: lock-ups are wires.
+fn strobe_view(pulse: Pulse<'_>) -> View<'_, '_, '_>
+    ensures { result ≡ record { pulse = pulse.entry; domain = record { 0 = 0 }; poss = pulse.entry.old; held = None } }
+{
+    View {
+        pulse,
+        domain: NetId(0),
+        poss: pulse.old,
+        held: None,
     }
 }
 

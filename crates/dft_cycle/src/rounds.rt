@@ -6,13 +6,13 @@ ghost use Rattle.dft_base.specs.Tri.{AboveTri};
 ghost use Rattle.dft_cycle.specs.Cycle.{AreViews, IsLeast};
 ghost use Rattle.dft_cycle.specs.Machine.{AreNets};
 ghost use Rattle.dft_cycle.specs.Machine as spec;
-ghost use Rattle.dft_cycle.specs.Circuit.{IsCircuit, IsSettledIn, logic_at, cell_of, cell_at, flag_at as is_up, pulse_at};
+ghost use Rattle.dft_cycle.specs.Circuit.{IsCircuit, IsReady, logic_at, cell_of, cell_at, flag_at as is_up, pulse_at};
 ghost use Rattle.dft_cycle.specs.Views.{IsHeld, OwnsLatches, PulsesAmong, HasNext, raised_by, is_known, StaysBelow, AreNext, IsAlone};
 
 use crate::circuit::{Circuit, FlipFlop, Latch};
 use crate::flops::{differ, hold, take_next};
 use crate::settling::{Pulse, View, flag_at};
-use crate::sweeping::{change_view, enter, first_view, settle_leaves};
+use crate::sweeping::{change_view, enter, settle_again};
 use dft_base::Tri;
 use dft_netlist::NetId;
 
@@ -42,13 +42,12 @@ fn round(
     requires marked { length marked.old ≡ length circuit.now.ops.items }
     requires live { AreNets (length circuit.now.ops.items) clocks.now }
     requires owned { OwnsLatches circuit.now clocks.now }
-    requires pulsing { PulsesAmong pulse.pulsed.now clocks.now }
     requires clear { (k : ℕ) → is_up marked.old k ≡ false }
-    requires settled { IsSettledIn circuit.now (pulse_at pulse) values.old }
+    requires ready { IsReady circuit.now values.old }
     ensures rises { (view : ℕ → ℕ → Tri) (r : ℕ) → AreViews (logic_at circuit.now) (pulse_at pulse.entry) (spec.value_at poss.now) view → IsHeld circuit.now view held.old r → IsHeld circuit.now view held.new (suc r) }
     ensures same { result ≡ false → held.new ≡ held.old }
     ensures clear { (k : ℕ) → is_up marked.new k ≡ false }
-    ensures settled { IsSettledIn circuit.now (pulse_at pulse.entry) values.new }
+    ensures ready { IsReady circuit.now values.new }
 {
     let mut last = first(clocks);
     let view = View {
@@ -57,7 +56,7 @@ fn round(
         poss,
         held: Some(held),
     };
-    settle_leaves(circuit, &view, clocks, values, marked);
+    settle_again(circuit, &view, values, marked);
     let mut changed = false;
     for clock in clocks {
         let view = View {
@@ -98,12 +97,11 @@ fn hold_lockups(
     requires marked { length marked.old ≡ length circuit.now.ops.items }
     requires live { AreNets (length circuit.now.ops.items) clocks.now }
     requires owned { OwnsLatches circuit.now clocks.now }
-    requires pulsing { PulsesAmong pulse.pulsed.now clocks.now }
     requires clear { (k : ℕ) → is_up marked.old k ≡ false }
-    requires settled { IsSettledIn circuit.now (pulse_at pulse) values.old }
+    requires ready { IsReady circuit.now values.old }
     ensures held { (view : ℕ → ℕ → Tri) → AreViews (logic_at circuit.now) (pulse_at pulse.entry) (spec.value_at poss.now) view → IsHeld circuit.now view held.new (length circuit.now.ops.items) }
     ensures clear { (k : ℕ) → is_up marked.new k ≡ false }
-    ensures settled { IsSettledIn circuit.now (pulse_at pulse.entry) values.new }
+    ensures ready { IsReady circuit.now values.new }
 {
     if !has_latch(&circuit.latches) {
         return;
@@ -131,13 +129,11 @@ fn next_values(
     requires marked { length marked.old ≡ length circuit.now.ops.items }
     requires live { AreNets (length circuit.now.ops.items) clocks.now }
     requires next { length next.old ≡ length circuit.now.flops.items }
-    requires owned { OwnsLatches circuit.now clocks.now }
-    requires pulsing { PulsesAmong pulse.pulsed.now clocks.now }
     requires clear { (k : ℕ) → is_up marked.old k ≡ false }
-    requires settled { IsSettledIn circuit.now (pulse_at pulse) values.old }
+    requires ready { IsReady circuit.now values.old }
     ensures next { (view : ℕ → ℕ → Tri) → AreViews (logic_at circuit.now) (pulse_at pulse.entry) (spec.value_at poss.now) view → IsHeld circuit.now view held.now (length circuit.now.ops.items) → HasNext circuit.now (pulse_at pulse.entry) view clocks.now (length clocks.now) next.new }
     ensures clear { (k : ℕ) → is_up marked.new k ≡ false }
-    ensures settled { IsSettledIn circuit.now (pulse_at pulse.entry) values.new }
+    ensures ready { IsReady circuit.now values.new }
 {
     let mut last = first(clocks);
     let view = View {
@@ -146,7 +142,7 @@ fn next_values(
         poss,
         held: Some(held),
     };
-    settle_leaves(circuit, &view, clocks, values, marked);
+    settle_again(circuit, &view, values, marked);
     for clock in clocks {
         if flag_at(pulse.pulsed, clock.0) {
             let view = View {
@@ -240,13 +236,13 @@ fn turn(
     requires live { AreNets (length circuit.now.ops.items) clocks.now }
     requires next { length next.old ≡ length circuit.now.flops.items }
     requires clear { (k : ℕ) → is_up marked.old k ≡ false }
-    requires settled { IsSettledIn circuit.now (pulse_at pulse) values.old }
+    requires ready { IsReady circuit.now values.old }
     ensures above { (c : ℕ) → AboveTri (spec.value_at poss.new c) (spec.value_at poss.old c) }
     ensures below { StaysBelow (logic_at circuit.now) (pulse_at pulse.entry) poss.old poss.new }
     ensures done { result ≡ false → (view : ℕ → ℕ → Tri) → AreViews (logic_at circuit.now) (pulse_at pulse.entry) (spec.value_at poss.new) view → AreNext (logic_at circuit.now) (pulse_at pulse.entry) view poss.new next.new }
     ensures fewer { result ≡ true → count_by is_known poss.new < count_by is_known poss.old }
     ensures clear { (k : ℕ) → is_up marked.new k ≡ false }
-    ensures settled { IsSettledIn circuit.now (pulse_at pulse.entry) values.new }
+    ensures ready { IsReady circuit.now values.new }
 {
     hold_lockups(circuit, pulse, clocks, poss, held, values, marked);
     next_values(circuit, pulse, clocks, poss, held, values, marked, next);
@@ -276,17 +272,14 @@ pub(crate) fn find_least(
     requires marked { length marked.old ≡ length circuit.now.ops.items }
     requires live { AreNets (length circuit.now.ops.items) clocks.now }
     requires next { length next.old ≡ length circuit.now.flops.items }
+    requires clear { (k : ℕ) → is_up marked.old k ≡ false }
+    requires ready { IsReady circuit.now values.old }
     ensures least { (view : ℕ → ℕ → Tri) → AreViews (logic_at circuit.now) (pulse_at pulse.entry) (spec.value_at poss.new) view → IsLeast (logic_at circuit.now) (pulse_at pulse.entry) (spec.value_at poss.new) view }
     ensures next { (view : ℕ → ℕ → Tri) → AreViews (logic_at circuit.now) (pulse_at pulse.entry) (spec.value_at poss.new) view → AreNext (logic_at circuit.now) (pulse_at pulse.entry) view poss.new next.new }
+    ensures clear { (k : ℕ) → is_up marked.new k ≡ false }
+    ensures ready { IsReady circuit.now values.new }
 {
     let alone = is_alone(circuit, pulse.pulsed, clocks);
-    let view = View {
-        pulse,
-        domain: first(clocks),
-        poss,
-        held: Some(held),
-    };
-    first_view(circuit, &view, values, marked);
     while turn(
         circuit, pulse, clocks, alone, poss, held, values, marked, next,
     ) {}

@@ -3,12 +3,12 @@
 ghost use Rattle.std.specs.Prelude.{◌≡◌, ◌⊎◌, ℕ, List, ◌<◌, length, true, false};
 ghost use Rattle.dft_netlist.specs.Logic.{reads};
 ghost use Rattle.dft_netlist.specs.Orders.{Has};
-ghost use Rattle.dft_cycle.specs.Circuit.{meaning, op_at, IsCircuit, IsGivenIn, IsGiven, all_leaves, flag_at as is_up};
+ghost use Rattle.dft_cycle.specs.Circuit.{meaning, op_at, IsCircuit, IsGivenIn, IsGiven, IsReady, flag_at as is_up};
 ghost use Rattle.dft_cycle.specs.Tables.{list_at};
 
 use crate::circuit::Circuit;
 use crate::flops::differ;
-use crate::settling::{View, op_value, settle};
+use crate::settling::{View, op_value};
 use crate::tables::list_of;
 use dft_base::Tri;
 use dft_netlist::NetId;
@@ -151,41 +151,10 @@ pub(crate) fn change_view(
     }
 }
 
-/// Gives the leaves of all these clocks' domains their values, and marks the readers of those that change. Whether one
-/// was marked.
-fn refresh_all(
+/// Settles all nets in a view, where they have the values that they have from any sources.
+pub(crate) fn settle_again(
     circuit: &Circuit,
     view: &View<'_, '_, '_>,
-    clocks: &[NetId],
-    values: &mut [Tri],
-    marked: &mut [bool],
-) -> bool
-    requires circuit { IsCircuit circuit.now }
-    requires values { length values.old ≡ length circuit.now.ops.items }
-    requires marked { length marked.old ≡ length circuit.now.ops.items }
-    requires near { (k : ℕ) → is_up marked.old k ≡ false → Has (all_leaves circuit.now.leaves.items clocks.now) k ⊎ IsGiven circuit.now view.now values.old k }
-    ensures given { (k : ℕ) → is_up marked.new k ≡ false → IsGiven circuit.now view.now values.new k }
-    ensures none { result ≡ false → (k : ℕ) → is_up marked.old k ≡ false → is_up marked.new k ≡ false }
-{
-    let mut any = false;
-    for clock in clocks {
-        let moved = refresh(
-            circuit,
-            view,
-            list_of(&circuit.leaves, *clock),
-            values,
-            marked,
-        );
-        any = any || moved;
-    }
-    any
-}
-
-/// Settles all nets in a view, where only leaves of these clocks' domains may lack their values in it.
-pub(crate) fn settle_leaves(
-    circuit: &Circuit,
-    view: &View<'_, '_, '_>,
-    clocks: &[NetId],
     values: &mut [Tri],
     marked: &mut [bool],
 )
@@ -193,39 +162,14 @@ pub(crate) fn settle_leaves(
     requires values { length values.old ≡ length circuit.now.ops.items }
     requires marked { length marked.old ≡ length circuit.now.ops.items }
     requires clear { (k : ℕ) → is_up marked.old k ≡ false }
-    requires near { (k : ℕ) → Has (all_leaves circuit.now.leaves.items clocks.now) k ⊎ IsGiven circuit.now view.now values.old k }
+    requires ready { IsReady circuit.now values.old }
     ensures given { (k : ℕ) → IsGiven circuit.now view.now values.new k }
     ensures clear { (k : ℕ) → is_up marked.new k ≡ false }
 {
-    if refresh_all(circuit, view, clocks, values, marked) {
+    let sources = list_of(&circuit.sources, NetId(0));
+    if refresh(circuit, view, sources, values, marked) {
         sweep(circuit, view, values, marked);
     }
-}
-
-/// Lowers all flags.
-fn lower(flags: &mut [bool])
-    ensures { (k : ℕ) → is_up flags.new k ≡ false }
-{
-    for flag in flags.iter_mut() {
-        *flag = false;
-    }
-}
-
-/// Settles all nets in a view, whatever they had.
-pub(crate) fn first_view(
-    circuit: &Circuit,
-    view: &View<'_, '_, '_>,
-    values: &mut [Tri],
-    marked: &mut [bool],
-)
-    requires circuit { IsCircuit circuit.now }
-    requires values { length values.old ≡ length circuit.now.ops.items }
-    requires marked { length marked.old ≡ length circuit.now.ops.items }
-    ensures given { (k : ℕ) → IsGiven circuit.now view.now values.new k }
-    ensures clear { (k : ℕ) → is_up marked.new k ≡ false }
-{
-    settle(circuit, view, values);
-    lower(marked);
 }
 
 /// Settles all nets in a view, where they are settled in that of another domain.

@@ -3,7 +3,7 @@
 ghost use Rattle.std.specs.Prelude.{◌≡◌, ◌∷◌, [], ◌<◌, ◌^◌, length, map, replicate, IfOk, OnOk};
 ghost use Rattle.dft_netlist.specs.Logic.{reads};
 ghost use Rattle.dft_netlist.specs.Drivers.{nets_of};
-ghost use Rattle.dft_cycle.specs.Circuit.{source_at, meaning, op_at, cell_of, cell_at, latch_at, leaf_domains, latch_domains, force_nets};
+ghost use Rattle.dft_cycle.specs.Circuit.{source_at, meaning, op_at, cell_of, cell_at, latch_at, source_places, leaf_domains, latch_domains, force_nets};
 ghost use Rattle.dft_cycle.specs.Circuit as circuits;
 ghost use Rattle.dft_cycle.specs.Tables.{list_at, listed, IsAdded, IsTable};
 
@@ -106,6 +106,28 @@ fn leaf_domain(op: &Op, net: NetId, flops: &[FlipFlop]) -> Option<NetId>
         Op::Lockup(_, domain, _) => Some(*domain),
         _ => None,
     }
+}
+
+/// The one place of a source's table, where a net is a source.
+fn source_place(op: &Op) -> Option<NetId>
+    ensures { listed result ≡ source_places (meaning op.now) }
+{
+    match op {
+        Op::Input | Op::Clock | Op::Flop(_, _) | Op::Lockup(_, _, _) => Some(NetId(0)),
+        _ => None,
+    }
+}
+
+/// The sources, in a table of one list: the nets that show an input, a clock, a flip-flop or a lock-up.
+pub(crate) fn sources(alloc: Global, ops: &[Op]) -> Result<Vec<Numbers>, AllocError>
+    requires { length ops.now < 2 ^ 32 }
+    ensures { IfOk result (λ table. IsTable 1 (length ops.now) (λ net. source_places (meaning (op_at ops.now net))) table.items) }
+{
+    let mut table = empty(alloc, 1)?;
+    for (net, op) in ops.iter().enumerate() {
+        add_at(&mut table, source_place(op), net as u32)?;
+    }
+    Ok(table)
 }
 
 /// The nets that show the clock of each domain, or a flip-flop or a lock-up of it.

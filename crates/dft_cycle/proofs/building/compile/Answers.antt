@@ -6,7 +6,7 @@ use Rattle.dft_netlist.specs.Logic.{reads}
 use Rattle.dft_cycle.specs.declared.circuit.Op.{Op}
 use Rattle.dft_cycle.specs.declared.circuit.FlipFlop.{FlipFlop}
 use Rattle.dft_cycle.specs.declared.circuit.Latch.{Latch}
-use Rattle.dft_cycle.specs.Circuit.{meaning, op_at, cell_of, cell_at, leaf_domains, latch_at, latch_domains, force_nets}
+use Rattle.dft_cycle.specs.Circuit.{meaning, op_at, cell_of, cell_at, source_places, leaf_domains, latch_at, latch_domains, force_nets}
 use Rattle.dft_cycle.specs.Tables.{IsTable}
 use Rattle.dft_cycle.specs.Compiling.{ports_by}
 use Rattle.dft_cycle.proofs.Compiled.{circuit_of}
@@ -15,10 +15,11 @@ use Rattle.dft_cycle.proofs.building.compile.Goals as goal
 pub returns : goal.returns
 returns c =
     let O : List NetId → Type 0 = λ l. IsOrder c.args.design.now (numbers_of l) in
-    circuit_of c.args.design.now (ports_by c.args.flags.now) (record { order = c.in_ok-order.order; ops = c.in_ok-ops.ops; flops = c.in_ok-flops.flops; latches = c.in_ok-latches.latches; readers = c.in_ok-readers.readers; leaves = c.in_ok-leaves.leaves; cells = c.in_ok-cells.cells; holders = c.in_ok-holders.holders; followers = c.in_ok-followers.followers })
+    circuit_of c.args.design.now (ports_by c.args.flags.now) (record { order = c.in_ok-order.order; ops = c.in_ok-ops.ops; flops = c.in_ok-flops.flops; latches = c.in_ok-latches.latches; readers = c.in_ok-readers.readers; sources = c.in_ok-sources.sources; leaves = c.in_ok-leaves.leaves; cells = c.in_ok-cells.cells; holders = c.in_ok-holders.holders; followers = c.in_ok-followers.followers })
     c.net_count.ensures.sound (subst O (sym c.in_ok-order.ensures.items) c.order.ensures) c.in_ok-ops.ensures.count c.in_ok-ops.ensures.each c.in_ok-flops.ensures c.in_ok-latches.ensures
     (let o : List Op → Type 0 = λ l. IsTable (length l) (length l) (λ k. reads (meaning (op_at l k))) c.in_ok-readers.readers.items in
-    let a : List Op → Type 0 = λ l. IsTable (length l) (length l) (λ k. leaf_domains (map cell_of c.deref-3.result.now) k (meaning (op_at l k))) c.in_ok-leaves.leaves.items in
+    let s : List Op → Type 0 = λ l. IsTable 1 (length l) (λ k. source_places (meaning (op_at l k))) c.in_ok-sources.sources.items in
+    let a : List Op → Type 0 = λ l. IsTable (length l) (length l) (λ k. leaf_domains (map cell_of c.deref-4.result.now) k (meaning (op_at l k))) c.in_ok-leaves.leaves.items in
     let b : List FlipFlop → Type 0 = λ l. IsTable (length c.in_ok-ops.ops.items) (length c.in_ok-ops.ops.items) (λ k. leaf_domains (map cell_of l) k (meaning (op_at c.in_ok-ops.ops.items k))) c.in_ok-leaves.leaves.items in
     let f : List FlipFlop → Type 0 = λ l. IsTable c.len-nets.result (length l) (λ k. (cell_at (map cell_of l) k).domain ∷ []) c.in_ok-cells.cells.items in
     let g : ℕ → Type 0 = λ n. IsTable n (length c.in_ok-flops.flops.items) (λ k. (cell_at (map cell_of c.in_ok-flops.flops.items) k).domain ∷ []) c.in_ok-cells.cells.items in
@@ -29,8 +30,9 @@ returns c =
     let nets : c.len-nets.result ≡ length c.in_ok-ops.ops.items = c.len-nets.ensures ∙ c.in_ok-ops.ops.ok.0 in
     record {
       readers = subst o c.deref.ensures.value c.in_ok-readers.ensures;
-      leaves = subst b c.deref-3.ensures.value (subst a c.deref-2.ensures.value c.in_ok-leaves.ensures);
-      cells = subst g nets (subst f c.deref-4.ensures.value c.in_ok-cells.ensures);
-      holders = subst i nets (subst h c.deref-5.ensures.value c.in_ok-holders.ensures);
-      followers = subst m nets (subst k c.deref-6.ensures.value c.in_ok-followers.ensures);
+      sources = subst s c.deref-2.ensures.value c.in_ok-sources.ensures;
+      leaves = subst b c.deref-4.ensures.value (subst a c.deref-3.ensures.value c.in_ok-leaves.ensures);
+      cells = subst g nets (subst f c.deref-5.ensures.value c.in_ok-cells.ensures);
+      holders = subst i nets (subst h c.deref-6.ensures.value c.in_ok-holders.ensures);
+      followers = subst m nets (subst k c.deref-7.ensures.value c.in_ok-followers.ensures);
     })

@@ -7,14 +7,14 @@ use Rattle.dft_cycle.proofs.rounds.find_least.Goals as goal
 pub loop-init : goal.loop-init
 loop-init c = record {
   reached = reach_start (logic_at c.args.circuit.now) (pulse_at c.args.pulse) c.args.poss.now c.args.pulse.old.now c.requires.poss refl;
-  settled = record { poss = c.args.poss.now; held = c.args.held.now; domain = c.first.result.0; given = c.first_view.ensures.given };
-  clear = c.first_view.ensures.clear;
+  ready = c.requires.ready;
+  clear = c.requires.clear;
 }
 
 pub loop-preserved : goal.loop-preserved
 loop-preserved c = record {
   reached = reach_more (logic_at c.args.circuit.now) (pulse_at c.args.pulse) c.loop.poss c.turn.new.poss c.loop.invariant.reached c.turn.ensures.above c.turn.ensures.below;
-  settled = c.turn.ensures.settled;
+  ready = c.turn.ensures.ready;
   clear = c.turn.ensures.clear;
 }
 

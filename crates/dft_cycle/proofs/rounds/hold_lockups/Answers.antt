@@ -6,12 +6,12 @@ use Rattle.dft_cycle.proofs.RoundLemmas.{none_held, all_held, no_latch_held}
 use Rattle.dft_cycle.proofs.rounds.hold_lockups.Goals as goal
 
 pub loop-level-init : goal.loop-level-init
-loop-level-init c = record { held = λ view views. none_held c.args.circuit.now view c.args.held.now; settled = c.requires.settled; clear = c.requires.clear }
+loop-level-init c = record { held = λ view views. none_held c.args.circuit.now view c.args.held.now; ready = c.requires.ready; clear = c.requires.clear }
 
 pub loop-level-preserved : goal.loop-level-preserved
 loop-level-preserved c = record {
   held = λ view views net k e source here low. c.round.ensures.rises view c.loop-level._level views (c.loop-level.invariant.held view views) net k e source here (omega (arith, low));
-  settled = c.round.ensures.settled;
+  ready = c.round.ensures.ready;
   clear = c.round.ensures.clear;
 }
 

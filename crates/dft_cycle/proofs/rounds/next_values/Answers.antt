@@ -4,7 +4,7 @@ use Rattle.std.proofs.lemmas.Option.{slice_get-get_or}
 use Rattle.dft_netlist.specs.declared.ids.NetId.{NetId}
 use Rattle.dft_cycle.specs.Circuit.{logic_at, pulse_at}
 use Rattle.dft_cycle.specs.Machine.{value_at}
-use Rattle.dft_cycle.proofs.DomainLemmas.{near_any}
+use Rattle.dft_cycle.proofs.DomainLemmas.{ready_in}
 use Rattle.dft_cycle.proofs.NextLemmas.{next_more, next_kept}
 use Rattle.dft_cycle.proofs.rounds.next_values.Goals as goal
 use Rattle.dft_cycle.proofs.rounds.next_values.Goals.{then-flag_at, else-flag_at}
@@ -34,8 +34,5 @@ loop-clock-preserved c =
       }
     ]
 
-pub settle_leaves-requires-clause-near : goal.settle_leaves-requires-clause-near
-settle_leaves-requires-clause-near c = near_any c.args.circuit.now (pulse_at c.args.pulse) c.args.poss.now c.args.held.now c.args.values.now c.first-last.result.0 c.args.clocks.now c.requires.circuit c.requires.live c.requires.owned c.requires.pulsing c.requires.settled
-
-pub returns-clause-settled : goal.returns-clause-settled
-returns-clause-settled c = record { poss = c.args.poss.now; held = c.args.held.now; domain = c.loop-clock.last.0; given = c.loop-clock.invariant.given }
+pub returns-clause-ready : goal.returns-clause-ready
+returns-clause-ready c = ready_in c.args.circuit.now (pulse_at c.args.pulse) c.args.poss.now c.args.held.now c.loop-clock.values c.loop-clock.last.0 c.loop-clock.invariant.given

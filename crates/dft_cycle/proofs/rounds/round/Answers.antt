@@ -5,7 +5,7 @@ use Rattle.dft_netlist.specs.declared.ids.NetId.{NetId}
 use Rattle.dft_cycle.specs.Circuit.{logic_at, pulse_at}
 use Rattle.dft_cycle.specs.Machine.{value_at}
 use Rattle.dft_cycle.proofs.RoundLemmas.{rises_start, rises_more, round_rises}
-use Rattle.dft_cycle.proofs.DomainLemmas.{moved, held_near, near_any}
+use Rattle.dft_cycle.proofs.DomainLemmas.{moved, held_near, ready_in}
 use Rattle.dft_cycle.proofs.rounds.round.Goals as goal
 use Rattle.dft_cycle.proofs.rounds.round.Goals.{then-changed, else-changed}
 
@@ -16,9 +16,6 @@ change_view-requires-clause-near c = λ k.
     let live : clock.0 < length x.ops.items = c.requires.live c.loop-clock.clock-index clock (slice_get-get_or c.args.clocks.now c.loop-clock.clock-index (record { 0 = 0 }) c.loop-clock-test.true) in
     moved x (pulse_at c.args.pulse) c.args.poss.now c.loop-clock.held c.loop-clock.values c.loop-clock.last.0 clock.0 k c.requires.circuit (c.loop-clock.invariant.live (omega arith)) live (c.loop-clock.invariant.near k))
 
-pub settle_leaves-requires-clause-near : goal.settle_leaves-requires-clause-near
-settle_leaves-requires-clause-near c = near_any c.args.circuit.now (pulse_at c.args.pulse) c.args.poss.now c.args.held.now c.args.values.now c.first-last.result.0 c.args.clocks.now c.requires.circuit c.requires.live c.requires.owned c.requires.pulsing c.requires.settled
-
 pub hold-moved-requires-clause-live : goal.hold-moved-requires-clause-live
 hold-moved-requires-clause-live c = c.requires.live c.loop-clock.clock-index _ (slice_get-get_or c.args.clocks.now c.loop-clock.clock-index (record { 0 = 0 }) c.loop-clock-test.true)
 
@@ -26,9 +23,9 @@ pub loop-clock-init : goal.loop-clock-init
 loop-clock-init c = record {
   rises = rises_start c.args.circuit.now (pulse_at c.args.pulse) (value_at c.args.poss.now) c.args.clocks.now c.args.held.now;
   same = λ h. refl;
-  near = λ k. inr (c.settle_leaves.ensures.given k);
-  settled = record { poss = c.args.poss.now; held = c.args.held.now; domain = c.first-last.result.0; given = c.settle_leaves.ensures.given };
-  clear = c.settle_leaves.ensures.clear;
+  near = λ k. inr (c.settle_again.ensures.given k);
+  ready = ready_in c.args.circuit.now (pulse_at c.args.pulse) c.args.poss.now c.args.held.now c.settle_again.new.values c.first-last.result.0 c.settle_again.ensures.given;
+  clear = c.settle_again.ensures.clear;
   live = λ some. c.first-last.ensures (length c.args.circuit.now.ops.items) c.requires.live some;
 }
 
@@ -47,7 +44,7 @@ loop-clock-preserved c =
         | else-changed w ↦ c.hold-moved.ensures.same (sym w.changed-is ∙ h) ∙ c.loop-clock.invariant.same w.if-changed.false
       ];
       near = λ k. held_near x p c.args.poss.now c.loop-clock.held c.hold-moved.new.held c.change_view.new.values clock.0 k c.requires.circuit live c.hold-moved.ensures.each (c.change_view.ensures.given k);
-      settled = record { poss = c.args.poss.now; held = c.loop-clock.held; domain = clock.0; given = c.change_view.ensures.given };
+      ready = ready_in x p c.args.poss.now c.loop-clock.held c.change_view.new.values clock.0 c.change_view.ensures.given;
       clear = c.change_view.ensures.clear;
       live = λ some. live;
     }

@@ -2,7 +2,7 @@
 use Rattle.std.proofs.Common.{ℕ, ◌≡◌, ◌<◌, ◌⊎◌, false, length}
 use Rattle.dft_netlist.specs.Orders.{Has}
 use Rattle.dft_cycle.specs.Machine.{value_at}
-use Rattle.dft_cycle.specs.Circuit.{GivenIn, IsSettledIn, pulse_at, flag_at}
+use Rattle.dft_cycle.specs.Circuit.{GivenIn, IsReady, pulse_at, flag_at}
 use Rattle.dft_cycle.specs.Tables.{list_at}
 use Rattle.dft_cycle.proofs.RoundLemmas.{Rises}
 use Rattle.dft_cycle.proofs.rounds.round.Given as goal
@@ -12,7 +12,7 @@ invariant-loop-clock l = record {
   rises : Rises l.circuit (pulse_at l.pulse) (value_at l.poss) l.clocks l.initial.held l.held l.clock-index;
   same : l.changed ≡ false → l.held ≡ l.initial.held;
   near : (k : ℕ) → Has (list_at l.circuit.leaves.items l.last.0) k ⊎ GivenIn l.circuit (pulse_at l.pulse) l.poss l.held l.last.0 l.values k;
-  settled : IsSettledIn l.circuit (pulse_at l.pulse) l.values;
+  ready : IsReady l.circuit l.values;
   clear : (k : ℕ) → flag_at l.marked k ≡ false;
   live : 0 < length l.circuit.ops.items → l.last.0 < length l.circuit.ops.items;
 }

@@ -8,7 +8,7 @@ use Rattle.dft_cycle.specs.Machine.{Machine, logic, value_at, pulses, IsPulsed}
 use Rattle.dft_cycle.specs.Circuit.{flag_at, logic_at}
 use Rattle.dft_cycle.specs.Views.{Among}
 use Rattle.dft_cycle.specs.MachineShown.{machine_of}
-use Rattle.dft_cycle.proofs.MachineLemmas.{refilled, filled, pulse_done, taken_read, pulses_among}
+use Rattle.dft_cycle.proofs.MachineLemmas.{refilled, filled, clear_kept, ready_kept, pulse_done, taken_read, pulses_among}
 use Rattle.dft_cycle.proofs.machine.AbstractMachine.pulse.Goals as goal
 
 pub find_least-requires-clause-pulsing : goal.find_least-requires-clause-pulsing
@@ -44,6 +44,8 @@ invariant_of-self c =
       next = refilled d.next c.find_least.new.next ∙ i.next;
       held = refilled d.held c.find_least.new.held ∙ i.held;
       marked = refilled d.marked c.find_least.new.marked ∙ i.marked;
+      clear = clear_kept d.marked c.find_least.new.marked c.deref_mut-5.result.now c.find_least.auto.marked c.deref_mut-5.ensures.value c.find_least.ensures.clear;
+      ready = ready_kept d.circuit d.values c.find_least.new.values c.deref_mut-4.result.now c.find_least.auto.values c.deref_mut-4.ensures.value c.find_least.ensures.ready;
     }
 
 pub returns : goal.returns

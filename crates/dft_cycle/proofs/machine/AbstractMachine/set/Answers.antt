@@ -26,6 +26,8 @@ invariant_of-self c =
       next = i.next;
       held = i.held;
       marked = i.marked;
+      clear = i.clear;
+      ready = i.ready;
     }
 
 pub returns : goal.returns
