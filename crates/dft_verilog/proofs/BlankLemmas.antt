@@ -2,7 +2,7 @@
 use Rattle.std.proofs.Common.{◌≡◌, ℕ, suc, ◌<◌, ◌&&◌, ◌||◌, ◌==◌, not, nat_le, [], ◌∷◌, length, Bool, true, false, cond, get_or, refl, sym, ap, ◌∙◌, subst, arith}
 use Rattle.std.proofs.lemmas.Bool.Decides.{nat_tests}
 use Rattle.dft_base.specs.Lexing.{Text}
-use Rattle.std.specs.Prelude.{codes, drop, take}
+use Rattle.std.specs.Prelude.{codes, take}
 use Rattle.std.specs.List.{prefix_len}
 use Rattle.dft_netlist.specs.Lexemes.{is_space, begins_with, comment_rest, attribute_rest, closed_len, word_len, is_passed_over, blank_len, begins_blank, is_passed_directive, directive_len, to_blank}
 
@@ -81,7 +81,20 @@ printed_begins [] d some e = absurd (omega arith)
 printed_begins (b ∷ []) d some e = absurd (omega arith)
 printed_begins (b ∷ c ∷ text) d some e = none_in b c text e
 
-pub ruleset no_blank_begins = (printed_begins)
+one_if : (t : Bool) (n : ℕ) → t ≡ true → 1 ≡ cond t 1 n
+one_if true n e = refl
+one_if false n e = absurd (cc)
+
+space_in : (b : ℕ) (text : Text) → is_space b ≡ true → 1 ≡ blank_len (b ∷ text)
+unfolding blank_len
+space_in b text e = one_if (is_space b) _ e
+
+-- a space is a blank of one byte
+pub space_begins : (text : Text) (d : ℕ) → 0 < length text → is_space (get_or text 0 d) ≡ true → 1 ≡ blank_len text
+space_begins [] d some e = absurd (omega arith)
+space_begins (b ∷ text) d some e = space_in b text e
+
+pub ruleset no_blank_begins = (printed_begins, space_begins)
 
 pub ruleset no_blank = (grave_begins, hash_begins)
 

@@ -2,9 +2,8 @@
 
 ghost use Rattle.std.specs.Prelude.{false, ◌≡◌, ◌≤◌, ◌<◌, ◌+◌, ◌-◌, ◌^◌, ◌==◌, ◌&&◌, ◌||◌, nat_le, not, [], ◌∷◌, length, drop, IfSome};
 ghost use Rattle.std.specs.List.{prefix_len};
+ghost use Rattle.dft_base.specs.Words as words;
 ghost use Rattle.dft_netlist.specs.Lexemes as spec;
-
-use dft_base::continues_word;
 
 /// The most bytes that a netlist text may have: 64 MiB.
 pub const MAX_TEXT: usize = 67_108_864;
@@ -31,14 +30,32 @@ fn begin_no_blank(first: u8, second: u8) -> bool
     33 <= first && first != b'/' && first != b'`' && (first != b'(' || second != b'*')
 }
 
+// 1 for each byte with which a word may go on, and 0 for another.
+static WORD_BYTES: [u8; 256] = [
+    0, 0, 0, 0, 0, 0, 0, 0, 0, 0, 0, 0, 0, 0, 0, 0, 0, 0, 0, 0, 0, 0, 0, 0, 0, 0, 0, 0, 0, 0, 0, 0,
+    0, 0, 0, 0, 1, 0, 0, 0, 0, 0, 0, 0, 0, 0, 0, 0, 1, 1, 1, 1, 1, 1, 1, 1, 1, 1, 0, 0, 0, 0, 0, 0,
+    0, 1, 1, 1, 1, 1, 1, 1, 1, 1, 1, 1, 1, 1, 1, 1, 1, 1, 1, 1, 1, 1, 1, 1, 1, 1, 1, 0, 0, 0, 0, 1,
+    0, 1, 1, 1, 1, 1, 1, 1, 1, 1, 1, 1, 1, 1, 1, 1, 1, 1, 1, 1, 1, 1, 1, 1, 1, 1, 1, 0, 0, 0, 0, 0,
+    0, 0, 0, 0, 0, 0, 0, 0, 0, 0, 0, 0, 0, 0, 0, 0, 0, 0, 0, 0, 0, 0, 0, 0, 0, 0, 0, 0, 0, 0, 0, 0,
+    0, 0, 0, 0, 0, 0, 0, 0, 0, 0, 0, 0, 0, 0, 0, 0, 0, 0, 0, 0, 0, 0, 0, 0, 0, 0, 0, 0, 0, 0, 0, 0,
+    0, 0, 0, 0, 0, 0, 0, 0, 0, 0, 0, 0, 0, 0, 0, 0, 0, 0, 0, 0, 0, 0, 0, 0, 0, 0, 0, 0, 0, 0, 0, 0,
+    0, 0, 0, 0, 0, 0, 0, 0, 0, 0, 0, 0, 0, 0, 0, 0, 0, 0, 0, 0, 0, 0, 0, 0, 0, 0, 0, 0, 0, 0, 0, 0,
+];
+
+// Whether a word may go on with this byte.
+#[inline(always)]
+fn is_in_word(byte: u8) -> bool
+    ensures { result ≡ words.continues_word byte }
+{
+    WORD_BYTES[byte as usize] == 1
+}
+
 /// How many bytes the word at the front has; a text may begin with none.
 pub fn word_len(text: &[u8]) -> usize
     ensures value { result ≡ spec.word_len text.now }
     ensures within { result ≤ length text.now }
 {
-    text.iter()
-        .take_while(|byte| continues_word(**byte))
-        .count()
+    text.iter().take_while(|byte| is_in_word(**byte)).count()
 }
 
 // Whether this byte may stand in a line behind a directive.
@@ -156,6 +173,7 @@ pub fn blank_len(text: &[u8]) -> usize
 {
     match text {
         [first, second, ..] if begin_no_blank(*first, *second) => 0,
+        [first, ..] if is_space(*first) => 1,
         _ => any_blank_len(text),
     }
 }

@@ -1,9 +1,10 @@
 //! Expressions of netlist texts: operands and concatenations (IEEE 1364), read without recursion.
 
-ghost use Rattle.std.specs.Prelude.{◌≡◌, suc, ◌+◌, ◌≤◌, OnOk, IfOk, length};
+ghost use Rattle.std.specs.Prelude.{◌≡◌, suc, ◌+◌, ◌≤◌, ◌<◌, false, OnOk, IfOk, length};
 ghost use Rattle.dft_base.specs.Parser.{and_then, pure};
 ghost use Rattle.dft_netlist.specs.Expressions as spec;
-ghost use Rattle.dft_netlist.specs.Steps.{left};
+ghost use Rattle.dft_netlist.specs.Steps.{left, sees};
+ghost use Rattle.dft_netlist.specs.declared.text.TokenKind.TheVariants as kinds;
 ghost use Rattle.dft_verilog.specs.Operands.{Grows, AreBits};
 ghost use Rattle.dft_verilog.specs.Reading.{Reads};
 
@@ -153,8 +154,8 @@ impl Nest {
 }
 
 #[tactic(auto, unfolding(dft_netlist::specs::Expressions::expression))]
-/// An expression: its bits, leftmost first. What comes behind it must be what may follow.
-pub fn expression<'a>(
+// An expression with concatenations, perhaps.
+fn nested<'a>(
     site: Site,
     draft: &mut ModuleDraft<'a>,
     tokens: &mut Tokens<'a>,
@@ -167,4 +168,40 @@ pub fn expression<'a>(
     nest.read_on(site, draft, tokens)?;
     followed(site, 0, tokens)?;
     Ok(nest.bits)
+}
+
+#[tactic(auto, using(crate::proofs::NestLemmas::lone_operands))]
+// An expression of one operand.
+fn lone_operand<'a>(
+    site: Site,
+    draft: &mut ModuleDraft<'a>,
+    tokens: &mut Tokens<'a>,
+) -> Result<PinSignals, ReadError>
+    requires some { 0 < left tokens.old }
+    requires lone { sees kinds.OpenBrace tokens.old ≡ false }
+    ensures read { Reads (λ bits. (draft.new, bits)) (spec.expression site draft.old tokens.old) result tokens.new }
+    ensures grown { OnOk result (Grows draft.old draft.new) }
+    ensures bits { IfOk result (λ bits. AreBits (length draft.new.nets) (spec.drives site) bits) }
+{
+    let mut bits = PinSignals::new(draft.alloc());
+    operand(site, 0, draft, &mut bits, tokens)?;
+    followed(site, 0, tokens)?;
+    Ok(bits)
+}
+
+/// An expression: its bits, leftmost first. What comes behind it must be what may follow.
+pub fn expression<'a>(
+    site: Site,
+    draft: &mut ModuleDraft<'a>,
+    tokens: &mut Tokens<'a>,
+) -> Result<PinSignals, ReadError>
+    ensures read { Reads (λ bits. (draft.new, bits)) (spec.expression site draft.old tokens.old) result tokens.new }
+    ensures grown { OnOk result (Grows draft.old draft.new) }
+    ensures bits { IfOk result (λ bits. AreBits (length draft.new.nets) (spec.drives site) bits) }
+{
+    if tokens.left() == 0 || tokens.sees(TokenKind::OpenBrace) {
+        nested(site, draft, tokens)
+    } else {
+        lone_operand(site, draft, tokens)
+    }
 }

@@ -1,4 +1,4 @@
-use Rattle.std.proofs.Common.{◌≡◌, ◌∙◌, ◌-◌, length, ap, ap₂, arith}
+use Rattle.std.proofs.Common.{◌∙◌, ap, ap₂, arith}
 use Rattle.dft_base.specs.Lexing.{tokens_from}
 use Rattle.dft_netlist.specs.Lexemes.{front}
 use Rattle.dft_netlist.specs.Steps.{left, next}
