@@ -172,7 +172,7 @@ first_refusal text (stil.P4 place) o refused is = refused
 first_refusal text (stil.P5 place) o refused is = refused
 first_refusal text (stil.P8 place) o refused is = refused
 first_refusal text (stil.P9 place name) o refused is = refused
-first_refusal text (stil.P10 name vector) o refused is = refused
+first_refusal text (stil.P10 vector name) o refused is = refused
 first_refusal text (stil.Memory error) o refused is = absurd is
 
 one_of_patterns : (n : Netlist) (rank : ℕ → ℕ) (text : List ℕ) (a b : Outcome) → IsOrdered n rank → IsOutcomeOfPatterns n text a → IsOutcomeOfPatterns n text b → a ≡ b

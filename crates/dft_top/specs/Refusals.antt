@@ -80,5 +80,5 @@ stil_refusal (stil.P4 place) = Some (placed P4 place)
 stil_refusal (stil.P5 place) = Some (placed P5 place)
 stil_refusal (stil.P8 place) = Some (placed P8 place)
 stil_refusal (stil.P9 place name) = Some (worded P9 place name)
-stil_refusal (stil.P10 name vector) = Some (numbered P10 name vector)
+stil_refusal (stil.P10 vector name) = Some (numbered P10 name vector)
 stil_refusal (stil.Memory error) = None
