@@ -1,9 +1,9 @@
 //! Pattern texts that were worked by hand, and the written form read back.
 
 use crate::pattern_lines::{letters, line_of};
-use dft_base::Name;
 use dft_netlist::Dir;
 use dft_stil::{Act, Acts, Note, NoteKind, PatternSet, StilSignal, write};
+use dft_toml::name_of;
 use std::alloc::{AllocError, Global};
 use std::test::Fail;
 
@@ -142,7 +142,21 @@ fn cut_pattern_texts_are_refused(rt: HostRuntime) -> Result<(), Fail> {
     Ok(())
 }
 
-// A set with these signals, as `c d > q`, and these vectors of letters.
+fn add_signals(
+    signals: &mut Vec<StilSignal>,
+    alloc: Global,
+    names: &str,
+    dir: Dir,
+) -> Result<(), AllocError> {
+    for name in names.split_whitespace() {
+        if let Some(name) = name_of(alloc, name.as_bytes())? {
+            signals.push(StilSignal { name, dir })?;
+        }
+    }
+    Ok(())
+}
+
+// A set with these inputs and outputs, and these vectors of letters.
 fn set_of(
     alloc: Global,
     inputs: &str,
@@ -151,18 +165,8 @@ fn set_of(
     notes: Vec<Note>,
 ) -> Result<PatternSet, AllocError> {
     let mut signals = Vec::new(alloc);
-    for name in inputs.split_whitespace() {
-        signals.push(StilSignal {
-            name: Name::from_slice(alloc, name.as_bytes())?,
-            dir: Dir::Input,
-        })?;
-    }
-    for name in outputs.split_whitespace() {
-        signals.push(StilSignal {
-            name: Name::from_slice(alloc, name.as_bytes())?,
-            dir: Dir::Output,
-        })?;
-    }
+    add_signals(&mut signals, alloc, inputs, Dir::Input)?;
+    add_signals(&mut signals, alloc, outputs, Dir::Output)?;
     let mut rows = Vec::new(alloc);
     for letters in vectors.split_whitespace() {
         rows.push(acts_of(alloc, letters)?)?;

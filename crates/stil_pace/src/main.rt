@@ -2,9 +2,9 @@
 //! Its words are numbers of vectors; with none it takes 1,000. The times go to standard error.
 #![tactic(auto)]
 
-use dft_base::Name;
 use dft_netlist::Dir;
 use dft_stil::{Act, Acts, MAX_TEXT, PatternSet, StilSignal, read, write};
+use dft_toml::name_of;
 use rand_core::utils::NextWord;
 use rand_pcg::Pcg32;
 use std::alloc::{AllocError, Global};
@@ -60,10 +60,10 @@ fn signals(alloc: Global) -> Result<Vec<StilSignal>, AllocError> {
         let is_input = number < SIGNALS / 2;
         let letter = if is_input { 'i' } else { 'o' };
         let name = format!(in alloc; "{letter}{number}")?;
-        signals.push(StilSignal {
-            name: Name::from_slice(alloc, name.as_bytes())?,
-            dir: if is_input { Dir::Input } else { Dir::Output },
-        })?;
+        let dir = if is_input { Dir::Input } else { Dir::Output };
+        if let Some(name) = name_of(alloc, name.as_bytes())? {
+            signals.push(StilSignal { name, dir })?;
+        }
     }
     Ok(signals)
 }
