@@ -18,8 +18,12 @@ const SHAPES: &str =
 const VECTORS: &str =
     "STIL 1.0;Signals{c In;d In;q Out;}Timing{WaveformTable w{Period'100ns';Waveforms{c{0{'0ns'D;}P{'0ns'D;'50ns'U;'80ns'D;}}d{0{'0ns'D;}1{'0ns'U;}}q{H{'40ns'H;}X{'0ns'X;}}}}}PatternBurst b{PatList{p;}}PatternExec{PatternBurst b;}Pattern p{W w;\n";
 
+// Groups, one of which has a signal's name and one a signal twice; what comes behind begins the second line.
+const GROUPS: &str =
+    "STIL 1.0;Signals{c In;d In;q Out;}SignalGroups{c='d+c';k='c';h='c+d';r='d+c+d';}Timing{WaveformTable w{Period'9ns';Waveforms{c{0{'0ns'D;}1{'0ns'U;}}}}}PatternBurst b{PatList{p;}}PatternExec{PatternBurst b;}Pattern p{W w;\n";
+
 // How a text begins, how it goes on, and what it reads as.
-static LINES: [(&str, &str, &str); 47] = [
+static LINES: [(&str, &str, &str); 79] = [
     ("", "", "P1 1:1"),
     ("", "STIL 1.1;", "P1 1:6"),
     ("", "STIL 1.0;\nLoop", "P2 2:1 Loop"),
@@ -111,6 +115,50 @@ static LINES: [(&str, &str, &str); 47] = [
         "PatternBurst b { PatList { p; } } PatternExec { PatternBurst b; } Pattern p { W t; V { c = P; d = 1; } V { c = 0; q = H; } }",
         "ok P1- 01H",
     ),
+    ("", "STIL\r\t1.0;\n\r\tFoo", "P2 2:3 Foo"),
+    ("", "STIL\x0b1.0;", "P1 1:5"),
+    ("", "STIL 1.0;\x7f", "P1 1:10"),
+    ("", "STIL 1.0;Signals{\"a b", "P1 1:20"),
+    ("", "STIL 1.0;Header{\"\"}x", "P1 1:20"),
+    ("", "STIL 1.0;Header{/*x}", "P1 1:21"),
+    ("", "Foo", "P2 1:1 Foo"),
+    ("", "\"STIL\" 1.0;", "P1 1:1"),
+    ("", "STIL 1.0;Header{}Header{}", "P2 1:18 Header"),
+    ("", "STIL 1.0;Signals{c Foo;", "P2 1:20 Foo"),
+    (SIGNALS, "SignalGroups{g=Stop", "P2 2:16 Stop"),
+    (
+        SIGNALS,
+        "Timing t{WaveformTable w{Period'Loop'",
+        "P2 2:33 Loop",
+    ),
+    (SHAPES, "c{0{'0ns'D;}00{", "P2 2:13 00"),
+    (SHAPES, "c{0{'0ns'U;'1ns'D", "P2 2:17 D"),
+    (SHAPES, "q{0{'0ns'D", "P2 2:10 D"),
+    (
+        SHAPES,
+        "c{P{'0ns'D;'50ns'U;'80ns'D;}}q{H{'50ns'H;}}}}",
+        "P8 2:45",
+    ),
+    (SHAPES, "c{P{'0ns'D;'50ns'U;'100ns'D;}}}}", "P8 2:32"),
+    (
+        SHAPES,
+        "c{1{'50ns'U;}}d{P{'0ns'D;'50ns'U;'80ns'D;}}q{X{'90ns'X;}}}}",
+        "P8 2:59",
+    ),
+    (VECTORS, "Stop;", "P2 2:1 Stop"),
+    (VECTORS, "V{Loop=0;", "P3 2:3 Loop"),
+    (VECTORS, "\"Loop\":V{}}", "ok ---"),
+    (VECTORS, "V:", "P1 2:2"),
+    (VECTORS, "a:b:", "P1 2:3"),
+    (VECTORS, "V{};", "P1 2:4"),
+    (VECTORS, "V{q=H_;", "P1 2:6"),
+    (VECTORS, "V{q=H[1];", "P1 2:6"),
+    (VECTORS, "V{d=1\\;", "P2 2:6 \\"),
+    (VECTORS, "V{c=P;}V{}V{d=1;}}", "ok P-- P-- P1-"),
+    (GROUPS, "V{c=01;}}", "ok 10-"),
+    (GROUPS, "V{k=00;", "P4 2:7"),
+    (GROUPS, "V{r=0;", "P9 2:3 r"),
+    (GROUPS, "V{c=01;h=00;}", "P9 2:8 h"),
 ];
 
 #[test]
