@@ -1,7 +1,8 @@
 #!/bin/sh
 # Times the built dft: replays made netlists at three sizes and prints gates times vectors per second and the peak
-# memory, then with 1, 16 and 256 clocks; and times the netlist reader alone (the patterns are then a file that is not
-# there). Build the program first (./dft does). It promises nothing.
+# memory, then with 1, 16 and 256 clocks; and times the readers alone: of netlists (the patterns are then a file that is
+# not there), and of patterns (on a netlist without their ports). crates/stil_pace times patterns with 50 signals, also
+# their writing. Build the program first (./dft does). It promises nothing.
 here=$(cd "$(dirname "$0")" && pwd)
 dft=$here/../crates/dft/out/dft
 [ -x "$dft" ] || { echo "build dft first: ./dft replay .." >&2; exit 2; }
@@ -27,4 +28,10 @@ for gates in 20000 100000; do
     size=$(wc -c < "$work/bench.v")
     set -- $(timed "$dft" replay --netlist "$work/bench.v" --patterns "$work/none")
     echo "read: $size bytes of netlist: $1 s, $2 MB, $(python3 -c "print(f'{$size / $1 / 1e6:.1f}')") MB/s"
+done
+for vectors in 22000 220000; do
+    python3 "$here/make.py" 100 "$vectors" 1 "$work"
+    size=$(wc -c < "$work/bench.stil")
+    set -- $(timed "$dft" replay --netlist "$here/../examples/first/m.v" --patterns "$work/bench.stil")
+    echo "read: $size bytes of patterns: $1 s, $2 MB, $(python3 -c "print(f'{$size / $1 / 1e6:.1f}')") MB/s"
 done

@@ -1,6 +1,6 @@
 use dft_base::{
-    Failing, Files, HostFiles, LoadError, MemoryFiles, MemorySink, Name, NeverFails, OutSink, PutError, SaveError, Sink,
-    is_simple_name, needs_escape,
+    Failing, Files, HostFiles, LoadError, MemoryFiles, MemorySink, Name, NeverFails, OutSink,
+    PutError, SaveError, Sink, is_simple_name, needs_escape,
 };
 use std::test::Fail;
 

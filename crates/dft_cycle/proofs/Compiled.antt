@@ -22,7 +22,7 @@ use Rattle.dft_netlist.specs.Orders.{Has, IsOrderFrom, IsOrder, numbers_of}
 use Rattle.dft_cycle.specs.declared.circuit.Op.{Op}
 use Rattle.dft_cycle.specs.declared.circuit.Op.TheVariants.{Free}
 use Rattle.dft_cycle.specs.declared.circuit.Circuit.{Circuit}
-use Rattle.dft_cycle.specs.Circuit.{meaning, Fits, op_at, cell_of, cell_at, logic_at, AreOrdered}
+use Rattle.dft_cycle.specs.Circuit.{AreTables, meaning, Fits, op_at, cell_of, cell_at, logic_at, AreOrdered}
 use Rattle.dft_cycle.specs.Compiling.{found_in, wired_by, with_source, latch_in, latch_kept, kept_latch, IsOpOf, AreFlops, AreLatches, IsCircuitOf}
 use Rattle.dft_cycle.proofs.Writings.{cell_read, cell_past}
 use Rattle.dft_cycle.proofs.RoundLemmas.{latch_live}
@@ -143,9 +143,10 @@ domain_clock n ports (Some source) e h = root_clock ports (root_of n source) e h
 -- ---- the circuit
 
 pub circuit_of : (n : Netlist) (ports : Ports) (x : Circuit) → IsNetlist n → IsOrder n (numbers_of x.order.items) → length x.ops.items ≡ length n.nets →
-    ((net : ℕ) → net < length n.nets → IsOpOf n ports net (op_at x.ops.items net)) → AreFlops n ports (length n.instances) x.flops.items → AreLatches n ports (length n.instances) x.latches.items → IsCircuitOf n ports x
+    ((net : ℕ) → net < length n.nets → IsOpOf n ports net (op_at x.ops.items net)) → AreFlops n ports (length n.instances) x.flops.items → AreLatches n ports (length n.instances) x.latches.items →
+    AreTables x → IsCircuitOf n ports x
 unfolding logic_at
-circuit_of n ports x sound order size each flops latches =
+circuit_of n ports x sound order size each flops latches tables =
     let means : (k : ℕ) → meaning (op_at x.ops.items k) ≡ (logic_of n ports).net k = λ k. elim (leb_tells (length n.nets) k) [
       | inl out ↦ (let far : length x.ops.items ≤ k = omega (arith, out.1) in ap meaning (get_or_past x.ops.items k Free far) ∙ sym (ap (meaning_of n ports k) (past_free n k sound out.1)))
       | inr live ↦ (each k live.1).means
@@ -168,6 +169,7 @@ circuit_of n ports x sound order size each flops latches =
           | inr live ↦ (let found = (each k live.1).latch c e source h in latches.each c found.0 ∙ found.1)
         ];
         instances = latches.size ∙ sym flops.size;
+        tables = tables;
       };
       compiled = λ i. record { net = λ k. sym (means k) i; cell = λ c. sym (cells c) i };
       clocked = λ c e source h.

@@ -6,8 +6,10 @@ pub mod Least
 pub mod OneDomain
 pub mod Lifts
 pub mod Settlings
+pub mod Sweepings
 pub mod CircuitRanks
 pub mod Writings
+pub mod TableLemmas
 pub mod RoundLemmas
 pub mod NextLemmas
 pub mod Risings
@@ -19,3 +21,4 @@ pub mod BuildLemmas
 pub mod Compiled
 pub mod Pasts
 pub mod AloneLemmas
+pub mod DomainLemmas

@@ -15,7 +15,7 @@ use Rattle.dft_cycle.specs.declared.circuit.FlipFlop.{FlipFlop}
 use Rattle.dft_cycle.specs.declared.circuit.Circuit.{Circuit}
 use Rattle.dft_cycle.specs.Cycle.{Pulse, AreViews, next_value, after_pulse, IsLeast}
 use Rattle.dft_cycle.specs.Machine.{Machine, value_at, is_one_of, ports_of, logic, acted, IsSet, at_strobe, IsStrobed, pulses, pulse_from, IsPulsed}
-use Rattle.dft_cycle.specs.Circuit.{logic_at, cell_of, cell_at, flag_at, IsCircuit}
+use Rattle.dft_cycle.specs.Circuit.{IsReady, logic_at, cell_of, cell_at, flag_at, IsCircuit}
 use Rattle.dft_cycle.specs.Views.{rank_of, Among, AreNext}
 use Rattle.dft_cycle.specs.Compiling.{ports_by}
 use Rattle.dft_cycle.proofs.Views.{views_exist}
@@ -29,6 +29,12 @@ refilled v ws = sym (with_items v ws).ok.0 ∙ v.ok.0
 
 pub filled : {X : Type 0} (v : Vec X) (ws rs : List X) → length ws ≡ length rs → rs ≡ v.items → (with_items v ws).items ≡ ws
 filled v ws rs a e = with_items_is v ws (a ∙ ap length e ∙ sym v.ok.0)
+
+pub clear_kept : (v : Vec Bool) (ws rs : List Bool) → length ws ≡ length rs → rs ≡ v.items → ((k : ℕ) → flag_at ws k ≡ false) → (k : ℕ) → flag_at (with_items v ws).items k ≡ false
+clear_kept v ws rs a e clear k = ap (λ (l : List Bool). flag_at l k) (filled v ws rs a e) ∙ clear k
+
+pub ready_kept : (x : Circuit) (v : Vec Tri) (ws rs : List Tri) → length ws ≡ length rs → rs ≡ v.items → IsReady x ws → IsReady x (with_items v ws).items
+ready_kept x v ws rs a e ready = subst (IsReady x) (sym (filled v ws rs a e)) ready
 
 -- ---- a strobe
 
@@ -65,14 +71,13 @@ set_done m after x net value compiled n k s inputs live a b each =
     }
 
 -- what was read from other lists that are the same
-pub acted_read : (flops fs : List FlipFlop) (cells os new ws : List Tri) (net : ℕ) (value : Tri) → fs ≡ flops → os ≡ cells → new ≡ ws →
-    ((c : ℕ) → c < length fs → value_at ws c ≡ acted (cell_at (map cell_of fs) c).force net value (value_at os c)) →
+pub acted_read : (flops : List FlipFlop) (cells os new ws : List Tri) (net : ℕ) (value : Tri) → os ≡ cells → new ≡ ws →
+    ((c : ℕ) → c < length flops → value_at ws c ≡ acted (cell_at (map cell_of flops) c).force net value (value_at os c)) →
     (c : ℕ) → c < length flops → value_at new c ≡ acted (cell_at (map cell_of flops) c).force net value (value_at cells c)
-acted_read flops fs cells os new ws net value f o n each =
-    let F : List FlipFlop → Type 0 = λ l. (c : ℕ) → c < length l → value_at new c ≡ acted (cell_at (map cell_of l) c).force net value (value_at cells c) in
-    let O : List Tri → Type 0 = λ l. (c : ℕ) → c < length fs → value_at new c ≡ acted (cell_at (map cell_of fs) c).force net value (value_at l c) in
-    let N : List Tri → Type 0 = λ l. (c : ℕ) → c < length fs → value_at l c ≡ acted (cell_at (map cell_of fs) c).force net value (value_at os c) in
-    subst F f (subst O o (subst N (sym n) each))
+acted_read flops cells os new ws net value o n each =
+    let O : List Tri → Type 0 = λ l. (c : ℕ) → c < length flops → value_at new c ≡ acted (cell_at (map cell_of flops) c).force net value (value_at l c) in
+    let N : List Tri → Type 0 = λ l. (c : ℕ) → c < length flops → value_at l c ≡ acted (cell_at (map cell_of flops) c).force net value (value_at os c) in
+    subst O o (subst N (sym n) each)
 
 pub taken_read : (flops fs : List FlipFlop) (marks bs : List Bool) (next xs cells os new ws : List Tri) → fs ≡ flops → bs ≡ marks → xs ≡ next → os ≡ cells → new ≡ ws →
     ((c : ℕ) → c < length fs → value_at ws c ≡ (if flag_at bs (cell_at (map cell_of fs) c).domain then value_at xs c else value_at os c)) →

@@ -20,7 +20,7 @@ unknown_stays : (value : Bool) → tri_forced value Unknown Unknown ≡ Unknown
 unknown_stays true = refl
 unknown_stays false = refl
 
-forced_twice : (value : Bool) (pin bit : Tri) → tri_forced value pin (tri_forced value pin bit) ≡ tri_forced value pin bit
+pub forced_twice : (value : Bool) (pin bit : Tri) → tri_forced value pin (tri_forced value pin bit) ≡ tri_forced value pin bit
 forced_twice true Zero Zero = refl
 forced_twice true Zero One = refl
 forced_twice true Zero Unknown = refl

@@ -28,10 +28,10 @@ agree_all x p poss view d held t values is views same settled right k = elim (le
   | inr live ↦ agree x p poss view d held t values (length x.ops.items) is views same settled right (suc (rank_of x k)) k (omega arith) (rank_lower x is k live.1)
 ]
 
-by_hit : (cell : Cell) (d : ℕ) (ports values : ℕ → Tri) (old : Tri) → (cell.domain == d) ≡ true → next_by cell d ports values old ≡ next_at cell ports values
+pub by_hit : (cell : Cell) (d : ℕ) (ports values : ℕ → Tri) (old : Tri) → (cell.domain == d) ≡ true → next_by cell d ports values old ≡ next_at cell ports values
 by_hit cell d ports values old hit = ap (λ (b : Bool). if b then next_at cell ports values else old) hit
 
-by_miss : (cell : Cell) (d : ℕ) (ports values : ℕ → Tri) (old : Tri) → (cell.domain == d) ≡ false → next_by cell d ports values old ≡ old
+pub by_miss : (cell : Cell) (d : ℕ) (ports values : ℕ → Tri) (old : Tri) → (cell.domain == d) ≡ false → next_by cell d ports values old ≡ old
 by_miss cell d ports values old miss = ap (λ (b : Bool). if b then next_at cell ports values else old) miss
 
 pub next_start : (x : Circuit) (p : Pulse) (view : ℕ → ℕ → Tri) (clocks : List NetId) (next : List Tri) → HasNext x p view clocks 0 next

@@ -39,10 +39,10 @@ agree x p poss view d held t values r is views same settled right (suc fuel) k l
 
 -- ---- one lock-up
 
-latch_hits : (latch : Option (ℕ × Source)) (d e : ℕ) (source : Source) (values : ℕ → Tri) (old : Tri) → latch ≡ Some (e, source) → (e == d) ≡ true → held_by latch d values old ≡ value_from values source
+pub latch_hits : (latch : Option (ℕ × Source)) (d e : ℕ) (source : Source) (values : ℕ → Tri) (old : Tri) → latch ≡ Some (e, source) → (e == d) ≡ true → held_by latch d values old ≡ value_from values source
 latch_hits latch d e source values old is hit = ap (λ (l : Option (ℕ × Source)). held_by l d values old) is ∙ ap (λ (b : Bool). if b then value_from values source else old) hit
 
-latch_misses : (latch : Option (ℕ × Source)) (d e : ℕ) (source : Source) (values : ℕ → Tri) (old : Tri) → latch ≡ Some (e, source) → (e == d) ≡ false → held_by latch d values old ≡ old
+pub latch_misses : (latch : Option (ℕ × Source)) (d e : ℕ) (source : Source) (values : ℕ → Tri) (old : Tri) → latch ≡ Some (e, source) → (e == d) ≡ false → held_by latch d values old ≡ old
 latch_misses latch d e source values old is miss = ap (λ (l : Option (ℕ × Source)). held_by l d values old) is ∙ ap (λ (b : Bool). if b then value_from values source else old) miss
 
 pub latch_live : (latches : List (Option Latch)) (c : ℕ) (found : ℕ × Source) → latch_at latches c ≡ Some found → c < length latches

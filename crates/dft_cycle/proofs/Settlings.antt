@@ -35,7 +35,7 @@ lockup_agree : (P : ℕ → Type 0) (held : Option (List Tri)) (v w : ℕ → Tr
 lockup_agree P None v w c e source all same = source_agree P v w source all same
 lockup_agree P (Some held) v w c e source all same = refl
 
-given_agree : (P : ℕ → Type 0) (base : TriSources) (held : Option (List Tri)) (v w : ℕ → Tri) (net : ℕ) (m : Meaning) → AllByRecursion P (reads m) → ((k : ℕ) → P k → v k ≡ w k) →
+pub given_agree : (P : ℕ → Type 0) (base : TriSources) (held : Option (List Tri)) (v w : ℕ → Tri) (net : ℕ) (m : Meaning) → AllByRecursion P (reads m) → ((k : ℕ) → P k → v k ≡ w k) →
     value_given (leaves_from base held v) v net m ≡ value_given (leaves_from base held w) w net m
 given_agree P base held v w net Input all same = refl
 given_agree P base held v w net Clock all same = refl
@@ -47,7 +47,7 @@ given_agree P base held v w net Free all same = refl
 
 -- ---- one net after another
 
-all_more : (before : List ℕ) (net : ℕ) (xs : List ℕ) → AllByRecursion (Has before) xs → AllByRecursion (Has (net ∷ before)) xs
+pub all_more : (before : List ℕ) (net : ℕ) (xs : List ℕ) → AllByRecursion (Has before) xs → AllByRecursion (Has (net ∷ before)) xs
 all_more before net [] all = tt
 all_more before net (x ∷ xs) all = (inr all.0, all_more before net xs all.1)
 

@@ -8,7 +8,7 @@ use Rattle.dft_netlist.specs.Drivers.{Source}
 use Rattle.dft_netlist.specs.Drivers as drivers
 use Rattle.dft_netlist.specs.Logic.{Logic, Meaning, Cell, Scan, Force, reads, no_cell}
 use Rattle.dft_netlist.specs.Logic as meanings
-use Rattle.dft_netlist.specs.Settled.{TriSources, value_from}
+use Rattle.dft_netlist.specs.Settled.{TriSources, value_from, value_given}
 use Rattle.dft_netlist.specs.Orders.{Has, numbers_of}
 use Rattle.dft_cycle.specs.declared.circuit.Operand.{Operand}
 use Rattle.dft_cycle.specs.declared.circuit.Operand.TheVariants.{Net, Tied, Loose}
@@ -24,6 +24,7 @@ use Rattle.dft_cycle.specs.declared.settling.View.{View}
 use Rattle.dft_cycle.specs.Cycle.{view_sources}
 use Rattle.dft_cycle.specs.Cycle as Cycle
 use Rattle.dft_cycle.specs.Machine.{value_at}
+use Rattle.dft_cycle.specs.Tables.{IsTable}
 
 -- ---- what the parts stand for
 
@@ -91,6 +92,43 @@ AreOrdered ops before (net ∷ nets) =
     (Has before net → ⊥) × (net < length ops) × AllByRecursion (Has before) (reads (meaning (op_at ops net)))
     × AreOrdered ops (net ∷ before) nets
 
+-- a net that shows an input, a clock, a flip-flop or a lock-up is listed at place 0
+abbrev pub source_places : Meaning → List ℕ
+source_places meanings.Input = 0 ∷ []
+source_places meanings.Clock = 0 ∷ []
+source_places (meanings.Gate kind inputs) = []
+source_places (meanings.Joined source) = []
+source_places (meanings.Flop c inverted) = 0 ∷ []
+source_places (meanings.Lockup c e source) = 0 ∷ []
+source_places meanings.Free = []
+
+-- the domain whose clock, flip-flop or lock-up a net shows
+abbrev pub leaf_domains : List Cell → (net : ℕ) → Meaning → List ℕ
+leaf_domains cells net meanings.Input = []
+leaf_domains cells net meanings.Clock = net ∷ []
+leaf_domains cells net (meanings.Gate kind inputs) = []
+leaf_domains cells net (meanings.Joined source) = []
+leaf_domains cells net (meanings.Flop c inverted) = (cell_at cells c).domain ∷ []
+leaf_domains cells net (meanings.Lockup c e source) = e ∷ []
+leaf_domains cells net meanings.Free = []
+
+abbrev pub latch_domains : Option (ℕ × Source) → List ℕ
+latch_domains None = []
+latch_domains (Some latch) = latch.0 ∷ []
+
+abbrev pub force_nets : Option Force → List ℕ
+force_nets None = []
+force_nets (Some force) = force.port ∷ []
+
+-- by net, what reads it and what it resets or sets; and for a clock what shows its domain, its flip-flops and its lock-ups
+pub record AreTables (x : Circuit) : Type 0 where
+  pub readers : IsTable (length x.ops.items) (length x.ops.items) (λ net. reads (meaning (op_at x.ops.items net))) x.readers.items
+  pub sources : IsTable 1 (length x.ops.items) (λ net. source_places (meaning (op_at x.ops.items net))) x.sources.items
+  pub leaves : IsTable (length x.ops.items) (length x.ops.items) (λ net. leaf_domains (map cell_of x.flops.items) net (meaning (op_at x.ops.items net))) x.leaves.items
+  pub cells : IsTable (length x.ops.items) (length x.flops.items) (λ c. (cell_at (map cell_of x.flops.items) c).domain ∷ []) x.cells.items
+  pub holders : IsTable (length x.ops.items) (length x.latches.items) (λ c. latch_domains (latch_at x.latches.items c)) x.holders.items
+  pub followers : IsTable (length x.ops.items) (length x.flops.items) (λ c. force_nets (cell_at (map cell_of x.flops.items) c).force) x.followers.items
+
 pub record IsCircuit (x : Circuit) : Type 0 where
   pub fits : (net : ℕ) → Fits (op_at x.ops.items net)
   pub whole : (net : ℕ) → net < length x.ops.items → Has (numbers_of x.order.items) net
@@ -99,6 +137,7 @@ pub record IsCircuit (x : Circuit) : Type 0 where
   -- a lock-up's instance tells its domain and its input
   pub latched : (net c e : ℕ) (source : Source) → meaning (op_at x.ops.items net) ≡ meanings.Lockup c e source → latch_at x.latches.items c ≡ Some (e, source)
   pub instances : length x.latches.items ≡ length x.flops.items
+  pub tables : AreTables x
 
 -- ---- settling
 
@@ -125,3 +164,28 @@ view_base cells v = view_sources (record { net = λ net. meanings.Free; cell = c
 
 abbrev pub held_in : View → Option (List Tri)
 held_in v = option_map (λ h. h.now) v.held
+
+-- what the view of a domain is settled from, but for its lock-ups
+abbrev pub base_of : List Cell → Cycle.Pulse → (poss : List Tri) → (domain : ℕ) → TriSources
+base_of cells p poss d = view_sources (record { net = λ net. meanings.Free; cell = cell_at cells }) p (value_at poss) (λ e net. Unknown) d
+
+-- the net has its driver's value in the view of a domain
+abbrev pub IsGivenBy : Circuit → Cycle.Pulse → (poss : List Tri) → Option (List Tri) → (domain : ℕ) → (values : List Tri) → ℕ → Type 0
+IsGivenBy x p poss held d values k =
+    value_at values k ≡ value_given (leaves_from (base_of (map cell_of x.flops.items) p poss d) held (value_at values)) (value_at values) k (meaning (op_at x.ops.items k))
+
+abbrev pub GivenIn : Circuit → Cycle.Pulse → (poss held : List Tri) → (domain : ℕ) → (values : List Tri) → ℕ → Type 0
+GivenIn x p poss held d values k = IsGivenBy x p poss (Some held) d values k
+
+-- the same where the view is that of this domain, and in the view itself
+abbrev pub IsGivenIn : Circuit → View → (domain : ℕ) → (values : List Tri) → ℕ → Type 0
+IsGivenIn x v d values k = IsGivenBy x (pulse_at v.pulse) v.poss.now (held_in v) d values k
+
+abbrev pub IsGiven : Circuit → View → (values : List Tri) → ℕ → Type 0
+IsGiven x v values k = IsGivenIn x v v.domain.0 values k
+
+-- all nets have the values that they have from some sources
+pub record IsReady (x : Circuit) (values : List Tri) : Type 0 where
+  pub base : TriSources
+  pub held : Option (List Tri)
+  pub given : (k : ℕ) → value_at values k ≡ value_given (leaves_from base held (value_at values)) (value_at values) k (meaning (op_at x.ops.items k))

@@ -6,6 +6,7 @@ pub use Rattle.dft_netlist.specs.Runs
 pub mod Cycle
 pub mod Laws
 pub mod Machine
+pub mod Tables
 pub mod Circuit
 pub mod Views
 pub mod MachineShown

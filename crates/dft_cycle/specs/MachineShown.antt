@@ -1,9 +1,9 @@
 -- What an `AbstractMachine` shows, and what holds of it.
-use Rattle.std.specs.Prelude.{ℕ, ◌≡◌, ◌<◌, Some, length, slice_get}
+use Rattle.std.specs.Prelude.{ℕ, false, ◌≡◌, ◌<◌, Some, length, slice_get}
 use Rattle.dft_netlist.specs.declared.ids.NetId.{NetId}
 use Rattle.dft_cycle.specs.declared.machine.AbstractMachine.TheInside.{Inside}
 use Rattle.dft_cycle.specs.Machine.{Machine, logic}
-use Rattle.dft_cycle.specs.Circuit.{logic_at, IsCircuit}
+use Rattle.dft_cycle.specs.Circuit.{logic_at, flag_at, IsCircuit, IsReady}
 use Rattle.dft_cycle.specs.Views.{OwnsLatches}
 
 abbrev pub machine_of : Inside → Machine
@@ -24,3 +24,6 @@ pub record IsMachine (d : Inside) : Type 0 where
   pub poss : length d.poss.items ≡ length d.circuit.flops.items
   pub next : length d.next.items ≡ length d.circuit.flops.items
   pub held : length d.held.items ≡ length d.circuit.flops.items
+  pub marked : length d.marked.items ≡ length d.circuit.ops.items
+  pub clear : (k : ℕ) → flag_at d.marked.items k ≡ false
+  pub ready : IsReady d.circuit d.values.items

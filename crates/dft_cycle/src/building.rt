@@ -11,6 +11,7 @@ ghost use Rattle.dft_cycle.specs.Compiling.{ports_by, wired_at, wired_by, AreLiv
 use crate::circuit::{Circuit, FlipFlop, Latch, Op};
 use crate::compiling::{flop_at, latch_of, pin_op};
 use crate::settling::flag_at;
+use crate::tables::{cells, followers, holders, leaves, readers, sources};
 use crate::wires::{Wire, kind_of, operand, role_at, wires};
 use dft_cells::{Kind, Role};
 use dft_netlist::{Design, InstanceId, NetDriver, NetId};
@@ -162,10 +163,23 @@ pub(crate) fn compile(alloc: Global, design: &Design, flags: &[bool]) -> Result<
     let flops = flops(alloc, design, flags)?;
     let latches = latches(alloc, design, flags)?;
     let _ = design.net_count();
+    let nets = ops.len();
+    let readers = readers(alloc, &ops)?;
+    let sources = sources(alloc, &ops)?;
+    let leaves = leaves(alloc, &ops, &flops)?;
+    let cells = cells(alloc, &flops, nets)?;
+    let holders = holders(alloc, &latches, nets)?;
+    let followers = followers(alloc, &flops, nets)?;
     Ok(Circuit {
         order,
         ops,
         flops,
         latches,
+        readers,
+        sources,
+        leaves,
+        cells,
+        holders,
+        followers,
     })
 }

@@ -8,7 +8,7 @@ use std::alloc::{AllocError, Global};
 use std::marker::Model;
 
 /// Where an input pin takes its value from.
-#[derive(Clone, Copy, Debug, PartialEq, Eq)]
+#[derive(Clone, Copy)]
 pub(crate) enum Operand {
     Net(NetId),
     Tied(bool),
@@ -17,7 +17,7 @@ pub(crate) enum Operand {
 }
 
 /// Operands in order. A clause sees them as a list.
-#[derive(Debug, Drop)]
+#[derive(Drop)]
 pub(crate) struct Operands {
     operands: Vec<Operand>,
 }
@@ -58,8 +58,49 @@ impl Operands {
     }
 }
 
+/// Numbers of nets or of instances. A clause sees them as a list.
+#[derive(Drop)]
+pub(crate) struct Numbers {
+    numbers: Vec<u32>,
+}
+
+impl Model for Numbers {
+    ghost use Rattle.std.specs.Prelude.{ℕ, List};
+
+    ghost Value = { List ℕ };
+
+    ghost view = { λ n. n.numbers.items };
+}
+
+impl Numbers {
+    /// No number yet.
+    pub(crate) fn new(alloc: Global) -> Numbers
+        ensures { result ≡ [] }
+    {
+        Numbers {
+            numbers: Vec::new(alloc),
+        }
+    }
+
+    /// Adds a number at the end.
+    pub(crate) fn push(&mut self, number: u32) -> Result<(), AllocError>
+        ensures ok { OnOk result (self.new ≡ self.old ++ number ∷ []) }
+        ensures err { OnErr result (self.new ≡ self.old) }
+    {
+        self.numbers.push(number)?;
+        Ok(())
+    }
+
+    /// The numbers.
+    pub(crate) fn as_slice(&self) -> &[u32]
+        ensures { result.now ≡ self.now }
+    {
+        &self.numbers
+    }
+}
+
 /// What a net takes its value from.
-#[derive(Debug, Drop)]
+#[derive(Drop)]
 pub(crate) enum Op {
     /// The bit of an input port that is no clock.
     Input,
@@ -76,21 +117,21 @@ pub(crate) enum Op {
 }
 
 /// The pins of a scan cell that are there for scan.
-#[derive(Clone, Copy, Debug, PartialEq, Eq)]
+#[derive(Clone, Copy)]
 pub(crate) struct ScanPins {
     pub enable: Operand,
     pub input: Operand,
 }
 
 /// A reset (value 0) or a set (value 1), by the net of the port that is 0 where it acts.
-#[derive(Clone, Copy, Debug, PartialEq, Eq)]
+#[derive(Clone, Copy)]
 pub(crate) struct Acting {
     pub port: NetId,
     pub value: bool,
 }
 
 /// A flip-flop: the net of its clock port, and its pins.
-#[derive(Clone, Copy, Debug, PartialEq, Eq)]
+#[derive(Clone, Copy)]
 pub(crate) struct FlipFlop {
     pub domain: NetId,
     pub input: Operand,
@@ -99,18 +140,26 @@ pub(crate) struct FlipFlop {
 }
 
 /// A lock-up: the net of its clock port, and its input.
-#[derive(Clone, Copy, Debug, PartialEq, Eq)]
+#[derive(Clone, Copy)]
 pub(crate) struct Latch {
     pub domain: NetId,
     pub input: Operand,
 }
 
 /// What each net takes its value from, by net, in an order in which each comes after what it reads; and the flip-flop
-/// and the lock-up of each instance, by instance.
-#[derive(Debug, Drop)]
+/// and the lock-up of each instance, by instance. Then what is found by tables: the sources; by net the nets that read it and the
+/// flip-flops that it resets or sets; and by the net of a clock the nets that show it or its domain's flip-flops and
+/// lock-ups, and these flip-flops and lock-ups.
+#[derive(Drop)]
 pub(crate) struct Circuit {
     pub order: Vec<NetId>,
     pub ops: Vec<Op>,
     pub flops: Vec<FlipFlop>,
     pub latches: Vec<Option<Latch>>,
+    pub readers: Vec<Numbers>,
+    pub sources: Vec<Numbers>,
+    pub leaves: Vec<Numbers>,
+    pub cells: Vec<Numbers>,
+    pub holders: Vec<Numbers>,
+    pub followers: Vec<Numbers>,
 }

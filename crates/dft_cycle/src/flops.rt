@@ -7,11 +7,12 @@ ghost use Rattle.dft_netlist.specs.Settled.{value_from};
 ghost use Rattle.dft_cycle.specs.Cycle.{tri_forced_by};
 ghost use Rattle.dft_cycle.specs.Machine as spec;
 ghost use Rattle.dft_cycle.specs.Circuit as circuits;
-ghost use Rattle.dft_cycle.specs.Circuit.{cell_of, cell_at, latch_at};
+ghost use Rattle.dft_cycle.specs.Circuit.{cell_of, cell_at, latch_at, IsCircuit};
 ghost use Rattle.dft_cycle.specs.Views.{taken_at, next_at, next_by, held_by};
 
-use crate::circuit::{Acting, FlipFlop, Latch};
-use crate::settling::{flag_at, value_at};
+use crate::circuit::{Acting, Circuit, FlipFlop, Latch};
+use crate::settling::value_at;
+use crate::tables::list_of;
 use dft_base::Tri;
 use dft_netlist::NetId;
 
@@ -68,30 +69,22 @@ impl FlipFlop {
     }
 }
 
-/// Its next value where its domain is this one, else the old value.
-fn next_value(flop: &FlipFlop, domain: NetId, ports: &[Tri], values: &[Tri], old: Tri) -> Tri
-    ensures { result ≡ next_by (cell_of flop.now) domain.0 (spec.value_at ports.now) (spec.value_at values.now) old }
-{
-    if flop.domain.0 == domain.0 {
-        flop.next(ports, values)
-    } else {
-        old
-    }
-}
-
 /// Each flip-flop of a domain takes its next value in the domain's view.
 pub(crate) fn take_next(
-    flops: &[FlipFlop],
+    circuit: &Circuit,
     domain: NetId,
     ports: &[Tri],
     values: &[Tri],
     next: &mut [Tri],
 )
-    requires { length next.old ≡ length flops.now }
-    ensures { (c : ℕ) → c < length flops.now → spec.value_at next.new c ≡ next_by (cell_at (map cell_of flops.now) c) domain.0 (spec.value_at ports.now) (spec.value_at values.now) (spec.value_at next.old c) }
+    requires circuit { IsCircuit circuit.now }
+    requires live { domain.0 < length circuit.now.ops.items }
+    requires next { length next.old ≡ length circuit.now.flops.items }
+    ensures { (c : ℕ) → c < length circuit.now.flops.items → spec.value_at next.new c ≡ next_by (cell_at (map cell_of circuit.now.flops.items) c) domain.0 (spec.value_at ports.now) (spec.value_at values.now) (spec.value_at next.old c) }
 {
-    for (place, flop) in flops.iter().enumerate() {
-        next[place] = next_value(flop, domain, ports, values, next[place]);
+    for cell in list_of(&circuit.cells, domain) {
+        let place = *cell as usize;
+        next[place] = circuit.flops[place].next(ports, values);
     }
 }
 
@@ -121,20 +114,18 @@ pub(crate) fn differ(one: Tri, other: Tri) -> bool
 }
 
 /// Each lock-up of a domain is held at its input's value in the domain's view. Whether one changed.
-pub(crate) fn hold(
-    latches: &[Option<Latch>],
-    domain: NetId,
-    values: &[Tri],
-    held: &mut [Tri],
-) -> bool
-    requires { length held.old ≡ length latches.now }
-    ensures each { (c : ℕ) → c < length latches.now → spec.value_at held.new c ≡ held_by (latch_at latches.now c) domain.0 (spec.value_at values.now) (spec.value_at held.old c) }
+pub(crate) fn hold(circuit: &Circuit, domain: NetId, values: &[Tri], held: &mut [Tri]) -> bool
+    requires circuit { IsCircuit circuit.now }
+    requires live { domain.0 < length circuit.now.ops.items }
+    requires held { length held.old ≡ length circuit.now.latches.items }
+    ensures each { (c : ℕ) → c < length circuit.now.latches.items → spec.value_at held.new c ≡ held_by (latch_at circuit.now.latches.items c) domain.0 (spec.value_at values.now) (spec.value_at held.old c) }
     ensures same { result ≡ false → held.new ≡ held.old }
 {
     let mut changed = false;
-    for (place, latch) in latches.iter().enumerate() {
-        let old = held[place];
-        let value = held_value(*latch, domain, values, old);
+    for latch in list_of(&circuit.holders, domain) {
+        let place = *latch as usize;
+        let old = value_at(held, *latch);
+        let value = held_value(circuit.latches[place], domain, values, old);
         held[place] = value;
         changed = changed || differ(value, old);
     }

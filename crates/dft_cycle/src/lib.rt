@@ -9,6 +9,8 @@ mod laws;
 mod machine;
 mod rounds;
 mod settling;
+mod sweeping;
+mod tables;
 mod wires;
 
 ghost use Rattle.dft_cycle.specs.Laws.{ClosedExists, StrobeExists, StrobeIsAbove, TurnIsAbove, StepIsBelow, RoundIsOne, OneDomain, KnownAfterTurn, KnownAtStrobe, LowAfterTurn};

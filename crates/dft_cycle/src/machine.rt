@@ -1,15 +1,17 @@
 //! The abstract machine of replay.
 
-ghost use Rattle.std.specs.Prelude.{◌≡◌, ℕ, ◌<◌, length, map, replicate, true, false, Some, slice_get, IfOk, if◌then◌else◌};
+ghost use Rattle.std.specs.Prelude.{◌≡◌, ℕ, ◌<◌, length, map, replicate, true, false, Some, None, slice_get, IfOk, if◌then◌else◌};
 ghost use Rattle.dft_cycle.specs.Machine.{logic, AreNets, is_one_of, IsStart, IsSet, IsStrobed, IsPulsed, pulses, acted};
 ghost use Rattle.dft_cycle.specs.Machine as spec;
-ghost use Rattle.dft_cycle.specs.Circuit.{cell_of, cell_at, force_at, flag_at as is_up};
+ghost use Rattle.dft_cycle.specs.Circuit.{cell_of, cell_at, force_at, IsCircuit, flag_at as is_up};
 
 use crate::building::compile;
 use crate::circuit::{Acting, Circuit, FlipFlop};
 use crate::flops::forced;
 use crate::rounds::find_least;
 use crate::settling::{Pulse, View, flag_at, settle, value_at};
+use crate::sweeping::settle_again;
+use crate::tables::list_of;
 use dft_base::Tri;
 use dft_netlist::{Design, NetId};
 use std::alloc::{AllocError, Global};
@@ -30,6 +32,7 @@ pub struct AbstractMachine<'a> {
     poss: Vec<Tri>,
     next: Vec<Tri>,
     held: Vec<Tri>,
+    marked: Vec<bool>,
 }
 
 impl<'a> Model for AbstractMachine<'a> {
@@ -63,11 +66,18 @@ impl<'a> AbstractMachine<'a> {
         let cells = circuit.flops.len();
         let inputs = unknown(alloc, nets)?;
         let shown = unknown(alloc, nets)?;
-        let values = unknown(alloc, nets)?;
+        let mut values = unknown(alloc, nets)?;
         let bits = unknown(alloc, cells)?;
         let poss = unknown(alloc, cells)?;
         let next = unknown(alloc, cells)?;
         let held = unknown(alloc, cells)?;
+        let marked = lowered(alloc, nets)?;
+        let pulse = Pulse {
+            ports: &inputs,
+            pulsed: &[],
+            old: &bits,
+        };
+        settle(&circuit, &strobe_view(pulse), &mut values);
         Ok(AbstractMachine {
             design,
             clocks,
@@ -80,6 +90,7 @@ impl<'a> AbstractMachine<'a> {
             poss,
             next,
             held,
+            marked,
         })
     }
 
@@ -90,7 +101,7 @@ impl<'a> AbstractMachine<'a> {
         ensures { IsSet (logic self.old) self.old net.0 value self.new }
     {
         self.inputs[net.0 as usize] = value;
-        act(&self.circuit.flops, net, value, &mut self.cells);
+        act(&self.circuit, net, value, &mut self.cells);
     }
 
     /// The value of this input port's bit, and `Unknown` before it is set.
@@ -109,13 +120,13 @@ impl<'a> AbstractMachine<'a> {
             pulsed: &[],
             old: &self.cells,
         };
-        let view = View {
-            pulse,
-            domain: NetId(0),
-            poss: &self.cells,
-            held: None,
-        };
-        settle(&self.circuit, &view, &mut self.shown);
+        settle_again(
+            &self.circuit,
+            &strobe_view(pulse),
+            &mut self.values,
+            &mut self.marked,
+        );
+        self.shown.as_mut_slice().copy_from_slice(&self.values);
     }
 
     /// The value of this net at the last strobe, and `Unknown` before the first.
@@ -145,6 +156,7 @@ impl<'a> AbstractMachine<'a> {
             &mut self.poss,
             &mut self.held,
             &mut self.values,
+            &mut self.marked,
             &mut self.next,
         );
         take(
@@ -153,6 +165,18 @@ impl<'a> AbstractMachine<'a> {
             &self.next,
             &mut self.cells,
         );
+    }
+}
+
+/// The view of a strobe: lock-ups are wires.
+fn strobe_view(pulse: Pulse<'_>) -> View<'_, '_, '_>
+    ensures { result ≡ record { pulse = pulse.entry; domain = record { 0 = 0 }; poss = pulse.entry.old; held = None } }
+{
+    View {
+        pulse,
+        domain: NetId(0),
+        poss: pulse.old,
+        held: None,
     }
 }
 
@@ -171,12 +195,16 @@ fn acted_on(force: Option<Acting>, net: NetId, value: Tri, bit: Tri) -> Tri
 }
 
 /// An input that gets a value acts on the flip-flops that have it as their reset or set.
-fn act(flops: &[FlipFlop], net: NetId, value: Tri, cells: &mut [Tri])
-    requires { length cells.old ≡ length flops.now }
-    ensures { (c : ℕ) → c < length flops.now → spec.value_at cells.new c ≡ acted (cell_at (map cell_of flops.now) c).force net.0 value (spec.value_at cells.old c) }
+fn act(circuit: &Circuit, net: NetId, value: Tri, cells: &mut [Tri])
+    requires circuit { IsCircuit circuit.now }
+    requires live { net.0 < length circuit.now.ops.items }
+    requires cells { length cells.old ≡ length circuit.now.flops.items }
+    ensures { (c : ℕ) → c < length circuit.now.flops.items → spec.value_at cells.new c ≡ acted (cell_at (map cell_of circuit.now.flops.items) c).force net.0 value (spec.value_at cells.old c) }
 {
-    for (place, flop) in flops.iter().enumerate() {
-        cells[place] = acted_on(flop.force, net, value, cells[place]);
+    for cell in list_of(&circuit.followers, net) {
+        let place = *cell as usize;
+        let bit = value_at(cells, *cell);
+        cells[place] = acted_on(circuit.flops[place].force, net, value, bit);
     }
 }
 

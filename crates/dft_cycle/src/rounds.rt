@@ -4,15 +4,27 @@ ghost use Rattle.std.specs.Prelude.{◌≡◌, ◌⊎◌, ℕ, suc, ◌<◌, len
 ghost use Rattle.std.specs.List.{list_any};
 ghost use Rattle.dft_base.specs.Tri.{AboveTri};
 ghost use Rattle.dft_cycle.specs.Cycle.{AreViews, IsLeast};
+ghost use Rattle.dft_cycle.specs.Machine.{AreNets};
 ghost use Rattle.dft_cycle.specs.Machine as spec;
-ghost use Rattle.dft_cycle.specs.Circuit.{IsCircuit, logic_at, cell_of, cell_at, flag_at as is_up, pulse_at};
+ghost use Rattle.dft_cycle.specs.Circuit.{IsCircuit, IsReady, logic_at, cell_of, cell_at, flag_at as is_up, pulse_at};
 ghost use Rattle.dft_cycle.specs.Views.{IsHeld, OwnsLatches, PulsesAmong, HasNext, raised_by, is_known, StaysBelow, AreNext, IsAlone};
 
 use crate::circuit::{Circuit, FlipFlop, Latch};
 use crate::flops::{differ, hold, take_next};
-use crate::settling::{Pulse, View, flag_at, settle};
+use crate::settling::{Pulse, View, flag_at};
+use crate::sweeping::{change_view, enter, settle_again};
 use dft_base::Tri;
 use dft_netlist::NetId;
+
+/// The first clock.
+fn first(clocks: &[NetId]) -> NetId
+    ensures { (count : ℕ) → AreNets count clocks.now → 0 < count → result.0 < count }
+{
+    match clocks.first() {
+        Some(clock) => *clock,
+        None => NetId(0),
+    }
+}
 
 /// One round: each domain's lock-ups are held at their inputs in its view. Whether one changed.
 fn round(
@@ -22,14 +34,29 @@ fn round(
     poss: &[Tri],
     held: &mut [Tri],
     values: &mut [Tri],
+    marked: &mut [bool],
 ) -> bool
     requires circuit { IsCircuit circuit.now }
     requires held { length held.old ≡ length circuit.now.flops.items }
     requires values { length values.old ≡ length circuit.now.ops.items }
+    requires marked { length marked.old ≡ length circuit.now.ops.items }
+    requires live { AreNets (length circuit.now.ops.items) clocks.now }
     requires owned { OwnsLatches circuit.now clocks.now }
+    requires clear { (k : ℕ) → is_up marked.old k ≡ false }
+    requires ready { IsReady circuit.now values.old }
     ensures rises { (view : ℕ → ℕ → Tri) (r : ℕ) → AreViews (logic_at circuit.now) (pulse_at pulse.entry) (spec.value_at poss.now) view → IsHeld circuit.now view held.old r → IsHeld circuit.now view held.new (suc r) }
     ensures same { result ≡ false → held.new ≡ held.old }
+    ensures clear { (k : ℕ) → is_up marked.new k ≡ false }
+    ensures ready { IsReady circuit.now values.new }
 {
+    let mut last = first(clocks);
+    let view = View {
+        pulse,
+        domain: last,
+        poss,
+        held: Some(held),
+    };
+    settle_again(circuit, &view, values, marked);
     let mut changed = false;
     for clock in clocks {
         let view = View {
@@ -38,8 +65,9 @@ fn round(
             poss,
             held: Some(held),
         };
-        settle(circuit, &view, values);
-        let moved = hold(&circuit.latches, *clock, values, held);
+        change_view(circuit, &view, last, values, marked);
+        last = *clock;
+        let moved = hold(circuit, *clock, values, held);
         changed = changed || moved;
     }
     changed
@@ -61,18 +89,25 @@ fn hold_lockups(
     poss: &[Tri],
     held: &mut [Tri],
     values: &mut [Tri],
+    marked: &mut [bool],
 )
     requires circuit { IsCircuit circuit.now }
     requires held { length held.old ≡ length circuit.now.flops.items }
     requires values { length values.old ≡ length circuit.now.ops.items }
+    requires marked { length marked.old ≡ length circuit.now.ops.items }
+    requires live { AreNets (length circuit.now.ops.items) clocks.now }
     requires owned { OwnsLatches circuit.now clocks.now }
-    ensures { (view : ℕ → ℕ → Tri) → AreViews (logic_at circuit.now) (pulse_at pulse.entry) (spec.value_at poss.now) view → IsHeld circuit.now view held.new (length circuit.now.ops.items) }
+    requires clear { (k : ℕ) → is_up marked.old k ≡ false }
+    requires ready { IsReady circuit.now values.old }
+    ensures held { (view : ℕ → ℕ → Tri) → AreViews (logic_at circuit.now) (pulse_at pulse.entry) (spec.value_at poss.now) view → IsHeld circuit.now view held.new (length circuit.now.ops.items) }
+    ensures clear { (k : ℕ) → is_up marked.new k ≡ false }
+    ensures ready { IsReady circuit.now values.new }
 {
     if !has_latch(&circuit.latches) {
         return;
     }
     for _level in 0..values.len() {
-        if !round(circuit, pulse, clocks, poss, held, values) {
+        if !round(circuit, pulse, clocks, poss, held, values, marked) {
             return;
         }
     }
@@ -86,13 +121,28 @@ fn next_values(
     poss: &[Tri],
     held: &[Tri],
     values: &mut [Tri],
+    marked: &mut [bool],
     next: &mut [Tri],
 )
     requires circuit { IsCircuit circuit.now }
     requires values { length values.old ≡ length circuit.now.ops.items }
+    requires marked { length marked.old ≡ length circuit.now.ops.items }
+    requires live { AreNets (length circuit.now.ops.items) clocks.now }
     requires next { length next.old ≡ length circuit.now.flops.items }
-    ensures { (view : ℕ → ℕ → Tri) → AreViews (logic_at circuit.now) (pulse_at pulse.entry) (spec.value_at poss.now) view → IsHeld circuit.now view held.now (length circuit.now.ops.items) → HasNext circuit.now (pulse_at pulse.entry) view clocks.now (length clocks.now) next.new }
+    requires clear { (k : ℕ) → is_up marked.old k ≡ false }
+    requires ready { IsReady circuit.now values.old }
+    ensures next { (view : ℕ → ℕ → Tri) → AreViews (logic_at circuit.now) (pulse_at pulse.entry) (spec.value_at poss.now) view → IsHeld circuit.now view held.now (length circuit.now.ops.items) → HasNext circuit.now (pulse_at pulse.entry) view clocks.now (length clocks.now) next.new }
+    ensures clear { (k : ℕ) → is_up marked.new k ≡ false }
+    ensures ready { IsReady circuit.now values.new }
 {
+    let mut last = first(clocks);
+    let view = View {
+        pulse,
+        domain: last,
+        poss,
+        held: Some(held),
+    };
+    settle_again(circuit, &view, values, marked);
     for clock in clocks {
         if flag_at(pulse.pulsed, clock.0) {
             let view = View {
@@ -101,8 +151,9 @@ fn next_values(
                 poss,
                 held: Some(held),
             };
-            settle(circuit, &view, values);
-            take_next(&circuit.flops, *clock, pulse.ports, values, next);
+            enter(circuit, &view, last, values, marked);
+            last = *clock;
+            take_next(circuit, *clock, pulse.ports, values, next);
         }
     }
 }
@@ -171,6 +222,7 @@ fn turn(
     poss: &mut [Tri],
     held: &mut [Tri],
     values: &mut [Tri],
+    marked: &mut [bool],
     next: &mut [Tri],
 ) -> bool
     requires circuit { IsCircuit circuit.now }
@@ -180,14 +232,20 @@ fn turn(
     requires poss { length poss.old ≡ length circuit.now.flops.items }
     requires held { length held.old ≡ length circuit.now.flops.items }
     requires values { length values.old ≡ length circuit.now.ops.items }
+    requires marked { length marked.old ≡ length circuit.now.ops.items }
+    requires live { AreNets (length circuit.now.ops.items) clocks.now }
     requires next { length next.old ≡ length circuit.now.flops.items }
+    requires clear { (k : ℕ) → is_up marked.old k ≡ false }
+    requires ready { IsReady circuit.now values.old }
     ensures above { (c : ℕ) → AboveTri (spec.value_at poss.new c) (spec.value_at poss.old c) }
     ensures below { StaysBelow (logic_at circuit.now) (pulse_at pulse.entry) poss.old poss.new }
     ensures done { result ≡ false → (view : ℕ → ℕ → Tri) → AreViews (logic_at circuit.now) (pulse_at pulse.entry) (spec.value_at poss.new) view → AreNext (logic_at circuit.now) (pulse_at pulse.entry) view poss.new next.new }
     ensures fewer { result ≡ true → count_by is_known poss.new < count_by is_known poss.old }
+    ensures clear { (k : ℕ) → is_up marked.new k ≡ false }
+    ensures ready { IsReady circuit.now values.new }
 {
-    hold_lockups(circuit, pulse, clocks, poss, held, values);
-    next_values(circuit, pulse, clocks, poss, held, values, next);
+    hold_lockups(circuit, pulse, clocks, poss, held, values, marked);
+    next_values(circuit, pulse, clocks, poss, held, values, marked, next);
     let changed = raise(&circuit.flops, pulse.pulsed, next, poss);
     goes_on(changed, alone)
 }
@@ -201,6 +259,7 @@ pub(crate) fn find_least(
     poss: &mut [Tri],
     held: &mut [Tri],
     values: &mut [Tri],
+    marked: &mut [bool],
     next: &mut [Tri],
 )
     requires circuit { IsCircuit circuit.now }
@@ -210,10 +269,18 @@ pub(crate) fn find_least(
     requires cells { length poss.old ≡ length circuit.now.flops.items }
     requires held { length held.old ≡ length circuit.now.flops.items }
     requires values { length values.old ≡ length circuit.now.ops.items }
+    requires marked { length marked.old ≡ length circuit.now.ops.items }
+    requires live { AreNets (length circuit.now.ops.items) clocks.now }
     requires next { length next.old ≡ length circuit.now.flops.items }
+    requires clear { (k : ℕ) → is_up marked.old k ≡ false }
+    requires ready { IsReady circuit.now values.old }
     ensures least { (view : ℕ → ℕ → Tri) → AreViews (logic_at circuit.now) (pulse_at pulse.entry) (spec.value_at poss.new) view → IsLeast (logic_at circuit.now) (pulse_at pulse.entry) (spec.value_at poss.new) view }
     ensures next { (view : ℕ → ℕ → Tri) → AreViews (logic_at circuit.now) (pulse_at pulse.entry) (spec.value_at poss.new) view → AreNext (logic_at circuit.now) (pulse_at pulse.entry) view poss.new next.new }
+    ensures clear { (k : ℕ) → is_up marked.new k ≡ false }
+    ensures ready { IsReady circuit.now values.new }
 {
     let alone = is_alone(circuit, pulse.pulsed, clocks);
-    while turn(circuit, pulse, clocks, alone, poss, held, values, next) {}
+    while turn(
+        circuit, pulse, clocks, alone, poss, held, values, marked, next,
+    ) {}
 }

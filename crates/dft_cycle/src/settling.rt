@@ -124,7 +124,13 @@ fn inverted(value: Tri, inverse: bool) -> Tri
 }
 
 /// The value that a net's driver gives it.
-fn op_value(op: &Op, net: NetId, flops: &[FlipFlop], view: &View<'_, '_, '_>, values: &[Tri]) -> Tri
+pub(crate) fn op_value(
+    op: &Op,
+    net: NetId,
+    flops: &[FlipFlop],
+    view: &View<'_, '_, '_>,
+    values: &[Tri],
+) -> Tri
     requires { Fits op.now }
     ensures { result ≡ value_given (leaves_from (view_base (map cell_of flops.now) view.now) (held_in view.now) (spec.value_at values.now)) (spec.value_at values.now) net.0 (meaning op.now) }
 {

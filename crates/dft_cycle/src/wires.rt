@@ -14,7 +14,7 @@ use dft_netlist::{CellRef, Instance, InstanceId, Signal};
 use std::alloc::{AllocError, Global};
 
 /// A pin: what it is for, and what it takes its value from.
-#[derive(Clone, Copy, Debug, PartialEq, Eq)]
+#[derive(Clone, Copy)]
 pub(crate) struct Wire {
     pub role: Role,
     pub source: Operand,

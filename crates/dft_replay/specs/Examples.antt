@@ -55,6 +55,7 @@ abbrev pub two_clocks : List (List Act) → Patterns
 two_clocks vectors = record {
   signals = signal (codes "ca") Input ∷ signal (codes "cb") Input ∷ signal (codes "d") Input ∷ signal (codes "q") Output ∷ [];
   vectors = vectors;
+  notes = [];
 }
 
 -- `DFF a (.CK(ca), .D(d), .Q(n)); DFF b (.CK(cb), .D(n), .Q(q));`
@@ -144,6 +145,7 @@ all_pulse = record {
       ∷ (Pulse ∷ Pulse ∷ Pulse ∷ High ∷ ExpectLow ∷ [])
       ∷ (Low ∷ Low ∷ Low ∷ Low ∷ ExpectLow ∷ [])
       ∷ [];
+  notes = [];
 }
 
 -- A new bit may pass three flip-flops in one vector, where their clocks rise one after another. This needs a second round.

@@ -49,7 +49,7 @@ const CLOCK_AS_DATA: &str =
     "module m (ca, cb, q); input ca, cb; output q; DFF f (.CK(ca), .D(cb), .Q(q)); DFF g (.CK(cb), .D(ca), .Q(n)); endmodule";
 
 // A netlist, its inputs, the vectors, and what is printed. Its output is q.
-static VERDICTS: [(&str, &str, &str, &str, Status); 21] = [
+static VERDICTS: [(&str, &str, &str, &str, Status); 23] = [
     (
         NETLIST,
         "c d",
@@ -111,6 +111,20 @@ static VERDICTS: [(&str, &str, &str, &str, Status); 21] = [
         "c zz",
         "P1 X 00 H",
         "refused P7 zz\n",
+        Status::Refused,
+    ),
+    (
+        NETLIST,
+        "c d",
+        "P X 00 H",
+        "refused P4 24:12\n",
+        Status::Refused,
+    ),
+    (
+        NETLIST,
+        "c d",
+        "P1 X 10 X",
+        "refused P10 c 1\n",
         Status::Refused,
     ),
     (
@@ -212,6 +226,46 @@ fn patterns_get_their_verdicts(rt: HostRuntime) -> Result<(), Fail> {
         )?;
         assert_eq!(rt; end.line.as_slice(), line.as_bytes(), "at {vectors}");
         assert_eq!(rt; end.status, *status, "at {vectors}");
+    }
+    Ok(())
+}
+
+// A flip-flop with a reset.
+const RESET: &str =
+    "module m (c, d, r, q); input c, d, r; output q; DFFR f (.CK(c), .D(d), .RN(r), .Q(q)); endmodule";
+
+// Patterns that leave signals out of vectors, and tables of their own.
+const KEPT: &str =
+    "STIL 1.0; Signals { c In; d In; q Out; } Timing { WaveformTable t { Period '20ns'; Waveforms { c { 0 { '0ns' D; } P { '0ns' D; '10ns' U; '15ns' D; } } d { 1 { '0ns' U; } } q { H { '5ns' H; } } } } } PatternBurst b { PatList { p; } } PatternExec { PatternBurst b; } Pattern p { W t; V { c = P; d = 1; } V { c = 0; q = H; } }";
+
+// The reset is never set, so it is unknown.
+const UNSET: &str =
+    "STIL 1.0; Signals { c In; d In; r In; q Out; } Timing { WaveformTable t { Period '20ns'; Waveforms { c { 0 { '0ns' D; } P { '0ns' D; '10ns' U; '15ns' D; } } d { 0 { '0ns' D; } 1 { '0ns' U; } } q { L { '5ns' L; } H { '5ns' H; } } } } } PatternBurst b { PatList { p; } } PatternExec { PatternBurst b; } Pattern p { W t; V { c = P; d = 0; } V { c = 0; q = L; } V { c = P; d = 1; } V { c = 0; q = H; } }";
+
+// The output is compared after the clock's rise. The last brace of the table begins a line.
+const LATE: &str =
+    "STIL 1.0; Signals { c In; d In; q Out; } Timing { WaveformTable t { Period '100ns'; Waveforms { c { P { '0ns' D; '50ns' U; '80ns' D; } } q { H { '60ns' H; } } }\n} } PatternBurst b { PatList { p; } } PatternExec { PatternBurst b; } Pattern p { }";
+
+const TWO_OUTPUTS: &str =
+    "module m (c, d, p, q); input c, d; output p, q; assign p = d; assign q = d; DFF f (.CK(c), .D(d), .Q(n)); endmodule";
+
+// The second output differs in the first vector, and the first one in the second.
+const DIFFERING: &str =
+    "STIL 1.0; Signals { c In; d In; p Out; q Out; } Timing { WaveformTable t { Period '20ns'; Waveforms { c { 0 { '0ns' D; } } d { 0 { '0ns' D; } 1 { '0ns' U; } } p { L { '5ns' L; } } q { L { '5ns' L; } H { '5ns' H; } } } } } PatternBurst b { PatList { p; } } PatternExec { PatternBurst b; } Pattern p { W t; V { c = 0; d = 0; p = L; q = H; } V { d = 1; } }";
+
+// A netlist, a pattern text, and what is printed.
+static TEXTS: [(&str, &str, &str); 4] = [
+    (TWO_OUTPUTS, DIFFERING, "mismatch vector 0 signal q\n"),
+    (NETLIST, KEPT, "pass 2 vectors 1 compared\n"),
+    (RESET, UNSET, "undetermined vector 3 signal q\n"),
+    (NETLIST, LATE, "refused P8 2:1\n"),
+];
+
+#[test]
+fn pattern_texts_of_other_tools_are_replayed(rt: HostRuntime) -> Result<(), Fail> {
+    for (netlist, text, line) in &TEXTS {
+        let end = replayed(rt.alloc(), &WORDS, ("", *netlist, *text), None, None)?;
+        assert_eq!(rt; end.line.as_slice(), line.as_bytes());
     }
     Ok(())
 }

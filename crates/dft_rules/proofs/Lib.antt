@@ -6,3 +6,4 @@ pub mod PinLemmas
 pub mod NameLemmas
 pub mod MarkLemmas
 pub mod PlaceLemmas
+pub mod WorkedRules

@@ -1,5 +1,5 @@
 -- What acts belong to which signals, and the letter of each act.
-use Rattle.std.specs.Prelude.{ℕ, ◌==◌, if◌then◌else◌, Option, Some, None}
+use Rattle.std.specs.Prelude.{ℕ}
 use Rattle.dft_netlist.specs.declared.port.Dir.{Dir}
 use Rattle.dft_netlist.specs.declared.port.Dir.TheVariants.{Input, Output}
 use Rattle.dft_stil.specs.declared.act.Act.{Act}
@@ -30,8 +30,3 @@ letter Pulse = 80
 letter ExpectLow = 76
 letter ExpectHigh = 72
 letter Ignore = 88
-
--- the act of an input, or of an output, that has this letter
-abbrev pub act_of : Dir → ℕ → Option Act
-act_of Input b = if b == 48 then Some Low else (if b == 49 then Some High else (if b == 80 then Some Pulse else None))
-act_of Output b = if b == 76 then Some ExpectLow else (if b == 72 then Some ExpectHigh else (if b == 88 then Some Ignore else None))

@@ -1,20 +1,21 @@
 -- Patterns: signals, and vectors of acts at them.
-use Rattle.std.specs.Prelude.{◌≡◌, ◌≢◌, ℕ, ◌<◌, ◌^◌, Bool, true, false, not, ◌&&◌, List, [], ◌∷◌, length, take, drop, get_or, All, AllPairs}
-use Rattle.std.specs.List.{AllZip, prefix_len, list_any, list_all}
-use Rattle.std.specs.Str.{bytes_eq}
+use Rattle.std.specs.Prelude.{◌≡◌, ◌≢◌, ℕ, ◌<◌, ◌^◌, Bool, true, false, List, [], length, take, drop, get_or, All, AllPairs}
+use Rattle.std.specs.List.{AllZip, prefix_len}
 use Rattle.dft_netlist.specs.declared.port.Dir.{Dir}
 use Rattle.dft_netlist.specs.declared.port.Dir.TheVariants.{Input, Output}
 use Rattle.dft_stil.specs.declared.act.Act.{Act}
 use Rattle.dft_stil.specs.declared.act.Act.TheVariants.{Unset, High, Pulse, Ignore}
+use Rattle.dft_stil.specs.declared.notes.Note.{Note}
 use Rattle.dft_stil.specs.declared.signal.StilSignal.{StilSignal}
 use Rattle.dft_stil.specs.Acts.{IsActOf, IsTold}
-use Rattle.dft_base.specs.Words.{is_simple_name}
 
 pub record Patterns : Type 0 where
   -- in the order of their declarations
   pub signals : List StilSignal
   -- in the order of time, each with one act a signal
   pub vectors : List (List Act)
+  -- in the order of their vectors
+  pub notes : List Note
 
 abbrev pub is_input : Dir → Bool
 is_input Input = true
@@ -32,34 +33,6 @@ inputs signals = take (input_count signals) signals
 abbrev pub outputs : List StilSignal → List StilSignal
 outputs signals = drop (input_count signals) signals
 
--- the name needs no quoting anywhere
-abbrev pub IsSimple : StilSignal → Type 0
-IsSimple s = is_simple_name s.name ≡ true
-
--- some signal has this name
-abbrev pub is_named : List StilSignal → List ℕ → Bool
-is_named signals name = list_any (λ s. bytes_eq s.name name) signals
-
--- no name stands twice
-abbrev pub are_distinct : List StilSignal → Bool
-are_distinct [] = true
-are_distinct (s ∷ signals) = not (is_named signals s.name) && are_distinct signals
-
--- no input is among them
-abbrev pub are_outputs : List StilSignal → Bool
-are_outputs signals = list_all (λ s. not (is_input s.dir)) signals
-
--- signals that can be written: inputs before outputs, with simple names that all differ
-pub record IsDeclarable (signals : List StilSignal) : Type 0 where
-  pub ordered : All (λ s. s.dir ≡ Output) (outputs signals)
-  pub distinct : AllPairs (λ s t. s.name ≢ t.name) signals
-  pub simple : All IsSimple signals
-
--- there is an input and an output
-pub record HasBothWays (signals : List StilSignal) : Type 0 where
-  pub input : 0 < length (inputs signals)
-  pub output : 0 < length (outputs signals)
-
 -- one act for each signal, of its direction
 abbrev pub IsVector : List StilSignal → List Act → Type 0
 IsVector signals acts = AllZip (λ s a. IsActOf s.dir a) signals acts
@@ -67,12 +40,6 @@ IsVector signals acts = AllZip (λ s a. IsActOf s.dir a) signals acts
 -- the same, and each signal is mentioned
 abbrev pub IsFullVector : List StilSignal → List Act → Type 0
 IsFullVector signals acts = AllZip (λ s a. IsActOf s.dir a × IsTold a) signals acts
-
--- patterns that have a written form with both groups
-pub record IsPatterns (p : Patterns) : Type 0 where
-  pub both : HasBothWays p.signals
-  pub declarable : IsDeclarable p.signals
-  pub vectors : All (λ acts. IsFullVector p.signals acts) p.vectors
 
 -- the act of a vector at a signal, both by number
 abbrev pub act_at : Patterns → ℕ → ℕ → Act

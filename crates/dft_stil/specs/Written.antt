@@ -1,9 +1,12 @@
 -- The written form of patterns: one text for each set (IEEE 1450-1999, in a subset of its forms).
-use Rattle.std.specs.Prelude.{ℕ, List, [], ◌∷◌, ◌++◌, codes, map, take, drop, flat_map}
-use Rattle.std.specs.List.{concat, join_with_byte}
+use Rattle.std.specs.Prelude.{ℕ, suc, nat_le, List, [], ◌∷◌, ◌++◌, codes, decimal, map, take, drop, flat_map}
+use Rattle.std.specs.List.{concat, join_with_byte, prefix_len}
 use Rattle.dft_netlist.specs.declared.port.Dir.{Dir}
 use Rattle.dft_netlist.specs.declared.port.Dir.TheVariants.{Input, Output}
 use Rattle.dft_stil.specs.declared.act.Act.{Act}
+use Rattle.dft_stil.specs.declared.notes.Note.{Note}
+use Rattle.dft_stil.specs.declared.notes.NoteKind.{NoteKind}
+use Rattle.dft_stil.specs.declared.notes.NoteKind.TheVariants.{SetUp, Pattern, Unload}
 use Rattle.dft_stil.specs.declared.signal.StilSignal.{StilSignal}
 use Rattle.dft_stil.specs.Acts.{letter}
 use Rattle.dft_stil.specs.Patterns.{Patterns, inputs, outputs, input_count}
@@ -67,6 +70,34 @@ assignment label (a ∷ more) = label ++ map letter (a ∷ more)
 unfoldable pub vector_line : ℕ → List Act → List ℕ
 vector_line count acts = codes "V { " ++ (assignment (codes "ins = ") (take count acts) ++ (assignment (codes "; outs = ") (drop count acts) ++ codes "; }\n"))
 
--- the written form
+-- ---- notes
+
+-- what a note says
+abbrev pub note_words : NoteKind → List ℕ
+note_words SetUp = codes "set-up"
+note_words (Pattern n) = codes "pattern " ++ decimal n
+note_words Unload = codes "unload"
+
+-- the line of a note, as `Ann {* pattern 0 *}`
+unfoldable pub note_line : Note → List ℕ
+note_line n = codes "Ann {* " ++ (note_words n.what ++ codes " *}\n")
+
+-- how many of these notes stand before the vector with this number
+abbrev pub due : ℕ → List Note → ℕ
+due place notes = prefix_len (λ n. nat_le n.before place) notes
+
+-- the lines of vectors, each behind the lines of its notes; the first vector has this number
+unfoldable pub noted_lines : (count place : ℕ) → List (List Act) → List Note → List ℕ
+noted_lines count place [] notes = []
+noted_lines count place (acts ∷ vectors) notes =
+    flat_map note_line (take (due place notes) notes) ++ (vector_line count acts ++ noted_lines count (suc place) vectors (drop (due place notes) notes))
+
+-- ---- whole texts
+
+-- the written form, with its notes
+unfoldable pub noted : Patterns → List ℕ
+noted p = head p.signals ++ (noted_lines (input_count p.signals) 0 p.vectors p.notes ++ codes "}\n")
+
+-- the written form without notes
 unfoldable pub written : Patterns → List ℕ
 written p = head p.signals ++ (flat_map (vector_line (input_count p.signals)) p.vectors ++ codes "}\n")

@@ -1,4 +1,5 @@
-ghost use Rattle.std.specs.Prelude.{◌≡◌, ◌++◌, ◌∷◌, [], OnOk, OnErr};
+ghost use Rattle.std.specs.Prelude.{◌≡◌, ◌<◌, ◌++◌, ◌∷◌, [], length, replicate, slice_set, OnOk, OnErr, IfOk};
+ghost use Rattle.dft_stil.specs.declared.act.Act.TheVariants.{Unset as unset};
 
 use std::alloc::{AllocError, Global};
 use std::marker::Model;
@@ -54,6 +55,39 @@ impl Acts {
     {
         self.acts.push(act)?;
         Ok(())
+    }
+
+    /// These acts.
+    pub fn copied(alloc: Global, acts: &[Act]) -> Result<Acts, AllocError>
+        ensures { IfOk result (λ copy. copy ≡ acts.now) }
+    {
+        Ok(Acts {
+            acts: Vec::from_slice(alloc, acts)?,
+        })
+    }
+
+    /// So many acts of signals that were never set or compared.
+    pub fn unset(alloc: Global, count: usize) -> Result<Acts, AllocError>
+        ensures { IfOk result (λ acts. acts ≡ replicate count unset) }
+    {
+        Ok(Acts {
+            acts: vec![in alloc; Act::Unset; count]?,
+        })
+    }
+
+    /// How many acts there are.
+    pub fn count(&self) -> usize
+        ensures { result ≡ length self.now }
+    {
+        self.acts.len()
+    }
+
+    /// The act of a signal from here on.
+    pub fn set(&mut self, signal: usize, act: Act)
+        requires { signal < length self.old }
+        ensures { self.new ≡ slice_set self.old signal act }
+    {
+        self.acts[signal] = act;
     }
 
     /// The acts.

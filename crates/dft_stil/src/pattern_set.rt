@@ -1,14 +1,17 @@
-ghost use Rattle.std.specs.Prelude.{◌≡◌};
+ghost use Rattle.std.specs.Prelude.{◌≡◌, []};
 
 use crate::act::Acts;
+use crate::notes::Note;
 use crate::signal::StilSignal;
+use std::alloc::Global;
 use std::marker::Model;
 
-/// The signals and the vectors of a pattern text, in its order.
+/// The signals and the vectors of a pattern text, in its order, and notes before vectors.
 #[derive(Debug, Drop)]
 pub struct PatternSet {
     signals: Vec<StilSignal>,
     vectors: Vec<Acts>,
+    notes: Vec<Note>,
 }
 
 impl Model for PatternSet {
@@ -22,12 +25,26 @@ impl Model for PatternSet {
 }
 
 impl PatternSet {
-    /// The set of these signals and vectors.
-    pub fn new(signals: Vec<StilSignal>, vectors: Vec<Acts>) -> PatternSet
+    /// The set of these signals and vectors, without notes.
+    pub fn new(alloc: Global, signals: Vec<StilSignal>, vectors: Vec<Acts>) -> PatternSet
         ensures signals { result.signals ≡ signals.items }
         ensures vectors { result.vectors ≡ vectors.items }
+        ensures notes { result.notes ≡ [] }
     {
-        PatternSet { signals, vectors }
+        PatternSet::noted(signals, vectors, Vec::new(alloc))
+    }
+
+    /// The set of these signals, vectors and notes.
+    pub fn noted(signals: Vec<StilSignal>, vectors: Vec<Acts>, notes: Vec<Note>) -> PatternSet
+        ensures signals { result.signals ≡ signals.items }
+        ensures vectors { result.vectors ≡ vectors.items }
+        ensures notes { result.notes ≡ notes.items }
+    {
+        PatternSet {
+            signals,
+            vectors,
+            notes,
+        }
     }
 
     /// The signals.
@@ -42,5 +59,12 @@ impl PatternSet {
         ensures { result.now ≡ self.now.vectors }
     {
         &self.vectors
+    }
+
+    /// The notes.
+    pub fn notes(&self) -> &[Note]
+        ensures { result.now ≡ self.now.notes }
+    {
+        &self.notes
     }
 }

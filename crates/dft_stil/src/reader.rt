@@ -1,48 +1,101 @@
-//! Whole pattern texts.
+//! Reads a pattern text: its signals and vectors (IEEE 1450-1999, in a subset of its forms).
 
-ghost use Rattle.std.specs.Prelude.{◌≡◌, ◌≤◌, length, Err, IfOk};
-ghost use Rattle.dft_stil.specs.declared.error.StilError.TheVariants.{NotWritten};
-ghost use Rattle.dft_stil.specs.Patterns.{IsPatterns, IsWellFormed};
-ghost use Rattle.dft_stil.specs.Written.{written};
-ghost use Rattle.dft_stil.specs.Heads.{HasNoPatterns, HasNoWellFormed};
+ghost use Rattle.std.specs.Prelude.{◌≡◌, ◌≤◌, Some, length, IfOk, IfErr};
+ghost use Rattle.dft_base.specs.Lexing.{place_of as place_in};
+ghost use Rattle.dft_base.specs.Parser.{value_of};
+ghost use Rattle.dft_stil.specs.Lexemes.{tokens as tokens_of};
+ghost use Rattle.dft_stil.specs.Patterns.{IsWellFormed};
+ghost use Rattle.dft_stil.specs.PatternText as spec;
+ghost use Rattle.dft_stil.specs.PatternText.{StandsFor};
+ghost use Rattle.dft_stil.specs.Reading.{Checks};
+ghost use Rattle.dft_stil.specs.Refusals.{IsRefused, IsUnsteadyAs, told_at as told_as};
+ghost use Rattle.dft_stil.specs.Steadiness as steadiness;
+ghost use Rattle.dft_stil.specs.Steadiness.{HaveLength};
 
-use crate::cursor::Cursor;
+use crate::blanks::MAX_TEXT;
 use crate::error::StilError;
-use crate::head::head;
 use crate::pattern_set::PatternSet;
-use crate::steadiness::first_unsteady;
-use crate::vectors::vectors;
+use crate::pattern_text::pattern_text;
+use crate::read_error::ReadError;
+use crate::steadiness::{Unsteady, first_unsteady};
+use crate::text::{Cause, Fault};
+use crate::tokens::Tokens;
+use dft_base::{Name, Place, place_of};
 use std::alloc::Global;
 
-/// The most bytes that a pattern text may have: 256 MiB.
-pub const MAX_TEXT: usize = 268_435_456;
+/// The most vectors that a pattern text may have.
+pub const MAX_VECTORS: usize = 4_194_304;
 
-// The patterns of which these bytes are the written form, steady or not.
-fn patterns(alloc: Global, bytes: &[u8]) -> Result<PatternSet, StilError>
-    ensures ok { IfOk result (λ set. IsPatterns set × (written set ≡ bytes.now)) }
-    ensures err { result ≡ Err NotWritten → HasNoPatterns bytes.now }
+// The patterns of a text, steady or not.
+fn patterns(alloc: Global, bytes: &[u8]) -> Result<PatternSet, ReadError>
+    requires { length bytes.now ≤ MAX_TEXT }
+    ensures value { Checks (λ set. set) (value_of (spec.pattern_text MAX_VECTORS (tokens_of bytes.now))) result }
+    ensures lengths { IfOk result (λ set. HaveLength (length set.signals) set.vectors) }
+    ensures few { IfOk result (λ set. length set.vectors ≤ MAX_VECTORS) }
 {
-    let mut text = Cursor::new(bytes);
-    let signals = head(alloc, &mut text)?;
-    let vectors = vectors(alloc, &signals, &mut text)?;
-    if !text.is(b"}\n") {
-        return Err(StilError::NotWritten);
-    }
-    Ok(PatternSet::new(signals, vectors))
+    pattern_text(alloc, MAX_VECTORS, &mut Tokens::new(alloc, bytes))
 }
 
-#[tactic(auto, using(crate::proofs::FormLemmas::have_length))]
-/// The patterns of which these bytes are the written form (IEEE 1450-1999, one text for each set of patterns).
-/// `NotWritten` where there are none, or where a signal that pulses in a vector is high or unset in another.
+// How a cause is told of a place.
+fn told_at(cause: Cause, place: Place) -> StilError
+    ensures { result ≡ told_as cause place }
+{
+    match cause {
+        Cause::Token => StilError::P1 { place },
+        Cause::Unsupported(name) => StilError::P2 { place, name },
+        Cause::Unknown(name) => StilError::P3 { place, name },
+        Cause::Count => StilError::P4 { place },
+        Cause::NoShape => StilError::P5 { place },
+        Cause::Times => StilError::P8 { place },
+        Cause::Taken(name) => StilError::P9 { place, name },
+    }
+}
+
+#[tactic(auto, using(crate::proofs::ReaderLemmas::places))]
+// How a fault of a text is told: with the line and column of its place.
+fn told(bytes: &[u8], fault: Fault) -> StilError
+    requires { length bytes.now ≤ MAX_TEXT }
+    ensures { result ≡ told_as fault.cause (place_in bytes.now fault.left) }
+{
+    let left = fault.left.min(bytes.len());
+    told_at(fault.cause, place_of(bytes, left))
+}
+
+#[tactic(auto, using(crate::proofs::ReaderLemmas::inside))]
+// How the first signal is told that pulses and is not low in some vector.
+fn unsteady(alloc: Global, set: &PatternSet, found: Unsteady) -> StilError
+    requires lengths { HaveLength (length set.now.signals) set.now.vectors }
+    requires few { length set.now.vectors ≤ MAX_VECTORS }
+    requires first { steadiness.first_unsteady set.now ≡ Some found }
+    ensures { IsUnsteadyAs set.now result }
+{
+    let name = set.signals()[found.signal].name.as_slice();
+    match Name::from_slice(alloc, name) {
+        Ok(name) => StilError::P10 {
+            first: found.vector as i64,
+            name,
+        },
+        Err(error) => StilError::Memory(error),
+    }
+}
+
+#[tactic(auto, using(crate::proofs::ReaderLemmas::reading))]
+/// The patterns that a text stands for (IEEE 1450-1999, in a subset of its forms), without notes. A text with a fault is
+/// refused by its first, with the place where the refused token begins; a text without a fault by the first vector in
+/// which a signal that pulses in some vector is high or was never set, and the first such signal.
 pub fn read(alloc: Global, bytes: &[u8]) -> Result<PatternSet, StilError>
     requires { length bytes.now ≤ MAX_TEXT }
-    ensures ok { IfOk result (λ set. IsPatterns set × (written set ≡ bytes.now)) }
+    ensures patterns { IfOk result (λ set. StandsFor bytes.now set) }
     ensures well_formed { IfOk result (λ set. IsWellFormed set) }
-    ensures err { result ≡ Err NotWritten → HasNoWellFormed bytes.now }
+    ensures refused { IfErr result (λ error. IsRefused bytes.now error) }
 {
-    let set = patterns(alloc, bytes)?;
-    match first_unsteady(alloc, &set)? {
-        Some(_) => Err(StilError::NotWritten),
-        None => Ok(set),
+    match patterns(alloc, bytes) {
+        Ok(set) => match first_unsteady(alloc, &set) {
+            Ok(None) => Ok(set),
+            Ok(Some(found)) => Err(unsteady(alloc, &set, found)),
+            Err(error) => Err(StilError::Memory(error)),
+        },
+        Err(ReadError::Fault(fault)) => Err(told(bytes, fault)),
+        Err(ReadError::Memory(error)) => Err(StilError::Memory(error)),
     }
 }

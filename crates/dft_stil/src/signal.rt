@@ -1,6 +1,4 @@
-ghost use Rattle.std.specs.Prelude.{◌≡◌, ◌≤◌, length, All, Decides};
-ghost use Rattle.dft_stil.specs.Patterns.{IsSimple, IsDeclarable, HasBothWays};
-ghost use Rattle.dft_stil.specs.Heads.{AreWritable};
+ghost use Rattle.std.specs.Prelude.{◌≡◌, ◌≤◌, length};
 ghost use Rattle.dft_stil.specs.Patterns as spec;
 
 use dft_base::Name;
@@ -36,53 +34,4 @@ fn is_input(dir: Dir) -> bool
     ensures { result ≡ spec.is_input dir }
 {
     matches!(dir, Dir::Input)
-}
-
-fn is_named(signals: &[StilSignal], name: &[u8]) -> bool
-    ensures { result ≡ spec.is_named signals.now name.now }
-{
-    signals.iter().any(|signal| signal.name.as_slice() == name)
-}
-
-#[tactic(auto, using(crate::proofs::SignalLemmas::distinct_step, crate::proofs::SignalLemmas::none_distinct))]
-fn are_distinct(signals: &[StilSignal]) -> bool
-    ensures { result ≡ spec.are_distinct signals.now }
-{
-    let mut rest = signals;
-    'names: while let [signal, others @ ..] = rest {
-        if is_named(others, signal.name.as_slice()) {
-            return false;
-        }
-        rest = others;
-    }
-    true
-}
-
-fn are_outputs(signals: &[StilSignal]) -> bool
-    ensures { result ≡ spec.are_outputs signals.now }
-{
-    signals.iter().all(|signal| !is_input(signal.dir))
-}
-
-fn are_declarable(signals: &[StilSignal]) -> bool
-    requires { All IsSimple signals.now }
-    ensures { Decides result (IsDeclarable signals.now) }
-{
-    let (_, outs) = groups(signals);
-    are_outputs(outs) && are_distinct(signals)
-}
-
-fn have_both_ways(signals: &[StilSignal]) -> bool
-    ensures { Decides result (HasBothWays signals.now) }
-{
-    let (ins, outs) = groups(signals);
-    !ins.is_empty() && !outs.is_empty()
-}
-
-/// Whether a set of patterns at these signals can be written.
-pub fn are_writable(signals: &[StilSignal]) -> bool
-    requires { All IsSimple signals.now }
-    ensures { Decides result (AreWritable signals.now) }
-{
-    have_both_ways(signals) && are_declarable(signals)
 }

@@ -1,14 +1,20 @@
 //! The written form of whole sets of patterns.
 
-ghost use Rattle.std.specs.Prelude.{◌≡◌, ◌++◌, flat_map, map, OnOk, IfOk};
+ghost use Rattle.std.specs.Prelude.{◌≡◌, ◌≤◌, ◌++◌, length, flat_map, map, OnOk, IfOk, IfErr};
 ghost use Rattle.dft_stil.specs.Acts as letters;
 ghost use Rattle.dft_stil.specs.Written as form;
+ghost use Rattle.dft_stil.specs.Laws.{ReadsBack};
+ghost use Rattle.dft_stil.specs.Lengths.{TellsLength};
 
 use crate::act::{Act, Acts};
+use crate::blanks::MAX_TEXT;
 use crate::middle::middle;
+use crate::notes::{Note, NoteKind};
 use crate::pattern_set::PatternSet;
 use crate::signal::{StilSignal, groups, input_count};
+use crate::write_error::WriteError;
 use dft_netlist::Dir;
+use itoa::Buffer;
 use std::alloc::{AllocError, Global};
 
 fn letter(act: Act) -> u8
@@ -79,20 +85,67 @@ fn add_vector(out: &mut Vec<u8>, count: usize, acts: &[Act]) -> Result<(), Alloc
     out.extend_from_slice(b"; }\n")
 }
 
-fn add_vectors(out: &mut Vec<u8>, count: usize, vectors: &[Acts]) -> Result<(), AllocError>
-    ensures { OnOk result (out.new.items ≡ out.old.items ++ flat_map (form.vector_line count) vectors.now) }
+#[tactic(auto, unfolding(crate::specs::Written::note_line))]
+// The line of a note.
+fn add_note(out: &mut Vec<u8>, note: Note) -> Result<(), AllocError>
+    ensures { OnOk result (out.new.items ≡ out.old.items ++ form.note_line note) }
 {
-    for acts in vectors {
-        add_vector(out, count, acts.as_slice())?;
+    out.extend_from_slice(b"Ann {* ")?;
+    match note.what {
+        NoteKind::SetUp => out.extend_from_slice(b"set-up")?,
+        NoteKind::Pattern(number) => {
+            out.extend_from_slice(b"pattern ")?;
+            out.extend_from_slice(Buffer::new().format(number).as_bytes())?;
+        }
+        NoteKind::Unload => out.extend_from_slice(b"unload")?,
+    }
+    out.extend_from_slice(b" *}\n")
+}
+
+// The lines of notes.
+fn add_notes(out: &mut Vec<u8>, notes: &[Note]) -> Result<(), AllocError>
+    ensures { OnOk result (out.new.items ≡ out.old.items ++ flat_map form.note_line notes.now) }
+{
+    for note in notes {
+        add_note(out, *note)?;
     }
     Ok(())
 }
 
-#[tactic(auto, unfolding(crate::specs::Written::written, crate::specs::Written::head))]
-/// The written form (IEEE 1450-1999, one text for each set of patterns). It reads as the set
-/// where the set is one that `read` gives.
-pub fn write(alloc: Global, set: &PatternSet) -> Result<Vec<u8>, AllocError>
-    ensures { IfOk result (λ bytes. bytes.items ≡ form.written set.now) }
+// How many of these notes stand before the vector with this number.
+fn due(place: usize, notes: &[Note]) -> usize
+    ensures value { result ≡ form.due place notes.now }
+    ensures within { result ≤ length notes.now }
+{
+    notes
+        .iter()
+        .take_while(|note| note.before as usize <= place)
+        .count()
+}
+
+// The lines of vectors, each behind the lines of its notes.
+fn add_vectors(
+    out: &mut Vec<u8>,
+    count: usize,
+    vectors: &[Acts],
+    notes: &[Note],
+) -> Result<(), AllocError>
+    ensures { OnOk result (out.new.items ≡ out.old.items ++ form.noted_lines count 0 vectors.now notes.now) }
+{
+    let mut ahead = notes;
+    for (place, acts) in vectors.iter().enumerate() {
+        let (now, later) = ahead.split_at(due(place, ahead));
+        add_notes(out, now)?;
+        add_vector(out, count, acts.as_slice())?;
+        ahead = later;
+    }
+    Ok(())
+}
+
+#[tactic(auto, unfolding(crate::specs::Written::noted, crate::specs::Written::head))]
+// The written form, however long.
+fn text_of(alloc: Global, set: &PatternSet) -> Result<Vec<u8>, AllocError>
+    ensures { IfOk result (λ bytes. bytes.items ≡ form.noted set.now) }
 {
     let signals = set.signals();
     let (ins, outs) = groups(signals);
@@ -100,7 +153,25 @@ pub fn write(alloc: Global, set: &PatternSet) -> Result<Vec<u8>, AllocError>
     out.extend_from_slice(b"STIL 1.0;\nSignals {\n")?;
     add_declarations(&mut out, signals)?;
     out.extend_from_slice(&middle(alloc, ins, outs)?)?;
-    add_vectors(&mut out, input_count(signals), set.vectors())?;
+    add_vectors(&mut out, input_count(signals), set.vectors(), set.notes())?;
     out.extend_from_slice(b"}\n")?;
     Ok(out)
+}
+
+/// The written form (IEEE 1450-1999, one text for each set of patterns), with each note on a line before its vector.
+/// It is read back as the same signals and vectors, where the set is well formed and can be written. P6 where the text is
+/// longer than a pattern text may be.
+pub fn write(alloc: Global, set: &PatternSet) -> Result<Vec<u8>, WriteError>
+    ensures ok { IfOk result (λ bytes. bytes.items ≡ form.noted set.now) }
+    ensures short { IfOk result (λ bytes. length bytes.items ≤ MAX_TEXT) }
+    ensures reads { IfOk result (λ bytes. ReadsBack set.now bytes.items) }
+    ensures long { IfErr result (TellsLength (form.noted set.now)) }
+{
+    let text = text_of(alloc, set)?;
+    if text.len() > MAX_TEXT {
+        return Err(WriteError::P6 {
+            first: text.len() as u64,
+        });
+    }
+    Ok(text)
 }

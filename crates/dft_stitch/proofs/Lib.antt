@@ -4,3 +4,4 @@ pub mod TableLemmas
 pub mod PlanLemmas
 pub mod EvenLemmas
 pub mod OnceLemmas
+mod WorkedPlan

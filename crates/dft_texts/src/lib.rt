@@ -12,4 +12,6 @@ mod netlist_tokens;
 #[cfg(test)]
 mod netlist_written;
 #[cfg(test)]
+mod pattern_lines;
+#[cfg(test)]
 mod patterns;

@@ -21,14 +21,20 @@ use Rattle.dft_verilog.specs.declared.error.VerilogError.{VerilogError}
 use Rattle.dft_verilog.specs.declared.error.VerilogError.TheVariants as verilog
 use Rattle.dft_verilog.specs.Refusals.{IsFirstFault, IsUnfinished, IsRefused, told_of}
 use Rattle.dft_base.specs.Lexing.{place_of}
+use Rattle.dft_stil.specs.declared.error.StilError.{StilError}
+use Rattle.dft_stil.specs.declared.error.StilError.TheVariants as stil
 use Rattle.dft_stil.specs.Patterns.{Patterns}
-use Rattle.dft_stil.proofs.WrittenLemmas.{written_once}
+use Rattle.dft_stil.specs.PatternText.{patterns_of}
+use Rattle.dft_stil.specs.PatternText as PatternText
+use Rattle.dft_stil.specs.Refusals as StilRefusals
+use Rattle.dft_stil.specs.Refusals.{IsFirstRefusal}
+use Rattle.dft_stil.specs.declared.reader.TheConstants.{MAX_VECTORS}
 use Rattle.dft_replay.specs.Fits.{first_misfit}
 use Rattle.dft_replay.proofs.Uniqueness.{verdict_one}
 use Rattle.dft_top.specs.declared.answer.Refusal.{Refusal}
 use Rattle.dft_top.specs.declared.outcome.Outcome.{Outcome}
 use Rattle.dft_top.specs.declared.limits.TheConstants.{MAX_LIBRARY_BYTES, MAX_NETLIST_BYTES, MAX_PATTERN_BYTES}
-use Rattle.dft_top.specs.Refusals.{library_refusal, verilog_refusal}
+use Rattle.dft_top.specs.Refusals.{library_refusal, verilog_refusal, stil_refusal}
 use Rattle.dft_top.specs.Words.{ReplayFiles}
 use Rattle.dft_top.specs.Outcomes.{IsRefusal, outcome_of, IsOutcomeOn, IsOutcomeOfPatterns, IsOutcomeOfFile, IsOutcomeOfNetlist, IsOutcomeOver, IsOutcomeOfLibrary, IsOutcomeOfFiles, IsOutcomeFor}
 use Rattle.dft_top.specs.Laws.{OutcomeIsOne}
@@ -149,13 +155,35 @@ verdicts_one : (n : Netlist) (p : Patterns) (rank : ℕ → ℕ) (a b : Outcome)
 verdicts_one n p rank a b (Some name) ordered x y = x ∙ sym y
 verdicts_one n p rank a b None ordered x y = x.1.1 ∙ ap (outcome_of p) (verdict_one n rank p x.0 y.0 ordered x.1.0 y.1.0) ∙ sym y.1.1
 
+patterns_one : (text : List ℕ) (p q : Patterns) → PatternText.StandsFor text p → PatternText.StandsFor text q → p ≡ q
+patterns_one text p q x y = let e : Ok p ≡ Ok q = sym x ∙ y in cc
+
+patterns_or_refused : (text : List ℕ) (p : Patterns) (error : StilError) → PatternText.StandsFor text p → IsFirstRefusal text error → ⊥
+patterns_or_refused text p error x y = let e : Ok p ≡ Err y.refusal = sym x ∙ y.first in cc
+
+stil_one : (text : List ℕ) (a b : StilError) → IsFirstRefusal text a → IsFirstRefusal text b → a ≡ b
+stil_one text a b x y = x.told ∙ ap (StilRefusals.told_of text) (err_same (patterns_of MAX_VECTORS text) x.refusal y.refusal x.first y.first) ∙ sym y.told
+
+first_refusal : (text : List ℕ) (error : StilError) (o : Outcome) → StilRefusals.IsRefused text error → IsRefusal (stil_refusal error) o → IsFirstRefusal text error
+first_refusal text (stil.P1 place) o refused is = refused
+first_refusal text (stil.P2 place name) o refused is = refused
+first_refusal text (stil.P3 place name) o refused is = refused
+first_refusal text (stil.P4 place) o refused is = refused
+first_refusal text (stil.P5 place) o refused is = refused
+first_refusal text (stil.P8 place) o refused is = refused
+first_refusal text (stil.P9 place name) o refused is = refused
+first_refusal text (stil.P10 vector name) o refused is = refused
+first_refusal text (stil.Memory error) o refused is = absurd is
+
 one_of_patterns : (n : Netlist) (rank : ℕ → ℕ) (text : List ℕ) (a b : Outcome) → IsOrdered n rank → IsOutcomeOfPatterns n text a → IsOutcomeOfPatterns n text b → a ≡ b
 one_of_patterns n rank text a b ordered (inl x) (inl y) =
-    let same : y.0 ≡ x.0 = written_once y.0 x.0 y.1.0.patterns x.1.0.patterns (y.1.0.form ∙ sym x.1.0.form) in
+    let same : y.0 ≡ x.0 = patterns_one text y.0 x.0 y.1.0.stands x.1.0.stands in
     verdicts_one n x.0 rank a b (first_misfit n x.0.signals) ordered x.1.1 (subst (λ (p : Patterns). IsOutcomeOn n p (first_misfit n p.signals) b) same y.1.1)
-one_of_patterns n rank text a b ordered (inl x) (inr y) = absurd (y.0 x.0 x.1.0.patterns x.1.0.well_formed x.1.0.form)
-one_of_patterns n rank text a b ordered (inr x) (inl y) = absurd (x.0 y.0 y.1.0.patterns y.1.0.well_formed y.1.0.form)
-one_of_patterns n rank text a b ordered (inr x) (inr y) = x.1 ∙ sym y.1
+one_of_patterns n rank text a b ordered (inl x) (inr y) = absurd (patterns_or_refused text x.0 y.0 x.1.0.stands (first_refusal text y.0 b y.1.0 y.1.1))
+one_of_patterns n rank text a b ordered (inr x) (inl y) = absurd (patterns_or_refused text y.0 x.0 y.1.0.stands (first_refusal text x.0 a x.1.0 x.1.1))
+one_of_patterns n rank text a b ordered (inr x) (inr y) =
+    let same : y.0 ≡ x.0 = stil_one text y.0 x.0 (first_refusal text y.0 b y.1.0 y.1.1) (first_refusal text x.0 a x.1.0 x.1.1) in
+    refusal_one (stil_refusal x.0) a b x.1.1 (subst (λ (e : StilError). IsRefusal (stil_refusal e) b) same y.1.1)
 
 -- ---- all files
 

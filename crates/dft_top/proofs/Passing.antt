@@ -18,9 +18,9 @@ use Rattle.dft_top.specs.declared.answer.Status.TheVariants.{Done}
 use Rattle.dft_top.specs.declared.outcome.Outcome.{Outcome}
 use Rattle.dft_top.specs.declared.limits.TheConstants.{MAX_LIBRARY_BYTES, MAX_NETLIST_BYTES, MAX_PATTERN_BYTES}
 use Rattle.dft_top.specs.Answers.{status_of}
-use Rattle.dft_top.specs.Refusals.{library_refusal, verilog_refusal}
+use Rattle.dft_top.specs.Refusals.{library_refusal, verilog_refusal, stil_refusal}
 use Rattle.dft_top.specs.Words.{ReplayFiles, AreFor, IsReplay}
-use Rattle.dft_top.specs.Outcomes.{AreCells, EveryRunShows, IsDesignOf, IsHeld, IsOutcomeFor, IsOutcomeOfFile, IsOutcomeOfFiles, IsOutcomeOfLibrary, IsOutcomeOfNetlist, IsOutcomeOfPatterns, IsOutcomeOn, IsOutcomeOver, IsRefusal, IsWrittenForm, Passes, outcome_of}
+use Rattle.dft_top.specs.Outcomes.{AreCells, ArePatternsOf, EveryRunShows, IsDesignOf, IsHeld, IsOutcomeFor, IsOutcomeOfFile, IsOutcomeOfFiles, IsOutcomeOfLibrary, IsOutcomeOfNetlist, IsOutcomeOfPatterns, IsOutcomeOn, IsOutcomeOver, IsRefusal, Passes, outcome_of}
 use Rattle.dft_top.specs.Run.{IsOutcomeTold, Prints, Suits}
 
 refusal_not_done : (r : Option Refusal) (o : Outcome) → IsRefusal r o → status_of o ≡ Done → ⊥
@@ -48,7 +48,7 @@ put_back limit P file text is short p = subst (IsHeld limit P) (sym is) (short, 
 
 pub record Passed (n : Netlist) (text : List ℕ) : Type 0 where
   patterns : Patterns
-  form : IsWrittenForm text patterns
+  vectors : ArePatternsOf text patterns
   fit : first_misfit n patterns.signals ≡ None
   passed : (compared : ℕ) × HasVerdict n patterns (verdict.Pass compared)
 
@@ -62,8 +62,8 @@ on_passed n p (Some name) o is done = absurd (let e = ap status_of is in cc)
 on_passed n p None o is done = (refl, verdict_passed n p is.0 is.1.0 (ap status_of (sym is.1.1) ∙ done))
 
 patterns_passed : (n : Netlist) (text : List ℕ) (o : Outcome) → IsOutcomeOfPatterns n text o → status_of o ≡ Done → Passed n text
-patterns_passed n text o (inl x) done = let p = on_passed n x.0 (first_misfit n x.0.signals) o x.1.1 done in record { patterns = x.0; form = x.1.0; fit = p.0; passed = p.1 }
-patterns_passed n text o (inr x) done = absurd (let e = ap status_of x.1 in cc)
+patterns_passed n text o (inl x) done = let p = on_passed n x.0 (first_misfit n x.0.signals) o x.1.1 done in record { patterns = x.0; vectors = x.1.0; fit = p.0; passed = p.1 }
+patterns_passed n text o (inr x) done = absurd (refusal_not_done (stil_refusal x.0) o x.1.1 done)
 
 every_run : (cells : List Cell) (netlist_text : List ℕ) (n : Netlist) (p : Patterns) → IsDesignOf cells netlist_text n → (compared : ℕ) × HasVerdict n p (verdict.Pass compared) → EveryRunShows n p
 every_run cells netlist_text n p design passed =
@@ -113,7 +113,7 @@ passes files held o h done =
       netlist = n;
       design = parts.1.0;
       patterns = p.patterns;
-      written_form = put_back MAX_PATTERN_BYTES (λ text. IsWrittenForm text p.patterns) (file_at files.patterns held) t.0 t.1.0 t.1.1.0 p.form;
+      vectors = put_back MAX_PATTERN_BYTES (λ text. ArePatternsOf text p.patterns) (file_at files.patterns held) t.0 t.1.0 t.1.1.0 p.vectors;
       fit = p.fit;
       passed = p.passed;
       shown = every_run f.0 design.0 n p.patterns design.1.1.1 p.passed;

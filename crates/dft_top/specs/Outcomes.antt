@@ -13,21 +13,22 @@ use Rattle.dft_netlist.specs.Sound.{IsNetlist}
 use Rattle.dft_verilog.specs.declared.error.VerilogError.{VerilogError}
 use Rattle.dft_verilog.specs.Refusals.{IsRefused}
 use Rattle.dft_stil.specs.declared.signal.StilSignal.{StilSignal}
-use Rattle.dft_stil.specs.Heads.{HasNoWellFormed}
-use Rattle.dft_stil.specs.Patterns.{Patterns, IsPatterns, IsWellFormed}
-use Rattle.dft_stil.specs.Written.{written}
+use Rattle.dft_stil.specs.declared.error.StilError.{StilError}
+use Rattle.dft_stil.specs.Patterns.{Patterns, IsWellFormed}
+use Rattle.dft_stil.specs.PatternText as PatternText
+use Rattle.dft_stil.specs.Refusals as StilRefusals
 use Rattle.dft_replay.specs.declared.verdict.Verdict.{Verdict}
 use Rattle.dft_replay.specs.declared.verdict.Verdict.TheVariants as verdict
 use Rattle.dft_replay.specs.Fits.{first_misfit}
 use Rattle.dft_replay.specs.Rows.{rows_of}
 use Rattle.dft_replay.specs.Verdicts.{HasVerdict}
 use Rattle.dft_replay.specs.Laws.{IsRunOf, AllShow}
-use Rattle.dft_top.specs.declared.answer.Code.TheVariants.{F1, P2, P7}
+use Rattle.dft_top.specs.declared.answer.Code.TheVariants.{F1, P7}
 use Rattle.dft_top.specs.declared.answer.Refusal.{Refusal}
 use Rattle.dft_top.specs.declared.outcome.Outcome.{Outcome}
 use Rattle.dft_top.specs.declared.outcome.Outcome.TheVariants.{Usage, Refused, Passed, Mismatch, Undetermined}
 use Rattle.dft_top.specs.declared.limits.TheConstants.{MAX_LIBRARY_BYTES, MAX_NETLIST_BYTES, MAX_PATTERN_BYTES}
-use Rattle.dft_top.specs.Refusals.{plain, named, library_refusal, verilog_refusal}
+use Rattle.dft_top.specs.Refusals.{named, library_refusal, verilog_refusal, stil_refusal}
 use Rattle.dft_top.specs.Words.{ReplayFiles, AreFor}
 
 -- ---- refusals
@@ -50,11 +51,10 @@ pub record IsDesignOf (cells : List Cell) (text : List ℕ) (n : Netlist) : Type
   pub order : List ℕ
   pub ordered : IsOrder n order
 
--- the text is the written form of these patterns
-pub record IsWrittenForm (text : List ℕ) (p : Patterns) : Type 0 where
-  pub patterns : IsPatterns p
+-- the patterns that a text stands for, which are well formed
+pub record ArePatternsOf (text : List ℕ) (p : Patterns) : Type 0 where
+  pub stands : PatternText.StandsFor text p
   pub well_formed : IsWellFormed p
-  pub form : written p ≡ text
 
 -- ---- the verdict
 
@@ -80,8 +80,8 @@ IsOutcomeOn n p None o = (v : Verdict) × (HasVerdict n p v × (o ≡ outcome_of
 
 abbrev pub IsOutcomeOfPatterns : Netlist → (text : List ℕ) → Outcome → Type 0
 IsOutcomeOfPatterns n text o =
-    ((p : Patterns) × (IsWrittenForm text p × IsOutcomeOn n p (first_misfit n p.signals) o))
-    ⊎ (HasNoWellFormed text × (o ≡ Refused (plain P2)))
+    ((p : Patterns) × (ArePatternsOf text p × IsOutcomeOn n p (first_misfit n p.signals) o))
+    ⊎ ((error : StilError) × (StilRefusals.IsRefused text error × IsRefusal (stil_refusal error) o))
 
 -- a file is refused where it is longer than its limit; one that is not held gives no outcome
 abbrev pub IsOutcomeOfFile : (limit : ℕ) → (option : List ℕ) → (List ℕ → Outcome → Type 0) → Option (List ℕ) → Outcome → Type 0
@@ -158,7 +158,7 @@ pub record Passes (files : ReplayFiles) (held : Held) : Type 0 where
   pub netlist : Netlist
   pub design : IsHeld MAX_NETLIST_BYTES (λ text. IsDesignOf cells text netlist) (file_at files.netlist held)
   pub patterns : Patterns
-  pub written_form : IsHeld MAX_PATTERN_BYTES (λ text. IsWrittenForm text patterns) (file_at files.patterns held)
+  pub vectors : IsHeld MAX_PATTERN_BYTES (λ text. ArePatternsOf text patterns) (file_at files.patterns held)
   pub fit : first_misfit netlist patterns.signals ≡ None
   pub passed : (compared : ℕ) × HasVerdict netlist patterns (verdict.Pass compared)
   pub shown : EveryRunShows netlist patterns

@@ -9,8 +9,10 @@ use Rattle.dft_netlist.specs.declared.error.NetlistError.{NetlistError}
 use Rattle.dft_netlist.specs.declared.error.NetlistError.TheVariants as netlist
 use Rattle.dft_verilog.specs.declared.error.VerilogError.{VerilogError}
 use Rattle.dft_verilog.specs.declared.error.VerilogError.TheVariants as verilog
+use Rattle.dft_stil.specs.declared.error.StilError.{StilError}
+use Rattle.dft_stil.specs.declared.error.StilError.TheVariants as stil
 use Rattle.dft_top.specs.declared.answer.Code.{Code}
-use Rattle.dft_top.specs.declared.answer.Code.TheVariants.{L1, L2, L3, L4, L5, L6, L7, V1, V2, V3, V4, V5, V6, V7, V8, V9, V10, V11, V12, N1, N2, N3, N4}
+use Rattle.dft_top.specs.declared.answer.Code.TheVariants.{L1, L2, L3, L4, L5, L6, L7, V1, V2, V3, V4, V5, V6, V7, V8, V9, V10, V11, V12, N1, N2, N3, N4, P1, P2, P3, P4, P5, P8, P9, P10}
 use Rattle.dft_top.specs.declared.answer.Refusal.{Refusal}
 
 -- ---- refusals by their parts
@@ -27,8 +29,8 @@ placed code place = record (plain code) { place = Some place }
 abbrev pub worded : Code → Place → (word : List ℕ) → Refusal
 worded code place word = record (placed code place) { name = Some word }
 
-abbrev pub limited : Code → (counted : List ℕ) → (limit : ℤ) → Refusal
-limited code counted limit = record (named code counted) { first = Some limit }
+abbrev pub numbered : Code → (name : List ℕ) → (number : ℤ) → Refusal
+numbered code name number = record (named code name) { first = Some number }
 
 -- ---- the refusal that an error comes to; none where memory ran out
 
@@ -51,7 +53,7 @@ abbrev pub netlist_refusal : NetlistError → Option Refusal
 netlist_refusal (netlist.MultipleDrivers net) = Some (named N1 net)
 netlist_refusal (netlist.Loop net) = Some (named N2 net)
 netlist_refusal (netlist.DuplicateName name) = Some (named N3 name)
-netlist_refusal (netlist.TooMany what limit) = Some (limited N4 (counted_text what) limit)
+netlist_refusal (netlist.TooMany what limit) = Some (numbered N4 (counted_text what) limit)
 netlist_refusal (netlist.Memory error) = None
 
 abbrev pub verilog_refusal : VerilogError → Option Refusal
@@ -69,3 +71,14 @@ verilog_refusal (verilog.V11 place name) = Some (worded V11 place name)
 verilog_refusal (verilog.V12 place name) = Some (worded V12 place name)
 verilog_refusal (verilog.Netlist error) = netlist_refusal error
 verilog_refusal (verilog.Memory error) = None
+
+abbrev pub stil_refusal : StilError → Option Refusal
+stil_refusal (stil.P1 place) = Some (placed P1 place)
+stil_refusal (stil.P2 place name) = Some (worded P2 place name)
+stil_refusal (stil.P3 place name) = Some (worded P3 place name)
+stil_refusal (stil.P4 place) = Some (placed P4 place)
+stil_refusal (stil.P5 place) = Some (placed P5 place)
+stil_refusal (stil.P8 place) = Some (placed P8 place)
+stil_refusal (stil.P9 place name) = Some (worded P9 place name)
+stil_refusal (stil.P10 vector name) = Some (numbered P10 name vector)
+stil_refusal (stil.Memory error) = None

@@ -77,7 +77,8 @@ pub enum Code {
     N4,
     /// A token of a pattern text (IEEE 1450-1999) that stands where none such may. Its part is the place.
     P1,
-    /// The pattern text is not of the form that is read.
+    /// A word, a shape or a character in a pattern text that is left out of the subset that is read. Its parts are the
+    /// place and the word.
     P2,
     /// A name in a pattern text that is not given before. Its parts are the place and the name.
     P3,

@@ -7,6 +7,7 @@ use crate::answer::{Code, Refusal};
 use dft_base::{Name, Place};
 use dft_cells::LibraryError;
 use dft_netlist::{Counted, NetlistError};
+use dft_stil::StilError;
 use dft_verilog::VerilogError;
 use std::alloc::{AllocError, Global};
 
@@ -30,6 +31,15 @@ impl Refusal {
     {
         let mut refusal = Refusal::plain(code);
         refusal.name = Some(name);
+        refusal
+    }
+
+    /// A refusal with a name and a number.
+    fn numbered(code: Code, name: Name, number: i64) -> Refusal
+        ensures { result ≡ spec.numbered code name number }
+    {
+        let mut refusal = Refusal::named(code, name);
+        refusal.first = Some(number);
         refusal
     }
 
@@ -99,9 +109,7 @@ fn netlist_refusal(alloc: Global, error: NetlistError) -> Result<Refusal, AllocE
         NetlistError::Loop { net } => Refusal::named(Code::N2, net),
         NetlistError::DuplicateName { name } => Refusal::named(Code::N3, name),
         NetlistError::TooMany { what, limit } => {
-            let mut refusal = Refusal::named(Code::N4, counted_name(alloc, what)?);
-            refusal.first = Some(limit);
-            refusal
+            Refusal::numbered(Code::N4, counted_name(alloc, what)?, limit)
         }
         NetlistError::Memory(error) => return Err(error),
     })
@@ -116,4 +124,21 @@ fn counted_name(alloc: Global, what: Counted) -> Result<Name, AllocError>
         Counted::Nets => Name::from_slice(alloc, b"nets"),
         Counted::Instances => Name::from_slice(alloc, b"instances"),
     }
+}
+
+/// The refusal of a pattern text.
+pub fn stil_refusal(error: StilError) -> Result<Refusal, AllocError>
+    ensures { IfOk result (λ refusal. spec.stil_refusal error ≡ Some refusal) }
+{
+    Ok(match error {
+        StilError::P1 { place } => Refusal::placed(Code::P1, place),
+        StilError::P2 { place, name } => Refusal::worded(Code::P2, place, name),
+        StilError::P3 { place, name } => Refusal::worded(Code::P3, place, name),
+        StilError::P4 { place } => Refusal::placed(Code::P4, place),
+        StilError::P5 { place } => Refusal::placed(Code::P5, place),
+        StilError::P8 { place } => Refusal::placed(Code::P8, place),
+        StilError::P9 { place, name } => Refusal::worded(Code::P9, place, name),
+        StilError::P10 { name, first } => Refusal::numbered(Code::P10, name, first),
+        StilError::Memory(error) => return Err(error),
+    })
 }

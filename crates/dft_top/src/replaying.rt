@@ -11,13 +11,14 @@ ghost use Rattle.dft_top.specs.declared.limits.TheConstants.{MAX_PATTERN_BYTES};
 
 use crate::answer::{Code, Refusal};
 use crate::outcome::Outcome;
+use crate::refusing::stil_refusal;
 use dft_base::Name;
 use dft_netlist::Design;
 use dft_replay::{ReplayError, Verdict, replay};
-use dft_stil::{PatternSet, StilError, StilSignal, read};
+use dft_stil::{PatternSet, StilSignal, read};
 use std::alloc::{AllocError, Global};
 
-/// The outcome of the patterns of this text on the design. A text that is no written form is refused.
+/// The outcome of the patterns of this text on the design.
 pub fn outcome_of_patterns(
     alloc: Global,
     design: &Design,
@@ -29,8 +30,7 @@ pub fn outcome_of_patterns(
 {
     match read(alloc, text) {
         Ok(patterns) => outcome_on(alloc, design, &patterns),
-        Err(StilError::NotWritten) => Ok(Outcome::Refused(Refusal::plain(Code::P2))),
-        Err(StilError::Memory(error)) => Err(error),
+        Err(error) => Ok(Outcome::Refused(stil_refusal(error)?)),
     }
 }
 

@@ -1,6 +1,8 @@
 pub mod BlankLemmas
 pub mod FrontLemmas
 pub mod NameLemmas
+pub mod NestLemmas
+pub mod WordByteLemmas
 pub mod WordKindLemmas
 pub mod TakenNameLemmas
 pub mod BitNameLemmas

@@ -5,6 +5,7 @@ pub use Rattle.dft_netlist.specs.NetlistText
 pub mod TakenNames
 pub mod TakenNamesShown
 pub mod HeaderPortShown
+pub mod DraftInstanceShown
 pub mod BitNames
 pub mod Free
 pub mod Drafts

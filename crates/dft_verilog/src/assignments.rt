@@ -17,7 +17,7 @@ use std::alloc::AllocError;
 
 #[tactic(auto, using(crate::proofs::OperandLemmas::joins))]
 // The target has the source's bit.
-fn join(draft: &mut ModuleDraft, target: Signal, source: Signal) -> Result<(), AllocError>
+fn join(draft: &mut ModuleDraft<'_>, target: Signal, source: Signal) -> Result<(), AllocError>
     requires target { IsBit (length draft.old.nets) true target }
     requires source { IsBit (length draft.old.nets) false source }
     ensures { OnOk result (draft.new ≡ with_join (record { target = spec.net_of target; source = source }) draft.old) }
@@ -30,7 +30,7 @@ fn join(draft: &mut ModuleDraft, target: Signal, source: Signal) -> Result<(), A
 
 // Each target has the source's bit at its place.
 fn join_all(
-    draft: &mut ModuleDraft,
+    draft: &mut ModuleDraft<'_>,
     targets: &[Signal],
     sources: &[Signal],
 ) -> Result<(), AllocError>
@@ -48,10 +48,10 @@ fn join_all(
 
 #[tactic(auto, using(crate::proofs::OperandLemmas::bits), unfolding(dft_netlist::specs::Items::right_side))]
 // The right side of an assignment, for these bits on the left. The widths are compared behind it.
-fn right_side(
+fn right_side<'a>(
     targets: &[Signal],
-    draft: &mut ModuleDraft,
-    tokens: &mut Tokens<'_>,
+    draft: &mut ModuleDraft<'a>,
+    tokens: &mut Tokens<'a>,
 ) -> Result<(), ReadError>
     requires { AreBits (length draft.old.nets) true targets.now }
     ensures read { Reads (λ _. draft.new) (spec.right_side targets.now draft.old tokens.old) result tokens.new }
@@ -59,26 +59,27 @@ fn right_side(
 {
     let place = tokens.left();
     let sources = expression(Site::Source, draft, tokens)?;
+    let sources = sources.as_slice();
     if targets.len() != sources.len() {
         return Err(refused(place, Cause::Misfit));
     }
-    join_all(draft, targets, &sources)?;
+    join_all(draft, targets, sources)?;
     Ok(())
 }
 
 #[tactic(auto, unfolding(dft_netlist::specs::Items::assignment))]
 // A left side, `=`, and a right side.
-fn assignment(draft: &mut ModuleDraft, tokens: &mut Tokens<'_>) -> Result<(), ReadError>
+fn assignment<'a>(draft: &mut ModuleDraft<'a>, tokens: &mut Tokens<'a>) -> Result<(), ReadError>
     ensures read { Reads (λ _. draft.new) (spec.assignment draft.old tokens.old) result tokens.new }
     ensures library { OnOk result (draft.new.library ≡ draft.old.library) }
 {
     let targets = expression(Site::Target, draft, tokens)?;
     tokens.expect(TokenKind::Equals)?;
-    right_side(&targets, draft, tokens)
+    right_side(targets.as_slice(), draft, tokens)
 }
 
 // Assignments with commas between them.
-fn assignments(draft: &mut ModuleDraft, tokens: &mut Tokens<'_>) -> Result<(), ReadError>
+fn assignments<'a>(draft: &mut ModuleDraft<'a>, tokens: &mut Tokens<'a>) -> Result<(), ReadError>
     ensures read { Reads (λ _. draft.new) (spec.assignments draft.old tokens.old) result tokens.new }
     ensures library { OnOk result (draft.new.library ≡ draft.old.library) }
 {
@@ -93,7 +94,10 @@ fn assignments(draft: &mut ModuleDraft, tokens: &mut Tokens<'_>) -> Result<(), R
 
 #[tactic(auto, unfolding(dft_netlist::specs::Items::assign_item))]
 /// `assign` and its assignments.
-pub fn assign_item(draft: &mut ModuleDraft, tokens: &mut Tokens<'_>) -> Result<(), ReadError>
+pub fn assign_item<'a>(
+    draft: &mut ModuleDraft<'a>,
+    tokens: &mut Tokens<'a>,
+) -> Result<(), ReadError>
     ensures read { Reads (λ _. draft.new) (spec.assign_item draft.old tokens.old) result tokens.new }
     ensures library { OnOk result (draft.new.library ≡ draft.old.library) }
 {

@@ -7,7 +7,8 @@ ghost use Rattle.dft_netlist.specs.Names as names;
 ghost use Rattle.dft_verilog.specs.BitNames as bits;
 ghost use Rattle.dft_verilog.specs.Free.{AreBitsApart};
 
-use dft_base::{Name, Range};
+use crate::word::Word;
+use dft_base::Range;
 use itoa::Buffer;
 use std::alloc::{AllocError, Global};
 
@@ -35,7 +36,7 @@ fn index_at(range: Range, place: usize) -> u16
 }
 
 /// The printed name of a bit: the vector's name, and the bit's index in brackets.
-fn bit_name(alloc: Global, word: &[u8], index: u16) -> Result<Name, AllocError>
+fn bit_name<'a>(alloc: Global, word: &[u8], index: u16) -> Result<Word<'a>, AllocError>
     requires { IsName word.now }
     ensures { IfOk result (λ name. name ≡ names.bit_name word.now index) }
 {
@@ -44,11 +45,11 @@ fn bit_name(alloc: Global, word: &[u8], index: u16) -> Result<Name, AllocError>
     bytes.push(b'[')?;
     bytes.extend_from_slice(buffer.format(index).as_bytes())?;
     bytes.push(b']')?;
-    Name::from_slice(alloc, &bytes)
+    Ok(Word::made(bytes))
 }
 
 /// The printed names of the bits of a vector, leftmost first.
-pub fn bit_names(alloc: Global, word: &[u8], range: Range) -> Result<Vec<Name>, AllocError>
+pub fn bit_names<'a>(alloc: Global, word: &[u8], range: Range) -> Result<Vec<Word<'a>>, AllocError>
     requires { IsName word.now }
     ensures names { IfOk result (λ list. list.items ≡ names.bit_names word.now (Some range)) }
     ensures apart { IfOk result (λ list. AreBitsApart word.now (Some range) list.items) }

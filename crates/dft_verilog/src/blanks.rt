@@ -1,10 +1,9 @@
 //! The blanks between the tokens of a netlist text (IEEE 1364, lexical conventions).
 
-ghost use Rattle.std.specs.Prelude.{false, ◌≡◌, ◌≤◌, ◌<◌, ◌+◌, ◌-◌, ◌^◌, ◌==◌, not, [], ◌∷◌, length, drop, IfSome};
+ghost use Rattle.std.specs.Prelude.{false, ◌≡◌, ◌≤◌, ◌<◌, ◌+◌, ◌-◌, ◌^◌, ◌==◌, ◌&&◌, ◌||◌, nat_le, not, [], ◌∷◌, length, drop, IfSome};
 ghost use Rattle.std.specs.List.{prefix_len};
+ghost use Rattle.dft_base.specs.Words as words;
 ghost use Rattle.dft_netlist.specs.Lexemes as spec;
-
-use dft_base::continues_word;
 
 /// The most bytes that a netlist text may have: 64 MiB.
 pub const MAX_TEXT: usize = 67_108_864;
@@ -23,14 +22,40 @@ pub fn is_printed(byte: u8) -> bool
     33 <= byte && byte <= 126
 }
 
+// Whether no blank begins with these bytes: the first is printed, no slash and no grave accent, and they open no
+// attribute.
+fn begin_no_blank(first: u8, second: u8) -> bool
+    ensures { result ≡ (nat_le 33 first && not (first == 47) && not (first == 96) && (not (first == 40) || not (second == 42))) }
+{
+    33 <= first && first != b'/' && first != b'`' && (first != b'(' || second != b'*')
+}
+
+// 1 for each byte with which a word may go on, and 0 for another.
+static WORD_BYTES: [u8; 256] = [
+    0, 0, 0, 0, 0, 0, 0, 0, 0, 0, 0, 0, 0, 0, 0, 0, 0, 0, 0, 0, 0, 0, 0, 0, 0, 0, 0, 0, 0, 0, 0, 0,
+    0, 0, 0, 0, 1, 0, 0, 0, 0, 0, 0, 0, 0, 0, 0, 0, 1, 1, 1, 1, 1, 1, 1, 1, 1, 1, 0, 0, 0, 0, 0, 0,
+    0, 1, 1, 1, 1, 1, 1, 1, 1, 1, 1, 1, 1, 1, 1, 1, 1, 1, 1, 1, 1, 1, 1, 1, 1, 1, 1, 0, 0, 0, 0, 1,
+    0, 1, 1, 1, 1, 1, 1, 1, 1, 1, 1, 1, 1, 1, 1, 1, 1, 1, 1, 1, 1, 1, 1, 1, 1, 1, 1, 0, 0, 0, 0, 0,
+    0, 0, 0, 0, 0, 0, 0, 0, 0, 0, 0, 0, 0, 0, 0, 0, 0, 0, 0, 0, 0, 0, 0, 0, 0, 0, 0, 0, 0, 0, 0, 0,
+    0, 0, 0, 0, 0, 0, 0, 0, 0, 0, 0, 0, 0, 0, 0, 0, 0, 0, 0, 0, 0, 0, 0, 0, 0, 0, 0, 0, 0, 0, 0, 0,
+    0, 0, 0, 0, 0, 0, 0, 0, 0, 0, 0, 0, 0, 0, 0, 0, 0, 0, 0, 0, 0, 0, 0, 0, 0, 0, 0, 0, 0, 0, 0, 0,
+    0, 0, 0, 0, 0, 0, 0, 0, 0, 0, 0, 0, 0, 0, 0, 0, 0, 0, 0, 0, 0, 0, 0, 0, 0, 0, 0, 0, 0, 0, 0, 0,
+];
+
+// Whether a word may go on with this byte.
+#[inline(always)]
+fn is_in_word(byte: u8) -> bool
+    ensures { result ≡ words.continues_word byte }
+{
+    WORD_BYTES[byte as usize] == 1
+}
+
 /// How many bytes the word at the front has; a text may begin with none.
 pub fn word_len(text: &[u8]) -> usize
     ensures value { result ≡ spec.word_len text.now }
     ensures within { result ≤ length text.now }
 {
-    text.iter()
-        .take_while(|byte| continues_word(**byte))
-        .count()
+    text.iter().take_while(|byte| is_in_word(**byte)).count()
 }
 
 // Whether this byte may stand in a line behind a directive.
@@ -138,9 +163,25 @@ fn is_passed_directive(text: &[u8]) -> bool
     }
 }
 
-#[tactic(auto, unfolding(dft_netlist::specs::Lexemes::blank_len))]
+#[tactic(auto, using(crate::proofs::BlankLemmas::no_blank_begins))]
 /// How many bytes of blank stand at the front: a space, a comment, an attribute, or a directive that is passed over.
+#[inline(always)]
 pub fn blank_len(text: &[u8]) -> usize
+    requires { length text.now ≤ MAX_TEXT }
+    ensures value { result ≡ spec.blank_len text.now }
+    ensures within { result ≤ length text.now }
+{
+    match text {
+        [first, second, ..] if begin_no_blank(*first, *second) => 0,
+        [first, ..] if is_space(*first) => 1,
+        _ => any_blank_len(text),
+    }
+}
+
+#[tactic(auto, unfolding(dft_netlist::specs::Lexemes::blank_len))]
+// How many bytes of blank stand at the front.
+#[inline(never)]
+fn any_blank_len(text: &[u8]) -> usize
     requires { length text.now ≤ MAX_TEXT }
     ensures value { result ≡ spec.blank_len text.now }
     ensures within { result ≤ length text.now }

@@ -9,6 +9,7 @@ ghost use Rattle.dft_verilog.specs.Reading.{Reads};
 use crate::cursor::Tokens;
 use crate::faults::{joined_twice, no_pin};
 use crate::gates::one_bit;
+use crate::joined_pins::JoinedPins;
 use crate::module_draft::ModuleDraft;
 use crate::nesting::expression;
 use crate::read_error::ReadError;
@@ -18,11 +19,11 @@ use std::alloc::{AllocError, Global};
 
 #[tactic(auto, using(crate::proofs::ConnectionLemmas::unjoined_pins))]
 /// No pin of the cell is joined yet.
-pub fn unjoined(alloc: Global, cell: &Cell) -> Result<Vec<Option<Signal>>, AllocError>
-    ensures joined { IfOk result (λ joined. joined.items ≡ spec.unjoined cell.now) }
-    ensures fits { (count : ℕ) → IfOk result (λ joined. FitsCell count cell.now joined.items) }
+pub fn unjoined(alloc: Global, cell: &Cell) -> Result<JoinedPins, AllocError>
+    ensures joined { IfOk result (λ joined. joined ≡ spec.unjoined cell.now) }
+    ensures fits { (count : ℕ) → IfOk result (λ joined. FitsCell count cell.now joined) }
 {
-    vec![in alloc; None; cell.pins.as_slice().len()]
+    JoinedPins::unjoined(alloc, cell.pins.as_slice().len())
 }
 
 // The place of the pin with this name.
@@ -81,12 +82,12 @@ fn pin_name(
 
 #[tactic(auto, using(crate::proofs::ConnectionLemmas::pins), unfolding(dft_netlist::specs::Items::pin_signal))]
 // The expression of a pin; its width is tested at this place.
-fn pin_signal(
+fn pin_signal<'a>(
     cell: &Cell,
     place: usize,
-    draft: &mut ModuleDraft,
+    draft: &mut ModuleDraft<'a>,
     pin: usize,
-    tokens: &mut Tokens<'_>,
+    tokens: &mut Tokens<'a>,
 ) -> Result<Signal, ReadError>
     ensures read { Reads (λ to. (draft.new, to)) (spec.pin_signal cell.now place draft.old pin tokens.old) result tokens.new }
     ensures grown { OnOk result (Grows draft.old draft.new) }
@@ -94,17 +95,17 @@ fn pin_signal(
 {
     let drives = pin_drives(cell, pin);
     let bits = expression(Site::Pin { drives }, draft, tokens)?;
-    one_bit(place, &bits)
+    one_bit(place, bits.as_slice())
 }
 
 #[tactic(auto, using(crate::proofs::OperandLemmas::growing), unfolding(dft_netlist::specs::Items::pin_content))]
 // Nothing between the brackets leaves the pin unconnected.
-fn pin_content(
+fn pin_content<'a>(
     cell: &Cell,
     place: usize,
-    draft: &mut ModuleDraft,
+    draft: &mut ModuleDraft<'a>,
     pin: usize,
-    tokens: &mut Tokens<'_>,
+    tokens: &mut Tokens<'a>,
 ) -> Result<Signal, ReadError>
     ensures read { Reads (λ to. (draft.new, to)) (spec.pin_content cell.now place draft.old pin tokens.old) result tokens.new }
     ensures grown { OnOk result (Grows draft.old draft.new) }
@@ -119,38 +120,38 @@ fn pin_content(
 
 #[tactic(auto, using(crate::proofs::ConnectionLemmas::pins), unfolding(dft_netlist::specs::Items::connection))]
 // A point, a pin, and what it is joined to; the width is tested at the point.
-fn connection(
+fn connection<'a>(
     cell: &Cell,
-    joined: &mut Vec<Option<Signal>>,
-    draft: &mut ModuleDraft,
-    tokens: &mut Tokens<'_>,
+    joined: &mut JoinedPins,
+    draft: &mut ModuleDraft<'a>,
+    tokens: &mut Tokens<'a>,
 ) -> Result<(), ReadError>
-    requires { FitsCell (length draft.old.nets) cell.now joined.old.items }
-    ensures read { Reads (λ _. (draft.new, joined.new.items)) (spec.connection cell.now (draft.old, joined.old.items) tokens.old) result tokens.new }
+    requires { FitsCell (length draft.old.nets) cell.now joined.old }
+    ensures read { Reads (λ _. (draft.new, joined.new)) (spec.connection cell.now (draft.old, joined.old) tokens.old) result tokens.new }
     ensures grown { OnOk result (Grows draft.old draft.new) }
-    ensures fits { OnOk result (FitsCell (length draft.new.nets) cell.now joined.new.items) }
+    ensures fits { OnOk result (FitsCell (length draft.new.nets) cell.now joined.new) }
 {
     let place = tokens.left();
     tokens.expect(TokenKind::Point)?;
-    let pin = pin_name(draft.alloc(), cell, joined, tokens)?;
+    let pin = pin_name(draft.alloc(), cell, joined.as_slice(), tokens)?;
     tokens.expect(TokenKind::OpenParen)?;
     let to = pin_content(cell, place, draft, pin, tokens)?;
     tokens.expect(TokenKind::CloseParen)?;
-    joined[pin] = Some(to);
+    joined.join(pin, to);
     Ok(())
 }
 
 // Connections with commas between them.
-fn some_connections(
+fn some_connections<'a>(
     cell: &Cell,
-    joined: &mut Vec<Option<Signal>>,
-    draft: &mut ModuleDraft,
-    tokens: &mut Tokens<'_>,
+    joined: &mut JoinedPins,
+    draft: &mut ModuleDraft<'a>,
+    tokens: &mut Tokens<'a>,
 ) -> Result<(), ReadError>
-    requires { FitsCell (length draft.old.nets) cell.now joined.old.items }
-    ensures read { Reads (λ _. (draft.new, joined.new.items)) (spec.some_connections cell.now (draft.old, joined.old.items) tokens.old) result tokens.new }
+    requires { FitsCell (length draft.old.nets) cell.now joined.old }
+    ensures read { Reads (λ _. (draft.new, joined.new)) (spec.some_connections cell.now (draft.old, joined.old) tokens.old) result tokens.new }
     ensures grown { OnOk result (Grows draft.old draft.new) }
-    ensures fits { OnOk result (FitsCell (length draft.new.nets) cell.now joined.new.items) }
+    ensures fits { OnOk result (FitsCell (length draft.new.nets) cell.now joined.new) }
 {
     'turns: for _turn in 0..tokens.left() {
         connection(cell, joined, draft, tokens)?;
@@ -163,16 +164,16 @@ fn some_connections(
 
 #[tactic(auto, using(crate::proofs::OperandLemmas::growing), unfolding(dft_netlist::specs::Items::connections))]
 /// Connections, or none.
-pub fn connections(
+pub fn connections<'a>(
     cell: &Cell,
-    joined: &mut Vec<Option<Signal>>,
-    draft: &mut ModuleDraft,
-    tokens: &mut Tokens<'_>,
+    joined: &mut JoinedPins,
+    draft: &mut ModuleDraft<'a>,
+    tokens: &mut Tokens<'a>,
 ) -> Result<(), ReadError>
-    requires { FitsCell (length draft.old.nets) cell.now joined.old.items }
-    ensures read { Reads (λ _. (draft.new, joined.new.items)) (spec.connections cell.now (draft.old, joined.old.items) tokens.old) result tokens.new }
+    requires { FitsCell (length draft.old.nets) cell.now joined.old }
+    ensures read { Reads (λ _. (draft.new, joined.new)) (spec.connections cell.now (draft.old, joined.old) tokens.old) result tokens.new }
     ensures grown { OnOk result (Grows draft.old draft.new) }
-    ensures fits { OnOk result (FitsCell (length draft.new.nets) cell.now joined.new.items) }
+    ensures fits { OnOk result (FitsCell (length draft.new.nets) cell.now joined.new) }
 {
     if tokens.sees(TokenKind::CloseParen) {
         return Ok(());

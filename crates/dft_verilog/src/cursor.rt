@@ -45,6 +45,7 @@ impl<'a> Model for Tokens<'a> {
 
 #[tactic(auto, using(crate::proofs::FrontLemmas::blanks_in_front))]
 // The text without the blanks that it begins with.
+#[inline(always)]
 fn skip_blanks(text: &[u8]) -> &[u8]
     requires { length text.now ≤ MAX_TEXT }
     ensures rest { (mode : Bool) → tokens_from lexical.front mode 0 result.now ≡ tokens_from lexical.front mode 0 text.now }
@@ -73,20 +74,11 @@ impl<'a> Tokens<'a> {
         requires { length text.now ≤ MAX_TEXT }
         ensures { result ≡ lexical.tokens text.now }
     {
-        Tokens::ahead(alloc, text, false)
-    }
-
-    // The tokens of a text, behind a base or not.
-    fn ahead(alloc: Global, text: &'a [u8], behind_base: bool) -> Tokens<'a>
-        requires { length text.now ≤ MAX_TEXT }
-        ensures value { result ≡ tokens_from lexical.front behind_base 0 text.now }
-        ensures few { spec.left result ≤ length text.now }
-    {
         let ahead = skip_blanks(text);
-        let front = cut(behind_base, ahead);
+        let front = cut(false, ahead);
         Tokens {
             ahead,
-            behind_base,
+            behind_base: false,
             front,
             alloc,
         }
@@ -118,6 +110,7 @@ impl<'a> Tokens<'a> {
     }
 
     /// Takes the next token.
+    #[inline(never)]
     pub fn take(&mut self) -> &'a [u8]
         ensures bytes { result.now ≡ spec.bytes self.old }
         ensures next { self.new ≡ spec.next self.old }
@@ -125,7 +118,13 @@ impl<'a> Tokens<'a> {
     {
         let bytes = self.bytes();
         let (_, rest) = self.ahead.split_at(self.front.len);
-        *self = Tokens::ahead(self.alloc, rest, is_base_kind(self.front.kind));
+        self.behind_base = is_base_kind(self.front.kind);
+        self.ahead = skip_blanks(rest);
+        let front = cut(self.behind_base, self.ahead);
+        self.front.kind = front.kind;
+        self.front.len = front.len;
+        self.front.prefix = front.prefix;
+        self.front.at = front.at;
         bytes
     }
 
@@ -153,6 +152,7 @@ impl<'a> Tokens<'a> {
 
     #[tactic(auto, unfolding(dft_netlist::specs::Steps::expect))]
     /// Takes a token of this kind, which must come next; else the next token is refused.
+    #[inline(always)]
     pub fn expect(&mut self, kind: TokenKind) -> Result<&'a [u8], ReadError>
         ensures read { Reads (λ bytes. bytes.now) (spec.expect kind self.old) result self.new }
         ensures name { kind ≡ kinds.Name → IfOk result (λ bytes. IsName bytes.now) }
@@ -166,6 +166,7 @@ impl<'a> Tokens<'a> {
 
     #[tactic(auto, unfolding(dft_netlist::specs::Steps::refusal))]
     /// That no rule takes the next token.
+    #[cold]
     pub fn refusal(&self) -> ReadError
         ensures { Faults (spec.refusal self.now) result }
     {

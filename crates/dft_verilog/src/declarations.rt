@@ -22,11 +22,11 @@ pub enum Declaring {
 
 #[tactic(auto, using(crate::proofs::KeptLemmas::declared_kept), unfolding(dft_netlist::specs::Items::declared_name))]
 // One name is declared; its meaning is tested at the name.
-fn declared_name(
+fn declared_name<'a>(
     what: Declaring,
     range: Option<Range>,
-    draft: &mut ModuleDraft,
-    tokens: &mut Tokens<'_>,
+    draft: &mut ModuleDraft<'a>,
+    tokens: &mut Tokens<'a>,
 ) -> Result<(), ReadError>
     ensures read { Reads (λ _. draft.new) (spec.declared_name (declaring what) range draft.old tokens.old) result tokens.new }
     ensures library { OnOk result (draft.new.library ≡ draft.old.library) }
@@ -40,11 +40,11 @@ fn declared_name(
 }
 
 // Names with commas between them.
-fn declared_names(
+fn declared_names<'a>(
     what: Declaring,
     range: Option<Range>,
-    draft: &mut ModuleDraft,
-    tokens: &mut Tokens<'_>,
+    draft: &mut ModuleDraft<'a>,
+    tokens: &mut Tokens<'a>,
 ) -> Result<(), ReadError>
     ensures read { Reads (λ _. draft.new) (spec.declared_names (declaring what) range draft.old tokens.old) result tokens.new }
     ensures library { OnOk result (draft.new.library ≡ draft.old.library) }
@@ -60,10 +60,10 @@ fn declared_names(
 
 #[tactic(auto, unfolding(dft_netlist::specs::Items::declaration))]
 // A range, if any, and names.
-fn declaration(
+fn declaration<'a>(
     what: Declaring,
-    draft: &mut ModuleDraft,
-    tokens: &mut Tokens<'_>,
+    draft: &mut ModuleDraft<'a>,
+    tokens: &mut Tokens<'a>,
 ) -> Result<(), ReadError>
     ensures read { Reads (λ _. draft.new) (spec.declaration (declaring what) draft.old tokens.old) result tokens.new }
     ensures library { OnOk result (draft.new.library ≡ draft.old.library) }
@@ -76,10 +76,10 @@ fn declaration(
 
 #[tactic(auto, unfolding(dft_netlist::specs::Items::port_item))]
 /// `input` or `output`, perhaps `wire`, and what they declare.
-pub fn port_item(
+pub fn port_item<'a>(
     dir: Dir,
-    draft: &mut ModuleDraft,
-    tokens: &mut Tokens<'_>,
+    draft: &mut ModuleDraft<'a>,
+    tokens: &mut Tokens<'a>,
 ) -> Result<(), ReadError>
     ensures read { Reads (λ _. draft.new) (spec.port_item dir draft.old tokens.old) result tokens.new }
     ensures library { OnOk result (draft.new.library ≡ draft.old.library) }
@@ -91,7 +91,7 @@ pub fn port_item(
 
 #[tactic(auto, unfolding(dft_netlist::specs::Items::wire_item))]
 /// `wire`, and what it declares.
-pub fn wire_item(draft: &mut ModuleDraft, tokens: &mut Tokens<'_>) -> Result<(), ReadError>
+pub fn wire_item<'a>(draft: &mut ModuleDraft<'a>, tokens: &mut Tokens<'a>) -> Result<(), ReadError>
     ensures read { Reads (λ _. draft.new) (spec.wire_item draft.old tokens.old) result tokens.new }
     ensures library { OnOk result (draft.new.library ≡ draft.old.library) }
 {

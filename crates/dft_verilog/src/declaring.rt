@@ -11,6 +11,7 @@ use crate::faults::{full, refused, taken};
 use crate::header_port::HeaderPort;
 use crate::module_draft::ModuleDraft;
 use crate::read_error::ReadError;
+use crate::word::Word;
 use dft_base::{Name, Range};
 use dft_netlist::{
     Cause, Counted, Declared, Dir, MAX_INSTANCES, MAX_NETS, MAX_PORTS, Meaning, NetId, Shape,
@@ -37,9 +38,9 @@ fn same_range(a: Option<Range>, b: Option<Range>) -> bool
     }
 }
 
-impl ModuleDraft {
+impl<'a> ModuleDraft<'a> {
     /// The first of these names that is taken.
-    fn first_taken<'a>(&self, names: &'a [Name]) -> Option<&'a Name>
+    fn first_taken<'n>(&self, names: &'n [Word<'a>]) -> Option<&'n Word<'a>>
         ensures { option_copied result ≡ spec.first_taken self.now names.now }
     {
         names
@@ -51,9 +52,9 @@ impl ModuleDraft {
     fn new_bits(
         &self,
         place: usize,
-        word: &[u8],
+        word: &'a [u8],
         range: Option<Range>,
-    ) -> Result<Vec<Name>, ReadError>
+    ) -> Result<Vec<Word<'a>>, ReadError>
         requires { IsName word.now }
         ensures names { Checks (λ names. names.items) (new_bits place word.now range self.now) result }
         ensures apart { IfOk result (λ names. AreBitsApart word.now range names.items) }
@@ -62,7 +63,7 @@ impl ModuleDraft {
             Some(range) => self.new_vector_bits(place, word, range),
             None => {
                 let mut names = Vec::new(self.alloc());
-                names.push(Name::from_slice(self.alloc(), word)?)?;
+                names.push(Word::read(word))?;
                 Ok(names)
             }
         }
@@ -74,7 +75,7 @@ impl ModuleDraft {
         place: usize,
         word: &[u8],
         range: Range,
-    ) -> Result<Vec<Name>, ReadError>
+    ) -> Result<Vec<Word<'a>>, ReadError>
         requires { IsName word.now }
         ensures names { Checks (λ names. names.items) (new_bits place word.now (Some range) self.now) result }
         ensures apart { IfOk result (λ names. AreBitsApart word.now (Some range) names.items) }
@@ -103,11 +104,43 @@ impl ModuleDraft {
         }
     }
 
+    /// A name that is free stands for one net, of this name.
+    fn declare_scalar(&mut self, place: usize, word: &'a [u8]) -> Result<(), ReadError>
+        requires name { IsName word.now }
+        requires free { spec.meaning_of self.old word.now ≡ None }
+        ensures { Checks (λ _. self.new) (spec.declare_nets place word.now None self.old) result }
+    {
+        if !self.has_room_for_nets(1) {
+            return Err(full(place, Counted::Nets));
+        }
+        let shape = self.next_shape(None);
+        self.add_net(word)?;
+        self.take(word, Meaning::Nets(shape))?;
+        Ok(())
+    }
+
     /// A name that is free stands for new nets.
     pub(crate) fn declare_free(
         &mut self,
         place: usize,
-        word: &[u8],
+        word: &'a [u8],
+        range: Option<Range>,
+    ) -> Result<(), ReadError>
+        requires name { IsName word.now }
+        requires free { spec.meaning_of self.old word.now ≡ None }
+        ensures { Checks (λ _. self.new) (spec.declare_nets place word.now range self.old) result }
+    {
+        match range {
+            Some(_) => self.declare_bits(place, word, range),
+            None => self.declare_scalar(place, word),
+        }
+    }
+
+    /// A name that is free stands for the nets of its bits.
+    fn declare_bits(
+        &mut self,
+        place: usize,
+        word: &'a [u8],
         range: Option<Range>,
     ) -> Result<(), ReadError>
         requires name { IsName word.now }
@@ -127,7 +160,7 @@ impl ModuleDraft {
     }
 
     /// Adds a name to a header without directions. Refused where it is taken, or where there is no room for a port.
-    pub fn announce(&mut self, place: usize, word: &[u8]) -> Result<(), ReadError>
+    pub fn announce(&mut self, place: usize, word: &'a [u8]) -> Result<(), ReadError>
         requires { IsName word.now }
         ensures { Checks (λ _. self.new) (spec.announce place word.now self.old) result }
     {
@@ -147,7 +180,7 @@ impl ModuleDraft {
     fn declare_at(
         &mut self,
         place: usize,
-        word: &[u8],
+        word: &'a [u8],
         dir: Dir,
         range: Option<Range>,
         port: usize,
@@ -177,7 +210,7 @@ impl ModuleDraft {
     pub fn declare_port(
         &mut self,
         place: usize,
-        word: &[u8],
+        word: &'a [u8],
         dir: Dir,
         range: Option<Range>,
     ) -> Result<(), ReadError>
@@ -200,7 +233,7 @@ impl ModuleDraft {
     pub fn declare_new_port(
         &mut self,
         place: usize,
-        word: &[u8],
+        word: &'a [u8],
         dir: Dir,
         range: Option<Range>,
     ) -> Result<(), ReadError>
@@ -262,7 +295,7 @@ impl ModuleDraft {
     pub fn declare_wire(
         &mut self,
         place: usize,
-        word: &[u8],
+        word: &'a [u8],
         range: Option<Range>,
     ) -> Result<(), ReadError>
         requires { IsName word.now }
@@ -281,7 +314,7 @@ impl ModuleDraft {
     }
 
     /// Takes an instance's name. Refused where it is taken, or where there is no room for the instance.
-    pub fn name_instance(&mut self, place: usize, word: &[u8]) -> Result<(), ReadError>
+    pub fn name_instance(&mut self, place: usize, word: &'a [u8]) -> Result<(), ReadError>
         requires { IsName word.now }
         ensures { Checks (λ _. self.new) (spec.name_instance place word.now self.old) result }
     {

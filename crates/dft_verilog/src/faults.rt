@@ -11,6 +11,7 @@ use dft_netlist::{Cause, Counted, Fault};
 use std::alloc::Global;
 
 /// The name is taken.
+#[cold]
 pub fn taken(alloc: Global, place: usize, word: &[u8]) -> ReadError
     requires { IsName word.now }
     ensures { Refuses (fault (Cause.Taken word.now) place) result }
@@ -25,6 +26,7 @@ pub fn taken(alloc: Global, place: usize, word: &[u8]) -> ReadError
 }
 
 /// The name was not declared.
+#[cold]
 pub fn undeclared(alloc: Global, place: usize, word: &[u8]) -> ReadError
     requires { IsName word.now }
     ensures { Refuses (fault (Cause.Undeclared word.now) place) result }
@@ -39,6 +41,7 @@ pub fn undeclared(alloc: Global, place: usize, word: &[u8]) -> ReadError
 }
 
 /// The library has no cell of this name.
+#[cold]
 pub fn no_cell(alloc: Global, place: usize, word: &[u8]) -> ReadError
     requires { IsName word.now }
     ensures { Refuses (fault (Cause.NoCell word.now) place) result }
@@ -53,6 +56,7 @@ pub fn no_cell(alloc: Global, place: usize, word: &[u8]) -> ReadError
 }
 
 /// The cell has no pin of this name.
+#[cold]
 pub fn no_pin(alloc: Global, place: usize, word: &[u8]) -> ReadError
     requires { IsName word.now }
     ensures { Refuses (fault (Cause.NoPin word.now) place) result }
@@ -67,6 +71,7 @@ pub fn no_pin(alloc: Global, place: usize, word: &[u8]) -> ReadError
 }
 
 /// The pin of this name was connected before.
+#[cold]
 pub fn joined_twice(alloc: Global, place: usize, word: &[u8]) -> ReadError
     requires { IsName word.now }
     ensures { Refuses (fault (Cause.JoinedTwice word.now) place) result }

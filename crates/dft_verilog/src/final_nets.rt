@@ -11,7 +11,7 @@ ghost use Rattle.dft_verilog.specs.FinalNets.{with_number, with_numbers, numbers
 use crate::bits::width;
 use crate::header_port::HeaderPort;
 use dft_base::Range;
-use dft_netlist::{Declared, MAX_PORTS, NetId, Signal};
+use dft_netlist::{Declared, MAX_PORTS, NetId, PinSignals, Signal};
 use std::alloc::{AllocError, Global};
 
 /// Gives a net this number, unless it has one.
@@ -107,11 +107,11 @@ pub fn final_pins(
     alloc: Global,
     finals: &[NetId],
     pins: &[Signal],
-) -> Result<Vec<Signal>, AllocError>
+) -> Result<PinSignals, AllocError>
     requires { AreLive (length finals.now) pins.now }
-    ensures { IfOk result (λ signals. signals.items ≡ map (signal_by finals.now) pins.now) }
+    ensures { IfOk result (λ signals. signals ≡ map (signal_by finals.now) pins.now) }
 {
-    let mut signals = Vec::with_capacity(alloc, pins.len())?;
+    let mut signals = PinSignals::new(alloc);
     for pin in pins {
         signals.push(final_signal(finals, *pin))?;
     }

@@ -9,11 +9,13 @@ ghost use Rattle.dft_verilog.specs.Drafts.{InstanceFits, JoinFits, nets_alone};
 ghost use Rattle.dft_verilog.specs.FinalNets.{name_unless, without_number, all_numbered, AreFinal};
 ghost use Rattle.dft_verilog.specs.Built.{Grows, Builds, HasNetsOf, IsBuilt, CannotBuild};
 
+use crate::draft_instance::DraftInstance;
 use crate::final_nets::{final_net, final_pins, final_signal, port_numbers};
 use crate::header_port::HeaderPort;
 use crate::module_draft::ModuleDraft;
+use crate::word::Word;
 use dft_base::Name;
-use dft_netlist::{Design, DesignBuilder, Instance, Join, NetId, NetlistError};
+use dft_netlist::{Design, DesignBuilder, Join, NetId, NetlistError};
 use std::alloc::{AllocError, Global};
 
 /// The same name once more.
@@ -62,7 +64,7 @@ fn add_ports(
 fn number_or_add(
     alloc: Global,
     builder: &mut DesignBuilder,
-    name: &Name,
+    name: &Word<'_>,
     number: Option<NetId>,
 ) -> Result<NetId, NetlistError>
     ensures grown { Grows (spec.add_nets (name_unless number name.now) builder.old) result builder.new }
@@ -70,7 +72,7 @@ fn number_or_add(
 {
     match number {
         Some(net) => Ok(net),
-        None => builder.net(name_of(alloc, name)?),
+        None => builder.net(Name::from_slice(alloc, name.as_slice())?),
     }
 }
 
@@ -78,7 +80,7 @@ fn number_or_add(
 fn add_others(
     alloc: Global,
     builder: &mut DesignBuilder,
-    names: &[Name],
+    names: &[Word<'_>],
     numbers: &[Option<NetId>],
 ) -> Result<Vec<NetId>, NetlistError>
     requires { length names.now ≡ length numbers.now }
@@ -97,7 +99,7 @@ fn add_others(
 fn add_all_nets(
     alloc: Global,
     builder: &mut DesignBuilder,
-    draft: &ModuleDraft,
+    draft: &ModuleDraft<'_>,
 ) -> Result<Vec<NetId>, NetlistError>
     requires { builder.old ≡ empty_netlist draft.now.name draft.now.library }
     ensures grown { Grows (spec.and_grown (spec.add_ports draft.now.ports builder.old) (spec.add_nets (spec.names_of_others draft.now))) result builder.new }
@@ -112,7 +114,7 @@ fn add_all_nets(
 /// Adds a join of a draft.
 fn add_join(
     builder: &mut DesignBuilder,
-    draft: &ModuleDraft,
+    draft: &ModuleDraft<'_>,
     finals: &[NetId],
     join: Join,
 ) -> Result<(), AllocError>
@@ -129,7 +131,7 @@ fn add_join(
 /// Adds the joins of a draft.
 fn add_joins(
     builder: &mut DesignBuilder,
-    draft: &ModuleDraft,
+    draft: &ModuleDraft<'_>,
     finals: &[NetId],
 ) -> Result<(), AllocError>
     requires nets { HasNetsOf draft.now builder.old }
@@ -142,23 +144,13 @@ fn add_joins(
     Ok(())
 }
 
-/// The same name once more, if there is one.
-fn own_name(alloc: Global, name: &Option<Name>) -> Result<Option<Name>, AllocError>
-    ensures { IfOk result (λ same. same ≡ name.now) }
-{
-    match name {
-        Some(name) => Ok(Some(name_of(alloc, name)?)),
-        None => Ok(None),
-    }
-}
-
 /// Adds an instance of a draft.
 fn add_instance(
     alloc: Global,
     builder: &mut DesignBuilder,
-    draft: &ModuleDraft,
+    draft: &ModuleDraft<'_>,
     finals: &[NetId],
-    instance: &Instance,
+    instance: &DraftInstance<'_>,
 ) -> Result<(), NetlistError>
     requires nets { HasNetsOf draft.now builder.old }
     requires finals { AreFinal draft.now finals.now }
@@ -166,9 +158,9 @@ fn add_instance(
     ensures grown { Grows (spec.add_instance (spec.net_order draft.now) builder.old instance.now) result builder.new }
     ensures nets { HasNetsOf draft.now builder.new }
 {
-    let name = own_name(alloc, &instance.name)?;
-    let pins = final_pins(alloc, finals, instance.pins.as_slice())?;
-    builder.instance(name, instance.cell, &pins)?;
+    let name = instance.name(alloc)?;
+    let pins = final_pins(alloc, finals, instance.pins())?;
+    builder.instance(name, instance.cell(), pins.as_slice())?;
     Ok(())
 }
 
@@ -176,7 +168,7 @@ fn add_instance(
 fn add_instances(
     alloc: Global,
     builder: &mut DesignBuilder,
-    draft: &ModuleDraft,
+    draft: &ModuleDraft<'_>,
     finals: &[NetId],
 ) -> Result<(), NetlistError>
     requires nets { HasNetsOf draft.now builder.old }
@@ -190,7 +182,7 @@ fn add_instances(
 }
 
 /// The netlist of a draft, not finished yet.
-fn built(alloc: Global, draft: &ModuleDraft) -> Result<DesignBuilder, NetlistError>
+fn built(alloc: Global, draft: &ModuleDraft<'_>) -> Result<DesignBuilder, NetlistError>
     ensures { Builds (spec.built draft.now) result }
 {
     let name = name_of(alloc, draft.name())?;
@@ -204,9 +196,9 @@ fn built(alloc: Global, draft: &ModuleDraft) -> Result<DesignBuilder, NetlistErr
 
 /// The design of what a module said. Refused with `DuplicateName` or `TooMany` where a part is refused, with
 /// `MultipleDrivers` for the first net with two drivers, and else with `Loop` where the nets have no order.
-pub(crate) fn finished(alloc: Global, draft: ModuleDraft) -> Result<Design, NetlistError>
-    ensures ok { IfOk result (λ design. IsBuilt draft design) }
-    ensures refused { IfErr result (λ why. CannotBuild draft why) }
+pub(crate) fn finished(alloc: Global, draft: ModuleDraft<'_>) -> Result<Design, NetlistError>
+    ensures ok { IfOk result (λ design. IsBuilt draft.entry design) }
+    ensures refused { IfErr result (λ why. CannotBuild draft.entry why) }
 {
     built(alloc, &draft)?.finish()
 }

@@ -9,13 +9,14 @@ ghost use Rattle.dft_verilog.specs.Operands.{Grows, AreBits, IsBit};
 ghost use Rattle.dft_verilog.specs.Reading.{Reads};
 
 use crate::cursor::Tokens;
+use crate::draft_instance::DraftInstance;
 use crate::faults::refused;
 use crate::module_draft::ModuleDraft;
 use crate::nesting::expression;
 use crate::read_error::ReadError;
-use dft_base::Name;
+use crate::word::Word;
 use dft_cells::Kind;
-use dft_netlist::{Cause, CellRef, Instance, MAX_INSTANCES, PinSignals, Signal, Site, TokenKind};
+use dft_netlist::{Cause, CellRef, MAX_INSTANCES, PinSignals, Signal, Site, TokenKind};
 
 /// The kind of a gate primitive.
 pub fn gate_kind(kind: TokenKind) -> Option<Kind>
@@ -58,10 +59,10 @@ pub fn one_bit(place: usize, bits: &[Signal]) -> Result<Signal, ReadError>
 
 #[tactic(auto, using(crate::proofs::OperandLemmas::one), unfolding(dft_netlist::specs::Items::terminal))]
 // A terminal of a gate; its width is tested at its first token.
-fn terminal(
+fn terminal<'a>(
     drives: bool,
-    draft: &mut ModuleDraft,
-    tokens: &mut Tokens<'_>,
+    draft: &mut ModuleDraft<'a>,
+    tokens: &mut Tokens<'a>,
 ) -> Result<Signal, ReadError>
     ensures read { Reads (λ bit. (draft.new, bit)) (spec.terminal drives draft.old tokens.old) result tokens.new }
     ensures grown { OnOk result (Grows draft.old draft.new) }
@@ -69,16 +70,16 @@ fn terminal(
 {
     let place = tokens.left();
     let bits = expression(Site::Terminal { drives }, draft, tokens)?;
-    one_bit(place, &bits)
+    one_bit(place, bits.as_slice())
 }
 
 // The terminals behind the first.
-fn inputs(draft: &mut ModuleDraft, tokens: &mut Tokens<'_>) -> Result<Vec<Signal>, ReadError>
-    ensures read { Reads (λ inputs. (draft.new, inputs.items)) (spec.inputs draft.old tokens.old) result tokens.new }
+fn inputs<'a>(draft: &mut ModuleDraft<'a>, tokens: &mut Tokens<'a>) -> Result<PinSignals, ReadError>
+    ensures read { Reads (λ inputs. (draft.new, inputs)) (spec.inputs draft.old tokens.old) result tokens.new }
     ensures grown { OnOk result (Grows draft.old draft.new) }
-    ensures bits { IfOk result (λ inputs. AreBits (length draft.new.nets) false inputs.items) }
+    ensures bits { IfOk result (λ inputs. AreBits (length draft.new.nets) false inputs) }
 {
-    let mut inputs = Vec::new(draft.alloc());
+    let mut inputs = PinSignals::new(draft.alloc());
     'turns: for _turn in 0..tokens.left() {
         if !tokens.eat(TokenKind::Comma) {
             return Ok(inputs);
@@ -88,39 +89,47 @@ fn inputs(draft: &mut ModuleDraft, tokens: &mut Tokens<'_>) -> Result<Vec<Signal
     Err(tokens.refusal())
 }
 
+// How many inputs there are.
+fn input_count(inputs: &PinSignals) -> usize
+    ensures { result ≡ length inputs.now }
+{
+    inputs.as_slice().len()
+}
+
 #[tactic(auto, using(crate::proofs::GateLemmas::gates), unfolding(dft_netlist::specs::Items::terminals))]
 // The terminals of a gate behind the bracket that stands at this place, where the number of terminals is refused.
-fn terminals(
+fn terminals<'a>(
     kind: Kind,
-    name: Option<Name>,
+    name: Option<Word<'a>>,
     place: usize,
-    draft: &mut ModuleDraft,
-    tokens: &mut Tokens<'_>,
+    draft: &mut ModuleDraft<'a>,
+    tokens: &mut Tokens<'a>,
 ) -> Result<(), ReadError>
     requires primitive { IsTrue (is_primitive kind) }
     requires room { length draft.old.instances < MAX_INSTANCES }
-    ensures read { Reads (λ _. draft.new) (spec.terminals kind name place draft.old tokens.old) result tokens.new }
+    ensures read { Reads (λ _. draft.new) (spec.terminals kind name.entry place draft.old tokens.old) result tokens.new }
     ensures library { OnOk result (draft.new.library ≡ draft.old.library) }
 {
     let output = terminal(true, draft, tokens)?;
     let mut pins = inputs(draft, tokens)?;
     tokens.expect(TokenKind::CloseParen)?;
-    let count = pins.len();
+    let count = input_count(&pins);
     if !has_inputs(kind, count) {
         return Err(refused(place, Cause::Misfit));
     }
     pins.push(output)?;
-    draft.add_instance(Instance {
-        name,
-        cell: CellRef::Gate(kind, count as u8),
-        pins: PinSignals::from_slice(draft.alloc(), &pins)?,
-    })?;
+    let cell = CellRef::Gate(kind, count as u8);
+    draft.add_instance(DraftInstance::new(name, cell, pins))?;
     Ok(())
 }
 
 #[tactic(auto, using(crate::proofs::GateLemmas::naming), unfolding(dft_netlist::specs::Items::named_gate))]
 // A gate with a name.
-fn named_gate(kind: Kind, draft: &mut ModuleDraft, tokens: &mut Tokens<'_>) -> Result<(), ReadError>
+fn named_gate<'a>(
+    kind: Kind,
+    draft: &mut ModuleDraft<'a>,
+    tokens: &mut Tokens<'a>,
+) -> Result<(), ReadError>
     requires { IsTrue (is_primitive kind) }
     ensures read { Reads (λ _. draft.new) (spec.named_gate kind draft.old tokens.old) result tokens.new }
     ensures library { OnOk result (draft.new.library ≡ draft.old.library) }
@@ -128,18 +137,17 @@ fn named_gate(kind: Kind, draft: &mut ModuleDraft, tokens: &mut Tokens<'_>) -> R
     let place = tokens.left();
     let word = tokens.name()?;
     draft.name_instance(place, word)?;
-    let name = Name::from_slice(draft.alloc(), word)?;
     let bracket = tokens.left();
     tokens.expect(TokenKind::OpenParen)?;
-    terminals(kind, Some(name), bracket, draft, tokens)
+    terminals(kind, Some(Word::read(word)), bracket, draft, tokens)
 }
 
 #[tactic(auto, using(crate::proofs::GateLemmas::naming), unfolding(dft_netlist::specs::Items::unnamed_gate))]
 // A gate without a name. The room for it is tested at its bracket.
-fn unnamed_gate(
+fn unnamed_gate<'a>(
     kind: Kind,
-    draft: &mut ModuleDraft,
-    tokens: &mut Tokens<'_>,
+    draft: &mut ModuleDraft<'a>,
+    tokens: &mut Tokens<'a>,
 ) -> Result<(), ReadError>
     requires { IsTrue (is_primitive kind) }
     ensures read { Reads (λ _. draft.new) (spec.unnamed_gate kind draft.old tokens.old) result tokens.new }
@@ -153,7 +161,11 @@ fn unnamed_gate(
 
 #[tactic(auto, unfolding(dft_netlist::specs::Items::one_gate))]
 // A gate with or without a name.
-fn one_gate(kind: Kind, draft: &mut ModuleDraft, tokens: &mut Tokens<'_>) -> Result<(), ReadError>
+fn one_gate<'a>(
+    kind: Kind,
+    draft: &mut ModuleDraft<'a>,
+    tokens: &mut Tokens<'a>,
+) -> Result<(), ReadError>
     requires { IsTrue (is_primitive kind) }
     ensures read { Reads (λ _. draft.new) (spec.one_gate kind draft.old tokens.old) result tokens.new }
     ensures library { OnOk result (draft.new.library ≡ draft.old.library) }
@@ -166,7 +178,11 @@ fn one_gate(kind: Kind, draft: &mut ModuleDraft, tokens: &mut Tokens<'_>) -> Res
 }
 
 // Gates of one kind with commas between them.
-fn gates(kind: Kind, draft: &mut ModuleDraft, tokens: &mut Tokens<'_>) -> Result<(), ReadError>
+fn gates<'a>(
+    kind: Kind,
+    draft: &mut ModuleDraft<'a>,
+    tokens: &mut Tokens<'a>,
+) -> Result<(), ReadError>
     requires { IsTrue (is_primitive kind) }
     ensures read { Reads (λ _. draft.new) (spec.gates kind draft.old tokens.old) result tokens.new }
     ensures library { OnOk result (draft.new.library ≡ draft.old.library) }
@@ -182,10 +198,10 @@ fn gates(kind: Kind, draft: &mut ModuleDraft, tokens: &mut Tokens<'_>) -> Result
 
 #[tactic(auto, unfolding(dft_netlist::specs::Items::gate_item))]
 /// The kind of a gate and gates of this kind.
-pub fn gate_item(
+pub fn gate_item<'a>(
     kind: Kind,
-    draft: &mut ModuleDraft,
-    tokens: &mut Tokens<'_>,
+    draft: &mut ModuleDraft<'a>,
+    tokens: &mut Tokens<'a>,
 ) -> Result<(), ReadError>
     requires { IsTrue (is_primitive kind) }
     ensures read { Reads (λ _. draft.new) (spec.gate_item kind draft.old tokens.old) result tokens.new }

@@ -23,7 +23,7 @@ pub struct Facing {
 
 #[tactic(auto, using(crate::proofs::KeptLemmas::declared_kept), unfolding(dft_netlist::specs::NetlistText::announced_name))]
 // One name of a header without directions.
-fn announced_name(draft: &mut ModuleDraft, tokens: &mut Tokens<'_>) -> Result<(), ReadError>
+fn announced_name<'a>(draft: &mut ModuleDraft<'a>, tokens: &mut Tokens<'a>) -> Result<(), ReadError>
     ensures read { Reads (λ _. draft.new) (spec.announced_name draft.old tokens.old) result tokens.new }
     ensures library { OnOk result (draft.new.library ≡ draft.old.library) }
 {
@@ -33,7 +33,10 @@ fn announced_name(draft: &mut ModuleDraft, tokens: &mut Tokens<'_>) -> Result<()
 }
 
 // The names of a header without directions.
-fn announced_names(draft: &mut ModuleDraft, tokens: &mut Tokens<'_>) -> Result<(), ReadError>
+fn announced_names<'a>(
+    draft: &mut ModuleDraft<'a>,
+    tokens: &mut Tokens<'a>,
+) -> Result<(), ReadError>
     ensures read { Reads (λ _. draft.new) (spec.announced_names draft.old tokens.old) result tokens.new }
     ensures library { OnOk result (draft.new.library ≡ draft.old.library) }
 {
@@ -48,10 +51,10 @@ fn announced_names(draft: &mut ModuleDraft, tokens: &mut Tokens<'_>) -> Result<(
 
 #[tactic(auto, using(crate::proofs::KeptLemmas::declared_kept), unfolding(dft_netlist::specs::NetlistText::new_port))]
 // One name of a header with directions.
-fn new_port(
+fn new_port<'a>(
     facing: Facing,
-    draft: &mut ModuleDraft,
-    tokens: &mut Tokens<'_>,
+    draft: &mut ModuleDraft<'a>,
+    tokens: &mut Tokens<'a>,
 ) -> Result<(), ReadError>
     ensures read { Reads (λ _. draft.new) (spec.new_port facing.dir facing.range draft.old tokens.old) result tokens.new }
     ensures library { OnOk result (draft.new.library ≡ draft.old.library) }
@@ -87,7 +90,7 @@ fn next_facing(before: Facing, tokens: &mut Tokens<'_>) -> Result<Facing, ReadEr
 }
 
 // The ports of a header with directions. The first has a direction of its own.
-fn new_ports(draft: &mut ModuleDraft, tokens: &mut Tokens<'_>) -> Result<(), ReadError>
+fn new_ports<'a>(draft: &mut ModuleDraft<'a>, tokens: &mut Tokens<'a>) -> Result<(), ReadError>
     ensures read { Reads (λ _. draft.new) (spec.new_ports draft.old tokens.old) result tokens.new }
     ensures library { OnOk result (draft.new.library ≡ draft.old.library) }
 {
@@ -107,7 +110,7 @@ fn new_ports(draft: &mut ModuleDraft, tokens: &mut Tokens<'_>) -> Result<(), Rea
 
 #[tactic(auto, unfolding(dft_netlist::specs::NetlistText::header_names))]
 // What stands between the brackets of a header.
-fn header_names(draft: &mut ModuleDraft, tokens: &mut Tokens<'_>) -> Result<(), ReadError>
+fn header_names<'a>(draft: &mut ModuleDraft<'a>, tokens: &mut Tokens<'a>) -> Result<(), ReadError>
     ensures read { Reads (λ _. draft.new) (spec.header_names draft.old tokens.old) result tokens.new }
     ensures library { OnOk result (draft.new.library ≡ draft.old.library) }
 {
@@ -122,7 +125,7 @@ fn header_names(draft: &mut ModuleDraft, tokens: &mut Tokens<'_>) -> Result<(), 
 
 #[tactic(auto, unfolding(dft_netlist::specs::NetlistText::header))]
 // The header in brackets, or none.
-fn header(draft: &mut ModuleDraft, tokens: &mut Tokens<'_>) -> Result<(), ReadError>
+fn header<'a>(draft: &mut ModuleDraft<'a>, tokens: &mut Tokens<'a>) -> Result<(), ReadError>
     ensures read { Reads (λ _. draft.new) (spec.header draft.old tokens.old) result tokens.new }
     ensures library { OnOk result (draft.new.library ≡ draft.old.library) }
 {
@@ -137,11 +140,11 @@ fn header(draft: &mut ModuleDraft, tokens: &mut Tokens<'_>) -> Result<(), ReadEr
 
 #[tactic(auto, unfolding(dft_netlist::specs::NetlistText::heading))]
 /// `module`, its name and its header.
-pub fn heading(
+pub fn heading<'a>(
     alloc: Global,
     library: Library,
-    tokens: &mut Tokens<'_>,
-) -> Result<ModuleDraft, ReadError>
+    tokens: &mut Tokens<'a>,
+) -> Result<ModuleDraft<'a>, ReadError>
     ensures read { Reads (λ draft. draft) (spec.heading library tokens.old) result tokens.new }
     ensures library { IfOk result (λ draft. draft.library ≡ library) }
 {

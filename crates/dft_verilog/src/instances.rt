@@ -7,12 +7,13 @@ ghost use Rattle.dft_verilog.specs.Reading.{Reads};
 
 use crate::connections::{connections, unjoined};
 use crate::cursor::Tokens;
+use crate::draft_instance::DraftInstance;
 use crate::faults::no_cell;
 use crate::module_draft::ModuleDraft;
 use crate::read_error::ReadError;
-use dft_base::Name;
+use crate::word::Word;
 use dft_cells::{Cell, CellId, Library};
-use dft_netlist::{CellRef, Instance, PinSignals, Signal, TokenKind};
+use dft_netlist::{CellRef, PinSignals, Signal, TokenKind};
 use std::alloc::{AllocError, Global};
 
 // What a pin is joined to; one that was not named is not connected.
@@ -38,11 +39,11 @@ fn pins_of(alloc: Global, joined: &[Option<Signal>]) -> Result<PinSignals, Alloc
 
 #[tactic(auto, using(crate::proofs::ConnectionLemmas::instances), unfolding(dft_netlist::specs::Items::instance))]
 // The name of an instance, which is tested at itself, and its connections.
-fn instance(
+fn instance<'a>(
     id: CellId,
     cell: &Cell,
-    draft: &mut ModuleDraft,
-    tokens: &mut Tokens<'_>,
+    draft: &mut ModuleDraft<'a>,
+    tokens: &mut Tokens<'a>,
 ) -> Result<(), ReadError>
     requires { slice_get draft.old.library id.0 ≡ Some cell.now }
     ensures read { Reads (λ _. draft.new) (spec.instance id cell.now draft.old tokens.old) result tokens.new }
@@ -55,20 +56,18 @@ fn instance(
     let mut joined = unjoined(draft.alloc(), cell)?;
     connections(cell, &mut joined, draft, tokens)?;
     tokens.expect(TokenKind::CloseParen)?;
-    draft.add_instance(Instance {
-        name: Some(Name::from_slice(draft.alloc(), word)?),
-        cell: CellRef::Library(id),
-        pins: pins_of(draft.alloc(), &joined)?,
-    })?;
+    let pins = pins_of(draft.alloc(), joined.as_slice())?;
+    let name = Some(Word::read(word));
+    draft.add_instance(DraftInstance::new(name, CellRef::Library(id), pins))?;
     Ok(())
 }
 
 // Instances of one cell with commas between them.
-fn instances_of_cell(
+fn instances_of_cell<'a>(
     id: CellId,
     cell: &Cell,
-    draft: &mut ModuleDraft,
-    tokens: &mut Tokens<'_>,
+    draft: &mut ModuleDraft<'a>,
+    tokens: &mut Tokens<'a>,
 ) -> Result<(), ReadError>
     requires { slice_get draft.old.library id.0 ≡ Some cell.now }
     ensures read { Reads (λ _. draft.new) (spec.instances_from (left tokens.old) id cell.now draft.old tokens.old) result tokens.new }
@@ -85,11 +84,11 @@ fn instances_of_cell(
 
 #[tactic(auto, unfolding(dft_netlist::specs::Items::instances))]
 // Instances and the semicolon behind them.
-fn instances(
+fn instances<'a>(
     id: CellId,
     cell: &Cell,
-    draft: &mut ModuleDraft,
-    tokens: &mut Tokens<'_>,
+    draft: &mut ModuleDraft<'a>,
+    tokens: &mut Tokens<'a>,
 ) -> Result<(), ReadError>
     requires { slice_get draft.old.library id.0 ≡ Some cell.now }
     ensures read { Reads (λ _. draft.new) (spec.instances id cell.now draft.old tokens.old) result tokens.new }
@@ -102,10 +101,10 @@ fn instances(
 
 #[tactic(auto, unfolding(dft_netlist::specs::Items::cell_item))]
 /// The name of a cell of the draft's library, and instances of it.
-pub fn cell_item(
+pub fn cell_item<'a>(
     library: &Library,
-    draft: &mut ModuleDraft,
-    tokens: &mut Tokens<'_>,
+    draft: &mut ModuleDraft<'a>,
+    tokens: &mut Tokens<'a>,
 ) -> Result<(), ReadError>
     requires { draft.old.library ≡ library.now }
     ensures read { Reads (λ _. draft.new) (spec.cell_item draft.old tokens.old) result tokens.new }

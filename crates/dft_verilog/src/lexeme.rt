@@ -28,6 +28,7 @@ pub struct Lexeme {
 
 impl Lexeme {
     // A token of a kind and a length, whose place is its begin.
+    #[inline(always)]
     fn plain(kind: TokenKind, len: usize) -> Lexeme
         ensures { shown result ≡ spec.plain kind len }
     {
@@ -86,6 +87,7 @@ fn digits_len(text: &[u8]) -> usize
 
 #[tactic(auto, using(crate::proofs::NameLemmas::digits_are_names))]
 // The digits at the front of a text.
+#[inline(never)]
 fn digits(text: &[u8]) -> Lexeme
     ensures value { shown result ≡ spec.plain kind.Digits (prefix_len spec.is_in_digits text.now) }
     ensures within { result.len ≤ length text.now }
@@ -130,6 +132,7 @@ fn to_blank(text: &[u8]) -> usize
 
 #[tactic(auto, unfolding(dft_netlist::specs::Lexemes::escaped))]
 // A name behind a backslash goes to the next space, and has a byte at least.
+#[inline(never)]
 fn escaped(behind: &[u8]) -> Lexeme
     requires { length behind.now < MAX_TEXT }
     ensures value { shown result ≡ spec.escaped behind.now }
@@ -162,6 +165,7 @@ fn is_base(byte: u8) -> bool
 
 #[tactic(auto, unfolding(dft_netlist::specs::Lexemes::quote))]
 // A quote, with the letter of a base behind it; at the end of the text a quote waits for one.
+#[inline(never)]
 fn quote(behind: &[u8]) -> Lexeme
     ensures value { shown result ≡ spec.quote behind.now }
     ensures name { carries_name result.kind ≡ false }
@@ -185,6 +189,7 @@ fn quote(behind: &[u8]) -> Lexeme
 
 #[tactic(auto, using(crate::proofs::BlankLemmas::before_blank), unfolding(dft_netlist::specs::Lexemes::directive))]
 // A `#` or another directive goes to the next blank.
+#[inline(never)]
 fn directive(text: &[u8]) -> Lexeme
     requires { length text.now ≤ MAX_TEXT }
     ensures value { shown result ≡ spec.directive text.now }
@@ -202,6 +207,7 @@ fn directive(text: &[u8]) -> Lexeme
 
 #[tactic(auto, using(crate::proofs::BlankLemmas::no_blank), unfolding(dft_netlist::specs::Lexemes::lexeme))]
 /// The token at the front of a text that begins with no blank. Behind a base a run of letters, digits and `_` is one token.
+#[inline(always)]
 pub fn cut(behind_base: bool, text: &[u8]) -> Lexeme
     requires { length text.now ≤ MAX_TEXT }
     ensures value { shown result ≡ spec.lexeme behind_base text.now }
@@ -227,6 +233,7 @@ pub fn cut(behind_base: bool, text: &[u8]) -> Lexeme
 
 #[tactic(auto, using(crate::proofs::NameLemmas::words_are_names))]
 // The word at the front of a text.
+#[inline(always)]
 fn word(text: &[u8]) -> Lexeme
     ensures value { shown result ≡ spec.plain (spec.word_kind (take (spec.word_len text.now) text.now)) (spec.word_len text.now) }
     ensures within { result.len ≤ length text.now }
@@ -238,6 +245,7 @@ fn word(text: &[u8]) -> Lexeme
 }
 
 // A comment or an attribute that does not close is refused at the end of the text.
+#[inline(never)]
 fn unclosed(left: usize) -> Lexeme
     ensures { shown result ≡ record { kind = kind.Unclosed; len = 1; prefix = 0; at = left } }
 {

@@ -1,32 +1,35 @@
 ghost use Rattle.std.specs.Prelude.{◌≡◌, ◌+◌, ◌<◌, ◌≤◌, ◌++◌, ◌∷◌, [], None, OnOk, IfSome, option_copied, length, drop, slice_set};
+ghost use Rattle.dft_base.specs.Name.{IsName};
 ghost use Rattle.dft_netlist.specs.Modules as spec;
 ghost use Rattle.dft_netlist.specs.NetlistText.{first_undeclared};
 ghost use Rattle.dft_verilog.specs.Drafts.{IsDraft, IsMeaningWithin, IsDeclaredWithin, InstanceFits, JoinFits, nets_alone};
 ghost use Rattle.dft_verilog.specs.Free.{AreFreeBits, with_bits_of};
 
+use crate::draft_instance::DraftInstance;
 use crate::header_port::HeaderPort;
 use crate::taken_names::TakenNames;
+use crate::word::Word;
 use dft_base::{Name, Range};
 use dft_cells::Library;
-use dft_netlist::{Declared, Instance, Join, MAX_INSTANCES, MAX_NETS, MAX_PORTS, Meaning};
+use dft_netlist::{Declared, Join, MAX_INSTANCES, MAX_NETS, MAX_PORTS, Meaning};
 use std::alloc::{AllocError, Global};
 use std::marker::Model;
 
 /// What a module has said so far (IEEE 1364): the names that are taken, its ports, nets, instances and joins. Nets are
 /// numbered in the order in which they were first named. A call that fails leaves a draft of which nothing is known.
 #[derive(Debug, Drop)]
-pub struct ModuleDraft {
+pub struct ModuleDraft<'a> {
     alloc: Global,
     name: Name,
     library: Library,
-    names: TakenNames,
+    names: TakenNames<'a>,
     ports: Vec<HeaderPort>,
-    nets: Vec<Name>,
-    instances: Vec<Instance>,
+    nets: Vec<Word<'a>>,
+    instances: Vec<DraftInstance<'a>>,
     joins: Vec<Join>,
 }
 
-impl Model for ModuleDraft {
+impl<'a> Model for ModuleDraft<'a> {
     ghost use Rattle.dft_netlist.specs.Modules.{Draft};
 
     ghost Value = { Draft };
@@ -38,9 +41,9 @@ impl Model for ModuleDraft {
     ghost invariant = { IsModuleDraft };
 }
 
-impl ModuleDraft {
+impl<'a> ModuleDraft<'a> {
     /// The module with this name that has said nothing yet.
-    pub fn new(alloc: Global, name: Name, library: Library) -> ModuleDraft
+    pub fn new(alloc: Global, name: Name, library: Library) -> ModuleDraft<'a>
         ensures { result ≡ spec.begun name library }
     {
         ModuleDraft {
@@ -104,7 +107,7 @@ impl ModuleDraft {
     }
 
     /// The printed name of each net.
-    pub(crate) fn nets(&self) -> &[Name]
+    pub(crate) fn nets(&self) -> &[Word<'a>]
         ensures nets { result.now ≡ self.now.nets }
         ensures draft { IsDraft self.now }
     {
@@ -112,7 +115,7 @@ impl ModuleDraft {
     }
 
     /// The instances.
-    pub(crate) fn instances(&self) -> &[Instance]
+    pub(crate) fn instances(&self) -> &[DraftInstance<'a>]
         ensures instances { result.now ≡ self.now.instances }
         ensures draft { IsDraft self.now }
     {
@@ -164,13 +167,13 @@ impl ModuleDraft {
     }
 
     /// Takes a name that is free.
-    pub(crate) fn take(&mut self, word: &[u8], meaning: Meaning) -> Result<(), AllocError>
+    pub(crate) fn take(&mut self, word: &'a [u8], meaning: Meaning) -> Result<(), AllocError>
+        requires name { IsName word.now }
         requires free { spec.meaning_of self.old word.now ≡ None }
         requires within { IsMeaningWithin (length self.old.nets) meaning }
         ensures { OnOk result (self.new ≡ spec.with_name word.now meaning self.old) }
     {
-        let word = Vec::from_slice(self.alloc, word)?;
-        self.names.take(word, meaning)
+        self.names.take(Word::read(word), meaning)
     }
 
     /// Takes the names of a vector's bits, which are those of the nets from this one on.
@@ -188,10 +191,20 @@ impl ModuleDraft {
         }
     }
 
+    /// Adds a net of this name.
+    pub(crate) fn add_net(&mut self, word: &'a [u8]) -> Result<(), AllocError>
+        requires name { IsName word.now }
+        requires room { length self.old.nets < MAX_NETS }
+        ensures { OnOk result (self.new ≡ record self.old { nets = self.old.nets ++ word.now ∷ [] }) }
+    {
+        self.nets.push(Word::read(word))?;
+        Ok(())
+    }
+
     /// Adds nets of these names.
-    pub(crate) fn add_nets(&mut self, mut names: Vec<Name>) -> Result<(), AllocError>
+    pub(crate) fn add_nets(&mut self, mut names: Vec<Word<'a>>) -> Result<(), AllocError>
         requires { length self.old.nets + length names.items ≤ MAX_NETS }
-        ensures { OnOk result (self.new ≡ record self.old { nets = self.old.nets ++ names.items }) }
+        ensures { OnOk result (self.new ≡ record self.old { nets = self.old.nets ++ names.entry.items }) }
     {
         self.nets.append(&mut names)
     }
@@ -217,10 +230,10 @@ impl ModuleDraft {
     }
 
     /// Adds an instance that can stand among its nets.
-    pub fn add_instance(&mut self, instance: Instance) -> Result<(), AllocError>
+    pub fn add_instance(&mut self, instance: DraftInstance<'a>) -> Result<(), AllocError>
         requires room { length self.old.instances < MAX_INSTANCES }
         requires fits { InstanceFits (nets_alone self.old) instance }
-        ensures { OnOk result (self.new ≡ spec.with_instance instance self.old) }
+        ensures { OnOk result (self.new ≡ spec.with_instance instance.entry self.old) }
     {
         self.instances.push(instance)?;
         Ok(())

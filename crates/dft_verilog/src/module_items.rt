@@ -15,11 +15,11 @@ use dft_cells::Library;
 use dft_netlist::{Dir, TokenKind};
 
 // Gates of a kind, or instances of a cell.
-fn gate_or_cell(
+fn gate_or_cell<'a>(
     kind: TokenKind,
     library: &Library,
-    draft: &mut ModuleDraft,
-    tokens: &mut Tokens<'_>,
+    draft: &mut ModuleDraft<'a>,
+    tokens: &mut Tokens<'a>,
 ) -> Result<(), ReadError>
     requires { draft.old.library ≡ library.now }
     ensures read { Reads (λ _. draft.new) (spec.gate_or_cell (spec.gate_kind kind) draft.old tokens.old) result tokens.new }
@@ -33,10 +33,10 @@ fn gate_or_cell(
 
 #[tactic(auto, unfolding(dft_netlist::specs::Items::item))]
 // One item.
-fn item(
+fn item<'a>(
     library: &Library,
-    draft: &mut ModuleDraft,
-    tokens: &mut Tokens<'_>,
+    draft: &mut ModuleDraft<'a>,
+    tokens: &mut Tokens<'a>,
 ) -> Result<(), ReadError>
     requires { draft.old.library ≡ library.now }
     ensures read { Reads (λ _. draft.new) (spec.item draft.old tokens.old) result tokens.new }
@@ -52,10 +52,10 @@ fn item(
 }
 
 /// The items before `endmodule`, over the cells of the draft's library.
-pub fn items(
+pub fn items<'a>(
     library: &Library,
-    draft: &mut ModuleDraft,
-    tokens: &mut Tokens<'_>,
+    draft: &mut ModuleDraft<'a>,
+    tokens: &mut Tokens<'a>,
 ) -> Result<(), ReadError>
     requires { draft.old.library ≡ library.now }
     ensures { Reads (λ _. draft.new) (spec.items draft.old tokens.old) result tokens.new }

@@ -10,22 +10,22 @@ ghost use Rattle.dft_verilog.specs.Selecting.{behind};
 use crate::module_draft::ModuleDraft;
 use crate::read_error::ReadError;
 use crate::selecting::Spot;
-use dft_netlist::{Select, Signal};
+use dft_netlist::{PinSignals, Select};
 
-impl ModuleDraft {
+impl<'a> ModuleDraft<'a> {
     /// Puts what a name gives behind the bits before, which are nets of the draft or constants that are not driven, and
     /// so are those behind it.
     pub fn read_name(
         &mut self,
         spot: Spot,
-        word: &[u8],
+        word: &'a [u8],
         what: Select,
-        bits: &mut Vec<Signal>,
+        bits: &mut PinSignals,
     ) -> Result<(), ReadError>
         requires { IsName word.now }
-        ensures read { Checks (λ _. (self.new, bits.new.items)) (behind bits.old.items (spec.bits_of_name spot.site spot.depth (record { word = word.now; what = what; place = spot.place }) self.old)) result }
+        ensures read { Checks (λ _. (self.new, bits.new)) (behind bits.old (spec.bits_of_name spot.site spot.depth (record { word = word.now; what = what; place = spot.place }) self.old)) result }
         ensures grown { OnOk result (Grows self.old self.new) }
-        ensures bits { AreBits (length self.old.nets) (spec.drives spot.site) bits.old.items → OnOk result (AreBits (length self.new.nets) (spec.drives spot.site) bits.new.items) }
+        ensures bits { AreBits (length self.old.nets) (spec.drives spot.site) bits.old → OnOk result (AreBits (length self.new.nets) (spec.drives spot.site) bits.new) }
     {
         let _nets = self.nets();
         self.bits_of_name(spot, word, what, bits)?;

@@ -1,9 +1,10 @@
 //! Expressions of netlist texts: operands and concatenations (IEEE 1364), read without recursion.
 
-ghost use Rattle.std.specs.Prelude.{◌≡◌, suc, ◌+◌, ◌≤◌, OnOk, IfOk, length};
+ghost use Rattle.std.specs.Prelude.{◌≡◌, suc, ◌+◌, ◌≤◌, ◌<◌, false, OnOk, IfOk, length};
 ghost use Rattle.dft_base.specs.Parser.{and_then, pure};
 ghost use Rattle.dft_netlist.specs.Expressions as spec;
-ghost use Rattle.dft_netlist.specs.Steps.{left};
+ghost use Rattle.dft_netlist.specs.Steps.{left, sees};
+ghost use Rattle.dft_netlist.specs.declared.text.TokenKind.TheVariants as kinds;
 ghost use Rattle.dft_verilog.specs.Operands.{Grows, AreBits};
 ghost use Rattle.dft_verilog.specs.Reading.{Reads};
 
@@ -12,7 +13,7 @@ use crate::cursor::Tokens;
 use crate::module_draft::ModuleDraft;
 use crate::operands::{followed, operand};
 use crate::read_error::ReadError;
-use dft_netlist::{Signal, Site, TokenKind};
+use dft_netlist::{PinSignals, Site, TokenKind};
 use std::alloc::Global;
 use std::marker::Model;
 
@@ -21,7 +22,7 @@ use std::marker::Model;
 pub struct Nest {
     depth: usize,
     awaits: bool,
-    bits: Vec<Signal>,
+    bits: PinSignals,
 }
 
 impl Model for Nest {
@@ -42,7 +43,7 @@ impl Nest {
         Nest {
             depth: 0,
             awaits: true,
-            bits: Vec::new(alloc),
+            bits: PinSignals::new(alloc),
         }
     }
 
@@ -54,11 +55,11 @@ impl Nest {
     }
 
     // An operand comes.
-    fn take_operand(
+    fn take_operand<'a>(
         &mut self,
         site: Site,
-        draft: &mut ModuleDraft,
-        tokens: &mut Tokens<'_>,
+        draft: &mut ModuleDraft<'a>,
+        tokens: &mut Tokens<'a>,
     ) -> Result<(), ReadError>
         ensures read { Reads (λ _. (draft.new, self.new)) (and_then (spec.operand site self.old.depth draft.old tokens.old) (λ o. pure (spec.with_operand self.old o))) result tokens.new }
         ensures depth { OnOk result (self.new.depth ≡ self.old.depth) }
@@ -72,11 +73,11 @@ impl Nest {
 
     #[tactic(auto, using(crate::proofs::OperandLemmas::growing), unfolding(dft_netlist::specs::Expressions::opening))]
     // A concatenation opens, or an operand comes.
-    fn open(
+    fn open<'a>(
         &mut self,
         site: Site,
-        draft: &mut ModuleDraft,
-        tokens: &mut Tokens<'_>,
+        draft: &mut ModuleDraft<'a>,
+        tokens: &mut Tokens<'a>,
     ) -> Result<(), ReadError>
         requires { self.old.depth ≤ MAX_TEXT }
         ensures read { Reads (λ _. (draft.new, self.new)) (spec.opening site draft.old self.old tokens.old) result tokens.new }
@@ -94,7 +95,7 @@ impl Nest {
 
     #[tactic(auto, unfolding(dft_netlist::specs::Expressions::closing))]
     // Behind an operand of a concatenation comes a comma, or the concatenation closes.
-    fn close(&mut self, draft: &ModuleDraft, tokens: &mut Tokens<'_>) -> Result<(), ReadError>
+    fn close(&mut self, draft: &ModuleDraft<'_>, tokens: &mut Tokens<'_>) -> Result<(), ReadError>
         ensures read { Reads (λ _. (draft.now, self.new)) (spec.closing draft.now self.old tokens.old) result tokens.new }
         ensures depth { OnOk result (self.new.depth ≤ self.old.depth) }
         ensures bits { OnOk result (self.new.bits ≡ self.old.bits) }
@@ -111,11 +112,11 @@ impl Nest {
 
     #[tactic(auto, using(crate::proofs::OperandLemmas::growing))]
     // One step through an expression.
-    fn turn(
+    fn turn<'a>(
         &mut self,
         site: Site,
-        draft: &mut ModuleDraft,
-        tokens: &mut Tokens<'_>,
+        draft: &mut ModuleDraft<'a>,
+        tokens: &mut Tokens<'a>,
     ) -> Result<(), ReadError>
         requires { self.old.depth ≤ MAX_TEXT }
         ensures read { Reads (λ _. (draft.new, self.new)) (spec.turn site draft.old self.old tokens.old) result tokens.new }
@@ -131,11 +132,11 @@ impl Nest {
     }
 
     // All of an expression, but for what comes behind it.
-    fn read_on(
+    fn read_on<'a>(
         &mut self,
         site: Site,
-        draft: &mut ModuleDraft,
-        tokens: &mut Tokens<'_>,
+        draft: &mut ModuleDraft<'a>,
+        tokens: &mut Tokens<'a>,
     ) -> Result<(), ReadError>
         requires { self.old.depth ≡ 0 }
         ensures read { Reads (λ _. (draft.new, self.new)) (spec.nest_from (suc (left tokens.old)) site draft.old self.old tokens.old) result tokens.new }
@@ -153,18 +154,54 @@ impl Nest {
 }
 
 #[tactic(auto, unfolding(dft_netlist::specs::Expressions::expression))]
-/// An expression: its bits, leftmost first. What comes behind it must be what may follow.
-pub fn expression(
+// An expression with concatenations, perhaps.
+fn nested<'a>(
     site: Site,
-    draft: &mut ModuleDraft,
-    tokens: &mut Tokens<'_>,
-) -> Result<Vec<Signal>, ReadError>
-    ensures read { Reads (λ bits. (draft.new, bits.items)) (spec.expression site draft.old tokens.old) result tokens.new }
+    draft: &mut ModuleDraft<'a>,
+    tokens: &mut Tokens<'a>,
+) -> Result<PinSignals, ReadError>
+    ensures read { Reads (λ bits. (draft.new, bits)) (spec.expression site draft.old tokens.old) result tokens.new }
     ensures grown { OnOk result (Grows draft.old draft.new) }
-    ensures bits { IfOk result (λ bits. AreBits (length draft.new.nets) (spec.drives site) bits.items) }
+    ensures bits { IfOk result (λ bits. AreBits (length draft.new.nets) (spec.drives site) bits) }
 {
     let mut nest = Nest::unread(draft.alloc());
     nest.read_on(site, draft, tokens)?;
     followed(site, 0, tokens)?;
     Ok(nest.bits)
+}
+
+#[tactic(auto, using(crate::proofs::NestLemmas::lone_operands))]
+// An expression of one operand.
+fn lone_operand<'a>(
+    site: Site,
+    draft: &mut ModuleDraft<'a>,
+    tokens: &mut Tokens<'a>,
+) -> Result<PinSignals, ReadError>
+    requires some { 0 < left tokens.old }
+    requires lone { sees kinds.OpenBrace tokens.old ≡ false }
+    ensures read { Reads (λ bits. (draft.new, bits)) (spec.expression site draft.old tokens.old) result tokens.new }
+    ensures grown { OnOk result (Grows draft.old draft.new) }
+    ensures bits { IfOk result (λ bits. AreBits (length draft.new.nets) (spec.drives site) bits) }
+{
+    let mut bits = PinSignals::new(draft.alloc());
+    operand(site, 0, draft, &mut bits, tokens)?;
+    followed(site, 0, tokens)?;
+    Ok(bits)
+}
+
+/// An expression: its bits, leftmost first. What comes behind it must be what may follow.
+pub fn expression<'a>(
+    site: Site,
+    draft: &mut ModuleDraft<'a>,
+    tokens: &mut Tokens<'a>,
+) -> Result<PinSignals, ReadError>
+    ensures read { Reads (λ bits. (draft.new, bits)) (spec.expression site draft.old tokens.old) result tokens.new }
+    ensures grown { OnOk result (Grows draft.old draft.new) }
+    ensures bits { IfOk result (λ bits. AreBits (length draft.new.nets) (spec.drives site) bits) }
+{
+    if tokens.left() == 0 || tokens.sees(TokenKind::OpenBrace) {
+        nested(site, draft, tokens)
+    } else {
+        lone_operand(site, draft, tokens)
+    }
 }

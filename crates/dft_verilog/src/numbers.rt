@@ -6,7 +6,7 @@ ghost use Rattle.dft_netlist.specs.Expressions as spec;
 ghost use Rattle.dft_netlist.specs.declared.instance.Signal.TheVariants as signal;
 ghost use Rattle.dft_verilog.specs.Digits.{below};
 
-use dft_netlist::Signal;
+use dft_netlist::{PinSignals, Signal};
 use std::alloc::AllocError;
 
 /// The value of a digit or a letter, as numbers of up to 36 count them; 36 for another byte.
@@ -67,9 +67,9 @@ pub fn value_of_digits(radix: u8, word: &[u8]) -> Option<u128>
 }
 
 /// Puts the bits of a value behind these, leftmost first: cut to the size, or extended with zeros.
-pub fn push_value(bits: &mut Vec<Signal>, size: u8, value: u128) -> Result<(), AllocError>
+pub fn push_value(bits: &mut PinSignals, size: u8, value: u128) -> Result<(), AllocError>
     requires { size ≤ 128 }
-    ensures { OnOk result (bits.new.items ≡ bits.old.items ++ map signal.Constant (spec.bits_of_value size value)) }
+    ensures { OnOk result (bits.new ≡ bits.old ++ map signal.Constant (spec.bits_of_value size value)) }
 {
     let mut left = size;
     while left > 0 {

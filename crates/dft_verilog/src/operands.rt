@@ -14,7 +14,7 @@ use crate::numbers::push_value;
 use crate::ranges::selection;
 use crate::read_error::ReadError;
 use crate::selecting::Spot;
-use dft_netlist::{Cause, Signal, Site, TokenKind};
+use dft_netlist::{Cause, PinSignals, Site, TokenKind};
 use std::alloc::Global;
 
 // Whether a token of this kind may follow an expression that stands here.
@@ -72,16 +72,16 @@ fn drives(site: Site) -> bool
 
 #[tactic(auto, unfolding(dft_netlist::specs::Expressions::named_operand))]
 // A name with what is selected of it. Its meaning needs the token behind it.
-fn named_operand(
+fn named_operand<'a>(
     site: Site,
     depth: usize,
-    draft: &mut ModuleDraft,
-    bits: &mut Vec<Signal>,
-    tokens: &mut Tokens<'_>,
+    draft: &mut ModuleDraft<'a>,
+    bits: &mut PinSignals,
+    tokens: &mut Tokens<'a>,
 ) -> Result<(), ReadError>
-    ensures read { Reads (λ _. (draft.new, bits.new.items)) (operand_behind bits.old.items (spec.named_operand site depth draft.old tokens.old)) result tokens.new }
+    ensures read { Reads (λ _. (draft.new, bits.new)) (operand_behind bits.old (spec.named_operand site depth draft.old tokens.old)) result tokens.new }
     ensures grown { OnOk result (Grows draft.old draft.new) }
-    ensures bits { AreBits (length draft.old.nets) (spec.drives site) bits.old.items → OnOk result (AreBits (length draft.new.nets) (spec.drives site) bits.new.items) }
+    ensures bits { AreBits (length draft.old.nets) (spec.drives site) bits.old → OnOk result (AreBits (length draft.new.nets) (spec.drives site) bits.new) }
 {
     let place = tokens.left();
     let word = tokens.name()?;
@@ -97,11 +97,11 @@ fn constant_operand(
     alloc: Global,
     site: Site,
     depth: usize,
-    bits: &mut Vec<Signal>,
+    bits: &mut PinSignals,
     tokens: &mut Tokens<'_>,
 ) -> Result<(), ReadError>
-    ensures read { (d : Draft) → Reads (λ _. (d, bits.new.items)) (operand_behind bits.old.items (spec.constant_operand site depth d tokens.old)) result tokens.new }
-    ensures bits { (d : Draft) → AreBits (length d.nets) (spec.drives site) bits.old.items → OnOk result (AreBits (length d.nets) (spec.drives site) bits.new.items) }
+    ensures read { (d : Draft) → Reads (λ _. (d, bits.new)) (operand_behind bits.old (spec.constant_operand site depth d tokens.old)) result tokens.new }
+    ensures bits { (d : Draft) → AreBits (length d.nets) (spec.drives site) bits.old → OnOk result (AreBits (length d.nets) (spec.drives site) bits.new) }
 {
     let place = tokens.left();
     let constant = constant(alloc, tokens)?;
@@ -115,16 +115,16 @@ fn constant_operand(
 
 #[tactic(auto, unfolding(dft_netlist::specs::Expressions::operand))]
 /// An operand, whose bits come behind these. What is wrong of its meaning is refused at its first token.
-pub fn operand(
+pub fn operand<'a>(
     site: Site,
     depth: usize,
-    draft: &mut ModuleDraft,
-    bits: &mut Vec<Signal>,
-    tokens: &mut Tokens<'_>,
+    draft: &mut ModuleDraft<'a>,
+    bits: &mut PinSignals,
+    tokens: &mut Tokens<'a>,
 ) -> Result<(), ReadError>
-    ensures read { Reads (λ _. (draft.new, bits.new.items)) (operand_behind bits.old.items (spec.operand site depth draft.old tokens.old)) result tokens.new }
+    ensures read { Reads (λ _. (draft.new, bits.new)) (operand_behind bits.old (spec.operand site depth draft.old tokens.old)) result tokens.new }
     ensures grown { OnOk result (Grows draft.old draft.new) }
-    ensures bits { AreBits (length draft.old.nets) (spec.drives site) bits.old.items → OnOk result (AreBits (length draft.new.nets) (spec.drives site) bits.new.items) }
+    ensures bits { AreBits (length draft.old.nets) (spec.drives site) bits.old → OnOk result (AreBits (length draft.new.nets) (spec.drives site) bits.new) }
 {
     if tokens.sees(TokenKind::Number) {
         constant_operand(draft.alloc(), site, depth, bits, tokens)

@@ -26,7 +26,7 @@ use std::alloc::Global;
 
 #[tactic(auto, unfolding(dft_netlist::specs::NetlistText::module_end))]
 // `endmodule`, where the ports must have been declared.
-fn module_end(draft: &ModuleDraft, tokens: &mut Tokens<'_>) -> Result<(), ReadError>
+fn module_end(draft: &ModuleDraft<'_>, tokens: &mut Tokens<'_>) -> Result<(), ReadError>
     ensures { Reads (λ _. draft.now) (spec.module_end draft.now tokens.old) result tokens.new }
 {
     let place = tokens.left();
@@ -39,7 +39,7 @@ fn module_end(draft: &ModuleDraft, tokens: &mut Tokens<'_>) -> Result<(), ReadEr
 
 #[tactic(auto, unfolding(dft_netlist::specs::NetlistText::end_of_text))]
 // No token comes behind the module; a second module is not taken.
-fn end_of_text(draft: &ModuleDraft, tokens: &Tokens<'_>) -> Result<(), ReadError>
+fn end_of_text(draft: &ModuleDraft<'_>, tokens: &Tokens<'_>) -> Result<(), ReadError>
     ensures { Reads (λ _. draft.now) (spec.end_of_text draft.now tokens.now) result tokens.now }
 {
     if tokens.sees(TokenKind::End) {
@@ -53,11 +53,11 @@ fn end_of_text(draft: &ModuleDraft, tokens: &Tokens<'_>) -> Result<(), ReadError
 
 #[tactic(auto, unfolding(dft_netlist::specs::NetlistText::module_text))]
 // The whole text: a heading, items, and the end.
-fn module_text(
+fn module_text<'a>(
     alloc: Global,
     library: Library,
-    tokens: &mut Tokens<'_>,
-) -> Result<ModuleDraft, ReadError>
+    tokens: &mut Tokens<'a>,
+) -> Result<ModuleDraft<'a>, ReadError>
     ensures { Reads (λ draft. draft) (spec.module_text library tokens.old) result tokens.new }
 {
     let cells = library.copy(alloc)?;
@@ -70,11 +70,11 @@ fn module_text(
 
 #[tactic(auto, unfolding(dft_netlist::specs::NetlistText::module_of))]
 // What the module of a text says.
-pub(crate) fn module_of(
+pub(crate) fn module_of<'a>(
     alloc: Global,
-    bytes: &[u8],
+    bytes: &'a [u8],
     library: Library,
-) -> Result<ModuleDraft, ReadError>
+) -> Result<ModuleDraft<'a>, ReadError>
     requires { length bytes.now ≤ MAX_TEXT }
     ensures { Checks (λ draft. draft) (spec.module_of library bytes.now) result }
 {

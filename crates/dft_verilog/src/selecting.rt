@@ -12,7 +12,7 @@ use crate::faults::{refused, taken, undeclared};
 use crate::module_draft::ModuleDraft;
 use crate::read_error::ReadError;
 use dft_base::Range;
-use dft_netlist::{Cause, MAX_NETS, Meaning, NetId, Select, Shape, Signal, Site};
+use dft_netlist::{Cause, MAX_NETS, Meaning, NetId, PinSignals, Select, Shape, Signal, Site};
 use std::alloc::AllocError;
 
 /// Nets with numbers one after the other.
@@ -98,9 +98,9 @@ fn selected(shape: Shape, what: Select) -> Option<Run>
 }
 
 /// Puts the signals of nets behind those before.
-fn push_run(bits: &mut Vec<Signal>, run: Run) -> Result<(), AllocError>
+fn push_run(bits: &mut PinSignals, run: Run) -> Result<(), AllocError>
     requires { run.first + run.count < 2 ^ 32 }
-    ensures { OnOk result (bits.new.items ≡ bits.old.items ++ signals_of run) }
+    ensures { OnOk result (bits.new ≡ bits.old ++ signals_of run) }
 {
     for place in 0..run.count {
         bits.push(Signal::Net(NetId(run.first + place)))?;
@@ -127,13 +127,13 @@ fn is_whole(what: Select) -> bool
 
 /// Puts what is selected of a name's nets behind the bits before. Refused where the selection does not fit.
 fn push_selected(
-    bits: &mut Vec<Signal>,
+    bits: &mut PinSignals,
     place: usize,
     shape: Shape,
     what: Select,
 ) -> Result<(), ReadError>
     requires { shape.first.0 ≤ MAX_NETS }
-    ensures { Checks (λ _. bits.new.items) (and_selected bits.old.items place (spec.selected shape what)) result }
+    ensures { Checks (λ _. bits.new) (and_selected bits.old place (spec.selected shape what)) result }
 {
     match selected(shape, what) {
         Some(run) => {
@@ -159,12 +159,17 @@ fn is_implied(spot: Spot, what: Select) -> bool
     implies(spot.site, spot.depth) && is_whole(what)
 }
 
-impl ModuleDraft {
+impl<'a> ModuleDraft<'a> {
     /// A name that is free is a net from here on.
-    fn imply(&mut self, place: usize, word: &[u8], bits: &mut Vec<Signal>) -> Result<(), ReadError>
+    fn imply(
+        &mut self,
+        place: usize,
+        word: &'a [u8],
+        bits: &mut PinSignals,
+    ) -> Result<(), ReadError>
         requires name { IsName word.now }
         requires free { meaning_of self.old word.now ≡ None }
-        ensures { (what : Select) → Checks (λ _. (self.new, bits.new.items)) (behind bits.old.items (spec.implied_net (record { word = word.now; what = what; place = place }) self.old (declare_nets place word.now None self.old))) result }
+        ensures { (what : Select) → Checks (λ _. (self.new, bits.new)) (behind bits.old (spec.implied_net (record { word = word.now; what = what; place = place }) self.old (declare_nets place word.now None self.old))) result }
     {
         let net = self.next_shape(None).first;
         self.declare_free(place, word, None)?;
@@ -179,10 +184,10 @@ impl ModuleDraft {
         word: &[u8],
         what: Select,
         port: usize,
-        bits: &mut Vec<Signal>,
+        bits: &mut PinSignals,
     ) -> Result<(), ReadError>
         requires { IsName word.now }
-        ensures { Checks (λ _. (self.now, bits.new.items)) (behind bits.old.items (spec.bits_of_port (record { word = word.now; what = what; place = place }) self.now (declared_at self.now port))) result }
+        ensures { Checks (λ _. (self.now, bits.new)) (behind bits.old (spec.bits_of_port (record { word = word.now; what = what; place = place }) self.now (declared_at self.now port))) result }
     {
         match self.declared(port) {
             Some(declared) => push_selected(bits, place, declared.shape, what),
@@ -195,12 +200,12 @@ impl ModuleDraft {
     pub fn bits_of_name(
         &mut self,
         spot: Spot,
-        word: &[u8],
+        word: &'a [u8],
         what: Select,
-        bits: &mut Vec<Signal>,
+        bits: &mut PinSignals,
     ) -> Result<(), ReadError>
         requires { IsName word.now }
-        ensures { Checks (λ _. (self.new, bits.new.items)) (behind bits.old.items (spec.bits_of_name spot.site spot.depth (record { word = word.now; what = what; place = spot.place }) self.old)) result }
+        ensures { Checks (λ _. (self.new, bits.new)) (behind bits.old (spec.bits_of_name spot.site spot.depth (record { word = word.now; what = what; place = spot.place }) self.old)) result }
     {
         let implied = is_implied(spot, what);
         match self.meaning(word) {

@@ -3,20 +3,21 @@ ghost use Rattle.dft_verilog.specs.Drafts.{AreNamesWithin};
 ghost use Rattle.dft_verilog.specs.Free.{AreFree, and_bits};
 ghost use Rattle.dft_verilog.specs.TakenNames.{meaning_in};
 
-use dft_base::Name;
+use crate::word::Word;
 use dft_netlist::Meaning;
 use indexmap::IndexMap;
 use std::alloc::{AllocError, Global};
+use std::borrow::CowSlice;
 use std::marker::Model;
 
 /// The names of a module that are taken, and what each stands for. A clause sees them in the order in which they were
 /// taken.
 #[derive(Debug, Drop)]
-pub struct TakenNames {
-    meanings: IndexMap<Vec<u8>, Meaning>,
+pub struct TakenNames<'a> {
+    meanings: IndexMap<CowSlice<'a, u8>, Meaning>,
 }
 
-impl Model for TakenNames {
+impl<'a> Model for TakenNames<'a> {
     ghost use Rattle.std.specs.Prelude.{List};
     ghost use Rattle.dft_netlist.specs.Modules.{Entry};
 
@@ -27,9 +28,9 @@ impl Model for TakenNames {
     ghost view = { names_of };
 }
 
-impl TakenNames {
+impl<'a> TakenNames<'a> {
     /// No name is taken.
-    pub fn new(alloc: Global) -> TakenNames
+    pub fn new(alloc: Global) -> TakenNames<'a>
         ensures { result ≡ [] }
     {
         TakenNames {
@@ -45,23 +46,23 @@ impl TakenNames {
     }
 
     /// Takes a name that is free.
-    pub fn take(&mut self, word: Vec<u8>, meaning: Meaning) -> Result<(), AllocError>
-        requires { meaning_in self.old word.items ≡ None }
-        ensures ok { OnOk result (self.new ≡ self.old ++ record { name = word.items; meaning = meaning } ∷ []) }
+    pub fn take(&mut self, word: Word<'a>, meaning: Meaning) -> Result<(), AllocError>
+        requires { meaning_in self.old word ≡ None }
+        ensures ok { OnOk result (self.new ≡ self.old ++ record { name = word.entry; meaning = meaning } ∷ []) }
         ensures err { OnErr result (self.new ≡ self.old) }
     {
-        self.meanings.insert(word, meaning)?;
+        self.meanings.insert(word.into_bytes(), meaning)?;
         Ok(())
     }
 
     /// Takes the names of bits, which are free.
-    pub fn take_bits(&mut self, alloc: Global, bits: &[Name]) -> Result<(), AllocError>
+    pub fn take_bits(&mut self, alloc: Global, bits: &[Word<'a>]) -> Result<(), AllocError>
         requires { AreFree self.old bits.now }
         ensures ok { OnOk result (self.new ≡ and_bits self.old bits.now) }
         ensures within { (count : ℕ) → AreNamesWithin count self.old → AreNamesWithin count self.new }
     {
         for bit in bits {
-            let word = Vec::from_slice(alloc, bit.as_slice())?;
+            let word = Word::made(Vec::from_slice(alloc, bit.as_slice())?);
             self.take(word, Meaning::Bit)?;
         }
         Ok(())

@@ -13,6 +13,7 @@ use dft_netlist::TokenKind;
 impl<'a> Tokens<'a> {
     #[tactic(auto, unfolding(dft_netlist::specs::Steps::expect, dft_netlist::specs::Steps::sees, dft_netlist::specs::Steps::same_kind))]
     /// Takes a name, which must come next; else the next token is refused.
+    #[inline(always)]
     pub fn name(&mut self) -> Result<&'a [u8], ReadError>
         ensures read { Reads (λ bytes. bytes.now) (spec.expect kinds.Name self.old) result self.new }
         ensures name { IfOk result (λ bytes. IsName bytes.now) }

@@ -11,6 +11,7 @@ use dft_netlist::TokenKind;
 
 #[tactic(auto, using(crate::proofs::WordKindLemmas::free_words))]
 /// The kind of a word: a keyword, another reserved word, or a name.
+#[inline(always)]
 pub fn word_kind(word: &[u8]) -> TokenKind
     ensures { result ≡ spec.word_kind word.now }
 {
@@ -23,6 +24,7 @@ pub fn word_kind(word: &[u8]) -> TokenKind
 
 #[tactic(auto, unfolding(dft_netlist::specs::Lexemes::word_kind))]
 // The kind of a word that is reserved.
+#[inline(never)]
 fn reserved_kind(word: &[u8]) -> TokenKind
     requires { IsTrue (words.is_reserved word.now) }
     ensures { result ≡ spec.word_kind word.now }
@@ -64,6 +66,7 @@ fn reserved_kind(word: &[u8]) -> TokenKind
 
 #[tactic(auto, unfolding(dft_netlist::specs::Lexemes::mark_kind))]
 /// The kind of a byte that stands for itself.
+#[inline(always)]
 pub fn mark_kind(byte: u8) -> TokenKind
     ensures value { result ≡ spec.mark_kind byte }
     ensures name { carries_name result ≡ false }

@@ -1,21 +1,52 @@
 -- One flip-flop more has its value.
-use Rattle.std.proofs.Common.{ℕ, ◌<◌, ◌∙◌, ap, length, map, get_or, arith}
+use Rattle.std.proofs.Common.{ℕ, List, ◌≡◌, ◌<◌, ◌∙◌, refl, ap, length, map, get_or, arith}
+use Rattle.std.proofs.lemmas.List.{get_or_read}
 use Rattle.dft_base.specs.declared.tri.Tri.{Tri}
-use Rattle.dft_base.specs.declared.tri.Tri.TheVariants.{Zero}
 use Rattle.dft_netlist.specs.Logic.{Cell}
+use Rattle.dft_cycle.specs.declared.circuit.FlipFlop.{FlipFlop}
 use Rattle.dft_cycle.specs.Machine.{value_at}
 use Rattle.dft_cycle.specs.Circuit.{cell_of, cell_at}
-use Rattle.dft_cycle.specs.Views.{next_by}
-use Rattle.dft_cycle.proofs.Writings.{write_read, cell_read}
+use Rattle.dft_cycle.specs.Views.{next_at, next_by}
+use Rattle.dft_cycle.specs.Tables.{list_at}
+use Rattle.dft_cycle.proofs.Writings.{cell_read}
+use Rattle.dft_cycle.proofs.Sweepings.{has_item}
+use Rattle.dft_cycle.proofs.DomainLemmas.{listed_more, cell_listed, next_listed}
 use Rattle.dft_cycle.proofs.flops.take_next.Goals as goal
 
-pub loop-place-preserved : goal.loop-place-preserved
-loop-place-preserved c =
-    let flops = c.args.flops.now in
-    let next = c.loop-place.next in
-    let place : ℕ = c.loop-place.place in
-    let less : place < length flops = c.loop-place-test.true in
-    let here : place < length next = omega (arith, c.requires) in
-    let given : Cell → Tri = λ cell. next_by cell c.args.domain.0 (value_at c.args.ports.now) (value_at c.args.values.now) (get_or next place Zero) in
-    write_read c.args.next.now next (λ k old. next_by (cell_at (map cell_of flops) k) c.args.domain.0 (value_at c.args.ports.now) (value_at c.args.values.now) old) place c.next_value.result
-    here c.loop-place.invariant (c.next_value.ensures ∙ ap given (cell_read flops place _ less))
+pub index-requires : goal.index-requires
+index-requires c =
+    let x = c.args.circuit.now in
+    let xs = c.list_of-cell-items.result.now in
+    let named : xs ≡ list_at x.cells.items c.args.domain.0 = c.list_of-cell-items.ensures ∙ ap (λ (t : List (List ℕ)). list_at t c.args.domain.0) c.deref.ensures.value in
+    let own = cell_listed x c.args.domain.0 (get_or xs c.loop-cell.cell-index 0) xs c.requires.circuit named (has_item xs c.loop-cell.cell-index 0 c.loop-cell-test.true) in
+    let less = own.0 in
+    let e = x.flops.ok.0 in
+    omega arith
+
+pub bounds-next-place : goal.bounds-next-place
+bounds-next-place c =
+    let x = c.args.circuit.now in
+    let xs = c.list_of-cell-items.result.now in
+    let named : xs ≡ list_at x.cells.items c.args.domain.0 = c.list_of-cell-items.ensures ∙ ap (λ (t : List (List ℕ)). list_at t c.args.domain.0) c.deref.ensures.value in
+    let own = cell_listed x c.args.domain.0 (get_or xs c.loop-cell.cell-index 0) xs c.requires.circuit named (has_item xs c.loop-cell.cell-index 0 c.loop-cell-test.true) in
+    let less = own.0 in
+    let e = c.loop-cell.auto.next ∙ c.requires.next in
+    omega arith
+
+pub loop-cell-preserved : goal.loop-cell-preserved
+loop-cell-preserved c =
+    let x = c.args.circuit.now in
+    let xs = c.list_of-cell-items.result.now in
+    let place : ℕ = get_or xs c.loop-cell.cell-index 0 in
+    let d : ℕ = c.args.domain.0 in
+    let ports : ℕ → Tri = value_at c.args.ports.now in
+    let values : ℕ → Tri = value_at c.args.values.now in
+    let named : xs ≡ list_at x.cells.items d = c.list_of-cell-items.ensures ∙ ap (λ (t : List (List ℕ)). list_at t d) c.deref.ensures.value in
+    let own = cell_listed x d place xs c.requires.circuit named (has_item xs c.loop-cell.cell-index 0 c.loop-cell-test.true) in
+    let less : place < length x.flops.items = own.0 in
+    let live : place < length c.loop-cell.next = (let e = c.loop-cell.auto.next ∙ c.requires.next in omega arith) in
+    let cell : Cell = cell_at (map cell_of x.flops.items) place in
+    let value : c.next.result ≡ next_at cell ports values = c.next.ensures ∙ ap (λ (f : FlipFlop). next_at (cell_of f) ports values) (get_or_read x.flops.items place c.index.result.now less c.index.ensures c.index.result.now)
+    ∙ ap (λ (k : Cell). next_at k ports values) (cell_read x.flops.items place c.index.result.now less) in
+    listed_more (length x.flops.items) c.args.next.now c.loop-cell.next (λ k old. next_by (cell_at (map cell_of x.flops.items) k) d ports values old) xs c.loop-cell.cell-index place 0 c.next.result refl c.loop-cell-test.true live
+    c.loop-cell.invariant (next_listed cell d ports values c.next.result (value_at c.args.next.now place) own.1 value)

@@ -1,12 +1,16 @@
 -- The map is above the old values and below all closed maps.
-use Rattle.std.proofs.Common.{count_by}
-use Rattle.dft_cycle.specs.Circuit.{logic_at, pulse_at}
+use Rattle.std.proofs.Common.{ℕ, ◌≡◌, false, count_by}
+use Rattle.dft_cycle.specs.Circuit.{IsReady, flag_at, logic_at, pulse_at}
 use Rattle.dft_cycle.specs.Views.{is_known}
 use Rattle.dft_cycle.proofs.Risings.{Reached}
 use Rattle.dft_cycle.proofs.rounds.find_least.Given as goal
 
 abbrev pub invariant-loop : goal.invariant-loop
-invariant-loop l = Reached (logic_at l.circuit) (pulse_at l.pulse) l.poss
+invariant-loop l = record {
+  reached : Reached (logic_at l.circuit) (pulse_at l.pulse) l.poss;
+  ready : IsReady l.circuit l.values;
+  clear : (k : ℕ) → flag_at l.marked k ≡ false;
+}
 
 abbrev pub decreases-loop : goal.decreases-loop
 decreases-loop l = count_by is_known l.poss

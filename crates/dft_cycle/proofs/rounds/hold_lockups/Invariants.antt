@@ -1,11 +1,15 @@
 -- So many levels of lock-ups are held.
-use Rattle.std.proofs.Common.{ℕ}
+use Rattle.std.proofs.Common.{ℕ, ◌≡◌, false}
 use Rattle.dft_base.specs.declared.tri.Tri.{Tri}
 use Rattle.dft_cycle.specs.Cycle.{AreViews}
 use Rattle.dft_cycle.specs.Machine.{value_at}
-use Rattle.dft_cycle.specs.Circuit.{logic_at, pulse_at}
+use Rattle.dft_cycle.specs.Circuit.{IsReady, flag_at, logic_at, pulse_at}
 use Rattle.dft_cycle.specs.Views.{IsHeld}
 use Rattle.dft_cycle.proofs.rounds.hold_lockups.Given as goal
 
 abbrev pub invariant-loop-level : goal.invariant-loop-level
-invariant-loop-level l = (view : ℕ → ℕ → Tri) → AreViews (logic_at l.circuit) (pulse_at l.pulse) (value_at l.poss) view → IsHeld l.circuit view l.held l._level
+invariant-loop-level l = record {
+  held : (view : ℕ → ℕ → Tri) → AreViews (logic_at l.circuit) (pulse_at l.pulse) (value_at l.poss) view → IsHeld l.circuit view l.held l._level;
+  ready : IsReady l.circuit l.values;
+  clear : (k : ℕ) → flag_at l.marked k ≡ false;
+}

@@ -1,23 +1,38 @@
 -- The flip-flops of one domain more have their next values.
-use Rattle.std.proofs.Common.{ℕ, ◌∙◌, refl, sym, get_or}
+use Rattle.std.proofs.Common.{ℕ, ◌<◌, ◌∙◌, length, refl, sym, get_or}
+use Rattle.std.proofs.lemmas.Option.{slice_get-get_or}
 use Rattle.dft_netlist.specs.declared.ids.NetId.{NetId}
 use Rattle.dft_cycle.specs.Circuit.{logic_at, pulse_at}
 use Rattle.dft_cycle.specs.Machine.{value_at}
+use Rattle.dft_cycle.proofs.DomainLemmas.{ready_in}
 use Rattle.dft_cycle.proofs.NextLemmas.{next_more, next_kept}
 use Rattle.dft_cycle.proofs.rounds.next_values.Goals as goal
 use Rattle.dft_cycle.proofs.rounds.next_values.Goals.{then-flag_at, else-flag_at}
 
 pub loop-clock-preserved : goal.loop-clock-preserved
 unfolding logic_at
-loop-clock-preserved c = λ view views right.
-    (let x = c.args.circuit.now in
+loop-clock-preserved c =
+    let x = c.args.circuit.now in
     let p = pulse_at c.args.pulse in
     let clocks = c.args.clocks.now in
     let j : ℕ = c.loop-clock.clock-index in
     let clock : NetId = get_or clocks j (record { 0 = 0 }) in
-    let before = c.loop-clock.invariant view views right in
+    let live : clock.0 < length x.ops.items = c.requires.live j clock (slice_get-get_or clocks j (record { 0 = 0 }) c.loop-clock-test.true) in
     elim c.if-flag_at.branch [
-      | then-flag_at w ↦ rw w.next-is (next_more x p (value_at c.args.poss.now) view clocks c.args.held.now c.loop-clock.next w.take_next.new.next w.settle.new.values j clock.0 _ c.requires.circuit views
-          (record { ports = λ k. refl; clocks = λ e. refl; flops = λ k. refl; lockups = λ k e source. refl }) w.settle.ensures right (rw w.deref.ensures.value at w.take_next.ensures) refl before)
-      | else-flag_at w ↦ rw w.next-is (next_kept x p view clocks c.loop-clock.next j clock.0 refl (sym c.flag_at.ensures ∙ w.if-flag_at.false) before)
-    ])
+      | then-flag_at w ↦ record {
+        next = λ view views right. rw w.next-is (next_more x p (value_at c.args.poss.now) view clocks c.args.held.now c.loop-clock.next w.take_next.new.next w.enter.new.values j clock.0 _ c.requires.circuit views
+            (record { ports = λ k. refl; clocks = λ e. refl; flops = λ k. refl; lockups = λ k e source. refl }) w.enter.ensures.given right w.take_next.ensures refl (c.loop-clock.invariant.next view views right));
+        given = rw (w.values-is, w.last-is) w.enter.ensures.given;
+        clear = rw w.marked-is w.enter.ensures.clear;
+        live = λ some. rw w.last-is live;
+      }
+      | else-flag_at w ↦ record {
+        next = λ view views right. rw w.next-is (next_kept x p view clocks c.loop-clock.next j clock.0 refl (sym c.flag_at.ensures ∙ w.if-flag_at.false) (c.loop-clock.invariant.next view views right));
+        given = rw (w.values-is, w.last-is) c.loop-clock.invariant.given;
+        clear = rw w.marked-is c.loop-clock.invariant.clear;
+        live = rw w.last-is c.loop-clock.invariant.live;
+      }
+    ]
+
+pub returns-clause-ready : goal.returns-clause-ready
+returns-clause-ready c = ready_in c.args.circuit.now (pulse_at c.args.pulse) c.args.poss.now c.args.held.now c.loop-clock.values c.loop-clock.last.0 c.loop-clock.invariant.given

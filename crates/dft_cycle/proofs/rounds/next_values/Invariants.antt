@@ -1,13 +1,17 @@
--- The flip-flops of the domains so far have their next values.
-use Rattle.std.proofs.Common.{ℕ, length}
+-- The flip-flops of the domains so far have their next values, and all nets are settled in the view of the last.
+use Rattle.std.proofs.Common.{ℕ, ◌≡◌, ◌<◌, false, length}
 use Rattle.dft_base.specs.declared.tri.Tri.{Tri}
 use Rattle.dft_cycle.specs.Cycle.{AreViews}
 use Rattle.dft_cycle.specs.Machine.{value_at}
-use Rattle.dft_cycle.specs.Circuit.{logic_at, pulse_at}
+use Rattle.dft_cycle.specs.Circuit.{GivenIn, logic_at, pulse_at, flag_at}
 use Rattle.dft_cycle.specs.Views.{IsHeld, HasNext}
 use Rattle.dft_cycle.proofs.rounds.next_values.Given as goal
 
 abbrev pub invariant-loop-clock : goal.invariant-loop-clock
-invariant-loop-clock l =
-    (view : ℕ → ℕ → Tri) → AreViews (logic_at l.circuit) (pulse_at l.pulse) (value_at l.poss) view → IsHeld l.circuit view l.held (length l.circuit.ops.items) →
-    HasNext l.circuit (pulse_at l.pulse) view l.clocks l.clock-index l.next
+invariant-loop-clock l = record {
+  next : (view : ℕ → ℕ → Tri) → AreViews (logic_at l.circuit) (pulse_at l.pulse) (value_at l.poss) view → IsHeld l.circuit view l.held (length l.circuit.ops.items) →
+      HasNext l.circuit (pulse_at l.pulse) view l.clocks l.clock-index l.next;
+  given : (k : ℕ) → GivenIn l.circuit (pulse_at l.pulse) l.poss l.held l.last.0 l.values k;
+  clear : (k : ℕ) → flag_at l.marked k ≡ false;
+  live : 0 < length l.circuit.ops.items → l.last.0 < length l.circuit.ops.items;
+}

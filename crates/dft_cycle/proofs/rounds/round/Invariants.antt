@@ -1,7 +1,9 @@
--- The lock-ups of the domains so far are held higher.
-use Rattle.std.proofs.Common.{◌≡◌, false}
+-- The lock-ups of the domains so far are held higher, and all nets but leaves of the last are settled in its view.
+use Rattle.std.proofs.Common.{ℕ, ◌≡◌, ◌<◌, ◌⊎◌, false, length}
+use Rattle.dft_netlist.specs.Orders.{Has}
 use Rattle.dft_cycle.specs.Machine.{value_at}
-use Rattle.dft_cycle.specs.Circuit.{pulse_at}
+use Rattle.dft_cycle.specs.Circuit.{GivenIn, IsReady, pulse_at, flag_at}
+use Rattle.dft_cycle.specs.Tables.{list_at}
 use Rattle.dft_cycle.proofs.RoundLemmas.{Rises}
 use Rattle.dft_cycle.proofs.rounds.round.Given as goal
 
@@ -9,4 +11,8 @@ abbrev pub invariant-loop-clock : goal.invariant-loop-clock
 invariant-loop-clock l = record {
   rises : Rises l.circuit (pulse_at l.pulse) (value_at l.poss) l.clocks l.initial.held l.held l.clock-index;
   same : l.changed ≡ false → l.held ≡ l.initial.held;
+  near : (k : ℕ) → Has (list_at l.circuit.leaves.items l.last.0) k ⊎ GivenIn l.circuit (pulse_at l.pulse) l.poss l.held l.last.0 l.values k;
+  ready : IsReady l.circuit l.values;
+  clear : (k : ℕ) → flag_at l.marked k ≡ false;
+  live : 0 < length l.circuit.ops.items → l.last.0 < length l.circuit.ops.items;
 }

@@ -17,7 +17,7 @@ pub returns-clause-below : goal.returns-clause-below
 unfolding logic_at
 returns-clause-below c =
     turn_below c.args.circuit.now (pulse_at c.args.pulse) c.args.clocks.now c.next_values.new.next c.args.poss.now c.raise-changed.new.poss c.requires.circuit c.requires.poss c.raise-changed.auto.poss
-    (rw c.deref.ensures.value at c.raise-changed.ensures.each) c.requires.pulsing (λ view views. c.next_values.ensures view views (c.hold_lockups.ensures view views))
+    (rw c.deref.ensures.value at c.raise-changed.ensures.each) c.requires.pulsing (λ view views. c.next_values.ensures.next view views (c.hold_lockups.ensures.held view views))
 
 pub returns-clause-done : goal.returns-clause-done
 unfolding logic_at
@@ -27,7 +27,7 @@ returns-clause-done c = λ off view views. elim (c.goes_on.ensures.off off) [
       let P : List Tri → Type 0 = λ l. AreViews (logic_at c.args.circuit.now) (pulse_at c.args.pulse) (value_at l) view in
       let before = subst P kept views in
       turn_done c.args.circuit.now (pulse_at c.args.pulse) c.args.clocks.now c.next_values.new.next c.args.poss.now c.raise-changed.new.poss view c.requires.poss (c.next_values.auto.next ∙ c.requires.next)
-      (rw c.deref.ensures.value at c.raise-changed.ensures.each) c.requires.pulsing kept (c.next_values.ensures view before (c.hold_lockups.ensures view before)))
+      (rw c.deref.ensures.value at c.raise-changed.ensures.each) c.requires.pulsing kept (c.next_values.ensures.next view before (c.hold_lockups.ensures.held view before)))
   | inr alone ↦ turn_alone c.args.circuit.now (pulse_at c.args.pulse) c.args.clocks.now c.next_values.new.next c.args.poss.now c.raise-changed.new.poss view c.requires.circuit c.requires.poss c.raise-changed.auto.poss (c.next_values.auto.next ∙ c.requires.next)
-      (rw c.deref.ensures.value at c.raise-changed.ensures.each) c.requires.pulsing (c.requires.alone alone) (λ w before. c.next_values.ensures w before (c.hold_lockups.ensures w before)) views
+      (rw c.deref.ensures.value at c.raise-changed.ensures.each) c.requires.pulsing (c.requires.alone alone) (λ w before. c.next_values.ensures.next w before (c.hold_lockups.ensures.held w before)) views
 ]

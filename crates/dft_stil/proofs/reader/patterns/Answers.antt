@@ -1,30 +1,8 @@
-use Rattle.std.proofs.Common.{◌≡◌, List, Err, true≢false, subst, subst₂, sym, ap, ◌∙◌}
-use Rattle.dft_stil.specs.declared.act.Act.{Act}
-use Rattle.dft_stil.specs.declared.signal.StilSignal.{StilSignal}
-use Rattle.dft_stil.specs.Patterns.{IsPatterns}
-use Rattle.dft_stil.specs.Written.{written}
-use Rattle.dft_stil.specs.Heads.{HasNoHead, IsHead}
-use Rattle.dft_stil.proofs.ReadLemmas.{no_head, no_vectors, no_end, patterns_read}
-use Rattle.dft_stil.proofs.Refusals.{same_error}
+use Rattle.dft_stil.proofs.ReaderLemmas.{lengths_read, few_read}
 use Rattle.dft_stil.proofs.reader.patterns.Goals as goal
 
-pub returns-in_err-signals-clause-err : goal.returns-in_err-signals-clause-err
-returns-in_err-signals-clause-err c = λ e.
-    no_head c.args.bytes.now (subst HasNoHead c.new-text.ensures (c.in_err-signals.ensures.err (ap Err (same_error _ _ c.from_residual.ensures.1 e))))
+pub returns-clause-lengths : goal.returns-clause-lengths
+returns-clause-lengths c = lengths_read _ _ _ _ c.pattern_text.result c.new.ensures c.pattern_text.ensures
 
-pub returns-in_err-vectors-clause-err : goal.returns-in_err-vectors-clause-err
-returns-in_err-vectors-clause-err c = λ e.
-    no_vectors c.args.bytes.now _ _ _ (subst (IsHead _ _) c.new-text.ensures c.in_ok-signals.ensures.ok) c.deref.ensures.value
-    (c.in_err-vectors.ensures.err (ap Err (same_error _ _ c.from_residual-in_err-vectors.ensures.1 e)))
-
-pub returns-then-not-is-clause-err : goal.returns-then-not-is-clause-err
-returns-then-not-is-clause-err c = λ e.
-    no_end c.args.bytes.now _ _ _ _ _ (subst (IsHead _ _) c.new-text.ensures c.in_ok-signals.ensures.ok) c.deref.ensures.value
-    c.in_ok-vectors.ensures.lines c.in_ok-vectors.ensures.all (λ g. true≢false (sym (c.is.ensures.1 g) ∙ c.if-not-is.true))
-
-pub returns-clause-ok : goal.returns-clause-ok
-returns-clause-ok c =
-    subst₂ (λ (s : List StilSignal) (v : List (List Act)). IsPatterns (record { signals = s; vectors = v }) × (written (record { signals = s; vectors = v }) ≡ c.args.bytes.now))
-    (sym c.new.ensures.signals) (sym c.new.ensures.vectors)
-    (patterns_read c.args.bytes.now _ _ _ _ _ (subst (IsHead _ _) c.new-text.ensures c.in_ok-signals.ensures.ok) c.deref.ensures.value
-    c.in_ok-vectors.ensures.lines (c.is.ensures.0 c.if-not-is.false))
+pub returns-clause-few : goal.returns-clause-few
+returns-clause-few c = few_read _ _ _ _ c.pattern_text.result c.new.ensures c.pattern_text.ensures

@@ -1,6 +1,7 @@
-use Rattle.std.proofs.Common.{◌≡◌, ◌++◌, flat_map, drop}
+use Rattle.std.proofs.Common.{◌++◌}
 use Rattle.dft_stil.specs.Written as form
+use Rattle.dft_stil.proofs.NoteLemmas.{Written}
 use Rattle.dft_stil.proofs.writer.add_vectors.Given as goal
 
-abbrev pub invariant-loop-acts : goal.invariant-loop-acts
-invariant-loop-acts l = l.out.items ++ flat_map (form.vector_line l.count) (drop l.acts-index l.vectors) ≡ l.fn.out.items ++ flat_map (form.vector_line l.count) l.vectors
+abbrev pub invariant-loop-place : goal.invariant-loop-place
+invariant-loop-place l = Written l.count l.vectors (l.fn.out.items ++ form.noted_lines l.count 0 l.vectors l.notes) l.out.items l.ahead l.place

@@ -12,23 +12,23 @@ turns-init c = first_of (search rules, grind (arith, common_steps))
 pub returns-in_err-connection-clause-read : goal.returns-in_err-connection-clause-read
 unfolding connections_from
 returns-in_err-connection-clause-read c =
-    let e = one_more (λ n. connections_from n c.args.cell.now (c.turns.draft, c.turns.joined.items) c.turns.tokens) _ c.turns._turn c.turns-test.true c.turns.invariant.same in
+    let e = one_more (λ n. connections_from n c.args.cell.now (c.turns.draft, c.turns.joined) c.turns.tokens) _ c.turns._turn c.turns-test.true c.turns.invariant.same in
     first_of (search rules, grind (arith, common_steps))
 
 pub returns-then-not-eat-clause-read : goal.returns-then-not-eat-clause-read
 unfolding connections_from
 returns-then-not-eat-clause-read c =
-    let e = one_more (λ n. connections_from n c.args.cell.now (c.turns.draft, c.turns.joined.items) c.turns.tokens) _ c.turns._turn c.turns-test.true c.turns.invariant.same in
+    let e = one_more (λ n. connections_from n c.args.cell.now (c.turns.draft, c.turns.joined) c.turns.tokens) _ c.turns._turn c.turns-test.true c.turns.invariant.same in
     first_of (search rules, grind (arith, common_steps))
 
 pub turns-preserved : goal.turns-preserved
 unfolding connections_from
 turns-preserved c =
-    let e = one_more (λ n. connections_from n c.args.cell.now (c.turns.draft, c.turns.joined.items) c.turns.tokens) _ c.turns._turn c.turns-test.true c.turns.invariant.same in
+    let e = one_more (λ n. connections_from n c.args.cell.now (c.turns.draft, c.turns.joined) c.turns.tokens) _ c.turns._turn c.turns-test.true c.turns.invariant.same in
     record { same = first_of (search rules, grind (arith, common_steps)); grown = grows_on _ _ _ c.turns.invariant.grown (first_of (search rules, grind (arith, common_steps))); fits = first_of (search rules, grind (arith, common_steps)) }
 
 pub returns-clause-read : goal.returns-clause-read
 unfolding connections_from
 returns-clause-read c =
-    let e = no_more (λ n. connections_from n c.args.cell.now (c.turns.draft, c.turns.joined.items) c.turns.tokens) _ c.turns._turn c.turns-test.false c.turns.invariant.same in
+    let e = no_more (λ n. connections_from n c.args.cell.now (c.turns.draft, c.turns.joined) c.turns.tokens) _ c.turns._turn c.turns-test.false c.turns.invariant.same in
     first_of (search rules, grind (arith, common_steps))

@@ -7,7 +7,7 @@ use Rattle.dft_verilog.proofs.connections.some_connections.Given as goal
 -- each turn reads one
 abbrev pub invariant-turns : goal.invariant-turns
 invariant-turns l = record {
-  same : spec.some_connections l.cell (l.fn.draft, l.fn.joined.items) l.fn.tokens ≡ spec.connections_from (l._turn-end - l._turn) l.cell (l.draft, l.joined.items) l.tokens;
+  same : spec.some_connections l.cell (l.fn.draft, l.fn.joined) l.fn.tokens ≡ spec.connections_from (l._turn-end - l._turn) l.cell (l.draft, l.joined) l.tokens;
   grown : Grows l.fn.draft l.draft;
-  fits : FitsCell (length l.draft.nets) l.cell l.joined.items;
+  fits : FitsCell (length l.draft.nets) l.cell l.joined;
 }

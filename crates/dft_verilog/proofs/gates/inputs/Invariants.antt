@@ -6,7 +6,7 @@ use Rattle.dft_verilog.proofs.gates.inputs.Given as goal
 -- each turn reads one
 abbrev pub invariant-turns : goal.invariant-turns
 invariant-turns l = record {
-  same : spec.inputs l.fn.draft l.fn.tokens ≡ spec.inputs_from (l._turn-end - l._turn) l.draft l.inputs.items l.tokens;
+  same : spec.inputs l.fn.draft l.fn.tokens ≡ spec.inputs_from (l._turn-end - l._turn) l.draft l.inputs l.tokens;
   grown : Grows l.fn.draft l.draft;
-  bits : AreBits (length l.draft.nets) false l.inputs.items;
+  bits : AreBits (length l.draft.nets) false l.inputs;
 }

@@ -6,6 +6,7 @@ use Rattle.dft_verilog.proofs.gates.terminals.Goals as goal
 
 pub add_instance-requires-clause-fits : goal.add_instance-requires-clause-fits
 add_instance-requires-clause-fits c =
-    gate_stands c.inputs.new.draft c.args.kind c.args.name c.in_ok-pins.pins.items c.in_ok-from_slice.field-0 c.len-count.result c.in_ok-output.output
+    rw c.new.ensures
+    (gate_stands c.inputs.new.draft c.args.kind c.args.name c.in_ok-pins.pins c.push.new.self c.input_count-count.result c.in_ok-output.output
     (first_of (search rules, grind (arith, common_steps))) (first_of (search rules, grind (arith, common_steps))) c.requires.primitive (first_of (search rules, grind (arith, common_steps)))
-    c.in_ok-pins.ensures.bits (bit_more _ _ true _ c.in_ok-pins.ensures.grown.nets c.in_ok-output.ensures.bit)
+    c.in_ok-pins.ensures.bits (bit_more _ _ true _ c.in_ok-pins.ensures.grown.nets c.in_ok-output.ensures.bit))

@@ -5,7 +5,7 @@ use Rattle.dft_verilog.proofs.numbers.push_value.Given as goal
 
 abbrev pub invariant-loop-left : goal.invariant-loop-left
 invariant-loop-left l = record {
-  same : l.bits.items ++ map signal.Constant (spec.bits_of_value l.left l.value) ≡ l.fn.bits.items ++ map signal.Constant (spec.bits_of_value l.size l.value);
+  same : l.bits ++ map signal.Constant (spec.bits_of_value l.left l.value) ≡ l.fn.bits ++ map signal.Constant (spec.bits_of_value l.size l.value);
   few : l.left ≤ l.size;
 }
 

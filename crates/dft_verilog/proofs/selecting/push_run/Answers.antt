@@ -5,5 +5,5 @@ use Rattle.dft_verilog.proofs.selecting.push_run.Goals as goal
 
 pub loop-place-preserved : goal.loop-place-preserved
 loop-place-preserved c =
-    c.in_ok-push.ensures.items ∙ ap (λ (xs : List Signal). xs ++ net_signal (c.args.run.first + c.loop-place.place) ∷ []) c.loop-place.invariant
-    ∙ nets_more c.args.bits.now.items c.args.run.first c.loop-place.place
+    c.in_ok-push.ensures.ok ∙ ap (λ (xs : List Signal). xs ++ net_signal (c.args.run.first + c.loop-place.place) ∷ []) c.loop-place.invariant
+    ∙ nets_more c.args.bits.now c.args.run.first c.loop-place.place

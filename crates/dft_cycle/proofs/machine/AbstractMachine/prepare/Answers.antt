@@ -1,16 +1,18 @@
 -- The machine's circuit is the design's.
-use Rattle.std.proofs.Common.{ℕ, Bool, ◌≡◌, ◌∙◌, Some, ap, sym, subst, length, slice_get, List, arith}
+use Rattle.std.proofs.Common.{ℕ, Bool, ◌≡◌, ◌∙◌, Some, refl, ap, sym, subst, length, slice_get, List, arith}
 use Rattle.std.proofs.lemmas.List.{length-replicate}
 use Rattle.std.specs.Vec.{with_items}
+use Rattle.dft_base.specs.declared.tri.Tri.{Tri}
 use Rattle.dft_netlist.specs.declared.ids.NetId.{NetId}
 use Rattle.dft_netlist.specs.Logic.{Ports, Logic, logic_of}
-use Rattle.dft_cycle.specs.Machine.{logic, is_one_of}
-use Rattle.dft_cycle.specs.Circuit.{flag_at}
-use Rattle.dft_cycle.proofs.MachineLemmas.{refilled, filled, one_among, same_ports}
+use Rattle.dft_cycle.specs.Machine.{logic, is_one_of, value_at}
+use Rattle.dft_cycle.specs.Circuit.{flag_at, logic_at}
+use Rattle.dft_cycle.proofs.MachineLemmas.{down_all, ready_kept, unknown_all, refilled, filled, one_among, same_ports}
+use Rattle.dft_cycle.proofs.DomainLemmas.{ready_view}
 use Rattle.dft_cycle.proofs.machine.AbstractMachine.prepare.Goals as goal
 
 pub invariant_of-result : goal.invariant_of-result
-unfolding logic
+unfolding logic logic_at
 invariant_of-result c =
     let n = c.args.design.now in
     let x = c.in_ok-circuit.circuit in
@@ -41,9 +43,21 @@ invariant_of-result c =
       pulsed = marks ∙ sym nets;
       inputs = ap length c.in_ok-inputs.ensures ∙ length-replicate _ _ ∙ count ∙ sym nets;
       shown = ap length c.in_ok-shown.ensures ∙ length-replicate _ _ ∙ count ∙ sym nets;
-      values = ap length c.in_ok-values.ensures ∙ length-replicate _ _ ∙ count ∙ sym nets;
+      values = refilled c.in_ok-values.values c.settle.new.values ∙ ap length c.in_ok-values.ensures ∙ length-replicate _ _ ∙ count ∙ sym nets;
       cells = ap length c.in_ok-bits.ensures ∙ length-replicate _ _ ∙ cells;
       poss = ap length c.in_ok-poss.ensures ∙ length-replicate _ _ ∙ cells;
       next = ap length c.in_ok-next.ensures ∙ length-replicate _ _ ∙ cells;
       held = ap length c.in_ok-held.ensures ∙ length-replicate _ _ ∙ cells;
+      marked = ap length c.in_ok-marked.ensures ∙ length-replicate _ _ ∙ count ∙ sym nets;
+      clear = λ k. ap (λ (l : List Bool). flag_at l k) c.in_ok-marked.ensures ∙ down_all _ k;
+      ready = ready_kept x c.in_ok-values.values c.settle.new.values c.deref_mut-2.result.now c.settle.auto.values c.deref_mut-2.ensures.value (ready_view x c.strobe_view.result c.settle.new.values c.settle.ensures);
     }
+
+pub returns : goal.returns
+returns c = record {
+  netlist = refl;
+  clocks = c.in_ok-clocks.ensures.items;
+  inputs = λ k. ap (λ (l : List Tri). value_at l k) c.in_ok-inputs.ensures ∙ unknown_all _ k;
+  cells = λ k. ap (λ (l : List Tri). value_at l k) c.in_ok-bits.ensures ∙ unknown_all _ k;
+  shown = λ k. ap (λ (l : List Tri). value_at l k) c.in_ok-shown.ensures ∙ unknown_all _ k;
+}

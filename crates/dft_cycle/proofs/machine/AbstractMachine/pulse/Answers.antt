@@ -8,7 +8,7 @@ use Rattle.dft_cycle.specs.Machine.{Machine, logic, value_at, pulses, IsPulsed}
 use Rattle.dft_cycle.specs.Circuit.{flag_at, logic_at}
 use Rattle.dft_cycle.specs.Views.{Among}
 use Rattle.dft_cycle.specs.MachineShown.{machine_of}
-use Rattle.dft_cycle.proofs.MachineLemmas.{refilled, filled, pulse_done, taken_read, pulses_among}
+use Rattle.dft_cycle.proofs.MachineLemmas.{refilled, filled, clear_kept, ready_kept, pulse_done, taken_read, pulses_among}
 use Rattle.dft_cycle.proofs.machine.AbstractMachine.pulse.Goals as goal
 
 pub find_least-requires-clause-pulsing : goal.find_least-requires-clause-pulsing
@@ -43,6 +43,9 @@ invariant_of-self c =
       poss = refilled poss c.find_least.new.poss ∙ refilled d.poss c.copy_from_slice.new.self ∙ i.poss;
       next = refilled d.next c.find_least.new.next ∙ i.next;
       held = refilled d.held c.find_least.new.held ∙ i.held;
+      marked = refilled d.marked c.find_least.new.marked ∙ i.marked;
+      clear = clear_kept d.marked c.find_least.new.marked c.deref_mut-5.result.now c.find_least.auto.marked c.deref_mut-5.ensures.value c.find_least.ensures.clear;
+      ready = ready_kept d.circuit d.values c.find_least.new.values c.deref_mut-4.result.now c.find_least.auto.values c.deref_mut-4.ensures.value c.find_least.ensures.ready;
     }
 
 pub returns : goal.returns
@@ -60,10 +63,10 @@ returns c =
     let marked : c.deref-4.result.now ≡ c.mark.new.flags = read ∙ filled d.pulsed c.mark.new.flags c.deref_mut.result.now c.mark.auto.flags flags in
     let ports : c.deref-3.result.now ≡ d.inputs.items = c.deref-3.ensures.value in
     let old : c.deref-5.result.now ≡ d.cells.items = c.deref-5.ensures.value in
-    let nexts : c.deref_mut-5.result.now ≡ d.next.items = c.deref_mut-5.ensures.value in
+    let nexts : c.deref_mut-6.result.now ≡ d.next.items = c.deref_mut-6.ensures.value in
     let next : c.deref-9.result.now ≡ (with_items d.next c.find_least.new.next).items = c.deref-9.ensures.value in
     let flops : c.deref-7.result.now ≡ d.circuit.flops.items = c.deref-7.ensures.value in
-    let before : c.deref_mut-6.result.now ≡ d.cells.items = c.deref_mut-6.ensures.value in
+    let before : c.deref_mut-7.result.now ≡ d.cells.items = c.deref_mut-7.ensures.value in
     let p : Pulse = record { ports = value_at c.deref-3.result.now; pulsed = flag_at c.deref-4.result.now; old = value_at c.deref-5.result.now } in
     subst P c.self.view_is
     (pulse_done (machine_of d) after d.circuit c.args.pulsed.now p c.find_least.new.poss c.find_least.new.next i.circuit i.compiled refl refl refl refl
@@ -71,6 +74,6 @@ returns c =
     (λ e. ap (λ (l : List Bool). flag_at l e) marked ∙ c.mark.ensures e ∙ ap (λ (l : List NetId). pulses l c.args.pulsed.now e) clocks)
     (λ k. ap (λ (l : List Tri). value_at l k) old)
     i.cells (refilled d.cells c.take.new.cells) (c.find_least.auto.next ∙ ap length nexts ∙ i.next) c.find_least.ensures.least c.find_least.ensures.next
-    (taken_read d.circuit.flops.items c.deref-7.result.now c.deref-4.result.now c.deref-8.result.now c.find_least.new.next c.deref-9.result.now d.cells.items c.deref_mut-6.result.now cells.items c.take.new.cells
-    flops (again ∙ sym read) (next ∙ filled d.next c.find_least.new.next c.deref_mut-5.result.now c.find_least.auto.next nexts) before
-    (filled d.cells c.take.new.cells c.deref_mut-6.result.now c.take.auto.cells before) c.take.ensures))
+    (taken_read d.circuit.flops.items c.deref-7.result.now c.deref-4.result.now c.deref-8.result.now c.find_least.new.next c.deref-9.result.now d.cells.items c.deref_mut-7.result.now cells.items c.take.new.cells
+    flops (again ∙ sym read) (next ∙ filled d.next c.find_least.new.next c.deref_mut-6.result.now c.find_least.auto.next nexts) before
+    (filled d.cells c.take.new.cells c.deref_mut-7.result.now c.take.auto.cells before) c.take.ensures))

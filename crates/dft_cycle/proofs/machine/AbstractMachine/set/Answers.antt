@@ -25,6 +25,9 @@ invariant_of-self c =
       poss = i.poss;
       next = i.next;
       held = i.held;
+      marked = i.marked;
+      clear = i.clear;
+      ready = i.ready;
     }
 
 pub returns : goal.returns
@@ -40,5 +43,5 @@ returns c =
     let live : c.args.net.0 < length d.inputs.items = omega (arith, named) in
     subst P c.self.view_is
     (set_done (machine_of d) after d.circuit c.args.net.0 c.args.value i.compiled refl refl refl refl live i.cells (refilled d.cells c.act.new.cells)
-    (acted_read d.circuit.flops.items c.deref.result.now d.cells.items c.deref_mut.result.now cells.items c.act.new.cells c.args.net.0 c.args.value c.deref.ensures.value c.deref_mut.ensures.value
+    (acted_read d.circuit.flops.items d.cells.items c.deref_mut.result.now cells.items c.act.new.cells c.args.net.0 c.args.value c.deref_mut.ensures.value
     (filled d.cells c.act.new.cells c.deref_mut.result.now c.act.auto.cells c.deref_mut.ensures.value) c.act.ensures))

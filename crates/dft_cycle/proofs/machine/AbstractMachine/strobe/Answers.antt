@@ -1,16 +1,20 @@
 -- The nets show their settled values.
-use Rattle.std.proofs.Common.{◌∙◌, refl, ap, subst, List}
+use Rattle.std.proofs.Common.{ℕ, ◌≡◌, ◌∙◌, refl, ap, subst, List}
 use Rattle.std.specs.Vec.{with_items}
 use Rattle.dft_base.specs.declared.tri.Tri.{Tri}
 use Rattle.dft_cycle.specs.Machine.{Machine, logic, value_at, IsStrobed}
 use Rattle.dft_cycle.specs.MachineShown.{machine_of}
-use Rattle.dft_cycle.proofs.MachineLemmas.{refilled, filled, strobed}
+use Rattle.dft_cycle.specs.declared.settling.View.{View}
+use Rattle.dft_cycle.specs.Circuit.{logic_at, IsGivenIn}
+use Rattle.dft_cycle.proofs.DomainLemmas.{ready_view}
+use Rattle.dft_cycle.proofs.MachineLemmas.{refilled, filled, strobed, clear_kept, ready_kept}
 use Rattle.dft_cycle.proofs.machine.AbstractMachine.strobe.Goals as goal
 
 pub invariant_of-self : goal.invariant_of-self
 unfolding logic
 invariant_of-self c =
     let i = c.self.invariant in
+    let d = c.self.inside in
     record {
       circuit = i.circuit;
       compiled = i.compiled;
@@ -19,21 +23,29 @@ invariant_of-self c =
       nets = i.nets;
       pulsed = i.pulsed;
       inputs = i.inputs;
-      shown = refilled c.self.inside.shown c.settle.new.values ∙ i.shown;
-      values = i.values;
+      shown = refilled d.shown c.copy_from_slice.new.self ∙ i.shown;
+      values = refilled d.values c.settle_again.new.values ∙ i.values;
       cells = i.cells;
       poss = i.poss;
       next = i.next;
       held = i.held;
+      marked = refilled d.marked c.settle_again.new.marked ∙ i.marked;
+      clear = clear_kept d.marked c.settle_again.new.marked c.deref_mut-2.result.now c.settle_again.auto.marked c.deref_mut-2.ensures.value c.settle_again.ensures.clear;
+      ready = ready_kept d.circuit d.values c.settle_again.new.values c.deref_mut.result.now c.settle_again.auto.values c.deref_mut.ensures.value
+          (ready_view d.circuit c.strobe_view.result c.settle_again.new.values c.settle_again.ensures.given);
     }
 
 pub returns : goal.returns
+unfolding logic_at
 returns c =
     let d = c.self.inside in
-    let shown = with_items d.shown c.settle.new.values in
+    let shown = with_items d.shown c.copy_from_slice.new.self in
     let after : Machine = record { netlist = d.design.now; clocks = d.clocks.items; inputs = d.inputs.items; cells = d.cells.items; shown = shown.items } in
     let P : Machine → Type 0 = λ m. IsStrobed (logic m) m after in
+    let V : View → Type 0 = λ v. (k : ℕ) → IsGivenIn d.circuit v v.domain.0 c.settle_again.new.values k in
+    let copied : c.copy_from_slice.new.self ≡ c.settle_again.new.values =
+    c.copy_from_slice.ensures.after ∙ c.deref-3.ensures.value ∙ filled d.values c.settle_again.new.values c.deref_mut.result.now c.settle_again.auto.values c.deref_mut.ensures.value in
     subst P c.self.view_is
-    (strobed (machine_of d) after d.circuit _ c.settle.new.values c.self.invariant.compiled refl refl refl refl
-    (λ k. ap (λ (l : List Tri). value_at l k) c.deref.ensures.value) (λ e. refl) (λ k. ap (λ (l : List Tri). value_at l k) c.deref-2.ensures.value) (λ a b source. refl) c.settle.ensures
-    (filled d.shown c.settle.new.values c.deref_mut.result.now c.settle.auto.values c.deref_mut.ensures.value))
+    (strobed (machine_of d) after d.circuit _ c.settle_again.new.values c.self.invariant.compiled refl refl refl refl
+    (λ k. ap (λ (l : List Tri). value_at l k) c.deref.ensures.value) (λ e. refl) (λ k. ap (λ (l : List Tri). value_at l k) c.deref-2.ensures.value) (λ a b source. refl) (subst V c.strobe_view.ensures c.settle_again.ensures.given)
+    (filled d.shown c.copy_from_slice.new.self c.as_mut_slice.result.now c.copy_from_slice.ensures.len c.as_mut_slice.ensures.value ∙ copied))

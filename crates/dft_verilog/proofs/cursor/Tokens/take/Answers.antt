@@ -1,5 +1,7 @@
-use Rattle.std.proofs.Common.{◌≡◌, ◌-◌, length, ap, arith}
-use Rattle.dft_netlist.specs.Steps.{left}
+use Rattle.std.proofs.Common.{◌∙◌, ap, ap₂, arith}
+use Rattle.dft_base.specs.Lexing.{tokens_from}
+use Rattle.dft_netlist.specs.Lexemes.{front}
+use Rattle.dft_netlist.specs.Steps.{left, next}
 use Rattle.dft_verilog.specs.Cut.{shown}
 use Rattle.dft_verilog.proofs.FrontLemmas.{left_at, next_at}
 use Rattle.dft_verilog.proofs.cursor.Tokens.take.Goals as goal
@@ -8,13 +10,18 @@ pub returns-clause-next : goal.returns-clause-next
 returns-clause-next c =
     let t = c.self.inside in
     let v = c.self.invariant in
-    let e = next_at t.behind_base t.ahead.now (shown t.front) v.begins v.cut v.moves in cc
+    c.skip_blanks-self-inside.ensures.rest c.is_base_kind-self-inside.result
+    ∙ ap₂ (λ mode text. tokens_from front mode 0 text) c.is_base_kind-self-inside.ensures c.split_at.ensures.back
+    ∙ next_at t.behind_base t.ahead.now (shown t.front) v.begins v.cut v.moves
+    ∙ ap next c.self.view_is
 
 pub returns-clause-moves : goal.returns-clause-moves
 returns-clause-moves c = λ some.
     let t = c.self.inside in
     let v = c.self.invariant in
-    let e = left_at t.behind_base t.ahead.now (shown t.front) v.begins v.cut v.moves in
-    let old : left c.args.self.now ≡ length t.ahead.now - t.front.at = cc in
-    let new = ap left c.self-2.view_is in
-    omega (arith, old, new, c.ahead.ensures.few, c.split_at.ensures.back_len, v.inside, v.within)
+    let text = c.skip_blanks-self-inside in
+    let token = c.cut-front in
+    let old = left_at t.behind_base t.ahead.now (shown t.front) v.begins v.cut v.moves in
+    let was = ap left c.self.view_is in
+    let new = left_at c.is_base_kind-self-inside.result text.result.now (shown token.result) text.ensures.begins token.ensures.value (λ full. token.ensures.moves full text.ensures.begins) in
+    omega (arith, old, was, new, text.ensures.within, c.split_at.ensures.back_len, v.inside, v.within)

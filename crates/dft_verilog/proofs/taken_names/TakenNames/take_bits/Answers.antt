@@ -16,5 +16,5 @@ loop-bit-preserved c =
     let lt : index < length bits = omega arith in
     let ahead : drop index bits ≡ bit ∷ drop (index + 1) bits = drop_more bits index bit lt ∙ ap (λ (x : List ℕ). x ∷ drop (index + 1) bits) (sym c.bit-item.is) in
     TakesBits-more c.args.self.now c.loop-bit.self c.take.new.self bit (drop (index + 1) bits) bits
-    (c.in_ok-take.ensures.ok ∙ ap (λ (w : List ℕ). c.loop-bit.self ++ bit_entry w ∷ []) (c.in_ok-word.ensures.items ∙ c.as_slice.ensures.bytes))
+    (c.in_ok-take.ensures.ok ∙ ap (λ (w : List ℕ). c.loop-bit.self ++ bit_entry w ∷ []) (c.made-word.ensures ∙ c.in_ok-from_slice.ensures.items ∙ c.as_slice.ensures.bytes))
     (subst (λ (rest : List (List ℕ)). TakesBits c.args.self.now c.loop-bit.self rest bits) ahead c.loop-bit.invariant)

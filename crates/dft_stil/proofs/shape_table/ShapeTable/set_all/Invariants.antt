@@ -1,0 +1,10 @@
+use Rattle.std.proofs.Common.{◌≡◌, drop}
+use Rattle.dft_stil.specs.Timings as spec
+use Rattle.dft_stil.specs.ShapeTableShown.{IsWide}
+use Rattle.dft_stil.proofs.shape_table.ShapeTable.set_all.Given as goal
+
+abbrev pub invariant-loop-signal : goal.invariant-loop-signal
+invariant-loop-signal l = record {
+  same : spec.with_shape (drop l.signal-index l.signals) l.character l.act (record { acts = l.self-inside.acts.items }) ≡ spec.with_shape l.signals l.character l.act l.fn.self;
+  wide : IsWide l.count (record { acts = l.self-inside.acts.items });
+}

@@ -1,0 +1,13 @@
+use Rattle.std.proofs.Common.{◌≡◌, ◌-◌}
+use Rattle.dft_stil.specs.Steps.{left}
+use Rattle.dft_stil.specs.Timings as spec
+use Rattle.std.proofs.Common.{length}
+use Rattle.dft_stil.specs.TablesShown.{AreWide}
+use Rattle.dft_stil.proofs.timings.all_tables.Given as goal
+
+-- each turn reads one
+abbrev pub invariant-turns : goal.invariant-turns
+invariant-turns l = record {
+  same : spec.tables_from (left l.fn.tokens) l.fn.names spec.no_tables l.fn.tokens ≡ spec.tables_from (l._turn-end - l._turn) l.names l.tables l.tokens;
+  wide : AreWide (length l.names.signals) l.tables;
+}

@@ -1,0 +1,293 @@
+-- The tables of waveforms of a pattern text (IEEE 1450-1999 `Timing`).
+use Rattle.std.specs.Prelude.{ℕ, zero, suc, ◌+◌, ◌*◌, Bool, true, false, not, ◌&&◌, ◌||◌, ◌==◌, nat_lt, codes, List, [], ◌∷◌, ◌++◌, map, length, Option, Some, None, unwrap_or, is_some, slice_index_or, slice_set, get_or, replicate, if◌then◌else◌, Ok, Err}
+use Rattle.std.specs.List.{list_any, list_all}
+use Rattle.dft_base.specs.Lexing.{Text}
+use Rattle.dft_base.specs.Parser.{pure, ◌>>=◌, ◌>>◌}
+use Rattle.dft_netlist.specs.declared.port.Dir.{Dir}
+use Rattle.dft_netlist.specs.declared.port.Dir.TheVariants as dir
+use Rattle.dft_stil.specs.declared.text.TokenKind.TheVariants as kind
+use Rattle.dft_stil.specs.declared.text.Cause.TheVariants as cause
+use Rattle.dft_stil.specs.declared.act.Act.{Act}
+use Rattle.dft_stil.specs.declared.act.Act.TheVariants as act
+use Rattle.dft_stil.specs.declared.shapes.Event.{Event}
+use Rattle.dft_stil.specs.declared.shapes.Drawing.{Drawing}
+use Rattle.dft_stil.specs.declared.shapes.Drawing.TheVariants as drawing
+use Rattle.dft_stil.specs.declared.times.Times.{Times}
+use Rattle.dft_stil.specs.Steps.{Rule, left, refuse, expect, eat, keyword, name, needed, next, sees, unsupported, character, letter, small_number, unit}
+use Rattle.dft_stil.specs.Namings.{Names, given, elsewhere, is_known, name_if_any}
+
+-- ---- shapes
+
+-- the letter of an event: D 68, H 72, L 76, U 85, X 88
+abbrev pub is : ℕ → Event → Bool
+is letter e = e.letter == letter
+
+-- one event is before another
+abbrev pub before : Event → Event → Bool
+before a b = nat_lt a.time b.time
+
+-- Whether a shape of a signal can begin with these events: of an input D, or U, or D and U and D; of an output X and then L or H,
+-- or L or H alone. Their times rise.
+abbrev pub begins_shape : Dir → Drawing → Bool
+begins_shape dir.Input (drawing.One a) = is 68 a || is 85 a
+begins_shape dir.Input (drawing.Two a b) = is 68 a && is 85 b && before a b
+begins_shape dir.Input (drawing.Three a b c) = is 68 a && is 85 b && is 68 c && before a b && before b c
+begins_shape dir.Output (drawing.One a) = is 88 a || is 76 a || is 72 a
+begins_shape dir.Output (drawing.Two a b) = is 88 a && (is 76 b || is 72 b) && before a b
+begins_shape _ _ = false
+
+-- one event more
+abbrev pub extended : Drawing → Event → Drawing
+extended drawing.Begun e = drawing.One e
+extended (drawing.One a) e = drawing.Two a e
+extended (drawing.Two a b) e = drawing.Three a b e
+extended _ e = drawing.Many
+
+-- what a shape does that is a single event
+abbrev pub act_of_event : Event → Option Act
+act_of_event e =
+    if is 68 e then Some act.Low
+    else (if is 85 e then Some act.High
+    else (if is 88 e then Some act.Ignore
+    else (if is 76 e then Some act.ExpectLow
+    else (if is 72 e then Some act.ExpectHigh else None))))
+
+-- what a shape does that is these events, which begin one; none where it would have to go on
+abbrev pub act_of_events : Drawing → Option Act
+act_of_events (drawing.One a) = act_of_event a
+act_of_events (drawing.Two a b) = if is 76 b then Some act.ExpectLow else (if is 72 b then Some act.ExpectHigh else None)
+act_of_events (drawing.Three a b c) = Some act.Pulse
+act_of_events _ = None
+
+-- ---- tables
+
+-- What each of 256 characters means for each signal, one signal after the other: nothing, or what it does.
+pub record Shapes : Type 0 where
+  pub acts : List (Option Act)
+
+-- the place of a signal and a character
+abbrev pub place_in : (signal character : ℕ) → ℕ
+place_in signal c = signal * 256 + c
+
+-- what a character means for a signal
+abbrev pub act_of : Shapes → (signal character : ℕ) → Option Act
+act_of shapes signal c = get_or shapes.acts (place_in signal c) None
+
+-- no shape of so many signals
+abbrev pub no_shapes : ℕ → Shapes
+no_shapes count = record { acts = replicate (count * 256) None }
+
+-- a shape more, for each of these signals
+abbrev pub with_shape : List ℕ → ℕ → Act → Shapes → Shapes
+with_shape [] c a shapes = shapes
+with_shape (signal ∷ signals) c a shapes = with_shape signals c a (record { acts = slice_set shapes.acts (place_in signal c) (Some a) })
+
+-- whether some of these signals has a shape for this character
+abbrev pub is_given : Shapes → List ℕ → ℕ → Bool
+is_given shapes signals c = list_any (λ signal. is_some (act_of shapes signal c)) signals
+
+-- no time
+abbrev pub no_times : Times
+no_times = record { last_setting = None; first_strobe = None; last_strobe = None; first_rise = None; last_rise = None; first_fall = None; last = None }
+
+-- the later of the last time and a time, and the earlier of the first time and a time
+abbrev pub later : Option ℕ → ℕ → Option ℕ
+later None time = Some time
+later (Some last) time = Some (if nat_lt last time then time else last)
+
+abbrev pub earlier : Option ℕ → ℕ → Option ℕ
+earlier None time = Some time
+earlier (Some first) time = Some (if nat_lt time first then time else first)
+
+-- inputs are set at a time
+abbrev pub with_setting : ℕ → Times → Times
+with_setting time t = record t { last_setting = later t.last_setting time }
+
+-- outputs are compared at a time
+abbrev pub with_strobe : ℕ → Times → Times
+with_strobe time t = record t { first_strobe = earlier t.first_strobe time; last_strobe = later t.last_strobe time }
+
+-- pulses rise and fall
+abbrev pub with_pulse : ℕ → ℕ → Times → Times
+with_pulse rise fall t = record t { first_rise = earlier t.first_rise rise; last_rise = later t.last_rise rise; first_fall = earlier t.first_fall fall }
+
+-- the last event of a shape is at a time
+abbrev pub with_last : ℕ → Times → Times
+with_last time t = record t { last = later t.last time }
+
+-- the times of a shape that is one event: of an input, or of an output where it is compared
+abbrev pub with_event : Event → Times → Times
+with_event e t = if is 68 e || is 85 e then with_setting e.time t else (if is 76 e || is 72 e then with_strobe e.time t else t)
+
+-- the times of a shape. Its events rise.
+abbrev pub with_times : Drawing → Times → Times
+with_times (drawing.One a) t = with_last a.time (with_event a t)
+with_times (drawing.Two a b) t = with_last b.time (with_strobe b.time t)
+with_times (drawing.Three a b c) t = with_last c.time (with_pulse b.time c.time (with_setting a.time t))
+with_times _ t = t
+
+-- each of some times is before each of others, where the last of them is before the first of the others
+abbrev pub all_before : Option ℕ → Option ℕ → Bool
+all_before (Some last) (Some first) = nat_lt last first
+all_before _ _ = true
+
+-- The times of a table fit its period: inputs are set before outputs are compared, or else before pulses rise; outputs are compared
+-- before pulses rise, these before pulses fall, and all before the period ends.
+abbrev pub times_fit : ℕ → Times → Bool
+times_fit period t =
+    all_before t.last_setting t.first_strobe && all_before t.last_strobe t.first_rise && all_before t.last_rise t.first_fall && all_before t.last (Some period)
+    && (is_some t.first_strobe || all_before t.last_setting t.first_rise)
+
+-- a table so far
+pub record Table : Type 0 where
+  pub shapes : Shapes
+  pub times : Times
+
+-- a table without shapes of so many signals
+abbrev pub empty_table : ℕ → Table
+empty_table count = record { shapes = no_shapes count; times = no_times }
+
+-- a shape more of a table, for each of these signals
+abbrev pub drawn : List ℕ → ℕ → Act → Drawing → Table → Table
+drawn signals character a d t = record { shapes = with_shape signals character a t.shapes; times = with_times d t.times }
+
+-- ---- rules
+
+-- a time between single quotes, in picoseconds
+unfoldable pub time : Rule ℕ
+time = do
+  expect kind.Quote
+  value ← small_number
+  worth ← unit
+  expect kind.Quote
+  pure (value * worth)
+
+-- the direction of a signal by its number
+abbrev pub dir_of : Names → ℕ → Dir
+dir_of names n = slice_index_or (map (λ s. s.dir) names.signals) n dir.Input
+
+-- whether these events begin a shape of each of these signals
+abbrev pub begin_all : Names → List ℕ → Drawing → Bool
+begin_all names signals d = list_all (λ n. begins_shape (dir_of names n) d) signals
+
+-- takes the letter of an event at a time, with which the events so far must begin a shape of each of these signals
+unfoldable pub event_letter : Names → List ℕ → Drawing → (time : ℕ) → Rule Drawing
+event_letter names signals d time = λ ts. (do
+  l ← letter
+  if begin_all names signals (extended d (record { letter = l; time = time })) then pure (extended d (record { letter = l; time = time })) else (λ us. Err (unsupported ts))) ts
+
+-- an event more
+unfoldable pub event : Names → List ℕ → Drawing → Rule Drawing
+event names signals d = do
+  at ← time
+  more ← event_letter names signals d at
+  expect kind.Semicolon
+  pure more
+
+-- the brace that ends a shape, which may not come too early
+abbrev pub ended : Drawing → Option Act → Rule Drawing
+ended d None = λ ts. Err (unsupported ts)
+ended d (Some a) = λ ts. Ok (d, next ts)
+
+-- the events that are left of a shape, and its brace
+unfoldable pub events_from : ℕ → Names → List ℕ → Drawing → Rule Drawing
+events_from zero names signals d = refuse
+events_from (suc n) names signals d = λ ts.
+    if sees kind.CloseBrace ts then ended d (act_of_events d) ts else (event names signals d >>= (λ more. events_from n names signals more)) ts
+
+-- the act of a whole shape
+abbrev pub act_drawn : Drawing → Act
+act_drawn d = unwrap_or (act_of_events d) act.Ignore
+
+-- a shape of these signals: a character, which none of them may have so far, and its events
+unfoldable pub shape : Names → List ℕ → Table → Rule Table
+shape names signals t = λ ts. (do
+  c ← character
+  needed (cause.Taken (c ∷ [])) (left ts) (not (is_given t.shapes signals c)) (do
+    expect kind.OpenBrace
+    d ← λ us. events_from (left us) names signals drawing.Begun us
+    pure (drawn signals c (act_drawn d) d t))) ts
+
+-- the shapes that are left of some signals
+unfoldable pub shapes_from : ℕ → Names → List ℕ → Table → Rule Table
+shapes_from zero names signals t = refuse
+shapes_from (suc n) names signals t = do
+  end ← eat kind.CloseBrace
+  if end then pure t else (do
+    more ← shape names signals t
+    shapes_from n names signals more)
+
+-- the name of signals, and their shapes
+unfoldable pub wave : Names → Table → Rule Table
+wave names t = λ ts. (do
+  word ← name
+  given word (left ts) (elsewhere names word) (λ m. do
+    expect kind.OpenBrace
+    λ us. shapes_from (left us) names m.signals t us)) ts
+
+-- the waves that are left of a table
+unfoldable pub waves_from : ℕ → Names → Table → Rule Table
+waves_from zero names t = refuse
+waves_from (suc n) names t = do
+  end ← eat kind.CloseBrace
+  if end then pure t else (do
+    more ← wave names t
+    waves_from n names more)
+
+-- what stands in a table: a period, and waves. At its last brace its times must fit.
+unfoldable pub table_body : Names → Rule Shapes
+table_body names = do
+  expect kind.OpenBrace
+  keyword (codes "Period")
+  period ← time
+  expect kind.Semicolon
+  keyword (codes "Waveforms")
+  expect kind.OpenBrace
+  t ← λ ts. waves_from (left ts) names (empty_table (length names.signals)) ts
+  λ ts. (expect kind.CloseBrace >> needed cause.Times (left ts) (times_fit period t.times) (pure t.shapes)) ts
+
+-- the tables so far, by name
+pub record Tables : Type 0 where
+  pub names : List Text
+  pub shapes : List Shapes
+
+-- no table
+abbrev pub no_tables : Tables
+no_tables = record { names = []; shapes = [] }
+
+-- a table more
+abbrev pub with_table : Tables → Text → Shapes → Tables
+with_table tables word shapes = record { names = tables.names ++ word ∷ []; shapes = tables.shapes ++ shapes ∷ [] }
+
+-- a table, whose name no other may have so far
+unfoldable pub table : Names → Tables → Rule Tables
+table names tables = do
+  keyword (codes "WaveformTable")
+  λ ts. (do
+    word ← name
+    needed (cause.Taken word) (left ts) (not (is_known tables.names word)) (do
+      shapes ← table_body names
+      pure (with_table tables word shapes))) ts
+
+-- the tables that are left of the block
+unfoldable pub tables_from : ℕ → Names → Tables → Rule Tables
+tables_from zero names tables = refuse
+tables_from (suc n) names tables = do
+  end ← eat kind.CloseBrace
+  if end then pure tables else (do
+    more ← table names tables
+    tables_from n names more)
+
+-- the block of tables: its name, if it has one, and the tables
+pub record Timing : Type 0 where
+  pub name : Option Text
+  pub tables : Tables
+
+-- the block of tables
+unfoldable pub timing : Names → Rule Timing
+timing names = do
+  keyword (codes "Timing")
+  word ← name_if_any
+  expect kind.OpenBrace
+  tables ← λ ts. tables_from (left ts) names no_tables ts
+  pure (record { name = word; tables = tables })

@@ -1,0 +1,171 @@
+//! The characters of a vector: what each signal does (IEEE 1450-1999 `V`).
+
+ghost use Rattle.std.specs.Prelude.{◌≡◌, ◌<◌, ◌-◌, length, option_map, OnOk, IfOk, IfSome};
+ghost use Rattle.dft_stil.specs.Statements as spec;
+ghost use Rattle.dft_stil.specs.Steps.{left};
+ghost use Rattle.dft_stil.specs.MembersShown.{AreBelow};
+ghost use Rattle.dft_stil.specs.ShapeTableShown.{IsWide};
+ghost use Rattle.dft_stil.specs.CharactersShown.{filling_as};
+ghost use Rattle.dft_stil.specs.Reading.{ReadsText, Checks, Faults};
+
+use crate::act::{Act, Acts};
+use crate::faults::fault_at;
+use crate::read_error::ReadError;
+use crate::shape_table::ShapeTable;
+use crate::text::{Cause, TokenKind};
+use crate::tokens::Tokens;
+
+/// Characters so far: the acts of the vector, the signals that have no character yet, and whether there was one more than signals.
+#[derive(Debug, Drop)]
+pub struct Filling<'a> {
+    pub acts: Acts,
+    pub ahead: &'a [usize],
+    pub over: bool,
+}
+
+// What a character means for a signal in a table, if there is one.
+fn act_in(shapes: Option<&ShapeTable>, count: usize, signal: usize, character: u8) -> Option<Act>
+    requires wide { IfSome shapes (λ s. IsWide count s.now) }
+    requires inside { signal < count }
+    ensures { result ≡ spec.act_in (option_map (λ s. s.now) shapes.entry) signal character }
+{
+    shapes?.act(count, signal, character)
+}
+
+// One character more.
+fn fill_one(
+    shapes: Option<&ShapeTable>,
+    place: usize,
+    character: u8,
+    filling: &mut Filling<'_>,
+) -> Result<(), ReadError>
+    requires wide { IfSome shapes (λ s. IsWide (length filling.old.acts) s.now) }
+    requires ahead { AreBelow (length filling.old.acts) filling.old.ahead.now }
+    ensures check { Checks (λ _. filling_as filling.new) (spec.filled (option_map (λ s. s.now) shapes.entry) place character (filling_as filling.old).ahead (filling_as filling.old)) result }
+    ensures ahead { OnOk result (AreBelow (length filling.new.acts) filling.new.ahead.now) }
+    ensures length { OnOk result (length filling.new.acts ≡ length filling.old.acts) }
+{
+    let [signal, rest @ ..] = filling.ahead else {
+        filling.over = true;
+        return Ok(());
+    };
+    match act_in(shapes, filling.acts.count(), *signal, character) {
+        Some(act) => {
+            filling.acts.set(*signal, act);
+            filling.ahead = rest;
+            Ok(())
+        }
+        None => Err(fault_at(Cause::NoShape, place)),
+    }
+}
+
+// These characters more, which begin at this place.
+fn fill(
+    shapes: Option<&ShapeTable>,
+    place: usize,
+    characters: &[u8],
+    filling: &mut Filling<'_>,
+) -> Result<(), ReadError>
+    requires wide { IfSome shapes (λ s. IsWide (length filling.old.acts) s.now) }
+    requires ahead { AreBelow (length filling.old.acts) filling.old.ahead.now }
+    ensures check { Checks (λ _. filling_as filling.new) (spec.filled_by (option_map (λ s. s.now) shapes.entry) place characters.now (filling_as filling.old)) result }
+    ensures ahead { OnOk result (AreBelow (length filling.new.acts) filling.new.ahead.now) }
+    ensures length { OnOk result (length filling.new.acts ≡ length filling.old.acts) }
+{
+    for (index, character) in characters.iter().enumerate() {
+        if !character.is_ascii_alphanumeric() {
+            return Err(fault_at(Cause::Token, place.saturating_sub(index)));
+        }
+        fill_one(shapes, place.saturating_sub(index), *character, filling)?;
+    }
+    Ok(())
+}
+
+#[tactic(auto, unfolding(crate::specs::Statements::characters_refusal))]
+// That no characters come next.
+fn characters_refusal(tokens: &Tokens<'_>) -> ReadError
+    ensures { Faults (spec.characters_refusal tokens.now) result }
+{
+    if tokens.sees(TokenKind::Backslash) {
+        tokens.unsupported()
+    } else {
+        tokens.no_token()
+    }
+}
+
+#[tactic(auto, unfolding(crate::specs::Statements::run_of_characters, crate::specs::Statements::sees_characters))]
+// One run of characters.
+fn run(
+    shapes: Option<&ShapeTable>,
+    filling: &mut Filling<'_>,
+    tokens: &mut Tokens<'_>,
+) -> Result<(), ReadError>
+    requires wide { IfSome shapes (λ s. IsWide (length filling.old.acts) s.now) }
+    requires ahead { AreBelow (length filling.old.acts) filling.old.ahead.now }
+    ensures read { ReadsText (λ _. filling_as filling.new) (spec.run_of_characters (option_map (λ s. s.now) shapes.entry) (filling_as filling.old) tokens.old) result tokens.new }
+    ensures ahead { OnOk result (AreBelow (length filling.new.acts) filling.new.ahead.now) }
+    ensures length { OnOk result (length filling.new.acts ≡ length filling.old.acts) }
+{
+    if !tokens.sees(TokenKind::Word) && !tokens.sees(TokenKind::Number) {
+        return Err(characters_refusal(tokens));
+    }
+    let place = tokens.left();
+    let characters = tokens.take();
+    fill(shapes, place, characters, filling)
+}
+
+// The runs of characters before a semicolon.
+fn runs(
+    shapes: Option<&ShapeTable>,
+    filling: &mut Filling<'_>,
+    tokens: &mut Tokens<'_>,
+) -> Result<(), ReadError>
+    requires wide { IfSome shapes (λ s. IsWide (length filling.old.acts) s.now) }
+    requires ahead { AreBelow (length filling.old.acts) filling.old.ahead.now }
+    ensures read { ReadsText (λ _. filling_as filling.new) (spec.runs_from (left tokens.old) (option_map (λ s. s.now) shapes.entry) (filling_as filling.old) tokens.old) result tokens.new }
+    ensures length { OnOk result (length filling.new.acts ≡ length filling.old.acts) }
+{
+    'turns: for _turn in 0..tokens.left() {
+        run(shapes, filling, tokens)?;
+        if tokens.sees(TokenKind::Semicolon) {
+            return Ok(());
+        }
+    }
+    Err(tokens.no_token())
+}
+
+#[tactic(auto, using(crate::proofs::CharacterLemmas::signals_left))]
+// Whether there was a character for each signal, and no more.
+fn is_full(filling: &Filling<'_>) -> bool
+    ensures { result ≡ spec.is_full (filling_as filling.now) }
+{
+    !filling.over && filling.ahead.is_empty()
+}
+
+#[tactic(auto, unfolding(crate::specs::Statements::characters))]
+/// The characters of some signals, and the semicolon behind them, where their number is tested.
+pub fn characters(
+    shapes: Option<&ShapeTable>,
+    signals: &[usize],
+    acts: Acts,
+    tokens: &mut Tokens<'_>,
+) -> Result<Acts, ReadError>
+    requires wide { IfSome shapes (λ s. IsWide (length acts) s.now) }
+    requires ahead { AreBelow (length acts) signals.now }
+    ensures read { ReadsText (λ a. a) (spec.characters (option_map (λ s. s.now) shapes.entry) signals.now acts tokens.old) result tokens.new }
+    ensures length { IfOk result (λ a. length a ≡ length acts) }
+{
+    let mut filling = Filling {
+        acts,
+        ahead: signals,
+        over: false,
+    };
+    runs(shapes, &mut filling, tokens)?;
+    let place = tokens.left();
+    tokens.expect(TokenKind::Semicolon)?;
+    if is_full(&filling) {
+        Ok(filling.acts)
+    } else {
+        Err(fault_at(Cause::Count, place))
+    }
+}

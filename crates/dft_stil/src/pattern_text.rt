@@ -1,0 +1,292 @@
+//! Whole pattern texts (IEEE 1450-1999, in a subset of its forms).
+
+ghost use Rattle.std.specs.Prelude.{◌≡◌, ◌<◌, ◌^◌, Some, length, option_map, OnOk, IfOk};
+ghost use Rattle.dft_base.specs.Name.{IsName};
+ghost use Rattle.dft_stil.specs.PatternText as spec;
+ghost use Rattle.dft_stil.specs.Steps.{left};
+ghost use Rattle.dft_stil.specs.TablesShown.{timing_as, AreWide};
+ghost use Rattle.dft_stil.specs.PatternShown.{pattern_as, burst_as};
+ghost use Rattle.dft_stil.specs.Reading.{ReadsText};
+
+use crate::act::Acts;
+use crate::faults::{fault_at, unknown};
+use crate::names::Names;
+use crate::namings::{group_blocks, name_if_any, signals_block};
+use crate::pattern_set::PatternSet;
+use crate::read_error::ReadError;
+use crate::statements::{Pattern, statements};
+use crate::text::{Cause, TokenKind};
+use crate::timings::{Timing, timing_block};
+use crate::tokens::Tokens;
+use std::alloc::{AllocError, Global};
+
+#[tactic(auto, unfolding(crate::specs::PatternText::version))]
+// The version of the standard.
+fn version<'a>(tokens: &mut Tokens<'a>) -> Result<&'a [u8], ReadError>
+    ensures { ReadsText (λ w. w.now) (spec.version tokens.old) result tokens.new }
+{
+    if !tokens.sees(TokenKind::Number) {
+        return Err(tokens.mark_refusal());
+    }
+    if tokens.bytes() == b"1.0".as_slice() {
+        Ok(tokens.take())
+    } else {
+        Err(tokens.no_token())
+    }
+}
+
+// Behind a token of a block, so many braces are open.
+fn depth_behind(kind: TokenKind, depth: usize) -> usize
+    requires { depth < 2 ^ 63 }
+    ensures { result ≡ spec.depth_behind kind depth }
+{
+    match kind {
+        TokenKind::OpenBrace => depth + 1,
+        TokenKind::CloseBrace => depth.saturating_sub(1),
+        _ => depth,
+    }
+}
+
+// Whether a token of this kind may not stand in a block.
+fn ends_block(kind: TokenKind) -> bool
+    ensures { result ≡ spec.ends_block kind }
+{
+    matches!(
+        kind,
+        TokenKind::Illegal | TokenKind::Unclosed | TokenKind::End
+    )
+}
+
+// Where a token is refused in a block.
+fn block_place(kind: TokenKind, place: usize) -> usize
+    ensures { result ≡ spec.block_place kind place }
+{
+    match kind {
+        TokenKind::Unclosed => 0,
+        _ => place,
+    }
+}
+
+// The tokens of a block behind its first brace.
+fn block_rest(tokens: &mut Tokens<'_>) -> Result<(), ReadError>
+    ensures { ReadsText (λ _. 0) (spec.block_from (left tokens.old) 1 tokens.old) result tokens.new }
+{
+    let mut depth = 1;
+    'turns: for _turn in 0..tokens.left() {
+        let kind = tokens.kind();
+        if ends_block(kind) {
+            return Err(fault_at(Cause::Token, block_place(kind, tokens.left())));
+        }
+        depth = depth_behind(kind, depth);
+        tokens.take();
+        if depth == 0 {
+            return Ok(());
+        }
+    }
+    Err(tokens.no_token())
+}
+
+#[tactic(auto, unfolding(crate::specs::PatternText::block))]
+// Braces that balance.
+fn block(tokens: &mut Tokens<'_>) -> Result<(), ReadError>
+    ensures { ReadsText (λ _. 0) (spec.block tokens.old) result tokens.new }
+{
+    tokens.expect(TokenKind::OpenBrace)?;
+    block_rest(tokens)
+}
+
+#[tactic(auto, unfolding(crate::specs::PatternText::header_if_any))]
+// A block behind `Header`, if there is one.
+fn header_if_any(tokens: &mut Tokens<'_>) -> Result<bool, ReadError>
+    ensures { ReadsText (λ b. b) (spec.header_if_any tokens.old) result tokens.new }
+{
+    if !tokens.eat_word(b"Header") {
+        return Ok(false);
+    }
+    block(tokens)?;
+    Ok(true)
+}
+
+/// A burst and its pattern, by name.
+#[derive(Clone, Copy, Debug)]
+pub struct Burst<'a> {
+    pub name: &'a [u8],
+    pub pattern: &'a [u8],
+}
+
+#[tactic(auto, unfolding(crate::specs::PatternText::burst))]
+// The burst.
+fn the_burst<'a>(tokens: &mut Tokens<'a>) -> Result<Burst<'a>, ReadError>
+    ensures { ReadsText burst_as (spec.burst tokens.old) result tokens.new }
+{
+    tokens.keyword(b"PatternBurst")?;
+    let name = tokens.name()?;
+    tokens.expect(TokenKind::OpenBrace)?;
+    tokens.keyword(b"PatList")?;
+    tokens.expect(TokenKind::OpenBrace)?;
+    let pattern = tokens.name()?;
+    tokens.expect(TokenKind::Semicolon)?;
+    tokens.expect(TokenKind::CloseBrace)?;
+    tokens.expect(TokenKind::CloseBrace)?;
+    Ok(Burst { name, pattern })
+}
+
+// Whether a name was given so.
+fn is_name(known: Option<&[u8]>, word: &[u8]) -> bool
+    ensures { result ≡ spec.is_name (option_map (λ w. w.now) known.entry) word.now }
+{
+    match known {
+        Some(known) => known == word,
+        None => false,
+    }
+}
+
+#[tactic(auto, unfolding(crate::specs::PatternText::known_name))]
+// A name, which must be this one.
+fn known_name<'a>(
+    alloc: Global,
+    known: Option<&[u8]>,
+    tokens: &mut Tokens<'a>,
+) -> Result<&'a [u8], ReadError>
+    ensures { ReadsText (λ w. w.now) (spec.known_name (option_map (λ w. w.now) known.entry) tokens.old) result tokens.new }
+{
+    let place = tokens.left();
+    let word = tokens.name()?;
+    if is_name(known, word) {
+        Ok(word)
+    } else {
+        Err(unknown(alloc, word, place))
+    }
+}
+
+#[tactic(auto, unfolding(crate::specs::PatternText::known_name_if_any))]
+// A name, if one comes next, which must be this one.
+fn known_name_if_any(
+    alloc: Global,
+    known: Option<&[u8]>,
+    tokens: &mut Tokens<'_>,
+) -> Result<bool, ReadError>
+    ensures { ReadsText (λ b. b) (spec.known_name_if_any (option_map (λ w. w.now) known.entry) tokens.old) result tokens.new }
+{
+    if tokens.sees(TokenKind::Semicolon) {
+        return Ok(false);
+    }
+    known_name(alloc, known, tokens)?;
+    Ok(true)
+}
+
+#[tactic(auto, unfolding(crate::specs::PatternText::used_timing))]
+// The block of tables that is used, if it is named.
+fn used_timing(
+    alloc: Global,
+    timing: &Timing<'_>,
+    tokens: &mut Tokens<'_>,
+) -> Result<bool, ReadError>
+    ensures { ReadsText (λ b. b) (spec.used_timing (timing_as timing.now) tokens.old) result tokens.new }
+{
+    if !tokens.eat_word(b"Timing") {
+        return Ok(false);
+    }
+    known_name_if_any(alloc, timing.name, tokens)?;
+    tokens.expect(TokenKind::Semicolon)?;
+    Ok(true)
+}
+
+#[tactic(auto, unfolding(crate::specs::PatternText::executed))]
+// The burst that is executed, and the end of the block.
+fn executed(alloc: Global, burst: Burst<'_>, tokens: &mut Tokens<'_>) -> Result<bool, ReadError>
+    ensures { ReadsText (λ b. b) (spec.executed (burst_as burst.entry) tokens.old) result tokens.new }
+{
+    tokens.keyword(b"PatternBurst")?;
+    known_name(alloc, Some(burst.name), tokens)?;
+    tokens.expect(TokenKind::Semicolon)?;
+    tokens.expect(TokenKind::CloseBrace)?;
+    Ok(true)
+}
+
+#[tactic(auto, unfolding(crate::specs::PatternText::exec))]
+// What is executed.
+fn exec(
+    alloc: Global,
+    timing: &Timing<'_>,
+    burst: Burst<'_>,
+    tokens: &mut Tokens<'_>,
+) -> Result<bool, ReadError>
+    ensures { ReadsText (λ b. b) (spec.exec (timing_as timing.now) (burst_as burst.entry) tokens.old) result tokens.new }
+{
+    tokens.keyword(b"PatternExec")?;
+    name_if_any(tokens)?;
+    tokens.expect(TokenKind::OpenBrace)?;
+    used_timing(alloc, timing, tokens)?;
+    executed(alloc, burst, tokens)
+}
+
+// A pattern that has no vector yet.
+fn no_vector(alloc: Global, count: usize) -> Result<Pattern, AllocError>
+    ensures { IfOk result (λ p. pattern_as p ≡ spec.no_vector_of count) }
+{
+    Ok(Pattern {
+        table: None,
+        acts: Acts::unset(alloc, count)?,
+        vectors: Vec::new(alloc),
+    })
+}
+
+#[tactic(auto, unfolding(crate::specs::PatternText::pattern))]
+// The pattern of the burst.
+fn the_pattern(
+    alloc: Global,
+    most: usize,
+    names: &Names,
+    timing: &Timing<'_>,
+    burst: Burst<'_>,
+    tokens: &mut Tokens<'_>,
+) -> Result<Pattern, ReadError>
+    requires { AreWide (length names.now.signals) timing.now.tables }
+    ensures { ReadsText pattern_as (spec.pattern most names.now (timing_as timing.now) (burst_as burst.entry) tokens.old) result tokens.new }
+{
+    tokens.keyword(b"Pattern")?;
+    known_name(alloc, Some(burst.pattern), tokens)?;
+    tokens.expect(TokenKind::OpenBrace)?;
+    let mut pattern = no_vector(alloc, names.count())?;
+    statements(alloc, names, &timing.tables, most, &mut pattern, tokens)?;
+    Ok(pattern)
+}
+
+#[tactic(auto, unfolding(crate::specs::PatternText::pattern_part))]
+// The burst, what is executed and the pattern, and no token behind.
+fn pattern_part(
+    alloc: Global,
+    most: usize,
+    names: Names,
+    timing: &Timing<'_>,
+    tokens: &mut Tokens<'_>,
+) -> Result<PatternSet, ReadError>
+    requires { AreWide (length names.signals) timing.now.tables }
+    ensures { ReadsText (λ set. set) (spec.pattern_part most names (timing_as timing.now) tokens.old) result tokens.new }
+{
+    let burst = the_burst(tokens)?;
+    exec(alloc, timing, burst, tokens)?;
+    let pattern = the_pattern(alloc, most, &names, timing, burst, tokens)?;
+    tokens.expect(TokenKind::End)?;
+    Ok(PatternSet::new(alloc, names.into_signals(), pattern.vectors))
+}
+
+#[tactic(auto, unfolding(crate::specs::PatternText::pattern_text))]
+/// The whole text, with so many vectors at most.
+pub fn pattern_text(
+    alloc: Global,
+    most: usize,
+    tokens: &mut Tokens<'_>,
+) -> Result<PatternSet, ReadError>
+    ensures { ReadsText (λ set. set) (spec.pattern_text most tokens.old) result tokens.new }
+{
+    tokens.keyword(b"STIL")?;
+    version(tokens)?;
+    tokens.expect(TokenKind::Semicolon)?;
+    header_if_any(tokens)?;
+    let mut names = signals_block(alloc, tokens)?;
+    group_blocks(alloc, &mut names, tokens)?;
+    let timing = timing_block(alloc, &names, tokens)?;
+    pattern_part(alloc, most, names, &timing, tokens)
+}

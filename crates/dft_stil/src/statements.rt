@@ -1,0 +1,194 @@
+//! The statements of a pattern (IEEE 1450-1999 `Pattern`).
+
+ghost use Rattle.std.specs.Prelude.{◌≡◌, ℕ, false, length, option_map, OnOk, IfOk, IfSome};
+ghost use Rattle.dft_stil.specs.Statements as spec;
+ghost use Rattle.dft_stil.specs.Steps.{left};
+ghost use Rattle.dft_stil.specs.TablesShown.{AreWide};
+ghost use Rattle.dft_stil.specs.PatternShown.{pattern_as};
+ghost use Rattle.dft_stil.specs.ShapeTableShown.{IsWide};
+ghost use Rattle.dft_stil.specs.VectorShown.{vector_as};
+ghost use Rattle.dft_stil.specs.Reading.{ReadsText};
+
+use crate::act::Acts;
+use crate::faults::{fault_at, unknown};
+use crate::names::Names;
+use crate::read_error::ReadError;
+use crate::shape_table::ShapeTable;
+use crate::tables::Tables;
+use crate::text::{Cause, TokenKind};
+use crate::tokens::Tokens;
+use crate::vector::{Vector, assignment};
+use std::alloc::{AllocError, Global};
+
+/// A pattern so far: the table of the last `W`, by number, the acts of the last vector, and the vectors.
+#[derive(Debug, Drop)]
+pub struct Pattern {
+    pub table: Option<usize>,
+    pub acts: Acts,
+    pub vectors: Vec<Acts>,
+}
+
+// The shapes of a table by number, if there is one.
+fn shapes_at(tables: &Tables, number: Option<usize>) -> Option<&ShapeTable>
+    ensures value { option_map (λ s. s.now) result ≡ spec.shapes_at tables.now number }
+    ensures wide { (count : ℕ) → AreWide count tables.now → IfSome result (λ s. IsWide count s.now) }
+{
+    tables.shapes(number?)
+}
+
+// A vector that mentions no signal, behind one with these acts.
+fn begun(alloc: Global, acts: &[crate::act::Act]) -> Result<Vector, AllocError>
+    ensures value { IfOk result (λ v. vector_as v ≡ spec.begun acts.now) }
+    ensures acts { IfOk result (λ v. length v.acts ≡ length acts.now) }
+    ensures told { IfOk result (λ v. length v.told.items ≡ length acts.now) }
+{
+    Ok(Vector {
+        acts: Acts::copied(alloc, acts)?,
+        told: vec![in alloc; false; acts.len()]?,
+    })
+}
+
+// The assignments of a vector, and its brace.
+fn assignments(
+    alloc: Global,
+    names: &Names,
+    shapes: Option<&ShapeTable>,
+    begun: Vector,
+    tokens: &mut Tokens<'_>,
+) -> Result<Vector, ReadError>
+    requires acts { length begun.acts ≡ length names.now.signals }
+    requires told { length begun.told.items ≡ length names.now.signals }
+    requires wide { IfSome shapes (λ s. IsWide (length names.now.signals) s.now) }
+    ensures read { ReadsText vector_as (spec.assignments_from (left tokens.old) names.now (option_map (λ s. s.now) shapes.entry) (vector_as begun) tokens.old) result tokens.new }
+    ensures acts { IfOk result (λ v. length v.acts ≡ length names.now.signals) }
+{
+    let mut vector = begun;
+    'turns: for _turn in 0..tokens.left() {
+        if tokens.eat(TokenKind::CloseBrace) {
+            return Ok(vector);
+        }
+        vector = assignment(alloc, names, shapes, vector, tokens)?;
+    }
+    Err(tokens.no_token())
+}
+
+#[tactic(auto, unfolding(crate::specs::Statements::vector))]
+// `V` and its assignments. There may be so many vectors at most.
+fn vector(
+    alloc: Global,
+    names: &Names,
+    tables: &Tables,
+    most: usize,
+    pattern: &mut Pattern,
+    tokens: &mut Tokens<'_>,
+) -> Result<(), ReadError>
+    requires acts { length pattern.old.acts ≡ length names.now.signals }
+    requires wide { AreWide (length names.now.signals) tables.now }
+    ensures read { ReadsText (λ _. pattern_as pattern.new) (spec.vector most names.now tables.now (pattern_as pattern.old) tokens.old) result tokens.new }
+    ensures acts { OnOk result (length pattern.new.acts ≡ length names.now.signals) }
+{
+    let place = tokens.left();
+    tokens.keyword(b"V")?;
+    if pattern.vectors.len() >= most {
+        return Err(fault_at(Cause::Count, place));
+    }
+    tokens.expect(TokenKind::OpenBrace)?;
+    let begun = begun(alloc, pattern.acts.as_slice())?;
+    let shapes = shapes_at(tables, pattern.table);
+    let vector = assignments(alloc, names, shapes, begun, tokens)?;
+    pattern
+        .vectors
+        .push(Acts::copied(alloc, vector.acts.as_slice())?)?;
+    pattern.acts = vector.acts;
+    Ok(())
+}
+
+#[tactic(auto, unfolding(crate::specs::Statements::table_used))]
+// The name of a table, and a semicolon.
+fn table_used(
+    alloc: Global,
+    tables: &Tables,
+    pattern: &mut Pattern,
+    tokens: &mut Tokens<'_>,
+) -> Result<(), ReadError>
+    ensures read { ReadsText (λ _. pattern_as pattern.new) (spec.table_used tables.now (pattern_as pattern.old) tokens.old) result tokens.new }
+    ensures acts { OnOk result (length pattern.new.acts ≡ length pattern.old.acts) }
+{
+    let place = tokens.left();
+    let word = tokens.name()?;
+    let Some(number) = tables.number(word) else {
+        return Err(unknown(alloc, word, place));
+    };
+    tokens.expect(TokenKind::Semicolon)?;
+    pattern.table = Some(number);
+    Ok(())
+}
+
+#[tactic(auto, unfolding(crate::specs::Statements::labelled))]
+// A label, and a vector.
+fn labelled(
+    alloc: Global,
+    names: &Names,
+    tables: &Tables,
+    most: usize,
+    pattern: &mut Pattern,
+    tokens: &mut Tokens<'_>,
+) -> Result<(), ReadError>
+    requires acts { length pattern.old.acts ≡ length names.now.signals }
+    requires wide { AreWide (length names.now.signals) tables.now }
+    ensures read { ReadsText (λ _. pattern_as pattern.new) (spec.labelled most names.now tables.now (pattern_as pattern.old) tokens.old) result tokens.new }
+    ensures acts { OnOk result (length pattern.new.acts ≡ length names.now.signals) }
+{
+    tokens.name()?;
+    tokens.expect(TokenKind::Colon)?;
+    vector(alloc, names, tables, most, pattern, tokens)
+}
+
+#[tactic(auto, unfolding(crate::specs::Statements::statement))]
+// A statement: `W` without quotes, `V` without quotes, or a label.
+fn statement(
+    alloc: Global,
+    names: &Names,
+    tables: &Tables,
+    most: usize,
+    pattern: &mut Pattern,
+    tokens: &mut Tokens<'_>,
+) -> Result<(), ReadError>
+    requires acts { length pattern.old.acts ≡ length names.now.signals }
+    requires wide { AreWide (length names.now.signals) tables.now }
+    ensures read { ReadsText (λ _. pattern_as pattern.new) (spec.statement most names.now tables.now (pattern_as pattern.old) tokens.old) result tokens.new }
+    ensures acts { OnOk result (length pattern.new.acts ≡ length names.now.signals) }
+{
+    if tokens.sees_word(b"W") {
+        tokens.take();
+        table_used(alloc, tables, pattern, tokens)
+    } else if tokens.sees_word(b"V") {
+        vector(alloc, names, tables, most, pattern, tokens)
+    } else if tokens.sees_left_out() {
+        Err(tokens.unsupported())
+    } else {
+        labelled(alloc, names, tables, most, pattern, tokens)
+    }
+}
+
+/// The statements of a pattern, and its brace.
+pub fn statements(
+    alloc: Global,
+    names: &Names,
+    tables: &Tables,
+    most: usize,
+    pattern: &mut Pattern,
+    tokens: &mut Tokens<'_>,
+) -> Result<(), ReadError>
+    requires acts { length pattern.old.acts ≡ length names.now.signals }
+    requires wide { AreWide (length names.now.signals) tables.now }
+    ensures { ReadsText (λ _. pattern_as pattern.new) (spec.statements_from (left tokens.old) most names.now tables.now (pattern_as pattern.old) tokens.old) result tokens.new }
+{
+    'turns: for _turn in 0..tokens.left() {
+        if tokens.eat(TokenKind::CloseBrace) {
+            return Ok(());
+        }
+        statement(alloc, names, tables, most, pattern, tokens)?;
+    }
+    Err(tokens.no_token())
+}

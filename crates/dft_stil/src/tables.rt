@@ -1,0 +1,62 @@
+ghost use Rattle.std.specs.Prelude.{◌≡◌, None, option_map, slice_get, OnOk};
+ghost use Rattle.dft_stil.specs.Namings.{number_of};
+ghost use Rattle.dft_stil.specs.Timings as spec;
+
+use crate::known_names::KnownNames;
+use crate::shape_table::ShapeTable;
+use std::alloc::{AllocError, Global};
+use std::marker::Model;
+
+/// The tables of a pattern text, found by name (IEEE 1450-1999 `WaveformTable`).
+#[derive(Debug, Drop)]
+pub struct Tables {
+    names: KnownNames,
+    shapes: Vec<ShapeTable>,
+}
+
+impl Model for Tables {
+    ghost use Rattle.dft_stil.specs.Timings as timings;
+
+    ghost Value = { timings.Tables };
+
+    ghost use Rattle.dft_stil.specs.TablesShown.{tables_of};
+
+    ghost view = { tables_of };
+}
+
+impl Tables {
+    /// No table.
+    pub fn new(alloc: Global) -> Tables
+        ensures { result ≡ spec.no_tables }
+    {
+        Tables {
+            names: KnownNames::new(alloc),
+            shapes: Vec::new(alloc),
+        }
+    }
+
+    /// The number of the table with this name.
+    pub fn number(&self, word: &[u8]) -> Option<usize>
+        ensures { result ≡ number_of self.now.names word.now }
+    {
+        self.names.number(word)
+    }
+
+    /// The shapes of a table by number.
+    pub fn shapes(&self, number: usize) -> Option<&ShapeTable>
+        ensures { option_map (λ s. s.now) result ≡ slice_get self.now.shapes number }
+    {
+        self.shapes.get(number)
+    }
+
+    /// Adds a table, whose name no other has.
+    pub fn add(&mut self, alloc: Global, word: &[u8], shapes: ShapeTable) -> Result<(), AllocError>
+        requires { number_of self.old.names word.now ≡ None }
+        ensures { OnOk result (self.new ≡ spec.with_table self.old word.now shapes) }
+    {
+        self.shapes.reserve(1)?;
+        self.names.add(Vec::from_slice(alloc, word)?)?;
+        self.shapes.push_reserved(shapes);
+        Ok(())
+    }
+}

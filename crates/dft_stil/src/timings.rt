@@ -1,0 +1,308 @@
+//! The tables of waveforms of a pattern text (IEEE 1450-1999 `Timing`).
+
+ghost use Rattle.std.specs.Prelude.{◌≡◌, ◌<◌, ◌^◌, length, IfOk, OnOk, option_map};
+ghost use Rattle.dft_base.specs.Name.{IsName};
+ghost use Rattle.dft_stil.specs.Timings as spec;
+ghost use Rattle.dft_stil.specs.Steps.{left, bytes};
+ghost use Rattle.dft_stil.specs.MembersShown.{AreBelow};
+ghost use Rattle.dft_stil.specs.ShapeTableShown.{IsWide};
+ghost use Rattle.dft_stil.specs.TablesShown.{table_as, timing_as, AreWide};
+ghost use Rattle.dft_stil.specs.declared.shapes.Drawing.TheVariants as drawings;
+ghost use Rattle.dft_stil.specs.Reading.{ReadsText};
+
+use crate::faults::{fault_at, taken, unknown, unsupported_at};
+use crate::names::Names;
+use crate::namings::name_if_any;
+use crate::read_error::ReadError;
+use crate::shape_table::ShapeTable;
+use crate::shapes::{Drawing, Event, act_drawn, act_of_events, begins_shape, extended};
+use crate::tables::Tables;
+use crate::text::{Cause, TokenKind};
+use crate::times::Times;
+use crate::tokens::Tokens;
+use std::alloc::Global;
+
+/// A table so far: its shapes and its times.
+#[derive(Debug, Drop)]
+pub struct Table {
+    pub shapes: ShapeTable,
+    pub times: Times,
+}
+
+#[tactic(auto, unfolding(crate::specs::Timings::time))]
+// A time between single quotes, in picoseconds.
+fn time(tokens: &mut Tokens<'_>) -> Result<u64, ReadError>
+    ensures { ReadsText (λ n. n) (spec.time tokens.old) result tokens.new }
+{
+    tokens.expect(TokenKind::Quote)?;
+    let value = tokens.small_number()?;
+    let worth = tokens.unit()?;
+    tokens.expect(TokenKind::Quote)?;
+    Ok(value * worth)
+}
+
+// Whether these events begin a shape of each of these signals.
+fn begin_all(names: &Names, signals: &[usize], drawing: Drawing) -> bool
+    ensures { result ≡ spec.begin_all names.now signals.now drawing }
+{
+    signals
+        .iter()
+        .all(|signal| begins_shape(names.dir_of(*signal), drawing))
+}
+
+#[tactic(auto, unfolding(crate::specs::Timings::event_letter))]
+// The letter of an event at a time.
+fn event_letter(
+    alloc: Global,
+    names: &Names,
+    signals: &[usize],
+    drawing: Drawing,
+    time: u64,
+    tokens: &mut Tokens<'_>,
+) -> Result<Drawing, ReadError>
+    ensures { ReadsText (λ d. d) (spec.event_letter names.now signals.now drawing time tokens.old) result tokens.new }
+{
+    let place = tokens.left();
+    let word = tokens.bytes();
+    let letter = tokens.letter()?;
+    let more = extended(drawing, Event { letter, time });
+    if begin_all(names, signals, more) {
+        Ok(more)
+    } else {
+        Err(unsupported_at(alloc, word, place))
+    }
+}
+
+#[tactic(auto, unfolding(crate::specs::Timings::event))]
+// An event more.
+fn event(
+    alloc: Global,
+    names: &Names,
+    signals: &[usize],
+    drawing: Drawing,
+    tokens: &mut Tokens<'_>,
+) -> Result<Drawing, ReadError>
+    ensures { ReadsText (λ d. d) (spec.event names.now signals.now drawing tokens.old) result tokens.new }
+{
+    let at = time(tokens)?;
+    let more = event_letter(alloc, names, signals, drawing, at, tokens)?;
+    tokens.expect(TokenKind::Semicolon)?;
+    Ok(more)
+}
+
+// The brace that ends a shape, which may not come too early.
+fn ended(drawing: Drawing, tokens: &mut Tokens<'_>) -> Result<Drawing, ReadError>
+    requires { IsName (bytes tokens.old) }
+    ensures { ReadsText (λ d. d) (spec.ended drawing (spec.act_of_events drawing) tokens.old) result tokens.new }
+{
+    match act_of_events(drawing) {
+        Some(_) => {
+            tokens.take();
+            Ok(drawing)
+        }
+        None => Err(tokens.unsupported()),
+    }
+}
+
+// The events of a shape, and its brace.
+fn events(
+    alloc: Global,
+    names: &Names,
+    signals: &[usize],
+    tokens: &mut Tokens<'_>,
+) -> Result<Drawing, ReadError>
+    ensures { ReadsText (λ d. d) (spec.events_from (left tokens.old) names.now signals.now drawings.Begun tokens.old) result tokens.new }
+{
+    let mut drawing = Drawing::Begun;
+    'turns: for _turn in 0..tokens.left() {
+        if tokens.sees(TokenKind::CloseBrace) {
+            return ended(drawing, tokens);
+        }
+        drawing = event(alloc, names, signals, drawing, tokens)?;
+    }
+    Err(tokens.no_token())
+}
+
+#[tactic(auto, unfolding(crate::specs::Timings::shape))]
+// A shape of these signals: a character, which none of them may have so far, and its events.
+fn shape(
+    alloc: Global,
+    names: &Names,
+    signals: &[usize],
+    table: &mut Table,
+    tokens: &mut Tokens<'_>,
+) -> Result<(), ReadError>
+    requires wide { IsWide (length names.now.signals) table.old.shapes }
+    requires inside { AreBelow (length names.now.signals) signals.now }
+    ensures read { ReadsText (λ _. table_as table.new) (spec.shape names.now signals.now (table_as table.old) tokens.old) result tokens.new }
+    ensures wide { OnOk result (IsWide (length names.now.signals) table.new.shapes) }
+{
+    let place = tokens.left();
+    let character = tokens.character()?;
+    if table.shapes.is_given(names.count(), signals, character) {
+        return Err(taken(alloc, &[character], place));
+    }
+    tokens.expect(TokenKind::OpenBrace)?;
+    let drawing = events(alloc, names, signals, tokens)?;
+    table
+        .shapes
+        .set_all(names.count(), signals, character, act_drawn(drawing));
+    table.times = table.times.with_times(drawing);
+    Ok(())
+}
+
+// The shapes of some signals, and their brace.
+fn shapes(
+    alloc: Global,
+    names: &Names,
+    signals: &[usize],
+    table: &mut Table,
+    tokens: &mut Tokens<'_>,
+) -> Result<(), ReadError>
+    requires wide { IsWide (length names.now.signals) table.old.shapes }
+    requires inside { AreBelow (length names.now.signals) signals.now }
+    ensures read { ReadsText (λ _. table_as table.new) (spec.shapes_from (left tokens.old) names.now signals.now (table_as table.old) tokens.old) result tokens.new }
+    ensures wide { OnOk result (IsWide (length names.now.signals) table.new.shapes) }
+{
+    'turns: for _turn in 0..tokens.left() {
+        if tokens.eat(TokenKind::CloseBrace) {
+            return Ok(());
+        }
+        shape(alloc, names, signals, table, tokens)?;
+    }
+    Err(tokens.no_token())
+}
+
+#[tactic(auto, unfolding(crate::specs::Timings::wave))]
+// The name of signals, and their shapes.
+fn wave(
+    alloc: Global,
+    names: &Names,
+    table: &mut Table,
+    tokens: &mut Tokens<'_>,
+) -> Result<(), ReadError>
+    requires { IsWide (length names.now.signals) table.old.shapes }
+    ensures read { ReadsText (λ _. table_as table.new) (spec.wave names.now (table_as table.old) tokens.old) result tokens.new }
+    ensures wide { OnOk result (IsWide (length names.now.signals) table.new.shapes) }
+{
+    let place = tokens.left();
+    let word = tokens.name()?;
+    let Some(meant) = names.elsewhere(word) else {
+        return Err(unknown(alloc, word, place));
+    };
+    tokens.expect(TokenKind::OpenBrace)?;
+    shapes(alloc, names, meant.signals, table, tokens)
+}
+
+// The waves of a table, and their brace.
+fn waves(
+    alloc: Global,
+    names: &Names,
+    table: &mut Table,
+    tokens: &mut Tokens<'_>,
+) -> Result<(), ReadError>
+    requires { IsWide (length names.now.signals) table.old.shapes }
+    ensures read { ReadsText (λ _. table_as table.new) (spec.waves_from (left tokens.old) names.now (table_as table.old) tokens.old) result tokens.new }
+    ensures wide { OnOk result (IsWide (length names.now.signals) table.new.shapes) }
+{
+    'turns: for _turn in 0..tokens.left() {
+        if tokens.eat(TokenKind::CloseBrace) {
+            return Ok(());
+        }
+        wave(alloc, names, table, tokens)?;
+    }
+    Err(tokens.no_token())
+}
+
+#[tactic(auto, unfolding(crate::specs::Timings::table_body))]
+// What stands in a table. At its last brace its times must fit.
+fn table_body(
+    alloc: Global,
+    names: &Names,
+    tokens: &mut Tokens<'_>,
+) -> Result<ShapeTable, ReadError>
+    ensures read { ReadsText (λ s. s) (spec.table_body names.now tokens.old) result tokens.new }
+    ensures wide { IfOk result (λ s. IsWide (length names.now.signals) s) }
+{
+    tokens.expect(TokenKind::OpenBrace)?;
+    tokens.keyword(b"Period")?;
+    let period = time(tokens)?;
+    tokens.expect(TokenKind::Semicolon)?;
+    tokens.keyword(b"Waveforms")?;
+    tokens.expect(TokenKind::OpenBrace)?;
+    let mut table = Table {
+        shapes: ShapeTable::new(alloc, names.count())?,
+        times: Times::none(),
+    };
+    waves(alloc, names, &mut table, tokens)?;
+    let place = tokens.left();
+    tokens.expect(TokenKind::CloseBrace)?;
+    if table.times.fit(period) {
+        Ok(table.shapes)
+    } else {
+        Err(fault_at(Cause::Times, place))
+    }
+}
+
+#[tactic(auto, using(crate::proofs::TableLemmas::wide_tables), unfolding(crate::specs::Timings::table))]
+// A table, whose name no other may have so far.
+fn one_table(
+    alloc: Global,
+    names: &Names,
+    tables: &mut Tables,
+    tokens: &mut Tokens<'_>,
+) -> Result<(), ReadError>
+    requires { AreWide (length names.now.signals) tables.old }
+    ensures read { ReadsText (λ _. tables.new) (spec.table names.now tables.old tokens.old) result tokens.new }
+    ensures wide { OnOk result (AreWide (length names.now.signals) tables.new) }
+{
+    tokens.keyword(b"WaveformTable")?;
+    let place = tokens.left();
+    let word = tokens.name()?;
+    if tables.number(word).is_some() {
+        return Err(taken(alloc, word, place));
+    }
+    let shapes = table_body(alloc, names, tokens)?;
+    tables.add(alloc, word, shapes)?;
+    Ok(())
+}
+
+#[tactic(auto, using(crate::proofs::TableLemmas::wide_tables))]
+// The tables of the block, and its brace.
+fn all_tables(alloc: Global, names: &Names, tokens: &mut Tokens<'_>) -> Result<Tables, ReadError>
+    ensures read { ReadsText (λ t. t) (spec.tables_from (left tokens.old) names.now spec.no_tables tokens.old) result tokens.new }
+    ensures wide { IfOk result (λ t. AreWide (length names.now.signals) t) }
+{
+    let mut tables = Tables::new(alloc);
+    'turns: for _turn in 0..tokens.left() {
+        if tokens.eat(TokenKind::CloseBrace) {
+            return Ok(tables);
+        }
+        one_table(alloc, names, &mut tables, tokens)?;
+    }
+    Err(tokens.no_token())
+}
+
+/// The block of tables: its name, if it has one, and the tables.
+#[derive(Debug, Drop)]
+pub struct Timing<'a> {
+    pub name: Option<&'a [u8]>,
+    pub tables: Tables,
+}
+
+#[tactic(auto, unfolding(crate::specs::Timings::timing))]
+/// The block of tables.
+pub fn timing_block<'a>(
+    alloc: Global,
+    names: &Names,
+    tokens: &mut Tokens<'a>,
+) -> Result<Timing<'a>, ReadError>
+    ensures read { ReadsText timing_as (spec.timing names.now tokens.old) result tokens.new }
+    ensures wide { IfOk result (λ t. AreWide (length names.now.signals) t.tables) }
+{
+    tokens.keyword(b"Timing")?;
+    let name = name_if_any(tokens)?;
+    tokens.expect(TokenKind::OpenBrace)?;
+    let tables = all_tables(alloc, names, tokens)?;
+    Ok(Timing { name, tables })
+}

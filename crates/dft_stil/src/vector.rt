@@ -1,0 +1,91 @@
+//! One vector of a pattern (IEEE 1450-1999 `V`).
+
+ghost use Rattle.std.specs.Prelude.{◌≡◌, ◌<◌, length, option_map, IfOk, IfSome};
+ghost use Rattle.std.specs.List.{list_any};
+ghost use Rattle.dft_stil.specs.Statements as spec;
+ghost use Rattle.dft_stil.specs.Steps.{left};
+ghost use Rattle.dft_stil.specs.MembersShown.{AreBelow, meant as meant_as};
+ghost use Rattle.dft_stil.specs.ShapeTableShown.{IsWide};
+ghost use Rattle.dft_stil.specs.VectorShown.{vector_as, told_of};
+ghost use Rattle.dft_stil.specs.Reading.{ReadsText};
+
+use crate::act::Acts;
+use crate::characters::characters;
+use crate::faults::{taken, unknown};
+use crate::members::Meant;
+use crate::names::Names;
+use crate::read_error::ReadError;
+use crate::shape_table::ShapeTable;
+use crate::text::TokenKind;
+use crate::tokens::Tokens;
+use std::alloc::Global;
+
+/// A vector so far: its acts, and flags for the signals that it mentions.
+#[derive(Debug, Drop)]
+pub struct Vector {
+    pub acts: Acts,
+    pub told: Vec<bool>,
+}
+
+// Whether one of these signals is flagged.
+fn is_flagged(told: &[bool], signals: &[usize]) -> bool
+    requires { AreBelow (length told.now) signals.now }
+    ensures { result ≡ list_any (told_of told.now) signals.now }
+{
+    for signal in signals {
+        if told[*signal] {
+            return true;
+        }
+    }
+    false
+}
+
+// Flags these signals.
+fn flag(told: &mut [bool], signals: &[usize])
+    requires { AreBelow (length told.old) signals.now }
+    ensures told { told_of told.new ≡ spec.with_told signals.now (told_of told.old) }
+    ensures length { length told.new ≡ length told.old }
+{
+    for signal in signals {
+        told[*signal] = true;
+    }
+}
+
+// Whether the vector mentions one of these signals, or they mention one twice.
+fn is_told(vector: &Vector, meant: Meant<'_>) -> bool
+    requires { AreBelow (length vector.now.told.items) meant.signals.now }
+    ensures { result ≡ spec.is_told (vector_as vector.now) (meant_as meant.entry) }
+{
+    meant.repeated || is_flagged(&vector.told, meant.signals)
+}
+
+#[tactic(auto, unfolding(crate::specs::Statements::assignment))]
+/// The name of signals, none of which the vector may mention so far, and their characters.
+pub fn assignment(
+    alloc: Global,
+    names: &Names,
+    shapes: Option<&ShapeTable>,
+    vector: Vector,
+    tokens: &mut Tokens<'_>,
+) -> Result<Vector, ReadError>
+    requires acts { length vector.acts ≡ length names.now.signals }
+    requires told { length vector.told.items ≡ length names.now.signals }
+    requires wide { IfSome shapes (λ s. IsWide (length names.now.signals) s.now) }
+    ensures read { ReadsText vector_as (spec.assignment names.now (option_map (λ s. s.now) shapes.entry) (vector_as vector) tokens.old) result tokens.new }
+    ensures acts { IfOk result (λ v. length v.acts ≡ length names.now.signals) }
+    ensures told { IfOk result (λ v. length v.told.items ≡ length names.now.signals) }
+{
+    let place = tokens.left();
+    let word = tokens.name()?;
+    let Some(meant) = names.elsewhere(word) else {
+        return Err(unknown(alloc, word, place));
+    };
+    if is_told(&vector, meant) {
+        return Err(taken(alloc, word, place));
+    }
+    tokens.expect(TokenKind::Equals)?;
+    let Vector { acts, mut told } = vector;
+    let acts = characters(shapes, meant.signals, acts, tokens)?;
+    flag(&mut told, meant.signals);
+    Ok(Vector { acts, told })
+}

@@ -1,0 +1,14 @@
+use Rattle.std.proofs.Common.{List, rules, arith, subst}
+use Rattle.std.proofs.lemmas.Grind.{common_steps}
+use Rattle.dft_netlist.specs.declared.instance.Signal.{Signal}
+use Rattle.dft_netlist.specs.Items.{one_bit, pin_signal}
+use Rattle.dft_verilog.specs.Reading.{Reads}
+use Rattle.dft_verilog.proofs.connections.pin_signal.Goals as goal
+
+pub returns-clause-read : goal.returns-clause-read
+unfolding pin_signal
+returns-clause-read c =
+    let d = c.expression.new.draft in
+    let ts = c.expression.new.tokens in
+    let one = subst (λ (bits : List Signal). Reads (λ bit. (d, bit)) (one_bit c.args.place d bits ts) c.one_bit.result ts) c.as_slice.ensures (c.one_bit.ensures.read d ts) in
+    first_of (search rules, grind (arith, common_steps))
