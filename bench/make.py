@@ -1,9 +1,10 @@
 #!/usr/bin/env python3
-"""Makes a netlist and patterns to time `dft replay` on: make.py GATES VECTORS CLOCKS FOLDER
+"""Makes a netlist, patterns and a configuration to time `dft` on: make.py GATES VECTORS CLOCKS FOLDER
 
 The netlist has GATES two-input gates, one flip-flop for five gates, 32 data inputs, 32 outputs and CLOCKS clock
 inputs that take turns over the flip-flops. The patterns pulse every clock in each of VECTORS vectors, set the data
-inputs at random and compare nothing, so that all vectors are replayed. The same words make the same files.
+inputs at random and compare nothing, so that all vectors are replayed. The configuration asks for a chain for each
+100 flip-flops, up to 1,024 chains, with a domain for each clock. The same words make the same files.
 """
 import random
 import sys
@@ -63,6 +64,16 @@ def patterns(vectors, clocks, out):
     out.write("}\n")
 
 
+def configuration(flops, clocks, out):
+    chains, stages = min(1024, max(1, flops // 100)), 32
+    domains = ", ".join(f'"clk{i}"' for i in range(clocks))
+    phase = ", ".join(f"[{chain % stages}]" for chain in range(chains))
+    groups = ", ".join(str(chain) for chain in range(chains))
+    out.write(f"version = 1\ndomains = [{domains}]\nchains = {chains}\n")
+    out.write(f"[ring]\nstages = {stages}\nchannels = 1\ntaps = []\ninjectors = [[0, 0]]\nphase = [{phase}]\n")
+    out.write(f"[compactor]\ngroups = [[{groups}]]\nmask_inputs = 1\n")
+
+
 def main():
     gates, vectors, clocks, folder = int(sys.argv[1]), int(sys.argv[2]), int(sys.argv[3]), sys.argv[4]
     random.seed(gates * 1000003 + vectors * 1009 + clocks)
@@ -70,6 +81,8 @@ def main():
         netlist(gates, clocks, out)
     with open(f"{folder}/bench.stil", "w") as out:
         patterns(vectors, clocks, out)
+    with open(f"{folder}/bench.toml", "w") as out:
+        configuration(gates // 5, clocks, out)
 
 
 if __name__ == "__main__":
