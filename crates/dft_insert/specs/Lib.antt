@@ -2,6 +2,7 @@ pub mod Moves
 pub mod AddedPorts
 pub mod Stitching
 pub mod Written
+pub mod CellTables
 pub mod Refusals
 pub mod Keeping
 pub mod Hardware

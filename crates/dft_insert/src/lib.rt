@@ -1,12 +1,17 @@
 //! The scanned netlist of a design: its scan cells, its scan chains and their ports, and the laws of shifting and of scan off.
 #![tactic(auto)]
 
+mod adding;
+mod building;
+mod cell_nets;
 mod error;
+mod insertion;
 mod laws;
 mod scanned;
 mod style;
 
 pub use error::InsertError;
+pub use insertion::insert;
 pub use laws::{
     chains_shift, scan_off_agrees, scanned_agrees, scanned_finishes, scanned_keeps, scanned_shifts,
 };
