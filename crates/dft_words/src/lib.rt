@@ -1,0 +1,8 @@
+//! What the words of a command line are.
+#![tactic(auto)]
+
+mod commands;
+mod words;
+
+pub use commands::{Command, ReplayFiles, ScanFiles};
+pub use words::command;
