@@ -1,8 +1,9 @@
 -- What `clap` makes of one word behind a command.
-use Rattle.std.proofs.Common.{◌≡◌, ◌==◌, ◌||◌, ℕ, Bool, true, false, not, List, [], ◌∷◌, map, find, Option, Some, None, IfSome, option_map, if◌then◌else◌, codes, bytes_eq, refl, sym, ap, ◌∙◌, subst, cond, true≢false}
+use Rattle.std.proofs.Common.{◌≡◌, ◌==◌, ◌||◌, ℕ, nat_lt, Bool, true, false, not, List, [], ◌∷◌, map, find, Option, Some, None, IfSome, option_map, if◌then◌else◌, codes, bytes_eq, refl, sym, ap, ◌∙◌, subst, cond, true≢false}
 use Rattle.std.specs.Option.{option_map_or}
+use Rattle.std.proofs.lemmas.Slice.Eq.{bytes_eq-Decides}
 use Rattle.clap.specs.Lexer.{long_of, short_of, name_and_value}
-use Rattle.clap.specs.Faults.{long_fault, react_fault, repeat_fault, settle_fault, step_fault, turn_fault, use_fault, word_fault}
+use Rattle.clap.specs.Faults.{long_fault, positional_fault, react_fault, repeat_fault, settle_fault, step_fault, turn_fault, use_fault, word_fault}
 use Rattle.clap.specs.Kinds.{Kinds, or_else}
 use Rattle.clap.specs.declared.error.kind.ErrorKind.{ErrorKind}
 use Rattle.clap.specs.declared.error.kind.ErrorKind.TheVariants as kind
@@ -172,3 +173,90 @@ module _ (f : Form) (good : are_names f.options ≡ true) where
   pub joined_walked : (o : Known) (v : Text) (h : Held) → Has f.options o →
       walked (rules f.options) [] (at idle h) (word_of o.name (Some v)) ≡ at idle (reacted (rules f.options) (rule o) (v ∷ []) h)
   joined_walked o v h has = walked_of o (Some v) h has
+
+-- ---- words where no option waits
+
+plain_turn : (f : Form) (w : Text) (h : Held) → IsPlainWord w → turn_fault (shape f) [] (at idle h) w ≡ kind.UnknownArgument ∷ []
+plain_turn f w h plain = rw (plain.escape, plain.long, plain.short) (ap (λ r. option_map_or (λ a. positional_fault (rules f.options) false a h) r (kind.UnknownArgument ∷ [])) (no_position f.options 1))
+
+waits_word_fault : (f : Form) (id w : Text) (h : Held) (long : IsLongWord w) → word_fault (shape f) [] false (option id) w h ≡ long_fault (rules f.options) false (arg_by_long (rules f.options) long.parts.0) long.parts.1 h
+waits_word_fault f id w h long = rw (long.escape, long.long) refl
+
+long_word_fault : (f : Form) (w : Text) (h : Held) (long : IsLongWord w) → word_fault (shape f) [] false idle w h ≡ long_fault (rules f.options) false (arg_by_long (rules f.options) long.parts.0) long.parts.1 h
+long_word_fault f w h long = rw (long.escape, long.long) refl
+
+no_option : (q : Option Known) (v : Option Text) → met q v ≡ None → q ≡ None
+no_option None v e = refl
+no_option (Some o) v e = absurd cc
+
+unknown_long : (f : Form) (w : Text) (h : Held) (long : IsLongWord w) → option_of f.options w ≡ None → turn_fault (shape f) [] (at idle h) w ≡ [] → ⊥
+unknown_long f w h long none passes =
+    let unnamed : find_known f.options long.parts.0 ≡ None = no_option _ long.parts.1 (ap (option_from f.options) (sym long.long) ∙ none) in
+    let fault : long_fault (rules f.options) false (arg_by_long (rules f.options) long.parts.0) long.parts.1 h ≡ kind.UnknownArgument ∷ []
+    = ap (λ r. long_fault (rules f.options) false r long.parts.1 h) (by_long f.options long.parts.0 ∙ ap (option_map rule) unnamed) in
+    not_empty kind.UnknownArgument (sym fault ∙ sym (long_word_fault f w h long) ∙ first_none _ _ passes)
+
+-- a word that is no option's fails
+pub unknown_fails : (f : Form) (w : Text) (h : Held) → may_stand w ≡ true → option_of f.options w ≡ None → turn_fault (shape f) [] (at idle h) w ≡ [] → ⊥
+unknown_fails f w h stands none = go (is_plain w) (shape_of w stands)
+  where
+    go : (b : Bool) → Shapes w b → turn_fault (shape f) [] (at idle h) w ≡ [] → ⊥
+    go true plain passes = not_empty kind.UnknownArgument (sym (plain_turn f w h plain) ∙ passes)
+    go false long passes = unknown_long f w h long none passes
+
+-- ---- words where an option waits for its value
+
+module _ (os : List Known) (o : Known) (has : Has os o) (rows : List Row) (skip : ℕ) where
+  with_id : arg_by_id (rules os) o.name ≡ Some (rule o)
+  with_id = by_id os o.name ∙ ap (option_map rule) has
+
+  pub waits_settle : settle_fault (rules os) false (still_waits o.name rows skip) ≡ kind.InvalidValue ∷ []
+  waits_settle = ap (λ r. option_map_or (λ a. use_fault false a [] rows) r []) with_id
+
+  pub value_settle : (v : Text) → settle_fault (rules os) false (has_value o.name v rows skip) ≡ or_else (repeat_fault false o.name rows) []
+  value_settle v = ap (λ r. option_map_or (λ a. use_fault false a (v ∷ []) rows) r []) with_id
+
+  pub value_rows : (v : Text) → (settled (rules os) (has_value o.name v rows skip)).rows ≡ used (rule o) (v ∷ []) rows
+  value_rows v = ap (λ r. used_by_id r (v ∷ []) rows) with_id
+
+long_waits : (os : List Known) (q : Option Known) (v : Option Text) (h : Held) → (settle_fault (rules os) false h ≡ [] → ⊥) → long_fault (rules os) false (option_map rule q) v h ≡ [] → ⊥
+long_waits os None v h unsettled passes = not_empty kind.UnknownArgument passes
+long_waits os (Some o) None h unsettled passes = unsettled passes
+long_waits os (Some o) (Some v) h unsettled passes = unsettled (first_none _ _ passes)
+
+-- a flag in place of a value fails
+pub flag_fails : (f : Form) (o : Known) (rows : List Row) (skip : ℕ) (w : Text) → Has f.options o → may_stand w ≡ true → is_plain w ≡ false → turn_fault (shape f) [] (at (option o.name) (still_waits o.name rows skip)) w ≡ [] → ⊥
+flag_fails f o rows skip w has stands not_plain passes =
+    let long : IsLongWord w = subst (Shapes w) not_plain (shape_of w stands) in
+    let h = still_waits o.name rows skip in
+    long_waits f.options (find_known f.options long.parts.0) long.parts.1 h (λ e. not_empty kind.InvalidValue (sym (waits_settle f.options o has rows skip) ∙ e))
+    (ap (λ r. long_fault (rules f.options) false r long.parts.1 h) (sym (by_long f.options long.parts.0)) ∙ sym (waits_word_fault f o.name w h long) ∙ first_none _ _ passes)
+
+pub value_turn : (f : Form) (n : Text) (h : Held) (w : Text) → may_stand w ≡ true → is_plain w ≡ true → turn_fault (shape f) [] (at (option n) h) w ≡ []
+value_turn f n h w stands is_plain = let plain = plain_of w stands is_plain in rw (plain.escape, plain.long, plain.short) refl
+
+value_met : (os : List Known) (id w : Text) (h : Held) → IsPlainWord w → word_met (rules os) [] false (option id) 1 w h ≡ plain_word (rules os) (option id) w h
+value_met os id w h plain = rw (plain.escape, plain.long, plain.short) refl
+
+after_value : (os : List Known) (id w : Text) (h : Held) → IsPlainWord w →
+    walked (rules os) [] (at (option id) h) w ≡ after_step (rules os) w (at (option id) h) (plain_word (rules os) (option id) w h).0 (plain_word (rules os) (option id) w h).1
+unfolding walked
+after_value os id w h plain = rw (value_met os id w h plain) refl
+
+same_bytes : (t : Text) → bytes_eq t t ≡ true
+same_bytes t = (bytes_eq-Decides t t).1 refl
+
+-- the walk behind a value, by the rule of the option
+abbrev value_walked_by : Text → Text → List Row → ℕ → Option Rule → Walk
+value_walked_by n w rows skip r =
+    let met = option_word r n w (still_waits n rows skip) in
+    at met.1 met.0
+
+value_step : (o : Known) (w : Text) (rows : List Row) (skip : ℕ) → value_walked_by o.name w rows skip (Some (rule o)) ≡ at idle (has_value o.name w rows skip)
+value_step o w rows skip = ap (λ b. at (if nat_lt (if b then 1 else 0) 1 then option o.name else idle) (has_value o.name w rows skip)) (same_bytes o.name)
+
+pub value_walked : (os : List Known) (o : Known) (w : Text) (rows : List Row) (skip : ℕ) → Has os o → may_stand w ≡ true → is_plain w ≡ true →
+    walked (rules os) [] (at (option o.name) (still_waits o.name rows skip)) w ≡ at idle (has_value o.name w rows skip)
+value_walked os o w rows skip has stands plain =
+    after_value os o.name w (still_waits o.name rows skip) (plain_of w stands plain)
+    ∙ ap (value_walked_by o.name w rows skip) (with_id os o has rows skip) ∙ value_step o w rows skip
