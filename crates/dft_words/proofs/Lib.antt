@@ -2,3 +2,4 @@ pub mod Options
 pub mod Reading
 pub mod Turns
 pub mod Rows
+pub mod Walks
