@@ -1,3 +1,4 @@
+pub mod Lookups
 pub mod Options
 pub mod Reading
 pub mod Turns

@@ -8,36 +8,25 @@ use Rattle.clap.proofs.CutLemmas.{Lacks}
 use Rattle.clap.proofs.LexerLemmas.{name_and_value-at, name_and_value-without}
 use Rattle.dft_words.specs.Words.{Text, Given, IsOneOf, is_value_word}
 use Rattle.dft_words.specs.CommandLine.{Known, may_stand}
+use Rattle.dft_words.proofs.Lookups.{IsAt, found, found_passes, lookup}
 
 -- ---- the options of a command
 
+abbrev pub name_of : Known → Text
+name_of o = o.name
+
 abbrev pub find_known : List Known → Text → Option Known
-find_known os t = find (λ o. bytes_eq o.name t) os
+find_known = lookup name_of
 
 -- the option is the one that its name finds
 abbrev pub Has : List Known → Known → Type 0
 Has os o = find_known os o.name ≡ Some o
 
-abbrev pub names : List Known → List Text
-names = map (λ o. o.name)
-
-find_known-is : (os : List Known) (t : Text) → IfSome (find_known os t) (λ o. t ≡ o.name)
-find_known-is [] t = tt
-find_known-is (o ∷ os) t = go (bytes_eq o.name t) (bytes_eq-Decides o.name t).0 (find_known-is os t)
-  where
-    go : (b : Bool) → (b ≡ true → o.name ≡ t) → IfSome (find_known os t) (λ p. t ≡ p.name) → IfSome (if b then Some o else find_known os t) (λ p. t ≡ p.name)
-    go true is rest = sym (is refl)
-    go false is rest = rest
-
 abbrev pub IsFound : List Known → Text → Known → Type 0
-IsFound os t o = (t ≡ o.name) × Has os o
+IsFound = IsAt name_of
 
--- what a name finds
-pub found : (os : List Known) (t : Text) (q : Option Known) → find_known os t ≡ q → IfSome q (IsFound os t)
-found os t None e = tt
-found os t (Some o) e =
-    let is : t ≡ o.name = subst (λ q. IfSome q (λ p. t ≡ p.name)) e (find_known-is os t) in
-    (is, ap (find_known os) (sym is) ∙ e)
+abbrev pub names : List Known → List Text
+names = map name_of
 
 -- what is found is one of the names
 one_of_found : (os : List Known) (t : Text) (o : Known) → find_known os t ≡ Some o → IsOneOf (names os) t
@@ -62,7 +51,7 @@ found_one_of (p ∷ os) t one = go (bytes_eq p.name t) (bytes_eq-Decides p.name 
 
 -- the option that has one of the names
 pub name_from : (os : List Known) (t : Text) → IsOneOf (names os) t → (o : Known) × IsFound os t o
-name_from os t one = let f = found_one_of os t one in (f.0, found os t (Some f.0) f.1)
+name_from os t one = let f = found_one_of os t one in (f.0, found name_of os t (Some f.0) f.1)
 
 -- ---- the words of an option
 
@@ -114,24 +103,12 @@ option_stands [] v is = absurd (true≢false (sym is))
 option_stands (b ∷ bs) None is = refl
 option_stands (b ∷ bs) (Some v) is = refl
 
-some_same : {X : Type 0} (p q : X) → Some p ≡ Some q → p ≡ q
-some_same p q e = cc
-
--- an option that is found has a name
 abbrev pub are_names : List Known → Bool
 are_names = list_all (λ o. is_name o.name)
 
-good_found : (os : List Known) (t : Text) → are_names os ≡ true → IfSome (find_known os t) (λ o. is_name o.name ≡ true)
-good_found [] t good = tt
-good_found (p ∷ os) t good = go (is_name p.name) refl good (bytes_eq p.name t) (good_found os t)
-  where
-    go : (b : Bool) → is_name p.name ≡ b → (b && are_names os) ≡ true → (c : Bool) → (are_names os ≡ true → IfSome (find_known os t) (λ o. is_name o.name ≡ true)) → IfSome (if c then Some p else find_known os t) (λ o. is_name o.name ≡ true)
-    go false is good c rest = absurd (true≢false (sym good))
-    go true is good true rest = is
-    go true is good false rest = rest good
-
+-- an option that is found has a name
 pub good_name : (os : List Known) (o : Known) → are_names os ≡ true → Has os o → is_name o.name ≡ true
-good_name os o good has = subst (λ q. IfSome q (λ p. is_name p.name ≡ true)) has (good_found os o.name good)
+good_name os o good has = found_passes name_of (λ p. is_name p.name) os o.name o good has
 
 -- ---- the option that a word is
 
@@ -187,7 +164,7 @@ rest_is : (os : List Known) (t : Text) → IfSome (option_from os (long_of_rest 
 rest_is os [] = tt
 rest_is os (x ∷ xs) =
     let cut = name_and_value (x ∷ xs) in
-    subst (λ (l : Text). IfSome (met (find_known os cut.0) cut.1) (IsWordOf os (codes "--" ++ l))) (sym (cut_joins (x ∷ xs))) (met_is os cut.0 (find_known os cut.0) cut.1 (found os cut.0 (find_known os cut.0) refl))
+    subst (λ (l : Text). IfSome (met (find_known os cut.0) cut.1) (IsWordOf os (codes "--" ++ l))) (sym (cut_joins (x ∷ xs))) (met_is os cut.0 (find_known os cut.0) cut.1 (found name_of os cut.0 (find_known os cut.0) refl))
 
 abbrev Is : List Known → Text → Option Text → Type 0
 Is os w rest = IfSome (option_from os (option_and_then long_of_rest rest)) (IsWordOf os w)
