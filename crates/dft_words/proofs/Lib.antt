@@ -4,3 +4,4 @@ pub mod Reading
 pub mod Turns
 pub mod Rows
 pub mod Walks
+pub mod FirstWords
