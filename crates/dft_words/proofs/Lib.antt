@@ -5,3 +5,4 @@ pub mod Turns
 pub mod Rows
 pub mod Walks
 pub mod FirstWords
+pub mod Taken

@@ -45,7 +45,7 @@ repeats id rs present e = not_empty kind.ArgumentConflict (sym (ap (λ b. or_els
 
 -- ---- values
 
-absent_values : (id : Text) (gs : List Given) → has_row id (rows gs) ≡ false → values_of id gs ≡ []
+pub absent_values : (id : Text) (gs : List Given) → has_row id (rows gs) ≡ false → values_of id gs ≡ []
 absent_values id [] absent = refl
 absent_values id (g ∷ gs) absent = go (bytes_eq g.name id) absent (λ e. absent_values id gs e)
   where
