@@ -6,3 +6,4 @@ pub mod Rows
 pub mod Walks
 pub mod FirstWords
 pub mod Taken
+pub mod Understood

@@ -1,7 +1,7 @@
 -- What `clap` is told of the command line, and what it is not told.
 use Rattle.std.specs.Prelude.{Bool, true, false, not, ◌==◌, ◌&&◌, List, [], ◌∷◌, codes, length, map, if◌then◌else◌, Some, Option, None, option_map, option_and_then}
 use Rattle.std.specs.Str.{bytes_eq}
-use Rattle.clap.specs.Words.{App, Rule, Shape, new_app, new_rule}
+use Rattle.clap.specs.Words.{App, Rule, Shape, new_app, new_rule, with_rule}
 use Rattle.clap.specs.Simple.{new_shape, on_top}
 use Rattle.clap.specs.Walk.{Row, first_of}
 use Rattle.dft_words.specs.Words.{Text, ReplayFiles, ScanFiles, Command, Replay, Scan}
@@ -42,6 +42,14 @@ option_rule o = record (new_rule o.name) { long = Some o.name; required = o.requ
 
 abbrev pub form_shape : Form → Shape
 form_shape form = record (new_shape form.command) { rules = map option_rule form.options }
+
+abbrev pub form_app : Form → App
+form_app form = record { top = form_shape form; subs = [] }
+
+-- the command with options of these names
+abbrev pub with_options : (required : Bool) → App → List Text → App
+with_options required app [] = app
+with_options required app (name ∷ names) = with_options required (with_rule app (option_rule (record { name = name; required = required }))) names
 
 -- the words are those behind the program's name, the first is a command, and there is no help
 abbrev pub dft_app : App
