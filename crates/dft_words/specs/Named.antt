@@ -1,0 +1,23 @@
+-- The commands that words are, as the code has them.
+use Rattle.std.specs.Prelude.{option_map}
+use Rattle.dft_words.specs.declared.commands.Command.{Command}
+use Rattle.dft_words.specs.declared.commands.Command.TheVariants as command
+use Rattle.dft_words.specs.declared.commands.ReplayFiles.{ReplayFiles}
+use Rattle.dft_words.specs.declared.commands.ScanFiles.{ScanFiles}
+use Rattle.dft_words.specs.Words as words
+
+abbrev pub replay_files_of : ReplayFiles → words.ReplayFiles
+replay_files_of files = record { library = option_map (λ name. name.now) files.library; netlist = files.netlist.now; patterns = files.patterns.now }
+
+abbrev pub scan_files_of : ScanFiles → words.ScanFiles
+scan_files_of files = record {
+  library = option_map (λ name. name.now) files.library;
+  netlist = files.netlist.now;
+  config = files.config.now;
+  out = files.out.now;
+  report = files.report.now;
+}
+
+abbrev pub command_of : Command → words.Command
+command_of (command.Replay files) = words.Replay (replay_files_of files)
+command_of (command.Scan files) = words.Scan (scan_files_of files)

@@ -1,0 +1,105 @@
+-- The command lines that are understood.
+use Rattle.std.specs.Prelude.{ℕ, ◌≡◌, ◌⊎◌, Bool, true, false, not, ◌==◌, List, [], ◌∷◌, ◌++◌, codes, flat_map, map, Option, None, Some, if◌then◌else◌}
+use Rattle.std.specs.List.{AllByRecursion}
+use Rattle.std.specs.Str.{bytes_eq}
+
+abbrev pub Text : Type 0
+Text = List ℕ
+
+-- ---- options
+
+-- an option as it is given: joined, `--name=value`, or as two words, `--name value`
+pub record Given : Type 0 where
+  pub name : Text
+  pub value : Text
+  pub joined : Bool
+
+abbrev pub words_of : Given → List Text
+words_of g = if g.joined then (codes "--" ++ (g.name ++ 61 ∷ g.value)) ∷ [] else (codes "--" ++ g.name) ∷ g.value ∷ []
+
+-- a word that is a value: it is `-`, or it is not empty and does not begin with `-`
+abbrev pub is_value_word : Text → Bool
+is_value_word [] = false
+is_value_word (b ∷ []) = true
+is_value_word (b ∷ c ∷ bs) = not (b == 45)
+
+-- no value is empty, and a joined one may be any other
+abbrev pub is_value : (joined : Bool) → Text → Bool
+is_value true [] = false
+is_value true (b ∷ bs) = true
+is_value false value = is_value_word value
+
+abbrev pub IsOneOf : List Text → Text → Type 0
+IsOneOf [] name = ⊥
+IsOneOf (n ∷ names) name = (name ≡ n) ⊎ IsOneOf names name
+
+-- the values that an option has, in the order in which they are given
+abbrev pub values_of : (name : Text) → List Given → List Text
+values_of name [] = []
+values_of name (g ∷ given) = if bytes_eq g.name name then g.value ∷ values_of name given else values_of name given
+
+-- ---- commands in general
+
+-- the words are a command and these options, in any order, of which each has one of the names
+pub record AreWordsOf (command : Text) (names : List Text) (given : List Given) (words : List Text) : Type 0 where
+  pub written : words ≡ command ∷ flat_map words_of given
+  pub values : AllByRecursion (λ g. is_value g.joined g.value ≡ true) given
+  pub known : AllByRecursion (λ g. IsOneOf names g.name) given
+
+abbrev pub list_of : Option Text → List Text
+list_of None = []
+list_of (Some text) = text ∷ []
+
+-- an option by its name, and its value where it has one
+abbrev pub Valued : Type 0
+Valued = Text × Option Text
+
+-- the words are a command with these options and no others: each is given once with its value, or it has none and is not given
+pub record IsCommand (command : Text) (options : List Valued) (words : List Text) : Type 0 where
+  pub given : List Given
+  pub are : AreWordsOf command (map (λ option. option.0) options) given words
+  pub each : AllByRecursion (λ option. values_of option.0 given ≡ list_of option.1) options
+
+-- ---- the commands
+
+-- the files of a replay
+pub record ReplayFiles : Type 0 where
+  pub library : Option Text
+  pub netlist : Text
+  pub patterns : Text
+
+abbrev pub replay_options : ReplayFiles → List Valued
+replay_options files = (codes "netlist", Some files.netlist) ∷ (codes "patterns", Some files.patterns) ∷ (codes "library", files.library) ∷ []
+
+abbrev pub IsReplay : List Text → ReplayFiles → Type 0
+IsReplay words files = IsCommand (codes "replay") (replay_options files) words
+
+-- the files of a scan
+pub record ScanFiles : Type 0 where
+  pub library : Option Text
+  pub netlist : Text
+  pub config : Text
+  pub out : Text
+  pub report : Text
+
+abbrev pub scan_options : ScanFiles → List Valued
+scan_options files =
+    (codes "netlist", Some files.netlist) ∷ (codes "config", Some files.config) ∷ (codes "out", Some files.out) ∷ (codes "report", Some files.report)
+    ∷ (codes "library", files.library) ∷ []
+
+-- the two files that a scan saves have different names
+abbrev pub IsScan : List Text → ScanFiles → Type 0
+IsScan words files = IsCommand (codes "scan") (scan_options files) words × (files.out ≡ files.report → ⊥)
+
+pub data Command : Type 0 where
+  Replay : ReplayFiles → Command
+  Scan : ScanFiles → Command
+
+abbrev pub IsFor : List Text → Command → Type 0
+IsFor words (Replay files) = IsReplay words files
+IsFor words (Scan files) = IsScan words files
+
+-- what words are: a command on these files, or no command
+abbrev pub AreFor : List Text → Option Command → Type 0
+AreFor words (Some command) = IsFor words command
+AreFor words None = (command : Command) → IsFor words command → ⊥

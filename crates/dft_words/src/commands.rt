@@ -1,0 +1,26 @@
+//! The commands that are understood.
+
+/// The files that the words of a replay name.
+#[derive(Clone, Copy, Debug)]
+pub struct ReplayFiles<'a> {
+    pub library: Option<&'a str>,
+    pub netlist: &'a str,
+    pub patterns: &'a str,
+}
+
+/// The files that the words of a scan name: three that are read, and two that are saved.
+#[derive(Clone, Copy, Debug)]
+pub struct ScanFiles<'a> {
+    pub library: Option<&'a str>,
+    pub netlist: &'a str,
+    pub config: &'a str,
+    pub out: &'a str,
+    pub report: &'a str,
+}
+
+/// A command with its files.
+#[derive(Clone, Copy, Debug)]
+pub enum Command<'a> {
+    Replay(ReplayFiles<'a>),
+    Scan(ScanFiles<'a>),
+}
