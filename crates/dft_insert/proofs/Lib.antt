@@ -27,3 +27,7 @@ pub mod Heights
 pub mod Shifted
 pub mod Additions
 pub mod WorkedScan
+pub mod TakenNames
+pub mod AddingLemmas
+pub mod OpenLemmas
+pub mod NameBytes
