@@ -6,7 +6,7 @@ use Rattle.clap.specs.Faults.{check_fault, defaults_fault, entered_fault, fault_
 use Rattle.clap.specs.Kinds.{Kinds, or_else}
 use Rattle.clap.specs.declared.error.kind.ErrorKind.TheVariants as kind
 use Rattle.clap.specs.Simple.{Shape, entered, label_of, names_of, rows_at, subcommand_of}
-use Rattle.clap.specs.Walk.{Held, Names, Row, Rule, Step, Walk, answers_to, finished, idle, nothing_held, settled, subcommand_met, subcommand_or_other, value, walk, walk_from, walked, word_met}
+use Rattle.clap.specs.Walk.{Held, Names, Rule, Step, Walk, answers_to, finished, idle, nothing_held, settled, subcommand_met, subcommand_or_other, value, walk, walk_from, walked, word_met}
 use Rattle.clap.proofs.OnLiterals.{clap_on_literals}
 use Rattle.dft_words.specs.Words.{Text}
 use Rattle.dft_words.specs.CommandLine.{Form, dft_app, forms, may_stand}

@@ -1,5 +1,5 @@
 -- Words that are options of a command, and the options that words are.
-use Rattle.std.proofs.Common.{◌≡◌, ◌⊎◌, ◌==◌, ◌||◌, ◌&&◌, ℕ, Bool, true, false, not, zero, suc, List, [], ◌∷◌, ◌++◌, map, find, Option, Some, None, IfSome, option_and_then, if◌then◌else◌, codes, bytes_eq, inl, inr, refl, sym, ap, ◌∙◌, subst, arith, append-nil, true≢false}
+use Rattle.std.proofs.Common.{◌≡◌, ◌⊎◌, ◌==◌, ◌||◌, ℕ, Bool, true, false, not, zero, suc, List, [], ◌∷◌, ◌++◌, map, Option, Some, None, IfSome, option_and_then, if◌then◌else◌, codes, bytes_eq, inl, inr, refl, sym, ap, ◌∙◌, subst, arith, append-nil, true≢false}
 use Rattle.std.specs.List.{list_all, list_any}
 use Rattle.std.proofs.lemmas.Slice.Eq.{bytes_eq-Decides}
 use Rattle.std.proofs.lemmas.Bool.{eqb-true, eqb-false}

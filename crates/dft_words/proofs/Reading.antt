@@ -3,7 +3,7 @@ use Rattle.std.proofs.Common.{◌≡◌, ◌&&◌, Bool, true, false, List, [], 
 use Rattle.std.specs.List.{AllByRecursion, list_all}
 use Rattle.dft_words.specs.Words.{Text, Given, words_of, is_value, IsOneOf}
 use Rattle.dft_words.specs.CommandLine.{Known, may_stand}
-use Rattle.dft_words.proofs.Options.{Has, IsFound, IsWordOf, names, name_known, name_from, are_names, good_name, word_of, apart, joined, option_of, option_is, option_found, option_stands, is_plain, value_plain, value_stands}
+use Rattle.dft_words.proofs.Options.{Has, IsWordOf, names, name_known, name_from, are_names, good_name, word_of, apart, joined, option_of, option_is, option_found, option_stands, is_plain, value_plain, value_stands}
 
 -- ---- options from words: nothing waits, or an option waits for its value
 

@@ -1,10 +1,9 @@
 -- `clap` takes exactly the words of a command, and keeps the rows of its options.
-use Rattle.std.proofs.Common.{◌≡◌, ◌≤◌, ◌⊎◌, ◌&&◌, ◌||◌, inl, inr, Bool, true, false, true≢false, not, List, [], ◌∷◌, map, length, flat_map, Option, Some, None, IfSome, is_some, if◌then◌else◌, bytes_eq, refl, sym, ap, ap₂, ◌∙◌, subst, arith}
+use Rattle.std.proofs.Common.{◌≡◌, ◌≤◌, ◌&&◌, ◌||◌, inl, inr, Bool, true, false, true≢false, not, List, [], ◌∷◌, map, length, flat_map, Option, Some, None, IfSome, is_some, if◌then◌else◌, bytes_eq, refl, sym, ap, ap₂, ◌∙◌, subst, arith}
 use Rattle.std.specs.List.{AllByRecursion, list_all}
 use Rattle.std.proofs.Math.Dec.{eqb-suc-zero}
 use Rattle.std.proofs.lemmas.Slice.Eq.{bytes_eq-Decides}
 use Rattle.clap.specs.Faults.{fault_of}
-use Rattle.clap.specs.Kinds.{Kinds}
 use Rattle.clap.specs.Simple.{subcommand_of}
 use Rattle.clap.specs.Walk.{Row, first_of, has_row, idle, nothing_held}
 use Rattle.dft_words.specs.Words.{Given, IsCommand, IsOneOf, Text, Valued, is_value, list_of, values_of, words_of}
@@ -13,9 +12,9 @@ use Rattle.dft_words.proofs.Lookups.{found_passes}
 use Rattle.dft_words.proofs.Options.{are_names, is_plain, names, plain_value}
 use Rattle.dft_words.proofs.Reading.{AreRead, IsGood, IsRead, all_stand, read_back, reading, reading_reads}
 use Rattle.dft_words.proofs.Turns.{at}
-use Rattle.dft_words.proofs.Rows.{AreWanted, Fits, IsWanted, absent_values, first_text, first_value, rows}
+use Rattle.dft_words.proofs.Rows.{AreWanted, Fits, absent_values, first_text, first_value, rows}
 use Rattle.dft_words.proofs.Walks.{Claim, both, faults, left, walks}
-use Rattle.dft_words.proofs.FirstWords.{Begins, IsForm, begins, command_of, form_faults, form_rows}
+use Rattle.dft_words.proofs.FirstWords.{IsForm, begins, command_of, form_faults, form_rows}
 
 -- ---- the table of commands
 
@@ -125,8 +124,8 @@ AreSome = AllByRecursion IsSome
 
 -- ---- the options of a command that the words are
 
-abbrev Has : List Given → Valued → Type 0
-Has gs option = values_of option.0 gs ≡ list_of option.1
+abbrev IsGiven : List Given → Valued → Type 0
+IsGiven gs option = values_of option.0 gs ≡ list_of option.1
 
 -- what the rows show of an option is its value, which is not empty
 abbrev pub Shows : List Row → Valued → Type 0
@@ -141,7 +140,7 @@ at_most_one : (q : Option Text) → length (list_of q) ≤ 1
 at_most_one None = omega arith
 at_most_one (Some v) = omega arith
 
-each_once : (gs : List Given) (options : List Valued) → AllByRecursion (Has gs) options → AllByRecursion (λ option. length (values_of option.0 gs) ≤ 1) options
+each_once : (gs : List Given) (options : List Valued) → AllByRecursion (IsGiven gs) options → AllByRecursion (λ option. length (values_of option.0 gs) ≤ 1) options
 each_once gs [] all = tt
 each_once gs (o ∷ options) all = (subst (λ (l : List Text). length l ≤ 1) (sym all.0) (at_most_one o.1), each_once gs options all.1)
 
@@ -150,7 +149,7 @@ some_wanted true None e required = absurd (true≢false (sym e))
 some_wanted true (Some v) e required = omega arith
 some_wanted false q e required = absurd (true≢false (sym required))
 
-wanted_of : (gs : List Given) (os : List Known) (options : List Valued) → agrees os options ≡ true → AllByRecursion (Has gs) options → AreWanted os gs
+wanted_of : (gs : List Given) (os : List Known) (options : List Valued) → agrees os options ≡ true → AllByRecursion (IsGiven gs) options → AreWanted os gs
 wanted_of gs [] options e all = tt
 wanted_of gs (o ∷ os) [] e all = absurd (true≢false (sym e))
 wanted_of gs (o ∷ os) (v ∷ vs) e all =
@@ -188,7 +187,7 @@ first_list : (q : Option Text) → first_text (list_of q) ≡ q
 first_list None = refl
 first_list (Some v) = refl
 
-each_shown : (gs : List Given) (options : List Valued) → AllByRecursion (λ g. is_value g.joined g.value ≡ true) gs → AllByRecursion (Has gs) options → AllByRecursion (Shows (rows gs)) options
+each_shown : (gs : List Given) (options : List Valued) → AllByRecursion (λ g. is_value g.joined g.value ≡ true) gs → AllByRecursion (IsGiven gs) options → AllByRecursion (Shows (rows gs)) options
 each_shown gs [] values all = tt
 each_shown gs (o ∷ options) values all =
     ((first_value o.0 gs ∙ ap first_text all.0 ∙ first_list o.1, subst AreSome all.0 (some_values o.0 gs values)), each_shown gs options values all.1)
@@ -205,8 +204,8 @@ takes_command f options words is agree c =
     record {
       kept = rows c.given;
       takes = subst (λ (l : List Text). Takes l f.command (rows c.given)) (sym c.are.written)
-      (takes_given f c.given is (good_given (names f.options) c.given c.are.values known)
-      (at_any (λ vs. length vs ≤ 1) c.given options (omega arith) (each_once c.given options c.each) c.are.known) (wanted_of c.given f.options options agree c.each));
+          (takes_given f c.given is (good_given (names f.options) c.given c.are.values known)
+          (at_any (λ vs. length vs ≤ 1) c.given options (omega arith) (each_once c.given options c.each) c.are.known) (wanted_of c.given f.options options agree c.each));
       each = each_shown c.given options c.are.values c.each;
     }
 
@@ -217,11 +216,11 @@ one_value [] q few is = ap list_of is
 one_value (x ∷ []) q few is = ap list_of is
 one_value (x ∷ y ∷ vs) q few is = absurd (omega arith)
 
-each_has : (gs : List Given) (options : List Valued) → Fits gs → AllByRecursion (Shows (rows gs)) options → AllByRecursion (Has gs) options
+each_has : (gs : List Given) (options : List Valued) → Fits gs → AllByRecursion (Shows (rows gs)) options → AllByRecursion (IsGiven gs) options
 each_has gs [] fits all = tt
 each_has gs (o ∷ options) fits all = (one_value (values_of o.0 gs) o.1 (fits o.0) (sym (first_value o.0 gs) ∙ all.0.0), each_has gs options fits all.1)
 
-each_some : (gs : List Given) (options : List Valued) → AllByRecursion (Has gs) options → AllByRecursion (Shows (rows gs)) options → AllByRecursion (λ option. AreSome (values_of option.0 gs)) options
+each_some : (gs : List Given) (options : List Valued) → AllByRecursion (IsGiven gs) options → AllByRecursion (Shows (rows gs)) options → AllByRecursion (λ option. AreSome (values_of option.0 gs)) options
 each_some gs [] has all = tt
 each_some gs (o ∷ options) has all = (subst AreSome (sym has.0) all.0.1, each_some gs options has.1 all.1)
 

@@ -1,5 +1,5 @@
 -- What `clap` makes of one word behind a command.
-use Rattle.std.proofs.Common.{◌≡◌, ◌==◌, ◌||◌, ℕ, nat_lt, Bool, true, false, not, List, [], ◌∷◌, map, find, Option, Some, None, IfSome, option_map, if◌then◌else◌, codes, bytes_eq, refl, sym, ap, ◌∙◌, subst, cond, true≢false}
+use Rattle.std.proofs.Common.{◌≡◌, ◌==◌, ◌||◌, ℕ, nat_lt, Bool, true, false, not, List, [], ◌∷◌, map, Option, Some, None, option_map, if◌then◌else◌, bytes_eq, refl, sym, ap, ◌∙◌, subst, cond, true≢false}
 use Rattle.std.specs.Option.{option_map_or}
 use Rattle.std.proofs.lemmas.Slice.Eq.{bytes_eq-Decides}
 use Rattle.clap.specs.Lexer.{long_of, short_of, name_and_value}
@@ -7,8 +7,8 @@ use Rattle.clap.specs.Faults.{long_fault, positional_fault, react_fault, repeat_
 use Rattle.clap.specs.Kinds.{Kinds, or_else}
 use Rattle.clap.specs.declared.error.kind.ErrorKind.{ErrorKind}
 use Rattle.clap.specs.declared.error.kind.ErrorKind.TheVariants as kind
-use Rattle.clap.specs.Simple.{App, Shape, built, filled, new_shape, on_top, with_leaf_noted, marked_built, built_above}
-use Rattle.clap.specs.Walk.{Held, Rule, Step, Walk, Waiting, Row, option, idle, after_flag, after_step, arg_by_id, arg_by_index, arg_by_long, long_met, long_word, option_word, plain_word, reacted, settled, used, used_by_id, walked, word_met, next}
+use Rattle.clap.specs.Simple.{App, Shape, built, filled, new_shape}
+use Rattle.clap.specs.Walk.{Held, Rule, Step, Walk, Waiting, Row, option, idle, after_flag, after_step, arg_by_id, arg_by_index, arg_by_long, long_met, option_word, plain_word, reacted, settled, used, used_by_id, walked, word_met}
 use Rattle.dft_words.specs.Words.{Text}
 use Rattle.dft_words.specs.CommandLine.{Form, Known, dft_app, forms, may_stand, option_rule}
 use Rattle.dft_words.proofs.Options.{Has, are_names, find_known, good_name, is_plain, long_is, met, no_escape, option_from, option_of, word_of}

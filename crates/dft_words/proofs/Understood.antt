@@ -1,5 +1,5 @@
 -- What `clap` makes of a command line is what the words are for.
-use Rattle.std.proofs.Common.{◌≡◌, Bool, true, false, true≢false, List, [], ◌∷◌, Option, Some, None, option_map, if◌then◌else◌, codes, bytes_eq, refl, sym, ap, ap₂, ◌∙◌, subst, ⊎_elim}
+use Rattle.std.proofs.Common.{◌≡◌, Bool, true, false, true≢false, List, [], ◌∷◌, Option, Some, None, option_map, if◌then◌else◌, codes, bytes_eq, refl, sym, ap, ◌∙◌, subst, ⊎_elim}
 use Rattle.std.specs.List.{AllByRecursion, list_all}
 use Rattle.std.proofs.lemmas.Slice.Eq.{bytes_eq-Decides}
 use Rattle.clap.specs.Faults.{fault_of}
@@ -9,8 +9,8 @@ use Rattle.clap.specs.declared.error.Error.{Error}
 use Rattle.clap.specs.declared.error.kind.ErrorKind.TheVariants as kind
 use Rattle.clap.specs.Simple.{subcommand_of}
 use Rattle.clap.specs.Walk.{Row, first_of}
-use Rattle.dft_words.specs.Words.{AreFor, Command, IsCommand, IsFor, IsReplay, IsScan, Replay, ReplayFiles, Scan, ScanFiles, Text, Valued, list_of, replay_options, scan_options}
-use Rattle.dft_words.specs.CommandLine.{Form, command_from, command_in, dft_app, differing, is_empty, may_stand, perhaps_from, perhaps_in, replay_form, replay_from, replay_in, scan_form, scan_from, scan_in, value_from, value_in}
+use Rattle.dft_words.specs.Words.{AreFor, Command, IsCommand, IsFor, Replay, ReplayFiles, Scan, ScanFiles, Text, Valued, list_of, replay_options, scan_options}
+use Rattle.dft_words.specs.CommandLine.{Form, command_from, command_in, dft_app, is_empty, may_stand, perhaps_from, perhaps_in, replay_form, replay_from, replay_in, scan_form, scan_from, scan_in, value_from, value_in}
 use Rattle.dft_words.proofs.Options.{names}
 use Rattle.dft_words.proofs.FirstWords.{find_form}
 use Rattle.dft_words.proofs.Rows.{rows}
@@ -34,6 +34,7 @@ shown_value rs name v is = go (first_of name rs) is
     some : (t : Text) (b : Bool) → is_empty t ≡ b → (if b then None else Some t) ≡ Some v → (Some t ≡ Some v) × AllByRecursion (λ w. is_empty w ≡ false) (v ∷ [])
     some t true empty e = absurd cc
     some t false full e = (e, (ap is_empty (sym (some_same t v e)) ∙ full, tt))
+
     go : (q : Option Text) → value_from q ≡ Some v → (q ≡ Some v) × AllByRecursion (λ w. is_empty w ≡ false) (v ∷ [])
     go None e = absurd cc
     go (Some t) e = some t (is_empty t) refl e
@@ -46,6 +47,7 @@ shown_perhaps rs name q is = go (first_of name rs) is
     some t false full e =
         let same : Some t ≡ q = some_same (Some t) q e in
         (same, subst (λ (r : Option Text). AllByRecursion (λ w. is_empty w ≡ false) (list_of r)) same (full, tt))
+
     go : (r : Option Text) → perhaps_from r ≡ Some q → (r ≡ q) × AllByRecursion (λ w. is_empty w ≡ false) (list_of q)
     go None e =
         let same : None ≡ q = some_same None q e in
@@ -117,10 +119,16 @@ scan_shows rs files e =
     record {
       shows = (
         shown_value rs (codes "netlist") files.netlist parts.netlist_is,
-        (shown_value rs (codes "config") files.config parts.config_is,
-        (shown_value rs (codes "out") files.out parts.out_is,
-        (shown_value rs (codes "report") files.report parts.report_is,
-        (shown_perhaps rs (codes "library") files.library parts.library_is, tt)))),
+        (
+          shown_value rs (codes "config") files.config parts.config_is,
+          (
+            shown_value rs (codes "out") files.out parts.out_is,
+            (
+              shown_value rs (codes "report") files.report parts.report_is,
+              (shown_perhaps rs (codes "library") files.library parts.library_is, tt),
+            ),
+          ),
+        ),
       );
       other = parts.other;
     }

@@ -1,7 +1,7 @@
 -- What `clap` is told of the command line, and what it is not told.
-use Rattle.std.specs.Prelude.{Bool, true, false, not, ◌==◌, ◌&&◌, List, [], ◌∷◌, codes, length, map, if◌then◌else◌, Some, Option, None, option_map, option_and_then}
+use Rattle.std.specs.Prelude.{Bool, true, false, ◌==◌, List, [], ◌∷◌, codes, fold, length, map, if◌then◌else◌, Some, Option, None, option_map}
 use Rattle.std.specs.Str.{bytes_eq}
-use Rattle.clap.specs.Words.{App, Rule, Shape, new_app, new_rule, with_rule}
+use Rattle.clap.specs.Words.{App, Rule, Shape, new_app, new_rule, with_rule, with_subcommand}
 use Rattle.clap.specs.Simple.{new_shape, on_top}
 use Rattle.clap.specs.Walk.{Row, first_of}
 use Rattle.dft_words.specs.Words.{Text, ReplayFiles, ScanFiles, Command, Replay, Scan}
@@ -52,14 +52,16 @@ with_options required app [] = app
 with_options required app (name ∷ names) = with_options required (with_rule app (option_rule (record { name = name; required = required }))) names
 
 -- the words are those behind the program's name, the first is a command, and there is no help
-abbrev pub dft_app : App
-dft_app = record (on_top (λ s. record s {
-  is_leaf = false;
+abbrev pub plain_app : App
+plain_app = on_top (λ s. record s {
   no_binary_name = true;
   disable_help_flag = true;
   disable_help_subcommand = true;
   subcommand_required = true;
-}) (new_app (codes "dft"))) { subs = map form_shape forms }
+}) (new_app (codes "dft"))
+
+abbrev pub dft_app : App
+dft_app = fold (λ app form. with_subcommand app (form_shape form)) plain_app forms
 
 -- ---- what it is not told
 
