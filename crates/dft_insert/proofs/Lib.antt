@@ -27,3 +27,6 @@ pub mod Heights
 pub mod Shifted
 pub mod Additions
 pub mod WorkedScan
+pub mod PlacesBefore
+pub mod CellTableLemmas
+pub mod PlannedLemmas

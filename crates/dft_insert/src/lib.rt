@@ -6,6 +6,7 @@ mod building;
 mod cell_nets;
 mod counting;
 mod error;
+mod gap;
 mod insertion;
 mod laws;
 mod made_names;
