@@ -9,6 +9,7 @@ use Rattle.std.proofs.lemmas.List.FromFn.{fill_by_all}
 use Rattle.std.proofs.lemmas.Option.{same_Some, slice_get-get_or, slice_get_within}
 use Rattle.dft_netlist.specs.declared.ids.InstanceId.{InstanceId}
 use Rattle.dft_netlist.specs.declared.ids.NetId.{NetId}
+use Rattle.dft_netlist.specs.declared.limits.TheConstants.{MAX_NETS}
 use Rattle.dft_netlist.specs.Netlist.{Netlist}
 use Rattle.dft_stitch.specs.declared.places.CellPlace.{CellPlace}
 use Rattle.dft_stitch.specs.declared.places.LockupPlace.{LockupPlace}
@@ -16,10 +17,10 @@ use Rattle.dft_stitch.specs.Plans.{Plan, cell_at}
 use Rattle.dft_insert.specs.declared.cell_nets.CellNets.{CellNets}
 use Rattle.dft_insert.specs.Moves.{Gap}
 use Rattle.dft_insert.specs.AddedPorts.{scan_in_net}
-use Rattle.dft_insert.specs.Stitching.{number_of, stands_after, places_of, output_at, Layout, made_or, output_net, scan_input}
+use Rattle.dft_insert.specs.Stitching.{number_of, stands_after, places_of, own_output, output_at, Layout, made_or, output_net, scan_input}
 use Rattle.dft_insert.specs.Written.{is_cell, place_in}
-use Rattle.dft_insert.specs.CellTables.{nets_at, cell_nets_of, AreCells, bare_layout, places_before, after_output, IsNoted, link_before, fed_by, linked, AreLinked}
-use Rattle.dft_insert.proofs.PlacesBefore.{at_place, is_open, places_more, places_next, places_all, made_more}
+use Rattle.dft_insert.specs.CellTables.{nets_at, cell_nets_of, AreCells, HasRoom, bare_layout, places_before, net_or_next, after_output, IsNoted, link_before, fed_by, linked, AreLinked}
+use Rattle.dft_insert.proofs.PlacesBefore.{at_place, is_open, places_between, places_more, places_next, places_all, output_is, made_more, made_fit}
 use Rattle.dft_insert.proofs.PlacesFound.{finds, place_listed}
 use Rattle.dft_insert.proofs.Standing.{cell_is, found_passes, placed_stands}
 
@@ -99,6 +100,34 @@ noted_more y chain place next cell nets table cells at are h = record {
     other number apart =
         ap (find (stands y.plan.chains number)) (places_more y.plan.chains chain place)
         ∙ not_last (stands y.plan.chains number) (places_before y.plan.chains chain place) (at_place chain place) (ap (is_cell number) at ∙ apart_from number cell.0 apart)
+
+-- the net at the output of the next cell
+pub output_next : (n : Netlist) (chains : List (List InstanceId)) (gap : Gap) (chain place next : ℕ) (cells : List InstanceId) (cell : InstanceId) (own : Option ℕ) (output : NetId) (table : List (Option CellNets)) → slice_get chains chain ≡ Some cells →
+    slice_get cells place ≡ Some cell → own ≡ own_output n cell → output.0 ≡ net_or_next gap next own → IsNoted (bare_layout n chains gap) chain place table next → output.0 ≡ output_net (bare_layout n chains gap) chain place
+output_next n chains gap chain place next cells cell own output table at here own_is is h =
+    is
+    ∙ ap (net_or_next gap next) (own_is ∙ sym (ap (option_and_then (own_output n)) (cell_there chains chain place cells cell at here)))
+    ∙ sym (output_is (bare_layout n chains gap) chain place next (places_between chains chain place cells at (slice_get_within cells place cell here)) h.made)
+
+pub noted_cell : (n : Netlist) (chains : List (List InstanceId)) (gap : Gap) (chain place next after : ℕ) (cells : List InstanceId) (cell : InstanceId) (own : Option ℕ) (scan_in output : NetId) (table : List (Option CellNets)) → AreCells (length n.instances) chains →
+    slice_get chains chain ≡ Some cells → slice_get cells place ≡ Some cell → own ≡ own_output n cell → output.0 ≡ net_or_next gap next own → after ≡ after_output next own →
+    scan_in.0 ≡ scan_input (bare_layout n chains gap) (scan_in_net gap) chain place → IsNoted (bare_layout n chains gap) chain place table next →
+    IsNoted (bare_layout n chains gap) chain (place + 1) (set table cell.0 (Some (record { scan_in = scan_in; output = output }))) after
+noted_cell n chains gap chain place next after cells cell own scan_in output table are at here own_is is after_is led h =
+    let y : Layout = bare_layout n chains gap in
+    let there : cell_at chains chain place ≡ Some cell = cell_there chains chain place cells cell at here in
+    let nets : CellNets = record { scan_in = scan_in; output = output } in
+    subst (IsNoted y chain (place + 1) (set table cell.0 (Some nets))) (ap (λ o. after_output next (option_and_then (own_output n) o)) there ∙ ap (after_output next) (sym own_is) ∙ sym after_is)
+    (noted_more y chain place next cell nets table are there (nets_are y chain place scan_in output led (output_next n chains gap chain place next cells cell own output table at here own_is is h)) h)
+
+-- leads on to the next place
+pub leads_on : (n : Netlist) (chains : List (List InstanceId)) (gap : Gap) (chain place net : ℕ) → net ≡ output_net (bare_layout n chains gap) chain place → net ≡ scan_input (bare_layout n chains gap) (scan_in_net gap) chain (place + 1)
+leads_on n chains gap chain place net is = let next : suc place ≡ place + 1 = omega arith in is ∙ ap (scan_input (bare_layout n chains gap) (scan_in_net gap) chain) next
+
+-- no net that is made passes the limit
+pub next_fits : (n : Netlist) (chains : List (List InstanceId)) (gap : Gap) (chain place next : ℕ) (cells : List InstanceId) (table : List (Option CellNets)) → slice_get chains chain ≡ Some cells → place < length cells → HasRoom n chains gap →
+    IsNoted (bare_layout n chains gap) chain place table next → next ≤ MAX_NETS
+next_fits n chains gap chain place next cells table at less room h = omega (arith, room.outputs, h.made, made_fit n chains chain place (places_between chains chain place cells at less))
 
 pub noted_next : (y : Layout) (chain next : ℕ) (cells : List InstanceId) (table : List (Option CellNets)) → slice_get y.plan.chains chain ≡ Some cells → IsNoted y chain (length cells) table next → IsNoted y (chain + 1) 0 table next
 noted_next y chain next cells table at h = record {

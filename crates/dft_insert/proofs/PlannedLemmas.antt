@@ -1,5 +1,5 @@
 -- What the planned chains keep: their cells, their lock-ups, and the room for their nets.
-use Rattle.std.proofs.Common.{ℕ, zero, suc, ◌+◌, ◌≡◌, ◌==◌, ◌<◌, ◌≤◌, Bool, true, false, List, [], ◌∷◌, ◌++◌, length, map, take, drop, Option, None, Some, option_and_then, slice_get, slice_index_or, refl, sym, subst, ap, arith, ◌∙◌}
+use Rattle.std.proofs.Common.{ℕ, zero, suc, ◌+◌, ◌≡◌, ◌==◌, ◌<◌, ◌≤◌, Bool, true, false, List, [], ◌∷◌, ◌++◌, length, map, filter, take, drop, Option, None, Some, option_and_then, slice_get, slice_index_or, refl, sym, subst, ap, arith, ◌∙◌}
 use Rattle.std.specs.Prelude.{if◌then◌else◌}
 use Rattle.std.specs.List.{All, range_with_len}
 use Rattle.std.proofs.lemmas.List.{length-append, length-map}
@@ -8,6 +8,7 @@ use Rattle.std.proofs.lemmas.Option.{none-some, same_Some, slice_get-get_or, sli
 use Rattle.dft_netlist.specs.declared.ids.InstanceId.{InstanceId}
 use Rattle.dft_netlist.specs.declared.limits.TheConstants.{MAX_NETS}
 use Rattle.dft_netlist.specs.Netlist.{Netlist}
+use Rattle.dft_netlist.specs.Sound.{IsNetlist, bits_of}
 use Rattle.dft_config.specs.declared.config.Config.{Config}
 use Rattle.dft_config.specs.Range.{IsInRange}
 use Rattle.dft_rules.specs.declared.judged.Judged.{Judged}
@@ -19,14 +20,17 @@ use Rattle.dft_stitch.specs.Tables.{AreBelow}
 use Rattle.dft_stitch.proofs.OnceLemmas.{cells_scanned, cells_once}
 use Rattle.dft_stitch.proofs.BlockLemmas.{blocks_below, cells_below, chain_count}
 use Rattle.dft_insert.specs.declared.style.Style.TheVariants.{Plain}
-use Rattle.dft_insert.specs.Moves.{gap_of}
+use Rattle.dft_insert.specs.Moves.{Gap, gap_of}
 use Rattle.dft_insert.specs.AddedPorts.{added_ports, port_name, made_net}
-use Rattle.dft_insert.specs.Stitching.{open_places}
+use Rattle.dft_insert.specs.Stitching.{open_places, Layout}
 use Rattle.dft_insert.specs.Written.{made_nets, plain_layout, plain_netlist}
-use Rattle.dft_insert.specs.CellTables.{AreCells, AreBefore, StandsBefore, HasRoom}
-use Rattle.dft_insert.proofs.Kept.{ports_count}
+use Rattle.dft_insert.specs.declared.cell_nets.CellNets.{CellNets}
+use Rattle.dft_insert.specs.CellTables.{cell_nets_of, AreCells, AreBefore, StandsBefore, HasRoom, bare_layout, IsNoted}
+use Rattle.dft_insert.proofs.Kept.{ports_count, ports_fit}
 use Rattle.dft_insert.proofs.Linked.{in_flat, in_filter, range_is}
 use Rattle.dft_insert.proofs.PlacesFound.{HasChain, has_chain}
+use Rattle.dft_insert.proofs.PlacesBefore.{is_open, places_all}
+use Rattle.dft_insert.proofs.CellTableLemmas.{layout_by}
 
 -- ---- cells
 
@@ -37,8 +41,8 @@ cell_below count chains chain place cell below at =
     let here : slice_index_or has.cells place cell ≡ cell = get_or_from_slice_get has.cells place cell cell has.here in
     subst (λ (x : InstanceId). x.0 < count) here (subst (AreBelow count) is (below chain has.cells (slice_get_within chains chain has.cells has.at)) place cell (slice_get_within has.cells place cell has.here))
 
-pub are_cells : (n : Netlist) (config : Config) → IsInRange config → AreCells (length n.instances) (plan_of n config).chains
-are_cells n config range = record {
+planned_cells : (n : Netlist) (config : Config) → IsInRange config → AreCells (length n.instances) (plan_of n config).chains
+planned_cells n config range = record {
   below = λ chain place cell at. cell_below (length n.instances) (plan_of n config).chains chain place cell (blocks_below (length n.instances) (chain_lengths (length (cells_of n config)) config.chains) (cells_of n config) instances) at;
   once = λ chain place other after cell at there. (
       let it = cells_scanned n config chain place cell range at in
@@ -50,6 +54,9 @@ are_cells n config range = record {
   where
     instances : AreBelow (length n.instances) (cells_of n config)
     instances = subst (λ m. AreBelow m (cells_of n config)) (length-map-range_with_len (judged n config) 0 (length n.instances)) (cells_below (judgements n config) (length config.domains))
+
+pub are_cells : (n : Netlist) (config : Config) (plan : Plan) (count : ℕ) → IsInRange config → plan ≡ plan_of n config → count ≡ length n.instances → AreCells count plan.chains
+are_cells n config plan count range planned same = subst (λ m. AreCells m plan.chains) (sym same) (subst (λ (p : Plan). AreCells (length n.instances) p.chains) (sym planned) (planned_cells n config range))
 
 -- ---- lock-ups
 
@@ -87,8 +94,8 @@ stands_before v chains number l at =
       behind = omega (arith, behind.after_is, domain_within v cells (kept.item + 1) behind.domain (slice_get cells (kept.item + 1)) refl behind.next_is);
     }
 
-pub are_before : (n : Netlist) (config : Config) → AreBefore (plan_of n config).chains (plan_of n config).lockups
-are_before n config = stands_before (judgements n config) (plan_of n config).chains
+pub are_before : (n : Netlist) (config : Config) (plan : Plan) → plan ≡ plan_of n config → AreBefore plan.chains plan.lockups
+are_before n config plan planned = subst (λ (p : Plan). AreBefore p.chains p.lockups) (sym planned) (stands_before (judgements n config) (plan_of n config).chains)
 
 -- ---- room
 
@@ -108,11 +115,27 @@ net_count n config plan =
     length-map (added_ports Plain config) port_name, length-map-range_with_len made_net 0 count)
 
 -- all nets that are made are within the limit
-pub lockups_fit : (n : Netlist) (config : Config) (plan : Plan) → length (plain_netlist n config plan).nets ≤ MAX_NETS → length n.nets + length (added_ports Plain config) + length (open_places n plan.chains) + length plan.lockups ≤ MAX_NETS
+lockups_fit : (n : Netlist) (config : Config) (plan : Plan) → length (plain_netlist n config plan).nets ≤ MAX_NETS → length n.nets + length (added_ports Plain config) + length (open_places n plan.chains) + length plan.lockups ≤ MAX_NETS
 lockups_fit n config plan room = omega (arith, room, net_count n config plan)
 
-pub has_room : (n : Netlist) (config : Config) → (gap_of n (length (added_ports Plain config))).before ≤ length n.nets → length (plain_netlist n config (plan_of n config)).nets ≤ MAX_NETS → HasRoom n (plan_of n config).chains (gap_of n (length (added_ports Plain config)))
-has_room n config within room = record {
-  outputs = omega (arith, lockups_fit n config (plan_of n config) room);
-  entries = omega (arith, within, lockups_fit n config (plan_of n config) room, ports_count config, chain_count (cells_of n config) config.chains);
-}
+pub has_room : (n : Netlist) (config : Config) (plan : Plan) (gap : Gap) → IsNetlist n → plan ≡ plan_of n config → gap ≡ gap_of n (length (added_ports Plain config)) → length (plain_netlist n config plan).nets ≤ MAX_NETS → HasRoom n plan.chains gap
+has_room n config plan gap sound planned is room =
+    let width : gap.width ≡ length (added_ports Plain config) = ap (λ (g : Gap). g.width) is in
+    let before : gap.before ≡ length (bits_of n.ports) = ap (λ (g : Gap). g.before) is in
+    let count : length plan.chains ≡ config.chains = ap (λ (p : Plan). length p.chains) planned ∙ chain_count (cells_of n config) config.chains in
+    record {
+      outputs = omega (arith, lockups_fit n config plan room, width);
+      entries = omega (arith, lockups_fit n config plan room, ports_fit n sound, before, ports_count config, count);
+    }
+
+-- behind the nets that are made for outputs come those of the lock-ups
+pub first_is : (n : Netlist) (config : Config) (plan : Plan) (gap : Gap) (next : ℕ) (table : List (Option CellNets)) → gap ≡ gap_of n (length (added_ports Plain config)) → IsNoted (bare_layout n plan.chains gap) (length plan.chains) 0 table next →
+    next ≡ (plain_layout n config plan).first_lockup
+first_is n config plan gap next table is h =
+    h.made ∙ ap (λ ps. length n.nets + gap.width + length (filter (is_open n plan.chains) ps)) (places_all plan.chains) ∙ ap (λ (g : Gap). length n.nets + g.width + length (open_places n plan.chains)) is
+
+pub last_fits : (n : Netlist) (config : Config) (plan : Plan) (next : ℕ) → next ≡ (plain_layout n config plan).first_lockup → length (plain_netlist n config plan).nets ≤ MAX_NETS → next + length plan.lockups ≤ MAX_NETS
+last_fits n config plan next is room = omega (arith, is, lockups_fit n config plan room)
+
+pub layout_is : (n : Netlist) (config : Config) (plan : Plan) (gap : Gap) (next : ℕ) → gap ≡ gap_of n (length (added_ports Plain config)) → next ≡ (plain_layout n config plan).first_lockup → cell_nets_of (layout_by n plan gap next) ≡ cell_nets_of (plain_layout n config plan)
+layout_is n config plan gap next is first = ap (λ g. cell_nets_of (layout_by n plan g next)) is ∙ ap (λ m. cell_nets_of (layout_by n plan (gap_of n (length (added_ports Plain config))) m)) first

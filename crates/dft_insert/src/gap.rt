@@ -1,6 +1,6 @@
 //! Where the nets of a design stand in its scanned netlist.
 
-ghost use Rattle.std.specs.Prelude.{◌≡◌, ◌+◌, ◌<◌, ◌≤◌, ◌^◌, length};
+ghost use Rattle.std.specs.Prelude.{◌≡◌, ◌+◌, ◌<◌, ◌^◌, length};
 ghost use Rattle.dft_config.specs.Range.{IsInRange};
 ghost use Rattle.dft_insert.specs.AddedPorts.{added_ports, scan_in_net};
 ghost use Rattle.dft_insert.specs.Moves as spec;
@@ -30,8 +30,7 @@ impl Gap {
     /// That of style Plain.
     pub fn plain(design: &Design, config: &Config) -> Gap
         requires { IsInRange config.now }
-        ensures gap { result ≡ spec.gap_of design.now (length (added_ports Plain config.now)) }
-        ensures within { result.before ≤ length design.now.nets }
+        ensures { result ≡ spec.gap_of design.now (length (added_ports Plain config.now)) }
     {
         Gap {
             before: count_port_nets(design) as u32,
