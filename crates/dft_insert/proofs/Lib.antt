@@ -30,3 +30,7 @@ pub mod WorkedScan
 pub mod PlacesBefore
 pub mod CellTableLemmas
 pub mod PlannedLemmas
+pub mod TakenNames
+pub mod AddingLemmas
+pub mod OpenLemmas
+pub mod NameBytes

@@ -5,14 +5,17 @@ mod adding;
 mod building;
 mod cell_nets;
 mod counting;
+mod counts;
 mod error;
 mod gap;
 mod insertion;
 mod laws;
 mod made_names;
+mod name_set;
 mod outputs;
 mod scanned;
 mod style;
+mod tally;
 
 pub use error::InsertError;
 pub use insertion::insert;
