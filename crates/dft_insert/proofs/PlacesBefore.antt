@@ -168,5 +168,9 @@ made_more y chain place next made =
 pub made_fit : (n : Netlist) (chains : List (List InstanceId)) (chain place : ℕ) → IsBetween chains chain place → length (filter (is_open n chains) (places_before chains chain place)) ≤ length (open_places n chains)
 made_fit n chains chain place between =
     let q : CellPlace → Bool = is_open n chains in
-    omega (arith, ap (λ ps. length (filter q ps)) between.is, ap length (filter-append q (places_before chains chain place) (at_place chain place ∷ between.back)),
-    length-append (filter q (places_before chains chain place)) (filter q (at_place chain place ∷ between.back)))
+    omega (
+      arith,
+      ap (λ ps. length (filter q ps)) between.is,
+      ap length (filter-append q (places_before chains chain place) (at_place chain place ∷ between.back)),
+      length-append (filter q (places_before chains chain place)) (filter q (at_place chain place ∷ between.back)),
+    )

@@ -3,7 +3,7 @@ use Rattle.std.proofs.Common.{ℕ, zero, suc, ◌+◌, ◌≡◌, ◌==◌, ◌<
 use Rattle.std.specs.Prelude.{if◌then◌else◌}
 use Rattle.std.specs.List.{All, range_with_len}
 use Rattle.std.proofs.lemmas.List.{length-append, length-map}
-use Rattle.std.proofs.lemmas.List.FromFn.{length-range_with_len, length-map-range_with_len}
+use Rattle.std.proofs.lemmas.List.FromFn.{length-map-range_with_len}
 use Rattle.std.proofs.lemmas.Option.{none-some, same_Some, slice_get-get_or, slice_get_within, get_or_from_slice_get}
 use Rattle.dft_netlist.specs.declared.ids.InstanceId.{InstanceId}
 use Rattle.dft_netlist.specs.declared.limits.TheConstants.{MAX_NETS}
@@ -22,10 +22,10 @@ use Rattle.dft_stitch.proofs.BlockLemmas.{blocks_below, cells_below, chain_count
 use Rattle.dft_insert.specs.declared.style.Style.TheVariants.{Plain}
 use Rattle.dft_insert.specs.Moves.{Gap, gap_of}
 use Rattle.dft_insert.specs.AddedPorts.{added_ports, port_name, made_net}
-use Rattle.dft_insert.specs.Stitching.{open_places, Layout}
+use Rattle.dft_insert.specs.Stitching.{open_places}
 use Rattle.dft_insert.specs.Written.{made_nets, plain_layout, plain_netlist}
 use Rattle.dft_insert.specs.declared.cell_nets.CellNets.{CellNets}
-use Rattle.dft_insert.specs.CellTables.{cell_nets_of, AreCells, AreBefore, StandsBefore, HasRoom, bare_layout, IsNoted}
+use Rattle.dft_insert.specs.CellTables.{cell_nets_of, AreCells, AreBefore, HasRoom, bare_layout, IsNoted}
 use Rattle.dft_insert.proofs.Kept.{ports_count, ports_fit}
 use Rattle.dft_insert.proofs.Linked.{in_flat, in_filter, range_is}
 use Rattle.dft_insert.proofs.PlacesFound.{HasChain, has_chain}
@@ -111,8 +111,15 @@ net_count n config plan =
     let back = drop (plain_layout n config plan).gap.before n.nets in
     let count = length (open_places n plan.chains) + length plan.lockups in
     let made = made_nets count in
-    omega (arith, length-append front (added ++ (back ++ made)), length-append added (back ++ made), length-append back made, split_length (plain_layout n config plan).gap.before n.nets,
-    length-map (added_ports Plain config) port_name, length-map-range_with_len made_net 0 count)
+    omega (
+      arith,
+      length-append front (added ++ (back ++ made)),
+      length-append added (back ++ made),
+      length-append back made,
+      split_length (plain_layout n config plan).gap.before n.nets,
+      length-map (added_ports Plain config) port_name,
+      length-map-range_with_len made_net 0 count,
+    )
 
 -- all nets that are made are within the limit
 lockups_fit : (n : Netlist) (config : Config) (plan : Plan) → length (plain_netlist n config plan).nets ≤ MAX_NETS → length n.nets + length (added_ports Plain config) + length (open_places n plan.chains) + length plan.lockups ≤ MAX_NETS

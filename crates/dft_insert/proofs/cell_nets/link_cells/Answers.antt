@@ -1,5 +1,5 @@
 -- The lock-up and the cell behind it are there, and it is linked.
-use Rattle.std.proofs.Common.{ℕ, zero, suc, ◌≡◌, ◌+◌, ◌-◌, ◌<◌, ◌∙◌, ◌∷◌, List, [], Option, None, Some, option_map, length, get_or, set, drop, slice_get, drop-cons, refl, sym, subst, ap, arith}
+use Rattle.std.proofs.Common.{ℕ, suc, ◌≡◌, ◌+◌, ◌-◌, ◌<◌, ◌∙◌, List, Option, None, Some, option_map, length, get_or, set, drop, slice_get, drop-cons, sym, subst, ap, arith}
 use Rattle.std.proofs.lemmas.List.{drop_all}
 use Rattle.std.proofs.lemmas.Option.{same_Some, slice_get-get_or, slice_get_within}
 use Rattle.dft_netlist.specs.declared.ids.InstanceId.{InstanceId}

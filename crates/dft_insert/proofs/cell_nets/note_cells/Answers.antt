@@ -1,7 +1,6 @@
 -- One cell more is noted.
-use Rattle.std.proofs.Common.{ℕ, ◌≡◌, ◌+◌, ◌<◌, ◌≤◌, ◌^◌, List, Option, None, Some, IfSome, length, get_or, slice_get, sym, subst, arith}
+use Rattle.std.proofs.Common.{ℕ, ◌≡◌, ◌+◌, ◌<◌, ◌^◌, Option, None, Some, IfSome, length, get_or, slice_get, subst, arith}
 use Rattle.std.proofs.lemmas.Option.{slice_get-get_or}
-use Rattle.dft_netlist.specs.declared.ids.InstanceId.{InstanceId}
 use Rattle.dft_netlist.specs.declared.ids.NetId.{NetId}
 use Rattle.dft_insert.specs.Stitching.{Layout}
 use Rattle.dft_insert.specs.CellTables.{IsNoted, bare_layout}

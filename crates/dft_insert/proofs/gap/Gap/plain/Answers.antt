@@ -1,7 +1,6 @@
 -- The ports' nets come before the gap.
-use Rattle.std.proofs.Common.{ℕ, ◌≡◌, ◌+◌, ◌*◌, length, arith}
+use Rattle.std.proofs.Common.{◌≡◌, ◌+◌, ◌*◌, length, arith}
 use Rattle.dft_insert.specs.declared.style.Style.TheVariants.{Plain}
-use Rattle.dft_insert.specs.Moves.{Gap}
 use Rattle.dft_insert.specs.AddedPorts.{added_ports}
 use Rattle.dft_insert.proofs.Kept.{ports_count}
 use Rattle.dft_insert.proofs.gap.Gap.plain.Goals as goal
