@@ -27,6 +27,9 @@ pub mod Heights
 pub mod Shifted
 pub mod Additions
 pub mod WorkedScan
+pub mod PlacesBefore
+pub mod CellTableLemmas
+pub mod PlannedLemmas
 pub mod TakenNames
 pub mod AddingLemmas
 pub mod OpenLemmas

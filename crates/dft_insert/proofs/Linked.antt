@@ -63,7 +63,7 @@ pub record InFlat {X A : Type 0} (f : X → List A) (xs : List X) (y : A) : Type
   pub within : ℕ
   pub here : slice_get (f item) within ≡ Some y
 
-in_flat : {X A : Type 0} (f : X → List A) (xs : List X) (m : ℕ) (y : A) → slice_get (flat_map f xs) m ≡ Some y → InFlat f xs y
+pub in_flat : {X A : Type 0} (f : X → List A) (xs : List X) (m : ℕ) (y : A) → slice_get (flat_map f xs) m ≡ Some y → InFlat f xs y
 in_flat f [] m y e = absurd (none-some y e)
 in_flat f (x ∷ xs) m y e = elim (in_append (f x) (flat_map f xs) m y e) [
   | inl h ↦ record { place = zero; item = x; at = refl; within = m; here = h }
@@ -82,7 +82,7 @@ filter_by h x xs rest None m y is more e = let it = more m e in record { place =
 filter_by h x xs rest (Some z) zero y is more e = record { place = zero; item = x; at = refl; is = is ∙ e }
 filter_by h x xs rest (Some z) (suc m) y is more e = let it = more m e in record { place = suc it.place; item = it.item; at = it.at; is = it.is }
 
-in_filter : {X A : Type 0} (h : X → Option A) (xs : List X) (m : ℕ) (y : A) → slice_get (filter_map h xs) m ≡ Some y → InFilter h xs y
+pub in_filter : {X A : Type 0} (h : X → Option A) (xs : List X) (m : ℕ) (y : A) → slice_get (filter_map h xs) m ≡ Some y → InFilter h xs y
 in_filter h [] m y e = absurd (none-some y e)
 in_filter h (x ∷ xs) m y e = filter_by h x xs (filter_map h xs) (h x) m y refl (λ j at. in_filter h xs j y at) e
 
@@ -95,7 +95,7 @@ get_filter h [] j x y at is = absurd (none-some x at)
 get_filter h (z ∷ xs) zero x y at is = (zero, ap (λ o. slice_get (cons_option o (filter_map h xs)) zero) (ap h (same_Some z x at) ∙ is))
 get_filter h (z ∷ xs) (suc j) x y at is = kept_by (h z) (filter_map h xs) y (get_filter h xs j x y at is)
 
-range_is : (from count j x : ℕ) → slice_get (range_with_len from count) j ≡ Some x → (x ≡ from + j) × (j < count)
+pub range_is : (from count j x : ℕ) → slice_get (range_with_len from count) j ≡ Some x → (x ≡ from + j) × (j < count)
 range_is from zero j x e = absurd (none-some x e)
 range_is from (suc count) zero x e = (sym (same_Some from x e) ∙ omega arith, omega arith)
 range_is from (suc count) (suc j) x e = let it = range_is (from + 1) count j x e in (omega (arith, it.0), omega (arith, it.1))

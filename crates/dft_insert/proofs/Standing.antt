@@ -36,11 +36,11 @@ found_more true x y rest q is ih e = subst (λ (p : CellPlace). q p ≡ true) (s
 found_more false x y rest q is ih e = ih e
 
 -- what is found passes the test
-found_passes : (q : CellPlace → Bool) (xs : List CellPlace) (y : CellPlace) → find q xs ≡ Some y → q y ≡ true
+pub found_passes : (q : CellPlace → Bool) (xs : List CellPlace) (y : CellPlace) → find q xs ≡ Some y → q y ≡ true
 found_passes q [] y e = absurd (none-some y e)
 found_passes q (x ∷ xs) y e = found_more (q x) x y (find q xs) q refl (found_passes q xs y) e
 
-cell_is : (i : ℕ) (o : Option InstanceId) → is_cell i o ≡ true → o ≡ Some (record { 0 = i })
+pub cell_is : (i : ℕ) (o : Option InstanceId) → is_cell i o ≡ true → o ≡ Some (record { 0 = i })
 cell_is i None e = absurd cc
 cell_is i (Some cell) e = ap (λ k. Some (record { 0 = k })) (eqb-true cell.0 i e)
 
@@ -62,7 +62,7 @@ number_none : (test q : CellPlace → Bool) (xs : List CellPlace) → ((x : Cell
 number_none test q [] apart first = refl
 number_none test q (x ∷ xs) apart first = number_skips test (q x) x (filter q xs) first (λ e. not_both (test x) (q x) (apart x) e) (number_none test q xs apart)
 
-both_true : (a b : Bool) → (a && b) ≡ true → (a ≡ true) × (b ≡ true)
+pub both_true : (a b : Bool) → (a && b) ≡ true → (a ≡ true) × (b ≡ true)
 both_true true true e = (refl, refl)
 both_true true false e = absurd cc
 both_true false b e = absurd cc

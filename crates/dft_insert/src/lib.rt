@@ -7,6 +7,7 @@ mod cell_nets;
 mod counting;
 mod counts;
 mod error;
+mod gap;
 mod insertion;
 mod laws;
 mod made_names;
