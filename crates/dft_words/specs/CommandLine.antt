@@ -43,9 +43,6 @@ option_rule o = record (new_rule o.name) { long = Some o.name; required = o.requ
 abbrev pub form_shape : Form → Shape
 form_shape form = record (new_shape form.command) { rules = map option_rule form.options }
 
-abbrev pub form_app : Form → App
-form_app form = record { top = form_shape form; subs = [] }
-
 -- the command with options of these names
 abbrev pub with_options : (required : Bool) → App → List Text → App
 with_options required app [] = app

@@ -1,9 +1,9 @@
 //! The words as `clap` reads them.
 
-ghost use Rattle.std.specs.Prelude.{◌≡◌, IfOk, false, map, string_bytes};
-ghost use Rattle.clap.specs.Words.{FailsBy, app_of, fault_of, rule_of, subcommand_of, subcommand_rows_of};
+ghost use Rattle.std.specs.Prelude.{◌≡◌, IfOk, false, true, map, string_bytes};
+ghost use Rattle.clap.specs.Words.{FailsBy, app_of, fault_of, new_app, rule_of, subcommand_of, subcommand_rows_of};
 ghost use Rattle.clap.specs.declared.builder.command.Command.TheViews.{out-Command as fields_of};
-ghost use Rattle.dft_words.specs.CommandLine.{dft_app, form_app, option_rule, replay_form, scan_form, with_options};
+ghost use Rattle.dft_words.specs.CommandLine.{dft_app, option_rule, with_options};
 
 use clap::{Arg, ArgMatches, Command, Error};
 use std::alloc::{AllocError, Global};
@@ -18,29 +18,28 @@ pub(crate) fn matches<'a>(alloc: Global, words: &'a [String]) -> Result<ArgMatch
         .disable_help_flag(true)
         .disable_help_subcommand(true)
         .subcommand_required(true)
-        .subcommand(replay(alloc)?)?
-        .subcommand(scan(alloc)?)?;
+        .subcommand(form(alloc, "replay", &["netlist", "patterns"], &["library"])?)?
+        .subcommand(form(
+            alloc,
+            "scan",
+            &["netlist", "config", "out", "report"],
+            &["library"],
+        )?)?;
     dft.try_get_matches_from(words)
 }
 
-/// The command `replay` and its options.
-fn replay<'a>(alloc: Global) -> Result<Command<'a>, AllocError>
-    ensures app { IfOk result (λ c. app_of c ≡ form_app replay_form) }
+/// A command with options that are needed, and others that may be left out.
+fn form<'a>(
+    alloc: Global,
+    name: &'a str,
+    needed: &[&'a str],
+    optional: &[&'a str],
+) -> Result<Command<'a>, AllocError>
+    ensures app { IfOk result (λ c. app_of c ≡ with_options false (with_options true (new_app name.entry.now) (map (λ n. n.now) needed.now)) (map (λ n. n.now) optional.now)) }
     ensures local { IfOk result (λ c. (fields_of c).has_globals ≡ false) }
 {
-    let replay = Command::new(alloc, "replay");
-    let replay = with_options(alloc, replay, &["netlist", "patterns"], true)?;
-    with_options(alloc, replay, &["library"], false)
-}
-
-/// The command `scan` and its options.
-fn scan<'a>(alloc: Global) -> Result<Command<'a>, AllocError>
-    ensures app { IfOk result (λ c. app_of c ≡ form_app scan_form) }
-    ensures local { IfOk result (λ c. (fields_of c).has_globals ≡ false) }
-{
-    let scan = Command::new(alloc, "scan");
-    let scan = with_options(alloc, scan, &["netlist", "config", "out", "report"], true)?;
-    with_options(alloc, scan, &["library"], false)
+    let command = with_options(alloc, Command::new(alloc, name), needed, true)?;
+    with_options(alloc, command, optional, false)
 }
 
 /// The command with options of these names, each of one value.
