@@ -4,9 +4,12 @@
 mod adding;
 mod building;
 mod cell_nets;
+mod counting;
 mod error;
 mod insertion;
 mod laws;
+mod made_names;
+mod outputs;
 mod scanned;
 mod style;
 
