@@ -112,7 +112,7 @@ room : (n : Netlist) (width : ℕ) → length n.ports + 1 ≤ MAX_PORTS → leng
 room n width ports nets = rw (le_true (length n.ports + 1) MAX_PORTS ports, le_true (length n.nets + width) MAX_NETS nets) refl
 
 bits_behind : (ports : List Port) (port : Port) → length (bits_of (ports ++ port ∷ [])) ≡ length (bits_of ports) + length port.bits
-bits_behind [] port = length-append port.bits []
+bits_behind [] port = omega (arith, length-append port.bits [])
 bits_behind (p ∷ ports) port = omega (arith, length-append p.bits (bits_of (ports ++ port ∷ [])), length-append p.bits (bits_of ports), bits_behind ports port)
 
 length_from : (from count : ℕ) → length (nets_from from count) ≡ count
@@ -125,21 +125,21 @@ ports_fit w n (port ∷ ports) more rest instances whole front only numbers =
     let names : List Text = bit_names port.name port.range in
     let later : List Text = bit_names_of ports ++ rest in
     let nets : List Text = names ++ later in
-    let front : IsFront w n (port ∷ (ports ++ more)) nets instances =
+    let here : IsFront w n (port ∷ (ports ++ more)) nets instances =
     record { its_ports = front.its_ports; its_nets = front.its_nets ∙ ap (λ xs. n.nets ++ xs) (append_assoc names (bit_names_of ports) rest); its_instances = front.its_instances } in
     let wide : length port.bits ≡ length names = ap length numbers.0 ∙ length_from (length n.nets) (length names) in (
       record {
         only = only;
         next = ap (port_of port.name port.dir port.range) numbers.0;
         passes = ap (λ o. taken_or o (port_limit n port.name port.range))
-            (none_taken n (port_names port.name port.range) (λ q some. later_free q w n (port ∷ (ports ++ more)) nets instances whole front
+            (none_taken n (port_names port.name port.range) (λ q some. later_free q w n (port ∷ (ports ++ more)) nets instances whole here
             (omega (arith, some, own_and_bits q port port.range (filter_map vector_name (ports ++ more)) refl, named-append q names later))))
             ∙ room n (length names)
             (omega (arith, ap length front.its_ports, length-append n.ports (port ∷ (ports ++ more)), whole.few_ports))
-            (omega (arith, ap length front.its_nets, length-append n.nets nets, length-append names later, whole.few_nets));
+            (omega (arith, ap length here.its_nets, length-append n.nets nets, length-append names later, whole.few_nets));
       },
       ports_fit w (with_thing n (APort port)) ports more rest instances whole
-      (record { its_ports = front.its_ports ∙ sym (append_assoc n.ports (port ∷ []) (ports ++ more)); its_nets = front.its_nets ∙ sym (append_assoc n.nets names later); its_instances = front.its_instances })
+      (record { its_ports = front.its_ports ∙ sym (append_assoc n.ports (port ∷ []) (ports ++ more)); its_nets = here.its_nets ∙ sym (append_assoc n.nets names later); its_instances = front.its_instances })
       (omega (arith, only, length-append n.nets names, bits_behind n.ports port, wide))
       (subst (λ k. AreNumbered k ports) (sym (length-append n.nets names)) numbers.1),
     )

@@ -13,20 +13,24 @@ use Rattle.dft_netlist.specs.Netlist.{Netlist}
 use Rattle.dft_netlist.specs.Names.{Names, NamesDiffer, names_taken, is_taken, vector_name, instance_name}
 use Rattle.dft_netlist.proofs.NamesLemmas.{same_of, bytes_eq-same}
 
+abbrev pub as_count : Bool → ℕ
+as_count true = 1
+as_count false = 0
+
 -- how often a name stands in a list
 abbrev pub times_named : Text → List Text → ℕ
 times_named q [] = 0
-times_named q (x ∷ xs) = cond (bytes_eq x q) 1 0 + times_named q xs
+times_named q (x ∷ xs) = as_count (bytes_eq x q) + times_named q xs
 
 pub named-append : (q : Text) (xs ys : List Text) → times_named q (xs ++ ys) ≡ times_named q xs + times_named q ys
 named-append q [] ys = omega arith
 named-append q (x ∷ xs) ys = omega (arith, named-append q xs ys)
 
-one_named : (b : Bool) → cond b 1 0 ≤ 1
+pub one_named : (b : Bool) → as_count b ≤ 1
 one_named true = omega arith
 one_named false = omega arith
 
-has_none : (b c : Bool) (m : ℕ) → cond b 1 0 + m ≡ 0 → (m ≡ 0 → c ≡ false) → (b || c) ≡ false
+has_none : (b c : Bool) (m : ℕ) → as_count b + m ≡ 0 → (m ≡ 0 → c ≡ false) → (b || c) ≡ false
 has_none true c m e more = absurd (omega (arith, e))
 has_none false c m e more = more (omega (arith, e))
 
@@ -35,7 +39,7 @@ pub never_has : (q : Text) (xs : List Text) → times_named q xs ≡ 0 → has_n
 never_has q [] e = refl
 never_has q (x ∷ xs) e = has_none (bytes_eq x q) (has_name xs q) (times_named q xs) e (never_has q xs)
 
-none_has : (b c : Bool) (m : ℕ) → (b || c) ≡ false → (c ≡ false → m ≡ 0) → cond b 1 0 + m ≡ 0
+none_has : (b c : Bool) (m : ℕ) → (b || c) ≡ false → (c ≡ false → m ≡ 0) → as_count b + m ≡ 0
 none_has true c m e more = absurd cc
 none_has false c m e more = omega (arith, more e)
 
@@ -44,7 +48,7 @@ has_never q [] e = refl
 has_never q (x ∷ xs) e = none_has (bytes_eq x q) (has_name xs q) (times_named q xs) e (has_never q xs)
 
 pub named_here : (q : Text) (xs : List Text) → times_named q (q ∷ xs) ≡ 1 + times_named q xs
-named_here q xs = ap (λ b. cond b 1 0 + times_named q xs) (bytes_eq-same q)
+named_here q xs = ap (λ b. as_count b + times_named q xs) (bytes_eq-same q)
 
 -- ---- names of a netlist
 
@@ -66,7 +70,7 @@ module _ {X : Type 0} (f : X → Option Text) where
     where
       by : (b : Bool) → bytes_eq y q ≡ b → (k : ℕ) × (option_and_then f (slice_get (x ∷ xs) k) ≡ Some q)
       by true same = (0, is ∙ ap Some (same_of y q same))
-      by false other = (let it = more (omega (arith, e, ap (λ b. cond b 1 0) other)) in (suc it.0, it.1))
+      by false other = (let it = more (omega (arith, e, ap as_count other)) in (suc it.0, it.1))
 
   -- where a name stands there, an item shows it
   pub shown_where : (q : Text) (xs : List X) → 1 ≤ times_named q (filter_map f xs) → (k : ℕ) × (option_and_then f (slice_get xs k) ≡ Some q)
@@ -78,10 +82,10 @@ module _ {X : Type 0} (f : X → Option Text) where
   once_by q None names xs x is more once apart = once
   once_by q (Some y) names xs x is more once apart = by (bytes_eq y q) refl (times_named q names) refl
     where
-      by : (b : Bool) → bytes_eq y q ≡ b → (m : ℕ) → times_named q names ≡ m → cond (bytes_eq y q) 1 0 + times_named q names ≤ 1
+      by : (b : Bool) → bytes_eq y q ≡ b → (m : ℕ) → times_named q names ≡ m → as_count (bytes_eq y q) + times_named q names ≤ 1
       by true same zero none = omega (arith, none, one_named (bytes_eq y q))
       by true same (suc m) some = (let it = more (omega (arith, some)) in absurd (apart it.0 (is ∙ ap Some (same_of y q same)) it.1))
-      by false other m e = omega (arith, once, ap (λ b. cond b 1 0) other)
+      by false other m e = omega (arith, once, ap as_count other)
 
   -- where no two items show a name it stands there once at most
   pub shown_once : (q : Text) (xs : List X) → ((i j : ℕ) → option_and_then f (slice_get xs i) ≡ Some q → option_and_then f (slice_get xs j) ≡ Some q → i ≡ j) → times_named q (filter_map f xs) ≤ 1
@@ -106,14 +110,11 @@ net_once : (q : Text) (xs : List Text) → ((i j : ℕ) → slice_get xs i ≡ S
 net_once q xs differ =
     omega (arith, ap (times_named q) (all_shown xs), shown_once (λ x. Some x) q xs (λ i j a b. differ i j (sym (some_itself (slice_get xs i)) ∙ a) (sym (some_itself (slice_get xs j)) ∙ b)))
 
-same_net : (i j : ℕ) → Net (record { 0 = i }) ≡ Net (record { 0 = j }) → i ≡ j
-same_net i j e = cc
-
-same_vector : (i j : ℕ) → Vector (record { 0 = i }) ≡ Vector (record { 0 = j }) → i ≡ j
-same_vector i j e = cc
-
-same_instance : (i j : ℕ) → Instance (record { 0 = i }) ≡ Instance (record { 0 = j }) → i ≡ j
-same_instance i j e = cc
+-- the number that a name stands for
+abbrev number_in : Named → ℕ
+number_in (Net net) = net.0
+number_in (Vector port) = port.0
+number_in (Instance instance) = instance.0
 
 net_vector : (i j : ℕ) → Net (record { 0 = i }) ≡ Vector (record { 0 = j }) → ⊥
 net_vector i j e = cc
@@ -137,9 +138,9 @@ pub stands_once : (q : Text) (n : Netlist) → NamesDiffer n → times_named q (
 stands_once q n differ =
     omega (arith, taken_times q n,
     sum_of_three (times_named q n.nets) (times_named q (filter_map vector_name n.ports)) (times_named q (filter_map instance_name n.instances))
-    (net_once q n.nets (λ i j a b. same_net i j (differ q (Net (record { 0 = i })) (Net (record { 0 = j })) a b)))
-    (shown_once vector_name q n.ports (λ i j a b. same_vector i j (differ q (Vector (record { 0 = i })) (Vector (record { 0 = j })) a b)))
-    (shown_once instance_name q n.instances (λ i j a b. same_instance i j (differ q (Instance (record { 0 = i })) (Instance (record { 0 = j })) a b)))
+    (net_once q n.nets (λ i j a b. ap number_in (differ q (Net (record { 0 = i })) (Net (record { 0 = j })) a b)))
+    (shown_once vector_name q n.ports (λ i j a b. ap number_in (differ q (Vector (record { 0 = i })) (Vector (record { 0 = j })) a b)))
+    (shown_once instance_name q n.instances (λ i j a b. ap number_in (differ q (Instance (record { 0 = i })) (Instance (record { 0 = j })) a b)))
     (λ a b. let x = net_where q n.nets a in let y = shown_where vector_name q n.ports b in net_vector x.0 y.0 (differ q (Net (record { 0 = x.0 })) (Vector (record { 0 = y.0 })) x.1 y.1))
     (λ a b. let x = net_where q n.nets a in let y = shown_where instance_name q n.instances b in net_instance x.0 y.0 (differ q (Net (record { 0 = x.0 })) (Instance (record { 0 = y.0 })) x.1 y.1))
     (λ a b. let x = shown_where vector_name q n.ports a in let y = shown_where instance_name q n.instances b in vector_instance x.0 y.0 (differ q (Vector (record { 0 = x.0 })) (Instance (record { 0 = y.0 })) x.1 y.1)))

@@ -1,6 +1,6 @@
 //! What is carried over from the design.
 
-ghost use Rattle.std.specs.Prelude.{◌≡◌, ◌<◌, ◌≤◌, drop, map, length, OnOk, IfOk, slice_get, Some};
+ghost use Rattle.std.specs.Prelude.{ℕ, ◌≡◌, ◌<◌, ◌≤◌, drop, map, length, OnOk, IfOk, slice_get, Some};
 ghost use Rattle.dft_netlist.specs.declared.instance.Join.{Join};
 ghost use Rattle.dft_netlist.specs.declared.limits.TheConstants.{MAX_NETS};
 ghost use Rattle.dft_netlist.specs.Sound.{AreLive, IsAJoin, IsLive};
