@@ -26,4 +26,14 @@ pub mod Numbers
 pub mod Heights
 pub mod Shifted
 pub mod Additions
+pub mod Completing
+pub mod MadeInstances
+pub mod ScanPorts
+pub mod Livings
+pub mod FirstLockup
+pub mod NumberedPorts
+pub mod NamesOnce
+pub mod Fitting
+pub mod AddedNames
+pub mod WholeNames
 pub mod WorkedScan

@@ -52,8 +52,12 @@ abbrev instances_made : (from count : ℕ) → List Text
 instances_made from count = map made_instance (range_with_len from count)
 
 nets_made_both : (q : Text) (from a b : ℕ) → times_named q (nets_made from (a + b)) ≡ times_named q (nets_made from a) + times_named q (nets_made (from + a) b)
-nets_made_both q from zero b = ap (λ k. times_named q (nets_made k b)) (let e : from ≡ from + 0 = omega arith in e)
-nets_made_both q from (suc a) b = omega (arith, nets_made_both q (from + 1) a b, ap (λ k. times_named q (nets_made k b)) (let e : from + 1 + a ≡ from + suc a = omega arith in e))
+nets_made_both q from zero b =
+    let none : 0 + b ≡ b = omega arith in let same : from + 0 ≡ from = omega arith in ap (λ k. times_named q (nets_made from k)) none ∙ ap (λ k. times_named q (nets_made k b)) (sym same) ∙ zero_more (times_named q (nets_made (from + 0) b))
+  where
+    zero_more : (m : ℕ) → m ≡ 0 + m
+    zero_more m = omega arith
+nets_made_both q from (suc a) b = omega (arith, ap (λ k. times_named q (nets_made from k)) (let e : suc a + b ≡ suc (a + b) = omega arith in e), nets_made_both q (from + 1) a b, ap (λ k. times_named q (nets_made k b)) (let e : from + 1 + a ≡ from + suc a = omega arith in e))
 
 lockup_names_added : (q : Text) (first from count : ℕ) → times_named q (names_added (flat_map (lockup_made first) (range_with_len from count))) ≡ times_named q (nets_made (first + from) count) + times_named q (instances_made from count)
 lockup_names_added q first from zero = refl
@@ -95,6 +99,61 @@ buffer_names q y out lockups i [] = refl
 buffer_names q y out lockups i (cells ∷ chains) =
     omega (arith, buffer_names q y out lockups (suc i) chains, ap (λ k. times_named q (instances_made k (length chains))) (let e : lockups + suc i ≡ lockups + i + 1 = omega arith in e))
 
+nets_counted : (q : Text) (k : ℕ) (xs added made : List Text) → times_named q (take k xs ++ (added ++ (drop k xs ++ made))) ≡ times_named q xs + (times_named q added + times_named q made)
+nets_counted q k xs added made =
+    omega (
+      arith,
+      named-append q (take k xs) (added ++ (drop k xs ++ made)),
+      named-append q added (drop k xs ++ made),
+      named-append q (drop k xs) made,
+      named-append q (take k xs) (drop k xs),
+      ap (times_named q) (take-append-drop k xs),
+    )
+
+vectors_counted : (q : Text) (net : ℕ) (ports : List Port) (added : List NewPort) → times_named q (filter_map vector_name (ports ++ ports_from net added)) ≡ times_named q (filter_map vector_name ports)
+vectors_counted q net ports added = omega (arith, shown_append vector_name q ports (ports_from net added), ap (times_named q) (no_vectors net added))
+
+instances_counted : (q : Text) (y : Layout) (config : Config) (entry out : ℕ → ℕ) (enable : ℕ) (xs : List Instance) (ls : List LockupPlace) (chains : List (List InstanceId)) →
+    times_named q (filter_map instance_name (map_from (written_instance y entry enable) 0 xs ++ (map_from (lockup_instance y config) 0 ls ++ map_from (λ chain. buffer_instance y out (length ls + chain) chain) 0 chains)))
+    ≡ times_named q (filter_map instance_name xs) + (times_named q (instances_made 0 (length ls)) + times_named q (instances_made (length ls + 0) (length chains)))
+instances_counted q y config entry out enable xs ls chains =
+    let locked : List Instance = map_from (lockup_instance y config) 0 ls in
+    let ended : List Instance = map_from (λ chain. buffer_instance y out (length ls + chain) chain) 0 chains in
+    omega (
+      arith,
+      shown_append instance_name q (map_from (written_instance y entry enable) 0 xs) (locked ++ ended),
+      shown_append instance_name q locked ended,
+      ap (times_named q) (names_kept y entry enable 0 xs),
+      lockup_names q y config 0 ls,
+      buffer_names q y out (length ls) 0 chains,
+    )
+
+added_counted : (q : Text) (added : List NewPort) (others opened locks chains : ℕ) →
+    times_named q (names_added (map (λ port. APort port.name) added ++ (Others others ∷ (map (λ number. ANet (made_net number)) (range_with_len 0 opened)
+    ++ (flat_map (lockup_made opened) (range_with_len 0 locks) ++ map (λ chain. AnInstance (made_instance (locks + chain))) (range_with_len 0 chains))))))
+    ≡ times_named q (map port_name added) + (times_named q (nets_made 0 (opened + locks)) + (times_named q (instances_made 0 locks) + times_named q (instances_made (locks + 0) chains)))
+added_counted q added others opened locks chains =
+    let nets : List Adding = map (λ number. ANet (made_net number)) (range_with_len 0 opened) in
+    let lockups : List Adding = flat_map (lockup_made opened) (range_with_len 0 locks) in
+    let buffers : List Adding = map (λ chain. AnInstance (made_instance (locks + chain))) (range_with_len 0 chains) in
+    let from : opened + 0 ≡ 0 + opened = omega arith in
+    omega (
+      arith,
+      added_append (map (λ port. APort port.name) added) (Others others ∷ (nets ++ (lockups ++ buffers))) q,
+      added_append nets (lockups ++ buffers) q,
+      added_append lockups buffers q,
+      port_names_added added q,
+      net_names_added (range_with_len 0 opened) q,
+      lockup_names_added q opened 0 locks,
+      ap (λ k. times_named q (nets_made k locks)) from,
+      buffer_names_added q locks 0 chains,
+      nets_made_both q 0 opened locks,
+    )
+
+summed : (w nets vectors shown old_nets old_vectors old_shown old ports made locks chains added : ℕ) → w ≡ nets + (vectors + shown) → old ≡ old_nets + (old_vectors + old_shown) →
+    nets ≡ old_nets + (ports + made) → vectors ≡ old_vectors → shown ≡ old_shown + (locks + chains) → added ≡ ports + (made + (locks + chains)) → w ≡ old + added
+summed w nets vectors shown old_nets old_vectors old_shown old ports made locks chains added a b c d e f = omega (arith, a, b, c, d, e, f)
+
 -- a name stands there as often as in the design and among what is added
 names_counted : (n : Netlist) (config : Config) (plan : Plan) (q : Text) → times_named q (names_taken (plain_netlist n config plan)) ≡ times_named q (names_taken n) + times_named q (names_added (additions Plain n config plan))
 names_counted n config plan q =
@@ -102,38 +161,16 @@ names_counted n config plan q =
     let w : Netlist = plain_netlist n config plan in
     let opened : ℕ = length (open_places n plan.chains) in
     let locks : ℕ = length plan.lockups in
-    let ports : List Adding = map (λ port. APort port.name) (added_ports Plain config) in
-    let nets : List Adding = map (λ number. ANet (made_net number)) (range_with_len 0 opened) in
-    let lockups : List Adding = flat_map (lockup_made opened) (range_with_len 0 locks) in
-    let buffers : List Adding = map (λ chain. AnInstance (made_instance (locks + chain))) (range_with_len 0 (length plan.chains)) in
-    let old : List Instance = map_from (written_instance y (scan_in_net y.gap) (enable_net y.gap)) 0 n.instances in
-    let locked : List Instance = map_from (lockup_instance y config) 0 plan.lockups in
-    let ended : List Instance = map_from (λ chain. buffer_instance y (scan_out_net y.gap config.chains) (locks + chain) chain) 0 plan.chains in
-    omega (
-      arith,
-      taken_times q w,
-      taken_times q n,
-      named-append q (take y.gap.before n.nets) (map port_name (added_ports Plain config) ++ (drop y.gap.before n.nets ++ made_nets (opened + locks))),
-      named-append q (map port_name (added_ports Plain config)) (drop y.gap.before n.nets ++ made_nets (opened + locks)),
-      named-append q (drop y.gap.before n.nets) (made_nets (opened + locks)),
-      named-append q (take y.gap.before n.nets) (drop y.gap.before n.nets),
-      ap (times_named q) (take-append-drop y.gap.before n.nets),
-      nets_made_both q 0 opened locks,
-      shown_append vector_name q n.ports (ports_from y.gap.before (added_ports Plain config)),
-      ap (times_named q) (no_vectors y.gap.before (added_ports Plain config)),
-      shown_append instance_name q old (locked ++ ended),
-      shown_append instance_name q locked ended,
-      ap (times_named q) (names_kept y (scan_in_net y.gap) (enable_net y.gap) 0 n.instances),
-      lockup_names q y config 0 plan.lockups,
-      buffer_names q y (scan_out_net y.gap config.chains) locks 0 plan.chains,
-      added_append ports (Others (length n.nets - y.gap.before) ∷ (nets ++ (lockups ++ buffers))) q,
-      added_append nets (lockups ++ buffers) q,
-      added_append lockups buffers q,
-      port_names_added (added_ports Plain config) q,
-      net_names_added (range_with_len 0 opened) q,
-      lockup_names_added q opened 0 locks,
-      buffer_names_added q locks 0 (length plan.chains),
-    )
+    let added : List NewPort = added_ports Plain config in
+    summed (times_named q (names_taken w)) (times_named q w.nets) (times_named q (filter_map vector_name w.ports)) (times_named q (filter_map instance_name w.instances))
+    (times_named q n.nets) (times_named q (filter_map vector_name n.ports)) (times_named q (filter_map instance_name n.instances)) (times_named q (names_taken n))
+    (times_named q (map port_name added)) (times_named q (nets_made 0 (opened + locks))) (times_named q (instances_made 0 locks)) (times_named q (instances_made (locks + 0) (length plan.chains)))
+    (times_named q (names_added (additions Plain n config plan)))
+    (taken_times q w) (taken_times q n)
+    (nets_counted q y.gap.before n.nets (map port_name added) (made_nets (opened + locks)))
+    (vectors_counted q y.gap.before n.ports added)
+    (instances_counted q y config (scan_in_net y.gap) (scan_out_net y.gap config.chains) (enable_net y.gap) n.instances plan.lockups plan.chains)
+    (added_counted q added (length n.nets - y.gap.before) opened locks (length plan.chains))
 
 -- ---- limits
 

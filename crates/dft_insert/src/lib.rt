@@ -3,14 +3,19 @@
 
 mod adding;
 mod building;
+mod carrying;
 mod cell_nets;
 mod counting;
 mod error;
+mod growing;
 mod insertion;
 mod laws;
+mod linking;
 mod made_names;
+mod making;
 mod outputs;
 mod scanned;
+mod stitching;
 mod style;
 
 pub use error::InsertError;
