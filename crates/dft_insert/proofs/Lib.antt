@@ -36,4 +36,7 @@ pub mod NamesOnce
 pub mod Fitting
 pub mod AddedNames
 pub mod WholeNames
+pub mod Stages
+pub mod SoundParts
+pub mod Tabled
 pub mod WorkedScan

@@ -63,7 +63,7 @@ pub record InFlat {X A : Type 0} (f : X → List A) (xs : List X) (y : A) : Type
   pub within : ℕ
   pub here : slice_get (f item) within ≡ Some y
 
-in_flat : {X A : Type 0} (f : X → List A) (xs : List X) (m : ℕ) (y : A) → slice_get (flat_map f xs) m ≡ Some y → InFlat f xs y
+pub in_flat : {X A : Type 0} (f : X → List A) (xs : List X) (m : ℕ) (y : A) → slice_get (flat_map f xs) m ≡ Some y → InFlat f xs y
 in_flat f [] m y e = absurd (none-some y e)
 in_flat f (x ∷ xs) m y e = elim (in_append (f x) (flat_map f xs) m y e) [
   | inl h ↦ record { place = zero; item = x; at = refl; within = m; here = h }
@@ -95,12 +95,12 @@ get_filter h [] j x y at is = absurd (none-some x at)
 get_filter h (z ∷ xs) zero x y at is = (zero, ap (λ o. slice_get (cons_option o (filter_map h xs)) zero) (ap h (same_Some z x at) ∙ is))
 get_filter h (z ∷ xs) (suc j) x y at is = kept_by (h z) (filter_map h xs) y (get_filter h xs j x y at is)
 
-range_is : (from count j x : ℕ) → slice_get (range_with_len from count) j ≡ Some x → (x ≡ from + j) × (j < count)
+pub range_is : (from count j x : ℕ) → slice_get (range_with_len from count) j ≡ Some x → (x ≡ from + j) × (j < count)
 range_is from zero j x e = absurd (none-some x e)
 range_is from (suc count) zero x e = (sym (same_Some from x e) ∙ omega arith, omega arith)
 range_is from (suc count) (suc j) x e = let it = range_is (from + 1) count j x e in (omega (arith, it.0), omega (arith, it.1))
 
-none_past : {X : Type 0} (xs : List X) (k : ℕ) → slice_get xs k ≡ None → length xs ≤ k
+pub none_past : {X : Type 0} (xs : List X) (k : ℕ) → slice_get xs k ≡ None → length xs ≤ k
 none_past [] k e = omega arith
 none_past (x ∷ xs) zero e = absurd (none-some x (sym e))
 none_past (x ∷ xs) (suc k) e = omega (arith, none_past xs k e)

@@ -21,7 +21,7 @@ use Rattle.dft_insert.specs.declared.cell_nets.CellNets.{CellNets}
 use Rattle.dft_insert.specs.Moves.{Gap, moved_signal, moved_instance}
 use Rattle.dft_insert.specs.AddedPorts.{scan_out_net, made_instance}
 use Rattle.dft_insert.specs.Stitching.{moved_or_none}
-use Rattle.dft_insert.specs.Written.{map_from, at_net, kept_pin, stitched_pins, first_lockup}
+use Rattle.dft_insert.specs.Written.{map_from, at_net, kept_pin, stitched_pins, first_lockup, plain_netlist}
 
 -- ---- scan cells
 
@@ -94,3 +94,9 @@ buffer_with config gap table lockups chain cells =
 
 abbrev pub buffers_with : Config → Plan → Gap → List (Option CellNets) → List Instance
 buffers_with config plan gap table = map_from (buffer_with config gap table (length plan.lockups)) 0 plan.chains
+
+-- ---- ports and nets
+
+-- the scanned netlist with its ports and nets alone
+abbrev pub nets_alone : Netlist → Config → Plan → Netlist
+nets_alone n config plan = record (plain_netlist n config plan) { instances = []; joins = [] }
