@@ -40,3 +40,7 @@ pub mod Stages
 pub mod SoundParts
 pub mod Tabled
 pub mod WorkedScan
+pub mod TakenNames
+pub mod AddingLemmas
+pub mod OpenLemmas
+pub mod NameBytes

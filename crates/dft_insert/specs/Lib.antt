@@ -12,3 +12,6 @@ pub mod Hardware
 pub mod Shifts
 pub mod ScanOff
 pub mod Statements
+pub mod Tallies
+pub mod NameSetShown
+pub mod TallyShown

@@ -1,8 +1,8 @@
 //! How many nets there are before those of added ports, and how many are made for outputs.
 
-ghost use Rattle.std.specs.Prelude.{◌≡◌, ◌≤◌, ◌*◌, is_none, filter, length};
+ghost use Rattle.std.specs.Prelude.{◌≡◌, ◌≤◌, ◌<◌, ◌*◌, ◌^◌, is_none, filter, length};
 ghost use Rattle.std.specs.List.{All};
-ghost use Rattle.dft_netlist.specs.Sound.{bits_of};
+ghost use Rattle.dft_netlist.specs.Sound.{IsNetlist, bits_of};
 ghost use Rattle.dft_netlist.specs.declared.limits.TheConstants.{MAX_INSTANCES};
 ghost use Rattle.dft_insert.specs.Stitching.{open_places};
 ghost use Rattle.dft_insert.specs.Stitching as spec;
@@ -15,6 +15,7 @@ use dft_stitch::Chains;
 pub(crate) fn count_port_nets(design: &Design) -> usize
     ensures count { result ≡ length (bits_of design.now.ports) }
     ensures within { result ≤ length design.now.nets }
+    ensures sound { IsNetlist design.now }
 {
     count_bits(design.ports())
 }
@@ -35,7 +36,8 @@ fn count_bits(ports: &[Port]) -> usize
 pub(crate) fn count_open(design: &Design, chains: &Chains) -> usize
     requires few { length chains.now.chains ≤ 1024 }
     requires short { All (λ cells. length cells ≤ 16 * MAX_INSTANCES) chains.now.chains }
-    ensures { result ≡ length (open_places design.now chains.now.chains) }
+    ensures count { result ≡ length (open_places design.now chains.now.chains) }
+    ensures few { result ≤ 2 ^ 32 }
 {
     let mut count = 0;
     for chain in 0..chains.count() {

@@ -17,9 +17,9 @@ pub(crate) fn own_output(design: &Design, cell: InstanceId) -> Option<NetId>
     ensures live { IfSome result (λ net. net.0 < length design.now.nets) }
 {
     let instance = design.instances().get(cell.0 as usize)?;
-    match output_signal(design.library().cells(), instance) {
-        Some(Signal::Net(net)) => Some(net),
-        _ => None,
+    match output_signal(design.library().cells(), instance)? {
+        Signal::Net(net) => Some(net),
+        Signal::Constant(_) | Signal::Unconnected => None,
     }
 }
 

@@ -1,0 +1,95 @@
+-- Names that a design has, and sets of names.
+use Rattle.std.proofs.Common.{◌≡◌, ℕ, suc, Bool, true, false, cond, ◌||◌, List, [], ◌∷◌, ◌++◌, map, Option, None, Some, is_some, refl, sym, ap, ◌∙◌}
+use Rattle.std.specs.List.{filter_map, cons_option, list_any}
+use Rattle.std.specs.Str.{bytes_eq}
+use Rattle.std.proofs.lemmas.List.{map-append}
+use Rattle.std.proofs.lemmas.Slice.Eq.{bytes_eq-Decides}
+use Rattle.std.proofs.lemmas.Bool.Decides.{same_from_decides, Decides-like}
+use Rattle.dft_base.specs.Lexing.{Text}
+use Rattle.dft_cells.specs.WellFormed.{has_name}
+use Rattle.dft_netlist.specs.declared.ids.InstanceId.{InstanceId}
+use Rattle.dft_netlist.specs.declared.instance.Instance.{Instance}
+use Rattle.dft_netlist.specs.Netlist.{Netlist}
+use Rattle.dft_netlist.specs.Names.{find_net, find_net_from, find_instance, find_instance_from, has_this_name, instance_name, is_taken, vector_name}
+use Rattle.dft_netlist.proofs.NamesLemmas.{same_of}
+
+-- ---- sets of names
+
+bytes_eq-comm : (xs ys : Text) → bytes_eq xs ys ≡ bytes_eq ys xs
+bytes_eq-comm xs ys = same_from_decides (bytes_eq xs ys) (bytes_eq ys xs) (bytes_eq-Decides xs ys) (Decides-like (bytes_eq ys xs) sym sym (bytes_eq-Decides ys xs))
+
+-- a look-up among keys that show their bytes
+pub has-map : {K : Type 0} (shown : K → Text) (name : Text) (keys : List K) → list_any (λ k. bytes_eq name (shown k)) keys ≡ has_name (map shown keys) name
+has-map shown name [] = refl
+has-map shown name (k ∷ keys) = ap (λ b. b || list_any (λ x. bytes_eq name (shown x)) keys) (bytes_eq-comm name (shown k)) ∙ ap (λ b. bytes_eq (shown k) name || b) (has-map shown name keys)
+
+or_assoc : (a b c : Bool) → ((a || b) || c) ≡ (a || (b || c))
+or_assoc true b c = refl
+or_assoc false b c = refl
+
+or_none : (b : Bool) → (b || false) ≡ b
+or_none true = refl
+or_none false = refl
+
+has-append : (xs ys : List Text) (name : Text) → has_name (xs ++ ys) name ≡ (has_name xs name || has_name ys name)
+has-append [] ys name = refl
+has-append (x ∷ xs) ys name = ap (λ b. bytes_eq x name || b) (has-append xs ys name) ∙ sym (or_assoc (bytes_eq x name) (has_name xs name) (has_name ys name))
+
+-- a name that is there already adds none
+or_same : (a b : Bool) → (b ≡ true → a ≡ true) → a ≡ (a || b)
+or_same true b f = refl
+or_same false true f = f refl
+or_same false false f = refl
+
+shown_new : {K : Type 0} (shown : K → Text) (keys : List K) (k : K) (other : Text) (t : Bool) → has_name (map shown keys) (shown k) ≡ t →
+    has_name (map shown (cond t keys (keys ++ k ∷ []))) other ≡ (has_name (map shown keys) other || bytes_eq (shown k) other)
+shown_new shown keys k other true is = or_same (has_name (map shown keys) other) (bytes_eq (shown k) other) (λ e. ap (has_name (map shown keys)) (sym (same_of (shown k) other e)) ∙ is)
+shown_new shown keys k other false is =
+    ap (λ (names : List Text). has_name names other) (map-append shown keys (k ∷ [])) ∙ has-append (map shown keys) (shown k ∷ []) other
+    ∙ ap (λ b. has_name (map shown keys) other || b) (or_none (bytes_eq (shown k) other))
+
+-- the names when one was added, where it was new
+pub has_new : {K : Type 0} (shown : K → Text) (keys : List K) (k : K) (other : Text) →
+    has_name (map shown (cond (list_any (λ x. bytes_eq (shown k) (shown x)) keys) keys (keys ++ k ∷ []))) other ≡ (has_name (map shown keys) other || bytes_eq (shown k) other)
+has_new shown keys k other = shown_new shown keys k other (list_any (λ x. bytes_eq (shown k) (shown x)) keys) (sym (has-map shown (shown k) keys))
+
+-- ---- names of a design
+
+found_or : {T : Type 0} (t : Bool) (x : T) (r : Option T) (b : Bool) → is_some r ≡ b → is_some (cond t (Some x) r) ≡ (t || b)
+found_or true x r b e = refl
+found_or false x r b e = e
+
+net_found : (from : ℕ) (nets : List Text) (name : Text) → is_some (find_net_from from nets name) ≡ has_name nets name
+net_found from [] name = refl
+net_found from (x ∷ nets) name = found_or (bytes_eq x name) (record { 0 = from }) (find_net_from (suc from) nets name) (has_name nets name) (net_found (suc from) nets name)
+
+instance_or : (own : Option Text) (i : InstanceId) (name : Text) (r : Option InstanceId) (names : List Text) → is_some r ≡ has_name names name → is_some (cond (has_this_name own name) (Some i) r) ≡ has_name (cons_option own names) name
+instance_or None i name r names e = e
+instance_or (Some x) i name r names e = found_or (bytes_eq x name) i r (has_name names name) e
+
+instance_found : (from : ℕ) (instances : List Instance) (name : Text) → is_some (find_instance_from from instances name) ≡ has_name (filter_map instance_name instances) name
+instance_found from [] name = refl
+instance_found from (x ∷ instances) name =
+    instance_or x.name (record { 0 = from }) name (find_instance_from (suc from) instances name) (filter_map instance_name instances) (instance_found (suc from) instances name)
+
+taken_parts : (n : Netlist) (name : Text) → is_taken n name ≡ (has_name n.nets name || (has_name (filter_map vector_name n.ports) name || has_name (filter_map instance_name n.instances) name))
+taken_parts n name =
+    has-append n.nets (filter_map vector_name n.ports ++ filter_map instance_name n.instances) name
+    ∙ ap (λ b. has_name n.nets name || b) (has-append (filter_map vector_name n.ports) (filter_map instance_name n.instances) name)
+
+-- what is asked of a name, one after another, tells whether it is taken
+pub taken_by : (n : Netlist) (name : Text) → ((is_some (find_net n name) || has_name (filter_map vector_name n.ports) name) || is_some (find_instance n name)) ≡ is_taken n name
+taken_by n name =
+    let vector = has_name (filter_map vector_name n.ports) name in
+    ap (λ b. (b || vector) || is_some (find_instance n name)) (net_found 0 n.nets name)
+    ∙ ap (λ b. (has_name n.nets name || vector) || b) (instance_found 0 n.instances name)
+    ∙ or_assoc (has_name n.nets name) vector (has_name (filter_map instance_name n.instances) name) ∙ sym (taken_parts n name)
+
+-- a question that is asked after another
+pub or_then : (value first later : Bool) → value ≡ true → first ≡ true → value ≡ (first || later)
+or_then value true later e is = e
+or_then value false later e is = absurd cc
+
+pub or_later : (value first later : Bool) → first ≡ false → value ≡ later → value ≡ (first || later)
+or_later value true later is e = absurd cc
+or_later value false later is e = e
