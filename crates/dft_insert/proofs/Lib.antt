@@ -39,6 +39,7 @@ pub mod WholeNames
 pub mod Stages
 pub mod SoundParts
 pub mod Tabled
+pub mod Joined
 pub mod WorkedScan
 pub mod TakenNames
 pub mod AddingLemmas

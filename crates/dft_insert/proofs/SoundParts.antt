@@ -34,10 +34,10 @@ map_by : {A B : Type 0} (f : A → B) (o : Option A) (y : B) → option_map f o 
 map_by f None y e = absurd (none-some y e)
 map_by f (Some x) y e = (x, refl, same_Some (f x) y e)
 
-map_at : {A B : Type 0} (f : A → B) (xs : List A) (k : ℕ) (y : B) → slice_get (map f xs) k ≡ Some y → (x : A) × (slice_get xs k ≡ Some x) × (f x ≡ y)
+pub map_at : {A B : Type 0} (f : A → B) (xs : List A) (k : ℕ) (y : B) → slice_get (map f xs) k ≡ Some y → (x : A) × (slice_get xs k ≡ Some x) × (f x ≡ y)
 map_at f xs k y at = map_by f (slice_get xs k) y (sym (slice_get-map f xs k) ∙ at)
 
-signal_live : (gap : Gap) (count all : ℕ) (s : Signal) → count + gap.width ≤ all → IsLive count s → IsLive all (moved_signal gap s)
+pub signal_live : (gap : Gap) (count all : ℕ) (s : Signal) → count + gap.width ≤ all → IsLive count s → IsLive all (moved_signal gap s)
 signal_live gap count all (Net net) le live = omega (arith, le, moved_less gap net.0 count live)
 signal_live gap count all (Constant bit) le live = tt
 signal_live gap count all Unconnected le live = tt

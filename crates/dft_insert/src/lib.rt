@@ -2,6 +2,7 @@
 #![tactic(auto)]
 
 mod adding;
+mod assembling;
 mod building;
 mod carrying;
 mod cell_nets;
