@@ -1,29 +1,21 @@
 -- Things that are added, one after another.
-use Rattle.std.proofs.Common.{◌≡◌, ℕ, zero, suc, ◌+◌, ◌-◌, ◌<◌, ◌≤◌, Bool, true, false, ◌||◌, List, [], ◌∷◌, ◌++◌, map, flat_map, Option, None, Some, Result, Ok, Err, pos, refl, sym, ap, subst, ◌∙◌, arith, append_assoc}
-use Rattle.std.specs.Prelude.{if◌then◌else◌, IfErr, OnOk, length}
+use Rattle.std.proofs.Common.{◌≡◌, ℕ, zero, suc, ◌+◌, ◌-◌, ◌<◌, List, [], ◌∷◌, ◌++◌, map, flat_map, Option, None, Result, Ok, Err, refl, sym, ap, subst, ◌∙◌, arith, append_assoc}
+use Rattle.std.specs.Prelude.{IfErr, OnOk, length}
 use Rattle.std.specs.List.{range_with_len}
 use Rattle.std.proofs.lemmas.List.{append-nil, map-append}
 use Rattle.dft_base.specs.Lexing.{Text}
-use Rattle.dft_cells.specs.WellFormed.{has_name}
-use Rattle.dft_netlist.specs.declared.error.Counted.{Counted}
-use Rattle.dft_netlist.specs.declared.error.Counted.TheVariants.{Ports, Nets, Instances}
-use Rattle.dft_netlist.specs.declared.limits.TheConstants.{MAX_PORTS, MAX_NETS, MAX_INSTANCES}
 use Rattle.dft_netlist.specs.declared.port.Dir.{Dir}
 use Rattle.dft_netlist.specs.declared.port.Dir.TheVariants.{Input, Output}
 use Rattle.dft_netlist.specs.Netlist.{Netlist}
-use Rattle.dft_netlist.specs.Names.{is_taken}
 use Rattle.dft_netlist.specs.Sound.{bits_of}
-use Rattle.dft_netlist.proofs.RefusalLemmas.{le_true, le_false}
 use Rattle.dft_config.specs.declared.config.Config.{Config}
 use Rattle.dft_stitch.specs.Plans.{Plan}
-use Rattle.dft_insert.specs.declared.counts.Counts.{Counts}
 use Rattle.dft_insert.specs.declared.error.InsertError.{InsertError}
-use Rattle.dft_insert.specs.declared.error.InsertError.TheVariants.{NameClash, TooMany, Memory}
 use Rattle.dft_insert.specs.declared.style.Style.TheVariants.{Plain}
 use Rattle.dft_insert.specs.AddedPorts.{made_instance, made_net, new_port, numbered, numbered_ports, plain_ports, port_name}
-use Rattle.dft_insert.specs.Refusals.{Adding, APort, Others, ANet, AnInstance, SoFar, lockup_made, IsRefusal, port_limit, net_limit, instance_limit, clash_or, adding_refusal, after_adding, or_else, first_refusal, plain_additions, refusal}
+use Rattle.dft_insert.specs.Refusals.{Adding, APort, Others, ANet, AnInstance, lockup_made, IsRefusal, plain_additions, refusal}
 use Rattle.dft_insert.specs.Stitching.{open_places}
-use Rattle.dft_insert.specs.Tallies.{Tallied, Adds, nothing_added, refusal_from, thing_of, with_one, limit_of}
+use Rattle.dft_insert.specs.Tallies.{Tallied, Adds, nothing_added, refusal_from}
 
 -- ---- one after another
 

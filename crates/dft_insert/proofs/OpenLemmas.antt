@@ -1,5 +1,5 @@
 -- How many nets are bits of ports, and how many cells have an output that is joined to nothing.
-use Rattle.std.proofs.Common.{◌≡◌, ℕ, zero, suc, ◌==◌, ◌+◌, ◌-◌, ◌*◌, ◌<◌, ◌≤◌, Bool, true, false, cond, List, [], ◌∷◌, ◌++◌, filter, find, flat_map, get_or, length, length-append, map, Option, None, Some, is_none, option_map, option_and_then, slice_get, slice_index_or, refl, sym, subst, ap, ◌∙◌, arith, ◌⊎◌, inl, inr}
+use Rattle.std.proofs.Common.{◌≡◌, ℕ, zero, suc, ◌==◌, ◌+◌, ◌-◌, ◌*◌, ◌<◌, ◌≤◌, Bool, true, false, cond, List, [], ◌∷◌, ◌++◌, filter, find, flat_map, length, length-append, map, Option, None, Some, is_none, option_map, option_and_then, slice_get, slice_index_or, refl, sym, subst, ap, ◌∙◌, arith, ◌⊎◌, inl, inr}
 use Rattle.std.specs.List.{All, filter_map, cons_option, range_with_len}
 use Rattle.std.specs.Option.{option_map_or}
 use Rattle.std.proofs.lemmas.List.Elements.{filter-append}
@@ -27,10 +27,9 @@ use Rattle.dft_rules.specs.Findings.{joined_to, signal_of}
 use Rattle.dft_rules.specs.Rules.{judged, judgements}
 use Rattle.dft_rules.proofs.PinLemmas.{input_role, no_role, output_role}
 use Rattle.dft_stitch.specs.declared.places.CellPlace.{CellPlace}
-use Rattle.dft_stitch.specs.Chains.{cell_in, cells_in, cells_of, chain_lengths, chains_of, plan_of, scanned_cells}
-use Rattle.dft_stitch.specs.Plans.{cell_at}
+use Rattle.dft_stitch.specs.Chains.{cell_in, cells_in, cells_of, chain_lengths, plan_of, scanned_cells}
 use Rattle.dft_stitch.proofs.BlockLemmas.{blocks_short, chain_count}
-use Rattle.dft_insert.specs.Stitching.{net_of, open_places, output_at, own_output, places_in, places_of}
+use Rattle.dft_insert.specs.Stitching.{net_of, output_at, own_output, places_in}
 
 -- ---- bits of ports
 

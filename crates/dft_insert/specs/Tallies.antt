@@ -1,8 +1,6 @@
 -- What was added to a design so far, and what it is to add more.
-use Rattle.std.specs.Prelude.{ℕ, ◌≡◌, ◌+◌, ◌≤◌, ◌||◌, Bool, List, [], ◌∷◌, ◌++◌, length, Option, Result, Ok, Err}
-use Rattle.std.specs.List.{filter_map}
+use Rattle.std.specs.Prelude.{ℕ, ◌≡◌, ◌+◌, ◌≤◌, List, ◌++◌, Option, Result, Ok, Err}
 use Rattle.dft_base.specs.Lexing.{Text}
-use Rattle.dft_cells.specs.WellFormed.{has_name}
 use Rattle.dft_netlist.specs.declared.error.Counted.{Counted}
 use Rattle.dft_netlist.specs.declared.error.Counted.TheVariants.{Ports, Nets, Instances}
 use Rattle.dft_netlist.specs.declared.limits.TheConstants.{MAX_PORTS, MAX_NETS, MAX_INSTANCES}

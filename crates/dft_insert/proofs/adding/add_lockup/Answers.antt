@@ -1,4 +1,4 @@
-use Rattle.std.proofs.Common.{◌∷◌, [], ◌+◌, ◌≡◌, ◌++◌, List, ℕ, refl}
+use Rattle.std.proofs.Common.{◌∷◌, [], ◌+◌, ◌≡◌, ◌++◌, List, refl}
 use Rattle.std.proofs.lemmas.Result.{err_from_is_err_and}
 use Rattle.dft_insert.specs.AddedPorts.{made_net, made_instance}
 use Rattle.dft_insert.specs.Refusals.{Adding, ANet, AnInstance, IsRefusal, lockup_made}

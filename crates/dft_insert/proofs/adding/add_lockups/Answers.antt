@@ -1,4 +1,4 @@
-use Rattle.std.proofs.Common.{◌-◌, ◌+◌, List, [], flat_map, refl}
+use Rattle.std.proofs.Common.{◌-◌, ◌+◌, flat_map}
 use Rattle.std.specs.List.{range_with_len}
 use Rattle.std.proofs.lemmas.Result.{err_from_is_err_and}
 use Rattle.dft_stitch.proofs.RangeLemmas.{flat_on}

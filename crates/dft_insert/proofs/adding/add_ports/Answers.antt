@@ -1,4 +1,4 @@
-use Rattle.std.proofs.Common.{◌≡◌, ◌∷◌, [], ◌++◌, List, map, refl}
+use Rattle.std.proofs.Common.{◌∷◌, [], ◌++◌, List, map, refl}
 use Rattle.std.proofs.lemmas.Result.{err_from_is_err_and}
 use Rattle.dft_insert.specs.AddedPorts.{plain_ports, port_name}
 use Rattle.dft_insert.specs.Refusals.{Adding, APort, IsRefusal}

@@ -2,7 +2,6 @@ use Rattle.std.proofs.Common.{◌≡◌, ◌≤◌, ◌∷◌, [], ◌++◌, Lis
 use Rattle.std.specs.List.{All}
 use Rattle.std.proofs.lemmas.Result.{err_from_is_err_and}
 use Rattle.dft_netlist.specs.declared.ids.InstanceId.{InstanceId}
-use Rattle.dft_netlist.specs.declared.limits.TheConstants.{MAX_INSTANCES}
 use Rattle.dft_stitch.specs.Plans.{Plan}
 use Rattle.dft_insert.specs.AddedPorts.{plain_ports, port_name}
 use Rattle.dft_insert.specs.Refusals.{Adding, APort, IsRefusal}

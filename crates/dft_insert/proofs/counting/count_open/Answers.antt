@@ -1,6 +1,5 @@
-use Rattle.std.proofs.Common.{◌≡◌, ◌≤◌, ◌<◌, ◌+◌, [], length, filter, arith}
+use Rattle.std.proofs.Common.{◌≡◌, ◌≤◌, ◌<◌, [], length, filter, arith}
 use Rattle.std.proofs.lemmas.Option.{get_or_from_slice_get}
-use Rattle.dft_netlist.specs.declared.limits.TheConstants.{MAX_INSTANCES}
 use Rattle.dft_insert.proofs.OpenLemmas.{is_open, open_on, open_short}
 use Rattle.dft_insert.proofs.counting.count_open.Goals as goal
 

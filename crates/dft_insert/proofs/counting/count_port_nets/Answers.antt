@@ -1,4 +1,4 @@
-use Rattle.std.proofs.Common.{◌≡◌, ◌≤◌, length, ap, ◌∙◌, arith}
+use Rattle.std.proofs.Common.{◌≡◌, length, arith}
 use Rattle.dft_netlist.specs.Sound.{bits_of}
 use Rattle.dft_insert.proofs.OpenLemmas.{few_bits}
 use Rattle.dft_insert.proofs.counting.count_port_nets.Goals as goal

@@ -1,4 +1,4 @@
-use Rattle.std.proofs.Common.{◌≡◌, decimal, sym, subst, arith}
+use Rattle.std.proofs.Common.{◌≡◌, sym, subst, arith}
 use Rattle.dft_base.specs.Name.{IsName}
 use Rattle.dft_insert.specs.AddedPorts as spec
 use Rattle.dft_insert.proofs.NameBytes.{is_numbered}

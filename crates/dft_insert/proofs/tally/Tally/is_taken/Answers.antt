@@ -1,7 +1,7 @@
-use Rattle.std.proofs.Common.{◌≡◌, Bool, ◌||◌, true, false, is_some, sym, ap, ◌∙◌}
+use Rattle.std.proofs.Common.{◌≡◌, ◌||◌, is_some, sym, ap, ◌∙◌}
 use Rattle.std.specs.List.{filter_map}
 use Rattle.dft_cells.specs.WellFormed.{has_name}
-use Rattle.dft_netlist.specs.Names.{find_net, find_instance, is_taken, vector_name}
+use Rattle.dft_netlist.specs.Names.{find_net, is_taken, vector_name}
 use Rattle.dft_insert.proofs.TakenNames.{or_then, or_later, taken_by}
 use Rattle.dft_insert.proofs.tally.Tally.is_taken.Goals as goal
 use Rattle.dft_insert.proofs.tally.Tally.is_taken.Goals.{then-is_some, else-is_some, then-has, else-has}
