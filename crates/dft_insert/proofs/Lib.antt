@@ -41,6 +41,9 @@ pub mod SoundParts
 pub mod Tabled
 pub mod Joined
 pub mod WorkedScan
+pub mod PlacesBefore
+pub mod CellTableLemmas
+pub mod PlannedLemmas
 pub mod TakenNames
 pub mod AddingLemmas
 pub mod OpenLemmas

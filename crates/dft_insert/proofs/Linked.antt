@@ -82,7 +82,7 @@ filter_by h x xs rest None m y is more e = let it = more m e in record { place =
 filter_by h x xs rest (Some z) zero y is more e = record { place = zero; item = x; at = refl; is = is ∙ e }
 filter_by h x xs rest (Some z) (suc m) y is more e = let it = more m e in record { place = suc it.place; item = it.item; at = it.at; is = it.is }
 
-in_filter : {X A : Type 0} (h : X → Option A) (xs : List X) (m : ℕ) (y : A) → slice_get (filter_map h xs) m ≡ Some y → InFilter h xs y
+pub in_filter : {X A : Type 0} (h : X → Option A) (xs : List X) (m : ℕ) (y : A) → slice_get (filter_map h xs) m ≡ Some y → InFilter h xs y
 in_filter h [] m y e = absurd (none-some y e)
 in_filter h (x ∷ xs) m y e = filter_by h x xs (filter_map h xs) (h x) m y refl (λ j at. in_filter h xs j y at) e
 

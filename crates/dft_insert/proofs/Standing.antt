@@ -36,11 +36,11 @@ found_more true x y rest q is ih e = subst (λ (p : CellPlace). q p ≡ true) (s
 found_more false x y rest q is ih e = ih e
 
 -- what is found passes the test
-found_passes : (q : CellPlace → Bool) (xs : List CellPlace) (y : CellPlace) → find q xs ≡ Some y → q y ≡ true
+pub found_passes : (q : CellPlace → Bool) (xs : List CellPlace) (y : CellPlace) → find q xs ≡ Some y → q y ≡ true
 found_passes q [] y e = absurd (none-some y e)
 found_passes q (x ∷ xs) y e = found_more (q x) x y (find q xs) q refl (found_passes q xs y) e
 
-cell_is : (i : ℕ) (o : Option InstanceId) → is_cell i o ≡ true → o ≡ Some (record { 0 = i })
+pub cell_is : (i : ℕ) (o : Option InstanceId) → is_cell i o ≡ true → o ≡ Some (record { 0 = i })
 cell_is i None e = absurd cc
 cell_is i (Some cell) e = ap (λ k. Some (record { 0 = k })) (eqb-true cell.0 i e)
 

@@ -3,7 +3,6 @@ pub mod AddedPorts
 pub mod Stitching
 pub mod Written
 pub mod CellTables
-pub mod Gaps
 pub mod Growing
 pub mod Pieces
 pub mod Refusals

@@ -2,7 +2,6 @@
 
 ghost use Rattle.std.specs.Prelude.{◌≡◌, None, IfOk, OnOk};
 ghost use Rattle.dft_insert.specs.CellTables.{cell_nets_of};
-ghost use Rattle.dft_insert.specs.Gaps.{gap_of_nets};
 ghost use Rattle.dft_insert.specs.Pieces.{nets_alone};
 ghost use Rattle.dft_insert.specs.Refusals.{refusal};
 ghost use Rattle.dft_insert.specs.Statements.{CanFinish, IsReady};
@@ -10,9 +9,10 @@ ghost use Rattle.dft_insert.specs.Written.{plain_layout, plain_netlist};
 ghost use Rattle.dft_insert.specs.declared.style.Style.TheVariants.{Plain};
 ghost use Rattle.dft_stitch.specs.Chains.{plan_of};
 
-use crate::carrying::{NetGap, carry_joins, carry_nets, carry_ports};
+use crate::carrying::{carry_joins, carry_nets, carry_ports};
 use crate::cell_nets::CellNets;
 use crate::counting::count_open;
+use crate::gap::Gap;
 use crate::growing::{copy_of, memory};
 use crate::linking::{add_buffers, add_lockups};
 use crate::making::{add_scan_ports, make_nets};
@@ -28,12 +28,12 @@ pub(crate) fn with_nets(
     design: &Design,
     config: &Config,
     chains: &Chains,
-    gap: NetGap,
+    gap: &Gap,
 ) -> Result<DesignBuilder, AllocError>
     requires ready { IsReady design.now config.now }
     requires planned { chains.now ≡ plan_of design.now config.now }
     requires accepted { refusal Plain design.now config.now chains.now ≡ None }
-    requires gap { gap_of_nets gap ≡ (plain_layout design.now config.now chains.now).gap }
+    requires gap { gap.now ≡ (plain_layout design.now config.now chains.now).gap }
     ensures { IfOk result (λ builder. builder ≡ nets_alone design.now config.now chains.now) }
 {
     let name = copy_of(alloc, design.module())?;
@@ -42,7 +42,7 @@ pub(crate) fn with_nets(
     let mut builder = DesignBuilder::new(alloc, name, library);
     carry_ports(alloc, &mut builder, design.ports())?;
     add_scan_ports(alloc, &mut builder, config)?;
-    carry_nets(alloc, &mut builder, design, gap.before)?;
+    carry_nets(alloc, &mut builder, design, gap.before())?;
     make_nets(alloc, &mut builder, made)?;
     Ok(builder)
 }
@@ -55,12 +55,12 @@ pub(crate) fn add_instances(
     config: &Config,
     chains: &Chains,
     nets: &[Option<CellNets>],
-    gap: NetGap,
+    gap: &Gap,
 ) -> Result<(), AllocError>
     requires ready { IsReady design.now config.now }
     requires planned { chains.now ≡ plan_of design.now config.now }
     requires accepted { refusal Plain design.now config.now chains.now ≡ None }
-    requires gap { gap_of_nets gap ≡ (plain_layout design.now config.now chains.now).gap }
+    requires gap { gap.now ≡ (plain_layout design.now config.now chains.now).gap }
     requires table { nets.now ≡ cell_nets_of (plain_layout design.now config.now chains.now) }
     requires nets { builder.old ≡ nets_alone design.now config.now chains.now }
     ensures { OnOk result (builder.new ≡ plain_netlist design.now config.now chains.now) }

@@ -2,23 +2,16 @@
 
 ghost use Rattle.std.specs.Prelude.{ℕ, ◌≡◌, ◌<◌, ◌≤◌, drop, map, length, OnOk, IfOk, slice_get, Some};
 ghost use Rattle.dft_netlist.specs.declared.instance.Join.{Join};
-ghost use Rattle.dft_netlist.specs.declared.limits.TheConstants.{MAX_NETS};
+ghost use Rattle.dft_netlist.specs.declared.limits.TheConstants.{MAX_NETS, MAX_PORTS};
 ghost use Rattle.dft_netlist.specs.Sound.{AreLive, IsAJoin, IsLive};
-ghost use Rattle.dft_insert.specs.Gaps.{gap_of_nets};
 ghost use Rattle.dft_insert.specs.Growing.{AllFit, join_things, net_things, port_things, with_things};
 ghost use Rattle.dft_insert.specs.Moves.{moved_join};
 ghost use Rattle.dft_insert.specs.Moves as spec;
 
+use crate::gap::Gap;
 use crate::growing::{add_net, add_port, copy_of};
 use dft_netlist::{Design, DesignBuilder, Join, NetId, PinSignals, Port, Signal};
 use std::alloc::{AllocError, Global};
-
-/// The nets of added ports among those of the design: how many of the design's come before them, and how many they are.
-#[derive(Clone, Copy, Debug, PartialEq, Eq)]
-pub(crate) struct NetGap {
-    pub(crate) before: u32,
-    pub(crate) width: u16,
-}
 
 /// Adds these ports.
 pub(crate) fn carry_ports(
@@ -56,36 +49,27 @@ pub(crate) fn carry_nets(
 pub(crate) fn carry_joins(
     builder: &mut DesignBuilder,
     joins: &[Join],
-    gap: NetGap,
+    gap: &Gap,
 ) -> Result<(), AllocError>
+    requires room { gap.now.width ≤ MAX_PORTS }
     requires live { (place : ℕ) (join : Join) → slice_get joins.now place ≡ Some join → IsAJoin MAX_NETS join.target join.source }
-    requires fit { AllFit builder.old (join_things (map (moved_join (gap_of_nets gap)) joins.now)) }
-    ensures { OnOk result (builder.new ≡ with_things builder.old (join_things (map (moved_join (gap_of_nets gap)) joins.now))) }
+    requires fit { AllFit builder.old (join_things (map (moved_join gap.now) joins.now)) }
+    ensures { OnOk result (builder.new ≡ with_things builder.old (join_things (map (moved_join gap.now) joins.now))) }
 {
     for join in joins {
-        builder.join(moved_net(gap, join.target), moved_signal(gap, join.source))?;
+        builder.join(gap.moved(join.target), moved_signal(gap, join.source))?;
     }
     Ok(())
 }
 
-/// The number of a net of the design in the scanned netlist.
-pub(crate) fn moved_net(gap: NetGap, net: NetId) -> NetId
-    requires { net.0 < MAX_NETS }
-    ensures { result ≡ spec.moved_net (gap_of_nets gap) net }
-{
-    if net.0 < gap.before {
-        net
-    } else {
-        NetId(net.0 + u32::from(gap.width))
-    }
-}
-
-fn moved_signal(gap: NetGap, signal: Signal) -> Signal
-    requires { IsLive MAX_NETS signal }
-    ensures { result ≡ spec.moved_signal (gap_of_nets gap) signal }
+/// What a pin or a join of the design is joined to in the scanned netlist.
+fn moved_signal(gap: &Gap, signal: Signal) -> Signal
+    requires room { gap.now.width ≤ MAX_PORTS }
+    requires live { IsLive MAX_NETS signal }
+    ensures { result ≡ spec.moved_signal gap.now signal }
 {
     match signal {
-        Signal::Net(net) => Signal::Net(moved_net(gap, net)),
+        Signal::Net(net) => Signal::Net(gap.moved(net)),
         Signal::Constant(bit) => Signal::Constant(bit),
         Signal::Unconnected => Signal::Unconnected,
     }
@@ -94,11 +78,12 @@ fn moved_signal(gap: NetGap, signal: Signal) -> Signal
 /// What the pins of an instance of the design are joined to in the scanned netlist.
 pub(crate) fn moved_pins(
     alloc: Global,
-    gap: NetGap,
+    gap: &Gap,
     pins: &[Signal],
 ) -> Result<PinSignals, AllocError>
-    requires { AreLive MAX_NETS pins.now }
-    ensures { IfOk result (λ moved. moved ≡ map (spec.moved_signal (gap_of_nets gap)) pins.now) }
+    requires room { gap.now.width ≤ MAX_PORTS }
+    requires live { AreLive MAX_NETS pins.now }
+    ensures { IfOk result (λ moved. moved ≡ map (spec.moved_signal gap.now) pins.now) }
 {
     let mut moved = PinSignals::new(alloc);
     for pin in pins {

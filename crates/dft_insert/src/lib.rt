@@ -9,6 +9,7 @@ mod cell_nets;
 mod counting;
 mod counts;
 mod error;
+mod gap;
 mod growing;
 mod insertion;
 mod laws;

@@ -1,16 +1,15 @@
 //! The lock-ups and the buffers of the chains.
 
 ghost use Rattle.std.specs.Prelude.{◌≡◌, ◌+◌, ◌-◌, ◌<◌, ◌≤◌, [], IfOk, IfSome, OnOk, length, slice_index_or};
-ghost use Rattle.dft_netlist.specs.declared.limits.TheConstants.{MAX_NETS};
+ghost use Rattle.dft_netlist.specs.declared.limits.TheConstants.{MAX_NETS, MAX_PORTS};
 ghost use Rattle.dft_rules.specs.Rules as rules;
-ghost use Rattle.dft_insert.specs.Gaps.{gap_of_nets};
 ghost use Rattle.dft_insert.specs.Growing.{AllFit, instance_things, with_things};
 ghost use Rattle.dft_insert.specs.Pieces.{buffers_with, domain_in, lockups_with, output_in};
 ghost use Rattle.dft_insert.specs.Pieces as spec;
 ghost use Rattle.dft_insert.specs.Written.{first_lockup};
 
-use crate::carrying::{NetGap, moved_net};
 use crate::cell_nets::CellNets;
+use crate::gap::Gap;
 use crate::growing::add_instance;
 use crate::made_names::made_instance;
 use crate::stitching::nets_at;
@@ -30,12 +29,13 @@ pub(crate) fn add_lockups(
     config: &Config,
     chains: &Chains,
     nets: &[Option<CellNets>],
-    gap: NetGap,
+    gap: &Gap,
     first: u32,
 ) -> Result<(), AllocError>
+    requires room { gap.now.width ≤ MAX_PORTS }
     requires few { first + length chains.now.lockups ≤ MAX_NETS }
-    requires fit { AllFit builder.old (instance_things (lockups_with design.now config.now chains.now (gap_of_nets gap) nets.now first)) }
-    ensures { OnOk result (builder.new ≡ with_things builder.old (instance_things (lockups_with design.now config.now chains.now (gap_of_nets gap) nets.now first))) }
+    requires fit { AllFit builder.old (instance_things (lockups_with design.now config.now chains.now gap.now nets.now first)) }
+    ensures { OnOk result (builder.new ≡ with_things builder.old (instance_things (lockups_with design.now config.now chains.now gap.now nets.now first))) }
 {
     let library = design.library();
     for (number, place) in chains.lockups().iter().enumerate() {
@@ -55,16 +55,16 @@ pub(crate) fn add_buffers(
     config: &Config,
     chains: &Chains,
     nets: &[Option<CellNets>],
-    gap: NetGap,
+    gap: &Gap,
 ) -> Result<(), AllocError>
-    requires before { gap.before ≤ MAX_NETS }
+    requires before { gap.now.before ≤ MAX_NETS }
     requires few { length chains.now.lockups ≤ MAX_NETS }
-    requires fit { AllFit builder.old (instance_things (buffers_with config.now chains.now (gap_of_nets gap) nets.now)) }
-    ensures { OnOk result (builder.new ≡ with_things builder.old (instance_things (buffers_with config.now chains.now (gap_of_nets gap) nets.now))) }
+    requires fit { AllFit builder.old (instance_things (buffers_with config.now chains.now gap.now nets.now)) }
+    ensures { OnOk result (builder.new ≡ with_things builder.old (instance_things (buffers_with config.now chains.now gap.now nets.now))) }
 {
     let lockups = chains.lockups().len();
     let outputs = config.chains;
-    let first = gap.before + 1 + u32::from(outputs);
+    let first = gap.before() + 1 + u32::from(outputs);
     for chain in 0..chains.count() {
         let input = last_output(nets, chains.chain(chain));
         let output = NetId(first + u32::from(chain));
@@ -112,12 +112,13 @@ fn last_output(nets: &[Option<CellNets>], cells: &[InstanceId]) -> NetId
 }
 
 /// The net of the port of a domain.
-fn domain_net(design: &Design, config: &Config, gap: NetGap, domain: u8) -> NetId
-    requires { length design.now.nets ≤ MAX_NETS }
-    ensures { result.0 ≡ domain_in design.now (gap_of_nets gap) config.now domain }
+fn domain_net(design: &Design, config: &Config, gap: &Gap, domain: u8) -> NetId
+    requires room { gap.now.width ≤ MAX_PORTS }
+    requires few { length design.now.nets ≤ MAX_NETS }
+    ensures { result.0 ≡ domain_in design.now gap.now config.now domain }
 {
     match input_net(design, domain_name(config, domain)) {
-        Some(net) => moved_net(gap, net),
+        Some(net) => gap.moved(net),
         None => NetId(0),
     }
 }

@@ -1,21 +1,21 @@
 //! The instances of the design, with scan cells in place of the flip-flops in the chains.
 
-ghost use Rattle.std.specs.Prelude.{◌≡◌, None, IfOk, OnOk, map, length, slice_index_or};
+ghost use Rattle.std.specs.Prelude.{◌≡◌, ◌≤◌, None, IfOk, OnOk, map, length, slice_index_or};
 ghost use Rattle.dft_cells.specs.WellFormed.{role_of};
 ghost use Rattle.dft_netlist.specs.declared.instance.CellRef.TheVariants.{Library as ALibrary};
 ghost use Rattle.dft_netlist.specs.declared.instance.Signal.TheVariants.{Net, Unconnected};
-ghost use Rattle.dft_netlist.specs.declared.limits.TheConstants.{MAX_NETS};
+ghost use Rattle.dft_netlist.specs.declared.limits.TheConstants.{MAX_NETS, MAX_PORTS};
 ghost use Rattle.dft_netlist.specs.Drivers.{shape_of};
 ghost use Rattle.dft_netlist.specs.Sound.{AreLive};
 ghost use Rattle.dft_rules.specs.Rules.{scan_cell_in};
-ghost use Rattle.dft_insert.specs.Gaps.{gap_of_nets};
 ghost use Rattle.dft_insert.specs.Growing.{AllFit, instance_things, with_things};
 ghost use Rattle.dft_insert.specs.Pieces.{instance_with, instances_with};
 ghost use Rattle.dft_insert.specs.Pieces as pieces;
 ghost use Rattle.dft_insert.specs.Written as spec;
 
-use crate::carrying::{NetGap, moved_pins};
+use crate::carrying::moved_pins;
 use crate::cell_nets::CellNets;
+use crate::gap::Gap;
 use crate::growing::{add_instance, copy_of};
 use dft_base::Name;
 use dft_cells::{CellId, Library, Pin, Role};
@@ -28,10 +28,11 @@ pub(crate) fn carry_instances(
     builder: &mut DesignBuilder,
     design: &Design,
     nets: &[Option<CellNets>],
-    gap: NetGap,
+    gap: &Gap,
 ) -> Result<(), AllocError>
-    requires { AllFit builder.old (instance_things (instances_with design.now.library (gap_of_nets gap) gap.before nets.now design.now.instances)) }
-    ensures { OnOk result (builder.new ≡ with_things builder.old (instance_things (instances_with design.now.library (gap_of_nets gap) gap.before nets.now design.now.instances))) }
+    requires room { gap.now.width ≤ MAX_PORTS }
+    requires fit { AllFit builder.old (instance_things (instances_with design.now.library gap.now gap.now.before nets.now design.now.instances)) }
+    ensures { OnOk result (builder.new ≡ with_things builder.old (instance_things (instances_with design.now.library gap.now gap.now.before nets.now design.now.instances))) }
 {
     let library = design.library();
     for (number, instance) in design.instances().iter().enumerate() {
@@ -55,19 +56,20 @@ pub(crate) fn nets_at(nets: &[Option<CellNets>], number: usize) -> Option<CellNe
 fn written(
     alloc: Global,
     library: &Library,
-    gap: NetGap,
+    gap: &Gap,
     nets: Option<CellNets>,
     instance: &Instance,
 ) -> Result<Instance, AllocError>
-    requires { AreLive MAX_NETS instance.now.pins }
-    ensures { IfOk result (λ x. x ≡ instance_with library.now (gap_of_nets gap) gap.before nets instance.now) }
+    requires room { gap.now.width ≤ MAX_PORTS }
+    requires live { AreLive MAX_NETS instance.now.pins }
+    ensures { IfOk result (λ x. x ≡ instance_with library.now gap.now gap.now.before nets instance.now) }
 {
     let name = own_name(alloc, &instance.name)?;
     let pins = moved_pins(alloc, gap, instance.pins.as_slice())?;
     match (nets, scan_cell(library, instance.cell)) {
         (Some(nets), Some(cell)) => {
             let roles = pins_of(library, cell);
-            let pins = stitched_pins(alloc, roles, nets, NetId(gap.before), pins.as_slice())?;
+            let pins = stitched_pins(alloc, roles, nets, NetId(gap.before()), pins.as_slice())?;
             let cell = CellRef::Library(cell);
             Ok(Instance { name, cell, pins })
         }

@@ -1,5 +1,4 @@
 use Rattle.std.proofs.Common.{drop, length}
-use Rattle.dft_insert.specs.Gaps.{gap_of_nets}
 use Rattle.dft_insert.specs.Growing.{instance_things, with_things}
 use Rattle.dft_insert.specs.Pieces.{buffer_with, buffers_with}
 use Rattle.dft_insert.specs.Written.{map_from}
@@ -8,5 +7,5 @@ use Rattle.dft_insert.proofs.linking.add_buffers.Given as goal
 
 abbrev pub invariant-loop-chain : goal.invariant-loop-chain
 invariant-loop-chain l =
-    Completes (with_things l.initial.builder (instance_things (buffers_with l.fn.config l.chains (gap_of_nets l.fn.gap) l.nets))) l.builder
-    (instance_things (map_from (buffer_with l.fn.config (gap_of_nets l.fn.gap) l.nets (length l.chains.lockups)) l.chain (drop l.chain l.chains.chains)))
+    Completes (with_things l.initial.builder (instance_things (buffers_with l.fn.config l.chains l.fn.gap l.nets))) l.builder
+    (instance_things (map_from (buffer_with l.fn.config l.fn.gap l.nets (length l.chains.lockups)) l.chain (drop l.chain l.chains.chains)))
