@@ -8,6 +8,7 @@ use Rattle.dft_netlist.specs.declared.instance.Signal.{Signal}
 use Rattle.dft_netlist.specs.declared.instance.Signal.TheVariants.{Net, Constant, Unconnected}
 use Rattle.dft_netlist.specs.declared.instance.Instance.{Instance}
 use Rattle.dft_netlist.specs.declared.instance.Join.{Join}
+use Rattle.dft_netlist.specs.declared.limits.TheConstants.{MAX_PORTS, MAX_NETS}
 use Rattle.dft_netlist.specs.Netlist.{Netlist}
 use Rattle.dft_netlist.specs.Sound.{IsNetlist, IsInstance, IsAJoin, IsConnected}
 use Rattle.dft_config.specs.declared.config.Config.{Config}
@@ -227,3 +228,21 @@ ends_stand n config plan gap table b new laid table_is is more =
     ∙ ap (λ (m : Netlist). with_things m (instance_things (buffer_instances n config plan))) is
     ∙ with_all_instances (with_lockups n config plan) (buffer_instances n config plan)
     ∙ ap (λ (xs : List Instance). record (plain_netlist n config plan) { instances = xs }) (append_assoc (old_instances n config plan) (lockup_instances n config plan) (buffer_instances n config plan))
+
+-- ---- room
+
+pub gap_room : (n : Netlist) (config : Config) (plan : Plan) (gap : Gap) → IsLaid n config plan gap → gap.width ≤ MAX_PORTS
+gap_room n config plan gap laid = omega (arith, ap (λ (g : Gap). g.width) laid.gap_is, ports_count config, laid.ready.range.chains.1)
+
+pub gap_fits : (n : Netlist) (config : Config) (plan : Plan) (gap : Gap) → IsLaid n config plan gap → gap.before ≤ MAX_NETS
+gap_fits n config plan gap laid = omega (arith, ap (λ (g : Gap). g.before) laid.gap_is, ports_fit n laid.ready.netlist, laid.ready.netlist.few_nets)
+
+-- the lock-ups' nets are the last ones
+pub first_of_locks : (n : Netlist) (config : Config) (plan : Plan) (b : Netlist) (count : ℕ) (lockups : List LockupPlace) → b ≡ nets_alone n config plan → count ≡ length b.nets → lockups ≡ plan.lockups →
+    (length lockups ≤ count) × (count - length lockups ≡ (plain_layout n config plan).first_lockup)
+first_of_locks n config plan b count lockups is counted same =
+    let all : count ≡ length (plain_netlist n config plan).nets = counted ∙ ap (λ (m : Netlist). length m.nets) is in
+    (omega (arith, all, nets_length n config plan, ap length same), omega (arith, all, nets_length n config plan, ap length same))
+
+pub locks_fit : (n : Netlist) (config : Config) (plan : Plan) (first : ℕ) → IsWhole (plain_netlist n config plan) → first ≡ (plain_layout n config plan).first_lockup → first + length plan.lockups ≤ MAX_NETS
+locks_fit n config plan first whole is = omega (arith, is, nets_length n config plan, whole.few_nets)

@@ -40,6 +40,7 @@ pub mod Stages
 pub mod SoundParts
 pub mod Tabled
 pub mod Joined
+pub mod Endings
 pub mod WorkedScan
 pub mod PlacesBefore
 pub mod CellTableLemmas

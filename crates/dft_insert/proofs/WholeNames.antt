@@ -271,3 +271,7 @@ pub is_whole : (n : Netlist) (config : Config) (plan : Plan) → IsNetlist n →
 is_whole n config plan sound e =
     let few = whole_few n config plan sound e in
     record { once = λ q. whole_once n config plan q sound e; few_ports = few.few_ports; few_nets = few.few_nets; few_instances = few.few_instances }
+
+pub ports_length : (n : Netlist) (config : Config) (plan : Plan) → length (plain_netlist n config plan).ports ≡ length n.ports + length (added_ports Plain config)
+ports_length n config plan =
+    length-append n.ports (ports_from (plain_layout n config plan).gap.before (added_ports Plain config)) ∙ ap (λ k. length n.ports + k) (length_ports (plain_layout n config plan).gap.before (added_ports Plain config))

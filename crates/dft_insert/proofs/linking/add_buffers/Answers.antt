@@ -14,8 +14,8 @@ add_instance-requires c =
     let whole : Netlist = with_things c.args.builder.now (instance_things (buffers_with c.args.config.now c.args.chains.now c.args.gap.now c.args.nets.now)) in
     let items : length c.lockups-lockups.result.now ≡ lockups = ap length c.lockups-lockups.ensures in
     made_fits whole c.loop-chain.builder (buffer_with c.args.config.now c.args.gap.now c.args.nets.now lockups) c.args.chains.now.chains k c.chain.result.now c.in_ok-buffer_between.field-0 c.chain.ensures
-    (buffer_is c.args.config.now c.args.gap.now c.args.nets.now lockups k c.chain.result.now (length c.lockups-lockups.result.now + c.from-in-loop-chain-2.result) (c.args.gap.now.before + 1 + c.from.result + c.from-in-loop-chain.result) c.last_output-input.result c.in_ok-buffer_between.field-0
-    (omega (arith, items, c.from-in-loop-chain-2.ensures)) (omega (arith, c.from.ensures, c.from-in-loop-chain.ensures)) c.last_output-input.ensures c.in_ok-buffer_between.ensures)
+    (buffer_is c.args.config.now c.args.gap.now c.args.nets.now lockups k c.chain.result.now (length c.lockups-lockups.result.now + c.from-in-loop-chain-2.result) (c.before-2.result + 1 + c.from.result + c.from-in-loop-chain.result) c.last_output-input.result c.in_ok-buffer_between.field-0
+    (omega (arith, items, c.from-in-loop-chain-2.ensures)) (omega (arith, c.before-2.ensures, c.from.ensures, c.from-in-loop-chain.ensures)) c.last_output-input.ensures c.in_ok-buffer_between.ensures)
     c.loop-chain.invariant
 
 pub loop-chain-preserved : goal.loop-chain-preserved
@@ -25,6 +25,6 @@ loop-chain-preserved c =
     let whole : Netlist = with_things c.args.builder.now (instance_things (buffers_with c.args.config.now c.args.chains.now c.args.gap.now c.args.nets.now)) in
     let items : length c.lockups-lockups.result.now ≡ lockups = ap length c.lockups-lockups.ensures in
     made_added whole c.loop-chain.builder c.add_instance.new.builder (buffer_with c.args.config.now c.args.gap.now c.args.nets.now lockups) c.args.chains.now.chains k c.chain.result.now c.in_ok-buffer_between.field-0 c.chain.ensures
-    (buffer_is c.args.config.now c.args.gap.now c.args.nets.now lockups k c.chain.result.now (length c.lockups-lockups.result.now + c.from-in-loop-chain-2.result) (c.args.gap.now.before + 1 + c.from.result + c.from-in-loop-chain.result) c.last_output-input.result c.in_ok-buffer_between.field-0
-    (omega (arith, items, c.from-in-loop-chain-2.ensures)) (omega (arith, c.from.ensures, c.from-in-loop-chain.ensures)) c.last_output-input.ensures c.in_ok-buffer_between.ensures)
+    (buffer_is c.args.config.now c.args.gap.now c.args.nets.now lockups k c.chain.result.now (length c.lockups-lockups.result.now + c.from-in-loop-chain-2.result) (c.before-2.result + 1 + c.from.result + c.from-in-loop-chain.result) c.last_output-input.result c.in_ok-buffer_between.field-0
+    (omega (arith, items, c.from-in-loop-chain-2.ensures)) (omega (arith, c.before-2.ensures, c.from.ensures, c.from-in-loop-chain.ensures)) c.last_output-input.ensures c.in_ok-buffer_between.ensures)
     c.loop-chain.invariant c.in_ok-add_instance.ensures

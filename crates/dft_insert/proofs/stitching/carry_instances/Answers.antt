@@ -3,8 +3,8 @@ use Rattle.std.proofs.lemmas.Option.{slice_get_read}
 use Rattle.dft_insert.proofs.Livings.{pins_live}
 use Rattle.dft_insert.proofs.stitching.carry_instances.Goals as goal
 
-pub written-requires : goal.written-requires
-written-requires c =
+pub written-requires-clause-live : goal.written-requires-clause-live
+written-requires-clause-live c =
     let items = c.instances-instance-items.result.now in
     let k = c.loop-number.number in
     pins_live c.args.design.now k c.instance-item.result c.library-library.ensures.sound
