@@ -22,7 +22,7 @@ use Rattle.dft_insert.specs.Written.{is_cell, place_in}
 use Rattle.dft_insert.specs.CellTables.{nets_at, cell_nets_of, AreCells, HasRoom, bare_layout, places_before, net_or_next, after_output, IsNoted, link_before, fed_by, linked, AreLinked}
 use Rattle.dft_insert.proofs.PlacesBefore.{at_place, is_open, places_between, places_more, places_next, places_all, output_is, made_more, made_fit}
 use Rattle.dft_insert.proofs.PlacesFound.{finds, place_listed}
-use Rattle.dft_insert.proofs.Standing.{cell_is, found_passes, placed_stands}
+use Rattle.dft_insert.proofs.Standing.{both_true, cell_is, found_passes, placed_stands}
 
 -- ---- places of cells
 
@@ -160,11 +160,6 @@ fed_twice : (a : ℕ) (o : Option ℕ) (nets : Option CellNets) → option_map (
 fed_twice a o None = refl
 fed_twice a None (Some nets) = refl
 fed_twice a (Some b) (Some nets) = refl
-
-both_true : (a b : Bool) → (a && b) ≡ true → (a ≡ true) × (b ≡ true)
-both_true true true e = (refl, refl)
-both_true true false e = absurd cc
-both_true false b e = absurd cc
 
 link_here : (first : ℕ) (l : LockupPlace) (rest : List LockupPlace) → link_before first (l ∷ rest) l.chain (suc l.after) ≡ Some first
 link_here first l rest =

@@ -99,7 +99,7 @@ ports_fit n sound =
 
 -- ---- roots
 
-length_split : (k : ℕ) (xs : List Text) → length (take k xs) + length (drop k xs) ≡ length xs
+pub length_split : (k : ℕ) (xs : List Text) → length (take k xs) + length (drop k xs) ≡ length xs
 length_split zero xs = omega arith
 length_split (suc k) [] = refl
 length_split (suc k) (x ∷ xs) = omega (arith, length_split k xs)

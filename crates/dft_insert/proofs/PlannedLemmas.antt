@@ -1,5 +1,5 @@
 -- What the planned chains keep: their cells, their lock-ups, and the room for their nets.
-use Rattle.std.proofs.Common.{ℕ, zero, suc, ◌+◌, ◌≡◌, ◌==◌, ◌<◌, ◌≤◌, Bool, true, false, List, [], ◌∷◌, ◌++◌, length, map, filter, take, drop, Option, None, Some, option_and_then, slice_get, slice_index_or, refl, sym, subst, ap, arith, ◌∙◌}
+use Rattle.std.proofs.Common.{ℕ, ◌+◌, ◌≡◌, ◌==◌, ◌<◌, ◌≤◌, Bool, true, false, List, [], ◌++◌, length, map, filter, take, drop, Option, None, Some, option_and_then, slice_get, slice_index_or, refl, sym, subst, ap, arith, ◌∙◌}
 use Rattle.std.specs.Prelude.{if◌then◌else◌}
 use Rattle.std.specs.List.{All, range_with_len}
 use Rattle.std.proofs.lemmas.List.{length-append, length-map}
@@ -26,7 +26,7 @@ use Rattle.dft_insert.specs.Stitching.{open_places}
 use Rattle.dft_insert.specs.Written.{made_nets, plain_layout, plain_netlist}
 use Rattle.dft_insert.specs.declared.cell_nets.CellNets.{CellNets}
 use Rattle.dft_insert.specs.CellTables.{cell_nets_of, AreCells, AreBefore, HasRoom, bare_layout, IsNoted}
-use Rattle.dft_insert.proofs.Kept.{ports_count, ports_fit}
+use Rattle.dft_insert.proofs.Kept.{length_split, ports_count, ports_fit}
 use Rattle.dft_insert.proofs.Linked.{in_flat, in_filter, range_is}
 use Rattle.dft_insert.proofs.PlacesFound.{HasChain, has_chain}
 use Rattle.dft_insert.proofs.PlacesBefore.{is_open, places_all}
@@ -99,11 +99,6 @@ are_before n config plan planned = subst (λ (p : Plan). AreBefore p.chains p.lo
 
 -- ---- room
 
-split_length : {A : Type 0} (k : ℕ) (xs : List A) → length (take k xs) + length (drop k xs) ≡ length xs
-split_length zero xs = omega arith
-split_length (suc k) [] = refl
-split_length (suc k) (x ∷ xs) = omega (arith, split_length k xs)
-
 net_count : (n : Netlist) (config : Config) (plan : Plan) → length (plain_netlist n config plan).nets ≡ length n.nets + length (added_ports Plain config) + (length (open_places n plan.chains) + length plan.lockups)
 net_count n config plan =
     let front = take (plain_layout n config plan).gap.before n.nets in
@@ -116,7 +111,7 @@ net_count n config plan =
       length-append front (added ++ (back ++ made)),
       length-append added (back ++ made),
       length-append back made,
-      split_length (plain_layout n config plan).gap.before n.nets,
+      length_split (plain_layout n config plan).gap.before n.nets,
       length-map (added_ports Plain config) port_name,
       length-map-range_with_len made_net 0 count,
     )

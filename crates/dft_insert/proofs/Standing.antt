@@ -62,7 +62,7 @@ number_none : (test q : CellPlace → Bool) (xs : List CellPlace) → ((x : Cell
 number_none test q [] apart first = refl
 number_none test q (x ∷ xs) apart first = number_skips test (q x) x (filter q xs) first (λ e. not_both (test x) (q x) (apart x) e) (number_none test q xs apart)
 
-both_true : (a b : Bool) → (a && b) ≡ true → (a ≡ true) × (b ≡ true)
+pub both_true : (a b : Bool) → (a && b) ≡ true → (a ≡ true) × (b ≡ true)
 both_true true true e = (refl, refl)
 both_true true false e = absurd cc
 both_true false b e = absurd cc
