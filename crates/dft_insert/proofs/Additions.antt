@@ -20,7 +20,7 @@ pub record BothNone (a b : Option InsertError) : Type 0 where
   pub first : a ≡ None
   pub later : b ≡ None
 
-both_none : (a b : Option InsertError) → or_else a b ≡ None → BothNone a b
+pub both_none : (a b : Option InsertError) → or_else a b ≡ None → BothNone a b
 both_none None b e = record { first = refl; later = e }
 both_none (Some error) b e = absurd (none-some error (sym e))
 

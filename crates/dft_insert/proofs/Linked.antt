@@ -100,7 +100,7 @@ range_is from zero j x e = absurd (none-some x e)
 range_is from (suc count) zero x e = (sym (same_Some from x e) ∙ omega arith, omega arith)
 range_is from (suc count) (suc j) x e = let it = range_is (from + 1) count j x e in (omega (arith, it.0), omega (arith, it.1))
 
-none_past : {X : Type 0} (xs : List X) (k : ℕ) → slice_get xs k ≡ None → length xs ≤ k
+pub none_past : {X : Type 0} (xs : List X) (k : ℕ) → slice_get xs k ≡ None → length xs ≤ k
 none_past [] k e = omega arith
 none_past (x ∷ xs) zero e = absurd (none-some x (sym e))
 none_past (x ∷ xs) (suc k) e = omega (arith, none_past xs k e)
@@ -320,7 +320,7 @@ scan_in_means n config chain ready less =
     ap (meaning_of (scanned Plain n config) (config_ports n config) (scan_in_net (layout n config).gap chain)) (scan_in_driven n config chain ready less)
     ∙ ap (λ b. if b then logic.Clock else Input) (no_clock n config (scan_in_net (layout n config).gap chain) config.domains ready (omega arith))
 
-chain_less : (n : Netlist) (config : Config) (chain place : ℕ) (cell : InstanceId) → cell_at (plan_of n config).chains chain place ≡ Some cell → chain < config.chains
+pub chain_less : (n : Netlist) (config : Config) (chain place : ℕ) (cell : InstanceId) → cell_at (plan_of n config).chains chain place ≡ Some cell → chain < config.chains
 chain_less n config chain place cell stands =
     let has : HasChain (plan_of n config).chains chain place cell = has_chain (plan_of n config).chains chain place cell stands in
     omega (arith, slice_get_within (plan_of n config).chains chain has.cells has.at, chain_count (cells_of n config) config.chains)

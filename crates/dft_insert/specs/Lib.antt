@@ -3,6 +3,8 @@ pub mod AddedPorts
 pub mod Stitching
 pub mod Written
 pub mod CellTables
+pub mod Growing
+pub mod Pieces
 pub mod Refusals
 pub mod Keeping
 pub mod Hardware

@@ -38,6 +38,13 @@ impl Gap {
         }
     }
 
+    /// How many nets come before those of the added ports.
+    pub fn before(&self) -> u32
+        ensures { result ≡ self.now.before }
+    {
+        self.before
+    }
+
     /// How many nets the added ports have.
     pub fn width(&self) -> u32
         ensures { result ≡ self.now.width }

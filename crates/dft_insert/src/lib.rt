@@ -2,18 +2,24 @@
 #![tactic(auto)]
 
 mod adding;
+mod assembling;
 mod building;
+mod carrying;
 mod cell_nets;
 mod counting;
 mod counts;
 mod error;
 mod gap;
+mod growing;
 mod insertion;
 mod laws;
+mod linking;
 mod made_names;
+mod making;
 mod name_set;
 mod outputs;
 mod scanned;
+mod stitching;
 mod style;
 mod tally;
 

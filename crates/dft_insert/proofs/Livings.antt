@@ -1,0 +1,120 @@
+-- Nets that stand at instances of the scanned netlist are nets of it.
+use Rattle.std.proofs.Common.{ℕ, zero, suc, ◌+◌, ◌≡◌, ◌≤◌, ◌<◌, Bool, true, false, List, [], ◌∷◌, length, map, nat_lt, Option, None, Some, option_map, option_and_then, slice_get, refl, arith, ◌∙◌}
+use Rattle.std.specs.Prelude.{if◌then◌else◌, slice_index_or}
+use Rattle.std.proofs.lemmas.Option.{none-some, same_Some}
+use Rattle.dft_base.specs.Lexing.{Text}
+use Rattle.dft_cells.specs.declared.kind.Role.{Role}
+use Rattle.dft_cells.specs.declared.kind.Role.TheVariants.{Output}
+use Rattle.dft_netlist.specs.declared.ids.NetId.{NetId}
+use Rattle.dft_netlist.specs.declared.ids.InstanceId.{InstanceId}
+use Rattle.dft_netlist.specs.declared.instance.Signal.{Signal}
+use Rattle.dft_netlist.specs.declared.instance.Signal.TheVariants.{Net, Constant, Unconnected}
+use Rattle.dft_netlist.specs.declared.instance.Instance.{Instance}
+use Rattle.dft_netlist.specs.declared.limits.TheConstants.{MAX_NETS}
+use Rattle.dft_netlist.specs.Netlist.{Netlist}
+use Rattle.dft_netlist.specs.Names.{find_net}
+use Rattle.dft_netlist.specs.Drivers.{Source, connections_from, source_of, shape_of, pins_at, driver}
+use Rattle.dft_netlist.specs.Logic.{same_role, pin_of}
+use Rattle.dft_netlist.specs.Sound.{IsNetlist, IsLive, AreLive}
+use Rattle.dft_config.specs.declared.config.Config.{Config}
+use Rattle.dft_rules.specs.Rules.{is_input, input_net}
+use Rattle.dft_rules.proofs.NameLemmas.{net_there}
+use Rattle.dft_stitch.specs.Plans.{Plan, cell_at}
+use Rattle.dft_insert.specs.declared.style.Style.TheVariants.{Plain}
+use Rattle.dft_insert.specs.Moves.{Gap, moved}
+use Rattle.dft_insert.specs.AddedPorts.{added_ports, scan_in_net}
+use Rattle.dft_insert.specs.Stitching.{number_of, is_place, stands_after, net_of, own_output, output_at, open_places, Layout, made_or, moved_or_none, output_net, scan_input}
+use Rattle.dft_insert.specs.Written.{domain_net, plain_layout}
+use Rattle.dft_insert.proofs.Kept.{ports_fit, ports_count}
+
+pub live_more : (count more : ℕ) (s : Signal) → count ≤ more → IsLive count s → IsLive more s
+live_more count more (Net net) le live = omega (arith, le, live)
+live_more count more (Constant bit) le live = tt
+live_more count more Unconnected le live = tt
+
+pub pins_live : (n : Netlist) (k : ℕ) (x : Instance) → IsNetlist n → slice_get n.instances k ≡ Some x → AreLive MAX_NETS x.pins
+pins_live n k x sound at place s there = live_more (length n.nets) MAX_NETS s sound.few_nets ((sound.instances k x at).live place s there)
+
+-- ---- numbers of nets
+
+below_by : (first count j : ℕ) (b : Bool) (o : Option ℕ) → (o ≡ Some j → j < suc first + count) → (if b then Some first else o) ≡ Some j → j < first + suc count
+below_by first count j true o more e = omega (arith, same_Some first j e)
+below_by first count j false o more e = omega (arith, more e)
+
+pub below_number : {T : Type 0} (test : T → Bool) (first j : ℕ) (xs : List T) → number_of test first xs ≡ Some j → j < first + length xs
+below_number test first j [] e = absurd (none-some j e)
+below_number test first j (x ∷ xs) e = below_by first (length xs) j (test x) (number_of test (suc first) xs) (below_number test (suc first) j xs) e
+
+less_by : (net count width : ℕ) (b : Bool) → net < count → (if b then net else net + width) < count + width
+less_by net count width true less = omega (arith, less)
+less_by net count width false less = omega (arith, less)
+
+pub moved_less : (gap : Gap) (net count : ℕ) → net < count → moved gap net < count + gap.width
+moved_less gap net count less = less_by net count gap.width (nat_lt net gap.before) less
+
+none_less : (gap : Gap) (o : Option ℕ) (count : ℕ) → 0 < count + gap.width → ((net : ℕ) → o ≡ Some net → net < count) → moved_or_none gap o < count + gap.width
+none_less gap None count some live = some
+none_less gap (Some net) count some live = moved_less gap net count (live net refl)
+
+source_live : (count i pin : ℕ) (s : Signal) (own : ℕ) → IsLive count s → net_of (source_of i pin s) ≡ Some own → own < count
+source_live count i pin (Net net) own live e = omega (arith, same_Some net.0 own e, live)
+source_live count i pin (Constant bit) own live e = absurd (none-some own e)
+source_live count i pin Unconnected own live e = absurd (none-some own e)
+
+pin_by : (count i pin : ℕ) (s : Signal) (own : ℕ) (b : Bool) (more : Option Source) → IsLive count s → (option_and_then net_of more ≡ Some own → own < count) → option_and_then net_of (if b then Some (source_of i pin s) else more) ≡ Some own → own < count
+pin_by count i pin s own true more live rest e = source_live count i pin s own live e
+pin_by count i pin s own false more live rest e = rest e
+
+pin_live : (count i pin : ℕ) (r : Role) (roles : List Role) (signals : List Signal) (own : ℕ) → AreLive count signals → option_and_then net_of (pin_of r i (connections_from pin roles signals)) ≡ Some own → own < count
+pin_live count i pin r [] signals own live e = absurd (none-some own e)
+pin_live count i pin r (x ∷ roles) [] own live e = absurd (none-some own e)
+pin_live count i pin r (x ∷ roles) (s ∷ signals) own live e =
+    pin_by count i pin s own (same_role r x) (pin_of r i (connections_from (suc pin) roles signals)) (live 0 s refl) (pin_live count i (suc pin) r roles signals own (λ k z at. live (suc k) z at)) e
+
+own_by : (n : Netlist) (i own : ℕ) (o : Option Instance) → IsNetlist n → slice_get n.instances i ≡ o → option_and_then net_of (pin_of Output i (pins_at n.library o)) ≡ Some own → own < length n.nets
+own_by n i own None sound at e = absurd (none-some own e)
+own_by n i own (Some x) sound at e = pin_live (length n.nets) i 0 Output (shape_of n.library x.cell).roles x.pins own (sound.instances i x at).live e
+
+own_live : (n : Netlist) (cell : InstanceId) (own : ℕ) → IsNetlist n → own_output n cell ≡ Some own → own < length n.nets
+own_live n cell own sound e = own_by n cell.0 own (slice_get n.instances cell.0) sound refl e
+
+output_own_live : (n : Netlist) (o : Option InstanceId) (own : ℕ) → IsNetlist n → option_and_then (own_output n) o ≡ Some own → own < length n.nets
+output_own_live n None own sound e = absurd (none-some own e)
+output_own_live n (Some cell) own sound e = own_live n cell own sound e
+
+either_less : (made : Option ℕ) (own count : ℕ) → ((j : ℕ) → made ≡ Some j → j < count) → own < count → made_or made own < count
+either_less None own count live less = less
+either_less (Some j) own count live less = live j refl
+
+-- the nets of the scanned netlist, counted
+abbrev pub all_nets : Netlist → Config → Plan → ℕ
+all_nets n config plan = length n.nets + length (added_ports Plain config) + (length (open_places n plan.chains) + length plan.lockups)
+
+pub output_live : (n : Netlist) (config : Config) (plan : Plan) (chain place : ℕ) → IsNetlist n → output_net (plain_layout n config plan) chain place < all_nets n config plan
+output_live n config plan chain place sound =
+    let y : Layout = plain_layout n config plan in
+    either_less (number_of (is_place chain place) y.first_output (open_places n plan.chains)) (moved_or_none y.gap (output_at n plan.chains chain place)) (all_nets n config plan)
+    (λ j e. omega (arith, below_number (is_place chain place) y.first_output j (open_places n plan.chains) e))
+    (omega (arith, none_less y.gap (output_at n plan.chains chain place) (length n.nets) (omega arith) (λ net e. output_own_live n (cell_at plan.chains chain place) net sound e)))
+
+pub scan_input_live : (n : Netlist) (config : Config) (plan : Plan) (chain place : ℕ) → IsNetlist n → chain < config.chains → scan_input (plain_layout n config plan) (scan_in_net (plain_layout n config plan).gap) chain place < all_nets n config plan
+scan_input_live n config plan chain zero sound less = omega (arith, less, ports_count config, ports_fit n sound)
+scan_input_live n config plan chain (suc place) sound less =
+    let y : Layout = plain_layout n config plan in
+    either_less (number_of (stands_after chain place) y.first_lockup plan.lockups) (output_net y chain place) (all_nets n config plan)
+    (λ j e. omega (arith, below_number (stands_after chain place) y.first_lockup j plan.lockups e))
+    (output_live n config plan chain place sound)
+
+input_by : (count net : ℕ) (k : NetId) (b : Bool) → k.0 < count → option_map (λ (j : NetId). j.0) (if b then Some k else None) ≡ Some net → net < count
+input_by count net k true less e = omega (arith, same_Some k.0 net e, less)
+input_by count net k false less e = absurd (none-some net e)
+
+input_live : (n : Netlist) (name : Text) (o : Option NetId) (net : ℕ) → find_net n name ≡ o → option_map (λ (k : NetId). k.0) (option_and_then (λ (k : NetId). if is_input (driver n k.0) then Some k else None) o) ≡ Some net → net < length n.nets
+input_live n name None net found e = absurd (none-some net e)
+input_live n name (Some k) net found e = input_by (length n.nets) net k (is_input (driver n k.0)) (net_there n name k found) e
+
+pub domain_live : (n : Netlist) (config : Config) (plan : Plan) (domain : ℕ) → IsNetlist n → domain_net (plain_layout n config plan) config domain < all_nets n config plan
+domain_live n config plan domain sound =
+    let y : Layout = plain_layout n config plan in
+    let name : Text = slice_index_or config.domains domain [] in
+    omega (arith, none_less y.gap (option_map (λ (k : NetId). k.0) (input_net n name)) (length n.nets) (omega arith) (λ net e. input_live n name (find_net n name) net refl e))
