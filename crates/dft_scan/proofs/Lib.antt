@@ -2,3 +2,4 @@ pub mod ListLemmas
 pub mod ShapeLemmas
 pub mod JoinedLemmas
 pub mod RefusalLemmas
+mod WorkedScans
