@@ -33,7 +33,7 @@ use Rattle.dft_insert.proofs.Linked.{chain_less}
 use Rattle.dft_insert.proofs.Standing.{placed_stands, can_stitch}
 use Rattle.dft_insert.proofs.Fitting.{IsWhole, IsFront, instances_fit, joins_fit, with_all_instances, with_all_joins}
 use Rattle.dft_insert.proofs.WholeNames.{nets_length}
-use Rattle.dft_insert.proofs.Livings.{all_nets, moved_less, output_live, scan_input_live, domain_live}
+use Rattle.dft_insert.proofs.LiveNets.{all_nets, moved_less, output_live, scan_input_live, domain_live}
 use Rattle.dft_insert.proofs.SoundParts.{map_at, signal_live, moved_sound, scan_sound, lockup_sound, buffer_sound}
 use Rattle.dft_insert.proofs.Tabled.{from_at, instances_same, lockups_same, buffers_same}
 
@@ -238,11 +238,6 @@ pub gap_fits : (n : Netlist) (config : Config) (plan : Plan) (gap : Gap) → IsL
 gap_fits n config plan gap laid = omega (arith, ap (λ (g : Gap). g.before) laid.gap_is, ports_fit n laid.ready.netlist, laid.ready.netlist.few_nets)
 
 -- the lock-ups' nets are the last ones
-pub first_of_locks : (n : Netlist) (config : Config) (plan : Plan) (b : Netlist) (count : ℕ) (lockups : List LockupPlace) → b ≡ nets_alone n config plan → count ≡ length b.nets → lockups ≡ plan.lockups →
-    (length lockups ≤ count) × (count - length lockups ≡ (plain_layout n config plan).first_lockup)
-first_of_locks n config plan b count lockups is counted same =
-    let all : count ≡ length (plain_netlist n config plan).nets = counted ∙ ap (λ (m : Netlist). length m.nets) is in
-    (omega (arith, all, nets_length n config plan, ap length same), omega (arith, all, nets_length n config plan, ap length same))
-
-pub locks_fit : (n : Netlist) (config : Config) (plan : Plan) (first : ℕ) → IsWhole (plain_netlist n config plan) → first ≡ (plain_layout n config plan).first_lockup → first + length plan.lockups ≤ MAX_NETS
-locks_fit n config plan first whole is = omega (arith, is, nets_length n config plan, whole.few_nets)
+pub first_of_locks : (n : Netlist) (config : Config) (plan : Plan) (b : Netlist) → b ≡ with_old n config plan → (length plan.lockups ≤ length b.nets) × (length b.nets - length plan.lockups ≡ (plain_layout n config plan).first_lockup)
+first_of_locks n config plan b is =
+    let all : length b.nets ≡ length (plain_netlist n config plan).nets = ap (λ (m : Netlist). length m.nets) is in (omega (arith, all, nets_length n config plan), omega (arith, all, nets_length n config plan))

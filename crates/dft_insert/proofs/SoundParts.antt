@@ -25,7 +25,7 @@ use Rattle.dft_insert.specs.Written.{at_net, kept_pin, stitched_pins, first_lock
 use Rattle.dft_insert.proofs.AddedDrivers.{lockup_shape, first_lockup_shape}
 use Rattle.dft_insert.proofs.Pairs.{shared_roles}
 use Rattle.dft_insert.proofs.ScanPairs.{ScanPair, Plain, PlainBoth, Resets, ResetsBoth, Sets, SetsBoth}
-use Rattle.dft_insert.proofs.Livings.{moved_less}
+use Rattle.dft_insert.proofs.LiveNets.{moved_less}
 
 -- ---- moved instances
 
