@@ -1,16 +1,15 @@
 -- The scanned netlist's joins and instances, as they are added.
-use Rattle.std.proofs.Common.{ℕ, zero, suc, ◌+◌, ◌-◌, ◌≡◌, ◌≤◌, ◌<◌, List, [], ◌∷◌, ◌++◌, length, map, Option, None, Some, slice_get, refl, sym, subst, ap, arith, ◌∙◌, append_assoc, append-nil}
+use Rattle.std.proofs.Common.{ℕ, ◌+◌, ◌-◌, ◌≡◌, ◌≤◌, ◌<◌, List, [], ◌++◌, length, map, Option, None, Some, slice_get, refl, sym, subst, ap, arith, ◌∙◌, append_assoc, append-nil}
 use Rattle.std.proofs.lemmas.Option.{slice_get_within}
 use Rattle.dft_cells.specs.declared.cell.CellId.{CellId}
 use Rattle.dft_netlist.specs.declared.ids.InstanceId.{InstanceId}
-use Rattle.dft_netlist.specs.declared.instance.CellRef.TheVariants.{Library}
 use Rattle.dft_netlist.specs.declared.instance.Signal.{Signal}
 use Rattle.dft_netlist.specs.declared.instance.Signal.TheVariants.{Net, Constant, Unconnected}
 use Rattle.dft_netlist.specs.declared.instance.Instance.{Instance}
 use Rattle.dft_netlist.specs.declared.instance.Join.{Join}
 use Rattle.dft_netlist.specs.declared.limits.TheConstants.{MAX_PORTS, MAX_NETS}
 use Rattle.dft_netlist.specs.Netlist.{Netlist}
-use Rattle.dft_netlist.specs.Sound.{IsNetlist, IsInstance, IsAJoin, IsConnected}
+use Rattle.dft_netlist.specs.Sound.{IsInstance, IsAJoin, IsConnected}
 use Rattle.dft_config.specs.declared.config.Config.{Config}
 use Rattle.dft_stitch.specs.declared.places.CellPlace.{CellPlace}
 use Rattle.dft_stitch.specs.declared.places.LockupPlace.{LockupPlace}
@@ -31,9 +30,9 @@ use Rattle.dft_insert.proofs.Carried.{CanBeStitched}
 use Rattle.dft_insert.proofs.Kept.{ports_fit, ports_count}
 use Rattle.dft_insert.proofs.Linked.{chain_less}
 use Rattle.dft_insert.proofs.Standing.{placed_stands, can_stitch}
-use Rattle.dft_insert.proofs.Fitting.{IsWhole, IsFront, instances_fit, joins_fit, with_all_instances, with_all_joins}
+use Rattle.dft_insert.proofs.Fitting.{IsWhole, instances_fit, joins_fit, with_all_instances, with_all_joins}
 use Rattle.dft_insert.proofs.WholeNames.{nets_length}
-use Rattle.dft_insert.proofs.LiveNets.{all_nets, moved_less, output_live, scan_input_live, domain_live}
+use Rattle.dft_insert.proofs.LiveNets.{moved_less, output_live, scan_input_live, domain_live}
 use Rattle.dft_insert.proofs.SoundParts.{map_at, signal_live, moved_sound, scan_sound, lockup_sound, buffer_sound}
 use Rattle.dft_insert.proofs.Tabled.{from_at, instances_same, lockups_same, buffers_same}
 

@@ -41,7 +41,11 @@ pub(crate) fn add_lockups(
     let first = builder.net_count() - lockups.len() as u32;
     for (number, place) in lockups.iter().enumerate() {
         let clock = domain_net(design, config, gap, place.domain);
-        let input = output_at(nets, cells_of(chains, place.chain), usize::from(place.after));
+        let input = output_at(
+            nets,
+            cells_of(chains, place.chain),
+            usize::from(place.after),
+        );
         let output = NetId(first + number as u32);
         let lockup = lockup_between(alloc, library, number, clock, input, output)?;
         add_instance(builder, lockup)?;

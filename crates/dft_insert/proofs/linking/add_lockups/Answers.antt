@@ -1,4 +1,4 @@
-use Rattle.std.proofs.Common.{ℕ, ◌≡◌, ◌+◌, ◌-◌, ◌<◌, ap, ◌∙◌, List, Option, Some, drop, get_or, slice_get, length, arith}
+use Rattle.std.proofs.Common.{ℕ, ◌≡◌, ◌+◌, ◌-◌, ap, ◌∙◌, List, get_or, length, arith}
 use Rattle.std.proofs.lemmas.Option.{slice_get-get_or}
 use Rattle.dft_netlist.specs.Netlist.{Netlist}
 use Rattle.dft_stitch.specs.declared.places.LockupPlace.{LockupPlace}

@@ -1,4 +1,4 @@
-use Rattle.std.proofs.Common.{◌≡◌, ◌∙◌, ap, sym, refl, slice_get, length}
+use Rattle.std.proofs.Common.{◌∙◌, ap, sym, refl, slice_get, length}
 use Rattle.std.proofs.lemmas.Option.{slice_get_read}
 use Rattle.dft_insert.proofs.LiveNets.{pins_live}
 use Rattle.dft_insert.proofs.stitching.carry_instances.Goals as goal
