@@ -1,7 +1,6 @@
 -- What is said of a scanned netlist's names and limits by the fact that nothing that is added is refused.
-use Rattle.std.proofs.Common.{ℕ, zero, suc, ◌+◌, ◌-◌, ◌*◌, ◌≡◌, ◌≤◌, Bool, true, false, cond, List, [], ◌∷◌, ◌++◌, length, map, flat_map, Option, None, Some, refl, sym, subst, ap, arith, ◌∙◌, length-append}
+use Rattle.std.proofs.Common.{ℕ, ◌+◌, ◌≡◌, ◌≤◌, Bool, true, false, List, [], ◌∷◌, ◌++◌, length, map, flat_map, Option, None, Some, refl, sym, subst, ap, arith}
 use Rattle.std.specs.Prelude.{pos, nat_le, if◌then◌else◌}
-use Rattle.std.specs.List.{range_with_len}
 use Rattle.std.specs.Str.{bytes_eq}
 use Rattle.std.proofs.lemmas.Bool.Decides.{nat_tests}
 use Rattle.std.proofs.lemmas.Option.{none-some}
@@ -9,13 +8,13 @@ use Rattle.dft_base.specs.Lexing.{Text}
 use Rattle.dft_netlist.specs.declared.limits.TheConstants.{MAX_PORTS, MAX_NETS, MAX_INSTANCES}
 use Rattle.dft_netlist.specs.declared.error.Counted.TheVariants.{Ports, Nets, Instances}
 use Rattle.dft_netlist.specs.Netlist.{Netlist}
-use Rattle.dft_netlist.specs.Names.{is_taken, names_taken}
+use Rattle.dft_netlist.specs.Names.{is_taken}
 use Rattle.dft_netlist.proofs.NamesLemmas.{same_of}
 use Rattle.dft_insert.specs.declared.error.InsertError.{InsertError}
 use Rattle.dft_insert.specs.declared.error.InsertError.TheVariants.{TooMany}
-use Rattle.dft_insert.specs.Refusals.{Adding, APort, Others, ANet, AnInstance, SoFar, port_limit, net_limit, instance_limit, clash_or, adding_refusal, after_adding, or_else, first_refusal}
+use Rattle.dft_insert.specs.Refusals.{Adding, APort, Others, ANet, AnInstance, SoFar, port_limit, net_limit, instance_limit, clash_or, adding_refusal, after_adding, first_refusal}
 use Rattle.dft_insert.proofs.Additions.{IsNewName, new_name, both_none}
-use Rattle.dft_insert.proofs.NamesOnce.{times_named, named-append, named_here, never_has, has_never, one_named, as_count}
+use Rattle.dft_insert.proofs.NamesOnce.{times_named, named-append, has_never, one_named, as_count}
 
 -- ---- names
 

@@ -1,5 +1,5 @@
 -- A netlist to which things are added, one after another, up to a whole.
-use Rattle.std.proofs.Common.{ℕ, suc, ◌+◌, ◌-◌, ◌≡◌, ◌<◌, ◌≤◌, List, [], ◌∷◌, ◌++◌, length, map, drop, get_or, Some, slice_get, refl, sym, subst, ap, arith, ◌∙◌}
+use Rattle.std.proofs.Common.{ℕ, suc, ◌+◌, ◌-◌, ◌≡◌, ◌<◌, ◌≤◌, List, [], ◌∷◌, length, map, drop, get_or, Some, slice_get, refl, sym, subst, ap, arith, ◌∙◌}
 use Rattle.std.proofs.lemmas.List.{drop_more, at_drop_all}
 use Rattle.std.proofs.lemmas.Option.{get_or_from_slice_get, slice_get_within}
 use Rattle.dft_netlist.specs.declared.instance.Instance.{Instance}

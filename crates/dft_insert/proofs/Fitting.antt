@@ -1,11 +1,9 @@
 -- What comes next in a whole netlist can be added to a front of it.
-use Rattle.std.proofs.Common.{ℕ, zero, suc, ◌+◌, ◌≡◌, ◌≤◌, ◌<◌, Bool, true, false, cond, List, [], ◌∷◌, ◌++◌, length, map, Option, None, Some, slice_get, refl, sym, subst, ap, arith, ◌∙◌, append_assoc, append-nil, length-append}
+use Rattle.std.proofs.Common.{ℕ, zero, suc, ◌+◌, ◌≡◌, ◌≤◌, false, List, [], ◌∷◌, ◌++◌, length, Option, None, Some, slice_get, refl, sym, subst, ap, arith, ◌∙◌, append_assoc, append-nil, length-append}
 use Rattle.std.specs.List.{filter_map, cons_option}
-use Rattle.std.specs.Prelude.{nat_le, if◌then◌else◌}
+use Rattle.std.specs.Prelude.{if◌then◌else◌}
 use Rattle.dft_base.specs.Lexing.{Text}
 use Rattle.dft_base.specs.declared.place.Range.{Range}
-use Rattle.dft_cells.specs.declared.cell.Cell.{Cell}
-use Rattle.dft_netlist.specs.declared.ids.NetId.{NetId}
 use Rattle.dft_netlist.specs.declared.port.Port.{Port}
 use Rattle.dft_netlist.specs.declared.instance.Instance.{Instance}
 use Rattle.dft_netlist.specs.declared.instance.Join.{Join}
@@ -13,10 +11,10 @@ use Rattle.dft_netlist.specs.declared.limits.TheConstants.{MAX_PORTS, MAX_NETS, 
 use Rattle.dft_netlist.specs.Netlist.{Netlist}
 use Rattle.dft_netlist.specs.Names.{names_taken, is_taken, first_taken, bit_names, port_names, vector_name, vector_name_in, instance_name}
 use Rattle.dft_netlist.specs.NetNumbers.{nets_from}
-use Rattle.dft_netlist.specs.Building.{port_of, port_refusal, net_refusal, instance_refusal, port_limit, room_limit, taken_or, own_names}
+use Rattle.dft_netlist.specs.Building.{port_of, port_limit, room_limit, taken_or, own_names}
 use Rattle.dft_netlist.specs.Sound.{bits_of, bit_names_of, HasOnlyPorts, IsInstance, IsAJoin}
 use Rattle.dft_netlist.proofs.RefusalLemmas.{le_true, net_open, instance_open}
-use Rattle.dft_insert.specs.Growing.{Thing, APort, ANet, AnInstance, AJoin, with_thing, with_things, Fits, AllFit, PortFits, InstanceFits, next_port, port_things, net_things, instance_things, join_things}
+use Rattle.dft_insert.specs.Growing.{APort, ANet, AnInstance, AJoin, with_thing, with_things, AllFit, port_things, net_things, instance_things, join_things}
 use Rattle.dft_insert.proofs.NamesOnce.{times_named, named-append, never_has, named_here, taken_times, shown_append}
 
 -- each name stands there once at most, and the limits are kept
@@ -54,8 +52,8 @@ pub nets_fit : (w n : Netlist) (names rest : List Text) (ports : List Port) (ins
 nets_fit w n [] rest ports instances whole front = tt
 nets_fit w n (name ∷ names) rest ports instances whole front = (
   net_open n name
-  (later_free name w n ports (name ∷ (names ++ rest)) instances whole front (omega (arith, named_here name (names ++ rest))))
-  (omega (arith, ap length front.its_nets, length-append n.nets (name ∷ (names ++ rest)), whole.few_nets)),
+      (later_free name w n ports (name ∷ (names ++ rest)) instances whole front (omega (arith, named_here name (names ++ rest))))
+      (omega (arith, ap length front.its_nets, length-append n.nets (name ∷ (names ++ rest)), whole.few_nets)),
   nets_fit w (with_thing n (ANet name)) names rest ports instances whole (record { its_ports = front.its_ports; its_nets = front.its_nets ∙ sym (append_assoc n.nets (name ∷ []) (names ++ rest)); its_instances = front.its_instances }),
 )
 
@@ -80,7 +78,7 @@ instances_fit w n (x ∷ xs) rest ports nets whole front sound = (
         (omega (arith, ap length front.its_instances, length-append n.instances (x ∷ (xs ++ rest)), whole.few_instances));
   },
   instances_fit w (with_thing n (AnInstance x)) xs rest ports nets whole (record { its_ports = front.its_ports; its_nets = front.its_nets; its_instances = front.its_instances ∙ sym (append_assoc n.instances (x ∷ []) (xs ++ rest)) })
-  (λ k y at. sound (suc k) y at),
+      (λ k y at. sound (suc k) y at),
 )
 
 -- ---- joins
@@ -139,9 +137,9 @@ ports_fit w n (port ∷ ports) more rest instances whole front only numbers =
             (omega (arith, ap length here.its_nets, length-append n.nets nets, length-append names later, whole.few_nets));
       },
       ports_fit w (with_thing n (APort port)) ports more rest instances whole
-      (record { its_ports = front.its_ports ∙ sym (append_assoc n.ports (port ∷ []) (ports ++ more)); its_nets = here.its_nets ∙ sym (append_assoc n.nets names later); its_instances = front.its_instances })
-      (omega (arith, only, length-append n.nets names, bits_behind n.ports port, wide))
-      (subst (λ k. AreNumbered k ports) (sym (length-append n.nets names)) numbers.1),
+          (record { its_ports = front.its_ports ∙ sym (append_assoc n.ports (port ∷ []) (ports ++ more)); its_nets = here.its_nets ∙ sym (append_assoc n.nets names later); its_instances = front.its_instances })
+          (omega (arith, only, length-append n.nets names, bits_behind n.ports port, wide))
+          (subst (λ k. AreNumbered k ports) (sym (length-append n.nets names)) numbers.1),
     )
 
 -- ---- what is there when they are added

@@ -1,16 +1,15 @@
 -- The scanned netlist's joins and instances, as they are added.
-use Rattle.std.proofs.Common.{ℕ, zero, suc, ◌+◌, ◌-◌, ◌≡◌, ◌≤◌, ◌<◌, List, [], ◌∷◌, ◌++◌, length, map, Option, None, Some, slice_get, refl, sym, subst, ap, arith, ◌∙◌, append_assoc, append-nil}
+use Rattle.std.proofs.Common.{ℕ, ◌+◌, ◌-◌, ◌≡◌, ◌≤◌, ◌<◌, List, [], ◌++◌, length, map, Option, None, Some, slice_get, refl, sym, subst, ap, arith, ◌∙◌, append_assoc, append-nil}
 use Rattle.std.proofs.lemmas.Option.{slice_get_within}
 use Rattle.dft_cells.specs.declared.cell.CellId.{CellId}
 use Rattle.dft_netlist.specs.declared.ids.InstanceId.{InstanceId}
-use Rattle.dft_netlist.specs.declared.instance.CellRef.TheVariants.{Library}
 use Rattle.dft_netlist.specs.declared.instance.Signal.{Signal}
 use Rattle.dft_netlist.specs.declared.instance.Signal.TheVariants.{Net, Constant, Unconnected}
 use Rattle.dft_netlist.specs.declared.instance.Instance.{Instance}
 use Rattle.dft_netlist.specs.declared.instance.Join.{Join}
 use Rattle.dft_netlist.specs.declared.limits.TheConstants.{MAX_PORTS, MAX_NETS}
 use Rattle.dft_netlist.specs.Netlist.{Netlist}
-use Rattle.dft_netlist.specs.Sound.{IsNetlist, IsInstance, IsAJoin, IsConnected}
+use Rattle.dft_netlist.specs.Sound.{IsInstance, IsAJoin, IsConnected}
 use Rattle.dft_config.specs.declared.config.Config.{Config}
 use Rattle.dft_stitch.specs.declared.places.CellPlace.{CellPlace}
 use Rattle.dft_stitch.specs.declared.places.LockupPlace.{LockupPlace}
@@ -31,9 +30,9 @@ use Rattle.dft_insert.proofs.Carried.{CanBeStitched}
 use Rattle.dft_insert.proofs.Kept.{ports_fit, ports_count}
 use Rattle.dft_insert.proofs.Linked.{chain_less}
 use Rattle.dft_insert.proofs.Standing.{placed_stands, can_stitch}
-use Rattle.dft_insert.proofs.Fitting.{IsWhole, IsFront, instances_fit, joins_fit, with_all_instances, with_all_joins}
+use Rattle.dft_insert.proofs.Fitting.{IsWhole, instances_fit, joins_fit, with_all_instances, with_all_joins}
 use Rattle.dft_insert.proofs.WholeNames.{nets_length}
-use Rattle.dft_insert.proofs.Livings.{all_nets, moved_less, output_live, scan_input_live, domain_live}
+use Rattle.dft_insert.proofs.LiveNets.{moved_less, output_live, scan_input_live, domain_live}
 use Rattle.dft_insert.proofs.SoundParts.{map_at, signal_live, moved_sound, scan_sound, lockup_sound, buffer_sound}
 use Rattle.dft_insert.proofs.Tabled.{from_at, instances_same, lockups_same, buffers_same}
 
@@ -238,11 +237,6 @@ pub gap_fits : (n : Netlist) (config : Config) (plan : Plan) (gap : Gap) → IsL
 gap_fits n config plan gap laid = omega (arith, ap (λ (g : Gap). g.before) laid.gap_is, ports_fit n laid.ready.netlist, laid.ready.netlist.few_nets)
 
 -- the lock-ups' nets are the last ones
-pub first_of_locks : (n : Netlist) (config : Config) (plan : Plan) (b : Netlist) (count : ℕ) (lockups : List LockupPlace) → b ≡ nets_alone n config plan → count ≡ length b.nets → lockups ≡ plan.lockups →
-    (length lockups ≤ count) × (count - length lockups ≡ (plain_layout n config plan).first_lockup)
-first_of_locks n config plan b count lockups is counted same =
-    let all : count ≡ length (plain_netlist n config plan).nets = counted ∙ ap (λ (m : Netlist). length m.nets) is in
-    (omega (arith, all, nets_length n config plan, ap length same), omega (arith, all, nets_length n config plan, ap length same))
-
-pub locks_fit : (n : Netlist) (config : Config) (plan : Plan) (first : ℕ) → IsWhole (plain_netlist n config plan) → first ≡ (plain_layout n config plan).first_lockup → first + length plan.lockups ≤ MAX_NETS
-locks_fit n config plan first whole is = omega (arith, is, nets_length n config plan, whole.few_nets)
+pub first_of_locks : (n : Netlist) (config : Config) (plan : Plan) (b : Netlist) → b ≡ with_old n config plan → (length plan.lockups ≤ length b.nets) × (length b.nets - length plan.lockups ≡ (plain_layout n config plan).first_lockup)
+first_of_locks n config plan b is =
+    let all : length b.nets ≡ length (plain_netlist n config plan).nets = ap (λ (m : Netlist). length m.nets) is in (omega (arith, all, nets_length n config plan), omega (arith, all, nets_length n config plan))

@@ -29,7 +29,7 @@ pub mod Additions
 pub mod Completing
 pub mod MadeInstances
 pub mod ScanPorts
-pub mod Livings
+pub mod LiveNets
 pub mod FirstLockup
 pub mod NumberedPorts
 pub mod NamesOnce

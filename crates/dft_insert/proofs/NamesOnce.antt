@@ -1,16 +1,15 @@
 -- How often a name stands among those of a netlist. Numbers of lists add up, so the order in which things are added does not matter.
-use Rattle.std.proofs.Common.{ℕ, zero, suc, ◌+◌, ◌≡◌, ◌≤◌, ◌<◌, Bool, true, false, cond, ◌||◌, List, [], ◌∷◌, ◌++◌, length, map, Option, None, Some, slice_get, refl, sym, subst, ap, arith, ◌∙◌}
+use Rattle.std.proofs.Common.{ℕ, zero, suc, ◌+◌, ◌≡◌, ◌≤◌, Bool, true, false, ◌||◌, List, [], ◌∷◌, ◌++◌, Option, None, Some, slice_get, refl, sym, ap, arith, ◌∙◌}
 use Rattle.std.specs.List.{filter_map, cons_option}
 use Rattle.std.specs.Option.{option_and_then}
 use Rattle.std.specs.Str.{bytes_eq}
 use Rattle.std.proofs.lemmas.List.Elements.{filter_map-append}
-use Rattle.std.proofs.lemmas.Option.{none-some, same_Some}
 use Rattle.dft_base.specs.Lexing.{Text}
 use Rattle.dft_cells.specs.WellFormed.{has_name}
 use Rattle.dft_netlist.specs.declared.named.Named.{Named}
 use Rattle.dft_netlist.specs.declared.named.Named.TheVariants.{Net, Vector, Instance}
 use Rattle.dft_netlist.specs.Netlist.{Netlist}
-use Rattle.dft_netlist.specs.Names.{Names, NamesDiffer, names_taken, is_taken, vector_name, instance_name}
+use Rattle.dft_netlist.specs.Names.{NamesDiffer, names_taken, vector_name, instance_name}
 use Rattle.dft_netlist.proofs.NamesLemmas.{same_of, bytes_eq-same}
 
 abbrev pub as_count : Bool → ℕ
@@ -136,11 +135,14 @@ sum_of_three (suc a) zero (suc c) ha hb hc ab ac bc = absurd (ac (omega arith) (
 -- each name of a netlist whose names differ stands there once at most
 pub stands_once : (q : Text) (n : Netlist) → NamesDiffer n → times_named q (names_taken n) ≤ 1
 stands_once q n differ =
-    omega (arith, taken_times q n,
-    sum_of_three (times_named q n.nets) (times_named q (filter_map vector_name n.ports)) (times_named q (filter_map instance_name n.instances))
-    (net_once q n.nets (λ i j a b. ap number_in (differ q (Net (record { 0 = i })) (Net (record { 0 = j })) a b)))
-    (shown_once vector_name q n.ports (λ i j a b. ap number_in (differ q (Vector (record { 0 = i })) (Vector (record { 0 = j })) a b)))
-    (shown_once instance_name q n.instances (λ i j a b. ap number_in (differ q (Instance (record { 0 = i })) (Instance (record { 0 = j })) a b)))
-    (λ a b. let x = net_where q n.nets a in let y = shown_where vector_name q n.ports b in net_vector x.0 y.0 (differ q (Net (record { 0 = x.0 })) (Vector (record { 0 = y.0 })) x.1 y.1))
-    (λ a b. let x = net_where q n.nets a in let y = shown_where instance_name q n.instances b in net_instance x.0 y.0 (differ q (Net (record { 0 = x.0 })) (Instance (record { 0 = y.0 })) x.1 y.1))
-    (λ a b. let x = shown_where vector_name q n.ports a in let y = shown_where instance_name q n.instances b in vector_instance x.0 y.0 (differ q (Vector (record { 0 = x.0 })) (Instance (record { 0 = y.0 })) x.1 y.1)))
+    omega (
+      arith,
+      taken_times q n,
+      sum_of_three (times_named q n.nets) (times_named q (filter_map vector_name n.ports)) (times_named q (filter_map instance_name n.instances))
+          (net_once q n.nets (λ i j a b. ap number_in (differ q (Net (record { 0 = i })) (Net (record { 0 = j })) a b)))
+          (shown_once vector_name q n.ports (λ i j a b. ap number_in (differ q (Vector (record { 0 = i })) (Vector (record { 0 = j })) a b)))
+          (shown_once instance_name q n.instances (λ i j a b. ap number_in (differ q (Instance (record { 0 = i })) (Instance (record { 0 = j })) a b)))
+          (λ a b. let x = net_where q n.nets a in let y = shown_where vector_name q n.ports b in net_vector x.0 y.0 (differ q (Net (record { 0 = x.0 })) (Vector (record { 0 = y.0 })) x.1 y.1))
+          (λ a b. let x = net_where q n.nets a in let y = shown_where instance_name q n.instances b in net_instance x.0 y.0 (differ q (Net (record { 0 = x.0 })) (Instance (record { 0 = y.0 })) x.1 y.1))
+          (λ a b. let x = shown_where vector_name q n.ports a in let y = shown_where instance_name q n.instances b in vector_instance x.0 y.0 (differ q (Vector (record { 0 = x.0 })) (Instance (record { 0 = y.0 })) x.1 y.1)),
+    )

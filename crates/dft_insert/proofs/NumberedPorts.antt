@@ -1,12 +1,12 @@
 -- Ports of one name, with their numbers.
-use Rattle.std.proofs.Common.{ℕ, suc, ◌+◌, ◌-◌, ◌≡◌, ◌<◌, ◌≤◌, List, [], ◌∷◌, ◌++◌, length, map, None, refl, sym, subst, ap, arith, ◌∙◌}
+use Rattle.std.proofs.Common.{ℕ, suc, ◌+◌, ◌-◌, ◌≡◌, ◌<◌, ◌≤◌, List, [], ◌∷◌, map, None, refl, sym, ap, arith, ◌∙◌}
 use Rattle.std.specs.List.{range_with_len}
 use Rattle.dft_base.specs.Lexing.{Text}
 use Rattle.dft_netlist.specs.declared.port.Dir.{Dir}
 use Rattle.dft_netlist.specs.declared.port.Port.{Port}
 use Rattle.dft_netlist.specs.Netlist.{Netlist}
-use Rattle.dft_insert.specs.AddedPorts.{NewPort, new_port, numbered, ports_from}
-use Rattle.dft_insert.specs.Growing.{Thing, APort, PortFits, with_thing, with_things, AllFit, next_port, port_things}
+use Rattle.dft_insert.specs.AddedPorts.{new_port, numbered, ports_from}
+use Rattle.dft_insert.specs.Growing.{Thing, APort, with_thing, next_port, port_things}
 use Rattle.dft_insert.proofs.Completing.{Completes, goes_on, next_number, no_number_left}
 
 -- a port of one bit at a net

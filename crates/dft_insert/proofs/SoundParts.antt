@@ -1,6 +1,6 @@
 -- Each instance of the scanned netlist can stand in it.
-use Rattle.std.proofs.Common.{ℕ, zero, suc, ◌+◌, ◌≡◌, ◌≤◌, ◌<◌, Bool, true, false, List, [], ◌∷◌, length, map, drop, Option, None, Some, is_some, option_map, slice_get, refl, sym, subst, ap, arith, ◌∙◌}
-use Rattle.std.specs.Prelude.{if◌then◌else◌, slice_index_or}
+use Rattle.std.proofs.Common.{ℕ, zero, suc, ◌+◌, ◌≡◌, ◌≤◌, ◌<◌, Bool, true, List, [], ◌∷◌, length, map, drop, Option, None, Some, is_some, option_map, slice_get, refl, sym, subst, ap, arith, ◌∙◌}
+use Rattle.std.specs.Prelude.{slice_index_or}
 use Rattle.std.proofs.lemmas.List.{length-map}
 use Rattle.std.proofs.lemmas.Option.{none-some, same_Some, slice_get-map, slice_get_within}
 use Rattle.dft_base.specs.Lexing.{Text}
@@ -16,16 +16,15 @@ use Rattle.dft_netlist.specs.declared.instance.CellRef.TheVariants.{Library, Gat
 use Rattle.dft_netlist.specs.declared.instance.Signal.{Signal}
 use Rattle.dft_netlist.specs.declared.instance.Signal.TheVariants.{Net, Constant, Unconnected}
 use Rattle.dft_netlist.specs.declared.instance.Instance.{Instance}
-use Rattle.dft_netlist.specs.Netlist.{Netlist}
 use Rattle.dft_netlist.specs.Drivers.{Shape, shape_of, shape_of_cell}
 use Rattle.dft_netlist.specs.Sound.{IsLive, AreLive, IsCellOf, IsInstance, NoConstantOutput, is_output}
 use Rattle.dft_rules.specs.Rules.{scan_cell_in}
-use Rattle.dft_insert.specs.Moves.{Gap, moved, moved_signal, moved_instance}
-use Rattle.dft_insert.specs.Written.{at_net, kept_pin, stitched_pins, first_lockup}
+use Rattle.dft_insert.specs.Moves.{Gap, moved_signal}
+use Rattle.dft_insert.specs.Written.{at_net, stitched_pins, first_lockup}
 use Rattle.dft_insert.proofs.AddedDrivers.{lockup_shape, first_lockup_shape}
 use Rattle.dft_insert.proofs.Pairs.{shared_roles}
 use Rattle.dft_insert.proofs.ScanPairs.{ScanPair, Plain, PlainBoth, Resets, ResetsBoth, Sets, SetsBoth}
-use Rattle.dft_insert.proofs.Livings.{moved_less}
+use Rattle.dft_insert.proofs.LiveNets.{moved_less}
 
 -- ---- moved instances
 

@@ -1,26 +1,25 @@
 -- The scanned netlist's ports and nets, as they are added.
-use Rattle.std.proofs.Common.{ℕ, zero, suc, ◌+◌, ◌≡◌, ◌≤◌, List, [], ◌∷◌, ◌++◌, length, map, take, drop, Some, slice_get, refl, sym, subst, ap, arith, ◌∙◌, append_assoc, append-nil, length-append}
+use Rattle.std.proofs.Common.{ℕ, suc, ◌+◌, ◌≡◌, List, [], ◌∷◌, ◌++◌, length, map, take, drop, Some, slice_get, refl, sym, subst, ap, arith, ◌∙◌, append_assoc, append-nil}
 use Rattle.std.proofs.lemmas.Option.{same_Some}
 use Rattle.std.proofs.Math.Seq.{take-append_seam}
 use Rattle.dft_base.specs.Lexing.{Text}
 use Rattle.dft_netlist.specs.declared.ids.NetId.{NetId}
 use Rattle.dft_netlist.specs.declared.port.Port.{Port}
-use Rattle.dft_netlist.specs.declared.instance.Instance.{Instance}
 use Rattle.dft_netlist.specs.Netlist.{Netlist}
 use Rattle.dft_netlist.specs.Names.{bit_names}
 use Rattle.dft_netlist.specs.NetNumbers.{nets_from}
 use Rattle.dft_netlist.specs.Building.{empty_netlist}
-use Rattle.dft_netlist.specs.Sound.{IsNetlist, bits_of, bit_names_of, HasOnlyPorts}
+use Rattle.dft_netlist.specs.Sound.{IsNetlist, bits_of, bit_names_of}
 use Rattle.dft_netlist.proofs.LiveLemmas.{length-bits}
 use Rattle.dft_config.specs.declared.config.Config.{Config}
 use Rattle.dft_stitch.specs.Plans.{Plan}
 use Rattle.dft_insert.specs.declared.style.Style.TheVariants.{Plain}
 use Rattle.dft_insert.specs.AddedPorts.{NewPort, added_ports, port_name, ports_from}
-use Rattle.dft_insert.specs.Stitching.{Layout, open_places}
-use Rattle.dft_insert.specs.Written.{made_nets, plain_layout, plain_netlist}
+use Rattle.dft_insert.specs.Stitching.{open_places}
+use Rattle.dft_insert.specs.Written.{made_nets, plain_netlist}
 use Rattle.dft_insert.specs.Growing.{with_things, AllFit, port_things, net_things}
 use Rattle.dft_insert.specs.Pieces.{nets_alone}
-use Rattle.dft_insert.proofs.Fitting.{IsWhole, IsFront, AreNumbered, ports_fit, nets_fit, with_all_ports, with_all_nets}
+use Rattle.dft_insert.proofs.Fitting.{IsWhole, AreNumbered, ports_fit, nets_fit, with_all_ports, with_all_nets}
 
 -- ---- ports
 

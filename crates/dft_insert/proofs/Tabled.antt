@@ -1,5 +1,5 @@
 -- The instances of the scanned netlist, from the table of the nets at each scan cell.
-use Rattle.std.proofs.Common.{ℕ, zero, suc, ◌+◌, ◌-◌, ◌≡◌, ◌==◌, ◌≤◌, ◌<◌, Bool, true, false, ◌&&◌, cond, List, [], ◌∷◌, ◌++◌, length, map, filter, flat_map, Option, None, Some, option_map, option_and_then, slice_get, refl, sym, subst, ap, arith, ◌∙◌}
+use Rattle.std.proofs.Common.{ℕ, zero, suc, ◌+◌, ◌-◌, ◌≡◌, ◌==◌, ◌≤◌, ◌<◌, Bool, true, false, ◌&&◌, cond, List, [], ◌∷◌, length, filter, Option, None, Some, option_map, option_and_then, slice_get, refl, sym, subst, ap, arith, ◌∙◌}
 use Rattle.std.specs.Prelude.{if◌then◌else◌, slice_index_or, is_none}
 use Rattle.std.specs.List.{range_with_len}
 use Rattle.std.proofs.lemmas.Bool.{eqb-true}
@@ -14,11 +14,8 @@ use Rattle.dft_netlist.specs.Netlist.{Netlist}
 use Rattle.dft_config.specs.declared.config.Config.{Config}
 use Rattle.dft_rules.specs.Rules.{scan_cell_in}
 use Rattle.dft_stitch.specs.declared.places.CellPlace.{CellPlace}
-use Rattle.dft_stitch.specs.declared.places.LockupPlace.{LockupPlace}
 use Rattle.dft_stitch.specs.Chains.{plan_of}
 use Rattle.dft_stitch.specs.Plans.{cell_at}
-use Rattle.dft_insert.specs.declared.cell_nets.CellNets.{CellNets}
-use Rattle.dft_insert.specs.Moves.{Gap}
 use Rattle.dft_insert.specs.AddedPorts.{enable_net, scan_in_net, scan_out_net}
 use Rattle.dft_insert.specs.Stitching.{places_in, places_of, number_of, is_place, own_output, output_at, open_places, Layout, made_or, moved_or_none, output_net}
 use Rattle.dft_insert.specs.Written.{map_from, at_net, domain_net, place_in, written_at, as_scan_cell, written_instance, lockup_instance, buffer_instance}

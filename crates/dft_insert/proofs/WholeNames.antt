@@ -1,8 +1,8 @@
 -- Each name of a scanned netlist stands there once, and its limits are kept, where nothing that is added is refused.
-use Rattle.std.proofs.Common.{ℕ, zero, suc, ◌+◌, ◌-◌, ◌≡◌, ◌≤◌, ◌<◌, Bool, true, false, cond, List, [], ◌∷◌, ◌++◌, length, map, take, drop, flat_map, Option, None, Some, refl, sym, subst, ap, arith, ◌∙◌, append-nil, length-append}
+use Rattle.std.proofs.Common.{ℕ, zero, suc, ◌+◌, ◌-◌, ◌≡◌, ◌≤◌, Bool, true, false, List, [], ◌∷◌, ◌++◌, length, map, take, drop, flat_map, Option, None, Some, refl, sym, ap, arith, ◌∙◌, length-append}
 use Rattle.std.specs.List.{filter_map, cons_option, range_with_len}
 use Rattle.std.specs.Str.{bytes_eq}
-use Rattle.std.proofs.lemmas.List.{take-append-drop, length-map, length-drop}
+use Rattle.std.proofs.lemmas.List.{take-append-drop, length-map}
 use Rattle.std.proofs.lemmas.List.FromFn.{length-range_with_len, length-map-range_with_len}
 use Rattle.dft_base.specs.Lexing.{Text}
 use Rattle.dft_netlist.specs.declared.port.Port.{Port}
@@ -18,16 +18,14 @@ use Rattle.dft_rules.specs.Rules.{scan_cell_in}
 use Rattle.dft_cells.specs.declared.cell.CellId.{CellId}
 use Rattle.dft_netlist.specs.declared.ids.InstanceId.{InstanceId}
 use Rattle.dft_insert.specs.declared.style.Style.TheVariants.{Plain}
-use Rattle.dft_insert.specs.Moves.{Gap}
 use Rattle.dft_insert.specs.AddedPorts.{NewPort, added_ports, port_name, ports_from, enable_net, scan_in_net, scan_out_net, made_net, made_instance}
 use Rattle.dft_insert.specs.Stitching.{Layout, open_places}
-use Rattle.dft_insert.specs.Written.{map_from, written_instance, written_at, as_scan_cell, place_in, lockup_instance, buffer_instance, made_nets, plain_layout, plain_instances, plain_netlist}
-use Rattle.dft_insert.specs.Refusals.{Adding, APort, Others, ANet, AnInstance, lockup_made, plain_additions, additions, at_first, refusal, first_refusal}
-use Rattle.dft_insert.specs.Statements.{IsReady}
+use Rattle.dft_insert.specs.Written.{map_from, written_instance, written_at, as_scan_cell, place_in, lockup_instance, buffer_instance, made_nets, plain_layout, plain_netlist}
+use Rattle.dft_insert.specs.Refusals.{Adding, APort, Others, ANet, AnInstance, lockup_made, additions, at_first, refusal}
 use Rattle.dft_insert.proofs.Whole.{length_map_from}
 use Rattle.dft_insert.proofs.Kept.{ports_fit}
-use Rattle.dft_insert.proofs.NamesOnce.{times_named, as_count, named-append, never_has, has_never, taken_times, shown_append, stands_once}
-use Rattle.dft_insert.proofs.AddedNames.{names_of, names_added, IsOnce, each_once, ports_of, nets_of, instances_of, total, total-append, total_ones, total_none, total_flat, AreFew, all_few}
+use Rattle.dft_insert.proofs.NamesOnce.{times_named, as_count, named-append, has_never, taken_times, shown_append, stands_once}
+use Rattle.dft_insert.proofs.AddedNames.{names_of, names_added, IsOnce, each_once, ports_of, nets_of, instances_of, total, total-append, total_ones, total_flat, AreFew, all_few}
 use Rattle.dft_insert.proofs.Fitting.{IsWhole}
 
 -- ---- the names of what is added

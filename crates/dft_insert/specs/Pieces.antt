@@ -1,8 +1,8 @@
 -- The instances of the scanned netlist, from the nets at each scan cell.
-use Rattle.std.specs.Prelude.{ℕ, zero, ◌+◌, ◌-◌, List, [], ◌∷◌, length, map, drop, Option, None, Some, option_map, slice_get, slice_index_or}
+use Rattle.std.specs.Prelude.{ℕ, zero, ◌+◌, ◌-◌, List, [], ◌∷◌, length, map, Option, None, Some, option_map, slice_get, slice_index_or}
 use Rattle.dft_cells.specs.declared.kind.Kind.TheVariants.{Buf}
 use Rattle.dft_cells.specs.declared.kind.Role.{Role}
-use Rattle.dft_cells.specs.declared.kind.Role.TheVariants.{Input, Clock, Din, Reset, Preset, ScanIn, ScanEnable, Output, Inverted}
+use Rattle.dft_cells.specs.declared.kind.Role.TheVariants.{ScanIn, ScanEnable}
 use Rattle.dft_cells.specs.declared.cell.Cell.{Cell}
 use Rattle.dft_cells.specs.declared.cell.CellId.{CellId}
 use Rattle.dft_netlist.specs.declared.ids.NetId.{NetId}

@@ -65,10 +65,9 @@ pub(crate) fn add_instances(
     requires nets { builder.old ≡ nets_alone design.now config.now chains.now }
     ensures { OnOk result (builder.new ≡ plain_netlist design.now config.now chains.now) }
 {
-    let first = builder.net_count() - chains.lockups().len() as u32;
     carry_joins(builder, design.joins(), gap)?;
     carry_instances(alloc, builder, design, nets, gap)?;
-    add_lockups(alloc, builder, design, config, chains, nets, gap, first)?;
+    add_lockups(alloc, builder, design, config, chains, nets, gap)?;
     add_buffers(alloc, builder, config, chains, nets, gap)
 }
 

@@ -30,17 +30,22 @@ pub(crate) fn add_lockups(
     chains: &Chains,
     nets: &[Option<CellNets>],
     gap: &Gap,
-    first: u32,
 ) -> Result<(), AllocError>
     requires room { gap.now.width ≤ MAX_PORTS }
-    requires few { first + length chains.now.lockups ≤ MAX_NETS }
-    requires fit { AllFit builder.old (instance_things (lockups_with design.now config.now chains.now gap.now nets.now first)) }
-    ensures { OnOk result (builder.new ≡ with_things builder.old (instance_things (lockups_with design.now config.now chains.now gap.now nets.now first))) }
+    requires last { length chains.now.lockups ≤ length builder.old.nets }
+    requires fit { AllFit builder.old (instance_things (lockups_with design.now config.now chains.now gap.now nets.now (length builder.old.nets - length chains.now.lockups))) }
+    ensures { OnOk result (builder.new ≡ with_things builder.old (instance_things (lockups_with design.now config.now chains.now gap.now nets.now (length builder.old.nets - length chains.now.lockups)))) }
 {
     let library = design.library();
-    for (number, place) in chains.lockups().iter().enumerate() {
+    let lockups = chains.lockups();
+    let first = builder.net_count() - lockups.len() as u32;
+    for (number, place) in lockups.iter().enumerate() {
         let clock = domain_net(design, config, gap, place.domain);
-        let input = output_at(nets, cells_of(chains, place.chain), usize::from(place.after));
+        let input = output_at(
+            nets,
+            cells_of(chains, place.chain),
+            usize::from(place.after),
+        );
         let output = NetId(first + number as u32);
         let lockup = lockup_between(alloc, library, number, clock, input, output)?;
         add_instance(builder, lockup)?;

@@ -1,9 +1,9 @@
-use Rattle.std.proofs.Common.{◌<◌, ◌∷◌, ◌∙◌, ◌+◌, [], drop, length, sym, arith}
+use Rattle.std.proofs.Common.{◌∙◌, ◌+◌, [], drop, sym}
 use Rattle.std.proofs.lemmas.Option.{get_or_from_slice_get, slice_get_within}
 use Rattle.dft_base.specs.Lexing.{Text}
 use Rattle.dft_netlist.specs.Netlist.{Netlist}
 use Rattle.dft_insert.specs.Growing.{ANet, net_things, with_things}
-use Rattle.dft_insert.proofs.Completing.{Completes, next_thing, goes_on}
+use Rattle.dft_insert.proofs.Completing.{next_thing, goes_on}
 use Rattle.dft_insert.proofs.carrying.carry_nets.Goals as goal
 
 pub add_net-requires : goal.add_net-requires

@@ -1,6 +1,5 @@
-use Rattle.std.proofs.Common.{ℕ, ◌≡◌, ◌+◌, ◌∙◌, ap, length, arith}
+use Rattle.std.proofs.Common.{ℕ, ◌≡◌, ◌+◌, ap, length, arith}
 use Rattle.dft_netlist.specs.Netlist.{Netlist}
-use Rattle.dft_insert.specs.AddedPorts.{scan_out_net}
 use Rattle.dft_insert.specs.Growing.{instance_things, with_things}
 use Rattle.dft_insert.specs.Pieces.{buffer_with, buffers_with}
 use Rattle.dft_insert.proofs.Completing.{made_fits, made_added}

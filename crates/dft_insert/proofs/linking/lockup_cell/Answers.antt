@@ -1,4 +1,3 @@
-use Rattle.std.proofs.Common.{ap, sym, ◌∙◌}
 use Rattle.dft_insert.proofs.FirstLockup.{first_is}
 use Rattle.dft_insert.proofs.linking.lockup_cell.Goals as goal
 

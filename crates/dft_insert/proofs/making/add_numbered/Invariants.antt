@@ -1,4 +1,4 @@
-use Rattle.std.proofs.Common.{◌+◌, ◌-◌, length}
+use Rattle.std.proofs.Common.{◌-◌, length}
 use Rattle.dft_insert.specs.AddedPorts.{numbered_ports, ports_from}
 use Rattle.dft_insert.specs.Growing.{port_things, with_things}
 use Rattle.dft_insert.proofs.Completing.{Completes}

@@ -6,7 +6,7 @@ use Rattle.dft_netlist.specs.Netlist.{Netlist}
 use Rattle.dft_insert.specs.AddedPorts.{NewPort, numbered_ports}
 use Rattle.dft_insert.specs.Growing.{APort, next_port, with_thing, with_things}
 use Rattle.dft_insert.proofs.NumberedPorts.{port_at}
-use Rattle.dft_insert.proofs.ScanPorts.{bit_ports, parts, IsLeft, after_first, after_front}
+use Rattle.dft_insert.proofs.ScanPorts.{bit_ports, parts, after_first, after_front}
 use Rattle.dft_insert.proofs.making.add_scan_ports.Goals as goal
 
 pub add_numbered-requires : goal.add_numbered-requires

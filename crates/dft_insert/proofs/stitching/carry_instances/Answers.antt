@@ -1,6 +1,6 @@
-use Rattle.std.proofs.Common.{◌≡◌, ◌∙◌, ap, sym, refl, slice_get, length}
+use Rattle.std.proofs.Common.{◌∙◌, ap, sym, refl, slice_get, length}
 use Rattle.std.proofs.lemmas.Option.{slice_get_read}
-use Rattle.dft_insert.proofs.Livings.{pins_live}
+use Rattle.dft_insert.proofs.LiveNets.{pins_live}
 use Rattle.dft_insert.proofs.stitching.carry_instances.Goals as goal
 
 pub written-requires-clause-live : goal.written-requires-clause-live
