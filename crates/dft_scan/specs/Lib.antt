@@ -1,0 +1,4 @@
+pub mod Errors
+pub mod Reports
+pub mod Scans
+pub mod Refusals

@@ -1,0 +1,91 @@
+-- The report of a scan: how many cells and chains there are, how long the chains are, where each cell stands, and why the other
+-- flip-flops are not scanned.
+use Rattle.std.specs.Prelude.{ℕ, Bool, true, false, List, [], length, map, flat_map, count_by, Option, None, Some, option_and_then, slice_get, slice_index_or}
+use Rattle.std.specs.List.{filter_map, range_with_len}
+use Rattle.dft_base.specs.Lexing.{Text}
+use Rattle.dft_netlist.specs.declared.ids.InstanceId.{InstanceId}
+use Rattle.dft_netlist.specs.Netlist.{Netlist}
+use Rattle.dft_netlist.specs.Names.{instance_name}
+use Rattle.dft_config.specs.declared.config.Config.{Config}
+use Rattle.dft_rules.specs.declared.judged.Judged.{Judged}
+use Rattle.dft_rules.specs.declared.judged.Judged.TheVariants.{Scanned, Unscanned}
+use Rattle.dft_rules.specs.Rules.{judged, judgements}
+use Rattle.dft_rules.specs.Refusals.{is_scanned}
+use Rattle.dft_stitch.specs.Chains.{domain_of, plan_of}
+use Rattle.dft_report.specs.declared.report.ScannedLine.{ScannedLine}
+use Rattle.dft_report.specs.declared.report.UnscannedLine.{UnscannedLine}
+use Rattle.dft_report.specs.declared.report.Report.{Report}
+
+-- the name of an instance; a flip-flop has one, since it is a cell of the library
+abbrev pub name_of : Netlist → (instance : ℕ) → Option Text
+name_of n i = option_and_then instance_name (slice_get n.instances i)
+
+-- ---- scanned cells
+
+-- the name of the port of the domain in which a cell is scanned
+abbrev pub domain_name : Netlist → Config → InstanceId → Option Text
+domain_name n config cell = option_and_then (slice_get config.domains) (domain_of (judgements n config) cell)
+
+-- the line of a cell, by its name and its domain's
+abbrev pub scanned_as : (chain place : ℕ) → (name domain : Option Text) → Option ScannedLine
+scanned_as chain place (Some name) (Some domain) = Some (record { name = name; domain = domain; chain = chain; place = place })
+scanned_as chain place (Some name) None = None
+scanned_as chain place None domain = None
+
+-- the line of a cell that stands at a place
+abbrev pub scanned_line : Netlist → Config → (chain place : ℕ) → InstanceId → Option ScannedLine
+scanned_line n config chain place cell = scanned_as chain place (name_of n cell.0) (domain_name n config cell)
+
+-- the lines of a chain, from the scan input on
+abbrev pub scanned_in : Netlist → Config → (chain : ℕ) → List InstanceId → List ScannedLine
+scanned_in n config chain cells = filter_map (λ place. option_and_then (scanned_line n config chain place) (slice_get cells place)) (range_with_len 0 (length cells))
+
+-- the lines of all chains
+abbrev pub scanned_lines : Netlist → Config → (chains : List (List InstanceId)) → List ScannedLine
+scanned_lines n config chains = flat_map (λ chain. scanned_in n config chain (slice_index_or chains chain [])) (range_with_len 0 (length chains))
+
+-- ---- flip-flops that are not scanned
+
+abbrev pub is_unscanned : Option Judged → Bool
+is_unscanned None = false
+is_unscanned (Some (Scanned domain)) = false
+is_unscanned (Some (Unscanned rule)) = true
+
+-- the line of a flip-flop that is judged so, by its name
+abbrev pub unscanned_as : (name : Option Text) → Option Judged → Option UnscannedLine
+unscanned_as (Some name) (Some (Unscanned rule)) = Some (record { name = name; rule = rule })
+unscanned_as (Some name) (Some (Scanned domain)) = None
+unscanned_as (Some name) None = None
+unscanned_as None verdict = None
+
+abbrev pub unscanned_line : Netlist → Config → (instance : ℕ) → Option UnscannedLine
+unscanned_line n config i = unscanned_as (name_of n i) (judged n config i)
+
+-- by the order of the instances
+abbrev pub unscanned_lines : Netlist → Config → List UnscannedLine
+unscanned_lines n config = filter_map (unscanned_line n config) (range_with_len 0 (length n.instances))
+
+-- ---- the report
+
+-- how many flip-flops are scanned, and how many are judged and not scanned
+abbrev pub scanned_count : Netlist → Config → ℕ
+scanned_count n config = count_by is_scanned (judgements n config)
+
+abbrev pub unscanned_count : Netlist → Config → ℕ
+unscanned_count n config = count_by is_unscanned (judgements n config)
+
+abbrev pub chain_lengths : List (List InstanceId) → List ℕ
+chain_lengths chains = map (λ cells. length cells) chains
+
+-- no patterns are made, so there is no load, and there are no cubes
+abbrev pub report_with : Netlist → Config → (chains : List (List InstanceId)) → Report
+report_with n config chains = record {
+  header = record { cells = scanned_count n config; chains = length chains; load = None };
+  chains = chain_lengths chains;
+  scanned = scanned_lines n config chains;
+  unscanned = unscanned_lines n config;
+  cubes = [];
+}
+
+abbrev pub report_of : Netlist → Config → Report
+report_of n config = report_with n config (plan_of n config).chains

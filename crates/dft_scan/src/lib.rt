@@ -1,0 +1,10 @@
+//! The scan of a design: the text of its scanned netlist, its report, and what is counted.
+#![tactic(auto)]
+
+mod error;
+mod scanning;
+mod texts;
+
+pub use error::ScanError;
+pub use scanning::scan;
+pub use texts::{Counts, ScanTexts};
