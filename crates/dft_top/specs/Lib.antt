@@ -6,6 +6,7 @@ pub mod Answers
 pub mod Scanning
 pub mod Promises
 pub mod Saves
+pub mod Named
 pub mod Run
 pub mod Stops
 pub mod Laws

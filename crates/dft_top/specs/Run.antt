@@ -97,6 +97,13 @@ pub record EndsShort (command : Option Command) (o : Outcome) (before after : Se
   pub printed : after.printed ≡ before.printed
   pub answers : answer ≡ stopped OutOfMemory
 
+-- what is printed of an outcome: its line, or a prefix of it where the outside fails, or nothing where memory runs out
+abbrev pub Prints : Outcome → (faults faults' : ℕ) → (old new : Option (List ℕ)) → Answer → Type 0
+Prints o faults faults' old new answer =
+    ((answer ≡ answer_of o) × Adds (line_of o) old new)
+    ⊎ (Rose faults faults' × AddsPrefix (line_of o) old new × (answer ≡ stopped WriteFault))
+    ⊎ ((new ≡ old) × (answer ≡ stopped OutOfMemory))
+
 -- what becomes of an outcome
 abbrev pub IsDelivered : Option Command → Outcome → (before after : Seen) → Answer → Type 0
 IsDelivered command o before after answer =

@@ -27,6 +27,12 @@ savings None o = []
 savings (Some (Replay files)) o = []
 savings (Some (Scan files)) o = scan_savings files o
 
+-- the files that a command saves have different names
+abbrev pub SavesApart : Option Command → Type 0
+SavesApart None = Unit {0}
+SavesApart (Some (Replay files)) = Unit {0}
+SavesApart (Some (Scan files)) = files.out ≡ files.report → ⊥
+
 -- ---- files
 
 -- each of these files stands whole

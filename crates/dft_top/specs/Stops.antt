@@ -1,5 +1,5 @@
 -- What a step of a command gives, where it may stop.
-use Rattle.std.specs.Prelude.{ℕ, ◌≡◌, List, Option, Result, Ok, Err}
+use Rattle.std.specs.Prelude.{ℕ, ◌≡◌, List, Option, Some, Result, Ok, Err}
 use Rattle.dft_base.specs.Outside.{Held, Told, Rose}
 use Rattle.dft_top.specs.declared.answer.Refusal.{Refusal}
 use Rattle.dft_top.specs.declared.outcome.Outcome.{Outcome}
@@ -36,5 +36,5 @@ ComesTo is (Err ReadFault) = Unit {0}
 ComesTo is (Err OutOfMemory) = Unit {0}
 
 -- a load of the file with this name failed
-abbrev pub LoadFails : (name failed : List ℕ) → (faults faults' : ℕ) → Type 0
-LoadFails name failed faults faults' = Rose faults faults' × (failed ≡ name)
+abbrev pub LoadFails : (name : Option (List ℕ)) → (failed : List ℕ) → (faults faults' : ℕ) → Type 0
+LoadFails name failed faults faults' = Rose faults faults' × (name ≡ Some failed)
