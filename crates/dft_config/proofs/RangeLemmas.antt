@@ -21,7 +21,7 @@ use Rattle.dft_config.specs.Range.{IsInRange, IsSet, IsSeedInRange, has, all_dif
 use Rattle.dft_config.specs.Settings.{number, numbers, taps, injectors, phase, groups, domains, resets, keep, fill, port_name}
 use Rattle.dft_config.specs.Unknown.{first_unknown}
 use Rattle.dft_config.specs.Checks.{Test, first_failing, are_apart, each_differs, have_items, repetition_tests, emptiness_tests, first_repeated, first_empty, is_reached, first_not, first_unreached}
-use Rattle.dft_config.specs.Reading.{ring_of, compactor_of, names_of_ports, keys_of, reading}
+use Rattle.dft_config.specs.Reading.{ring_of, compactor_of, names_of_ports, keys_of, checked, reading}
 use Rattle.dft_config.proofs.BoundLemmas.{ok_after, ok_any, number_ok, numbers_ok, IsTapBelow, taps_ok, IsInjectorBelow, injectors_ok, AreBelow, phase_ok, AreGroups, groups_ok, domains_ok, resets_ok, fill_ok, IsFree, port_ok}
 use Rattle.dft_config.proofs.DistinctLemmas.{not_true}
 
@@ -195,13 +195,17 @@ ok_unless : {A B : Type 0} (o : Option A) (refused : A → Fault) (next : Result
 ok_unless None refused next Q h = h refl
 ok_unless (Some a) refused next Q h = tt
 
--- a configuration that a table gives is in range
-pub reading_ok : (table : Members) → IfOk (reading table) IsInRange
-unfolding reading
-reading_ok table =
-    ok_after (keys_of table) _ IsBounded IsInRange (keys_ok table) (λ config b.
+-- a configuration that passes its checks is in range
+checks_ok : (table : Members) (config : Config) → IsBounded config → IfOk (checked table config) IsInRange
+unfolding checked
+checks_ok table config b =
     ok_unless (first_unknown config.fill table) fault.Unknown _ IsInRange (λ known.
     ok_unless (first_repeated config) fault.Repeated _ IsInRange (λ differ.
     ok_unless (first_empty config) fault.Empty _ IsInRange (λ filled.
     ok_unless (first_unreached config) (λ chain. fault.Unreached (pos chain)) (Ok config) IsInRange (λ reached.
-    checked_ok config b (repetitions_passed config differ) (emptiness_passed config filled) (reached_ok config reached))))))
+    checked_ok config b (repetitions_passed config differ) (emptiness_passed config filled) (reached_ok config reached)))))
+
+-- a configuration that a table gives is in range
+pub reading_ok : (table : Members) → IfOk (reading table) IsInRange
+unfolding reading
+reading_ok table = ok_after (keys_of table) (checked table) IsBounded IsInRange (keys_ok table) (checks_ok table)

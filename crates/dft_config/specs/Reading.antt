@@ -74,13 +74,16 @@ keys_of table =
       names = names;
     })))))))))))))
 
--- the configuration of a table, or its first fault: its keys are read in order; then no key is unknown, nothing stands
--- twice, no list in a list is empty, and each chain stands in a group
-unfoldable pub reading : Members → Result Config Fault
-reading table =
-    after (keys_of table) (λ config.
+-- a configuration whose keys were read, or its first fault: no key is unknown, nothing stands twice, no list in a list is empty, and
+-- each chain stands in a group
+unfoldable pub checked : Members → Config → Result Config Fault
+checked table config =
     unless (first_unknown config.fill table) fault.Unknown (
     unless (first_repeated config) fault.Repeated (
     unless (first_empty config) fault.Empty (
     unless (first_unreached config) (λ chain. fault.Unreached (pos chain))
-    (Ok config)))))
+    (Ok config))))
+
+-- the configuration of a table, or its first fault: its keys are read in order, and then they are checked
+unfoldable pub reading : Members → Result Config Fault
+reading table = after (keys_of table) (checked table)

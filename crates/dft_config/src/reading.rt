@@ -1,6 +1,6 @@
 //! What a table gives: a configuration, or the first fault.
 
-ghost use Rattle.std.specs.Prelude.{◌≡◌, ◌≤◌, IfOk, IfErr, Ok, Err, option_map};
+ghost use Rattle.std.specs.Prelude.{◌≡◌, ◌≤◌, IfOk, IfErr, OnOk, Ok, Err, option_map};
 ghost use Rattle.toml.specs.View.{table_view};
 ghost use Rattle.dft_config.specs.Faults.{IsFault};
 ghost use Rattle.dft_config.specs.Reading as spec;
@@ -108,6 +108,27 @@ pub fn keys_of(alloc: Global, table: &Table) -> Result<Config, Fault>
     })
 }
 
+/// Refuses the first fault of a configuration whose keys were read.
+#[tactic(auto, unfolding(crate::specs::Reading::checked))]
+fn check(alloc: Global, config: &Config, table: &Table) -> Result<(), Fault>
+    ensures ok { OnOk result (spec.checked (table_view table.now) config.now ≡ Ok config.now) }
+    ensures refused { IfErr result (λ e. IsFault e → spec.checked (table_view table.now) config.now ≡ Err e) }
+{
+    if let Some(name) = first_unknown(alloc, config.fill, table)? {
+        return Err(Fault::Unknown(name));
+    }
+    if let Some(key) = first_repeated(alloc, config)? {
+        return Err(Fault::Repeated(key));
+    }
+    if let Some(key) = first_empty(config) {
+        return Err(Fault::Empty(key));
+    }
+    match first_unreached(alloc, config)? {
+        Some(chain) => Err(Fault::Unreached(i64::from(chain))),
+        None => Ok(()),
+    }
+}
+
 /// The configuration of a table, or its first fault.
 #[tactic(auto, unfolding(crate::specs::Reading::reading))]
 pub fn config_of(alloc: Global, table: &Table) -> Result<Config, Fault>
@@ -115,17 +136,6 @@ pub fn config_of(alloc: Global, table: &Table) -> Result<Config, Fault>
     ensures refused { IfErr result (λ e. IsFault e → spec.reading (table_view table.now) ≡ Err e) }
 {
     let config = keys_of(alloc, table)?;
-    if let Some(name) = first_unknown(alloc, config.fill, table)? {
-        return Err(Fault::Unknown(name));
-    }
-    if let Some(key) = first_repeated(alloc, &config)? {
-        return Err(Fault::Repeated(key));
-    }
-    if let Some(key) = first_empty(&config) {
-        return Err(Fault::Empty(key));
-    }
-    if let Some(chain) = first_unreached(alloc, &config)? {
-        return Err(Fault::Unreached(i64::from(chain)));
-    }
+    check(alloc, &config, table)?;
     Ok(config)
 }

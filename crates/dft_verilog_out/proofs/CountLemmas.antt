@@ -1,5 +1,5 @@
 -- How often a name stands among others.
-use Rattle.std.proofs.Common.{◌≡◌, ℕ, zero, suc, ◌+◌, ◌<◌, ◌≤◌, Bool, true, false, cond, eqb, List, [], ◌∷◌, ◌++◌, length, map, Option, Some, None, is_some, option_map, find, refl, sym, ap, ◌∙◌, arith, slice_get, ◌⊎◌, inl, inr}
+use Rattle.std.proofs.Common.{◌≡◌, ℕ, zero, suc, ◌+◌, ◌≤◌, Bool, true, false, cond, List, [], ◌∷◌, ◌++◌, map, Option, Some, None, find, refl, ap, arith, slice_get, ◌⊎◌, inl, inr}
 use Rattle.std.specs.Prelude.{◌||◌}
 use Rattle.std.specs.List.{filter_map, cons_option}
 use Rattle.std.specs.Option.{option_and_then}
@@ -7,15 +7,11 @@ use Rattle.std.specs.Str.{bytes_eq}
 use Rattle.std.proofs.lemmas.Slice.Eq.{bytes_eq-Decides}
 use Rattle.dft_base.specs.Lexing.{Text}
 use Rattle.dft_cells.specs.WellFormed.{has_name}
-use Rattle.dft_netlist.specs.declared.ids.NetId.{NetId}
-use Rattle.dft_netlist.specs.declared.port.Port.{Port}
-use Rattle.dft_netlist.specs.declared.instance.Instance.{Instance}
 use Rattle.dft_netlist.specs.declared.named.Named.{Named}
 use Rattle.dft_netlist.specs.declared.named.Named.TheVariants as named
 use Rattle.dft_netlist.specs.Netlist.{Netlist}
-use Rattle.dft_netlist.specs.Names.{Names, NamesDiffer, bit_names, port_names, names_taken, is_taken, first_taken, vector_name, instance_name}
-use Rattle.dft_netlist.specs.Sound.{bit_names_of}
-use Rattle.dft_netlist.specs.Modules.{Entry, names_of_bits}
+use Rattle.dft_netlist.specs.Names.{NamesDiffer, names_taken, vector_name, instance_name}
+use Rattle.dft_netlist.specs.Modules.{Entry}
 
 abbrev pub one_if : Bool → ℕ
 one_if b = cond b 1 0

@@ -1,14 +1,14 @@
 -- The written pieces are cut into their tokens.
-use Rattle.std.proofs.Common.{◌≡◌, ℕ, zero, suc, ◌+◌, ◌-◌, ◌<◌, ◌≤◌, Bool, true, false, not, cond, eqb, ltb, List, [], ◌∷◌, ◌++◌, length, take, drop, codes, decimal, refl, sym, ap, ◌∙◌, arith, get_or, length-append, append_assoc, leb, Option, Some, None}
+use Rattle.std.proofs.Common.{◌≡◌, ℕ, suc, ◌+◌, ◌-◌, ◌<◌, ◌≤◌, Bool, true, false, not, cond, eqb, ltb, List, [], ◌∷◌, ◌++◌, length, take, drop, codes, decimal, refl, sym, ap, ◌∙◌, arith, get_or, length-append, append_assoc, leb, Some, None}
 use Rattle.std.specs.Prelude.{◌&&◌, ◌||◌}
-use Rattle.std.specs.List.{prefix_len, list_all, All}
+use Rattle.std.specs.List.{prefix_len, list_all}
 use Rattle.std.specs.Str.{bytes_eq}
 use Rattle.std.specs.Char.{is_ascii_digit}
 use Rattle.std.proofs.lemmas.Bool.Decides.{nat_tests}
 use Rattle.std.proofs.lemmas.Slice.Eq.{bytes_eq-Decides}
 use Rattle.std.proofs.lemmas.List.Sums.{list_all-from_AllPass}
 use Rattle.std.proofs.Math.Seq.{take-append_seam, drop-append_seam}
-use Rattle.std.specs.Str.Parse.{digits_value, IsNumeral}
+use Rattle.std.specs.Str.Parse.{digits_value}
 use Rattle.std.proofs.lemmas.Fmt.{decimal_is_IsNumeral, length-decimal-le, decimal_nonempty, digits_decimal}
 use Rattle.std.proofs.lemmas.Str.Parse.{numerals_by_value, tells_by_index}
 use Rattle.std.proofs.lemmas.List.Elements.{All-from_get_or}
@@ -19,7 +19,7 @@ use Rattle.dft_base.specs.Words.{begins_word, continues_word, is_reserved, is_wo
 use Rattle.dft_base.proofs.LexingLemmas.{tokens_from-cut}
 use Rattle.dft_netlist.specs.declared.text.TokenKind.{TokenKind}
 use Rattle.dft_netlist.specs.declared.text.TokenKind.TheVariants as kind
-use Rattle.dft_netlist.specs.Lexemes.{Token, Lexeme, tokens, front, lexeme, token_of, blank_len, is_base_kind, word_kind, mark_kind, escaped, quote, is_space, is_printed, is_in_digits, word_len}
+use Rattle.dft_netlist.specs.Lexemes.{Token, Lexeme, tokens, front, lexeme, token_of, blank_len, is_base_kind, word_kind, mark_kind, escaped, quote, is_space, is_printed, word_len}
 use Rattle.dft_verilog_out.specs.Written.{name_text}
 
 -- the tokens of a text, as a word that does not compute

@@ -1,25 +1,16 @@
 -- What a draft holds after each declaration.
-use Rattle.std.proofs.Common.{◌≡◌, ℕ, zero, suc, ◌+◌, ◌-◌, ◌<◌, ◌≤◌, Bool, true, false, not, cond, eqb, leb, ltb, List, [], ◌∷◌, ◌++◌, length, map, Option, Some, None, is_some, option_map, find, Ok, refl, sym, ap, ◌∙◌, subst, arith, slice_get, slice_set, append_assoc, append-nil, length-append}
-use Rattle.std.specs.Option.{option_and_then}
+use Rattle.std.proofs.Common.{◌≡◌, ℕ, ◌+◌, ◌<◌, ◌≤◌, Bool, true, false, cond, leb, ltb, List, [], ◌∷◌, ◌++◌, length, map, Option, Some, None, is_some, option_map, Ok, refl, sym, ap, ◌∙◌, arith, slice_set, append_assoc, append-nil}
 use Rattle.std.specs.Str.{bytes_eq}
 use Rattle.std.proofs.lemmas.Bool.Decides.{nat_tests}
 use Rattle.dft_base.specs.declared.place.Range.{Range}
 use Rattle.dft_base.specs.Lexing.{Text}
-use Rattle.dft_cells.specs.declared.cell.Cell.{Cell}
-use Rattle.dft_netlist.specs.declared.ids.NetId.{NetId}
 use Rattle.dft_netlist.specs.declared.port.Dir.{Dir}
-use Rattle.dft_netlist.specs.declared.port.Port.{Port}
-use Rattle.dft_netlist.specs.declared.text.Cause.TheVariants as cause
-use Rattle.dft_netlist.specs.declared.error.Counted.TheVariants as counted
 use Rattle.dft_netlist.specs.declared.limits.TheConstants.{MAX_PORTS, MAX_NETS, MAX_INSTANCES}
-use Rattle.dft_netlist.specs.declared.text.Shape.{Shape}
 use Rattle.dft_netlist.specs.declared.text.Meaning.{Meaning}
 use Rattle.dft_netlist.specs.declared.text.Meaning.TheVariants as meaning
-use Rattle.dft_netlist.specs.declared.text.Declared.{Declared}
 use Rattle.dft_netlist.specs.Names.{bit_names}
-use Rattle.dft_netlist.specs.Steps.{fault}
-use Rattle.dft_netlist.specs.Modules.{HeaderPort, Entry, Draft, meaning_of, is_taken, with_name, net_count, names_of_bits, first_taken, free_bits, room_for_nets, with_bits, next_shape, with_nets, declare_nets, declared_at, port_place, announce, with_declared, declare_at, declare_found, declare_port, declare_wire, declare_wire_as, room_for_instance, name_instance}
-use Rattle.dft_verilog_out.proofs.CountLemmas.{times, Once, times-append, times-head, look, words, look-none, look-kept, look-new}
+use Rattle.dft_netlist.specs.Modules.{Entry, Draft, meaning_of, is_taken, with_name, net_count, names_of_bits, first_taken, with_bits, next_shape, declared_at, announce, declare_port, declare_wire, room_for_instance, name_instance}
+use Rattle.dft_verilog_out.proofs.CountLemmas.{times, Once, times-append, times-head, look, words, look-none}
 
 -- a name, and what it stands for
 abbrev pub entry : Text → Meaning → Entry

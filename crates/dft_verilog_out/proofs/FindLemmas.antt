@@ -1,6 +1,6 @@
 -- Cells and pins are found by their names.
-use Rattle.std.proofs.Common.{ℕ, zero, suc, ◌≡◌, ◌+◌, ◌<◌, Bool, true, false, not, cond, ltb, List, [], ◌∷◌, map, length, Option, Some, None, option_map, Ordering, Less, Equal, Greater, nat_cmp, is_eq, is_lt, position, slice_get, refl, sym, ap, ◌∙◌, zero-add, arith}
-use Rattle.std.specs.Prelude.{◌&&◌, ◌||◌}
+use Rattle.std.proofs.Common.{ℕ, zero, suc, ◌≡◌, ◌+◌, Bool, true, false, not, cond, ltb, List, [], ◌∷◌, map, length, Some, None, option_map, Ordering, Less, Equal, Greater, nat_cmp, is_eq, is_lt, position, slice_get, refl, sym, ap, ◌∙◌, zero-add, arith}
+use Rattle.std.specs.Prelude.{◌||◌}
 use Rattle.std.specs.Str.{bytes_eq}
 use Rattle.std.specs.Cmp.Lexicographic.{slice_cmp}
 use Rattle.std.proofs.lemmas.Slice.Eq.{bytes_eq-Decides}

@@ -1,5 +1,5 @@
 -- The written form, one part more.
-use Rattle.std.proofs.Common.{◌≡◌, ℕ, zero, suc, ◌+◌, ◌-◌, ◌<◌, ◌≤◌, Bool, true, false, cond, List, [], ◌∷◌, ◌++◌, length, map, flat_map, drop, take, get_or, codes, Option, Some, None, refl, sym, ap, ◌∙◌, arith, append_assoc, add-one, slice_get, length-append, subst, ◌⊎◌, inl, inr}
+use Rattle.std.proofs.Common.{◌≡◌, ℕ, zero, suc, ◌+◌, ◌-◌, ◌<◌, ◌≤◌, true, false, List, [], ◌∷◌, ◌++◌, length, map, flat_map, drop, take, get_or, codes, Option, Some, None, refl, sym, ap, ◌∙◌, arith, append_assoc, add-one, slice_get, length-append, subst, inl, inr}
 use Rattle.std.proofs.lemmas.List.{length-map, length-drop, take_all}
 use Rattle.dft_base.specs.declared.place.Range.{Range}
 use Rattle.dft_base.specs.Lexing.{Text}

@@ -1,21 +1,16 @@
 -- Written instances are read as themselves.
-use Rattle.std.proofs.Common.{◌≡◌, ℕ, zero, suc, ◌+◌, ◌-◌, ◌<◌, ◌≤◌, Bool, true, false, not, cond, eqb, leb, List, [], ◌∷◌, ◌++◌, length, map, take, drop, codes, Option, Some, None, Ok, refl, sym, ap, ◌∙◌, subst, arith, append_assoc, append-nil, length-append, slice_get, slice_set, replicate}
-use Rattle.std.proofs.lemmas.Bool.Decides.{nat_tests}
+use Rattle.std.proofs.Common.{◌≡◌, ℕ, zero, suc, ◌<◌, ◌≤◌, Bool, true, false, cond, List, [], ◌∷◌, ◌++◌, length, map, codes, Option, Some, None, Ok, refl, sym, ap, ◌∙◌, subst, arith, append_assoc, append-nil, length-append, slice_get, slice_set, replicate}
 use Rattle.std.proofs.lemmas.List.{length-map}
 use Rattle.dft_base.specs.Lexing.{Text}
 use Rattle.dft_base.specs.Name.{IsName}
 use Rattle.dft_cells.specs.declared.kind.Kind.{Kind}
 use Rattle.dft_cells.specs.declared.kind.Kind.TheVariants as primitive
-use Rattle.dft_cells.specs.declared.kind.Role.{Role}
 use Rattle.dft_cells.specs.declared.cell.CellId.{CellId}
 use Rattle.dft_cells.specs.declared.cell.Pin.{Pin}
 use Rattle.dft_cells.specs.declared.cell.Cell.{Cell}
 use Rattle.dft_cells.specs.Cells.{find_cell}
-use Rattle.dft_cells.specs.WellFormed.{TakesInputs}
-use Rattle.dft_netlist.specs.declared.ids.NetId.{NetId}
 use Rattle.dft_netlist.specs.declared.instance.Signal.{Signal}
 use Rattle.dft_netlist.specs.declared.instance.Signal.TheVariants as signal
-use Rattle.dft_netlist.specs.declared.instance.Instance.{Instance}
 use Rattle.dft_netlist.specs.declared.text.TokenKind.{TokenKind}
 use Rattle.dft_netlist.specs.declared.text.TokenKind.TheVariants as kind
 use Rattle.dft_netlist.specs.declared.text.Site.{Site}
@@ -25,11 +20,11 @@ use Rattle.dft_netlist.specs.Lexemes.{Token}
 use Rattle.dft_netlist.specs.Steps.{kind_of, left, same_kind, sees}
 use Rattle.dft_netlist.specs.Modules.{Draft, name_instance, room_for_instance, with_instance}
 use Rattle.dft_netlist.specs.Expressions.{ends, expression}
-use Rattle.dft_netlist.specs.Items.{item, terminal, inputs_from, inputs, has_inputs, gate_instance, terminals, Joined, Connected, unjoined, pin_place, is_driving, pin_drives, was_joined, connection, connections_from, connections, signal_at, cell_instance}
-use Rattle.dft_verilog_out.specs.Written.{name_text, signal_text, listed, listed_behind, joined_text, is_joined, connections_of, gate_text, own_name_text, output_first, gate_line, cell_line}
+use Rattle.dft_netlist.specs.Items.{item, inputs_from, inputs, has_inputs, gate_instance, terminals, Joined, Connected, unjoined, pin_place, is_driving, pin_drives, was_joined, connection, connections_from, connections, signal_at, cell_instance}
+use Rattle.dft_verilog_out.specs.Written.{name_text, signal_text, listed, listed_behind, joined_text, is_joined, connections_of, gate_text, own_name_text}
 use Rattle.dft_verilog_out.proofs.CutLemmas.{cut_up, token, cut_up-buf, cut_up-not, cut_up-and, cut_up-nand, cut_up-or, cut_up-nor, cut_up-xor, cut_up-xnor, cut_up-point, cut_up-comma, cut_up-close, cut_up-semicolon, cut_up-space, cut_up-line, cut_up-opened, name_at, Opens}
 use Rattle.dft_verilog_out.proofs.ItemLemmas.{gate_token, gate-named, gate-unnamed, terminal-at, inputs_from-more, inputs_from-end, terminals-at, connection-at, cell-at, connections-none, connections-some, connections_from-more, connections_from-end}
-use Rattle.dft_verilog_out.proofs.OperandLemmas.{Follower, AClose, AComma, ASemicolon, AnEquals, follow, follow_kind, follow_at, Operand}
+use Rattle.dft_verilog_out.proofs.OperandLemmas.{Follower, AClose, AComma, follow, follow_kind, Operand}
 use Rattle.dft_verilog_out.proofs.LineLemmas.{Line}
 
 -- ---- lists

@@ -1,5 +1,5 @@
 -- The rules of items at the tokens of what is written.
-use Rattle.std.proofs.Common.{◌≡◌, ℕ, zero, suc, Bool, true, false, not, List, [], ◌∷◌, ◌++◌, length, map, Option, Some, None, Result, Ok, Err, slice_get, slice_set, refl, sym, ap, ◌∙◌}
+use Rattle.std.proofs.Common.{◌≡◌, ℕ, zero, suc, Bool, true, false, List, [], ◌∷◌, ◌++◌, length, Option, Some, None, Ok, slice_get, slice_set, refl, ◌∙◌}
 use Rattle.dft_base.specs.declared.place.Range.{Range}
 use Rattle.dft_base.specs.Lexing.{Text}
 use Rattle.dft_cells.specs.declared.kind.Kind.{Kind}
@@ -14,13 +14,12 @@ use Rattle.dft_netlist.specs.declared.instance.Signal.{Signal}
 use Rattle.dft_netlist.specs.declared.instance.Signal.TheVariants as signal
 use Rattle.dft_netlist.specs.declared.text.TokenKind.{TokenKind}
 use Rattle.dft_netlist.specs.declared.text.TokenKind.TheVariants as kind
-use Rattle.dft_netlist.specs.declared.text.Site.{Site}
 use Rattle.dft_netlist.specs.declared.text.Site.TheVariants as site
 use Rattle.dft_netlist.specs.Lexemes.{Token}
 use Rattle.dft_netlist.specs.Steps.{kind_of, bytes, left, next, same_kind, sees, expect, after}
 use Rattle.dft_netlist.specs.Modules.{Draft, begun, announce, declare_port, declare_wire, name_instance, room_for_instance, with_instance, with_join}
 use Rattle.dft_netlist.specs.Expressions.{range_if_any, expression}
-use Rattle.dft_netlist.specs.Items.{Declaring, Ports, Wires, declare, declared_name, declared_names_from, declared_names, declaration, port_item, wire_item, right_side, assignment, assignments_from, assignments, assign_item, terminal, inputs_from, inputs, has_inputs, gate_instance, terminals, named_gate, unnamed_gate, one_gate, gates_from, gates, gate_item, gate_kind, Joined, Connected, unjoined, pin_place, pin_drives, was_joined, pin_name, pin_signal, pin_content, connection, connections_from, some_connections, connections, cell_instance, instance, instances_from, instances, cell_item, item, items_from, items}
+use Rattle.dft_netlist.specs.Items.{Declaring, Ports, Wires, declare, declared_name, declared_names_from, declared_names, declaration, port_item, wire_item, right_side, assignment, assignments_from, assignments, assign_item, terminal, inputs_from, inputs, has_inputs, gate_instance, terminals, named_gate, unnamed_gate, one_gate, gates_from, gates, gate_item, Joined, Connected, unjoined, pin_place, pin_drives, was_joined, pin_name, pin_signal, pin_content, connection, connections_from, some_connections, connections, cell_instance, instance, instances_from, instances, cell_item, item, items_from, items}
 use Rattle.dft_netlist.specs.Sound.{is_primitive}
 use Rattle.dft_base.specs.Parser.{value_of}
 use Rattle.dft_netlist.specs.NetlistText.{announced_name, announced_names_from, announced_names, header_names, header, heading, first_undeclared, module_end, end_of_text, module_text}

@@ -1,12 +1,11 @@
 -- A test of lists is true of each member; so a netlist whose gates pass the test can be written.
 use native.Mathlib.Omega.{arith}
-use Rattle.std.specs.Prelude.{ℕ, zero, suc, ◌≡◌, refl, Bool, true, false, ◌&&◌, List, [], ◌∷◌, Option, Some, slice_get}
+use Rattle.std.specs.Prelude.{ℕ, zero, suc, ◌≡◌, Bool, true, List, [], ◌∷◌, Option, Some, slice_get}
 use Rattle.std.specs.List.{list_all}
 use Rattle.dft_netlist.specs.declared.instance.Signal.{Signal}
 use Rattle.dft_netlist.specs.declared.instance.Signal.TheVariants.{Net, Constant, Unconnected}
 use Rattle.dft_netlist.specs.declared.instance.CellRef.{CellRef}
 use Rattle.dft_netlist.specs.declared.instance.CellRef.TheVariants.{Library, Gate}
-use Rattle.dft_netlist.specs.declared.instance.Instance.{Instance}
 use Rattle.dft_netlist.specs.Netlist.{Netlist}
 use Rattle.dft_netlist.specs.Sound.{IsConnected}
 use Rattle.dft_verilog_out.specs.Written.{is_joined}

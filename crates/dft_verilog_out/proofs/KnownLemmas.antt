@@ -1,5 +1,5 @@
 -- What the names of a draft stand for, once ports and other nets are declared.
-use Rattle.std.proofs.Common.{◌≡◌, ℕ, zero, suc, ◌+◌, ◌-◌, ◌<◌, ◌≤◌, Bool, true, false, cond, leb, List, [], ◌∷◌, ◌++◌, length, map, flat_map, get_or, Option, Some, None, refl, sym, ap, ◌∙◌, subst, arith, append_assoc, append-nil, length-append, slice_get}
+use Rattle.std.proofs.Common.{◌≡◌, ℕ, zero, suc, ◌+◌, ◌-◌, ◌<◌, ◌≤◌, Bool, true, false, List, [], ◌∷◌, ◌++◌, length, map, flat_map, get_or, Option, Some, None, refl, sym, ap, ◌∙◌, subst, arith, append_assoc, length-append, slice_get}
 use Rattle.std.specs.Prelude.{nat_le}
 use Rattle.std.specs.List.{filter_map, cons_option}
 use Rattle.std.specs.Option.{option_and_then}
@@ -8,10 +8,8 @@ use Rattle.std.proofs.lemmas.Bool.Decides.{nat_tests}
 use Rattle.dft_base.specs.declared.place.Range.{Range}
 use Rattle.dft_base.specs.Lexing.{Text}
 use Rattle.dft_base.specs.Name.{IsName}
-use Rattle.dft_netlist.specs.declared.ids.NetId.{NetId}
 use Rattle.dft_netlist.specs.declared.port.Port.{Port}
 use Rattle.dft_netlist.specs.declared.text.Meaning.TheVariants as meaning
-use Rattle.dft_netlist.specs.declared.text.Shape.{Shape}
 use Rattle.dft_netlist.specs.declared.text.Declared.{Declared}
 use Rattle.dft_netlist.specs.Netlist.{Netlist}
 use Rattle.dft_netlist.specs.Names.{bit_names, indices_of, going_up, going_down, names_taken, vector_name, vector_name_in, instance_name}
@@ -19,14 +17,14 @@ use Rattle.dft_netlist.specs.Sound.{bit_names_of}
 use Rattle.dft_netlist.specs.Modules.{HeaderPort, Entry, names_of_bits}
 use Rattle.dft_netlist.specs.Expressions.{has_index, place_in}
 use Rattle.dft_netlist.proofs.BitLemmas.{rising, falling}
-use Rattle.dft_verilog_out.specs.Named.{IsSmallRange, IsNamedPort}
+use Rattle.dft_verilog_out.specs.Named.{IsSmallRange}
 use Rattle.dft_verilog_out.specs.Written.{name_text, bit_text, bit_texts, port_texts}
 use Rattle.dft_verilog_out.proofs.FormLemmas.{length-bit_texts}
 use Rattle.dft_verilog_out.proofs.CutLemmas.{IsSmall}
-use Rattle.dft_verilog_out.proofs.CountLemmas.{times, times-append, times-head, one_if, Once, look, look-new, words}
+use Rattle.dft_verilog_out.proofs.CountLemmas.{times, times-append, times-head, one_if, Once, look-new, words}
 use Rattle.dft_verilog_out.proofs.DraftLemmas.{entry, words-append}
 use Rattle.dft_verilog_out.proofs.OperandLemmas.{Known, AsNets, AsPort, NetAt, Whole, BitOf, NetsAt}
-use Rattle.dft_verilog_out.proofs.PhaseLemmas.{IsAnnounced, AreAnnounced, GoodPorts, AllNames, declared_port, declared_ports, bit_words, wire_entries, get_at}
+use Rattle.dft_verilog_out.proofs.PhaseLemmas.{AreAnnounced, GoodPorts, AllNames, declared_port, declared_ports, bit_words, wire_entries, get_at}
 use Rattle.dft_verilog_out.proofs.HeaderLemmas.{header_entries, header_words}
 
 -- ---- texts as nets, one after another

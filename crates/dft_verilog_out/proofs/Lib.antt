@@ -15,4 +15,7 @@ pub mod KnownLemmas
 pub mod BuiltLemmas
 pub mod RoundTrip
 pub mod JoinedLemmas
+pub mod JoinedDrafts
+pub mod JoinedItems
+pub mod JoinedTexts
 mod WorkedText

@@ -1,12 +1,11 @@
 -- Written lines are read as items: ports, other nets and joins.
-use Rattle.std.proofs.Common.{◌≡◌, ℕ, zero, suc, ◌+◌, ◌-◌, ◌<◌, ◌≤◌, Bool, true, false, List, [], ◌∷◌, ◌++◌, length, map, flat_map, codes, decimal, Option, Some, None, Ok, refl, sym, ap, ◌∙◌, subst, arith, append_assoc, length-append}
+use Rattle.std.proofs.Common.{◌≡◌, ℕ, zero, suc, ◌+◌, ◌<◌, ◌≤◌, false, List, [], ◌∷◌, ◌++◌, length, codes, decimal, Option, Some, None, Ok, refl, sym, ap, ◌∙◌, subst, arith, append_assoc, length-append}
 use Rattle.dft_base.specs.declared.place.Range.{Range}
 use Rattle.dft_base.specs.Lexing.{Text}
 use Rattle.dft_base.specs.Name.{IsName}
 use Rattle.dft_netlist.specs.declared.port.Dir.{Dir}
 use Rattle.dft_netlist.specs.declared.port.Dir.TheVariants as dir
 use Rattle.dft_netlist.specs.declared.port.Port.{Port}
-use Rattle.dft_netlist.specs.declared.instance.Signal.{Signal}
 use Rattle.dft_netlist.specs.declared.instance.Signal.TheVariants as signal
 use Rattle.dft_netlist.specs.declared.instance.Join.{Join}
 use Rattle.dft_netlist.specs.declared.text.TokenKind.{TokenKind}
@@ -15,14 +14,14 @@ use Rattle.dft_netlist.specs.declared.text.Site.TheVariants as site
 use Rattle.dft_netlist.specs.Lexemes.{Token}
 use Rattle.dft_netlist.specs.Steps.{kind_of, left, same_kind, sees}
 use Rattle.dft_netlist.specs.Modules.{Draft, declare_port, declare_wire, with_join}
-use Rattle.dft_netlist.specs.Expressions.{small_number, range_if_any}
+use Rattle.dft_netlist.specs.Expressions.{range_if_any}
 use Rattle.dft_netlist.specs.Items.{item, items_from}
 use Rattle.dft_verilog_out.specs.Named.{IsSmallRange}
 use Rattle.dft_verilog_out.specs.Written.{name_text, signal_text, dir_text, range_text, port_line, wire_line, join_line}
-use Rattle.dft_verilog_out.proofs.CutLemmas.{cut_up, token, cut_up-input, cut_up-output, cut_up-wire, cut_up-assign, cut_up-open_bracket, cut_up-close_bracket, cut_up-colon, cut_up-space, name_at, IsSmall, number_at}
+use Rattle.dft_verilog_out.proofs.CutLemmas.{cut_up, token, cut_up-input, cut_up-output, cut_up-wire, cut_up-assign, cut_up-open_bracket, cut_up-close_bracket, cut_up-colon, cut_up-space, name_at, number_at}
 use Rattle.dft_verilog_out.proofs.RuleLemmas.{range_tokens, range-at}
 use Rattle.dft_verilog_out.proofs.ItemLemmas.{wire-at, dir_kind, port-at, no_range-at, join-at, items_from-more}
-use Rattle.dft_verilog_out.proofs.OperandLemmas.{AClose, AComma, ASemicolon, AnEquals, follow, follow_at, Operand}
+use Rattle.dft_verilog_out.proofs.OperandLemmas.{ASemicolon, AnEquals, follow, follow_at, Operand}
 
 -- ---- steps from draft to draft
 

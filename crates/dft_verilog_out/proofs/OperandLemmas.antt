@@ -1,9 +1,7 @@
 -- Nets and constants, where they are written, are read as themselves.
-use Rattle.std.proofs.Common.{◌≡◌, ℕ, zero, suc, ◌+◌, ◌<◌, ◌≤◌, Bool, true, false, not, cond, List, [], ◌∷◌, ◌++◌, length, map, get_or, codes, decimal, Option, Some, None, Result, Ok, Err, refl, sym, ap, ◌∙◌, subst, arith, slice_get, append_assoc, ◌⊎◌, inl, inr}
+use Rattle.std.proofs.Common.{◌≡◌, ℕ, suc, ◌+◌, ◌<◌, Bool, true, false, not, cond, List, [], ◌∷◌, ◌++◌, length, get_or, decimal, Some, None, Ok, refl, sym, ap, ◌∙◌, subst, arith, slice_get, append_assoc}
 use Rattle.std.specs.Prelude.{◌&&◌, ◌||◌}
 use Rattle.std.specs.Option.{option_and_then}
-use Rattle.std.specs.Char.{is_ascii_digit}
-use Rattle.std.proofs.lemmas.Bool.Decides.{nat_tests}
 use Rattle.dft_base.specs.declared.place.Range.{Range}
 use Rattle.dft_base.specs.Lexing.{Text}
 use Rattle.dft_base.specs.Name.{IsName}
@@ -14,7 +12,6 @@ use Rattle.dft_netlist.specs.declared.instance.Signal.TheVariants as signal
 use Rattle.dft_netlist.specs.declared.text.TokenKind.{TokenKind}
 use Rattle.dft_netlist.specs.declared.text.TokenKind.TheVariants as kind
 use Rattle.dft_netlist.specs.declared.text.Shape.{Shape}
-use Rattle.dft_netlist.specs.declared.text.Meaning.{Meaning}
 use Rattle.dft_netlist.specs.declared.text.Meaning.TheVariants as meaning
 use Rattle.dft_netlist.specs.declared.text.Declared.{Declared}
 use Rattle.dft_netlist.specs.declared.text.Select.{Select}
@@ -23,12 +20,12 @@ use Rattle.dft_netlist.specs.declared.text.Site.{Site}
 use Rattle.dft_netlist.specs.declared.text.Site.TheVariants as site
 use Rattle.dft_netlist.specs.Sound.{IsLive, IsConnected}
 use Rattle.dft_netlist.specs.Lexemes.{Token}
-use Rattle.dft_netlist.specs.Steps.{kind_of, bytes, left, next, same_kind, sees}
-use Rattle.dft_netlist.specs.Modules.{HeaderPort, Entry, Draft, meaning_of, declared_at}
-use Rattle.dft_netlist.specs.Expressions.{small_number, Named, bits_of_meaning, bits_of_name, bits_of_port, fitting, selected, selected_in, implies, is_whole, drives, ends, has_index, place_in, nets_of_shape, expression}
+use Rattle.dft_netlist.specs.Steps.{kind_of, left, same_kind, sees}
+use Rattle.dft_netlist.specs.Modules.{HeaderPort, Entry, Draft, meaning_of}
+use Rattle.dft_netlist.specs.Expressions.{small_number, bits_of_meaning, fitting, selected, implies, drives, ends, has_index, place_in, expression}
 use Rattle.dft_verilog_out.specs.Written.{name_text, bit_text, signal_text}
-use Rattle.dft_verilog_out.proofs.CutLemmas.{cut_up, token, digit, constant_tokens, Ending, Close, Comma, Semicolon, Space, cut_up-constant, cut_up-close, cut_up-comma, cut_up-semicolon, cut_up-equals, cut_up-open_bracket, cut_up-close_bracket, cut_up-space, cut_up-line, NameAt, name_at, IsSmall, NumberAt, number_at, Opens}
-use Rattle.dft_verilog_out.proofs.RuleLemmas.{named, whole-at, bit-at, constant-at}
+use Rattle.dft_verilog_out.proofs.CutLemmas.{cut_up, token, digit, constant_tokens, Close, Comma, Semicolon, Space, cut_up-constant, cut_up-close, cut_up-comma, cut_up-semicolon, cut_up-equals, cut_up-open_bracket, cut_up-close_bracket, cut_up-space, cut_up-line, name_at, IsSmall, number_at, Opens}
+use Rattle.dft_verilog_out.proofs.RuleLemmas.{whole-at, bit-at, constant-at}
 use Rattle.dft_verilog_out.proofs.CountLemmas.{look, look-kept}
 use Rattle.dft_verilog_out.proofs.DraftLemmas.{entry, meaning_some}
 

@@ -1,21 +1,17 @@
 -- The lines of joins and of instances, one after another.
-use Rattle.std.proofs.Common.{◌≡◌, ℕ, zero, suc, ◌+◌, ◌-◌, ◌<◌, ◌≤◌, Bool, true, false, not, cond, eqb, leb, List, [], ◌∷◌, ◌++◌, length, map, flat_map, take, drop, get_or, codes, Option, Some, None, Ok, IsTrue, IsSome, refl, sym, ap, ◌∙◌, subst, arith, append_assoc, append-nil, length-append, slice_get}
+use Rattle.std.proofs.Common.{◌≡◌, ℕ, zero, suc, ◌+◌, ◌-◌, ◌<◌, ◌≤◌, Bool, true, false, List, [], ◌∷◌, ◌++◌, length, map, flat_map, get_or, Option, Some, None, refl, sym, ap, ◌∙◌, subst, arith, append_assoc, append-nil, length-append, slice_get}
 use Rattle.std.specs.List.{filter_map, cons_option}
 use Rattle.std.proofs.lemmas.Bool.Decides.{nat_tests}
 use Rattle.std.proofs.lemmas.List.{length-map}
-use Rattle.std.proofs.lemmas.Option.{slice_get-get_or}
 use Rattle.std.proofs.Math.Seq.{take-append_seam, drop-append_seam}
 use Rattle.dft_base.specs.Lexing.{Text}
-use Rattle.dft_base.specs.Name.{IsName}
 use Rattle.dft_cells.specs.declared.kind.Kind.{Kind}
 use Rattle.dft_cells.specs.declared.kind.Kind.TheVariants as primitive
 use Rattle.dft_cells.specs.declared.kind.Role.{Role}
 use Rattle.dft_cells.specs.declared.kind.Role.TheVariants as role
-use Rattle.dft_cells.specs.declared.cell.CellId.{CellId}
 use Rattle.dft_cells.specs.declared.cell.Pin.{Pin}
 use Rattle.dft_cells.specs.declared.cell.Cell.{Cell}
 use Rattle.dft_cells.specs.WellFormed.{TakesInputs, IsWellFormed, all_differ, pin_name}
-use Rattle.dft_netlist.specs.declared.ids.NetId.{NetId}
 use Rattle.dft_netlist.specs.declared.instance.Signal.{Signal}
 use Rattle.dft_netlist.specs.declared.instance.Signal.TheVariants as signal
 use Rattle.dft_netlist.specs.declared.instance.CellRef.{CellRef}
@@ -29,18 +25,18 @@ use Rattle.dft_netlist.specs.declared.text.Site.TheVariants as site
 use Rattle.dft_netlist.specs.Netlist.{Netlist}
 use Rattle.dft_netlist.specs.Names.{instance_name}
 use Rattle.dft_netlist.specs.Drivers.{shape_of, shape_of_cell, gate_roles}
-use Rattle.dft_netlist.specs.Sound.{is_primitive, IsCellOf, IsLive, AreLive, IsInstance, IsConnected, IsAJoin, NoConstantOutput, is_output}
-use Rattle.dft_netlist.specs.Modules.{HeaderPort, Entry, Draft, name_instance, room_for_instance, with_instance, with_join, with_name}
+use Rattle.dft_netlist.specs.Sound.{is_primitive, IsLive, AreLive, IsInstance, IsConnected, IsAJoin, is_output}
+use Rattle.dft_netlist.specs.Modules.{HeaderPort, Entry, Draft}
 use Rattle.dft_netlist.specs.Expressions.{drives}
 use Rattle.dft_netlist.specs.Items.{has_inputs, gate_instance, is_driving, cell_instance}
-use Rattle.dft_verilog_out.specs.Named.{IsOwnName, IsNamedCell, HasNamedCell, IsNamedInstance, IsJoinedGate}
-use Rattle.dft_verilog_out.specs.Written.{name_text, signal_text, listed, join_line, is_joined, connections_of, output_first, gate_text, gate_line, cell_line, found_cell_line, line_of}
+use Rattle.dft_verilog_out.specs.Named.{IsNamedCell, IsNamedInstance, IsJoinedGate}
+use Rattle.dft_verilog_out.specs.Written.{join_line, is_joined, output_first, gate_line, cell_line, found_cell_line, line_of}
 use Rattle.dft_verilog_out.proofs.CountLemmas.{Once, look, words}
 use Rattle.dft_verilog_out.proofs.DraftLemmas.{entry, free_at, words-append, name_instance-is, room_for_instance-is}
 use Rattle.dft_verilog_out.proofs.FindLemmas.{find_cell-at, pin_place-at}
 use Rattle.dft_verilog_out.proofs.LineLemmas.{Line, Lines, no_lines, lines_cons, join_read}
 use Rattle.dft_verilog_out.proofs.InstanceLemmas.{Operands, IsGate, gate_form, named_gate_read, unnamed_gate_read, as_joined, IsPin, ArePins, signals-back, cell_form, cell_read}
-use Rattle.dft_verilog_out.proofs.OperandLemmas.{NetAt, net_at-kept, NetsAt, Operand, target_operand, signal_operand}
+use Rattle.dft_verilog_out.proofs.OperandLemmas.{net_at-kept, NetsAt, target_operand, signal_operand}
 use Rattle.dft_verilog_out.proofs.PhaseLemmas.{stage}
 
 -- ---- joins

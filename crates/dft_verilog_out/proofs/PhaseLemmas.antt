@@ -1,5 +1,5 @@
 -- The lines of ports, other nets and joins, one kind after another, and what the draft holds behind each.
-use Rattle.std.proofs.Common.{◌≡◌, ℕ, zero, suc, ◌+◌, ◌-◌, ◌<◌, ◌≤◌, Bool, true, false, cond, leb, List, [], ◌∷◌, ◌++◌, length, map, flat_map, get_or, codes, Option, Some, None, Ok, refl, sym, ap, ◌∙◌, subst, arith, append_assoc, append-nil, length-append, slice_get, slice_set}
+use Rattle.std.proofs.Common.{◌≡◌, ℕ, zero, suc, ◌+◌, ◌-◌, ◌<◌, ◌≤◌, Bool, true, false, cond, List, [], ◌∷◌, ◌++◌, length, map, flat_map, Option, Some, None, Ok, refl, sym, ap, ◌∙◌, subst, arith, append_assoc, append-nil, length-append, slice_get, slice_set}
 use Rattle.std.specs.Prelude.{nat_le}
 use Rattle.std.specs.Option.{option_and_then}
 use Rattle.std.proofs.lemmas.Bool.Decides.{nat_tests}
@@ -7,23 +7,20 @@ use Rattle.std.proofs.lemmas.List.{length-map}
 use Rattle.dft_base.specs.declared.place.Range.{Range}
 use Rattle.dft_base.specs.Lexing.{Text}
 use Rattle.dft_base.specs.Name.{IsName}
-use Rattle.dft_netlist.specs.declared.ids.NetId.{NetId}
 use Rattle.dft_netlist.specs.declared.port.Port.{Port}
-use Rattle.dft_netlist.specs.declared.instance.Signal.{Signal}
 use Rattle.dft_netlist.specs.declared.instance.Instance.{Instance}
 use Rattle.dft_netlist.specs.declared.instance.Join.{Join}
-use Rattle.dft_netlist.specs.declared.limits.TheConstants.{MAX_PORTS, MAX_NETS, MAX_INSTANCES}
+use Rattle.dft_netlist.specs.declared.limits.TheConstants.{MAX_NETS}
 use Rattle.dft_netlist.specs.declared.text.Meaning.TheVariants as meaning
-use Rattle.dft_netlist.specs.declared.text.Declared.{Declared}
 use Rattle.dft_netlist.specs.Netlist.{Netlist}
 use Rattle.dft_netlist.specs.Names.{bit_name, bit_names, indices_of}
 use Rattle.dft_netlist.specs.Sound.{bit_names_of}
-use Rattle.dft_netlist.specs.Modules.{HeaderPort, Entry, Draft, net_count, width, falls, names_of_bits, declared_at, declare_port, declare_wire}
+use Rattle.dft_netlist.specs.Modules.{HeaderPort, Entry, Draft, net_count, names_of_bits, declare_port}
 use Rattle.dft_netlist.proofs.BitLemmas.{indices_length}
 use Rattle.dft_verilog_out.specs.Named.{IsNamedPort}
 use Rattle.dft_verilog_out.specs.Written.{name_text, port_line, wire_line}
 use Rattle.dft_verilog_out.proofs.CountLemmas.{Once, look, look-kept, words}
-use Rattle.dft_verilog_out.proofs.DraftLemmas.{entry, Fresh, fresh_of, free_at, bit_entries, words-bits, words-append, declare_port-is, declare_wire-is}
+use Rattle.dft_verilog_out.proofs.DraftLemmas.{entry, fresh_of, free_at, bit_entries, words-bits, words-append, declare_port-is, declare_wire-is}
 use Rattle.dft_verilog_out.proofs.LineLemmas.{Lines, no_lines, lines_cons, port_read, wire_read}
 
 -- ---- what a draft holds

@@ -1,24 +1,22 @@
 -- The written form of a netlist is read as the netlist.
-use Rattle.std.proofs.Common.{◌≡◌, ℕ, zero, suc, ◌+◌, ◌-◌, ◌<◌, ◌≤◌, List, [], ◌∷◌, ◌++◌, length, map, flat_map, codes, Option, Some, None, Ok, refl, sym, ap, ◌∙◌, subst, arith, append_assoc, length-append, slice_get}
+use Rattle.std.proofs.Common.{◌≡◌, ℕ, zero, suc, ◌+◌, ◌-◌, ◌<◌, ◌≤◌, List, [], ◌∷◌, ◌++◌, length, map, flat_map, codes, None, Ok, refl, sym, ap, ◌∙◌, subst, arith, append_assoc, length-append}
 use Rattle.std.specs.List.{filter_map}
 use Rattle.dft_base.specs.Lexing.{Text}
 use Rattle.dft_base.specs.Parser.{value_of}
 use Rattle.dft_cells.specs.WellFormed.{IsWellFormed}
 use Rattle.dft_netlist.specs.declared.port.Port.{Port}
-use Rattle.dft_netlist.specs.declared.instance.Instance.{Instance}
-use Rattle.dft_netlist.specs.declared.instance.Join.{Join}
 use Rattle.dft_netlist.specs.declared.text.TokenKind.TheVariants as kind
 use Rattle.dft_netlist.specs.Netlist.{Netlist}
-use Rattle.dft_netlist.specs.Names.{names_taken, instance_name}
+use Rattle.dft_netlist.specs.Names.{instance_name}
 use Rattle.dft_netlist.specs.NetDrivers.{IsSingle}
 use Rattle.dft_netlist.specs.Orders.{IsOrderable}
-use Rattle.dft_netlist.specs.Sound.{IsNetlist, IsAJoin, IsInstance, bit_names_of}
+use Rattle.dft_netlist.specs.Sound.{IsNetlist, bit_names_of}
 use Rattle.dft_netlist.specs.Steps.{left}
 use Rattle.dft_netlist.specs.Modules.{HeaderPort, Entry, Draft, names_of_bits}
 use Rattle.dft_netlist.specs.Items.{items_from}
-use Rattle.dft_netlist.specs.NetlistText.{first_undeclared, module_text, module_of, built, StandsFor}
+use Rattle.dft_netlist.specs.NetlistText.{first_undeclared, module_text, module_of, StandsFor}
 use Rattle.dft_verilog_out.specs.Named.{IsNamedNetlist, GatesAreJoined}
-use Rattle.dft_verilog_out.specs.Written.{name_text, other_nets, net_texts, port_texts, port_line, wire_line, join_line, line_of, heading, body, written}
+use Rattle.dft_verilog_out.specs.Written.{name_text, other_nets, net_texts, port_line, wire_line, join_line, line_of, heading, body, written}
 use Rattle.dft_verilog_out.proofs.FormLemmas.{length-port_texts, others-are, joins-stand, instances-stand}
 use Rattle.dft_verilog_out.proofs.CutLemmas.{cut_up, cut_up-is, cut_up-endmodule, token}
 use Rattle.dft_verilog_out.proofs.ItemLemmas.{items_from-end, module-at}
@@ -26,8 +24,8 @@ use Rattle.dft_verilog_out.proofs.CountLemmas.{Once, words, names_once}
 use Rattle.dft_verilog_out.proofs.DraftLemmas.{words-append, words-bits, bit_entries}
 use Rattle.dft_verilog_out.proofs.OperandLemmas.{NetsAt}
 use Rattle.dft_verilog_out.proofs.LineLemmas.{Lines, lines_more}
-use Rattle.dft_verilog_out.proofs.PhaseLemmas.{stage, undeclared, declared_ports, bit_words, bits_entries, wire_entries, GoodPorts, good_ports, AllNames, all_names, AreAnnounced, announced-kept, ports_read, wires_read}
-use Rattle.dft_verilog_out.proofs.PartLemmas.{IsReadable, instance_entries, joins_read, instances_read}
+use Rattle.dft_verilog_out.proofs.PhaseLemmas.{stage, undeclared, declared_ports, bit_words, bits_entries, wire_entries, good_ports, all_names, announced-kept, ports_read, wires_read}
+use Rattle.dft_verilog_out.proofs.PartLemmas.{instance_entries, joins_read, instances_read}
 use Rattle.dft_verilog_out.proofs.HeaderLemmas.{header_entries, header_words, heading_read}
 use Rattle.dft_verilog_out.proofs.KnownLemmas.{announced_at, all_nets_at, text_names_once}
 use Rattle.dft_verilog_out.proofs.BuiltLemmas.{draft_built}

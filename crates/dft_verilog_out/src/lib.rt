@@ -4,9 +4,11 @@
 mod declarations;
 mod instances;
 mod joined;
+mod laws;
 mod names;
 mod nets;
 mod writer;
 
 pub use joined::gates_are_joined;
+pub use laws::{texts_are_joined, written_stands};
 pub use writer::write;

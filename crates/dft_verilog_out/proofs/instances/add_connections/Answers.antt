@@ -1,5 +1,5 @@
-use Rattle.std.proofs.Common.{◌∙◌, ◌≡◌, ap, sym, refl, Some, true, ℕ, get_or, slice_get, arith}
-use Rattle.std.proofs.lemmas.Option.{slice_get-get_or, get_or_from_slice_get}
+use Rattle.std.proofs.Common.{◌≡◌, sym, refl, Some, true, ℕ, slice_get, arith}
+use Rattle.std.proofs.lemmas.Option.{slice_get-get_or}
 use Rattle.dft_base.specs.Name.{IsName}
 use Rattle.dft_cells.specs.declared.cell.Pin.{Pin}
 use Rattle.dft_netlist.specs.declared.instance.Signal.{Signal}

@@ -1,4 +1,4 @@
-use Rattle.std.proofs.Common.{◌∙◌, ◌++◌, ◌∷◌, ℕ, ◌≤◌, length, ap, sym, arith, map, drop, ◌+◌}
+use Rattle.std.proofs.Common.{◌∙◌, ◌∷◌, ℕ, ◌≤◌, length, ap, sym, arith, map, drop, ◌+◌}
 use Rattle.dft_base.specs.Lexing.{Text}
 use Rattle.dft_base.specs.Name.{IsName}
 use Rattle.dft_verilog_out.specs.Written.{name_text}
