@@ -1,6 +1,6 @@
 //! The written form of whole reports.
 
-ghost use Rattle.std.specs.Prelude.{◌≡◌, ◌≤◌, ◌<◌, ◌^◌, ◌++◌, None, [], IfErr, IfOk, OnOk, decimal, flat_map, length};
+ghost use Rattle.std.specs.Prelude.{◌≡◌, ◌≤◌, ◌++◌, None, [], IfErr, IfOk, OnOk, decimal, flat_map, length};
 ghost use Rattle.dft_report.specs.Refusals.{IsTooLong};
 ghost use Rattle.dft_report.specs.Written as form;
 
@@ -148,8 +148,7 @@ fn text_of(alloc: Global, report: &Report) -> Result<Vec<u8>, AllocError>
 /// The written form of a report, one text for each. It is refused where it is longer than its limit. A report of scan
 /// insertion alone, without cycles and variables, has no cubes.
 pub fn write(alloc: Global, report: &Report) -> Result<Vec<u8>, ReportError>
-    requires cubes { report.now.header.load ≡ None → report.now.cubes ≡ [] }
-    requires short { length (form.written report.now) < 2 ^ 63 }
+    requires { report.now.header.load ≡ None → report.now.cubes ≡ [] }
     ensures form { IfOk result (λ bytes. bytes.items ≡ form.written report.now) }
     ensures fits { IfOk result (λ bytes. length (form.written report.now) ≤ MAX_BYTES) }
     ensures refused { IfErr result (IsTooLong (form.written report.now)) }

@@ -1,0 +1,4 @@
+pub mod ListLemmas
+pub mod ShapeLemmas
+pub mod JoinedLemmas
+pub mod RefusalLemmas

@@ -1,15 +1,16 @@
 -- The report of a scan: how many cells and chains there are, how long the chains are, where each cell stands, and why the other
 -- flip-flops are not scanned.
 use Rattle.std.specs.Prelude.{ℕ, Bool, true, false, List, [], length, map, flat_map, count_by, Option, None, Some, option_and_then, slice_get, slice_index_or}
-use Rattle.std.specs.List.{filter_map, range_with_len}
+use Rattle.std.specs.List.{filter_map, enumerate_from}
 use Rattle.dft_base.specs.Lexing.{Text}
 use Rattle.dft_netlist.specs.declared.ids.InstanceId.{InstanceId}
+use Rattle.dft_netlist.specs.declared.instance.Instance.{Instance}
 use Rattle.dft_netlist.specs.Netlist.{Netlist}
 use Rattle.dft_netlist.specs.Names.{instance_name}
 use Rattle.dft_config.specs.declared.config.Config.{Config}
 use Rattle.dft_rules.specs.declared.judged.Judged.{Judged}
 use Rattle.dft_rules.specs.declared.judged.Judged.TheVariants.{Scanned, Unscanned}
-use Rattle.dft_rules.specs.Rules.{judged, judgements}
+use Rattle.dft_rules.specs.Rules.{judgements}
 use Rattle.dft_rules.specs.Refusals.{is_scanned}
 use Rattle.dft_stitch.specs.Chains.{domain_of, plan_of}
 use Rattle.dft_report.specs.declared.report.ScannedLine.{ScannedLine}
@@ -23,8 +24,8 @@ name_of n i = option_and_then instance_name (slice_get n.instances i)
 -- ---- scanned cells
 
 -- the name of the port of the domain in which a cell is scanned
-abbrev pub domain_name : Netlist → Config → InstanceId → Option Text
-domain_name n config cell = option_and_then (slice_get config.domains) (domain_of (judgements n config) cell)
+abbrev pub domain_name : Config → List (Option Judged) → InstanceId → Option Text
+domain_name config verdicts cell = option_and_then (slice_get config.domains) (domain_of verdicts cell)
 
 -- the line of a cell, by its name and its domain's
 abbrev pub scanned_as : (chain place : ℕ) → (name domain : Option Text) → Option ScannedLine
@@ -32,17 +33,17 @@ scanned_as chain place (Some name) (Some domain) = Some (record { name = name; d
 scanned_as chain place (Some name) None = None
 scanned_as chain place None domain = None
 
--- the line of a cell that stands at a place
-abbrev pub scanned_line : Netlist → Config → (chain place : ℕ) → InstanceId → Option ScannedLine
-scanned_line n config chain place cell = scanned_as chain place (name_of n cell.0) (domain_name n config cell)
+-- the line of the cell at a place
+abbrev pub scanned_line : Netlist → Config → List (Option Judged) → (chain place : ℕ) → InstanceId → Option ScannedLine
+scanned_line n config verdicts chain place cell = scanned_as chain place (name_of n cell.0) (domain_name config verdicts cell)
 
 -- the lines of a chain, from the scan input on
-abbrev pub scanned_in : Netlist → Config → (chain : ℕ) → List InstanceId → List ScannedLine
-scanned_in n config chain cells = filter_map (λ place. option_and_then (scanned_line n config chain place) (slice_get cells place)) (range_with_len 0 (length cells))
+abbrev pub scanned_in : Netlist → Config → List (Option Judged) → (chain : ℕ) → List InstanceId → List ScannedLine
+scanned_in n config verdicts chain cells = filter_map (λ at. scanned_line n config verdicts chain at.0 at.1) (enumerate_from 0 cells)
 
 -- the lines of all chains
-abbrev pub scanned_lines : Netlist → Config → (chains : List (List InstanceId)) → List ScannedLine
-scanned_lines n config chains = flat_map (λ chain. scanned_in n config chain (slice_index_or chains chain [])) (range_with_len 0 (length chains))
+abbrev pub scanned_lines : Netlist → Config → List (Option Judged) → (chains : List (List InstanceId)) → List ScannedLine
+scanned_lines n config verdicts chains = flat_map (λ at. scanned_in n config verdicts at.0 at.1) (enumerate_from 0 chains)
 
 -- ---- flip-flops that are not scanned
 
@@ -58,34 +59,32 @@ unscanned_as (Some name) (Some (Scanned domain)) = None
 unscanned_as (Some name) None = None
 unscanned_as None verdict = None
 
-abbrev pub unscanned_line : Netlist → Config → (instance : ℕ) → Option UnscannedLine
-unscanned_line n config i = unscanned_as (name_of n i) (judged n config i)
-
 -- by the order of the instances
-abbrev pub unscanned_lines : Netlist → Config → List UnscannedLine
-unscanned_lines n config = filter_map (unscanned_line n config) (range_with_len 0 (length n.instances))
+abbrev pub unscanned_lines : List Instance → List (Option Judged) → List UnscannedLine
+unscanned_lines instances verdicts = filter_map (λ at. unscanned_as at.1.name (slice_index_or verdicts at.0 None)) (enumerate_from 0 instances)
 
 -- ---- the report
 
 -- how many flip-flops are scanned, and how many are judged and not scanned
-abbrev pub scanned_count : Netlist → Config → ℕ
-scanned_count n config = count_by is_scanned (judgements n config)
+abbrev pub scanned_count : List (Option Judged) → ℕ
+scanned_count verdicts = count_by is_scanned verdicts
 
-abbrev pub unscanned_count : Netlist → Config → ℕ
-unscanned_count n config = count_by is_unscanned (judgements n config)
+abbrev pub unscanned_count : List (Option Judged) → ℕ
+unscanned_count verdicts = count_by is_unscanned verdicts
 
-abbrev pub chain_lengths : List (List InstanceId) → List ℕ
-chain_lengths chains = map (λ cells. length cells) chains
+abbrev pub lengths_of : List (List InstanceId) → List ℕ
+lengths_of chains = map (λ cells. length cells) chains
 
--- no patterns are made, so there is no load, and there are no cubes
-abbrev pub report_with : Netlist → Config → (chains : List (List InstanceId)) → Report
-report_with n config chains = record {
-  header = record { cells = scanned_count n config; chains = length chains; load = None };
-  chains = chain_lengths chains;
-  scanned = scanned_lines n config chains;
-  unscanned = unscanned_lines n config;
+-- No patterns are made, so there is no load, and there are no cubes.
+abbrev pub report_with : Netlist → Config → List (Option Judged) → (chains : List (List InstanceId)) → Report
+report_with n config verdicts chains = record {
+  header = record { cells = scanned_count verdicts; chains = length chains; load = None };
+  chains = lengths_of chains;
+  scanned = scanned_lines n config verdicts chains;
+  unscanned = unscanned_lines n.instances verdicts;
   cubes = [];
 }
 
+-- the report of a design and a configuration
 abbrev pub report_of : Netlist → Config → Report
-report_of n config = report_with n config (plan_of n config).chains
+report_of n config = report_with n config (judgements n config) (plan_of n config).chains

@@ -1,9 +1,12 @@
 -- The texts of a scan, and what is counted.
-use Rattle.std.specs.Prelude.{◌≡◌, length}
+use Rattle.std.specs.Prelude.{◌≡◌, List, length, Option}
 use Rattle.dft_base.specs.Lexing.{Text}
 use Rattle.dft_netlist.specs.Netlist.{Netlist}
 use Rattle.dft_config.specs.declared.config.Config.{Config}
+use Rattle.dft_rules.specs.declared.judged.Judged.{Judged}
+use Rattle.dft_rules.specs.Rules.{judgements}
 use Rattle.dft_stitch.specs.Chains.{plan_of}
+use Rattle.dft_stitch.specs.Plans.{Plan}
 use Rattle.dft_insert.specs.declared.style.Style.TheVariants.{Plain}
 use Rattle.dft_insert.specs.Statements.{scanned}
 use Rattle.dft_report.specs.Written as report
@@ -20,13 +23,17 @@ netlist_text n config = netlist.written (scanned Plain n config)
 abbrev pub report_text : Netlist → Config → Text
 report_text n config = report.written (report_of n config)
 
-abbrev pub counts_of : Netlist → Config → Counts
-counts_of n config = record {
-  cells = scanned_count n config;
-  unscanned = unscanned_count n config;
-  chains = length (plan_of n config).chains;
-  lockups = length (plan_of n config).lockups;
+abbrev pub counts_with : List (Option Judged) → Plan → Counts
+counts_with verdicts plan = record {
+  cells = scanned_count verdicts;
+  unscanned = unscanned_count verdicts;
+  chains = length plan.chains;
+  lockups = length plan.lockups;
 }
+
+-- what is counted of a design and a configuration
+abbrev pub counts_of : Netlist → Config → Counts
+counts_of n config = counts_with (judgements n config) (plan_of n config)
 
 -- these are the texts and the counts of a design and a configuration
 pub record IsScanOf (n : Netlist) (config : Config) (s : ScanTexts) : Type 0 where

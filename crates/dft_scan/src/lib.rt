@@ -1,7 +1,10 @@
 //! The scan of a design: the text of its scanned netlist, its report, and what is counted.
 #![tactic(auto)]
 
+mod counting;
 mod error;
+mod lines;
+mod reporting;
 mod scanning;
 mod texts;
 

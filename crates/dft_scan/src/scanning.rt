@@ -9,16 +9,21 @@ ghost use Rattle.dft_scan.specs.Refusals.{IsRefusal, refusal};
 ghost use Rattle.dft_scan.specs.Scans.{IsScanOf};
 ghost use Rattle.dft_verilog_out.specs.Named.{GatesAreJoined};
 
+use crate::counting::counts_of;
 use crate::error::ScanError;
+use crate::reporting::report_of;
 use crate::texts::ScanTexts;
 use dft_config::Config;
+use dft_insert::{Style, insert};
 use dft_netlist::Design;
-use std::alloc::{AllocError, Global};
+use dft_rules::judge;
+use dft_stitch::plan;
+use std::alloc::Global;
 
 /// Scans a design: its flip-flops are judged by the scan rules, chains are planned and inserted, and the scanned netlist
 /// and the report are written. It is refused by the first check that fails: of the scan rules, of the plan, of the
 /// insertion, and then of the length of the report. Every pin of a gate must be joined, as in a design that was read.
-pub fn scan(_alloc: Global, design: &Design, config: &Config) -> Result<ScanTexts, ScanError>
+pub fn scan(alloc: Global, design: &Design, config: &Config) -> Result<ScanTexts, ScanError>
     requires range { IsInRange config.now }
     requires joined { GatesAreJoined design.now }
     ensures scan { IfOk result (IsScanOf design.now config.now) }
@@ -27,5 +32,16 @@ pub fn scan(_alloc: Global, design: &Design, config: &Config) -> Result<ScanText
     ensures accepted { IfOk result (λ s. refusal design.now config.now ≡ None) }
     ensures refused { IfErr result (IsRefusal (refusal design.now config.now)) }
 {
-    Err(ScanError::Memory(AllocError))
+    let verdicts = judge(alloc, design, config)?;
+    let chains = plan(alloc, design, config, &verdicts)?;
+    let scanned = insert(alloc, design, config, &chains, Style::Plain)?;
+    let counts = counts_of(design.instances().len() as u32, &verdicts, &chains);
+    let report = report_of(alloc, design, config, &verdicts, &chains, &counts)?;
+    let report = dft_report::write(alloc, &report)?;
+    let netlist = dft_verilog_out::write(alloc, &scanned.design)?;
+    Ok(ScanTexts {
+        netlist,
+        report,
+        counts,
+    })
 }
