@@ -2,6 +2,8 @@
 #![tactic(auto)]
 
 mod commands;
+mod found;
+mod syntax;
 mod words;
 
 pub use commands::{Command, ReplayFiles, ScanFiles};

@@ -1,10 +1,15 @@
 //! The words of a command line.
 
-ghost use Rattle.std.specs.Prelude.{IfOk, map, option_map, string_bytes};
+ghost use Rattle.std.specs.Prelude.{◌≡◌, IfOk, map, option_map, string_bytes};
+ghost use Rattle.std.specs.List.{list_all};
 ghost use Rattle.dft_words.specs.Words.{AreFor};
 ghost use Rattle.dft_words.specs.Named.{command_of};
+ghost use Rattle.dft_words.specs.CommandLine.{may_stand};
 
 use crate::commands::Command;
+use crate::found::command_found;
+use crate::syntax::matches;
+use clap::error::ErrorKind;
 use std::alloc::{AllocError, Global};
 
 /// The command that the words are, or None where they are no command. A command has its options each once, in any order,
@@ -14,5 +19,32 @@ use std::alloc::{AllocError, Global};
 pub fn command<'a>(alloc: Global, words: &'a [String]) -> Result<Option<Command<'a>>, AllocError>
     ensures { IfOk result (λ found. AreFor (map string_bytes words.entry.now) (option_map command_of found)) }
 {
-    Err(AllocError)
+    if !may_stand(words) {
+        return Ok(None);
+    }
+    match matches(alloc, words) {
+        Ok(found) => Ok(command_found(&found)),
+        Err(error) => match error.kind() {
+            ErrorKind::OutOfMemory => Err(AllocError),
+            _ => Ok(None),
+        },
+    }
+}
+
+/// Whether no word is `--` or begins with one `-` before other bytes. `clap` would take `--` before or behind the
+/// options.
+fn may_stand(words: &[String]) -> bool
+    ensures { result ≡ list_all (λ word. may_stand (string_bytes word)) words.now }
+{
+    words.iter().all(|word| word_may_stand(word.as_str()))
+}
+
+fn word_may_stand(word: &str) -> bool
+    ensures { result ≡ may_stand word.now }
+{
+    match word.as_bytes() {
+        [b'-', b'-'] => false,
+        [b'-', second, ..] => *second == b'-',
+        _ => true,
+    }
 }

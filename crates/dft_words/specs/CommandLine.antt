@@ -1,0 +1,118 @@
+-- What `clap` is told of the command line, and what it is not told.
+use Rattle.std.specs.Prelude.{Bool, true, false, not, ◌==◌, ◌&&◌, List, [], ◌∷◌, codes, length, map, if◌then◌else◌, Some, Option, None, option_map, option_and_then}
+use Rattle.std.specs.Str.{bytes_eq}
+use Rattle.clap.specs.Words.{App, Rule, Shape, new_app, new_rule, with_rule}
+use Rattle.clap.specs.Simple.{new_shape, on_top}
+use Rattle.clap.specs.Walk.{Row, first_of}
+use Rattle.dft_words.specs.Words.{Text, ReplayFiles, ScanFiles, Command, Replay, Scan}
+
+-- ---- the forms of commands
+
+-- an option that a command has, and whether it must be given
+pub record Known : Type 0 where
+  pub name : Text
+  pub required : Bool
+
+abbrev pub needed : Text → Known
+needed name = record { name = name; required = true }
+
+abbrev pub optional : Text → Known
+optional name = record { name = name; required = false }
+
+pub record Form : Type 0 where
+  pub command : Text
+  pub options : List Known
+
+abbrev pub replay_form : Form
+replay_form = record { command = codes "replay"; options = needed (codes "netlist") ∷ needed (codes "patterns") ∷ optional (codes "library") ∷ [] }
+
+abbrev pub scan_form : Form
+scan_form = record {
+  command = codes "scan";
+  options = needed (codes "netlist") ∷ needed (codes "config") ∷ needed (codes "out") ∷ needed (codes "report") ∷ optional (codes "library") ∷ [];
+}
+
+abbrev pub forms : List Form
+forms = replay_form ∷ scan_form ∷ []
+
+-- ---- what `clap` is told
+
+abbrev pub option_rule : Known → Rule
+option_rule o = record (new_rule o.name) { long = Some o.name; required = o.required }
+
+abbrev pub form_shape : Form → Shape
+form_shape form = record (new_shape form.command) { rules = map option_rule form.options }
+
+abbrev pub form_app : Form → App
+form_app form = record { top = form_shape form; subs = [] }
+
+-- the command with options of these names
+abbrev pub with_options : (required : Bool) → App → List Text → App
+with_options required app [] = app
+with_options required app (name ∷ names) = with_options required (with_rule app (option_rule (record { name = name; required = required }))) names
+
+-- the words are those behind the program's name, the first is a command, and there is no help
+abbrev pub dft_app : App
+dft_app = record (on_top (λ s. record s {
+  is_leaf = false;
+  no_binary_name = true;
+  disable_help_flag = true;
+  disable_help_subcommand = true;
+  subcommand_required = true;
+}) (new_app (codes "dft"))) { subs = map form_shape forms }
+
+-- ---- what it is not told
+
+-- a word of a command line: it does not begin with one `-` before other bytes, and it is not `--`
+abbrev pub may_stand : Text → Bool
+may_stand [] = true
+may_stand (b ∷ []) = true
+may_stand (b ∷ c ∷ []) = if b == 45 then false else true
+may_stand (b ∷ c ∷ d ∷ bs) = if b == 45 then c == 45 else true
+
+-- an empty value is none
+abbrev pub is_empty : Text → Bool
+is_empty text = length text == 0
+
+abbrev pub value_from : Option Text → Option Text
+value_from None = None
+value_from (Some text) = if is_empty text then None else Some text
+
+abbrev pub perhaps_from : Option Text → Option (Option Text)
+perhaps_from None = Some None
+perhaps_from (Some text) = if is_empty text then None else Some (Some text)
+
+-- the value that an option must have, and the one that it may have
+abbrev pub value_in : (name : Text) → List Row → Option Text
+value_in name rows = value_from (first_of name rows)
+
+abbrev pub perhaps_in : (name : Text) → List Row → Option (Option Text)
+perhaps_in name rows = perhaps_from (first_of name rows)
+
+-- ---- the command that was found
+
+abbrev pub replay_from : (library : Option (Option Text)) → (netlist patterns : Option Text) → Option ReplayFiles
+replay_from (Some library) (Some netlist) (Some patterns) = Some (record { library = library; netlist = netlist; patterns = patterns })
+replay_from _ _ _ = None
+
+abbrev pub replay_in : List Row → Option ReplayFiles
+replay_in rows = replay_from (perhaps_in (codes "library") rows) (value_in (codes "netlist") rows) (value_in (codes "patterns") rows)
+
+abbrev pub differing : ScanFiles → Option ScanFiles
+differing files = if bytes_eq files.out files.report then None else Some files
+
+abbrev pub scan_from : (library : Option (Option Text)) → (netlist config out report : Option Text) → Option ScanFiles
+scan_from (Some library) (Some netlist) (Some config) (Some out) (Some report) = differing (record { library = library; netlist = netlist; config = config; out = out; report = report })
+scan_from _ _ _ _ _ = None
+
+abbrev pub scan_in : List Row → Option ScanFiles
+scan_in rows = scan_from (perhaps_in (codes "library") rows) (value_in (codes "netlist") rows) (value_in (codes "config") rows) (value_in (codes "out") rows) (value_in (codes "report") rows)
+
+abbrev pub command_from : (name : Text) → List Row → Option Command
+command_from name rows =
+    if bytes_eq name (codes "replay") then option_map Replay (replay_in rows)
+    else (if bytes_eq name (codes "scan") then option_map Scan (scan_in rows) else None)
+
+abbrev pub command_in : Option (Text × List Row) → Option Command
+command_in None = None
+command_in (Some found) = command_from found.0 found.1

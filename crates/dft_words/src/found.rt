@@ -1,0 +1,82 @@
+//! The command that `clap` found.
+
+ghost use Rattle.std.specs.Prelude.{◌≡◌, option_map};
+ghost use Rattle.clap.specs.Words.{subcommand_rows_of};
+ghost use Rattle.clap.specs.Matches.{found_of};
+ghost use Rattle.clap.specs.Walk.{first_of, rows_of};
+ghost use Rattle.dft_words.specs.CommandLine.{command_in, perhaps_in, replay_in, scan_in, value_in};
+ghost use Rattle.dft_words.specs.Named.{command_of, replay_files_of, scan_files_of};
+
+use crate::commands::{Command, ReplayFiles, ScanFiles};
+use clap::ArgMatches;
+
+/// The command with its files, where no value is empty and the outputs differ.
+pub(crate) fn command_found<'a>(found: &ArgMatches<'a>) -> Option<Command<'a>>
+    ensures { option_map command_of result ≡ command_in (subcommand_rows_of found.now) }
+{
+    match found.subcommand() {
+        Some((name, options)) => {
+            if name == "replay" {
+                Some(Command::Replay(replay_found(options)?))
+            } else if name == "scan" {
+                Some(Command::Scan(scan_found(options)?))
+            } else {
+                None
+            }
+        }
+        None => None,
+    }
+}
+
+fn replay_found<'a>(found: &ArgMatches<'a>) -> Option<ReplayFiles<'a>>
+    ensures { option_map replay_files_of result ≡ replay_in (rows_of (found_of found.now)) }
+{
+    Some(ReplayFiles {
+        library: perhaps(found, "library")?,
+        netlist: value(found, "netlist")?,
+        patterns: value(found, "patterns")?,
+    })
+}
+
+fn scan_found<'a>(found: &ArgMatches<'a>) -> Option<ScanFiles<'a>>
+    ensures { option_map scan_files_of result ≡ scan_in (rows_of (found_of found.now)) }
+{
+    let files = ScanFiles {
+        library: perhaps(found, "library")?,
+        netlist: value(found, "netlist")?,
+        config: value(found, "config")?,
+        out: value(found, "out")?,
+        report: value(found, "report")?,
+    };
+    if files.out == files.report {
+        None
+    } else {
+        Some(files)
+    }
+}
+
+/// The value of an option, where it is given and not empty.
+fn value<'a>(found: &ArgMatches<'a>, name: &str) -> Option<&'a str>
+    ensures { option_map (λ text. text.now) result ≡ value_in name.now (rows_of (found_of found.now)) }
+{
+    match text_of(found, name) {
+        Some(text) if !text.is_empty() => Some(text),
+        _ => None,
+    }
+}
+
+/// The value of an option that may be left out, where it is not empty.
+fn perhaps<'a>(found: &ArgMatches<'a>, name: &str) -> Option<Option<&'a str>>
+    ensures { option_map (λ value. option_map (λ text. text.now) value) result ≡ perhaps_in name.now (rows_of (found_of found.now)) }
+{
+    match text_of(found, name) {
+        Some(text) if text.is_empty() => None,
+        value => Some(value),
+    }
+}
+
+fn text_of<'a>(found: &ArgMatches<'a>, name: &str) -> Option<&'a str>
+    ensures { option_map (λ text. text.now) result ≡ first_of name.now (rows_of (found_of found.now)) }
+{
+    found.get_str(name)
+}

@@ -1,0 +1,69 @@
+//! The words as `clap` reads them.
+
+ghost use Rattle.std.specs.Prelude.{◌≡◌, IfOk, false, map, string_bytes};
+ghost use Rattle.clap.specs.Words.{FailsBy, app_of, fault_of, rule_of, subcommand_of, subcommand_rows_of};
+ghost use Rattle.clap.specs.declared.builder.command.Command.TheViews.{out-Command as fields_of};
+ghost use Rattle.dft_words.specs.CommandLine.{dft_app, form_app, option_rule, replay_form, scan_form, with_options};
+
+use clap::{Arg, ArgMatches, Command, Error};
+use std::alloc::{AllocError, Global};
+
+/// The words as `clap` reads them.
+pub(crate) fn matches<'a>(alloc: Global, words: &'a [String]) -> Result<ArgMatches<'a>, Error>
+    ensures kinds { FailsBy (fault_of dft_app (map string_bytes words.entry.now)) result }
+    ensures found { IfOk result (λ m. subcommand_rows_of m ≡ subcommand_of dft_app (map string_bytes words.entry.now)) }
+{
+    let dft = Command::new(alloc, "dft")
+        .no_binary_name(true)
+        .disable_help_flag(true)
+        .disable_help_subcommand(true)
+        .subcommand_required(true)
+        .subcommand(replay(alloc)?)?
+        .subcommand(scan(alloc)?)?;
+    dft.try_get_matches_from(words)
+}
+
+/// The command `replay` and its options.
+fn replay<'a>(alloc: Global) -> Result<Command<'a>, AllocError>
+    ensures app { IfOk result (λ c. app_of c ≡ form_app replay_form) }
+    ensures local { IfOk result (λ c. (fields_of c).has_globals ≡ false) }
+{
+    let replay = Command::new(alloc, "replay");
+    let replay = with_options(alloc, replay, &["netlist", "patterns"], true)?;
+    with_options(alloc, replay, &["library"], false)
+}
+
+/// The command `scan` and its options.
+fn scan<'a>(alloc: Global) -> Result<Command<'a>, AllocError>
+    ensures app { IfOk result (λ c. app_of c ≡ form_app scan_form) }
+    ensures local { IfOk result (λ c. (fields_of c).has_globals ≡ false) }
+{
+    let scan = Command::new(alloc, "scan");
+    let scan = with_options(alloc, scan, &["netlist", "config", "out", "report"], true)?;
+    with_options(alloc, scan, &["library"], false)
+}
+
+/// The command with options of these names, each of one value.
+fn with_options<'a>(
+    alloc: Global,
+    mut command: Command<'a>,
+    names: &[&'a str],
+    required: bool,
+) -> Result<Command<'a>, AllocError>
+    requires { (fields_of command).has_globals ≡ false }
+    ensures app { IfOk result (λ c. app_of c ≡ with_options required (app_of command.entry) (map (λ name. name.now) names.now)) }
+    ensures local { IfOk result (λ c. (fields_of c).has_globals ≡ false) }
+{
+    for name in names {
+        command = command.arg(option_named(alloc, *name, required))?;
+    }
+    Ok(command)
+}
+
+/// An option that has one value.
+fn option_named<'a>(alloc: Global, name: &'a str, required: bool) -> Arg<'a>
+    ensures rule { rule_of result ≡ option_rule (record { name = name.entry.now; required = required }) }
+    ensures local { result.global ≡ false }
+{
+    Arg::new(alloc, name).long(name).required(required)
+}
