@@ -1,10 +1,3 @@
-pub mod Options
-pub mod Scan
-pub mod Turns
-pub mod Rows
-pub mod Walks
-pub mod Commands
-pub mod Refused
 pub mod NetlistRefusals
-pub mod OneOutcome
-pub mod Passing
+pub mod Steps
+pub mod TwoSaves

@@ -52,7 +52,7 @@ fn run_command<F: Files, O: Sink>(
     files: &mut F,
     out: &mut O,
 ) -> Answer
-    requires { SavesApart (option_map command_of command.entry) }
+    requires { SavesApart (option_map command_of command) }
     ensures { EndsFor (option_map command_of command.entry)
         (record { held = F.held files.old; failed = F.failed files.old; read_faults = F.read_faults files.old; write_faults = F.write_faults files.old;
             printed = O.told out.old; put_faults = O.faults out.old })
@@ -98,7 +98,7 @@ fn deliver<F: Files, O: Sink>(
     files: &mut F,
     out: &mut O,
 ) -> Answer
-    requires { SavesApart (option_map command_of command.entry) }
+    requires { SavesApart (option_map command_of command) }
     ensures delivered { IsDelivered (option_map command_of command.entry) outcome
         (record { held = F.held files.old; failed = F.failed files.old; read_faults = F.read_faults files.old; write_faults = F.write_faults files.old;
             printed = O.told out.old; put_faults = O.faults out.old })

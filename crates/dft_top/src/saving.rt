@@ -17,7 +17,7 @@ pub fn save_outcome<F: Files>(
     outcome: &Outcome,
     files: &mut F,
 ) -> Result<(), SaveError>
-    requires { SavesApart (option_map command_of command.entry) }
+    requires { SavesApart (option_map command_of command) }
     ensures saved { OnOk result (HaveSaved (savings (option_map command_of command.entry) outcome.now) (F.held files.old) (F.held files.new)) }
     ensures failed { result ≡ Err SaveError.Failed → SaveFailed (savings (option_map command_of command.entry) outcome.now)
         (F.held files.old) (F.held files.new) (F.failed files.new) (F.write_faults files.old) (F.write_faults files.new) }
@@ -50,7 +50,7 @@ fn save_both<F: Files>(
     second: Saving<'_>,
     files: &mut F,
 ) -> Result<(), SaveError>
-    requires { first.entry.name.now ≡ second.entry.name.now → ⊥ }
+    requires { first.name.now ≡ second.name.now → ⊥ }
     ensures saved { OnOk result (HaveSaved (saving_of first.entry ∷ saving_of second.entry ∷ []) (F.held files.old) (F.held files.new)) }
     ensures failed { result ≡ Err SaveError.Failed → SaveFailed (saving_of first.entry ∷ saving_of second.entry ∷ [])
         (F.held files.old) (F.held files.new) (F.failed files.new) (F.write_faults files.old) (F.write_faults files.new) }
