@@ -1,34 +1,19 @@
--- What numbered items give, one after another.
-use Rattle.std.proofs.Common.{◌≡◌, ℕ, zero, suc, ◌+◌, ◌<◌, ◌≤◌, ◌*◌, List, [], ◌∷◌, ◌++◌, length, drop, map, flat_map, Option, None, Some, refl, ◌∙◌, ap, arith, get_or, length-append}
+-- What the items of a list give, one after another, and how long that is.
+use Rattle.std.proofs.Common.{◌≡◌, ℕ, zero, suc, ◌+◌, ◌≤◌, ◌*◌, List, [], ◌∷◌, ◌++◌, length, drop, map, flat_map, Option, None, Some, slice_get, ◌∙◌, ap, arith, length-append}
 use Rattle.std.specs.List.{filter_map, cons_option, enumerate_from, range_with_len}
-use Rattle.std.proofs.lemmas.List.{drop_more, drop_all}
-use Rattle.dft_stitch.specs.Chains.{listed}
+use Rattle.std.proofs.lemmas.List.{drop_more}
+use Rattle.std.proofs.lemmas.Option.{slice_get_within, get_or_from_slice_get}
 
-cons_listed : {T : Type 0} (o : Option T) (xs : List T) → cons_option o xs ≡ listed o ++ xs
-cons_listed None xs = refl
-cons_listed (Some x) xs = refl
+-- the list from an item on
+drop_at : {T : Type 0} (xs : List T) (k : ℕ) (x : T) → slice_get xs k ≡ Some x → drop k xs ≡ x ∷ drop (k + 1) xs
+drop_at {T = T} xs k x at = drop_more xs k x (slice_get_within xs k x at) ∙ ap (λ (y : T). y ∷ drop (k + 1) xs) (get_or_from_slice_get xs k x x at)
 
 -- what is left to give begins with what the next item gives
-pub flat_more : {S T : Type 0} (f : ℕ × S → List T) (xs : List S) (k : ℕ) (d : S) → k < length xs → flat_map f (enumerate_from k (drop k xs)) ≡ f (k, get_or xs k d) ++ flat_map f (enumerate_from (k + 1) (drop (k + 1) xs))
-flat_more {S = S} f xs k d less = ap (λ (ys : List S). flat_map f (enumerate_from k ys)) (drop_more xs k d less)
+pub flat_at : {S T : Type 0} (f : ℕ × S → List T) (xs : List S) (k : ℕ) (x : S) → slice_get xs k ≡ Some x → flat_map f (enumerate_from k (drop k xs)) ≡ f (k, x) ++ flat_map f (enumerate_from (k + 1) (drop (k + 1) xs))
+flat_at {S = S} f xs k x at = ap (λ (ys : List S). flat_map f (enumerate_from k ys)) (drop_at xs k x at)
 
-pub filter_more : {S T : Type 0} (f : ℕ × S → Option T) (xs : List S) (k : ℕ) (d : S) → k < length xs → filter_map f (enumerate_from k (drop k xs)) ≡ listed (f (k, get_or xs k d)) ++ filter_map f (enumerate_from (k + 1) (drop (k + 1) xs))
-filter_more {S = S} f xs k d less =
-    ap (λ (ys : List S). filter_map f (enumerate_from k ys)) (drop_more xs k d less)
-    ∙ cons_listed (f (k, get_or xs k d)) (filter_map f (enumerate_from (k + 1) (drop (k + 1) xs)))
-
-pub map_more : {S T : Type 0} (f : S → T) (xs : List S) (k : ℕ) (d : S) → k < length xs → map f (drop k xs) ≡ (f (get_or xs k d) ∷ []) ++ map f (drop (k + 1) xs)
-map_more f xs k d less = ap (map f) (drop_more xs k d less)
-
--- nothing is left
-pub flat_none : {S T : Type 0} (f : ℕ × S → List T) (xs : List S) (k : ℕ) → length xs ≤ k → flat_map f (enumerate_from k (drop k xs)) ≡ []
-flat_none {S = S} f xs k past = ap (λ (ys : List S). flat_map f (enumerate_from k ys)) (drop_all k xs past)
-
-pub filter_none : {S T : Type 0} (f : ℕ × S → Option T) (xs : List S) (k : ℕ) → length xs ≤ k → filter_map f (enumerate_from k (drop k xs)) ≡ []
-filter_none {S = S} f xs k past = ap (λ (ys : List S). filter_map f (enumerate_from k ys)) (drop_all k xs past)
-
-pub map_none : {S T : Type 0} (f : S → T) (xs : List S) (k : ℕ) → length xs ≤ k → map f (drop k xs) ≡ []
-map_none f xs k past = ap (map f) (drop_all k xs past)
+pub map_at : {S T : Type 0} (f : S → T) (xs : List S) (k : ℕ) (x : S) → slice_get xs k ≡ Some x → map f (drop k xs) ≡ (f x ∷ []) ++ map f (drop (k + 1) xs)
+map_at f xs k x at = ap (map f) (drop_at xs k x at)
 
 -- ---- lengths
 

@@ -1,5 +1,5 @@
 -- The refusal of a step is the refusal of the scan, where the steps before it pass.
-use Rattle.std.proofs.Common.{◌≡◌, ◌<◌, ◌≤◌, ℕ, ℤ, pos, true, false, List, [], ◌∷◌, length, Option, None, Some, refl, sym, ap, subst, arith}
+use Rattle.std.proofs.Common.{◌≡◌, ◌<◌, ◌≤◌, ℕ, ℤ, pos, true, false, List, [], ◌∷◌, length, Option, None, Some, Result, Err, IfErr, refl, sym, ◌∙◌, ap, subst, arith}
 use Rattle.std.specs.Prelude.{option_map, nat_lt}
 use Rattle.std.proofs.lemmas.Bool.Decides.{nat_tests}
 use Rattle.dft_base.specs.Lexing.{Text}
@@ -7,10 +7,13 @@ use Rattle.dft_netlist.specs.Netlist.{Netlist}
 use Rattle.dft_config.specs.declared.config.Config.{Config}
 use Rattle.dft_rules.specs.declared.error.RuleError.{RuleError}
 use Rattle.dft_rules.specs.declared.error.RuleError.TheVariants as rule
+use Rattle.dft_rules.specs.declared.judged.Judged.{Judged}
+use Rattle.dft_rules.specs.Rules.{judgements}
 use Rattle.dft_rules.specs.Refusals as rules
 use Rattle.dft_stitch.specs.declared.error.StitchError.{StitchError}
 use Rattle.dft_stitch.specs.declared.error.StitchError.TheVariants as stitch_error
 use Rattle.dft_stitch.specs.Chains.{plan_of}
+use Rattle.dft_stitch.specs.Plans.{Plan}
 use Rattle.dft_stitch.specs.Limits as stitch
 use Rattle.dft_insert.specs.declared.error.InsertError.{InsertError}
 use Rattle.dft_insert.specs.declared.error.InsertError.TheVariants as insert_error
@@ -19,11 +22,14 @@ use Rattle.dft_insert.specs.Refusals as insert
 use Rattle.dft_report.specs.declared.error.ReportError.{ReportError}
 use Rattle.dft_report.specs.declared.error.ReportError.TheVariants as report_error
 use Rattle.dft_report.specs.declared.limits.TheConstants.{MAX_BYTES}
+use Rattle.dft_report.specs.declared.report.Report.{Report}
 use Rattle.dft_report.specs.Refusals as report
 use Rattle.dft_scan.specs.declared.error.ScanError.{ScanError}
-use Rattle.dft_scan.specs.declared.error.ScanError.TheVariants.{Rules, Stitch, Insert, Report, Memory}
+use Rattle.dft_scan.specs.declared.error.ScanError.TheVariants.{Rules, Stitch, Insert, Memory}
+use Rattle.dft_scan.specs.declared.error.ScanError.TheVariants as scan_error
 use Rattle.dft_scan.specs.Errors.{of_rules, of_stitch, of_insert, of_report}
 use Rattle.dft_scan.specs.Refusals.{IsRefusal, first_failing, refusal, too_long}
+use Rattle.dft_scan.specs.Reports.{report_of, report_with}
 use Rattle.dft_scan.specs.Scans.{report_text}
 
 -- ---- a step
@@ -63,8 +69,8 @@ above limit n less = grind (arith, nat_tests)
 is_too_long : (text : Text) (bytes : ℤ) → MAX_BYTES < length text → bytes ≡ pos (length text) → too_long text ≡ Some (report_error.K6 bytes)
 is_too_long text bytes more is = rw (is, above MAX_BYTES (length text) more) refl
 
-pub report_refused : (text : Text) (e : ReportError) → report.IsTooLong text e → IsRefusal (first_failing (option_map Report (too_long text) ∷ [])) (of_report e)
-report_refused text (report_error.K6 bytes) is = ap (λ (o : Option ReportError). first_failing (option_map Report o ∷ [])) (is_too_long text bytes is.0 is.1)
+pub report_refused : (text : Text) (e : ReportError) → report.IsTooLong text e → IsRefusal (first_failing (option_map scan_error.Report (too_long text) ∷ [])) (of_report e)
+report_refused text (report_error.K6 bytes) is = ap (λ (o : Option ReportError). first_failing (option_map scan_error.Report o ∷ [])) (is_too_long text bytes is.0 is.1)
 report_refused text (report_error.Memory error) is = _
 
 -- ---- the steps in their order
@@ -80,7 +86,7 @@ after_insert more r e none h = let P : Option InsertError → Type 0 = λ o. IsR
 
 -- the checks behind the scan rules, behind the plan, and behind insertion
 abbrev pub report_checks : Netlist → Config → List (Option ScanError)
-report_checks n config = option_map Report (too_long (report_text n config)) ∷ []
+report_checks n config = option_map scan_error.Report (too_long (report_text n config)) ∷ []
 
 abbrev pub insert_checks : Netlist → Config → List (Option ScanError)
 insert_checks n config = option_map Insert (insert.refusal Plain n config (plan_of n config)) ∷ report_checks n config
@@ -117,3 +123,16 @@ not_above limit n le = grind (arith, nat_tests)
 pub passed : (n : Netlist) (config : Config) → rules.refusal n config ≡ None → stitch.refusal n config ≡ None → insert.refusal Plain n config (plan_of n config) ≡ None → length (report_text n config) ≤ MAX_BYTES →
     refusal n config ≡ None
 passed n config r s i le = rw (r, s, i, not_above MAX_BYTES (length (report_text n config)) le) refl
+
+-- ---- what a step answers
+
+-- an error that is turned into this one is this refusal
+pub err_refused : {T : Type 0} (refused : Option ScanError) (r : Result T ScanError) (y e : ScanError) → r ≡ Err y → y ≡ e → IsRefusal refused e → IfErr r (IsRefusal refused)
+err_refused refused r y e is same h = rw (is, same) h
+
+-- the report of these judgements and this plan
+pub report_is : (n : Netlist) (config : Config) (verdicts : List (Option Judged)) (plan : Plan) (r : Report) → verdicts ≡ judgements n config → plan ≡ plan_of n config → r ≡ report_with n config verdicts plan.chains → r ≡ report_of n config
+report_is n config verdicts plan r v p is =
+    is
+    ∙ ap (λ (vs : List (Option Judged)). report_with n config vs plan.chains) v
+    ∙ ap (λ (q : Plan). report_with n config (judgements n config) q.chains) p

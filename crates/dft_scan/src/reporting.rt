@@ -72,7 +72,15 @@ fn scanned_lines(
     let count = chains.count();
     for chain in 0..count {
         let cells = chains.chain(chain);
-        add_chain(alloc, &mut lines, design, config, verdicts, u32::from(chain), cells)?;
+        add_chain(
+            alloc,
+            &mut lines,
+            design,
+            config,
+            verdicts,
+            u32::from(chain),
+            cells,
+        )?;
     }
     Ok(lines)
 }

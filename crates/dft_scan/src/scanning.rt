@@ -4,6 +4,8 @@ ghost use Rattle.std.specs.Prelude.{◌≡◌, None, IfErr, IfOk};
 ghost use Rattle.dft_config.specs.Range.{IsInRange};
 ghost use Rattle.dft_insert.specs.Statements.{IsReady, scanned};
 ghost use Rattle.dft_insert.specs.declared.style.Style.TheVariants.{Plain};
+ghost use Rattle.dft_config.specs.declared.config.Config.{Config};
+ghost use Rattle.dft_rules.specs.Refusals as rules;
 ghost use Rattle.dft_netlist.specs.NetlistText.{StandsFor};
 ghost use Rattle.dft_scan.specs.Refusals.{IsRefusal, refusal};
 ghost use Rattle.dft_scan.specs.Scans.{IsScanOf};
@@ -32,6 +34,7 @@ pub fn scan(alloc: Global, design: &Design, config: &Config) -> Result<ScanTexts
     ensures accepted { IfOk result (λ s. refusal design.now config.now ≡ None) }
     ensures refused { IfErr result (IsRefusal (refusal design.now config.now)) }
 {
+    ready(design);
     let verdicts = judge(alloc, design, config)?;
     let chains = plan(alloc, design, config, &verdicts)?;
     let scanned = insert(alloc, design, config, &chains, Style::Plain)?;
@@ -44,4 +47,13 @@ pub fn scan(alloc: Global, design: &Design, config: &Config) -> Result<ScanTexts
         report,
         counts,
     })
+}
+
+/// What a finished design is, beside what the scan rules ask.
+fn ready(design: &Design)
+    ensures { (config : Config) → IsInRange config → rules.refusal design.now config ≡ None → IsReady design.now config }
+{
+    let _name = design.module();
+    let _order = design.order();
+    let _cells = design.library().cells();
 }
