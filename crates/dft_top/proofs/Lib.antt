@@ -1,3 +1,6 @@
-pub mod NetlistRefusals
 pub mod Steps
 pub mod TwoSaves
+pub mod NetlistRefusals
+pub mod Readings
+pub mod OneOutcome
+pub mod Promised
