@@ -29,12 +29,12 @@ use Rattle.dft_top.specs.declared.answer.Status.TheVariants.{Done}
 use Rattle.dft_top.specs.declared.outcome.Outcome.{Outcome}
 use Rattle.dft_top.specs.declared.outcome.Outcome.TheVariants as outcome
 use Rattle.dft_top.specs.declared.limits.TheConstants.{MAX_NETLIST_BYTES}
-use Rattle.dft_top.specs.Answers.{answer_of, status_of}
+use Rattle.dft_top.specs.Answers.{status_of}
 use Rattle.dft_top.specs.Refusals.{scan_refusal}
 use Rattle.dft_top.specs.Checks.{After, ConfigGives, IsDesignOf, LibraryGives, NetlistGives, NetlistText, PatternsGive, Then}
 use Rattle.dft_top.specs.Outcomes.{IsOutcomeOfReplay, IsOutcomeOfScan, IsOutcomeOfScanOf, IsOutcomeOn, IsRefusal, IsScanned, outcome_of}
 use Rattle.dft_top.specs.Promises.{EveryRunShows, Passes, Scans}
-use Rattle.dft_top.specs.Run.{Answers, Delivers, Ends, EndsFor, IsDelivered, IsOfScan, IsOutcomeTold, PassesTold, ScansTold, Seen}
+use Rattle.dft_top.specs.Run.{EndsFor, IsDelivered, IsOfScan, IsOutcomeTold, PassesTold, ScansTold, Seen}
 use Rattle.dft_top.specs.Saves.{AreSaved, HaveSaved, Saving, savings, scan_savings}
 use Rattle.dft_top.proofs.Readings.{text_of}
 use Rattle.dft_top.proofs.Steps.{ReplayOn, ReplayOver, ScanOn, ScanOver}
@@ -97,7 +97,7 @@ scan_done n c (Some error) o done h = absurd (refusal_not_done (scan_refusal err
 scan_done n c None o done h = h
 
 -- what is saved of a scan
-two_savings : (files : ScanFiles) → Netlist → Config → List Saving
+abbrev two_savings : (files : ScanFiles) → Netlist → Config → List Saving
 two_savings files n c = record { name = files.out; bytes = netlist_text n c } ∷ record { name = files.report; bytes = report_text n c } ∷ []
 
 scans : (files : ScanFiles) (old new : Held) (o : Outcome) → status_of o ≡ Done → IsOutcomeOfScan files old o → HaveSaved (scan_savings files o) (Some old) (Some new) → Scans files old new
@@ -174,16 +174,15 @@ told_scans files None held' o done told suits saved = untold files held' o done 
 told_scans files (Some old) None o done told suits saved = lost files old o done suits saved
 told_scans files (Some old) (Some new) o done told suits saved = scans files old new o done told saved
 
-pub passes_told : (words : List (List ℕ)) (before after : Seen) (answer : Answer) → Ends words before after answer → PassesTold words before.held answer
-passes_told words before after answer (inl x) files is done = absurd (let e = ap (λ (a : Answer). a.status) x.1 in cc)
-passes_told words before after answer (inr x) files is done =
-    let ended = subst (λ (command : Option Command). EndsFor command before after answer) (for_once words x.0 (Some (Replay files)) x.1.0 is) x.1.1 in
-    let d = ends_done (Some (Replay files)) before after answer ended done in
+-- of words that are for a command
+pub passes_for : (words : List (List ℕ)) (command : Option Command) (before after : Seen) (answer : Answer) → AreFor words command → EndsFor command before after answer → PassesTold words before.held answer
+passes_for words command before after answer are ended files is done =
+    let ends = subst (λ (command : Option Command). EndsFor command before after answer) (for_once words command (Some (Replay files)) are is) ended in
+    let d = ends_done (Some (Replay files)) before after answer ends done in
     told_passes files before.held d.o d.done d.told.told
 
-pub scans_told : (words : List (List ℕ)) (before after : Seen) (answer : Answer) → Ends words before after answer → ScansTold words before.held after.held answer
-scans_told words before after answer (inl x) files is done = absurd (let e = ap (λ (a : Answer). a.status) x.1 in cc)
-scans_told words before after answer (inr x) files is done =
-    let ended = subst (λ (command : Option Command). EndsFor command before after answer) (for_once words x.0 (Some (Scan files)) x.1.0 is) x.1.1 in
-    let d = ends_done (Some (Scan files)) before after answer ended done in
+pub scans_for : (words : List (List ℕ)) (command : Option Command) (before after : Seen) (answer : Answer) → AreFor words command → EndsFor command before after answer → ScansTold words before.held after.held answer
+scans_for words command before after answer are ended files is done =
+    let ends = subst (λ (command : Option Command). EndsFor command before after answer) (for_once words command (Some (Scan files)) are is) ended in
+    let d = ends_done (Some (Scan files)) before after answer ends done in
     told_scans files before.held after.held d.o d.done d.told.told d.told.suits d.saved

@@ -63,12 +63,12 @@ file_one limit option text_gives one (Some text) (Err a) (Err b) (inl x) (inr y)
 file_one limit option text_gives one (Some text) (Err a) (Err b) (inr x) (inl y) = absurd (omega (arith, x.0, y.0))
 file_one limit option text_gives one (Some text) (Err a) (Err b) (inr x) (inr y) = one text (Err a) (Err b) x.1 y.1
 
-ok_same : {A E : Type 0} (a b : A) → Ok {E = E} a ≡ Ok b → a ≡ b
-ok_same a b e = cc
+ok_same : {A E : Type 0} (r : Result A E) (a b : A) → r ≡ Ok a → r ≡ Ok b → a ≡ b
+ok_same r a b p q = let e = sym p ∙ q in cc
 
 pub then_one : {A : Type 0} (gives : Result A Refusal → Type 0) (next : A → Outcome → Type 0) (a b : Outcome) → ((r s : Result A Refusal) → gives r → gives s → r ≡ s) →
     ((value : A) → gives (Ok value) → next value a → next value b → a ≡ b) → Then gives next a → Then gives next b → a ≡ b
-then_one gives next a b one behind (inl x) (inl y) = behind x.0 x.1.0 x.1.1 (subst (λ value. next value b) (ok_same y.0 x.0 (one (Ok y.0) (Ok x.0) y.1.0 x.1.0)) y.1.1)
+then_one gives next a b one behind (inl x) (inl y) = behind x.0 x.1.0 x.1.1 (subst (λ value. next value b) (ok_same (Ok x.0) y.0 x.0 (one (Ok x.0) (Ok y.0) x.1.0 y.1.0) refl) y.1.1)
 then_one gives next a b one behind (inl x) (inr y) = absurd (let e = one (Ok x.0) (Err y.0) x.1.0 y.1.0 in cc)
 then_one gives next a b one behind (inr x) (inl y) = absurd (let e = one (Err x.0) (Ok y.0) x.1.0 y.1.0 in cc)
 then_one gives next a b one behind (inr x) (inr y) = x.1.1 ∙ (let e = one (Err x.0) (Err y.0) x.1.0 y.1.0 in let f : x.0 ≡ y.0 = cc in ap Refused f) ∙ sym y.1.1
@@ -114,7 +114,7 @@ library_text_one : (text : List ℕ) (r s : Result (List Cell) Refusal) → Libr
 library_text_one text (Ok a) (Ok b) x y = ap Ok (library_one text a b x y)
 library_text_one text (Ok cells) (Err refusal) x y = absurd (library_or_refused text cells y.0 x (why text y.0 refusal y.1.0 y.1.1))
 library_text_one text (Err refusal) (Ok cells) x y = absurd (library_or_refused text cells x.0 y (why text x.0 refusal x.1.0 x.1.1))
-library_text_one text (Err a) (Err b) x y = told_one _ _ a b (ap library_refusal (why_one text x.0 y.0 (why text x.0 a x.1.0 x.1.1) (why text y.0 b y.1.0 y.1.1))) x.1.1 y.1.1
+library_text_one text (Err a) (Err b) x y = ap Err (told_one _ _ a b (ap library_refusal (why_one text x.0 y.0 (why text x.0 a x.1.0 x.1.1) (why text y.0 b y.1.0 y.1.1))) x.1.1 y.1.1)
 
 pub library_gives_one : (name : Option (List ℕ)) (held : Held) (r s : Result (List Cell) Refusal) → LibraryGives name held r → LibraryGives name held s → r ≡ s
 library_gives_one None held (Ok a) (Ok b) x y = ap Ok (x ∙ sym y)
@@ -157,7 +157,7 @@ pub config_text_one : (text : List ℕ) (r s : Result Config Refusal) → Config
 config_text_one text (Ok a) (Ok b) x y = ap Ok (config_one text a b x.stands y.stands)
 config_text_one text (Ok c) (Err refusal) x y = absurd (config_or_refused text c y.0 x.stands (tells text y.0 refusal y.1.0 y.1.1))
 config_text_one text (Err refusal) (Ok c) x y = absurd (config_or_refused text c x.0 y.stands (tells text x.0 refusal x.1.0 x.1.1))
-config_text_one text (Err a) (Err b) x y = told_one _ _ a b (ap config_refusal (tells_one text x.0 y.0 (tells text x.0 a x.1.0 x.1.1) (tells text y.0 b y.1.0 y.1.1))) x.1.1 y.1.1
+config_text_one text (Err a) (Err b) x y = ap Err (told_one _ _ a b (ap config_refusal (tells_one text x.0 y.0 (tells text x.0 a x.1.0 x.1.1) (tells text y.0 b y.1.0 y.1.1))) x.1.1 y.1.1)
 
 -- ---- the netlist
 
@@ -222,13 +222,9 @@ pub netlist_text_one : (cells : List Cell) (text : List ℕ) (r s : Result Netli
 netlist_text_one cells text (Ok a) (Ok b) x y = ap Ok (stands_one cells text a b x.stands y.stands)
 netlist_text_one cells text (Ok n) (Err refusal) x y = absurd (stands_or_refused cells text n y.0 x.stands (reason cells text y.0 refusal y.1.0 y.1.1))
 netlist_text_one cells text (Err refusal) (Ok n) x y = absurd (stands_or_refused cells text n x.0 y.stands (reason cells text x.0 refusal x.1.0 x.1.1))
-netlist_text_one cells text (Err a) (Err b) x y = told_one _ _ a b (ap verilog_refusal (reason_alone cells text x.0 y.0 (reason cells text x.0 a x.1.0 x.1.1) (reason cells text y.0 b y.1.0 y.1.1))) x.1.1 y.1.1
+netlist_text_one cells text (Err a) (Err b) x y = ap Err (told_one _ _ a b (ap verilog_refusal (reason_alone cells text x.0 y.0 (reason cells text x.0 a x.1.0 x.1.1) (reason cells text y.0 b y.1.0 y.1.1))) x.1.1 y.1.1)
 
 -- ---- the patterns
-
-verdicts_one : (n : Netlist) (p : Patterns) (rank : ℕ → ℕ) (a b : Outcome) (o : Option (List ℕ)) → IsOrdered n rank → IsOutcomeOn n p o a → IsOutcomeOn n p o b → a ≡ b
-verdicts_one n p rank a b (Some name) ordered x y = x ∙ sym y
-verdicts_one n p rank a b None ordered x y = x.1.1 ∙ ap (outcome_of p) (verdict_one n rank p x.0 y.0 ordered x.1.0 y.1.0) ∙ sym y.1.1
 
 patterns_one : (text : List ℕ) (p q : Patterns) → PatternText.StandsFor text p → PatternText.StandsFor text q → p ≡ q
 patterns_one text p q x y = let e : Ok p ≡ Ok q = sym x ∙ y in cc
@@ -254,5 +250,5 @@ pub pattern_text_one : (text : List ℕ) (r s : Result Patterns Refusal) → Pat
 pattern_text_one text (Ok a) (Ok b) x y = ap Ok (patterns_one text a b x.stands y.stands)
 pattern_text_one text (Ok p) (Err refusal) x y = absurd (patterns_or_refused text p y.0 x.stands (first_refusal text y.0 refusal y.1.0 y.1.1))
 pattern_text_one text (Err refusal) (Ok p) x y = absurd (patterns_or_refused text p x.0 y.stands (first_refusal text x.0 refusal x.1.0 x.1.1))
-pattern_text_one text (Err a) (Err b) x y = told_one _ _ a b (ap stil_refusal (stil_one text x.0 y.0 (first_refusal text x.0 a x.1.0 x.1.1) (first_refusal text y.0 b y.1.0 y.1.1))) x.1.1 y.1.1
+pattern_text_one text (Err a) (Err b) x y = ap Err (told_one _ _ a b (ap stil_refusal (stil_one text x.0 y.0 (first_refusal text x.0 a x.1.0 x.1.1) (first_refusal text y.0 b y.1.0 y.1.1))) x.1.1 y.1.1)
 

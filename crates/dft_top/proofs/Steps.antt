@@ -1,6 +1,6 @@
 -- Steps one after another: what a value, and what a stop, makes of all that comes behind.
-use Rattle.std.proofs.Common.{ℕ, ◌≡◌, inl, inr, refl, sym, subst, List, Option, None, Some, Result, Ok, Err}
-use Rattle.dft_base.specs.Outside.{Held, Told}
+use Rattle.std.proofs.Common.{ℕ, ◌≡◌, ◌≤◌, length, inl, inr, refl, sym, subst, List, Option, None, Some, Result, Ok, Err}
+use Rattle.dft_base.specs.Outside.{Held, Told, file_at}
 use Rattle.dft_cells.specs.declared.cell.Cell.{Cell}
 use Rattle.dft_config.specs.declared.config.Config.{Config}
 use Rattle.dft_netlist.specs.Netlist.{Netlist}
@@ -11,9 +11,9 @@ use Rattle.dft_top.specs.declared.outcome.Outcome.{Outcome}
 use Rattle.dft_top.specs.declared.stop.Stop.{Stop}
 use Rattle.dft_top.specs.declared.stop.Stop.TheVariants.{Refused, ReadFault, OutOfMemory}
 use Rattle.dft_words.specs.Words.{ReplayFiles, ScanFiles}
-use Rattle.dft_top.specs.Checks.{ConfigGives, NetlistGives, PatternsGive, Then}
+use Rattle.dft_top.specs.Checks.{ConfigGives, FileGives, NetlistGives, PatternsGive, Then}
 use Rattle.dft_top.specs.Outcomes.{IsOutcomeOn, IsOutcomeOfScanOf}
-use Rattle.dft_top.specs.Stops.{ComesTo, IsGivenTold}
+use Rattle.dft_top.specs.Stops.{ComesTo, IsGiven, IsGivenTold}
 
 -- what all comes to: a step, and what comes behind
 abbrev pub ComesBehind : {A : Type 0} → (Held → Result A Refusal → Type 0) → (Held → A → Outcome → Type 0) → Option Held → Result Outcome Stop → Type 0
@@ -59,6 +59,18 @@ comes_told is (Some h) (Ok o) comes = comes
 comes_told is (Some h) (Err (Refused refusal)) comes = comes
 comes_told is (Some h) (Err ReadFault) comes = tt
 comes_told is (Some h) (Err OutOfMemory) comes = tt
+
+-- what a text gives, the file gives, where it is told
+pub text_told : {A : Type 0} (limit : ℕ) (option : List ℕ) (text_gives : List ℕ → Result A Refusal → Type 0) (name text : List ℕ) (held : Option Held) (r : Result A Stop) →
+    Told (λ h. file_at name h ≡ Some text) held → length text ≤ limit → IsGiven (text_gives text) r → IsGivenTold (λ h. FileGives limit option text_gives (file_at name h)) held r
+text_told limit option text_gives name text None (Ok value) told short given = tt
+text_told limit option text_gives name text None (Err (Refused refusal)) told short given = tt
+text_told limit option text_gives name text None (Err ReadFault) told short given = tt
+text_told limit option text_gives name text None (Err OutOfMemory) told short given = tt
+text_told limit option text_gives name text (Some h) (Ok value) told short given = rw told (short, given)
+text_told limit option text_gives name text (Some h) (Err (Refused refusal)) told short given = rw told (inr (short, given))
+text_told limit option text_gives name text (Some h) (Err ReadFault) told short given = tt
+text_told limit option text_gives name text (Some h) (Err OutOfMemory) told short given = tt
 
 -- ---- behind each file of a replay
 

@@ -50,7 +50,7 @@ pub record Scans (files : ScanFiles) (old new : Held) : Type 0 where
   pub out : file_at files.out new ≡ Some (netlist_text netlist config)
   pub report : file_at files.report new ≡ Some (report_text netlist config)
   pub others : (name : List ℕ) → (name ≡ files.out → ⊥) → (name ≡ files.report → ⊥) → file_at name new ≡ file_at name old
-  pub reads : StandsFor netlist.library (netlist_text netlist config) (scanned Plain netlist config)
+  pub reads : StandsFor cells (netlist_text netlist config) (scanned Plain netlist config)
   -- what holds of it
   pub keeps : KeepsDesign netlist config
   pub agrees : AgreesWhileOff netlist config

@@ -3,6 +3,9 @@
 ghost use Rattle.std.specs.Prelude.{◌≡◌, ◌≤◌, ◌<◌, IfOk, IsSomeAnd, Err, Some, codes, length, option_map};
 ghost use Rattle.dft_base.specs.Name.{IsName};
 ghost use Rattle.dft_base.specs.Outside.{Told, file_at};
+ghost use Rattle.dft_config.specs.Range.{IsInRange};
+ghost use Rattle.dft_stil.specs.Patterns.{IsWellFormed};
+ghost use Rattle.dft_verilog_out.specs.Named.{GatesAreJoined};
 ghost use Rattle.dft_top.specs.Checks.{too_long, LibraryGives, ConfigGives, NetlistGives, PatternsGive};
 ghost use Rattle.dft_top.specs.Stops.{IsGivenTold, LoadFails, OnRefused};
 
@@ -51,6 +54,7 @@ fn load_named_library<F: Files>(alloc: Global, files: &mut F, name: &str) -> Res
 /// The configuration with this name.
 pub fn load_config<F: Files>(alloc: Global, files: &mut F, name: &str) -> Result<Config, Stop>
     ensures gives { IsGivenTold (ConfigGives name.now) (F.held files.old) result }
+    ensures range { IfOk result IsInRange }
     ensures fault { result ≡ Err Stop.ReadFault → LoadFails (Some name.now) (F.failed files.new)
         (F.read_faults files.old) (F.read_faults files.new) }
     ensures held { F.held files.new ≡ F.held files.old }
@@ -69,6 +73,7 @@ pub fn load_netlist<F: Files>(
     library: Library,
 ) -> Result<Design, Stop>
     ensures gives { IsGivenTold (NetlistGives library name.now) (F.held files.old) result }
+    ensures joined { IfOk result GatesAreJoined }
     ensures fault { result ≡ Err Stop.ReadFault → LoadFails (Some name.now) (F.failed files.new)
         (F.read_faults files.old) (F.read_faults files.new) }
     ensures held { F.held files.new ≡ F.held files.old }
@@ -82,6 +87,7 @@ pub fn load_netlist<F: Files>(
 /// The patterns with this name.
 pub fn load_patterns<F: Files>(alloc: Global, files: &mut F, name: &str) -> Result<PatternSet, Stop>
     ensures gives { IsGivenTold (PatternsGive name.now) (F.held files.old) result }
+    ensures well_formed { IfOk result IsWellFormed }
     ensures fault { result ≡ Err Stop.ReadFault → LoadFails (Some name.now) (F.failed files.new)
         (F.read_faults files.old) (F.read_faults files.new) }
     ensures held { F.held files.new ≡ F.held files.old }

@@ -1,7 +1,10 @@
 //! What the texts of files give by their checks.
 
 ghost use Rattle.std.specs.Prelude.{◌≤◌, IfErr, IfOk, length};
+ghost use Rattle.dft_config.specs.Range.{IsInRange};
+ghost use Rattle.dft_stil.specs.Patterns.{IsWellFormed};
 ghost use Rattle.dft_verilog.specs.Refusals.{IsRefused};
+ghost use Rattle.dft_verilog_out.specs.Named.{GatesAreJoined};
 ghost use Rattle.dft_top.specs.Checks.{ConfigText, IsDesignOf, LibraryText, NetlistText, PatternText};
 ghost use Rattle.dft_top.specs.Stops.{IsGiven};
 ghost use Rattle.dft_top.specs.declared.limits.TheConstants.{MAX_CONFIG_BYTES, MAX_LIBRARY_BYTES, MAX_NETLIST_BYTES, MAX_PATTERN_BYTES};
@@ -29,7 +32,8 @@ pub fn library_in(alloc: Global, text: &[u8]) -> Result<Library, Stop>
 /// The configuration of a text.
 pub fn config_in(alloc: Global, text: &[u8]) -> Result<Config, Stop>
     requires { length text.now ≤ MAX_CONFIG_BYTES }
-    ensures { IsGiven (ConfigText text.now) result }
+    ensures given { IsGiven (ConfigText text.now) result }
+    ensures range { IfOk result IsInRange }
 {
     match Config::read(alloc, text) {
         Ok(config) => Ok(config),
@@ -40,7 +44,8 @@ pub fn config_in(alloc: Global, text: &[u8]) -> Result<Config, Stop>
 /// The design of a netlist text over the cells of a library.
 pub fn design_in(alloc: Global, text: &[u8], library: Library) -> Result<Design, Stop>
     requires { length text.now ≤ MAX_NETLIST_BYTES }
-    ensures { IsGiven (NetlistText library text.now) result }
+    ensures given { IsGiven (NetlistText library text.now) result }
+    ensures joined { IfOk result GatesAreJoined }
 {
     match design_of(alloc, text, library) {
         Ok(design) => Ok(design),
@@ -52,6 +57,7 @@ pub fn design_in(alloc: Global, text: &[u8], library: Library) -> Result<Design,
 fn design_of(alloc: Global, text: &[u8], library: Library) -> Result<Design, VerilogError>
     requires { length text.now ≤ MAX_NETLIST_BYTES }
     ensures design { IfOk result (IsDesignOf library text.now) }
+    ensures joined { IfOk result GatesAreJoined }
     ensures refused { IfErr result (IsRefused library text.now) }
 {
     let design = dft_verilog::read(alloc, text, library)?;
@@ -63,7 +69,8 @@ fn design_of(alloc: Global, text: &[u8], library: Library) -> Result<Design, Ver
 /// The patterns of a text.
 pub fn patterns_in(alloc: Global, text: &[u8]) -> Result<PatternSet, Stop>
     requires { length text.now ≤ MAX_PATTERN_BYTES }
-    ensures { IsGiven (PatternText text.now) result }
+    ensures given { IsGiven (PatternText text.now) result }
+    ensures well_formed { IfOk result IsWellFormed }
 {
     match dft_stil::read(alloc, text) {
         Ok(patterns) => Ok(patterns),

@@ -1,0 +1,9 @@
+use Rattle.std.proofs.Common.{List}
+use Rattle.dft_top.proofs.Promised.{passes_for, scans_for}
+use Rattle.dft_top.proofs.command.run.Goals as goal
+
+pub returns-in-Ok-clause-passes : goal.returns-in-Ok-clause-passes
+returns-in-Ok-clause-passes g c = passes_for _ _ _ _ _ c.in-Ok.ensures c.run_command.ensures
+
+pub returns-in-Ok-clause-scans : goal.returns-in-Ok-clause-scans
+returns-in-Ok-clause-scans g c = scans_for _ _ _ _ _ c.in-Ok.ensures c.run_command.ensures
