@@ -1,10 +1,6 @@
-pub mod Options
-pub mod Scan
-pub mod Turns
-pub mod Rows
-pub mod Walks
-pub mod Commands
-pub mod Refused
+pub mod Steps
+pub mod TwoSaves
 pub mod NetlistRefusals
+pub mod Readings
 pub mod OneOutcome
-pub mod Passing
+pub mod Promised

@@ -1,9 +1,12 @@
-pub mod Words
-pub mod Named
-pub mod CommandLine
 pub mod Refusals
+pub mod Checks
 pub mod Outcomes
 pub mod Lines
 pub mod Answers
+pub mod Scanning
+pub mod Promises
+pub mod Saves
+pub mod Named
 pub mod Run
+pub mod Stops
 pub mod Laws

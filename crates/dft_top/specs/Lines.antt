@@ -2,11 +2,12 @@
 use Rattle.std.specs.Prelude.{ℕ, ℤ, List, [], ◌∷◌, ◌++◌, codes, Option, None, Some}
 use Rattle.std.specs.Fmt.{decimal, signed_decimal}
 use Rattle.dft_base.specs.declared.place.Place.{Place}
+use Rattle.dft_scan.specs.declared.texts.Counts.{Counts}
 use Rattle.dft_top.specs.declared.answer.Code.{Code}
-use Rattle.dft_top.specs.declared.answer.Code.TheVariants.{F1, L1, L2, L3, L4, L5, L6, L7, V1, V2, V3, V4, V5, V6, V7, V8, V9, V10, V11, V12, N1, N2, N3, N4, P1, P2, P3, P4, P5, P7, P8, P9, P10}
+use Rattle.dft_top.specs.declared.answer.Code.TheVariants.{F1, L1, L2, L3, L4, L5, L6, L7, C1, C2, C3, C4, C5, C6, V1, V2, V3, V4, V5, V6, V7, V8, V9, V10, V11, V12, N1, N2, N3, N4, G1, G2, G3, G4, G5, G6, G7, P1, P2, P3, P4, P5, P7, P8, P9, P10, K6}
 use Rattle.dft_top.specs.declared.answer.Refusal.{Refusal}
 use Rattle.dft_top.specs.declared.outcome.Outcome.{Outcome}
-use Rattle.dft_top.specs.declared.outcome.Outcome.TheVariants.{Usage, Refused, Passed, Mismatch, Undetermined}
+use Rattle.dft_top.specs.declared.outcome.Outcome.TheVariants.{Usage, Refused, Passed, Mismatch, Undetermined, Scanned}
 
 abbrev pub code_text : Code → List ℕ
 code_text F1 = codes "F1"
@@ -17,6 +18,12 @@ code_text L4 = codes "L4"
 code_text L5 = codes "L5"
 code_text L6 = codes "L6"
 code_text L7 = codes "L7"
+code_text C1 = codes "C1"
+code_text C2 = codes "C2"
+code_text C3 = codes "C3"
+code_text C4 = codes "C4"
+code_text C5 = codes "C5"
+code_text C6 = codes "C6"
 code_text V1 = codes "V1"
 code_text V2 = codes "V2"
 code_text V3 = codes "V3"
@@ -33,6 +40,13 @@ code_text N1 = codes "N1"
 code_text N2 = codes "N2"
 code_text N3 = codes "N3"
 code_text N4 = codes "N4"
+code_text G1 = codes "G1"
+code_text G2 = codes "G2"
+code_text G3 = codes "G3"
+code_text G4 = codes "G4"
+code_text G5 = codes "G5"
+code_text G6 = codes "G6"
+code_text G7 = codes "G7"
 code_text P1 = codes "P1"
 code_text P2 = codes "P2"
 code_text P3 = codes "P3"
@@ -42,6 +56,7 @@ code_text P7 = codes "P7"
 code_text P8 = codes "P8"
 code_text P9 = codes "P9"
 code_text P10 = codes "P10"
+code_text K6 = codes "K6"
 
 -- ---- the parts of a refusal, each behind a blank
 
@@ -73,9 +88,14 @@ passed_line vectors compared = codes "pass " ++ (decimal vectors ++ (codes " vec
 abbrev pub failed_line : (what : List ℕ) → (vector : ℕ) → (signal : List ℕ) → List ℕ
 failed_line what vector signal = what ++ (codes " vector " ++ (decimal vector ++ (codes " signal " ++ (signal ++ codes "\n"))))
 
+abbrev pub scanned_line : Counts → List ℕ
+scanned_line counts =
+    codes "scanned cells " ++ (decimal counts.cells ++ (codes " unscanned " ++ (decimal counts.unscanned ++ (codes " chains " ++ (decimal counts.chains ++ (codes " lockups " ++ (decimal counts.lockups ++ codes "\n")))))))
+
 abbrev pub line_of : Outcome → List ℕ
 line_of Usage = usage_line
 line_of (Refused refusal) = refused_line refusal
 line_of (Passed vectors compared) = passed_line vectors compared
 line_of (Mismatch vector signal) = failed_line (codes "mismatch") vector signal
 line_of (Undetermined vector signal) = failed_line (codes "undetermined") vector signal
+line_of (Scanned counts netlist report) = scanned_line counts

@@ -1,62 +1,29 @@
 -- What a command comes to, from its words and the files that are held.
-use Rattle.std.specs.Prelude.{ℕ, ◌<◌, ◌≤◌, ◌≡◌, ◌⊎◌, List, codes, length, Option, None, Some, slice_get, []}
-use Rattle.dft_base.specs.Outside.{Held, file_at}
-use Rattle.dft_cells.specs.declared.cell.Cell.{Cell}
-use Rattle.dft_cells.specs.declared.refusal.LibraryError.{LibraryError}
-use Rattle.dft_cells.specs.Standard.{standard_cells}
-use Rattle.dft_cells.specs.Reading.{IsLibraryOf, IsRefusedAs}
+use Rattle.std.specs.Prelude.{ℕ, ◌≡◌, ◌⊎◌, List, [], length, Option, None, Some, slice_get}
+use Rattle.dft_base.specs.Outside.{Held}
+use Rattle.dft_config.specs.declared.config.Config.{Config}
+use Rattle.dft_insert.specs.Statements.{IsReady, scanned}
+use Rattle.dft_insert.specs.declared.style.Style.TheVariants.{Plain}
 use Rattle.dft_netlist.specs.Netlist.{Netlist}
 use Rattle.dft_netlist.specs.NetlistText.{StandsFor}
-use Rattle.dft_netlist.specs.Orders.{IsOrder}
-use Rattle.dft_netlist.specs.Runs.{Now, Turn}
-use Rattle.dft_netlist.specs.Sound.{IsNetlist}
-use Rattle.dft_verilog.specs.declared.error.VerilogError.{VerilogError}
-use Rattle.dft_verilog.specs.Refusals.{IsRefused}
 use Rattle.dft_stil.specs.declared.signal.StilSignal.{StilSignal}
-use Rattle.dft_stil.specs.declared.error.StilError.{StilError}
-use Rattle.dft_stil.specs.Patterns.{Patterns, IsWellFormed}
-use Rattle.dft_stil.specs.PatternText as PatternText
-use Rattle.dft_stil.specs.Refusals as StilRefusals
+use Rattle.dft_stil.specs.Patterns.{Patterns}
 use Rattle.dft_replay.specs.declared.verdict.Verdict.{Verdict}
 use Rattle.dft_replay.specs.declared.verdict.Verdict.TheVariants as verdict
 use Rattle.dft_replay.specs.Fits.{first_misfit}
-use Rattle.dft_replay.specs.Rows.{rows_of}
 use Rattle.dft_replay.specs.Verdicts.{HasVerdict}
-use Rattle.dft_replay.specs.Laws.{IsRunOf, AllShow}
-use Rattle.dft_top.specs.declared.answer.Code.TheVariants.{F1, P7}
+use Rattle.dft_scan.specs.declared.error.ScanError.{ScanError}
+use Rattle.dft_scan.specs.Refusals.{refusal}
+use Rattle.dft_scan.specs.Scans.{counts_of, netlist_text, report_text}
+use Rattle.dft_words.specs.Words.{Command, Replay, Scan, ReplayFiles, ScanFiles, AreFor}
+use Rattle.dft_top.specs.declared.answer.Code.TheVariants.{P7}
 use Rattle.dft_top.specs.declared.answer.Refusal.{Refusal}
 use Rattle.dft_top.specs.declared.outcome.Outcome.{Outcome}
-use Rattle.dft_top.specs.declared.outcome.Outcome.TheVariants.{Usage, Refused, Passed, Mismatch, Undetermined}
-use Rattle.dft_top.specs.declared.limits.TheConstants.{MAX_LIBRARY_BYTES, MAX_NETLIST_BYTES, MAX_PATTERN_BYTES}
-use Rattle.dft_top.specs.Refusals.{named, library_refusal, verilog_refusal, stil_refusal}
-use Rattle.dft_top.specs.Words.{ReplayFiles, AreFor}
+use Rattle.dft_top.specs.declared.outcome.Outcome.TheVariants.{Usage, Refused, Passed, Mismatch, Undetermined, Scanned}
+use Rattle.dft_top.specs.Refusals.{named, scan_refusal}
+use Rattle.dft_top.specs.Checks.{LibraryGives, ConfigGives, NetlistGives, PatternsGive, Then, After}
 
--- ---- refusals
-
--- a file is longer than its limit; the part is the name of the file's option
-abbrev pub too_long : (option : List ℕ) → Outcome
-too_long option = Refused (named F1 option)
-
--- the outcome of an error, which is a refusal; there is none where memory ran out
-abbrev pub IsRefusal : Option Refusal → Outcome → Type 0
-IsRefusal None o = ⊥
-IsRefusal (Some refusal) o = o ≡ Refused refusal
-
--- ---- the parts that texts stand for
-
--- the netlist that a text stands for over the cells of a library, with an order of its nets
-pub record IsDesignOf (cells : List Cell) (text : List ℕ) (n : Netlist) : Type 0 where
-  pub stands : StandsFor cells text n
-  pub sound : IsNetlist n
-  pub order : List ℕ
-  pub ordered : IsOrder n order
-
--- the patterns that a text stands for, which are well formed
-pub record ArePatternsOf (text : List ℕ) (p : Patterns) : Type 0 where
-  pub stands : PatternText.StandsFor text p
-  pub well_formed : IsWellFormed p
-
--- ---- the verdict
+-- ---- a replay
 
 -- the name of the signal with a number; there is one with each number that a verdict has
 abbrev pub name_at : Option StilSignal → List ℕ
@@ -76,89 +43,67 @@ abbrev pub IsOutcomeOn : Netlist → Patterns → Option (List ℕ) → Outcome 
 IsOutcomeOn n p (Some name) o = o ≡ Refused (named P7 name)
 IsOutcomeOn n p None o = (v : Verdict) × (HasVerdict n p v × (o ≡ outcome_of p v))
 
--- ---- each file's text: the first check that fails, or what comes behind
+-- the library, then the netlist, then the patterns, and then the verdict
+abbrev pub IsOutcomeOfReplay : ReplayFiles → Held → Outcome → Type 0
+IsOutcomeOfReplay files held o =
+    Then (LibraryGives files.library held) (λ cells.
+    Then (NetlistGives cells files.netlist held) (λ n.
+    Then (PatternsGive files.patterns held) (λ p.
+    IsOutcomeOn n p (first_misfit n p.signals)))) o
 
-abbrev pub IsOutcomeOfPatterns : Netlist → (text : List ℕ) → Outcome → Type 0
-IsOutcomeOfPatterns n text o =
-    ((p : Patterns) × (ArePatternsOf text p × IsOutcomeOn n p (first_misfit n p.signals) o))
-    ⊎ ((error : StilError) × (StilRefusals.IsRefused text error × IsRefusal (stil_refusal error) o))
+-- ---- a scan
 
--- a file is refused where it is longer than its limit; one that is not held gives no outcome
-abbrev pub IsOutcomeOfFile : (limit : ℕ) → (option : List ℕ) → (List ℕ → Outcome → Type 0) → Option (List ℕ) → Outcome → Type 0
-IsOutcomeOfFile limit option next None o = ⊥
-IsOutcomeOfFile limit option next (Some text) o = ((limit < length text) × (o ≡ too_long option)) ⊎ ((length text ≤ limit) × next text o)
+-- The design is scanned: the outcome has the written form of its scanned netlist, and its report. The text stands for the netlist.
+pub record IsScanned (n : Netlist) (config : Config) (o : Outcome) : Type 0 where
+  pub ready : IsReady n config
+  pub is : o ≡ Scanned (counts_of n config) (netlist_text n config) (report_text n config)
+  pub reads : StandsFor n.library (netlist_text n config) (scanned Plain n config)
 
--- behind the netlist come the patterns
-abbrev pub IsOutcomeOfNetlist : List Cell → (patterns : Option (List ℕ)) → (text : List ℕ) → Outcome → Type 0
-IsOutcomeOfNetlist cells patterns text o =
-    ((n : Netlist) × (IsDesignOf cells text n × IsOutcomeOfFile MAX_PATTERN_BYTES (codes "patterns") (IsOutcomeOfPatterns n) patterns o))
-    ⊎ ((error : VerilogError) × (IsRefused cells text error × IsRefusal (verilog_refusal error) o))
+-- an error is a refusal, but for want of memory
+abbrev pub IsRefusal : Option Refusal → Outcome → Type 0
+IsRefusal None o = ⊥
+IsRefusal (Some refusal) o = o ≡ Refused refusal
 
--- over the cells of a library, the netlist is loaded first
-abbrev pub IsOutcomeOver : List Cell → (netlist patterns : Option (List ℕ)) → Outcome → Type 0
-IsOutcomeOver cells netlist patterns o = IsOutcomeOfFile MAX_NETLIST_BYTES (codes "netlist") (IsOutcomeOfNetlist cells patterns) netlist o
+-- the first check that fails on the design is refused: of the scan rules, the plan, the insertion, the report; and else it is scanned
+abbrev pub IsOutcomeOfScanOf : Netlist → Config → Option ScanError → Outcome → Type 0
+IsOutcomeOfScanOf n config (Some error) o = IsRefusal (scan_refusal error) o
+IsOutcomeOfScanOf n config None o = IsScanned n config o
 
--- behind the library comes the netlist
-abbrev pub IsOutcomeOfLibrary : (netlist patterns : Option (List ℕ)) → (text : List ℕ) → Outcome → Type 0
-IsOutcomeOfLibrary netlist patterns text o =
-    ((cells : List Cell) × (IsLibraryOf text cells × IsOutcomeOver cells netlist patterns o))
-    ⊎ ((error : LibraryError) × (IsRefusedAs text error × IsRefusal (library_refusal error) o))
+-- the library, then the configuration, then the netlist, and then the scan
+abbrev pub IsOutcomeOfScan : ScanFiles → Held → Outcome → Type 0
+IsOutcomeOfScan files held o =
+    Then (LibraryGives files.library held) (λ cells.
+    Then (ConfigGives files.config held) (λ config.
+    Then (NetlistGives cells files.netlist held) (λ n.
+    IsOutcomeOfScanOf n config (refusal n config)))) o
 
--- where no library is named, it is the standard one
-abbrev pub IsOutcomeOfFiles : (library : Option (List ℕ)) → (netlist patterns : List ℕ) → Held → Outcome → Type 0
-IsOutcomeOfFiles None netlist patterns held o = IsOutcomeOver standard_cells (file_at netlist held) (file_at patterns held) o
-IsOutcomeOfFiles (Some library) netlist patterns held o =
-    IsOutcomeOfFile MAX_LIBRARY_BYTES (codes "library") (IsOutcomeOfLibrary (file_at netlist held) (file_at patterns held)) (file_at library held) o
+-- ---- of words
 
--- of what words are for: Usage, or what the files come to
-abbrev pub IsOutcomeFor : Option ReplayFiles → Held → Outcome → Type 0
+-- of what words are for: Usage, or what the command's files come to
+abbrev pub IsOutcomeFor : Option Command → Held → Outcome → Type 0
 IsOutcomeFor None held o = o ≡ Usage
-IsOutcomeFor (Some files) held o = IsOutcomeOfFiles files.library files.netlist files.patterns held o
+IsOutcomeFor (Some (Replay files)) held o = IsOutcomeOfReplay files held o
+IsOutcomeFor (Some (Scan files)) held o = IsOutcomeOfScan files held o
 
 abbrev pub IsOutcome : List (List ℕ) → Held → Outcome → Type 0
-IsOutcome words held o = (named : Option ReplayFiles) × (AreFor words named × IsOutcomeFor named held o)
+IsOutcome words held o = (command : Option Command) × (AreFor words command × IsOutcomeFor command held o)
 
--- ---- the turn of a file
+-- ---- which file is loaded
 
--- the file is held, is not too long, and its text is as the checks ask
-abbrev pub IsHeld : (limit : ℕ) → (List ℕ → Type 0) → Option (List ℕ) → Type 0
-IsHeld limit P None = ⊥
-IsHeld limit P (Some text) = (length text ≤ limit) × P text
+-- the name is one that the words give for a file that the command loads
+abbrev pub IsLoaded : Option Command → (name : List ℕ) → Type 0
+IsLoaded None name = ⊥
+IsLoaded (Some (Replay files)) name = (files.library ≡ Some name) ⊎ ((name ≡ files.netlist) ⊎ (name ≡ files.patterns))
+IsLoaded (Some (Scan files)) name = (files.library ≡ Some name) ⊎ ((name ≡ files.config) ⊎ (name ≡ files.netlist))
 
--- the cells are those of the library that is named, or else the standard ones
-abbrev pub AreCells : (library : Option (List ℕ)) → Held → List Cell → Type 0
-AreCells None held cells = cells ≡ standard_cells
-AreCells (Some library) held cells = IsHeld MAX_LIBRARY_BYTES (λ text. IsLibraryOf text cells) (file_at library held)
-
--- over these cells: the netlist's name, or the patterns' where the netlist passes its checks
-abbrev pub HasTurnOver : List Cell → (netlist patterns : List ℕ) → Held → (name : List ℕ) → Type 0
-HasTurnOver cells netlist patterns held name =
-    (name ≡ netlist) ⊎ ((name ≡ patterns) × IsHeld MAX_NETLIST_BYTES (λ text. (n : Netlist) × IsDesignOf cells text n) (file_at netlist held))
-
--- the library's name comes first, and the others where the library passes its checks
-abbrev pub HasTurn : (library : Option (List ℕ)) → (netlist patterns : List ℕ) → Held → (name : List ℕ) → Type 0
-HasTurn None netlist patterns held name = HasTurnOver standard_cells netlist patterns held name
-HasTurn (Some library) netlist patterns held name =
-    (name ≡ library) ⊎ IsHeld MAX_LIBRARY_BYTES (λ text. (cells : List Cell) × (IsLibraryOf text cells × HasTurnOver cells netlist patterns held name)) (file_at library held)
-
--- the name is one that the words give
-abbrev pub IsNamed : ReplayFiles → (name : List ℕ) → Type 0
-IsNamed files name = (files.library ≡ Some name) ⊎ ((name ≡ files.netlist) ⊎ (name ≡ files.patterns))
-
--- ---- what Done promises
-
--- every run of the netlist over the patterns shows each compared bit as printed
-abbrev pub EveryRunShows : Netlist → Patterns → Type 0
-EveryRunShows n p = (start : Now) (turns : List Turn) → IsRunOf n p start turns → AllShow (rows_of n p) turns
-
--- these are the netlist and the patterns of the held texts, over the cells of the library, with a verdict of Pass
-pub record Passes (files : ReplayFiles) (held : Held) : Type 0 where
-  pub cells : List Cell
-  pub library : AreCells files.library held cells
-  pub netlist : Netlist
-  pub design : IsHeld MAX_NETLIST_BYTES (λ text. IsDesignOf cells text netlist) (file_at files.netlist held)
-  pub patterns : Patterns
-  pub vectors : IsHeld MAX_PATTERN_BYTES (λ text. ArePatternsOf text patterns) (file_at files.patterns held)
-  pub fit : first_misfit netlist patterns.signals ≡ None
-  pub passed : (compared : ℕ) × HasVerdict netlist patterns (verdict.Pass compared)
-  pub shown : EveryRunShows netlist patterns
+-- The turn of the file with this name comes: no check before its load fails.
+abbrev pub HasTurn : Option Command → Held → (name : List ℕ) → Type 0
+HasTurn None held name = ⊥
+HasTurn (Some (Replay files)) held name =
+    (files.library ≡ Some name)
+    ⊎ After (LibraryGives files.library held) (λ cells. (name ≡ files.netlist)
+    ⊎ After (NetlistGives cells files.netlist held) (λ n. name ≡ files.patterns))
+HasTurn (Some (Scan files)) held name =
+    (files.library ≡ Some name)
+    ⊎ After (LibraryGives files.library held) (λ cells. (name ≡ files.config)
+    ⊎ After (ConfigGives files.config held) (λ config. name ≡ files.netlist))

@@ -1,4 +1,4 @@
--- Refusals, and what the readers' and the replayer's errors come to.
+-- Refusals, and what the errors of readers and of a scan come to.
 use Rattle.std.specs.Prelude.{ℕ, ℤ, List, codes, Option, None, Some}
 use Rattle.dft_base.specs.declared.place.Place.{Place}
 use Rattle.dft_cells.specs.declared.refusal.LibraryError.{LibraryError}
@@ -11,8 +11,22 @@ use Rattle.dft_verilog.specs.declared.error.VerilogError.{VerilogError}
 use Rattle.dft_verilog.specs.declared.error.VerilogError.TheVariants as verilog
 use Rattle.dft_stil.specs.declared.error.StilError.{StilError}
 use Rattle.dft_stil.specs.declared.error.StilError.TheVariants as stil
+use Rattle.dft_config.specs.declared.error.ConfigError.{ConfigError}
+use Rattle.dft_config.specs.declared.error.ConfigError.TheVariants as config
+use Rattle.dft_rules.specs.declared.error.RuleError.{RuleError}
+use Rattle.dft_rules.specs.declared.error.RuleError.TheVariants as rule
+use Rattle.dft_stitch.specs.declared.error.Counted.{Counted as Planned}
+use Rattle.dft_stitch.specs.declared.error.Counted.TheVariants as planned
+use Rattle.dft_stitch.specs.declared.error.StitchError.{StitchError}
+use Rattle.dft_stitch.specs.declared.error.StitchError.TheVariants as stitch
+use Rattle.dft_insert.specs.declared.error.InsertError.{InsertError}
+use Rattle.dft_insert.specs.declared.error.InsertError.TheVariants as insert
+use Rattle.dft_report.specs.declared.error.ReportError.{ReportError}
+use Rattle.dft_report.specs.declared.error.ReportError.TheVariants as report
+use Rattle.dft_scan.specs.declared.error.ScanError.{ScanError}
+use Rattle.dft_scan.specs.declared.error.ScanError.TheVariants as scan
 use Rattle.dft_top.specs.declared.answer.Code.{Code}
-use Rattle.dft_top.specs.declared.answer.Code.TheVariants.{L1, L2, L3, L4, L5, L6, L7, V1, V2, V3, V4, V5, V6, V7, V8, V9, V10, V11, V12, N1, N2, N3, N4, P1, P2, P3, P4, P5, P8, P9, P10}
+use Rattle.dft_top.specs.declared.answer.Code.TheVariants.{L1, L2, L3, L4, L5, L6, L7, C1, C2, C3, C4, C5, C6, V1, V2, V3, V4, V5, V6, V7, V8, V9, V10, V11, V12, N1, N2, N3, N4, G1, G2, G3, G4, G5, G6, G7, P1, P2, P3, P4, P5, P8, P9, P10, K6}
 use Rattle.dft_top.specs.declared.answer.Refusal.{Refusal}
 
 -- ---- refusals by their parts
@@ -31,6 +45,12 @@ worded code place word = record (placed code place) { name = Some word }
 
 abbrev pub numbered : Code → (name : List ℕ) → (number : ℤ) → Refusal
 numbered code name number = record (named code name) { first = Some number }
+
+abbrev pub measured : Code → (number : ℤ) → Refusal
+measured code number = record (plain code) { first = Some number }
+
+abbrev pub paired : Code → (first second : ℤ) → Refusal
+paired code first second = record (measured code first) { second = Some second }
 
 -- ---- the refusal that an error comes to; none where memory ran out
 
@@ -82,3 +102,48 @@ stil_refusal (stil.P8 place) = Some (placed P8 place)
 stil_refusal (stil.P9 place name) = Some (worded P9 place name)
 stil_refusal (stil.P10 vector name) = Some (numbered P10 name vector)
 stil_refusal (stil.Memory error) = None
+
+abbrev pub config_refusal : ConfigError → Option Refusal
+config_refusal config.C1 = Some (plain C1)
+config_refusal (config.C2 key) = Some (named C2 key)
+config_refusal (config.C3 key number) = Some (numbered C3 key number)
+config_refusal (config.C4 key) = Some (named C4 key)
+config_refusal (config.C5 chain) = Some (measured C5 chain)
+config_refusal (config.C6 key) = Some (named C6 key)
+config_refusal (config.Memory error) = None
+
+-- ---- the refusal of a scan
+
+abbrev pub rule_refusal : RuleError → Option Refusal
+rule_refusal (rule.ClockAsData net) = Some (named G1 net)
+rule_refusal (rule.ScanCellPresent instance) = Some (named G2 instance)
+rule_refusal (rule.TooFewCells found wanted) = Some (paired G3 found wanted)
+rule_refusal (rule.UnknownName name) = Some (named G4 name)
+rule_refusal (rule.LockupPresent instance) = Some (named G5 instance)
+rule_refusal (rule.PortName name) = Some (named G7 name)
+rule_refusal (rule.Memory error) = None
+
+abbrev pub planned_text : Planned → List ℕ
+planned_text planned.Cells = codes "cells"
+planned_text planned.Cycles = codes "cycles"
+planned_text planned.Variables = codes "variables"
+
+abbrev pub stitch_refusal : StitchError → Option Refusal
+stitch_refusal (stitch.TooMany what limit) = Some (numbered N4 (planned_text what) limit)
+stitch_refusal (stitch.Memory error) = None
+
+abbrev pub insert_refusal : InsertError → Option Refusal
+insert_refusal (insert.NameClash name) = Some (named G6 name)
+insert_refusal (insert.TooMany what limit) = Some (numbered N4 (counted_text what) limit)
+insert_refusal (insert.Memory error) = None
+
+abbrev pub report_refusal : ReportError → Option Refusal
+report_refusal (report.K6 bytes) = Some (measured K6 bytes)
+report_refusal (report.Memory error) = None
+
+abbrev pub scan_refusal : ScanError → Option Refusal
+scan_refusal (scan.Rules error) = rule_refusal error
+scan_refusal (scan.Stitch error) = stitch_refusal error
+scan_refusal (scan.Insert error) = insert_refusal error
+scan_refusal (scan.Report error) = report_refusal error
+scan_refusal (scan.Memory error) = None

@@ -1,42 +1,101 @@
--- What a run promises, by its status.
+-- What a run promises.
 use Rattle.std.specs.Prelude.{ℕ, ◌≡◌, ◌⊎◌, List, Option, None, Some}
-use Rattle.dft_base.specs.Outside.{Held, Told, Rose}
+use Rattle.dft_base.specs.Outside.{Held, Told, ToldChange, Rose}
 use Rattle.dft_base.specs.Put.{Adds, AddsPrefix}
 use Rattle.dft_top.specs.declared.answer.Status.TheVariants.{Done, ReadFault, WriteFault, OutOfMemory}
 use Rattle.dft_top.specs.declared.answer.Answer.{Answer}
 use Rattle.dft_top.specs.declared.outcome.Outcome.{Outcome}
 use Rattle.dft_top.specs.declared.outcome.Outcome.TheVariants as outcome
+use Rattle.dft_words.specs.Words.{Command, Replay, Scan, ReplayFiles, ScanFiles, AreFor, IsReplay, IsScan}
 use Rattle.dft_top.specs.Answers.{answer_of, stopped}
-use Rattle.dft_top.specs.Words.{ReplayFiles, AreFor, IsReplay}
-use Rattle.dft_top.specs.Outcomes.{IsOutcomeFor, HasTurn, IsNamed, Passes}
 use Rattle.dft_top.specs.Lines.{line_of}
+use Rattle.dft_top.specs.Outcomes.{IsOutcomeFor, IsLoaded, HasTurn}
+use Rattle.dft_top.specs.Promises.{Passes, Scans}
+use Rattle.dft_top.specs.Saves.{savings, HaveSaved, HaveSavedSome, SaveFailed, CountsSaves}
 
-abbrev pub IsNotUsage : Outcome → Type 0
-IsNotUsage outcome.Usage = ⊥
-IsNotUsage (outcome.Refused refusal) = Unit {0}
-IsNotUsage (outcome.Passed vectors compared) = Unit {0}
-IsNotUsage (outcome.Mismatch vector signal) = Unit {0}
-IsNotUsage (outcome.Undetermined vector signal) = Unit {0}
+-- what is seen of the files and of the output: what files are held, the name in the last call that failed, how many loads and saves
+-- have failed, what was printed, how often that has failed
+pub record Seen : Type 0 where
+  pub held : Option Held
+  pub failed : List ℕ
+  pub read_faults : ℕ
+  pub write_faults : ℕ
+  pub printed : Option (List ℕ)
+  pub put_faults : ℕ
 
--- Usage is the outcome of exactly the words that are no command
-abbrev pub Suits : Option ReplayFiles → Outcome → Type 0
+-- ---- the outcome
+
+-- a replay comes to a refusal or a verdict, a scan to a refusal or a scan, and Usage is the outcome of exactly the words that are no command
+abbrev pub IsOfReplay : Outcome → Type 0
+IsOfReplay outcome.Usage = ⊥
+IsOfReplay (outcome.Refused refusal) = Unit {0}
+IsOfReplay (outcome.Passed vectors compared) = Unit {0}
+IsOfReplay (outcome.Mismatch vector signal) = Unit {0}
+IsOfReplay (outcome.Undetermined vector signal) = Unit {0}
+IsOfReplay (outcome.Scanned counts netlist report) = ⊥
+
+abbrev pub IsOfScan : Outcome → Type 0
+IsOfScan outcome.Usage = ⊥
+IsOfScan (outcome.Refused refusal) = Unit {0}
+IsOfScan (outcome.Passed vectors compared) = ⊥
+IsOfScan (outcome.Mismatch vector signal) = ⊥
+IsOfScan (outcome.Undetermined vector signal) = ⊥
+IsOfScan (outcome.Scanned counts netlist report) = Unit {0}
+
+abbrev pub Suits : Option Command → Outcome → Type 0
 Suits None o = o ≡ outcome.Usage
-Suits (Some files) o = IsNotUsage o
+Suits (Some (Replay files)) o = IsOfReplay o
+Suits (Some (Scan files)) o = IsOfScan o
 
--- the outcome is that of what the words are for, and of the held files where they are told
-pub record IsOutcomeTold (words : List (List ℕ)) (held : Option Held) (o : Outcome) : Type 0 where
-  pub named : Option ReplayFiles
-  pub are_for : AreFor words named
-  pub suits : Suits named o
-  pub told : Told (λ files. IsOutcomeFor named files o) held
+-- the outcome is one of the command, and that of the held files where they are told
+pub record IsOutcomeTold (command : Option Command) (held : Option Held) (o : Outcome) : Type 0 where
+  pub suits : Suits command o
+  pub told : Told (λ files. IsOutcomeFor command files o) held
 
--- a load of a file whose turn came failed
-pub record FailedLoad (words : List (List ℕ)) (held : Option Held) (failed : List ℕ) (faults faults' : ℕ) : Type 0 where
-  pub files : ReplayFiles
-  pub replay : IsReplay words files
-  pub rose : Rose faults faults'
-  pub named : IsNamed files failed
-  pub turn : Told (λ h. HasTurn files.library files.netlist files.patterns h failed) held
+-- ---- how a run ends
+
+-- no file is changed, no save has failed, and nothing was printed
+pub record IsUntouched (before after : Seen) : Type 0 where
+  pub held : after.held ≡ before.held
+  pub write_faults : after.write_faults ≡ before.write_faults
+  pub printed : after.printed ≡ before.printed
+
+-- Memory ran out.
+abbrev pub RunsOut : (before after : Seen) → Answer → Type 0
+RunsOut before after answer = IsUntouched before after × (answer ≡ stopped OutOfMemory)
+
+-- A load failed, of a file that the command loads and whose turn came.
+pub record ReadFails (command : Option Command) (before after : Seen) (answer : Answer) : Type 0 where
+  pub rose : Rose before.read_faults after.read_faults
+  pub loaded : IsLoaded command after.failed
+  pub turn : Told (λ held. HasTurn command held after.failed) before.held
+  pub untouched : IsUntouched before after
+  pub answers : answer ≡ stopped ReadFault
+
+-- The outcome is answered: what it saves was saved, and its line was put.
+pub record Answers (command : Option Command) (o : Outcome) (before after : Seen) (answer : Answer) : Type 0 where
+  pub saved : HaveSaved (savings command o) before.held after.held
+  pub printed : Adds (line_of o) before.printed after.printed
+  pub answers : answer ≡ answer_of o
+
+-- A save of the outcome failed: those before it stand whole, and nothing was printed.
+pub record SaveFails (command : Option Command) (o : Outcome) (before after : Seen) (answer : Answer) : Type 0 where
+  pub failed : SaveFailed (savings command o) before.held after.held after.failed before.write_faults after.write_faults
+  pub printed : after.printed ≡ before.printed
+  pub answers : answer ≡ stopped WriteFault
+
+-- The line could not be put whole: what the outcome saves was saved, and a prefix of the line was put.
+pub record PutFails (command : Option Command) (o : Outcome) (before after : Seen) (answer : Answer) : Type 0 where
+  pub rose : Rose before.put_faults after.put_faults
+  pub saved : HaveSaved (savings command o) before.held after.held
+  pub printed : AddsPrefix (line_of o) before.printed after.printed
+  pub answers : answer ≡ stopped WriteFault
+
+-- Memory ran out when there was an outcome: the saves before stand whole, and nothing was printed.
+pub record EndsShort (command : Option Command) (o : Outcome) (before after : Seen) (answer : Answer) : Type 0 where
+  pub saved : HaveSavedSome (savings command o) before.held after.held
+  pub printed : after.printed ≡ before.printed
+  pub answers : answer ≡ stopped OutOfMemory
 
 -- what is printed of an outcome: its line, or a prefix of it where the outside fails, or nothing where memory runs out
 abbrev pub Prints : Outcome → (faults faults' : ℕ) → (old new : Option (List ℕ)) → Answer → Type 0
@@ -45,31 +104,40 @@ Prints o faults faults' old new answer =
     ⊎ (Rose faults faults' × AddsPrefix (line_of o) old new × (answer ≡ stopped WriteFault))
     ⊎ ((new ≡ old) × (answer ≡ stopped OutOfMemory))
 
--- the answer is that of the outcome, whose line was put
-abbrev pub Answers : List (List ℕ) → Option Held → (old new : Option (List ℕ)) → Answer → Type 0
-Answers words held old new answer = (o : Outcome) × (IsOutcomeTold words held o × (answer ≡ answer_of o) × Adds (line_of o) old new)
+-- what becomes of an outcome
+abbrev pub IsDelivered : Option Command → Outcome → (before after : Seen) → Answer → Type 0
+IsDelivered command o before after answer =
+    Answers command o before after answer
+    ⊎ SaveFails command o before after answer
+    ⊎ PutFails command o before after answer
+    ⊎ EndsShort command o before after answer
 
--- a load of a file whose turn came failed, and nothing was printed
-abbrev pub ReadFails : List (List ℕ) → Option Held → (failed : List ℕ) → (faults faults' : ℕ) → (old new : Option (List ℕ)) → Answer → Type 0
-ReadFails words held failed faults faults' old new answer = FailedLoad words held failed faults faults' × (new ≡ old) × (answer ≡ stopped ReadFault)
+-- a command, or no command, comes to its outcome
+pub record Delivers (command : Option Command) (before after : Seen) (answer : Answer) : Type 0 where
+  pub o : Outcome
+  pub told : IsOutcomeTold command before.held o
+  pub counts : CountsSaves (savings command o) before.write_faults after.write_faults
+  pub delivered : IsDelivered command o before after answer
 
--- the line of the outcome could not be put whole
-abbrev pub WriteFails : List (List ℕ) → Option Held → (faults faults' : ℕ) → (old new : Option (List ℕ)) → Answer → Type 0
-WriteFails words held faults faults' old new answer =
-    Rose faults faults' × ((o : Outcome) × (IsOutcomeTold words held o × AddsPrefix (line_of o) old new)) × (answer ≡ stopped WriteFault)
+-- the run of a command, or of no command
+abbrev pub EndsFor : Option Command → (before after : Seen) → Answer → Type 0
+EndsFor command before after answer =
+    Delivers command before after answer
+    ⊎ ReadFails command before after answer
+    ⊎ RunsOut before after answer
 
--- memory ran out, and nothing was printed
-abbrev pub RunsOut : (old new : Option (List ℕ)) → Answer → Type 0
-RunsOut old new answer = (new ≡ old) × (answer ≡ stopped OutOfMemory)
+-- Memory ran out before it was known what the words are for; or they are for this command, or for none, and its run ends so.
+abbrev pub Ends : List (List ℕ) → (before after : Seen) → Answer → Type 0
+Ends words before after answer =
+    RunsOut before after answer
+    ⊎ ((command : Option Command) × (AreFor words command × EndsFor command before after answer))
 
--- where patterns pass, the words are a replay of files whose netlist and patterns pass: every run shows each compared bit as printed
+-- ---- what Done promises
+
+-- where the words are a replay, its patterns pass: every run shows each compared bit as printed
 abbrev pub PassesTold : List (List ℕ) → Option Held → Answer → Type 0
-PassesTold words held answer = answer.status ≡ Done → (files : ReplayFiles) × (IsReplay words files × Told (Passes files) held)
+PassesTold words held answer = (files : ReplayFiles) → IsReplay words files → answer.status ≡ Done → Told (Passes files) held
 
--- a run ends in one of four ways
-abbrev pub Ends : List (List ℕ) → Option Held → (failed : List ℕ) → (read_faults read_faults' put_faults put_faults' : ℕ) → (old new : Option (List ℕ)) → Answer → Type 0
-Ends words held failed read_faults read_faults' put_faults put_faults' old new answer =
-    Answers words held old new answer
-    ⊎ ReadFails words held failed read_faults read_faults' old new answer
-    ⊎ WriteFails words held put_faults put_faults' old new answer
-    ⊎ RunsOut old new answer
+-- where the words are a scan, the scanned netlist and the report are saved: scan off it is the same design, and its chains shift
+abbrev pub ScansTold : List (List ℕ) → (held held' : Option Held) → Answer → Type 0
+ScansTold words held held' answer = (files : ScanFiles) → IsScan words files → answer.status ≡ Done → ToldChange (Scans files) held held'

@@ -7,7 +7,7 @@ use dft_base::{Name, Place};
 /// How a command ended.
 #[derive(Clone, Copy, Debug, PartialEq, Eq)]
 pub enum Status {
-    /// It did what it is for; patterns passed.
+    /// It did what it is for: patterns passed, or the files of a scan are saved.
     Done,
     /// The patterns do not pass: a bit differs, or is not determined.
     NotPassed,
@@ -42,6 +42,18 @@ pub enum Code {
     L6,
     /// A cell, or the table `cells`, has a missing or another key, a value of another kind, or a name with other bytes.
     L7,
+    /// A configuration is no TOML text. It has no part.
+    C1,
+    /// A key is missing, holds another kind of value, or is unknown. Its part is the key, as at C3, C4 and C6.
+    C2,
+    /// A number, or the count of a list, is outside of its range. Its parts are the key and the number.
+    C3,
+    /// A list in the list at a key is empty.
+    C4,
+    /// A chain stands in no group. Its part is the chain.
+    C5,
+    /// Something stands twice at a key.
+    C6,
     /// A byte that no netlist text may have there. Its part is the place, as at all codes of netlist texts (IEEE 1364).
     V1,
     /// A token that stands where none such may, or a constant that is driven.
@@ -75,6 +87,20 @@ pub enum Code {
     N3,
     /// There would be more than a limit. Its parts are what is counted and the limit.
     N4,
+    /// A clock is used as data. Its part is the name of the net.
+    G1,
+    /// A scan cell is there already. Its part is the name of the instance, as at G5.
+    G2,
+    /// There are fewer scanned cells than chains. Its parts are how many there are, and how many chains.
+    G3,
+    /// A name of the configuration is not in the design. Its part is the name, as at G6 and G7.
+    G4,
+    /// A lock-up latch is there already.
+    G5,
+    /// A name that insertion adds is taken.
+    G6,
+    /// A port's name has a double quote.
+    G7,
     /// A token of a pattern text (IEEE 1450-1999) that stands where none such may. Its part is the place.
     P1,
     /// A word, a shape or a character in a pattern text that is left out of the subset that is read. Its parts are the
@@ -94,6 +120,8 @@ pub enum Code {
     P9,
     /// A signal that pulses in a vector is high or unset in another. Its parts are the signal's name and the vector.
     P10,
+    /// A report is longer than its limit. Its part is how many bytes it would have.
+    K6,
 }
 
 /// A refusal: its code, and the parts that are printed behind it.
@@ -135,7 +163,7 @@ impl Answer {
                 status: Status::Refused,
                 refusal: Some(refusal),
             },
-            Outcome::Passed { .. } => Answer::stopped(Status::Done),
+            Outcome::Passed { .. } | Outcome::Scanned { .. } => Answer::stopped(Status::Done),
             Outcome::Mismatch { .. } | Outcome::Undetermined { .. } => {
                 Answer::stopped(Status::NotPassed)
             }

@@ -1,67 +1,131 @@
 //! A run of the tool.
 
-ghost use Rattle.std.specs.Prelude.{◌≡◌, IfOk, Err, map, string_bytes};
-ghost use Rattle.dft_top.specs.Run.{Ends, FailedLoad, IsOutcomeTold, PassesTold, Prints};
+ghost use Rattle.std.specs.Prelude.{◌≡◌, ◌≢◌, List, Some, Err, OnErr, OnOk, map, option_map, string_bytes};
+ghost use Rattle.dft_base.specs.Outside.{Rose, Told};
+ghost use Rattle.dft_words.specs.Named.{command_of};
+ghost use Rattle.dft_top.specs.Lines.{line_of};
+ghost use Rattle.dft_top.specs.Outcomes.{HasTurn, IsLoaded};
+ghost use Rattle.dft_top.specs.Run.{Ends, EndsFor, IsDelivered, IsOutcomeTold, PassesTold, Prints, ScansTold};
+ghost use Rattle.dft_top.specs.Saves.{CountsSaves, SavesApart, savings};
+ghost use Rattle.dft_top.specs.Stops.{ComesTo};
 
 use crate::answer::{Answer, Status};
-use crate::loading::{Stop, outcome_of_files};
 use crate::outcome::Outcome;
 use crate::printing::line;
-use crate::words::files_named;
-use dft_base::{Files, PutError, Sink};
+use crate::replaying::outcome_of_replay;
+use crate::saving::save_outcome;
+use crate::scanning::outcome_of_scan;
+use crate::stop::Stop;
+use dft_base::{Files, PutError, SaveError, Sink};
+use dft_words::{Command, command};
 use std::alloc::Global;
 
-/// Runs a command. `replay --netlist FILE --patterns FILE`, perhaps with `--library FILE`, loads the files, replays the
-/// patterns on the netlist over the cells of the library, and prints one line. It ends in one of four ways. It answers
-/// what the words and the files come to, and its line is put: Done where the patterns pass, NotPassed, Refused with the
-/// first check that fails, or Usage. Or a load of a file whose turn came failed (ReadFault). Or the line could not be
-/// put whole (WriteFault). Or memory ran out (OutOfMemory). Where it answers Done and the files are told, every run of
-/// the netlist over the patterns, whatever the starting bits, the order of clock edges and the free bits, shows each
-/// compared bit as printed. No file is saved.
+/// Runs a command. `replay --netlist FILE --patterns FILE` replays the patterns on the netlist. `scan --netlist FILE
+/// --config FILE --out FILE --report FILE` inserts scan chains into the netlist as the configuration says, and saves the
+/// scanned netlist and a report. Both take `--library FILE` for the cells. Files are loaded in their turn, and each passes
+/// its checks before the next is loaded; a scan makes its texts before it saves the first; and one line is printed.
+///
+/// A run ends in one of five ways. It answers what the words and the files come to, all is saved, and its line is put:
+/// Done, NotPassed, Refused with the first check that fails, or Usage. Or a load of a file whose turn came failed
+/// (ReadFault). Or a save failed, and nothing is printed; or the line could not be put whole (WriteFault). Or memory ran
+/// out. Only a scan that passes all checks changes files.
 pub fn run<F: Files, O: Sink>(alloc: Global, words: &[String], files: &mut F, out: &mut O) -> Answer
-    ensures ends { Ends (map string_bytes words.entry.now) (F.held files.old) (F.failed files.new)
-        (F.read_faults files.old) (F.read_faults files.new) (O.faults out.old) (O.faults out.new)
-        (O.told out.old) (O.told out.new) result }
+    ensures ends { Ends (map string_bytes words.entry.now)
+        (record { held = F.held files.old; failed = F.failed files.old; read_faults = F.read_faults files.old; write_faults = F.write_faults files.old;
+            printed = O.told out.old; put_faults = O.faults out.old })
+        (record { held = F.held files.new; failed = F.failed files.new; read_faults = F.read_faults files.new; write_faults = F.write_faults files.new;
+            printed = O.told out.new; put_faults = O.faults out.new })
+        result }
     ensures passes { PassesTold (map string_bytes words.entry.now) (F.held files.old) result }
-    ensures held { F.held files.new ≡ F.held files.old }
-    ensures saves { F.write_faults files.new ≡ F.write_faults files.old }
+    ensures scans { ScansTold (map string_bytes words.entry.now) (F.held files.old) (F.held files.new) result }
 {
-    match outcome_of_words(alloc, words, files) {
-        Ok(outcome) => answer(alloc, outcome, out),
+    match command(alloc, words) {
+        Ok(command) => run_command(alloc, command, files, out),
+        Err(_) => Answer::stopped(Status::OutOfMemory),
+    }
+}
+
+/// Runs a command, or none.
+fn run_command<F: Files, O: Sink>(
+    alloc: Global,
+    command: Option<Command<'_>>,
+    files: &mut F,
+    out: &mut O,
+) -> Answer
+    requires { SavesApart (option_map command_of command) }
+    ensures { EndsFor (option_map command_of command.entry)
+        (record { held = F.held files.old; failed = F.failed files.old; read_faults = F.read_faults files.old; write_faults = F.write_faults files.old;
+            printed = O.told out.old; put_faults = O.faults out.old })
+        (record { held = F.held files.new; failed = F.failed files.new; read_faults = F.read_faults files.new; write_faults = F.write_faults files.new;
+            printed = O.told out.new; put_faults = O.faults out.new })
+        result }
+{
+    match outcome_of(alloc, command, files) {
+        Ok(outcome) => deliver(alloc, command, outcome, files, out),
+        Err(Stop::Refused(refusal)) => {
+            deliver(alloc, command, Outcome::Refused(refusal), files, out)
+        }
         Err(Stop::ReadFault) => Answer::stopped(Status::ReadFault),
         Err(Stop::OutOfMemory) => Answer::stopped(Status::OutOfMemory),
     }
 }
 
-/// Puts the line of an outcome, and answers it.
-fn answer<O: Sink>(alloc: Global, outcome: Outcome, out: &mut O) -> Answer
-    ensures { Prints outcome (O.faults out.old) (O.faults out.new) (O.told out.old) (O.told out.new) result }
+/// What a command comes to, or what it is that there is none.
+fn outcome_of<F: Files>(
+    alloc: Global,
+    command: Option<Command<'_>>,
+    files: &mut F,
+) -> Result<Outcome, Stop>
+    ensures outcome { ComesTo (IsOutcomeTold (option_map command_of command.entry) (F.held files.old)) result }
+    ensures rose { result ≡ Err Stop.ReadFault → Rose (F.read_faults files.old) (F.read_faults files.new) }
+    ensures loaded { result ≡ Err Stop.ReadFault → IsLoaded (option_map command_of command.entry) (F.failed files.new) }
+    ensures turn { result ≡ Err Stop.ReadFault → Told (λ h. HasTurn (option_map command_of command.entry) h (F.failed files.new)) (F.held files.old) }
+    ensures held { F.held files.new ≡ F.held files.old }
+    ensures saves { F.write_faults files.new ≡ F.write_faults files.old }
+{
+    match command {
+        None => Ok(Outcome::Usage),
+        Some(Command::Replay(names)) => outcome_of_replay(alloc, names, files),
+        Some(Command::Scan(names)) => outcome_of_scan(alloc, names, files),
+    }
+}
+
+/// Saves what a command saves of its outcome, and puts the outcome's line.
+fn deliver<F: Files, O: Sink>(
+    alloc: Global,
+    command: Option<Command<'_>>,
+    outcome: Outcome,
+    files: &mut F,
+    out: &mut O,
+) -> Answer
+    requires { SavesApart (option_map command_of command) }
+    ensures delivered { IsDelivered (option_map command_of command.entry) outcome
+        (record { held = F.held files.old; failed = F.failed files.old; read_faults = F.read_faults files.old; write_faults = F.write_faults files.old;
+            printed = O.told out.old; put_faults = O.faults out.old })
+        (record { held = F.held files.new; failed = F.failed files.new; read_faults = F.read_faults files.new; write_faults = F.write_faults files.new;
+            printed = O.told out.new; put_faults = O.faults out.new })
+        result }
+    ensures counts { CountsSaves (savings (option_map command_of command.entry) outcome) (F.write_faults files.old) (F.write_faults files.new) }
 {
     let line = match line(alloc, &outcome) {
         Ok(line) => line,
         Err(_) => return Answer::stopped(Status::OutOfMemory),
     };
-    match out.put(line.as_slice()) {
-        Ok(()) => Answer::of(outcome),
-        Err(PutError::Failed) => Answer::stopped(Status::WriteFault),
-        Err(PutError::Memory(_)) => Answer::stopped(Status::OutOfMemory),
+    match save_outcome(alloc, command, &outcome, files) {
+        Ok(()) => put_line(outcome, line.as_slice(), out),
+        Err(SaveError::Failed) => Answer::stopped(Status::WriteFault),
+        Err(SaveError::Memory(_)) => Answer::stopped(Status::OutOfMemory),
     }
 }
 
-/// What the words and the files come to.
-fn outcome_of_words<F: Files>(
-    alloc: Global,
-    words: &[String],
-    files: &mut F,
-) -> Result<Outcome, Stop>
-    ensures outcome { IfOk result (IsOutcomeTold (map string_bytes words.entry.now) (F.held files.old)) }
-    ensures fault { result ≡ Err Stop.ReadFault → FailedLoad (map string_bytes words.entry.now) (F.held files.old)
-        (F.failed files.new) (F.read_faults files.old) (F.read_faults files.new) }
-    ensures held { F.held files.new ≡ F.held files.old }
-    ensures saves { F.write_faults files.new ≡ F.write_faults files.old }
+/// Puts the line of an outcome, and answers it.
+fn put_line<O: Sink>(outcome: Outcome, line: &[u8], out: &mut O) -> Answer
+    requires { line.now ≡ line_of outcome }
+    ensures { Prints outcome (O.faults out.old) (O.faults out.new) (O.told out.old) (O.told out.new) result }
 {
-    match files_named(alloc, words)? {
-        None => Ok(Outcome::Usage),
-        Some(names) => outcome_of_files(alloc, names, files),
+    match out.put(line) {
+        Ok(()) => Answer::of(outcome),
+        Err(PutError::Failed) => Answer::stopped(Status::WriteFault),
+        Err(PutError::Memory(_)) => Answer::stopped(Status::OutOfMemory),
     }
 }

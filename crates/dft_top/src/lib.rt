@@ -1,4 +1,4 @@
-//! The tool's commands: from the words of a command line and named files to a status and a line.
+//! The tool's commands: from the words of a command line and named files to a status, a line and saved files.
 #![tactic(auto)]
 
 mod answer;
@@ -8,12 +8,15 @@ mod limits;
 mod loading;
 mod outcome;
 mod printing;
+mod reading;
 mod refusing;
 mod replaying;
-mod words;
+mod saving;
+mod scanning;
+mod stop;
 
 pub use answer::{Answer, Code, Refusal, Status};
 pub use command::run;
 pub use laws::outcome_is_one;
-pub use limits::{MAX_LIBRARY_BYTES, MAX_NETLIST_BYTES, MAX_PATTERN_BYTES};
+pub use limits::{MAX_CONFIG_BYTES, MAX_LIBRARY_BYTES, MAX_NETLIST_BYTES, MAX_PATTERN_BYTES};
 pub use outcome::Outcome;

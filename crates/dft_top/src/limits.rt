@@ -3,6 +3,9 @@
 /// The most bytes of a library file: 64 MiB.
 pub const MAX_LIBRARY_BYTES: u32 = 67_108_864;
 
+/// The most bytes of a configuration file: 64 MiB.
+pub const MAX_CONFIG_BYTES: u32 = 67_108_864;
+
 /// The most bytes of a netlist file: 64 MiB.
 pub const MAX_NETLIST_BYTES: u32 = 67_108_864;
 

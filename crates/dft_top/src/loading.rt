@@ -1,158 +1,134 @@
-//! What the named files come to: each is loaded in its turn, and passes its checks before the next is loaded.
+//! The files of a command: each is loaded in its turn, and gives a value by its checks, or is refused.
 
-ghost use Rattle.std.specs.Prelude.{◌≡◌, ◌⊎◌, ◌≤◌, IfOk, IfErr, Err, Some, codes, length};
-ghost use Rattle.dft_base.specs.Outside.{Rose, Told, file_at};
-ghost use Rattle.dft_verilog.specs.Refusals.{IsRefused};
-ghost use Rattle.dft_top.specs.Named.{files_of};
-ghost use Rattle.dft_top.specs.Outcomes.{IsDesignOf, IsOutcomeOfFile, IsOutcomeOfFiles, IsOutcomeOfPatterns, IsOutcomeOver, HasTurn, HasTurnOver, IsNamed};
-ghost use Rattle.dft_top.specs.Run.{IsNotUsage};
-ghost use Rattle.dft_top.specs.declared.limits.TheConstants.{MAX_NETLIST_BYTES, MAX_PATTERN_BYTES};
+ghost use Rattle.std.specs.Prelude.{◌≡◌, ◌≤◌, ◌<◌, IfOk, IsSomeAnd, Err, Some, codes, length, option_map};
+ghost use Rattle.dft_base.specs.Name.{IsName};
+ghost use Rattle.dft_base.specs.Outside.{Told, file_at};
+ghost use Rattle.dft_config.specs.Range.{IsInRange};
+ghost use Rattle.dft_stil.specs.Patterns.{IsWellFormed};
+ghost use Rattle.dft_verilog_out.specs.Named.{GatesAreJoined};
+ghost use Rattle.dft_top.specs.Checks.{too_long, LibraryGives, ConfigGives, NetlistGives, PatternsGive};
+ghost use Rattle.dft_top.specs.Stops.{IsGivenTold, LoadFails, OnRefused};
 
-use crate::limits::{MAX_LIBRARY_BYTES, MAX_NETLIST_BYTES, MAX_PATTERN_BYTES};
-use crate::outcome::{Outcome, too_long};
-use crate::refusing::{library_refusal, verilog_refusal};
-use crate::replaying::outcome_of_patterns;
-use crate::words::ReplayFiles;
-use dft_base::{Files, LoadError};
+use crate::answer::{Code, Refusal};
+use crate::limits::{MAX_CONFIG_BYTES, MAX_LIBRARY_BYTES, MAX_NETLIST_BYTES, MAX_PATTERN_BYTES};
+use crate::reading::{config_in, design_in, library_in, patterns_in};
+use crate::stop::Stop;
+use dft_base::{Files, LoadError, Name};
 use dft_cells::Library;
+use dft_config::Config;
 use dft_netlist::Design;
-use dft_verilog::VerilogError;
+use dft_stil::PatternSet;
 use std::alloc::{AllocError, Global};
 
-/// Why a run stops before it has an outcome.
-#[derive(Debug, Drop)]
-pub enum Stop {
-    ReadFault,
-    OutOfMemory,
-}
-
-impl From<AllocError> for Stop {
-    ghost use Rattle.dft_top.specs.declared.loading.Stop.TheVariants.{OutOfMemory};
-
-    ghost from_gives = { λ _ e. e ≡ OutOfMemory };
-
-    fn from(_error: AllocError) -> Stop {
-        Stop::OutOfMemory
-    }
-}
-
-/// What the named files come to. The library comes first, where one is named, then the netlist, then the patterns.
-pub fn outcome_of_files<F: Files>(
+/// The library with this name, or the standard one where there is no name.
+pub fn load_library<F: Files>(
     alloc: Global,
-    names: ReplayFiles<'_>,
     files: &mut F,
-) -> Result<Outcome, Stop>
-    ensures outcome { IfOk result (λ o. Told (λ h. IsOutcomeOfFiles (files_of names.entry).library (files_of names.entry).netlist
-        (files_of names.entry).patterns h o) (F.held files.old)) }
-    ensures named { IfOk result IsNotUsage }
-    ensures rose { result ≡ Err Stop.ReadFault → Rose (F.read_faults files.old) (F.read_faults files.new) }
-    ensures failed { result ≡ Err Stop.ReadFault → IsNamed (files_of names.entry) (F.failed files.new) }
-    ensures turn { result ≡ Err Stop.ReadFault → Told (λ h. HasTurn (files_of names.entry).library (files_of names.entry).netlist
-        (files_of names.entry).patterns h (F.failed files.new)) (F.held files.old) }
+    name: Option<&str>,
+) -> Result<Library, Stop>
+    ensures gives { IsGivenTold (LibraryGives (option_map (λ name. name.now) name.entry)) (F.held files.old) result }
+    ensures fault { result ≡ Err Stop.ReadFault → LoadFails (option_map (λ name. name.now) name.entry) (F.failed files.new)
+        (F.read_faults files.old) (F.read_faults files.new) }
     ensures held { F.held files.new ≡ F.held files.old }
+    ensures faults { F.read_faults files.old ≤ F.read_faults files.new }
     ensures saves { F.write_faults files.new ≡ F.write_faults files.old }
 {
-    match names.library {
-        None => {
-            let library = Library::standard(alloc)?;
-            outcome_over(alloc, library, names.netlist, names.patterns, files)
-        }
-        Some(name) => outcome_of_library(alloc, name, names.netlist, names.patterns, files),
+    match name {
+        None => Ok(Library::standard(alloc)?),
+        Some(name) => load_named_library(alloc, files, name),
     }
 }
 
-/// What the files come to where a library is named.
-fn outcome_of_library<F: Files>(
+fn load_named_library<F: Files>(alloc: Global, files: &mut F, name: &str) -> Result<Library, Stop>
+    ensures gives { IsGivenTold (LibraryGives (Some name.now)) (F.held files.old) result }
+    ensures fault { result ≡ Err Stop.ReadFault → LoadFails (Some name.now) (F.failed files.new)
+        (F.read_faults files.old) (F.read_faults files.new) }
+    ensures held { F.held files.new ≡ F.held files.old }
+    ensures faults { F.read_faults files.old ≤ F.read_faults files.new }
+    ensures saves { F.write_faults files.new ≡ F.write_faults files.old }
+{
+    let text = load_text(alloc, files, name, b"library", MAX_LIBRARY_BYTES)?;
+    library_in(alloc, text.as_slice())
+}
+
+/// The configuration with this name.
+pub fn load_config<F: Files>(alloc: Global, files: &mut F, name: &str) -> Result<Config, Stop>
+    ensures gives { IsGivenTold (ConfigGives name.now) (F.held files.old) result }
+    ensures range { IfOk result IsInRange }
+    ensures fault { result ≡ Err Stop.ReadFault → LoadFails (Some name.now) (F.failed files.new)
+        (F.read_faults files.old) (F.read_faults files.new) }
+    ensures held { F.held files.new ≡ F.held files.old }
+    ensures faults { F.read_faults files.old ≤ F.read_faults files.new }
+    ensures saves { F.write_faults files.new ≡ F.write_faults files.old }
+{
+    let text = load_text(alloc, files, name, b"config", MAX_CONFIG_BYTES)?;
+    config_in(alloc, text.as_slice())
+}
+
+/// The design of the netlist with this name, over the cells of a library.
+pub fn load_netlist<F: Files>(
     alloc: Global,
+    files: &mut F,
     name: &str,
-    netlist: &str,
-    patterns: &str,
-    files: &mut F,
-) -> Result<Outcome, Stop>
-    ensures outcome { IfOk result (λ o. Told (λ h. IsOutcomeOfFiles (Some name.now) netlist.now patterns.now h o) (F.held files.old)) }
-    ensures named { IfOk result IsNotUsage }
-    ensures rose { result ≡ Err Stop.ReadFault → Rose (F.read_faults files.old) (F.read_faults files.new) }
-    ensures failed { result ≡ Err Stop.ReadFault →
-        (F.failed files.new ≡ name.now) ⊎ ((F.failed files.new ≡ netlist.now) ⊎ (F.failed files.new ≡ patterns.now)) }
-    ensures turn { result ≡ Err Stop.ReadFault → Told (λ h. HasTurn (Some name.now) netlist.now patterns.now h
-        (F.failed files.new)) (F.held files.old) }
-    ensures held { F.held files.new ≡ F.held files.old }
-    ensures saves { F.write_faults files.new ≡ F.write_faults files.old }
-{
-    let text = match files.load(alloc, name, MAX_LIBRARY_BYTES) {
-        Ok(text) => text,
-        Err(LoadError::TooLong) => return Ok(too_long(alloc, b"library")?),
-        Err(LoadError::Failed) => return Err(Stop::ReadFault),
-        Err(LoadError::Memory(_)) => return Err(Stop::OutOfMemory),
-    };
-    match Library::read(alloc, text.as_slice()) {
-        Ok(library) => outcome_over(alloc, library, netlist, patterns, files),
-        Err(error) => Ok(Outcome::Refused(library_refusal(error)?)),
-    }
-}
-
-/// What the netlist and the patterns come to over a library.
-fn outcome_over<F: Files>(
-    alloc: Global,
     library: Library,
-    netlist: &str,
-    patterns: &str,
-    files: &mut F,
-) -> Result<Outcome, Stop>
-    ensures outcome { IfOk result (λ o. Told (λ h. IsOutcomeOver library (file_at netlist.now h) (file_at patterns.now h) o)
-        (F.held files.old)) }
-    ensures named { IfOk result IsNotUsage }
-    ensures rose { result ≡ Err Stop.ReadFault → Rose (F.read_faults files.old) (F.read_faults files.new) }
-    ensures failed { result ≡ Err Stop.ReadFault → (F.failed files.new ≡ netlist.now) ⊎ (F.failed files.new ≡ patterns.now) }
-    ensures turn { result ≡ Err Stop.ReadFault →
-        Told (λ h. HasTurnOver library netlist.now patterns.now h (F.failed files.new)) (F.held files.old) }
+) -> Result<Design, Stop>
+    ensures gives { IsGivenTold (NetlistGives library name.now) (F.held files.old) result }
+    ensures joined { IfOk result GatesAreJoined }
+    ensures fault { result ≡ Err Stop.ReadFault → LoadFails (Some name.now) (F.failed files.new)
+        (F.read_faults files.old) (F.read_faults files.new) }
     ensures held { F.held files.new ≡ F.held files.old }
+    ensures faults { F.read_faults files.old ≤ F.read_faults files.new }
     ensures saves { F.write_faults files.new ≡ F.write_faults files.old }
 {
-    let text = match files.load(alloc, netlist, MAX_NETLIST_BYTES) {
-        Ok(text) => text,
-        Err(LoadError::TooLong) => return Ok(too_long(alloc, b"netlist")?),
-        Err(LoadError::Failed) => return Err(Stop::ReadFault),
-        Err(LoadError::Memory(_)) => return Err(Stop::OutOfMemory),
-    };
-    match design_of(alloc, text.as_slice(), library) {
-        Ok(design) => outcome_on_design(alloc, &design, patterns, files),
-        Err(error) => Ok(Outcome::Refused(verilog_refusal(alloc, error)?)),
+    let text = load_text(alloc, files, name, b"netlist", MAX_NETLIST_BYTES)?;
+    design_in(alloc, text.as_slice(), library)
+}
+
+/// The patterns with this name.
+pub fn load_patterns<F: Files>(alloc: Global, files: &mut F, name: &str) -> Result<PatternSet, Stop>
+    ensures gives { IsGivenTold (PatternsGive name.now) (F.held files.old) result }
+    ensures well_formed { IfOk result IsWellFormed }
+    ensures fault { result ≡ Err Stop.ReadFault → LoadFails (Some name.now) (F.failed files.new)
+        (F.read_faults files.old) (F.read_faults files.new) }
+    ensures held { F.held files.new ≡ F.held files.old }
+    ensures faults { F.read_faults files.old ≤ F.read_faults files.new }
+    ensures saves { F.write_faults files.new ≡ F.write_faults files.old }
+{
+    let text = load_text(alloc, files, name, b"patterns", MAX_PATTERN_BYTES)?;
+    patterns_in(alloc, text.as_slice())
+}
+
+/// The bytes of a file that is named by an option of the command.
+fn load_text<F: Files>(
+    alloc: Global,
+    files: &mut F,
+    name: &str,
+    option: &[u8],
+    limit: u32,
+) -> Result<Vec<u8>, Stop>
+    requires { IsName option.now }
+    ensures bytes { IfOk result (λ text. Told (λ h. file_at name.now h ≡ Some text.items) (F.held files.old)) }
+    ensures short { IfOk result (λ text. length text.items ≤ limit) }
+    ensures refused { OnRefused result (λ refusal. refusal ≡ too_long option.now) }
+    ensures long { OnRefused result (λ refusal. Told (λ h. IsSomeAnd (file_at name.now h) (λ b. limit < length b)) (F.held files.old)) }
+    ensures fault { result ≡ Err Stop.ReadFault → LoadFails (Some name.now) (F.failed files.new)
+        (F.read_faults files.old) (F.read_faults files.new) }
+    ensures held { F.held files.new ≡ F.held files.old }
+    ensures faults { F.read_faults files.old ≤ F.read_faults files.new }
+    ensures saves { F.write_faults files.new ≡ F.write_faults files.old }
+{
+    match files.load(alloc, name, limit) {
+        Ok(text) => Ok(text),
+        Err(LoadError::TooLong) => Err(Stop::Refused(longer(alloc, option)?)),
+        Err(LoadError::Failed) => Err(Stop::ReadFault),
+        Err(LoadError::Memory(_)) => Err(Stop::OutOfMemory),
     }
 }
 
-/// The design of a netlist text, of which its calls say that it is sound and has an order.
-fn design_of(alloc: Global, text: &[u8], library: Library) -> Result<Design, VerilogError>
-    requires { length text.now ≤ MAX_NETLIST_BYTES }
-    ensures design { IfOk result (IsDesignOf library text.now) }
-    ensures refused { IfErr result (IsRefused library text.now) }
+/// The refusal of a file that is longer than its limit, with the name of its option.
+fn longer(alloc: Global, option: &[u8]) -> Result<Refusal, AllocError>
+    requires { IsName option.now }
+    ensures { IfOk result (λ refusal. refusal ≡ too_long option.now) }
 {
-    let design = dft_verilog::read(alloc, text, library)?;
-    let _name = design.module();
-    let _order = design.order();
-    Ok(design)
-}
-
-/// What the named patterns come to on the design.
-fn outcome_on_design<F: Files>(
-    alloc: Global,
-    design: &Design,
-    patterns: &str,
-    files: &mut F,
-) -> Result<Outcome, Stop>
-    ensures outcome { IfOk result (λ o. Told (λ h. IsOutcomeOfFile MAX_PATTERN_BYTES (codes "patterns")
-        (IsOutcomeOfPatterns design.now) (file_at patterns.now h) o) (F.held files.old)) }
-    ensures named { IfOk result IsNotUsage }
-    ensures rose { result ≡ Err Stop.ReadFault → Rose (F.read_faults files.old) (F.read_faults files.new) }
-    ensures failed { result ≡ Err Stop.ReadFault → F.failed files.new ≡ patterns.now }
-    ensures held { F.held files.new ≡ F.held files.old }
-    ensures saves { F.write_faults files.new ≡ F.write_faults files.old }
-{
-    let text = match files.load(alloc, patterns, MAX_PATTERN_BYTES) {
-        Ok(text) => text,
-        Err(LoadError::TooLong) => return Ok(too_long(alloc, b"patterns")?),
-        Err(LoadError::Failed) => return Err(Stop::ReadFault),
-        Err(LoadError::Memory(_)) => return Err(Stop::OutOfMemory),
-    };
-    Ok(outcome_of_patterns(alloc, design, text.as_slice())?)
+    Ok(Refusal::named(Code::F1, Name::from_slice(alloc, option)?))
 }

@@ -1,10 +1,7 @@
-ghost use Rattle.std.specs.Prelude.{◌≡◌, IfOk};
-ghost use Rattle.dft_base.specs.Name.{IsName};
-ghost use Rattle.dft_top.specs.Outcomes as spec;
-
-use crate::answer::{Code, Refusal};
+use crate::answer::Refusal;
 use dft_base::Name;
-use std::alloc::{AllocError, Global};
+use dft_config::Listed;
+use dft_scan::Counts;
 
 /// What a command comes to where nothing outside fails and memory is found. Vectors are numbered from 0.
 #[derive(Debug, Drop)]
@@ -19,13 +16,10 @@ pub enum Outcome {
     Mismatch { vector: u32, signal: Name },
     /// The first compared bit that is not known to be as printed is not known, at this signal.
     Undetermined { vector: u32, signal: Name },
-}
-
-/// The refusal of a file that is longer than its limit, with the name of its option.
-pub(crate) fn too_long(alloc: Global, option: &[u8]) -> Result<Outcome, AllocError>
-    requires { IsName option.now }
-    ensures { IfOk result (λ o. o ≡ spec.too_long option.now) }
-{
-    let name = Name::from_slice(alloc, option)?;
-    Ok(Outcome::Refused(Refusal::named(Code::F1, name)))
+    /// The design is scanned: what is counted, and the texts of the scanned netlist and of the report, to be saved.
+    Scanned {
+        counts: Counts,
+        netlist: Listed<u8>,
+        report: Listed<u8>,
+    },
 }

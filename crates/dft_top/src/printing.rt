@@ -6,6 +6,7 @@ ghost use Rattle.dft_top.specs.Lines as spec;
 use crate::answer::{Code, Refusal};
 use crate::outcome::Outcome;
 use dft_base::{Name, Place};
+use dft_scan::Counts;
 use std::alloc::{AllocError, Global};
 
 const USAGE: &str =
@@ -23,6 +24,12 @@ fn code_text(code: Code) -> &'static str
         Code::L5 => "L5",
         Code::L6 => "L6",
         Code::L7 => "L7",
+        Code::C1 => "C1",
+        Code::C2 => "C2",
+        Code::C3 => "C3",
+        Code::C4 => "C4",
+        Code::C5 => "C5",
+        Code::C6 => "C6",
         Code::V1 => "V1",
         Code::V2 => "V2",
         Code::V3 => "V3",
@@ -39,6 +46,13 @@ fn code_text(code: Code) -> &'static str
         Code::N2 => "N2",
         Code::N3 => "N3",
         Code::N4 => "N4",
+        Code::G1 => "G1",
+        Code::G2 => "G2",
+        Code::G3 => "G3",
+        Code::G4 => "G4",
+        Code::G5 => "G5",
+        Code::G6 => "G6",
+        Code::G7 => "G7",
         Code::P1 => "P1",
         Code::P2 => "P2",
         Code::P3 => "P3",
@@ -48,6 +62,7 @@ fn code_text(code: Code) -> &'static str
         Code::P8 => "P8",
         Code::P9 => "P9",
         Code::P10 => "P10",
+        Code::K6 => "K6",
     }
 }
 
@@ -63,6 +78,7 @@ pub fn line(alloc: Global, outcome: &Outcome) -> Result<Vec<u8>, AllocError>
         Outcome::Undetermined { vector, signal } => {
             failed_line(alloc, "undetermined", *vector, signal)
         }
+        Outcome::Scanned { counts, .. } => scanned_line(alloc, *counts),
     }
 }
 
@@ -124,4 +140,18 @@ fn failed_line(alloc: Global, what: &str, vector: u32, signal: &Name) -> Result<
     line.extend_from_slice(signal.as_slice())?;
     line.push(b'\n')?;
     Ok(line)
+}
+
+fn scanned_line(alloc: Global, counts: Counts) -> Result<Vec<u8>, AllocError>
+    ensures { IfOk result (λ line. line.items ≡ spec.scanned_line counts) }
+{
+    let line = format!(
+        in alloc;
+        "scanned cells {} unscanned {} chains {} lockups {}\n",
+        counts.cells,
+        counts.unscanned,
+        counts.chains,
+        counts.lockups
+    )?;
+    Ok(line.into_bytes())
 }

@@ -1,4 +1,4 @@
-//! What the errors of readers come to.
+//! What the errors of readers and of a scan come to.
 
 ghost use Rattle.std.specs.Prelude.{◌≡◌, IfOk, Some};
 ghost use Rattle.dft_top.specs.Refusals as spec;
@@ -6,8 +6,14 @@ ghost use Rattle.dft_top.specs.Refusals as spec;
 use crate::answer::{Code, Refusal};
 use dft_base::{Name, Place};
 use dft_cells::LibraryError;
+use dft_config::ConfigError;
+use dft_insert::InsertError;
 use dft_netlist::{Counted, NetlistError};
+use dft_report::ReportError;
+use dft_rules::RuleError;
+use dft_scan::ScanError;
 use dft_stil::StilError;
+use dft_stitch::{Counted as Planned, StitchError};
 use dft_verilog::VerilogError;
 use std::alloc::{AllocError, Global};
 
@@ -40,6 +46,24 @@ impl Refusal {
     {
         let mut refusal = Refusal::named(code, name);
         refusal.first = Some(number);
+        refusal
+    }
+
+    /// A refusal with a number.
+    fn measured(code: Code, number: i64) -> Refusal
+        ensures { result ≡ spec.measured code number }
+    {
+        let mut refusal = Refusal::plain(code);
+        refusal.first = Some(number);
+        refusal
+    }
+
+    /// A refusal with two numbers.
+    fn paired(code: Code, first: i64, second: i64) -> Refusal
+        ensures { result ≡ spec.paired code first second }
+    {
+        let mut refusal = Refusal::measured(code, first);
+        refusal.second = Some(second);
         refusal
     }
 
@@ -141,4 +165,97 @@ pub fn stil_refusal(error: StilError) -> Result<Refusal, AllocError>
         StilError::P10 { name, first } => Refusal::numbered(Code::P10, name, first),
         StilError::Memory(error) => return Err(error),
     })
+}
+
+/// The refusal of a configuration.
+pub fn config_refusal(error: ConfigError) -> Result<Refusal, AllocError>
+    ensures { IfOk result (λ refusal. spec.config_refusal error ≡ Some refusal) }
+{
+    Ok(match error {
+        ConfigError::C1 => Refusal::plain(Code::C1),
+        ConfigError::C2 { name } => Refusal::named(Code::C2, name),
+        ConfigError::C3 { name, first } => Refusal::numbered(Code::C3, name, first),
+        ConfigError::C4 { name } => Refusal::named(Code::C4, name),
+        ConfigError::C5 { first } => Refusal::measured(Code::C5, first),
+        ConfigError::C6 { name } => Refusal::named(Code::C6, name),
+        ConfigError::Memory(error) => return Err(error),
+    })
+}
+
+/// The refusal of a scan.
+pub fn scan_refusal(alloc: Global, error: ScanError) -> Result<Refusal, AllocError>
+    ensures { IfOk result (λ refusal. spec.scan_refusal error ≡ Some refusal) }
+{
+    match error {
+        ScanError::Rules(error) => rule_refusal(error),
+        ScanError::Stitch(error) => stitch_refusal(alloc, error),
+        ScanError::Insert(error) => insert_refusal(alloc, error),
+        ScanError::Report(error) => report_refusal(error),
+        ScanError::Memory(error) => Err(error),
+    }
+}
+
+/// The refusal of the scan rules.
+fn rule_refusal(error: RuleError) -> Result<Refusal, AllocError>
+    ensures { IfOk result (λ refusal. spec.rule_refusal error ≡ Some refusal) }
+{
+    Ok(match error {
+        RuleError::ClockAsData { net } => Refusal::named(Code::G1, net),
+        RuleError::ScanCellPresent { instance } => Refusal::named(Code::G2, instance),
+        RuleError::TooFewCells { found, wanted } => Refusal::paired(Code::G3, found, wanted),
+        RuleError::UnknownName { name } => Refusal::named(Code::G4, name),
+        RuleError::LockupPresent { instance } => Refusal::named(Code::G5, instance),
+        RuleError::PortName { name } => Refusal::named(Code::G7, name),
+        RuleError::Memory(error) => return Err(error),
+    })
+}
+
+/// The refusal of a plan.
+fn stitch_refusal(alloc: Global, error: StitchError) -> Result<Refusal, AllocError>
+    ensures { IfOk result (λ refusal. spec.stitch_refusal error ≡ Some refusal) }
+{
+    match error {
+        StitchError::TooMany { what, limit } => Ok(Refusal::numbered(
+            Code::N4,
+            planned_name(alloc, what)?,
+            limit,
+        )),
+        StitchError::Memory(error) => Err(error),
+    }
+}
+
+/// What a plan counts, by its name.
+fn planned_name(alloc: Global, what: Planned) -> Result<Name, AllocError>
+    ensures { IfOk result (λ name. name ≡ spec.planned_text what) }
+{
+    match what {
+        Planned::Cells => Name::from_slice(alloc, b"cells"),
+        Planned::Cycles => Name::from_slice(alloc, b"cycles"),
+        Planned::Variables => Name::from_slice(alloc, b"variables"),
+    }
+}
+
+/// The refusal of an insertion.
+fn insert_refusal(alloc: Global, error: InsertError) -> Result<Refusal, AllocError>
+    ensures { IfOk result (λ refusal. spec.insert_refusal error ≡ Some refusal) }
+{
+    match error {
+        InsertError::NameClash { name } => Ok(Refusal::named(Code::G6, name)),
+        InsertError::TooMany { what, limit } => Ok(Refusal::numbered(
+            Code::N4,
+            counted_name(alloc, what)?,
+            limit,
+        )),
+        InsertError::Memory(error) => Err(error),
+    }
+}
+
+/// The refusal of a report.
+fn report_refusal(error: ReportError) -> Result<Refusal, AllocError>
+    ensures { IfOk result (λ refusal. spec.report_refusal error ≡ Some refusal) }
+{
+    match error {
+        ReportError::K6 { first } => Ok(Refusal::measured(Code::K6, first)),
+        ReportError::Memory(error) => Err(error),
+    }
 }

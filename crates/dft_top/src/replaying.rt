@@ -1,49 +1,61 @@
-//! The outcome of a pattern text on a design.
+//! The outcome of a replay: the verdict of patterns on a netlist.
 
-ghost use Rattle.std.specs.Prelude.{◌≡◌, ◌<◌, ◌≤◌, ◌^◌, IfOk, length};
+ghost use Rattle.std.specs.Prelude.{◌≡◌, ◌<◌, ◌≤◌, ◌^◌, IfOk, Err, length};
+ghost use Rattle.dft_base.specs.Outside.{Rose, Told};
 ghost use Rattle.dft_replay.specs.Fits.{first_misfit};
 ghost use Rattle.dft_replay.specs.Verdicts.{IsPlaced};
 ghost use Rattle.dft_stil.specs.Patterns.{IsWellFormed};
+ghost use Rattle.dft_words.specs.Named.{replay_files_of};
+ghost use Rattle.dft_words.specs.Words as words;
 ghost use Rattle.dft_top.specs.Outcomes as spec;
-ghost use Rattle.dft_top.specs.Outcomes.{IsOutcomeOn, IsOutcomeOfPatterns};
-ghost use Rattle.dft_top.specs.Run.{IsNotUsage};
-ghost use Rattle.dft_top.specs.declared.limits.TheConstants.{MAX_PATTERN_BYTES};
+ghost use Rattle.dft_top.specs.Outcomes.{HasTurn, IsLoaded, IsOutcomeOfReplay, IsOutcomeOn};
+ghost use Rattle.dft_top.specs.Run.{IsOfReplay};
+ghost use Rattle.dft_top.specs.Stops.{ComesTo};
 
 use crate::answer::{Code, Refusal};
+use crate::loading::{load_library, load_netlist, load_patterns};
 use crate::outcome::Outcome;
-use crate::refusing::stil_refusal;
-use dft_base::Name;
+use crate::stop::Stop;
+use dft_base::{Files, Name};
 use dft_netlist::Design;
 use dft_replay::{ReplayError, Verdict, replay};
-use dft_stil::{PatternSet, StilSignal, read};
+use dft_stil::{PatternSet, StilSignal};
+use dft_words::ReplayFiles;
 use std::alloc::{AllocError, Global};
 
-/// The outcome of the patterns of this text on the design.
-pub fn outcome_of_patterns(
+/// What a replay of the named files comes to: the library comes first, where one is named, then the netlist, then the
+/// patterns, and then their verdict.
+pub fn outcome_of_replay<F: Files>(
     alloc: Global,
-    design: &Design,
-    text: &[u8],
-) -> Result<Outcome, AllocError>
-    requires { length text.now ≤ MAX_PATTERN_BYTES }
-    ensures outcome { IfOk result (IsOutcomeOfPatterns design.now text.now) }
-    ensures verdict { IfOk result IsNotUsage }
+    names: ReplayFiles<'_>,
+    files: &mut F,
+) -> Result<Outcome, Stop>
+    ensures outcome { ComesTo (λ o. Told (λ h. IsOutcomeOfReplay (replay_files_of names.entry) h o) (F.held files.old)) result }
+    ensures suits { ComesTo IsOfReplay result }
+    ensures rose { result ≡ Err Stop.ReadFault → Rose (F.read_faults files.old) (F.read_faults files.new) }
+    ensures loaded { result ≡ Err Stop.ReadFault → IsLoaded (Some (words.Replay (replay_files_of names.entry))) (F.failed files.new) }
+    ensures turn { result ≡ Err Stop.ReadFault → Told (λ h. HasTurn (Some (words.Replay (replay_files_of names.entry))) h
+        (F.failed files.new)) (F.held files.old) }
+    ensures held { F.held files.new ≡ F.held files.old }
+    ensures saves { F.write_faults files.new ≡ F.write_faults files.old }
 {
-    match read(alloc, text) {
-        Ok(patterns) => outcome_on(alloc, design, &patterns),
-        Err(error) => Ok(Outcome::Refused(stil_refusal(error)?)),
-    }
+    let library = load_library(alloc, files, names.library)?;
+    let design = load_netlist(alloc, files, names.netlist, library)?;
+    let patterns = load_patterns(alloc, files, names.patterns)?;
+    outcome_on(alloc, &design, &patterns)
 }
 
 /// The outcome of patterns on the design.
-fn outcome_on(alloc: Global, design: &Design, patterns: &PatternSet) -> Result<Outcome, AllocError>
+fn outcome_on(alloc: Global, design: &Design, patterns: &PatternSet) -> Result<Outcome, Stop>
     requires { IsWellFormed patterns.now }
-    ensures outcome { IfOk result (IsOutcomeOn design.now patterns.now (first_misfit design.now patterns.now.signals)) }
-    ensures verdict { IfOk result IsNotUsage }
+    ensures outcome { ComesTo (IsOutcomeOn design.now patterns.now (first_misfit design.now patterns.now.signals)) result }
+    ensures suits { ComesTo IsOfReplay result }
+    ensures quiet { result ≡ Err Stop.ReadFault → ⊥ }
 {
     match replay(alloc, design, patterns) {
-        Ok(verdict) => outcome_of(alloc, patterns, verdict),
-        Err(ReplayError::P7 { name }) => Ok(Outcome::Refused(Refusal::named(Code::P7, name))),
-        Err(ReplayError::Memory(error)) => Err(error),
+        Ok(verdict) => Ok(outcome_of(alloc, patterns, verdict)?),
+        Err(ReplayError::P7 { name }) => Err(Stop::Refused(Refusal::named(Code::P7, name))),
+        Err(ReplayError::Memory(_)) => Err(Stop::OutOfMemory),
     }
 }
 
@@ -52,7 +64,7 @@ fn outcome_of(alloc: Global, patterns: &PatternSet, verdict: Verdict) -> Result<
     requires vectors { length patterns.now.vectors < 2 ^ 32 }
     requires placed { IsPlaced (length patterns.now.vectors) (length patterns.now.signals) verdict }
     ensures outcome { IfOk result (λ o. o ≡ spec.outcome_of patterns.now verdict) }
-    ensures verdict { IfOk result IsNotUsage }
+    ensures suits { IfOk result IsOfReplay }
 {
     match verdict {
         Verdict::Pass { compared } => Ok(Outcome::Passed {

@@ -1,8 +1,9 @@
-use Rattle.std.proofs.Common.{map, string_bytes, Global}
-use Rattle.dft_top.proofs.Passing.{passes_told, printed_done}
+use Rattle.std.proofs.Common.{List}
+use Rattle.dft_top.proofs.Promised.{passes_for, scans_for}
 use Rattle.dft_top.proofs.command.run.Goals as goal
 
 pub returns-in-Ok-clause-passes : goal.returns-in-Ok-clause-passes
-returns-in-Ok-clause-passes g c = λ done.
-    passes_told (map (string_bytes {Z = Global}) c.args.words.now) (g.F.Files.held c.args.files.now) c.in-Ok.outcome c.in-Ok.ensures.outcome
-    (printed_done c.in-Ok.outcome _ _ _ _ c.answer.result c.answer.ensures done)
+returns-in-Ok-clause-passes g c = passes_for _ _ _ _ _ c.in-Ok.ensures c.run_command.ensures
+
+pub returns-in-Ok-clause-scans : goal.returns-in-Ok-clause-scans
+returns-in-Ok-clause-scans g c = scans_for _ _ _ _ _ c.in-Ok.ensures c.run_command.ensures

@@ -1,0 +1,188 @@
+-- What Done says of the files of a command.
+use Rattle.std.proofs.Common.{ℕ, ◌≡◌, ◌∙◌, inl, inr, List, [], ◌∷◌, codes, refl, sym, ap, subst, Option, None, Some, Result, Ok, Err, bytes_eq, false}
+use Rattle.dft_base.specs.Outside.{Held, Told, ToldChange, file_at}
+use Rattle.dft_cells.specs.declared.cell.Cell.{Cell}
+use Rattle.dft_config.specs.declared.config.Config.{Config}
+use Rattle.dft_insert.proofs.Containing.{agrees}
+use Rattle.dft_insert.proofs.KeepingLemmas.{keeps_design}
+use Rattle.dft_insert.proofs.Shifted.{scanned_shifts, scanned_shows}
+use Rattle.dft_insert.specs.declared.style.Style.TheVariants.{Plain}
+use Rattle.dft_insert.specs.Statements.{IsReady, scanned}
+use Rattle.dft_netlist.specs.Netlist.{Netlist}
+use Rattle.dft_netlist.specs.NetlistText.{StandsFor}
+use Rattle.dft_netlist.proofs.RankLemmas.{order_ranks}
+use Rattle.dft_stil.specs.Patterns.{Patterns}
+use Rattle.dft_replay.specs.declared.verdict.Verdict.{Verdict}
+use Rattle.dft_replay.specs.declared.verdict.Verdict.TheVariants as verdict
+use Rattle.dft_replay.specs.Fits.{first_misfit}
+use Rattle.dft_replay.specs.Verdicts.{HasVerdict}
+use Rattle.dft_replay.proofs.Soundness.{pass_sound}
+use Rattle.dft_scan.specs.declared.error.ScanError.{ScanError}
+use Rattle.dft_scan.specs.Refusals.{refusal}
+use Rattle.dft_scan.specs.Scans.{counts_of, netlist_text, report_text}
+use Rattle.dft_verilog_out.proofs.JoinedTexts.{library_kept}
+use Rattle.dft_words.specs.Words.{Command, Replay, Scan, ReplayFiles, ScanFiles, AreFor, IsReplay, IsScan}
+use Rattle.dft_words.proofs.Understood.{for_once}
+use Rattle.dft_top.specs.declared.answer.Answer.{Answer}
+use Rattle.dft_top.specs.declared.answer.Refusal.{Refusal}
+use Rattle.dft_top.specs.declared.answer.Status.TheVariants.{Done}
+use Rattle.dft_top.specs.declared.outcome.Outcome.{Outcome}
+use Rattle.dft_top.specs.declared.outcome.Outcome.TheVariants as outcome
+use Rattle.dft_top.specs.declared.limits.TheConstants.{MAX_NETLIST_BYTES}
+use Rattle.dft_top.specs.Answers.{status_of}
+use Rattle.dft_top.specs.Refusals.{scan_refusal}
+use Rattle.dft_top.specs.Checks.{After, ConfigGives, IsDesignOf, LibraryGives, NetlistGives, NetlistText, PatternsGive, Then}
+use Rattle.dft_top.specs.Outcomes.{IsOutcomeOfReplay, IsOutcomeOfScan, IsOutcomeOfScanOf, IsOutcomeOn, IsRefusal, IsScanned, outcome_of}
+use Rattle.dft_top.specs.Promises.{EveryRunShows, Passes, Scans}
+use Rattle.dft_top.specs.Run.{EndsFor, IsDelivered, IsOfScan, IsOutcomeTold, PassesTold, ScansTold, Seen}
+use Rattle.dft_top.specs.Saves.{AreSaved, HaveSaved, Saving, savings, scan_savings}
+use Rattle.dft_top.proofs.Readings.{text_of}
+use Rattle.dft_top.proofs.Steps.{ReplayOn, ReplayOver, ScanOn, ScanOver}
+use Rattle.dft_top.proofs.TwoSaves.{differ}
+
+not_done : (refusal : Refusal) (o : Outcome) → o ≡ outcome.Refused refusal → status_of o ≡ Done → ⊥
+not_done refusal o is done = let e = ap status_of is in cc
+
+-- where the outcome is Done, each file gave a value
+then_done : {A : Type 0} (gives : Result A Refusal → Type 0) (next : A → Outcome → Type 0) (o : Outcome) → status_of o ≡ Done → Then gives next o → After gives (λ value. next value o)
+then_done gives next o done (inl x) = x
+then_done gives next o done (inr x) = absurd (not_done x.0 o x.1.1 done)
+
+design_of : (cells : List Cell) (name : List ℕ) (held : Held) (n : Netlist) → NetlistGives cells name held (Ok n) → (text : List ℕ) × IsDesignOf cells text n
+design_of cells name held n given = text_of MAX_NETLIST_BYTES (codes "netlist") (NetlistText cells) (file_at name held) n given
+
+-- ---- a replay
+
+verdict_passed : (n : Netlist) (p : Patterns) (v : Verdict) → HasVerdict n p v → status_of (outcome_of p v) ≡ Done → (compared : ℕ) × HasVerdict n p (verdict.Pass compared)
+verdict_passed n p (verdict.Pass compared) has done = (compared, has)
+verdict_passed n p (verdict.Mismatch vector signal) has done = absurd cc
+verdict_passed n p (verdict.Undetermined vector signal) has done = absurd cc
+
+on_passed : (n : Netlist) (p : Patterns) (misfit : Option (List ℕ)) (o : Outcome) → IsOutcomeOn n p misfit o → status_of o ≡ Done → (misfit ≡ None) × ((compared : ℕ) × HasVerdict n p (verdict.Pass compared))
+on_passed n p (Some name) o is done = absurd (let e = ap status_of is in cc)
+on_passed n p None o is done = (refl, verdict_passed n p is.0 is.1.0 (ap status_of (sym is.1.1) ∙ done))
+
+every_run : (cells : List Cell) (text : List ℕ) (n : Netlist) (p : Patterns) → IsDesignOf cells text n → (compared : ℕ) × HasVerdict n p (verdict.Pass compared) → EveryRunShows n p
+every_run cells text n p design passed =
+    let ranked = order_ranks n design.order design.sound design.ordered in
+    λ start turns run. pass_sound n ranked.0 p passed.0 start turns ranked.1 passed.1 run
+
+passes : (files : ReplayFiles) (held : Held) (o : Outcome) → status_of o ≡ Done → IsOutcomeOfReplay files held o → Passes files held
+passes files held o done h =
+    let x = then_done (LibraryGives files.library held) (ReplayOver files held) o done h in
+    let y = then_done (NetlistGives x.0 files.netlist held) (ReplayOn files held) o done x.1.1 in
+    let n = y.0 in
+    let z = then_done (PatternsGive files.patterns held) (λ p. IsOutcomeOn n p (first_misfit n p.signals)) o done y.1.1 in
+    let passed = on_passed n z.0 (first_misfit n z.0.signals) o z.1.1 done in
+    let design = design_of x.0 files.netlist held n y.1.0 in record {
+      cells = x.0;
+      library = x.1.0;
+      netlist = n;
+      design = y.1.0;
+      patterns = z.0;
+      vectors = z.1.0;
+      fit = passed.0;
+      passed = passed.1;
+      shown = every_run x.0 design.0 n z.0 design.1 passed.1;
+    }
+
+-- ---- a scan
+
+refusal_not_done : (r : Option Refusal) (o : Outcome) → IsRefusal r o → status_of o ≡ Done → ⊥
+refusal_not_done None o is done = is
+refusal_not_done (Some refusal) o is done = not_done refusal o is done
+
+scan_done : (n : Netlist) (c : Config) (refused : Option ScanError) (o : Outcome) → status_of o ≡ Done → IsOutcomeOfScanOf n c refused o → IsScanned n c o
+scan_done n c (Some error) o done h = absurd (refusal_not_done (scan_refusal error) o h done)
+scan_done n c None o done h = h
+
+-- what is saved of a scan
+abbrev two_savings : (files : ScanFiles) → Netlist → Config → List Saving
+two_savings files n c = record { name = files.out; bytes = netlist_text n c } ∷ record { name = files.report; bytes = report_text n c } ∷ []
+
+scans : (files : ScanFiles) (old new : Held) (o : Outcome) → status_of o ≡ Done → IsOutcomeOfScan files old o → HaveSaved (scan_savings files o) (Some old) (Some new) → Scans files old new
+scans files old new o done h saved =
+    let x = then_done (LibraryGives files.library old) (ScanOver files old) o done h in
+    let y = then_done (ConfigGives files.config old) (ScanOn files x.0 old) o done x.1.1 in
+    let c = y.0 in
+    let z = then_done (NetlistGives x.0 files.netlist old) (λ n. IsOutcomeOfScanOf n c (refusal n c)) o done y.1.1 in
+    let n = z.0 in
+    let done_scan = scan_done n c (refusal n c) o done z.1.1 in
+    let ready = done_scan.ready in
+    let left : AreSaved (two_savings files n c) old new = subst (λ (end : Outcome). HaveSaved (scan_savings files end) (Some old) (Some new)) done_scan.is saved in
+    let design = design_of x.0 files.netlist old n z.1.0 in record {
+      cells = x.0;
+      library = x.1.0;
+      config = c;
+      settings = y.1.0;
+      netlist = n;
+      design = z.1.0;
+      ready = ready;
+      out = left.whole.0;
+      report = left.whole.1.0;
+      others = λ name a b. left.others name (differ files.out name (λ e. a (sym e)), (differ files.report name (λ e. b (sym e)), tt));
+      reads = subst (λ (cells : List Cell). StandsFor cells (netlist_text n c) (scanned Plain n c)) (library_kept x.0 design.0 n design.1.stands) done_scan.reads;
+      keeps = keeps_design Plain n c ready;
+      agrees = λ now its given ports m o' steps others. agrees Plain n c now its given ports m o' steps others ready;
+      shifts = λ before shifts start ts us. scanned_shifts n c before shifts start ts us ready;
+      shows = λ v now t. scanned_shows n c v now t ready;
+    }
+
+-- ---- of a run
+
+-- what a run that answers Done came to
+record IsDone (command : Option Command) (before after : Seen) : Type 0 where
+  o : Outcome
+  told : IsOutcomeTold command before.held o
+  done : status_of o ≡ Done
+  saved : HaveSaved (savings command o) before.held after.held
+
+delivered_done : (command : Option Command) (o : Outcome) (before after : Seen) (answer : Answer) → IsOutcomeTold command before.held o → IsDelivered command o before after answer → answer.status ≡ Done → IsDone command before after
+delivered_done command o before after answer told (inl x) done = record { o = o; told = told; done = ap (λ (a : Answer). a.status) (sym x.answers) ∙ done; saved = x.saved }
+delivered_done command o before after answer told (inr (inl x)) done = absurd (let e = ap (λ (a : Answer). a.status) x.answers in cc)
+delivered_done command o before after answer told (inr (inr (inl x))) done = absurd (let e = ap (λ (a : Answer). a.status) x.answers in cc)
+delivered_done command o before after answer told (inr (inr (inr x))) done = absurd (let e = ap (λ (a : Answer). a.status) x.answers in cc)
+
+ends_done : (command : Option Command) (before after : Seen) (answer : Answer) → EndsFor command before after answer → answer.status ≡ Done → IsDone command before after
+ends_done command before after answer (inl x) done = delivered_done command x.o before after answer x.told x.delivered done
+ends_done command before after answer (inr (inl x)) done = absurd (let e = ap (λ (a : Answer). a.status) x.answers in cc)
+ends_done command before after answer (inr (inr x)) done = absurd (let e = ap (λ (a : Answer). a.status) x.1 in cc)
+
+told_passes : (files : ReplayFiles) (held : Option Held) (o : Outcome) → status_of o ≡ Done → Told (λ h. IsOutcomeOfReplay files h o) held → Told (Passes files) held
+told_passes files None o done told = tt
+told_passes files (Some held) o done told = passes files held o done told
+
+-- where nothing is told, nothing is told then
+untold : (files : ScanFiles) (held' : Option Held) (o : Outcome) → status_of o ≡ Done → IsOfScan o → HaveSaved (scan_savings files o) None held' → held' ≡ None
+untold files held' outcome.Usage done suits saved = absurd suits
+untold files held' (outcome.Refused refusal) done suits saved = absurd cc
+untold files held' (outcome.Passed vectors compared) done suits saved = absurd suits
+untold files held' (outcome.Mismatch vector signal) done suits saved = absurd suits
+untold files held' (outcome.Undetermined vector signal) done suits saved = absurd suits
+untold files held' (outcome.Scanned counts netlist report) done suits saved = saved
+
+lost : (files : ScanFiles) (old : Held) (o : Outcome) → status_of o ≡ Done → IsOfScan o → HaveSaved (scan_savings files o) (Some old) None → ⊥
+lost files old outcome.Usage done suits saved = suits
+lost files old (outcome.Refused refusal) done suits saved = cc
+lost files old (outcome.Passed vectors compared) done suits saved = suits
+lost files old (outcome.Mismatch vector signal) done suits saved = suits
+lost files old (outcome.Undetermined vector signal) done suits saved = suits
+lost files old (outcome.Scanned counts netlist report) done suits saved = saved
+
+told_scans : (files : ScanFiles) (held held' : Option Held) (o : Outcome) → status_of o ≡ Done → Told (λ h. IsOutcomeOfScan files h o) held → IsOfScan o → HaveSaved (scan_savings files o) held held' → ToldChange (Scans files) held held'
+told_scans files None held' o done told suits saved = untold files held' o done suits saved
+told_scans files (Some old) None o done told suits saved = lost files old o done suits saved
+told_scans files (Some old) (Some new) o done told suits saved = scans files old new o done told saved
+
+-- of words that are for a command
+pub passes_for : (words : List (List ℕ)) (command : Option Command) (before after : Seen) (answer : Answer) → AreFor words command → EndsFor command before after answer → PassesTold words before.held answer
+passes_for words command before after answer are ended files is done =
+    let ends = subst (λ (command : Option Command). EndsFor command before after answer) (for_once words command (Some (Replay files)) are is) ended in
+    let d = ends_done (Some (Replay files)) before after answer ends done in
+    told_passes files before.held d.o d.done d.told.told
+
+pub scans_for : (words : List (List ℕ)) (command : Option Command) (before after : Seen) (answer : Answer) → AreFor words command → EndsFor command before after answer → ScansTold words before.held after.held answer
+scans_for words command before after answer are ended files is done =
+    let ends = subst (λ (command : Option Command). EndsFor command before after answer) (for_once words command (Some (Scan files)) are is) ended in
+    let d = ends_done (Some (Scan files)) before after answer ends done in
+    told_scans files before.held after.held d.o d.done d.told.told d.told.suits d.saved

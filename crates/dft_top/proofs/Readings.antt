@@ -1,0 +1,254 @@
+-- A file gives one value or one refusal at most.
+use Rattle.std.proofs.Common.{ℕ, ◌≡◌, ◌⊎◌, inl, inr, List, codes, refl, sym, ap, ◌∙◌, arith, Option, None, Some, Result, Ok, Err, subst}
+use Rattle.dft_base.specs.Outside.{Held, file_at}
+use Rattle.dft_cells.specs.Data.{Members}
+use Rattle.dft_cells.specs.Text.{IsTable, IsNoTable}
+use Rattle.dft_cells.specs.declared.cell.Cell.{Cell}
+use Rattle.dft_cells.specs.declared.refusal.LibraryError.{LibraryError}
+use Rattle.dft_cells.specs.declared.refusal.LibraryError.TheVariants as library
+use Rattle.dft_cells.specs.Standard.{standard_cells}
+use Rattle.dft_cells.specs.Reading.{library_of, IsLibraryOf, FirstFails, IsRefusedAs}
+use Rattle.dft_config.specs.declared.config.Config.{Config}
+use Rattle.dft_config.specs.declared.error.ConfigError.{ConfigError}
+use Rattle.dft_config.specs.declared.error.ConfigError.TheVariants as config
+use Rattle.dft_config.specs.Reading.{reading}
+use Rattle.dft_config.specs.Refusals.{IsConfig, TellsFault, told}
+use Rattle.dft_config.specs.Refusals as refusals
+use Rattle.dft_netlist.specs.declared.error.NetlistError.{NetlistError}
+use Rattle.dft_netlist.specs.declared.error.NetlistError.TheVariants as netlist
+use Rattle.dft_netlist.specs.Finishing.{CannotFinish}
+use Rattle.dft_netlist.specs.declared.text.Fault.{Fault}
+use Rattle.dft_netlist.specs.Modules.{Draft}
+use Rattle.dft_netlist.specs.Netlist.{Netlist}
+use Rattle.dft_netlist.specs.NetlistText.{StandsFor, module_of, built}
+use Rattle.dft_verilog.specs.declared.error.VerilogError.{VerilogError}
+use Rattle.dft_verilog.specs.declared.error.VerilogError.TheVariants as verilog
+use Rattle.dft_verilog.specs.Refusals.{IsFirstFault, IsUnfinished, IsRefused, told_of}
+use Rattle.dft_base.specs.Lexing.{place_of}
+use Rattle.dft_stil.specs.declared.error.StilError.{StilError}
+use Rattle.dft_stil.specs.declared.error.StilError.TheVariants as stil
+use Rattle.dft_stil.specs.Patterns.{Patterns}
+use Rattle.dft_stil.specs.PatternText.{patterns_of}
+use Rattle.dft_stil.specs.PatternText as PatternText
+use Rattle.dft_stil.specs.Refusals as StilRefusals
+use Rattle.dft_stil.specs.Refusals.{IsFirstRefusal}
+use Rattle.dft_stil.specs.declared.reader.TheConstants.{MAX_VECTORS}
+use Rattle.dft_top.specs.declared.answer.Refusal.{Refusal}
+use Rattle.dft_top.specs.declared.outcome.Outcome.{Outcome}
+use Rattle.dft_top.specs.declared.outcome.Outcome.TheVariants.{Refused}
+use Rattle.dft_top.specs.declared.limits.TheConstants.{MAX_LIBRARY_BYTES, MAX_CONFIG_BYTES, MAX_NETLIST_BYTES, MAX_PATTERN_BYTES}
+use Rattle.dft_top.specs.Refusals.{config_refusal, library_refusal, stil_refusal, verilog_refusal}
+use Rattle.dft_top.specs.Checks.{ConfigGives, ConfigText, FileGives, LibraryGives, LibraryText, NetlistGives, NetlistText, PatternText, PatternsGive, Then}
+use Rattle.dft_top.proofs.NetlistRefusals.{IsReason, reason_one, finished_or_refused}
+
+err_same : {A E : Type 0} (r : Result A E) (a b : E) → r ≡ Err a → r ≡ Err b → a ≡ b
+err_same r a b p q = let e = sym p ∙ q in cc
+
+-- what one error is told as
+told_one : (r s : Option Refusal) (a b : Refusal) → r ≡ s → r ≡ Some a → s ≡ Some b → a ≡ b
+told_one r s a b same x y = let e : Some a ≡ Some b = sym x ∙ same ∙ y in cc
+
+-- ---- one file, and what comes behind it
+
+pub file_one : {A : Type 0} (limit : ℕ) (option : List ℕ) (text_gives : List ℕ → Result A Refusal → Type 0) → ((text : List ℕ) (r s : Result A Refusal) → text_gives text r → text_gives text s → r ≡ s) →
+    (file : Option (List ℕ)) (r s : Result A Refusal) → FileGives limit option text_gives file r → FileGives limit option text_gives file s → r ≡ s
+file_one limit option text_gives one None r s x y = absurd x
+file_one limit option text_gives one (Some text) (Ok a) (Ok b) x y = one text (Ok a) (Ok b) x.1 y.1
+file_one limit option text_gives one (Some text) (Ok a) (Err b) x (inl y) = absurd (omega (arith, x.0, y.0))
+file_one limit option text_gives one (Some text) (Ok a) (Err b) x (inr y) = one text (Ok a) (Err b) x.1 y.1
+file_one limit option text_gives one (Some text) (Err a) (Ok b) (inl x) y = absurd (omega (arith, x.0, y.0))
+file_one limit option text_gives one (Some text) (Err a) (Ok b) (inr x) y = one text (Err a) (Ok b) x.1 y.1
+file_one limit option text_gives one (Some text) (Err a) (Err b) (inl x) (inl y) = ap Err (x.1 ∙ sym y.1)
+file_one limit option text_gives one (Some text) (Err a) (Err b) (inl x) (inr y) = absurd (omega (arith, x.0, y.0))
+file_one limit option text_gives one (Some text) (Err a) (Err b) (inr x) (inl y) = absurd (omega (arith, x.0, y.0))
+file_one limit option text_gives one (Some text) (Err a) (Err b) (inr x) (inr y) = one text (Err a) (Err b) x.1 y.1
+
+ok_same : {A E : Type 0} (r : Result A E) (a b : A) → r ≡ Ok a → r ≡ Ok b → a ≡ b
+ok_same r a b p q = let e = sym p ∙ q in cc
+
+pub then_one : {A : Type 0} (gives : Result A Refusal → Type 0) (next : A → Outcome → Type 0) (a b : Outcome) → ((r s : Result A Refusal) → gives r → gives s → r ≡ s) →
+    ((value : A) → gives (Ok value) → next value a → next value b → a ≡ b) → Then gives next a → Then gives next b → a ≡ b
+then_one gives next a b one behind (inl x) (inl y) = behind x.0 x.1.0 x.1.1 (subst (λ value. next value b) (ok_same (Ok x.0) y.0 x.0 (one (Ok x.0) (Ok y.0) x.1.0 y.1.0) refl) y.1.1)
+then_one gives next a b one behind (inl x) (inr y) = absurd (let e = one (Ok x.0) (Err y.0) x.1.0 y.1.0 in cc)
+then_one gives next a b one behind (inr x) (inl y) = absurd (let e = one (Err x.0) (Ok y.0) x.1.0 y.1.0 in cc)
+then_one gives next a b one behind (inr x) (inr y) = x.1.1 ∙ (let e = one (Err x.0) (Err y.0) x.1.0 y.1.0 in let f : x.0 ≡ y.0 = cc in ap Refused f) ∙ sym y.1.1
+
+-- a file that gives a value is held, and its text gives the value
+pub text_of : {A : Type 0} (limit : ℕ) (option : List ℕ) (text_gives : List ℕ → Result A Refusal → Type 0) (file : Option (List ℕ)) (value : A) → FileGives limit option text_gives file (Ok value) → (text : List ℕ) × text_gives text (Ok value)
+text_of limit option text_gives None value x = absurd x
+text_of limit option text_gives (Some text) value x = (text, x.1)
+
+-- ---- the library
+
+table_one : (text : List ℕ) (t u : Members) → IsTable text t → IsTable text u → t ≡ u
+table_one text t u x y = let e : Some t ≡ Some u = sym x.1 ∙ y.1 in cc
+
+library_one : (text : List ℕ) (a b : List Cell) → IsLibraryOf text a → IsLibraryOf text b → a ≡ b
+library_one text a b x y = let e : Ok a ≡ Ok b = sym x.2 ∙ ap library_of (table_one text x.0 y.0 x.1 y.1) ∙ y.2 in cc
+
+-- a refusal is that of no table, or the first check that fails
+abbrev Why : List ℕ → LibraryError → Type 0
+Why text error = ((error ≡ library.NotToml) × IsNoTable text) ⊎ FirstFails text error
+
+why : (text : List ℕ) (error : LibraryError) (refusal : Refusal) → IsRefusedAs text error → library_refusal error ≡ Some refusal → Why text error
+why text library.NotToml refusal refused is = inl (refl, refused)
+why text (library.L1 name) refusal refused is = inr refused
+why text (library.L2 name) refusal refused is = inr refused
+why text (library.L3 name) refusal refused is = inr refused
+why text (library.L4 name) refusal refused is = inr refused
+why text (library.L5 name) refusal refused is = inr refused
+why text (library.L7 name) refusal refused is = inr refused
+why text (library.Memory error) refusal refused is = absurd cc
+
+why_one : (text : List ℕ) (a b : LibraryError) → Why text a → Why text b → a ≡ b
+why_one text a b (inl x) (inl y) = x.0 ∙ sym y.0
+why_one text a b (inl x) (inr y) = absurd (x.1 y.0 y.1)
+why_one text a b (inr x) (inl y) = absurd (y.1 x.0 x.1)
+why_one text a b (inr x) (inr y) = err_same (library_of x.0) a b x.2 (ap library_of (table_one text x.0 y.0 x.1 y.1) ∙ y.2)
+
+library_or_refused : (text : List ℕ) (cells : List Cell) (error : LibraryError) → IsLibraryOf text cells → Why text error → ⊥
+library_or_refused text cells error x (inl none) = none.1 x.0 x.1
+library_or_refused text cells error x (inr fails) = let e : Ok cells ≡ Err error = sym x.2 ∙ ap library_of (table_one text x.0 fails.0 x.1 fails.1) ∙ fails.2 in cc
+
+library_text_one : (text : List ℕ) (r s : Result (List Cell) Refusal) → LibraryText text r → LibraryText text s → r ≡ s
+library_text_one text (Ok a) (Ok b) x y = ap Ok (library_one text a b x y)
+library_text_one text (Ok cells) (Err refusal) x y = absurd (library_or_refused text cells y.0 x (why text y.0 refusal y.1.0 y.1.1))
+library_text_one text (Err refusal) (Ok cells) x y = absurd (library_or_refused text cells x.0 y (why text x.0 refusal x.1.0 x.1.1))
+library_text_one text (Err a) (Err b) x y = ap Err (told_one _ _ a b (ap library_refusal (why_one text x.0 y.0 (why text x.0 a x.1.0 x.1.1) (why text y.0 b y.1.0 y.1.1))) x.1.1 y.1.1)
+
+pub library_gives_one : (name : Option (List ℕ)) (held : Held) (r s : Result (List Cell) Refusal) → LibraryGives name held r → LibraryGives name held s → r ≡ s
+library_gives_one None held (Ok a) (Ok b) x y = ap Ok (x ∙ sym y)
+library_gives_one None held (Ok a) (Err refusal) x y = absurd y
+library_gives_one None held (Err refusal) s x y = absurd x
+library_gives_one (Some name) held r s x y = file_one MAX_LIBRARY_BYTES (codes "library") LibraryText library_text_one (file_at name held) r s x y
+
+-- ---- the configuration
+
+config_one : (text : List ℕ) (a b : Config) → IsConfig text a → IsConfig text b → a ≡ b
+config_one text a b x y = let e : Ok a ≡ Ok b = sym x.2 ∙ ap reading (table_one text x.0 y.0 x.1 y.1) ∙ y.2 in cc
+
+-- a refusal is that of no table, or tells the first fault
+abbrev Tells : List ℕ → ConfigError → Type 0
+Tells text error = ((error ≡ config.C1) × IsNoTable text) ⊎ TellsFault text error
+
+tells : (text : List ℕ) (error : ConfigError) (refusal : Refusal) → refusals.IsRefused text error → config_refusal error ≡ Some refusal → Tells text error
+tells text config.C1 refusal refused is = inl (refl, refused)
+tells text (config.C2 key) refusal refused is = inr refused
+tells text (config.C3 key number) refusal refused is = inr refused
+tells text (config.C4 key) refusal refused is = inr refused
+tells text (config.C5 chain) refusal refused is = inr refused
+tells text (config.C6 key) refusal refused is = inr refused
+tells text (config.Memory error) refusal refused is = absurd cc
+
+fault_told_one : (text : List ℕ) (a b : ConfigError) → TellsFault text a → TellsFault text b → a ≡ b
+fault_told_one text a b x y = x.4 ∙ ap told (err_same (reading x.0) x.1 y.1 x.3 (ap reading (table_one text x.0 y.0 x.2 y.2) ∙ y.3)) ∙ sym y.4
+
+tells_one : (text : List ℕ) (a b : ConfigError) → Tells text a → Tells text b → a ≡ b
+tells_one text a b (inl x) (inl y) = x.0 ∙ sym y.0
+tells_one text a b (inl x) (inr y) = absurd (x.1 y.0 y.2)
+tells_one text a b (inr x) (inl y) = absurd (y.1 x.0 x.2)
+tells_one text a b (inr x) (inr y) = fault_told_one text a b x y
+
+config_or_refused : (text : List ℕ) (c : Config) (error : ConfigError) → IsConfig text c → Tells text error → ⊥
+config_or_refused text c error x (inl none) = none.1 x.0 x.1
+config_or_refused text c error x (inr fails) = let e : Ok c ≡ Err fails.1 = sym x.2 ∙ ap reading (table_one text x.0 fails.0 x.1 fails.2) ∙ fails.3 in cc
+
+pub config_text_one : (text : List ℕ) (r s : Result Config Refusal) → ConfigText text r → ConfigText text s → r ≡ s
+config_text_one text (Ok a) (Ok b) x y = ap Ok (config_one text a b x.stands y.stands)
+config_text_one text (Ok c) (Err refusal) x y = absurd (config_or_refused text c y.0 x.stands (tells text y.0 refusal y.1.0 y.1.1))
+config_text_one text (Err refusal) (Ok c) x y = absurd (config_or_refused text c x.0 y.stands (tells text x.0 refusal x.1.0 x.1.1))
+config_text_one text (Err a) (Err b) x y = ap Err (told_one _ _ a b (ap config_refusal (tells_one text x.0 y.0 (tells text x.0 a x.1.0 x.1.1) (tells text y.0 b y.1.0 y.1.1))) x.1.1 y.1.1)
+
+-- ---- the netlist
+
+draft_one : (cells : List Cell) (text : List ℕ) (d e : Draft) → module_of cells text ≡ Ok d → module_of cells text ≡ Ok e → d ≡ e
+draft_one cells text d e p q = let same : Ok d ≡ Ok e = sym p ∙ q in cc
+
+grown_one : (d e : Draft) (m n : Netlist) → d ≡ e → built d ≡ Ok m → built e ≡ Ok n → m ≡ n
+grown_one d e m n same p q = let oks : Ok m ≡ Ok n = sym p ∙ ap built same ∙ q in cc
+
+stands_one : (cells : List Cell) (text : List ℕ) (m n : Netlist) → StandsFor cells text m → StandsFor cells text n → m ≡ n
+stands_one cells text m n x y = x.finished.same ∙ grown_one x.draft y.draft x.grown y.grown (draft_one cells text x.draft y.draft x.said y.said) x.parts y.parts ∙ sym y.finished.same
+
+-- a refusal is that of the first fault, or that the netlist cannot be finished
+abbrev Reason : List Cell → List ℕ → VerilogError → Type 0
+Reason cells text error = IsFirstFault cells text error ⊎ ((why : NetlistError) × ((error ≡ verilog.Netlist why) × (IsReason why × IsUnfinished cells text why)))
+
+reason : (cells : List Cell) (text : List ℕ) (error : VerilogError) (refusal : Refusal) → IsRefused cells text error → verilog_refusal error ≡ Some refusal → Reason cells text error
+reason cells text (verilog.V1 place) refusal refused is = inl refused
+reason cells text (verilog.V2 place) refusal refused is = inl refused
+reason cells text (verilog.V3 place word) refusal refused is = inl refused
+reason cells text (verilog.V4 place word) refusal refused is = inl refused
+reason cells text (verilog.V5 place word) refusal refused is = inl refused
+reason cells text (verilog.V6 place) refusal refused is = inl refused
+reason cells text (verilog.V7 place) refusal refused is = inl refused
+reason cells text (verilog.V8 place) refusal refused is = inl refused
+reason cells text (verilog.V9 place) refusal refused is = inl refused
+reason cells text (verilog.V10 place) refusal refused is = inl refused
+reason cells text (verilog.V11 place word) refusal refused is = inl refused
+reason cells text (verilog.V12 place word) refusal refused is = inl refused
+reason cells text (verilog.Netlist (netlist.MultipleDrivers net)) refusal refused is = inr (netlist.MultipleDrivers net, (refl, (tt, refused)))
+reason cells text (verilog.Netlist (netlist.Loop net)) refusal refused is = inr (netlist.Loop net, (refl, (tt, refused)))
+reason cells text (verilog.Netlist (netlist.DuplicateName name)) refusal refused is = inl refused
+reason cells text (verilog.Netlist (netlist.TooMany what limit)) refusal refused is = inl refused
+reason cells text (verilog.Netlist (netlist.Memory error)) refusal refused is = absurd cc
+reason cells text (verilog.Memory error) refusal refused is = absurd cc
+
+fault_or_said : (cells : List Cell) (text : List ℕ) (error : VerilogError) (d : Draft) → IsFirstFault cells text error → module_of cells text ≡ Ok d → ⊥
+fault_or_said cells text error d fault said = let e : Err fault.fault ≡ Ok d = sym fault.first ∙ said in cc
+
+fault_one : (cells : List Cell) (text : List ℕ) (a b : VerilogError) → IsFirstFault cells text a → IsFirstFault cells text b → a ≡ b
+fault_one cells text a b x y = x.told ∙ ap (λ (fault : Fault). told_of fault.cause (place_of text fault.left)) (err_same (module_of cells text) x.fault y.fault x.first y.first) ∙ sym y.told
+
+reason_alone : (cells : List Cell) (text : List ℕ) (a b : VerilogError) → Reason cells text a → Reason cells text b → a ≡ b
+reason_alone cells text a b (inl x) (inl y) = fault_one cells text a b x y
+reason_alone cells text a b (inl x) (inr y) = absurd (fault_or_said cells text a y.1.1.1.draft x y.1.1.1.said)
+reason_alone cells text a b (inr x) (inl y) = absurd (fault_or_said cells text b x.1.1.1.draft y x.1.1.1.said)
+reason_alone cells text a b (inr x) (inr y) =
+    let u = x.1.1.1 in
+    let v = y.1.1.1 in
+    let same : u.grown ≡ v.grown = grown_one u.draft v.draft u.grown v.grown (draft_one cells text u.draft v.draft u.said v.said) u.parts v.parts in
+    let one : x.0 ≡ y.0 = reason_one v.grown x.0 y.0 x.1.1.0 y.1.1.0 (subst (λ (n : Netlist). CannotFinish n x.0) same u.refused) v.refused in
+    x.1.0 ∙ ap verilog.Netlist one ∙ sym y.1.0
+
+stands_or_refused : (cells : List Cell) (text : List ℕ) (n : Netlist) (error : VerilogError) → StandsFor cells text n → Reason cells text error → ⊥
+stands_or_refused cells text n error x (inl fault) = fault_or_said cells text error x.draft fault x.said
+stands_or_refused cells text n error x (inr y) =
+    let v = y.1.1.1 in
+    let same : v.grown ≡ x.grown = grown_one v.draft x.draft v.grown x.grown (draft_one cells text v.draft x.draft v.said x.said) v.parts x.parts in
+    finished_or_refused x.grown n y.0 y.1.1.0 x.finished (subst (λ (m : Netlist). CannotFinish m y.0) same v.refused)
+
+pub netlist_text_one : (cells : List Cell) (text : List ℕ) (r s : Result Netlist Refusal) → NetlistText cells text r → NetlistText cells text s → r ≡ s
+netlist_text_one cells text (Ok a) (Ok b) x y = ap Ok (stands_one cells text a b x.stands y.stands)
+netlist_text_one cells text (Ok n) (Err refusal) x y = absurd (stands_or_refused cells text n y.0 x.stands (reason cells text y.0 refusal y.1.0 y.1.1))
+netlist_text_one cells text (Err refusal) (Ok n) x y = absurd (stands_or_refused cells text n x.0 y.stands (reason cells text x.0 refusal x.1.0 x.1.1))
+netlist_text_one cells text (Err a) (Err b) x y = ap Err (told_one _ _ a b (ap verilog_refusal (reason_alone cells text x.0 y.0 (reason cells text x.0 a x.1.0 x.1.1) (reason cells text y.0 b y.1.0 y.1.1))) x.1.1 y.1.1)
+
+-- ---- the patterns
+
+patterns_one : (text : List ℕ) (p q : Patterns) → PatternText.StandsFor text p → PatternText.StandsFor text q → p ≡ q
+patterns_one text p q x y = let e : Ok p ≡ Ok q = sym x ∙ y in cc
+
+patterns_or_refused : (text : List ℕ) (p : Patterns) (error : StilError) → PatternText.StandsFor text p → IsFirstRefusal text error → ⊥
+patterns_or_refused text p error x y = let e : Ok p ≡ Err y.refusal = sym x ∙ y.first in cc
+
+stil_one : (text : List ℕ) (a b : StilError) → IsFirstRefusal text a → IsFirstRefusal text b → a ≡ b
+stil_one text a b x y = x.told ∙ ap (StilRefusals.told_of text) (err_same (patterns_of MAX_VECTORS text) x.refusal y.refusal x.first y.first) ∙ sym y.told
+
+first_refusal : (text : List ℕ) (error : StilError) (refusal : Refusal) → StilRefusals.IsRefused text error → stil_refusal error ≡ Some refusal → IsFirstRefusal text error
+first_refusal text (stil.P1 place) refusal refused is = refused
+first_refusal text (stil.P2 place name) refusal refused is = refused
+first_refusal text (stil.P3 place name) refusal refused is = refused
+first_refusal text (stil.P4 place) refusal refused is = refused
+first_refusal text (stil.P5 place) refusal refused is = refused
+first_refusal text (stil.P8 place) refusal refused is = refused
+first_refusal text (stil.P9 place name) refusal refused is = refused
+first_refusal text (stil.P10 vector name) refusal refused is = refused
+first_refusal text (stil.Memory error) refusal refused is = absurd cc
+
+pub pattern_text_one : (text : List ℕ) (r s : Result Patterns Refusal) → PatternText text r → PatternText text s → r ≡ s
+pattern_text_one text (Ok a) (Ok b) x y = ap Ok (patterns_one text a b x.stands y.stands)
+pattern_text_one text (Ok p) (Err refusal) x y = absurd (patterns_or_refused text p y.0 x.stands (first_refusal text y.0 refusal y.1.0 y.1.1))
+pattern_text_one text (Err refusal) (Ok p) x y = absurd (patterns_or_refused text p x.0 y.stands (first_refusal text x.0 refusal x.1.0 x.1.1))
+pattern_text_one text (Err a) (Err b) x y = ap Err (told_one _ _ a b (ap stil_refusal (stil_one text x.0 y.0 (first_refusal text x.0 a x.1.0 x.1.1) (first_refusal text y.0 b y.1.0 y.1.1))) x.1.1 y.1.1)
+

@@ -1,0 +1,89 @@
+-- Steps one after another: what a value, and what a stop, makes of all that comes behind.
+use Rattle.std.proofs.Common.{ℕ, ◌≡◌, ◌≤◌, length, inl, inr, refl, sym, subst, List, Option, None, Some, Result, Ok, Err}
+use Rattle.dft_base.specs.Outside.{Held, Told, file_at}
+use Rattle.dft_cells.specs.declared.cell.Cell.{Cell}
+use Rattle.dft_config.specs.declared.config.Config.{Config}
+use Rattle.dft_netlist.specs.Netlist.{Netlist}
+use Rattle.dft_replay.specs.Fits.{first_misfit}
+use Rattle.dft_scan.specs.Refusals.{refusal}
+use Rattle.dft_top.specs.declared.answer.Refusal.{Refusal}
+use Rattle.dft_top.specs.declared.outcome.Outcome.{Outcome}
+use Rattle.dft_top.specs.declared.stop.Stop.{Stop}
+use Rattle.dft_top.specs.declared.stop.Stop.TheVariants.{Refused, ReadFault, OutOfMemory}
+use Rattle.dft_words.specs.Words.{ReplayFiles, ScanFiles}
+use Rattle.dft_top.specs.Checks.{ConfigGives, FileGives, NetlistGives, PatternsGive, Then}
+use Rattle.dft_top.specs.Outcomes.{IsOutcomeOn, IsOutcomeOfScanOf}
+use Rattle.dft_top.specs.Stops.{ComesTo, IsGiven, IsGivenTold}
+
+-- what all comes to: a step, and what comes behind
+abbrev pub ComesBehind : {A : Type 0} → (Held → Result A Refusal → Type 0) → (Held → A → Outcome → Type 0) → Option Held → Result Outcome Stop → Type 0
+ComesBehind gives next held r = ComesTo (λ o. Told (λ h. Then (gives h) (next h) o) held) r
+
+value_first : {A : Type 0} (gives : Held → Result A Refusal → Type 0) (next : Held → A → Outcome → Type 0) (held : Option Held) (value : A) (r : Result Outcome Stop) →
+    IsGivenTold gives held (Ok value) → ComesTo (λ o. Told (λ h. next h value o) held) r → ComesBehind gives next held r
+value_first gives next None value (Ok o) given comes = tt
+value_first gives next None value (Err (Refused refusal)) given comes = tt
+value_first gives next None value (Err ReadFault) given comes = tt
+value_first gives next None value (Err OutOfMemory) given comes = tt
+value_first gives next (Some h) value (Ok o) given comes = inl (value, (given, comes))
+value_first gives next (Some h) value (Err (Refused refusal)) given comes = inl (value, (given, comes))
+value_first gives next (Some h) value (Err ReadFault) given comes = tt
+value_first gives next (Some h) value (Err OutOfMemory) given comes = tt
+
+stop_first : {A : Type 0} (gives : Held → Result A Refusal → Type 0) (next : Held → A → Outcome → Type 0) (held : Option Held) (stop : Stop) →
+    IsGivenTold gives held (Err stop) → ComesBehind gives next held (Err stop)
+stop_first gives next None (Refused refusal) given = tt
+stop_first gives next None ReadFault given = tt
+stop_first gives next None OutOfMemory given = tt
+stop_first gives next (Some h) (Refused refusal) given = inr (refusal, (given, refl))
+stop_first gives next (Some h) ReadFault given = tt
+stop_first gives next (Some h) OutOfMemory given = tt
+
+-- behind a value comes what comes to this; the files are as at first
+pub value_then : {A : Type 0} (gives : Held → Result A Refusal → Type 0) (next : Held → A → Outcome → Type 0) (held now : Option Held) (value : A) (r : Result Outcome Stop) →
+    now ≡ held → IsGivenTold gives now (Ok value) → ComesTo (λ o. Told (λ h. next h value o) held) r → ComesBehind gives next held r
+value_then gives next held now value r same given comes = value_first gives next held value r (subst (λ (files : Option Held). IsGivenTold gives files (Ok value)) same given) comes
+
+-- a stop is what all comes to
+pub stop_then : {A : Type 0} (gives : Held → Result A Refusal → Type 0) (next : Held → A → Outcome → Type 0) (held now : Option Held) (stop : Stop) (r : Result Outcome Stop) →
+    now ≡ held → r ≡ Err stop → IsGivenTold gives now (Err stop) → ComesBehind gives next held r
+stop_then gives next held now stop r same is given = subst (ComesBehind gives next held) (sym is) (stop_first gives next held stop (subst (λ (files : Option Held). IsGivenTold gives files (Err stop)) same given))
+
+-- what holds of an outcome holds of it where files are told
+pub comes_told : (is : Outcome → Type 0) (held : Option Held) (r : Result Outcome Stop) → ComesTo is r → ComesTo (λ o. Told (λ h. is o) held) r
+comes_told is None (Ok o) comes = tt
+comes_told is None (Err (Refused refusal)) comes = tt
+comes_told is None (Err ReadFault) comes = tt
+comes_told is None (Err OutOfMemory) comes = tt
+comes_told is (Some h) (Ok o) comes = comes
+comes_told is (Some h) (Err (Refused refusal)) comes = comes
+comes_told is (Some h) (Err ReadFault) comes = tt
+comes_told is (Some h) (Err OutOfMemory) comes = tt
+
+-- what a text gives, the file gives, where it is told
+pub text_told : {A : Type 0} (limit : ℕ) (option : List ℕ) (text_gives : List ℕ → Result A Refusal → Type 0) (name text : List ℕ) (held : Option Held) (r : Result A Stop) →
+    Told (λ h. file_at name h ≡ Some text) held → length text ≤ limit → IsGiven (text_gives text) r → IsGivenTold (λ h. FileGives limit option text_gives (file_at name h)) held r
+text_told limit option text_gives name text None (Ok value) told short given = tt
+text_told limit option text_gives name text None (Err (Refused refusal)) told short given = tt
+text_told limit option text_gives name text None (Err ReadFault) told short given = tt
+text_told limit option text_gives name text None (Err OutOfMemory) told short given = tt
+text_told limit option text_gives name text (Some h) (Ok value) told short given = rw told (short, given)
+text_told limit option text_gives name text (Some h) (Err (Refused refusal)) told short given = rw told (inr (short, given))
+text_told limit option text_gives name text (Some h) (Err ReadFault) told short given = tt
+text_told limit option text_gives name text (Some h) (Err OutOfMemory) told short given = tt
+
+-- ---- behind each file of a replay
+
+abbrev pub ReplayOn : ReplayFiles → Held → Netlist → Outcome → Type 0
+ReplayOn files h n = Then (PatternsGive files.patterns h) (λ p. IsOutcomeOn n p (first_misfit n p.signals))
+
+abbrev pub ReplayOver : ReplayFiles → Held → List Cell → Outcome → Type 0
+ReplayOver files h cells = Then (NetlistGives cells files.netlist h) (ReplayOn files h)
+
+-- ---- behind each file of a scan
+
+abbrev pub ScanOn : ScanFiles → List Cell → Held → Config → Outcome → Type 0
+ScanOn files cells h config = Then (NetlistGives cells files.netlist h) (λ n. IsOutcomeOfScanOf n config (refusal n config))
+
+abbrev pub ScanOver : ScanFiles → Held → List Cell → Outcome → Type 0
+ScanOver files h cells = Then (ConfigGives files.config h) (ScanOn files cells h)

@@ -1,0 +1,109 @@
+-- What the files of a command give, each by its checks: a value, or the refusal of the first check that fails.
+use Rattle.std.specs.Prelude.{ℕ, ◌<◌, ◌≤◌, ◌≡◌, ◌⊎◌, List, codes, length, Option, None, Some, Result, Ok, Err}
+use Rattle.dft_base.specs.Outside.{Held, file_at}
+use Rattle.dft_cells.specs.declared.cell.Cell.{Cell}
+use Rattle.dft_cells.specs.declared.refusal.LibraryError.{LibraryError}
+use Rattle.dft_cells.specs.Standard.{standard_cells}
+use Rattle.dft_cells.specs.Reading.{IsLibraryOf, IsRefusedAs}
+use Rattle.dft_config.specs.declared.config.Config.{Config}
+use Rattle.dft_config.specs.declared.error.ConfigError.{ConfigError}
+use Rattle.dft_config.specs.Range.{IsInRange}
+use Rattle.dft_config.specs.Refusals.{IsConfig}
+use Rattle.dft_config.specs.Refusals as config
+use Rattle.dft_netlist.specs.Netlist.{Netlist}
+use Rattle.dft_netlist.specs.NetlistText.{StandsFor}
+use Rattle.dft_netlist.specs.Orders.{IsOrder}
+use Rattle.dft_netlist.specs.Sound.{IsNetlist}
+use Rattle.dft_verilog.specs.declared.error.VerilogError.{VerilogError}
+use Rattle.dft_verilog.specs.Refusals as verilog
+use Rattle.dft_stil.specs.declared.error.StilError.{StilError}
+use Rattle.dft_stil.specs.Patterns.{Patterns, IsWellFormed}
+use Rattle.dft_stil.specs.PatternText as pattern
+use Rattle.dft_stil.specs.Refusals as stil
+use Rattle.dft_top.specs.declared.answer.Code.TheVariants.{F1}
+use Rattle.dft_top.specs.declared.answer.Refusal.{Refusal}
+use Rattle.dft_top.specs.declared.outcome.Outcome.{Outcome}
+use Rattle.dft_top.specs.declared.outcome.Outcome.TheVariants.{Refused}
+use Rattle.dft_top.specs.declared.limits.TheConstants.{MAX_LIBRARY_BYTES, MAX_CONFIG_BYTES, MAX_NETLIST_BYTES, MAX_PATTERN_BYTES}
+use Rattle.dft_top.specs.Refusals.{named, library_refusal, config_refusal, verilog_refusal, stil_refusal}
+
+-- ---- one file
+
+-- a file is longer than its limit; the part is the name of the file's option
+abbrev pub too_long : (option : List ℕ) → Refusal
+too_long option = named F1 option
+
+-- The length of a file is checked first, and then what its text gives. A file that is not held gives nothing.
+abbrev pub FileGives : {A : Type 0} → (limit : ℕ) → (option : List ℕ) → (List ℕ → Result A Refusal → Type 0) → Option (List ℕ) → Result A Refusal → Type 0
+FileGives limit option text_gives None r = ⊥
+FileGives limit option text_gives (Some text) (Ok value) = (length text ≤ limit) × text_gives text (Ok value)
+FileGives limit option text_gives (Some text) (Err refusal) =
+    ((limit < length text) × (refusal ≡ too_long option)) ⊎ ((length text ≤ limit) × text_gives text (Err refusal))
+
+-- ---- the library
+
+abbrev pub LibraryText : (text : List ℕ) → Result (List Cell) Refusal → Type 0
+LibraryText text (Ok cells) = IsLibraryOf text cells
+LibraryText text (Err refusal) = (error : LibraryError) × (IsRefusedAs text error × (library_refusal error ≡ Some refusal))
+
+-- where no library is named, it is the standard one
+abbrev pub LibraryGives : (name : Option (List ℕ)) → Held → Result (List Cell) Refusal → Type 0
+LibraryGives None held (Ok cells) = cells ≡ standard_cells
+LibraryGives None held (Err refusal) = ⊥
+LibraryGives (Some name) held r = FileGives MAX_LIBRARY_BYTES (codes "library") LibraryText (file_at name held) r
+
+-- ---- the configuration
+
+-- the configuration of a text, which is in range
+pub record IsConfigOf (text : List ℕ) (config : Config) : Type 0 where
+  pub stands : IsConfig text config
+  pub range : IsInRange config
+
+abbrev pub ConfigText : (text : List ℕ) → Result Config Refusal → Type 0
+ConfigText text (Ok config) = IsConfigOf text config
+ConfigText text (Err refusal) = (error : ConfigError) × (config.IsRefused text error × (config_refusal error ≡ Some refusal))
+
+abbrev pub ConfigGives : (name : List ℕ) → Held → Result Config Refusal → Type 0
+ConfigGives name held r = FileGives MAX_CONFIG_BYTES (codes "config") ConfigText (file_at name held) r
+
+-- ---- the netlist
+
+-- the netlist that a text stands for over the cells of a library, with an order of its nets
+pub record IsDesignOf (cells : List Cell) (text : List ℕ) (n : Netlist) : Type 0 where
+  pub stands : StandsFor cells text n
+  pub sound : IsNetlist n
+  pub order : List ℕ
+  pub ordered : IsOrder n order
+
+abbrev pub NetlistText : List Cell → (text : List ℕ) → Result Netlist Refusal → Type 0
+NetlistText cells text (Ok n) = IsDesignOf cells text n
+NetlistText cells text (Err refusal) = (error : VerilogError) × (verilog.IsRefused cells text error × (verilog_refusal error ≡ Some refusal))
+
+abbrev pub NetlistGives : List Cell → (name : List ℕ) → Held → Result Netlist Refusal → Type 0
+NetlistGives cells name held r = FileGives MAX_NETLIST_BYTES (codes "netlist") (NetlistText cells) (file_at name held) r
+
+-- ---- the patterns
+
+-- the patterns that a text stands for, which are well formed
+pub record ArePatternsOf (text : List ℕ) (p : Patterns) : Type 0 where
+  pub stands : pattern.StandsFor text p
+  pub well_formed : IsWellFormed p
+
+abbrev pub PatternText : (text : List ℕ) → Result Patterns Refusal → Type 0
+PatternText text (Ok p) = ArePatternsOf text p
+PatternText text (Err refusal) = (error : StilError) × (stil.IsRefused text error × (stil_refusal error ≡ Some refusal))
+
+abbrev pub PatternsGive : (name : List ℕ) → Held → Result Patterns Refusal → Type 0
+PatternsGive name held r = FileGives MAX_PATTERN_BYTES (codes "patterns") PatternText (file_at name held) r
+
+-- ---- one file after another
+
+-- Where a file gives a value, what comes behind gives the outcome; a refusal is the outcome.
+abbrev pub Then : {A : Type 0} → (Result A Refusal → Type 0) → (A → Outcome → Type 0) → Outcome → Type 0
+Then {A} gives next o =
+    ((value : A) × (gives (Ok value) × next value o))
+    ⊎ ((refusal : Refusal) × (gives (Err refusal) × (o ≡ Refused refusal)))
+
+-- the file gives a value, of which this holds
+abbrev pub After : {A : Type 0} → (Result A Refusal → Type 0) → (A → Type 0) → Type 0
+After {A} gives next = (value : A) × (gives (Ok value) × next value)

@@ -1,0 +1,83 @@
+-- What a command saves of its outcome, and what its saves leave.
+use Rattle.std.specs.Prelude.{ℕ, ◌≡◌, false, List, [], ◌∷◌, ◌++◌, Option, None, Some}
+use Rattle.std.specs.List.{AllByRecursion}
+use Rattle.std.specs.Str.{bytes_eq}
+use Rattle.dft_base.specs.Outside.{Held, LeavesPart, Rose, ToldChange, file_at}
+use Rattle.dft_words.specs.Words.{Command, Replay, Scan, ScanFiles}
+use Rattle.dft_top.specs.declared.outcome.Outcome.{Outcome}
+use Rattle.dft_top.specs.declared.outcome.Outcome.TheVariants.{Usage, Refused, Passed, Mismatch, Undetermined, Scanned}
+
+-- a file that is to be saved: its name, and its bytes
+pub record Saving : Type 0 where
+  pub name : List ℕ
+  pub bytes : List ℕ
+
+-- the scanned netlist, then the report; no other outcome is saved
+abbrev pub scan_savings : ScanFiles → Outcome → List Saving
+scan_savings files Usage = []
+scan_savings files (Refused refusal) = []
+scan_savings files (Passed vectors compared) = []
+scan_savings files (Mismatch vector signal) = []
+scan_savings files (Undetermined vector signal) = []
+scan_savings files (Scanned counts netlist report) = record { name = files.out; bytes = netlist } ∷ record { name = files.report; bytes = report } ∷ []
+
+-- what a command saves, in order
+abbrev pub savings : Option Command → Outcome → List Saving
+savings None o = []
+savings (Some (Replay files)) o = []
+savings (Some (Scan files)) o = scan_savings files o
+
+-- the files that a command saves have different names
+abbrev pub SavesApart : Option Command → Type 0
+SavesApart None = Unit {0}
+SavesApart (Some (Replay files)) = Unit {0}
+SavesApart (Some (Scan files)) = files.out ≡ files.report → ⊥
+
+-- ---- files
+
+-- each of these files stands whole
+abbrev pub Stand : List Saving → Held → Type 0
+Stand saved held = AllByRecursion (λ s. file_at s.name held ≡ Some s.bytes) saved
+
+-- every file with another name is as before
+abbrev pub KeepsOthers : List Saving → (old new : Held) → Type 0
+KeepsOthers saved old new = (name : List ℕ) → AllByRecursion (λ s. bytes_eq s.name name ≡ false) saved → file_at name new ≡ file_at name old
+
+-- these files were saved, and nothing else is changed
+pub record AreSaved (saved : List Saving) (old new : Held) : Type 0 where
+  pub whole : Stand saved new
+  pub others : KeepsOthers saved old new
+
+-- These files were saved, and then the save of another failed: its file is as it was, or has a prefix of the bytes. Nothing else is changed.
+pub record AreSavedBut (saved : List Saving) (failing : Saving) (old new : Held) : Type 0 where
+  pub whole : Stand saved new
+  pub part : LeavesPart failing.bytes (file_at failing.name old) (file_at failing.name new)
+  pub others : KeepsOthers (failing ∷ saved) old new
+
+-- ---- how far saves come; where nothing is saved, no file is changed
+
+abbrev pub HaveSaved : List Saving → (held held' : Option Held) → Type 0
+HaveSaved [] held held' = held' ≡ held
+HaveSaved (s ∷ saved) held held' = ToldChange (AreSaved (s ∷ saved)) held held'
+
+-- the first of these were saved, and no more
+pub record HaveSavedSome (savings : List Saving) (held held' : Option Held) : Type 0 where
+  pub saved : List Saving
+  pub rest : List Saving
+  pub in_order : savings ≡ saved ++ rest
+  pub files : HaveSaved saved held held'
+
+-- the first of these were saved, and the save of the next failed
+pub record SaveFailed (savings : List Saving) (held held' : Option Held) (failed : List ℕ) (faults faults' : ℕ) : Type 0 where
+  pub saved : List Saving
+  pub failing : Saving
+  pub rest : List Saving
+  pub in_order : savings ≡ saved ++ failing ∷ rest
+  pub files : ToldChange (AreSavedBut saved failing) held held'
+  pub failed_name : failed ≡ failing.name
+  pub rose : Rose faults faults'
+
+-- the count of failed saves grows only where there is something to save
+abbrev pub CountsSaves : List Saving → (faults faults' : ℕ) → Type 0
+CountsSaves [] faults faults' = faults' ≡ faults
+CountsSaves (s ∷ savings) faults faults' = Unit {0}

@@ -1,0 +1,79 @@
+//! What the texts of files give by their checks.
+
+ghost use Rattle.std.specs.Prelude.{◌≤◌, IfErr, IfOk, length};
+ghost use Rattle.dft_config.specs.Range.{IsInRange};
+ghost use Rattle.dft_stil.specs.Patterns.{IsWellFormed};
+ghost use Rattle.dft_verilog.specs.Refusals.{IsRefused};
+ghost use Rattle.dft_verilog_out.specs.Named.{GatesAreJoined};
+ghost use Rattle.dft_top.specs.Checks.{ConfigText, IsDesignOf, LibraryText, NetlistText, PatternText};
+ghost use Rattle.dft_top.specs.Stops.{IsGiven};
+ghost use Rattle.dft_top.specs.declared.limits.TheConstants.{MAX_CONFIG_BYTES, MAX_LIBRARY_BYTES, MAX_NETLIST_BYTES, MAX_PATTERN_BYTES};
+
+use crate::refusing::{config_refusal, library_refusal, stil_refusal, verilog_refusal};
+use crate::stop::Stop;
+use dft_cells::Library;
+use dft_config::Config;
+use dft_netlist::Design;
+use dft_stil::PatternSet;
+use dft_verilog::VerilogError;
+use std::alloc::Global;
+
+/// The library of a text.
+pub fn library_in(alloc: Global, text: &[u8]) -> Result<Library, Stop>
+    requires { length text.now ≤ MAX_LIBRARY_BYTES }
+    ensures { IsGiven (LibraryText text.now) result }
+{
+    match Library::read(alloc, text) {
+        Ok(library) => Ok(library),
+        Err(error) => Err(Stop::Refused(library_refusal(error)?)),
+    }
+}
+
+/// The configuration of a text.
+pub fn config_in(alloc: Global, text: &[u8]) -> Result<Config, Stop>
+    requires { length text.now ≤ MAX_CONFIG_BYTES }
+    ensures given { IsGiven (ConfigText text.now) result }
+    ensures range { IfOk result IsInRange }
+{
+    match Config::read(alloc, text) {
+        Ok(config) => Ok(config),
+        Err(error) => Err(Stop::Refused(config_refusal(error)?)),
+    }
+}
+
+/// The design of a netlist text over the cells of a library.
+pub fn design_in(alloc: Global, text: &[u8], library: Library) -> Result<Design, Stop>
+    requires { length text.now ≤ MAX_NETLIST_BYTES }
+    ensures given { IsGiven (NetlistText library text.now) result }
+    ensures joined { IfOk result GatesAreJoined }
+{
+    match design_of(alloc, text, library) {
+        Ok(design) => Ok(design),
+        Err(error) => Err(Stop::Refused(verilog_refusal(alloc, error)?)),
+    }
+}
+
+/// The design of a netlist text, of which its calls say that it is sound and has an order.
+fn design_of(alloc: Global, text: &[u8], library: Library) -> Result<Design, VerilogError>
+    requires { length text.now ≤ MAX_NETLIST_BYTES }
+    ensures design { IfOk result (IsDesignOf library text.now) }
+    ensures joined { IfOk result GatesAreJoined }
+    ensures refused { IfErr result (IsRefused library text.now) }
+{
+    let design = dft_verilog::read(alloc, text, library)?;
+    let _name = design.module();
+    let _order = design.order();
+    Ok(design)
+}
+
+/// The patterns of a text.
+pub fn patterns_in(alloc: Global, text: &[u8]) -> Result<PatternSet, Stop>
+    requires { length text.now ≤ MAX_PATTERN_BYTES }
+    ensures given { IsGiven (PatternText text.now) result }
+    ensures well_formed { IfOk result IsWellFormed }
+{
+    match dft_stil::read(alloc, text) {
+        Ok(patterns) => Ok(patterns),
+        Err(error) => Err(Stop::Refused(stil_refusal(error)?)),
+    }
+}
