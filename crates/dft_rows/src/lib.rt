@@ -6,4 +6,6 @@ mod files;
 #[cfg(test)]
 mod rows;
 #[cfg(test)]
+mod scans;
+#[cfg(test)]
 mod words;
