@@ -2,6 +2,8 @@
 #![tactic(auto)]
 
 #[cfg(test)]
+mod designs;
+#[cfg(test)]
 mod files;
 #[cfg(test)]
 mod rows;
