@@ -1,4 +1,4 @@
-ghost use Rattle.std.specs.Prelude.{◌≡◌, ◌<◌, ◌≤◌, ◌*◌, length, IfOk, IsTrue, nat_le};
+ghost use Rattle.std.specs.Prelude.{◌≡◌, ◌<◌, ◌≤◌, length, IfOk, IsTrue, nat_le};
 ghost use Rattle.std.specs.List.{list_all};
 ghost use Rattle.dft_config.specs.Range.{IsRingInRange};
 
@@ -151,78 +151,55 @@ fn columns_in(alloc: Global, words: &[u64], columns: u32) -> Result<String, Allo
     Ok(text)
 }
 
-// The columns of each cell's row, chain after chain, for loads of so many cycles.
+// The columns of each cell's row on a line of its own, chain after chain, for loads of so many cycles.
 fn told(
     alloc: Global,
     config: &Config,
     lengths: &[u16],
     cycles: u16,
-) -> Result<Vec<String>, AllocError>
+) -> Result<String, AllocError>
     requires ring { IsRingInRange config.now.chains config.now.ring }
     requires chains { length lengths.now ≡ config.now.chains }
     requires lengths { IsTrue (list_all (λ cells. nat_le cells cycles) lengths.now) }
-    requires columns { cycles * config.now.ring.channels ≤ 16384 }
+    requires columns { cycles ≤ 512 }
 {
     let equations = equations(alloc, config, lengths, cycles)?;
-    let mut rows = Vec::new(alloc);
+    let mut text = String::new(alloc);
     for chain in 0..config.chains {
         for place in 0..lengths[usize::from(chain)] {
             let words = equations.of_cell(chain, place);
-            rows.push(columns_in(alloc, words, equations.columns())?)?;
+            text.push_str(&columns_in(alloc, words, equations.columns())?)?;
+            text.push('\n')?;
         }
     }
-    Ok(rows)
+    Ok(text)
 }
 
-// Whether the lines are these.
-fn are(lines: &[String], expected: &[&str]) -> bool {
-    lines.len() == expected.len() && lines.iter().zip(expected).all(|(a, b)| a.as_str() == *b)
+// The last column of each line.
+fn newest(alloc: Global, text: &str) -> Result<String, AllocError> {
+    let mut newest = String::new(alloc);
+    for line in text.lines() {
+        newest.push_str(line.rsplit(' ').next().unwrap_or(""))?;
+        newest.push(' ')?;
+    }
+    Ok(newest)
 }
 
-// Whether the first lines end so.
-fn end(lines: &[String], endings: &[&str]) -> bool {
-    lines
-        .iter()
-        .zip(endings)
-        .all(|(a, b)| a.as_str().ends_with(*b))
-}
+const WITH_WARM_CYCLES: &str = "1 3\n0 2\n1\n1 2\n0 1\n";
 
-static WITH_WARM_CYCLES: [&str; 5] = ["1 3", "0 2", "1", "1 2", "0 1"];
-
-static WITH_NONE: [&str; 5] = ["1", "0", "", "0", ""];
+const WITH_NONE: &str = "1\n0\n\n0\n\n";
 
 // The states of the crossed ring, stage by stage, the sixth one first; column 2 t is channel 0 at cycle t, and 2 t + 1 channel 1.
-static BY_HAND: [&str; 18] = [
-    "0 2 5 7 8",
-    "0 3 5 6",
-    "1 3 4",
-    "1 2",
-    "0",
-    "",
-    "1 2 4 7 9",
-    "0 2 5 7",
-    "0 3 5",
-    "1 3",
-    "1",
-    "",
-    "0 3 5 6 8",
-    "1 3 4 6",
-    "1 2 4",
-    "0 2",
-    "0",
-    "",
-];
+const BY_HAND: &str = "0 2 5 7 8\n0 3 5 6\n1 3 4\n1 2\n0\n\n1 2 4 7 9\n0 2 5 7\n0 3 5\n1 3\n1\n\n0 3 5 6 8\n1 3 4 6\n1 2 4\n0 2\n0\n\n";
 
-static AS_LONG_AS_MASKS: [&str; 3] = ["1 2", "1 3", "0 2"];
-
-static NEWEST: [&str; 4] = ["22", "20", "18", "16"];
+const AS_LONG_AS_MASKS: &str = "1 2\n1 3\n0 2\n";
 
 #[test]
 fn a_small_ring_gives_its_equations(rt: HostRuntime) -> Result<(), Fail> {
     let alloc = rt.alloc();
     let config = config(alloc, 2, small_ring(alloc)?)?;
     let rows = told(alloc, &config, &[3u16, 2], 5)?;
-    assert!(rt; are(&rows, &WITH_WARM_CYCLES));
+    assert_eq!(rt; rows.as_str(), WITH_WARM_CYCLES);
     Ok(())
 }
 
@@ -231,7 +208,7 @@ fn without_warm_cycles_some_equations_are_empty(rt: HostRuntime) -> Result<(), F
     let alloc = rt.alloc();
     let config = config(alloc, 2, small_ring(alloc)?)?;
     let rows = told(alloc, &config, &[3u16, 2], 3)?;
-    assert!(rt; are(&rows, &WITH_NONE));
+    assert_eq!(rt; rows.as_str(), WITH_NONE);
     Ok(())
 }
 
@@ -240,7 +217,7 @@ fn states_of_crossed_taps_are_as_by_hand(rt: HostRuntime) -> Result<(), Fail> {
     let alloc = rt.alloc();
     let config = config(alloc, 3, crossed_ring(alloc)?)?;
     let rows = told(alloc, &config, &[6u16, 6, 6], 6)?;
-    assert!(rt; are(&rows, &BY_HAND));
+    assert_eq!(rt; rows.as_str(), BY_HAND);
     Ok(())
 }
 
@@ -249,7 +226,7 @@ fn the_newest_variables_of_a_realistic_ring_fall_by_a_cycle(rt: HostRuntime) -> 
     let alloc = rt.alloc();
     let config = config(alloc, 8, realistic_ring(alloc)?)?;
     let rows = told(alloc, &config, &[5u16, 5, 5, 5, 5, 5, 5, 5], 13)?;
-    assert!(rt; rows.len() == 40 && end(&rows, &NEWEST));
+    assert!(rt; newest(alloc, rows.as_str())?.as_str().starts_with("22 20 18 16 "));
     Ok(())
 }
 
@@ -259,6 +236,6 @@ fn loads_may_be_as_long_as_the_longest_mask_segment(rt: HostRuntime) -> Result<(
     let alloc = rt.alloc();
     let config = config(alloc, 3, crossed_ring(alloc)?)?;
     let rows = told(alloc, &config, &[1u16, 1, 1], 3)?;
-    assert!(rt; are(&rows, &AS_LONG_AS_MASKS));
+    assert_eq!(rt; rows.as_str(), AS_LONG_AS_MASKS);
     Ok(())
 }
