@@ -369,7 +369,7 @@ contains_design Plain n config ready = record {
 
 -- so it behaves as its design while scan is off
 pub agrees : AgreesWhileOff
-agrees Plain n config now its given ports m o steps others ready =
+agrees Plain n config ready now its given ports m o steps others =
     let order = order_ranks n ready.order ready.netlist ready.ordered in
     scan_off (logic_of n (config_ports n config)) (logic_of (scanned Plain n config) (config_ports n config)) order.0 (places_in Plain n config) now its given ports m o steps others
     (order_is_rank n (config_ports n config) order.0 order.1) (contains_design Plain n config ready)

@@ -10,10 +10,10 @@ use Rattle.dft_insert.proofs.Orderable.{scanned_orderable}
 use Rattle.dft_insert.proofs.Heights.{ranked}
 
 pub scanned_shifts : ScannedShifts
-scanned_shifts n config before shifts start ts us ready run are turns =
+scanned_shifts n config ready before shifts start ts us run are turns =
     let rank = ranked (scanned Plain n config) (config_ports n config) (λ net. scanned_orderable n config net ready) in
     shift_experiment (logic_of (scanned Plain n config) (config_ports n config)) rank.0 (config_ports n config) (plan_of n config).chains (plain_nets (layout n config) config) before shifts start ts us rank.1 (has_hardware n config ready) run are turns
 
 pub scanned_shows : ScannedShows
-scanned_shows n config x now t ready turn chain place cell stands last =
+scanned_shows n config ready x now t turn chain place cell stands last =
     ends_show (logic_of (scanned Plain n config) (config_ports n config)) (config_ports n config) (plan_of n config).chains (plain_nets (layout n config) config) x now t (has_hardware n config ready) turn chain place cell stands last

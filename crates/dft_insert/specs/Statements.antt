@@ -55,9 +55,13 @@ scanned style n config = scanned_netlist style n config (plan_of n config)
 abbrev pub gap_in : Style → Netlist → Config → Gap
 gap_in style n config = gap_of n (length (added_ports style config))
 
--- It keeps the design, but that the scanned flip-flops are scan cells.
+-- it has the design's ports, nets, joins and instances, in order and under their names, but that the scanned flip-flops are scan cells
+abbrev pub IsKept : Style → Netlist → Config → Type 0
+IsKept style n config = Keeps n (gap_in style n config) (λ i. is_scanned (judged n config i)) (scanned style n config)
+
+-- It keeps the design.
 abbrev pub KeepsDesign : Type 0
-KeepsDesign = (style : Style) (n : Netlist) (config : Config) → IsReady n config → Keeps n (gap_in style n config) (λ i. is_scanned (judged n config i)) (scanned style n config)
+KeepsDesign = (style : Style) (n : Netlist) (config : Config) → IsReady n config → IsKept style n config
 
 -- no net has two drivers, and every net can be ordered
 pub record CanFinish (n : Netlist) : Type 0 where
@@ -98,11 +102,11 @@ ContainsDesign =
     (style : Style) (n : Netlist) (config : Config) → IsReady n config →
     Contains (logic_of n (config_ports n config)) (logic_of (scanned style n config) (config_ports n config)) (places_in style n config)
 
--- It behaves as the design while scan is off: let all clocks be low and the design's modelled flip-flops have equal bits, and let the
--- same events follow, a Set with scan_enable 0 first. Then at each moment every net of the design has the same bit in both.
-abbrev pub AgreesWhileOff : Type 0
-AgreesWhileOff =
-    (style : Style) (n : Netlist) (config : Config) (now its : Now) (given ports : ℕ → Tri) (m o : Moment) (steps others : List Step) → IsReady n config →
+-- Let all clocks be low and the design's modelled flip-flops have equal bits, and let the same events follow, a Set with scan_enable 0
+-- first. Then at each moment every net of the design has the same bit in both.
+abbrev pub IsSameWhileOff : Style → Netlist → Config → Type 0
+IsSameWhileOff style n config =
+    (now its : Now) (given ports : ℕ → Tri) (m o : Moment) (steps others : List Step) →
     let p = places_in style n config in
     let original = logic_of n (config_ports n config) in
     AreLow now.state → AreLow its.state → ((cell : ℕ) → p.is_flop cell ≡ true → now.state.flops cell ≡ its.state.flops cell) →
@@ -111,21 +115,32 @@ AgreesWhileOff =
     AreSteps (logic_of (scanned style n config) (config_ports n config)) now (set_to given m ∷ steps) → AreSteps original its (set_to ports o ∷ others) →
     AllAgree p (set_to given m ∷ steps) (set_to ports o ∷ others)
 
--- In style Plain its chains shift: in every run, after any vectors and then shift vectors, each cell holds the bit of its scan input
--- port in the vector so many before the end as it stands places behind it, or the bit of the cell as many places before it as there
--- were shift vectors.
-abbrev pub ScannedShifts : Type 0
-ScannedShifts =
-    (n : Netlist) (config : Config) (before shifts : List Vector) (start : Now) (ts us : List Turn) → IsReady n config →
+-- It behaves as the design while scan is off.
+abbrev pub AgreesWhileOff : Type 0
+AgreesWhileOff = (style : Style) (n : Netlist) (config : Config) → IsReady n config → IsSameWhileOff style n config
+
+-- In every run, after any vectors and then shift vectors, each cell holds the bit of its scan input port in the vector so many before
+-- the end as it stands places behind it, or the bit of the cell as many places before it as there were shift vectors.
+abbrev pub ChainsShift : Netlist → Config → Type 0
+ChainsShift n config =
+    (before shifts : List Vector) (start : Now) (ts us : List Turn) →
     let l = logic_of (scanned Plain n config) (config_ports n config) in
     let w = plain_nets (plain_layout n config (plan_of n config)) config in
     IsRun l before start ts → AreShifts (config_ports n config) w shifts → AreTurns l (after_turns l start before ts) shifts us →
     AreShifted (plan_of n config).chains w shifts (after_turns l start before ts).state.flops (after_turns l (after_turns l start before ts) shifts us).state.flops
 
--- At every strobe each of its scan outputs shows the bit of its last cell.
-abbrev pub ScannedShows : Type 0
-ScannedShows =
-    (n : Netlist) (config : Config) (x : Vector) (now : Now) (t : Turn) → IsReady n config →
+-- In style Plain its chains shift.
+abbrev pub ScannedShifts : Type 0
+ScannedShifts = (n : Netlist) (config : Config) → IsReady n config → ChainsShift n config
+
+-- at every strobe each scan output shows the bit of its last cell
+abbrev pub ChainsShow : Netlist → Config → Type 0
+ChainsShow n config =
+    (x : Vector) (now : Now) (t : Turn) →
     let l = logic_of (scanned Plain n config) (config_ports n config) in
     IsTurn l x now t → (chain place : ℕ) (cell : InstanceId) → cell_at (plan_of n config).chains chain place ≡ Some cell → cell_at (plan_of n config).chains chain (suc place) ≡ None →
     shown t (scan_out_net (gap_in Plain n config) config.chains chain) ≡ (at_strobe l x now t).flops cell.0
+
+-- In style Plain its scan outputs show the ends of its chains.
+abbrev pub ScannedShows : Type 0
+ScannedShows = (n : Netlist) (config : Config) → IsReady n config → ChainsShow n config

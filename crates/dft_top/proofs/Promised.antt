@@ -123,9 +123,9 @@ scans files old new o done h saved =
       others = λ name a b. left.others name (differ files.out name (λ e. a (sym e)), (differ files.report name (λ e. b (sym e)), tt));
       reads = subst (λ (cells : List Cell). StandsFor cells (netlist_text n c) (scanned Plain n c)) (library_kept x.0 design.0 n design.1.stands) done_scan.reads;
       keeps = keeps_design Plain n c ready;
-      agrees = λ now its given ports m o' steps others. agrees Plain n c now its given ports m o' steps others ready;
-      shifts = λ before shifts start ts us. scanned_shifts n c before shifts start ts us ready;
-      shows = λ v now t. scanned_shows n c v now t ready;
+      agrees = agrees Plain n c ready;
+      shifts = scanned_shifts n c ready;
+      shows = scanned_shows n c ready;
     }
 
 -- ---- of a run

@@ -3,7 +3,6 @@ pub mod Checks
 pub mod Outcomes
 pub mod Lines
 pub mod Answers
-pub mod Scanning
 pub mod Promises
 pub mod Saves
 pub mod Named

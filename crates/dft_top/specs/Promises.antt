@@ -4,7 +4,7 @@ use Rattle.dft_base.specs.Outside.{Held, file_at}
 use Rattle.dft_cells.specs.declared.cell.Cell.{Cell}
 use Rattle.dft_config.specs.declared.config.Config.{Config}
 use Rattle.dft_insert.specs.declared.style.Style.TheVariants.{Plain}
-use Rattle.dft_insert.specs.Statements.{IsReady, scanned}
+use Rattle.dft_insert.specs.Statements.{ChainsShift, ChainsShow, IsKept, IsReady, IsSameWhileOff, scanned}
 use Rattle.dft_netlist.specs.Netlist.{Netlist}
 use Rattle.dft_netlist.specs.NetlistText.{StandsFor}
 use Rattle.dft_netlist.specs.Runs.{Now, Turn}
@@ -17,7 +17,6 @@ use Rattle.dft_replay.specs.Laws.{IsRunOf, AllShow}
 use Rattle.dft_scan.specs.Scans.{netlist_text, report_text}
 use Rattle.dft_words.specs.Words.{ReplayFiles, ScanFiles}
 use Rattle.dft_top.specs.Checks.{LibraryGives, ConfigGives, NetlistGives, PatternsGive}
-use Rattle.dft_top.specs.Scanning.{KeepsDesign, AgreesWhileOff, Shifts, Shows}
 
 -- every run of the netlist over the patterns shows each compared bit as printed
 abbrev pub EveryRunShows : Netlist → Patterns → Type 0
@@ -52,7 +51,7 @@ pub record Scans (files : ScanFiles) (old new : Held) : Type 0 where
   pub others : (name : List ℕ) → (name ≡ files.out → ⊥) → (name ≡ files.report → ⊥) → file_at name new ≡ file_at name old
   pub reads : StandsFor cells (netlist_text netlist config) (scanned Plain netlist config)
   -- what holds of it
-  pub keeps : KeepsDesign netlist config
-  pub agrees : AgreesWhileOff netlist config
-  pub shifts : Shifts netlist config
-  pub shows : Shows netlist config
+  pub keeps : IsKept Plain netlist config
+  pub agrees : IsSameWhileOff Plain netlist config
+  pub shifts : ChainsShift netlist config
+  pub shows : ChainsShow netlist config
