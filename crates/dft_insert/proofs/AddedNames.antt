@@ -104,10 +104,6 @@ pub total_ones : {X : Type 0} (f : Adding → ℕ) (g : X → Adding) (xs : List
 total_ones f g [] one = refl
 total_ones f g (x ∷ xs) one = omega (arith, one x, total_ones f g xs one)
 
-pub total_none : {X : Type 0} (f : Adding → ℕ) (g : X → Adding) (xs : List X) → ((x : X) → f (g x) ≡ 0) → total f (map g xs) ≡ 0
-total_none f g [] none = refl
-total_none f g (x ∷ xs) none = omega (arith, none x, total_none f g xs none)
-
 pub total_flat : {X : Type 0} (f : Adding → ℕ) (g : X → List Adding) (xs : List X) → ((x : X) → total f (g x) ≡ 1) → total f (flat_map g xs) ≡ length xs
 total_flat f g [] one = refl
 total_flat f g (x ∷ xs) one = omega (arith, total-append f (g x) (flat_map g xs), one x, total_flat f g xs one)

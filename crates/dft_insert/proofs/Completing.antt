@@ -1,6 +1,6 @@
 -- A netlist to which things are added, one after another, up to a whole.
-use Rattle.std.proofs.Common.{ℕ, suc, ◌+◌, ◌-◌, ◌≡◌, ◌<◌, ◌≤◌, List, [], ◌∷◌, length, map, drop, get_or, Some, slice_get, refl, sym, subst, ap, arith, ◌∙◌}
-use Rattle.std.proofs.lemmas.List.{drop_more, at_drop_all}
+use Rattle.std.proofs.Common.{ℕ, suc, ◌+◌, ◌-◌, ◌≡◌, ◌<◌, List, ◌∷◌, length, map, drop, get_or, Some, slice_get, sym, subst, ap, arith, ◌∙◌}
+use Rattle.std.proofs.lemmas.List.{drop_more}
 use Rattle.std.proofs.lemmas.Option.{get_or_from_slice_get, slice_get_within}
 use Rattle.dft_netlist.specs.declared.instance.Instance.{Instance}
 use Rattle.dft_netlist.specs.Netlist.{Netlist}
@@ -12,19 +12,12 @@ pub record Completes (whole n : Netlist) (things : List Thing) : Type 0 where
   pub fit : AllFit n things
   pub all : with_things n things ≡ whole
 
-pub begins : (n : Netlist) (things : List Thing) → AllFit n things → Completes (with_things n things) n things
-begins n things fit = record { fit = fit; all = refl }
-
 pub goes_on : (whole n new : Netlist) (thing : Thing) (things : List Thing) → Completes whole n (thing ∷ things) → new ≡ with_thing n thing → Completes whole new things
 goes_on whole n new thing things c is = subst (λ (m : Netlist). Completes whole m things) (sym is) (record { fit = c.fit.1; all = c.all })
 
 -- the next of the things that are left
 pub next_thing : {X : Type 0} (whole n : Netlist) (f : X → Thing) (xs : List X) (k : ℕ) (x d : X) → k < length xs → x ≡ get_or xs k d → Completes whole n (map f (drop k xs)) → Completes whole n (f x ∷ map f (drop (k + 1) xs))
 next_thing whole n f xs k x d within is c = subst (Completes whole n) (ap (map f) (drop_more xs k d within) ∙ ap (λ y. f y ∷ map f (drop (k + 1) xs)) (sym is)) c
-
--- none is left
-pub none_left : {X : Type 0} (whole n : Netlist) (f : X → Thing) (xs : List X) (k : ℕ) → length xs ≤ k → Completes whole n (map f (drop k xs)) → n ≡ whole
-none_left whole n f xs k past c = sym (at_drop_all (λ ys. with_things n (map f ys)) xs k past) ∙ c.all
 
 -- ---- numbered things
 
@@ -35,11 +28,6 @@ next_number whole n f things k count step less c =
     let left : count - k ≡ suc (count - (k + 1)) = omega (arith, less) in
     subst (Completes whole n) (ap (things k) left ∙ step k (count - (k + 1))) c
 
-pub no_number_left : (whole n : Netlist) (things : ℕ → ℕ → List Thing) (k count : ℕ) → things k 0 ≡ [] → count ≤ k → Completes whole n (things k (count - k)) → n ≡ whole
-no_number_left whole n things k count none past c =
-    let left : count - k ≡ 0 = omega (arith, past) in
-    sym (ap (with_things n) (ap (things k) left ∙ none)) ∙ c.all
-
 -- the instances that are left, from a number on
 pub next_instance : {X : Type 0} (whole n : Netlist) (f : ℕ → X → Instance) (xs : List X) (k : ℕ) (x d : X) → k < length xs → x ≡ get_or xs k d →
     Completes whole n (instance_things (map_from f k (drop k xs))) → Completes whole n (AnInstance (f k x) ∷ instance_things (map_from f (k + 1) (drop (k + 1) xs)))
@@ -49,9 +37,6 @@ next_instance whole n f xs k x d within is c =
     (ap (λ ys. instance_things (map_from f k ys)) (drop_more xs k d within)
     ∙ ap (λ y. AnInstance (f k y) ∷ instance_things (map_from f (suc k) (drop (k + 1) xs))) (sym is)
     ∙ ap (λ j. AnInstance (f k x) ∷ instance_things (map_from f j (drop (k + 1) xs))) after) c
-
-pub no_instance_left : {X : Type 0} (whole n : Netlist) (f : ℕ → X → Instance) (xs : List X) (k : ℕ) → length xs ≤ k → Completes whole n (instance_things (map_from f k (drop k xs))) → n ≡ whole
-no_instance_left whole n f xs k past c = sym (at_drop_all (λ ys. with_things n (instance_things (map_from f k ys))) xs k past) ∙ c.all
 
 -- the instance that was made is the one that comes next
 pub made_fits : {X : Type 0} (whole n : Netlist) (f : ℕ → X → Instance) (xs : List X) (k : ℕ) (x : X) (made : Instance) → slice_get xs k ≡ Some x → made ≡ f k x → Completes whole n (instance_things (map_from f k (drop k xs))) → InstanceFits n made

@@ -1,5 +1,5 @@
 -- What can be finished is not refused; and the ids of the added ports.
-use Rattle.std.proofs.Common.{ℕ, suc, ◌+◌, ◌-◌, ◌≡◌, ◌<◌, ◌≤◌, List, [], ◌∷◌, ◌++◌, map, sym, ap, arith, ◌∙◌, append_assoc, append-nil}
+use Rattle.std.proofs.Common.{ℕ, suc, ◌+◌, ◌-◌, ◌≡◌, ◌<◌, List, [], ◌∷◌, ◌++◌, map, sym, ap, arith, ◌∙◌, append_assoc}
 use Rattle.std.specs.List.{range_with_len}
 use Rattle.std.proofs.lemmas.Option.{slice_get_within}
 use Rattle.dft_netlist.specs.declared.ids.PortId.{PortId}
@@ -23,12 +23,6 @@ memory_alone n (Memory error) can h = tt
 abbrev pub ids_from : (first count : ℕ) → List PortId
 ids_from first count = map (λ number. record { 0 = number }) (range_with_len first count)
 
-pub ids_begun : (first count : ℕ) (ids : List PortId) → ids ≡ [] → ids ++ ids_from (first + 0) (count - 0) ≡ ids_from first count
-ids_begun first count ids none =
-    let start : first + 0 ≡ first = omega arith in
-    let left : count - 0 ≡ count = omega arith in
-    ap (λ (xs : List PortId). xs ++ ids_from (first + 0) (count - 0)) none ∙ ap (λ k. ids_from k (count - 0)) start ∙ ap (ids_from first) left
-
 pub ids_more : (first count k : ℕ) (ids new : List PortId) (id : PortId) → k < count → id.0 ≡ first + k → new ≡ ids ++ id ∷ [] → ids ++ ids_from (first + k) (count - k) ≡ ids_from first count →
     new ++ ids_from (first + (k + 1)) (count - (k + 1)) ≡ ids_from first count
 ids_more first count k ids new id less is added so_far =
@@ -40,8 +34,3 @@ ids_more first count k ids new id less is added so_far =
     ∙ ap (λ m. ids ++ record { 0 = first + k } ∷ ids_from m (count - (k + 1))) (sym next)
     ∙ ap (λ m. ids ++ ids_from (first + k) m) (sym left)
     ∙ so_far
-
-pub ids_all : (first count k : ℕ) (ids : List PortId) → count ≤ k → ids ++ ids_from (first + k) (count - k) ≡ ids_from first count → ids ≡ ids_from first count
-ids_all first count k ids past so_far =
-    let left : count - k ≡ 0 = omega (arith, past) in
-    sym (append-nil ids) ∙ ap (λ m. ids ++ ids_from (first + k) m) (sym left) ∙ so_far

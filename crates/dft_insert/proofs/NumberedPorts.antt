@@ -1,5 +1,5 @@
 -- Ports of one name, with their numbers.
-use Rattle.std.proofs.Common.{ℕ, suc, ◌+◌, ◌-◌, ◌≡◌, ◌<◌, ◌≤◌, List, [], ◌∷◌, map, None, refl, sym, ap, arith, ◌∙◌}
+use Rattle.std.proofs.Common.{ℕ, suc, ◌+◌, ◌-◌, ◌≡◌, ◌<◌, List, [], ◌∷◌, map, None, sym, ap, arith, ◌∙◌}
 use Rattle.std.specs.List.{range_with_len}
 use Rattle.dft_base.specs.Lexing.{Text}
 use Rattle.dft_netlist.specs.declared.port.Dir.{Dir}
@@ -7,7 +7,7 @@ use Rattle.dft_netlist.specs.declared.port.Port.{Port}
 use Rattle.dft_netlist.specs.Netlist.{Netlist}
 use Rattle.dft_insert.specs.AddedPorts.{new_port, numbered, ports_from}
 use Rattle.dft_insert.specs.Growing.{Thing, APort, with_thing, next_port, port_things}
-use Rattle.dft_insert.proofs.Completing.{Completes, goes_on, next_number, no_number_left}
+use Rattle.dft_insert.proofs.Completing.{Completes, goes_on, next_number}
 
 -- a port of one bit at a net
 abbrev pub port_at : Dir → Text → (net : ℕ) → Port
@@ -33,6 +33,3 @@ port_added whole n new dir name start k count less c is =
     let ahead = next_of_ports whole n dir name start k count less c in
     goes_on whole n new (APort (port_at dir (numbered name k) (start + k))) (ports_left dir name start (k + 1) (count - (k + 1))) ahead
     (is ∙ ap (λ (port : Port). with_thing n (APort port)) (sym ahead.fit.0.next))
-
-pub no_port_left : (whole n : Netlist) (dir : Dir) (name : Text) (start k count : ℕ) → count ≤ k → Completes whole n (ports_left dir name start k (count - k)) → n ≡ whole
-no_port_left whole n dir name start k count past c = no_number_left whole n (ports_left dir name start) k count refl past c
