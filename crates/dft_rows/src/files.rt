@@ -34,11 +34,20 @@ pub fn replayed(
     failing_load: Option<u32>,
     failing_put: Option<u32>,
 ) -> Result<Ended, AllocError> {
-    let mut owned: Vec<String> = Vec::new(alloc);
-    for word in words {
-        owned.push(String::from_str(alloc, *word)?)?;
-    }
     let (library, netlist, patterns) = texts;
+    let texts = (library, netlist, "", patterns);
+    let mut files = shelf(alloc, texts, failing(alloc, failing_load)?)?;
+    ran(alloc, words, &mut files, failing_put)
+}
+
+/// Files in memory: the library `l`, the netlist `n`, the configuration `c` and the patterns `p`. The calls of `failing`
+/// fail.
+pub fn shelf(
+    alloc: Global,
+    texts: (&str, &str, &str, &str),
+    failing: Vec<Failing>,
+) -> Result<MemoryFiles, AllocError> {
+    let (library, netlist, config, patterns) = texts;
     let mut entries = Vec::new(alloc);
     entries.push((
         String::from_str(alloc, "l")?,
@@ -49,12 +58,29 @@ pub fn replayed(
         Vec::from_slice(alloc, netlist.as_bytes())?,
     ))?;
     entries.push((
+        String::from_str(alloc, "c")?,
+        Vec::from_slice(alloc, config.as_bytes())?,
+    ))?;
+    entries.push((
         String::from_str(alloc, "p")?,
         Vec::from_slice(alloc, patterns.as_bytes())?,
     ))?;
-    let mut files = MemoryFiles::new(alloc, entries, failing(alloc, failing_load)?);
+    Ok(MemoryFiles::new(alloc, entries, failing))
+}
+
+/// A run of these words over files, where the put with this number fails.
+pub fn ran(
+    alloc: Global,
+    words: &[&str],
+    files: &mut MemoryFiles,
+    failing_put: Option<u32>,
+) -> Result<Ended, AllocError> {
+    let mut owned: Vec<String> = Vec::new(alloc);
+    for word in words {
+        owned.push(String::from_str(alloc, *word)?)?;
+    }
     let mut out = MemorySink::new(alloc, failing(alloc, failing_put)?);
-    let answer = run(alloc, owned.as_slice(), &mut files, &mut out);
+    let answer = run(alloc, owned.as_slice(), files, &mut out);
     Ok(Ended {
         status: answer.status,
         line: Vec::from_slice(alloc, out.bytes())?,

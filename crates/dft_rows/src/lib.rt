@@ -2,8 +2,12 @@
 #![tactic(auto)]
 
 #[cfg(test)]
+mod designs;
+#[cfg(test)]
 mod files;
 #[cfg(test)]
 mod rows;
+#[cfg(test)]
+mod scans;
 #[cfg(test)]
 mod words;
