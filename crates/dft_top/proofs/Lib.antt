@@ -4,3 +4,4 @@ pub mod NetlistRefusals
 pub mod Readings
 pub mod OneOutcome
 pub mod Promised
+pub mod Kept

@@ -2,7 +2,8 @@
 use Rattle.std.specs.Prelude.{ℕ, ◌≡◌, ◌⊎◌, List, Option, None, Some}
 use Rattle.dft_base.specs.Outside.{Held, Told, ToldChange, Rose}
 use Rattle.dft_base.specs.Put.{Adds, AddsPrefix}
-use Rattle.dft_top.specs.declared.answer.Status.TheVariants.{Done, ReadFault, WriteFault, OutOfMemory}
+use Rattle.dft_top.specs.declared.answer.Status.{Status}
+use Rattle.dft_top.specs.declared.answer.Status.TheVariants.{Done, NotPassed, Usage, Refused, ReadFault, WriteFault, OutOfMemory}
 use Rattle.dft_top.specs.declared.answer.Answer.{Answer}
 use Rattle.dft_top.specs.declared.outcome.Outcome.{Outcome}
 use Rattle.dft_top.specs.declared.outcome.Outcome.TheVariants as outcome
@@ -141,3 +142,20 @@ PassesTold words held answer = (files : ReplayFiles) → IsReplay words files �
 -- where the words are a scan, the scanned netlist and the report are saved: scan off it is the same design, and its chains shift
 abbrev pub ScansTold : List (List ℕ) → (held held' : Option Held) → Answer → Type 0
 ScansTold words held held' answer = (files : ScanFiles) → IsScan words files → answer.status ≡ Done → ToldChange (Scans files) held held'
+
+-- ---- what is not saved
+
+-- a status that no save comes before
+abbrev pub IsQuiet : Status → Type 0
+IsQuiet Done = ⊥
+IsQuiet NotPassed = Unit {0}
+IsQuiet Usage = Unit {0}
+IsQuiet Refused = Unit {0}
+IsQuiet ReadFault = Unit {0}
+IsQuiet WriteFault = ⊥
+IsQuiet OutOfMemory = ⊥
+
+-- where the status is Usage, Refused, NotPassed or ReadFault, or the words are no scan, no file is changed, and no save has failed
+abbrev pub KeepsFiles : List (List ℕ) → (before after : Seen) → Answer → Type 0
+KeepsFiles words before after answer =
+    IsQuiet answer.status ⊎ ((files : ScanFiles) → IsScan words files → ⊥) → (after.held ≡ before.held) × (after.write_faults ≡ before.write_faults)

@@ -5,7 +5,7 @@ ghost use Rattle.dft_base.specs.Outside.{Rose, Told};
 ghost use Rattle.dft_words.specs.Named.{command_of};
 ghost use Rattle.dft_top.specs.Lines.{line_of};
 ghost use Rattle.dft_top.specs.Outcomes.{HasTurn, IsLoaded};
-ghost use Rattle.dft_top.specs.Run.{Ends, EndsFor, IsDelivered, IsOutcomeTold, PassesTold, Prints, ScansTold};
+ghost use Rattle.dft_top.specs.Run.{Ends, EndsFor, IsDelivered, IsOutcomeTold, KeepsFiles, PassesTold, Prints, ScansTold};
 ghost use Rattle.dft_top.specs.Saves.{CountsSaves, SavesApart, savings};
 ghost use Rattle.dft_top.specs.Stops.{ComesTo};
 
@@ -31,6 +31,12 @@ use std::alloc::Global;
 /// out. Only a scan that passes all checks changes files.
 pub fn run<F: Files, O: Sink>(alloc: Global, words: &[String], files: &mut F, out: &mut O) -> Answer
     ensures ends { Ends (map string_bytes words.entry.now)
+        (record { held = F.held files.old; failed = F.failed files.old; read_faults = F.read_faults files.old; write_faults = F.write_faults files.old;
+            printed = O.told out.old; put_faults = O.faults out.old })
+        (record { held = F.held files.new; failed = F.failed files.new; read_faults = F.read_faults files.new; write_faults = F.write_faults files.new;
+            printed = O.told out.new; put_faults = O.faults out.new })
+        result }
+    ensures kept { KeepsFiles (map string_bytes words.entry.now)
         (record { held = F.held files.old; failed = F.failed files.old; read_faults = F.read_faults files.old; write_faults = F.write_faults files.old;
             printed = O.told out.old; put_faults = O.faults out.old })
         (record { held = F.held files.new; failed = F.failed files.new; read_faults = F.read_faults files.new; write_faults = F.write_faults files.new;

@@ -1,0 +1,71 @@
+-- Where there is nothing to save, no file is changed.
+use Rattle.std.proofs.Common.{ℕ, ◌≡◌, ◌⊎◌, ◌∙◌, inl, inr, List, [], ◌∷◌, ◌++◌, refl, sym, ap, subst, Option, None, Some}
+use Rattle.dft_base.specs.Outside.{Held}
+use Rattle.dft_words.specs.Words.{Command, Replay, Scan, ScanFiles, AreFor, IsScan}
+use Rattle.dft_top.specs.declared.answer.Answer.{Answer}
+use Rattle.dft_top.specs.declared.answer.Status.{Status}
+use Rattle.dft_top.specs.declared.outcome.Outcome.{Outcome}
+use Rattle.dft_top.specs.declared.outcome.Outcome.TheVariants.{Usage, Refused, Passed, Mismatch, Undetermined, Scanned}
+use Rattle.dft_top.specs.Answers.{status_of}
+use Rattle.dft_top.specs.Run.{EndsFor, IsDelivered, IsQuiet, KeepsFiles, Seen}
+use Rattle.dft_top.specs.Saves.{CountsSaves, HaveSaved, HaveSavedSome, SaveFailed, Saving, savings}
+
+-- ---- nothing to save
+
+no_failing : (saved rest : List Saving) (failing : Saving) → [] ≡ saved ++ failing ∷ rest → ⊥
+no_failing [] rest failing e = cc
+no_failing (s ∷ saved) rest failing e = cc
+
+some_of_none : (saved rest : List Saving) (held held' : Option Held) → [] ≡ saved ++ rest → HaveSaved saved held held' → held' ≡ held
+some_of_none [] rest held held' e have = have
+some_of_none (s ∷ saved) rest held held' e have = absurd cc
+
+have_none : (all : List Saving) (held held' : Option Held) → all ≡ [] → HaveSaved all held held' → held' ≡ held
+have_none all held held' none have = subst (λ (all : List Saving). HaveSaved all held held') none have
+
+held_kept : (command : Option Command) (o : Outcome) (before after : Seen) (answer : Answer) → savings command o ≡ [] → IsDelivered command o before after answer → after.held ≡ before.held
+held_kept command o before after answer none (inl x) = have_none (savings command o) before.held after.held none x.saved
+held_kept command o before after answer none (inr (inl x)) = absurd (no_failing x.failed.saved x.failed.rest x.failed.failing (sym none ∙ x.failed.in_order))
+held_kept command o before after answer none (inr (inr (inl x))) = have_none (savings command o) before.held after.held none x.saved
+held_kept command o before after answer none (inr (inr (inr x))) = some_of_none x.saved.saved x.saved.rest before.held after.held (sym none ∙ x.saved.in_order) x.saved.files
+
+-- ---- when there is nothing to save
+
+quiet_saves : (command : Option Command) (o : Outcome) → IsQuiet (status_of o) → savings command o ≡ []
+quiet_saves None o quiet = refl
+quiet_saves (Some (Replay files)) o quiet = refl
+quiet_saves (Some (Scan files)) Usage quiet = refl
+quiet_saves (Some (Scan files)) (Refused refusal) quiet = refl
+quiet_saves (Some (Scan files)) (Passed vectors compared) quiet = refl
+quiet_saves (Some (Scan files)) (Mismatch vector signal) quiet = refl
+quiet_saves (Some (Scan files)) (Undetermined vector signal) quiet = refl
+quiet_saves (Some (Scan files)) (Scanned counts netlist report) quiet = absurd quiet
+
+quiet_of : (a b : Answer) → a ≡ b → IsQuiet a.status → IsQuiet b.status
+quiet_of a b same quiet = subst (λ (c : Answer). IsQuiet c.status) same quiet
+
+-- an outcome whose answer is quiet saves nothing
+quiet_delivers : (command : Option Command) (o : Outcome) (before after : Seen) (answer : Answer) → IsDelivered command o before after answer → IsQuiet answer.status → savings command o ≡ []
+quiet_delivers command o before after answer (inl x) quiet = quiet_saves command o (quiet_of answer _ x.answers quiet)
+quiet_delivers command o before after answer (inr (inl x)) quiet = absurd (quiet_of answer _ x.answers quiet)
+quiet_delivers command o before after answer (inr (inr (inl x))) quiet = absurd (quiet_of answer _ x.answers quiet)
+quiet_delivers command o before after answer (inr (inr (inr x))) quiet = absurd (quiet_of answer _ x.answers quiet)
+
+other_saves : (words : List (List ℕ)) (command : Option Command) (o : Outcome) → AreFor words command → ((files : ScanFiles) → IsScan words files → ⊥) → savings command o ≡ []
+other_saves words None o are no_scan = refl
+other_saves words (Some (Replay files)) o are no_scan = refl
+other_saves words (Some (Scan files)) o are no_scan = absurd (no_scan files are)
+
+saves_none : (words : List (List ℕ)) (command : Option Command) (o : Outcome) (before after : Seen) (answer : Answer) → AreFor words command → IsDelivered command o before after answer →
+    IsQuiet answer.status ⊎ ((files : ScanFiles) → IsScan words files → ⊥) → savings command o ≡ []
+saves_none words command o before after answer are delivered (inl quiet) = quiet_delivers command o before after answer delivered quiet
+saves_none words command o before after answer are delivered (inr no_scan) = other_saves words command o are no_scan
+
+-- ---- of words that are for a command
+
+pub kept_for : (words : List (List ℕ)) (command : Option Command) (before after : Seen) (answer : Answer) → AreFor words command → EndsFor command before after answer → KeepsFiles words before after answer
+kept_for words command before after answer are (inl x) given =
+    let none = saves_none words command x.o before after answer are x.delivered given in
+    (held_kept command x.o before after answer none x.delivered, subst (λ (all : List Saving). CountsSaves all before.write_faults after.write_faults) none x.counts)
+kept_for words command before after answer are (inr (inl x)) given = (x.untouched.held, x.untouched.write_faults)
+kept_for words command before after answer are (inr (inr x)) given = (x.0.held, x.0.write_faults)
