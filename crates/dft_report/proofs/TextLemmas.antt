@@ -1,5 +1,5 @@
 -- Texts of lists that may be empty.
-use Rattle.std.proofs.Common.{◌≡◌, ℕ, ◌<◌, List, [], ◌∷◌, length, flat_map, codes, refl, arith}
+use Rattle.std.proofs.Common.{◌≡◌, ◌<◌, List, [], ◌∷◌, length, flat_map, codes, refl, arith}
 use Rattle.dft_report.specs.declared.report.Variable.{Variable}
 use Rattle.dft_report.specs.Written.{variable_text, variables_text}
 

@@ -1,5 +1,5 @@
 -- A report and its written form, worked by hand.
-use Rattle.std.proofs.Common.{◌≡◌, true, false, [], ◌∷◌, codes, Some, None, refl}
+use Rattle.std.proofs.Common.{◌≡◌, true, false, [], ◌∷◌, codes, Some, refl}
 use Rattle.std.specs.Fmt as fmt
 use Rattle.dft_rules.specs.declared.judged.Rule.TheVariants.{S4}
 use Rattle.dft_report.specs.declared.report.CubeLine.TheVariants.{Encoded, Unsolvable, Skipped}

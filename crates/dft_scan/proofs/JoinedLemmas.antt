@@ -1,5 +1,5 @@
 -- Every pin of every gate of a scanned netlist is joined where that is so in the design.
-use Rattle.std.proofs.Common.{◌≡◌, ℕ, zero, suc, ◌+◌, List, [], ◌∷◌, ◌++◌, length, map, Option, None, Some, slice_get, refl, sym, ap, subst}
+use Rattle.std.proofs.Common.{◌≡◌, ℕ, zero, suc, ◌+◌, List, [], ◌∷◌, ◌++◌, length, map, Option, None, Some, slice_get, refl, subst}
 use Rattle.std.proofs.lemmas.Option.{none-some, same_Some}
 use Rattle.dft_base.specs.Lexing.{Text}
 use Rattle.dft_cells.specs.declared.cell.CellId.{CellId}
@@ -14,10 +14,9 @@ use Rattle.dft_netlist.specs.Sound.{IsConnected}
 use Rattle.dft_config.specs.declared.config.Config.{Config}
 use Rattle.dft_rules.specs.Rules.{scan_cell_in}
 use Rattle.dft_stitch.specs.declared.places.CellPlace.{CellPlace}
-use Rattle.dft_stitch.specs.declared.places.LockupPlace.{LockupPlace}
 use Rattle.dft_stitch.specs.Chains.{plan_of}
 use Rattle.dft_insert.specs.declared.style.Style.TheVariants.{Plain}
-use Rattle.dft_insert.specs.Moves.{Gap, moved_signal, moved_instance}
+use Rattle.dft_insert.specs.Moves.{Gap, moved_signal}
 use Rattle.dft_insert.specs.AddedPorts.{enable_net, scan_in_net, scan_out_net}
 use Rattle.dft_insert.specs.Stitching.{Layout}
 use Rattle.dft_insert.specs.Written.{map_from, at_net, as_scan_cell, place_in, written_at, written_instance, lockup_instance, buffer_instance, plain_layout}

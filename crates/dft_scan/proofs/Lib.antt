@@ -2,4 +2,5 @@ pub mod ListLemmas
 pub mod ShapeLemmas
 pub mod JoinedLemmas
 pub mod RefusalLemmas
+pub mod LineLemmas
 mod WorkedScans

@@ -8,7 +8,7 @@ use Rattle.dft_config.specs.declared.config.Config.{Config}
 use Rattle.dft_config.specs.Range.{IsInRange}
 use Rattle.dft_rules.specs.declared.judged.Judged.{Judged}
 use Rattle.dft_rules.specs.Rules.{judged, judgements}
-use Rattle.dft_stitch.specs.Chains.{cells_of, chain_lengths, chains_of, lockup_after, lockups_in, lockups_of, plan_of}
+use Rattle.dft_stitch.specs.Chains.{cells_of, chain_lengths, lockup_after, lockups_in, lockups_of, plan_of}
 use Rattle.dft_stitch.specs.Limits.{refusal}
 use Rattle.dft_stitch.proofs.BlockLemmas.{blocks_short, chain_count}
 use Rattle.dft_stitch.proofs.PlanLemmas.{few_cells}

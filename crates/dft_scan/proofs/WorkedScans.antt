@@ -1,5 +1,5 @@
 -- The report and the counts of four flip-flops on two clocks, worked by hand.
-use Rattle.std.proofs.Common.{◌≡◌, List, [], ◌∷◌, codes, None, refl}
+use Rattle.std.proofs.Common.{◌≡◌, [], ◌∷◌, codes, refl}
 use Rattle.std.specs.Fmt as fmt
 use Rattle.dft_rules.proofs.WorkedRules.{example, example_config, two_clocks}
 use Rattle.dft_report.specs.Written.{header_line, chain_line, place_text, scanned_line, unscanned_line, written}

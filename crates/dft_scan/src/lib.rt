@@ -3,11 +3,13 @@
 
 mod counting;
 mod error;
+mod laws;
 mod lines;
 mod reporting;
 mod scanning;
 mod texts;
 
 pub use error::ScanError;
+pub use laws::flip_flops_have_lines;
 pub use scanning::scan;
 pub use texts::{Counts, ScanTexts};

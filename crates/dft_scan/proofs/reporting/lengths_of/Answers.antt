@@ -1,4 +1,4 @@
-use Rattle.std.proofs.Common.{◌+◌, ◌++◌, ◌∷◌, [], List, length, drop}
+use Rattle.std.proofs.Common.{◌+◌, ◌∷◌, [], List, length, drop}
 use Rattle.dft_netlist.specs.declared.ids.InstanceId.{InstanceId}
 use Rattle.dft_stitch.proofs.RangeLemmas.{grown}
 use Rattle.dft_scan.specs.Reports.{lengths_of}

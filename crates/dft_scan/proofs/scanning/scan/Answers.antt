@@ -1,4 +1,4 @@
-use Rattle.std.proofs.Common.{◌≡◌, ◌≤◌, ◌<◌, ◌^◌, ◌∙◌, ℕ, List, ap, length, subst, sym}
+use Rattle.std.proofs.Common.{◌≤◌, ◌<◌, ◌^◌, ◌∙◌, List, ap, length, subst, sym}
 use Rattle.std.specs.List.{All}
 use Rattle.std.proofs.lemmas.Result.{err_from_is_err_and}
 use Rattle.dft_netlist.specs.declared.ids.InstanceId.{InstanceId}
@@ -13,7 +13,6 @@ use Rattle.dft_report.specs.declared.report.Report.{Report}
 use Rattle.dft_report.specs.Refusals.{IsTooLong}
 use Rattle.dft_report.specs.Written.{written}
 use Rattle.dft_verilog_out.specs.Named.{GatesAreJoined}
-use Rattle.dft_scan.specs.Reports.{report_of}
 use Rattle.dft_scan.specs.Refusals.{refusal}
 use Rattle.dft_scan.proofs.ShapeLemmas.{few_chains, few_lockups, judgement_count, short_chains}
 use Rattle.dft_scan.proofs.JoinedLemmas.{scanned_joined}

@@ -1,0 +1,139 @@
+-- A flip-flop that is judged has a name, and one that is scanned has a domain with a name.
+use Rattle.std.proofs.Common.{◌≡◌, ℕ, ◌<◌, Bool, true, false, cond, List, [], length, get_or, Option, None, Some, option_and_then, slice_get, refl, ◌∙◌, ap, arith, inl, inr}
+use Rattle.std.specs.Prelude.{IsTrue, IsSome, is_some, nat_lt}
+use Rattle.std.specs.List.{position_or_len}
+use Rattle.std.proofs.lemmas.Bool.Decides.{nat_tests}
+use Rattle.std.proofs.lemmas.Option.{slice_get_past, slice_get-get_or}
+use Rattle.std.proofs.lemmas.List.FromFn.{get_or-map-range_with_len}
+use Rattle.dft_base.specs.Lexing.{Text}
+use Rattle.dft_cells.specs.declared.kind.Kind.{Kind}
+use Rattle.dft_cells.specs.declared.kind.Kind.TheVariants as kind
+use Rattle.dft_cells.specs.declared.kind.Role.TheVariants.{Clock}
+use Rattle.dft_cells.specs.declared.cell.Cell.{Cell}
+use Rattle.dft_netlist.specs.declared.instance.CellRef.{CellRef}
+use Rattle.dft_netlist.specs.declared.instance.CellRef.TheVariants.{Library, Gate}
+use Rattle.dft_netlist.specs.declared.instance.Instance.{Instance}
+use Rattle.dft_netlist.specs.Netlist.{Netlist}
+use Rattle.dft_netlist.specs.Names.{instance_name}
+use Rattle.dft_netlist.specs.Drivers.{Source, kind_at, kind_of, pins_of, shape_of}
+use Rattle.dft_netlist.specs.Logic.{pin_of}
+use Rattle.dft_netlist.specs.Sound.{IsCellOf, IsNetlist, is_primitive}
+use Rattle.dft_netlist.specs.Traces.{Root, Port, Constant, Other, root_of}
+use Rattle.dft_netlist.proofs.LiveLemmas.{le_or_lt}
+use Rattle.dft_config.specs.declared.config.Config.{Config}
+use Rattle.dft_rules.specs.declared.judged.Judged.{Judged}
+use Rattle.dft_rules.specs.declared.judged.Judged.TheVariants.{Scanned, Unscanned}
+use Rattle.dft_rules.specs.declared.judged.Rule.{Rule}
+use Rattle.dft_rules.specs.Rules.{judged, judged_by, judgements, place_of_root, place_of_source, may_be_scanned, is_net, input_net, domain_of as clock_domain, are_held_at, scan_cell_of, is_kept}
+use Rattle.dft_stitch.specs.Chains.{domain_in}
+use Rattle.dft_insert.specs.Statements.{IsReady}
+use Rattle.dft_scan.specs.Reports.{domain_name, name_of, scanned_as, unscanned_as}
+use Rattle.dft_scan.specs.Laws.{FlipFlopsHaveLines, HasLine}
+
+-- ---- names
+
+no_gate : (k : Kind) → may_be_scanned k ≡ true → IsTrue (is_primitive k) → ⊥
+no_gate kind.Dff s p = cc
+no_gate kind.Dffr s p = cc
+no_gate kind.Dffs s p = cc
+no_gate kind.Buf s p = cc
+no_gate kind.Inv s p = cc
+no_gate kind.And s p = cc
+no_gate kind.Nand s p = cc
+no_gate kind.Or s p = cc
+no_gate kind.Nor s p = cc
+no_gate kind.Xor s p = cc
+no_gate kind.Xnor s p = cc
+no_gate kind.Mux2 s p = cc
+no_gate (kind.Table number) s p = cc
+no_gate kind.Tie0 s p = cc
+no_gate kind.Tie1 s p = cc
+no_gate kind.Sdff s p = cc
+no_gate kind.Sdffr s p = cc
+no_gate kind.Sdffs s p = cc
+no_gate kind.Lockup s p = cc
+no_gate kind.Opaque s p = cc
+
+named_cell : (library : List Cell) (name : Option Text) (ref : CellRef) → IsCellOf library name ref → may_be_scanned (shape_of library ref).kind ≡ true → IsSome name
+named_cell library name (Library cell) fits s = fits.1
+named_cell library name (Gate k inputs) fits s = absurd (no_gate k s fits.0)
+
+named_by : (n : Netlist) (i : ℕ) (o : Option Instance) → IsNetlist n → slice_get n.instances i ≡ o → may_be_scanned (kind_of n.library o) ≡ true → IsSome (option_and_then instance_name o)
+named_by n i None sound at s = absurd (let f : ⊥ = cc in f)
+named_by n i (Some x) sound at s = named_cell n.library x.name x.cell (sound.instances i x at).fits s
+
+-- ---- judged instances
+
+flip_flop_by : (t : Bool) (o : Option Judged) (verdict : Judged) → cond t o None ≡ Some verdict → t ≡ true
+flip_flop_by true o verdict e = refl
+flip_flop_by false o verdict e = absurd (let f : ⊥ = cc in f)
+
+is_flip_flop : (n : Netlist) (config : Config) (i : ℕ) (verdict : Judged) → judged n config i ≡ Some verdict → may_be_scanned (kind_at n i) ≡ true
+is_flip_flop n config i verdict e = flip_flop_by (may_be_scanned (kind_at n i)) (judged_by (clock_domain n config i) (are_held_at n config i) (is_some (scan_cell_of n i)) (is_kept n config.keep i)) verdict e
+
+is_there : (n : Netlist) (i : ℕ) → may_be_scanned (kind_at n i) ≡ true → i < length n.instances
+is_there n i s = elim (le_or_lt (length n.instances) i) [
+  | inl past ↦ (
+      let opaque : may_be_scanned (kind_at n i) ≡ false = ap (λ (o : Option Instance). may_be_scanned (kind_of n.library o)) (slice_get_past n.instances i past) in
+      absurd (let f : ⊥ = cc in f))
+  | inr less ↦ less
+]
+
+-- ---- domains
+
+scanned_in : (t : Bool) (domain : Option ℕ) (held scans kept : Bool) (d : ℕ) → cond t (judged_by domain held scans kept) None ≡ Some (Scanned d) → domain ≡ Some d
+scanned_in false domain held scans kept d h = absurd (let f : ⊥ = cc in f)
+scanned_in true None held scans kept d h = absurd (let f : ⊥ = cc in f)
+scanned_in true (Some e) false scans kept d h = absurd (let f : ⊥ = cc in f)
+scanned_in true (Some e) true false kept d h = absurd (let f : ⊥ = cc in f)
+scanned_in true (Some e) true true true d h = absurd (let f : ⊥ = cc in f)
+scanned_in true (Some e) true true false d h = cc
+
+within_by : (t : Bool) (p count d : ℕ) → nat_lt p count ≡ t → cond t (Some p) None ≡ Some d → d < count
+within_by true p count d is h = let e : p ≡ d = cc in grind (arith, nat_tests)
+within_by false p count d is h = absurd (let f : ⊥ = cc in f)
+
+root_within : (n : Netlist) (names : List Text) (root : Root) (d : ℕ) → place_of_root n names root ≡ Some d → d < length names
+root_within n names (Port net) d h =
+    let p = position_or_len (λ name. is_net net (input_net n name)) names in within_by (nat_lt p (length names)) p (length names) d refl h
+root_within n names (Constant bit) d h = absurd (let f : ⊥ = cc in f)
+root_within n names Other d h = absurd (let f : ⊥ = cc in f)
+
+source_within : (n : Netlist) (names : List Text) (o : Option Source) (d : ℕ) → option_and_then (place_of_source n names) o ≡ Some d → d < length names
+source_within n names None d h = absurd (let f : ⊥ = cc in f)
+source_within n names (Some source) d h = root_within n names (root_of n source) d h
+
+domain_within : (n : Netlist) (config : Config) (i d : ℕ) → judged n config i ≡ Some (Scanned d) → d < length config.domains
+domain_within n config i d h =
+    source_within n config.domains (pin_of Clock i (pins_of n i)) d
+    (scanned_in (may_be_scanned (kind_at n i)) (clock_domain n config i) (are_held_at n config i) (is_some (scan_cell_of n i)) (is_kept n config.keep i) d h)
+
+domain_named : (n : Netlist) (config : Config) (i d : ℕ) → judged n config i ≡ Some (Scanned d) → IsSome (domain_name config (judgements n config) (record { 0 = i }))
+domain_named n config i d h =
+    let less = is_there n i (is_flip_flop n config i (Scanned d) h) in
+    let verdict : get_or (judgements n config) i None ≡ Some (Scanned d) = get_or-map-range_with_len (judged n config) 0 (length n.instances) i i None less (omega arith) ∙ h in
+    let name : slice_get config.domains d ≡ Some (get_or config.domains d []) = slice_get-get_or config.domains d [] (domain_within n config i d h) in
+    let is : domain_name config (judgements n config) (record { 0 = i }) ≡ Some (get_or config.domains d []) = ap (λ (o : Option Judged). option_and_then (slice_get config.domains) (domain_in o)) verdict ∙ name in
+    ap is_some is
+
+-- ---- lines
+
+scanned_some : (chain place : ℕ) (name domain : Option Text) → IsSome name → IsSome domain → IsSome (scanned_as chain place name domain)
+scanned_some chain place (Some name) (Some domain) x y = refl
+scanned_some chain place (Some name) None x y = y
+scanned_some chain place None domain x y = x
+
+unscanned_some : (name : Option Text) (rule : Rule) → IsSome name → IsSome (unscanned_as name (Some (Unscanned rule)))
+unscanned_some (Some name) rule x = refl
+unscanned_some None rule x = x
+
+has_line : (n : Netlist) (config : Config) (i : ℕ) (verdict : Option Judged) → IsReady n config → judged n config i ≡ verdict → HasLine n config i verdict
+has_line n config i None ready e = _
+has_line n config i (Some (Scanned d)) ready e = λ chain place.
+    scanned_some chain place (name_of n i) (domain_name config (judgements n config) (record { 0 = i }))
+    (named_by n i (slice_get n.instances i) ready.netlist refl (is_flip_flop n config i (Scanned d) e)) (domain_named n config i d e)
+has_line n config i (Some (Unscanned rule)) ready e =
+    unscanned_some (name_of n i) rule (named_by n i (slice_get n.instances i) ready.netlist refl (is_flip_flop n config i (Unscanned rule) e))
+
+pub flip_flops_lined : FlipFlopsHaveLines
+flip_flops_lined = λ n config i ready. has_line n config i (judged n config i) ready refl
