@@ -1,14 +1,13 @@
 -- Where there is nothing to save, no file is changed.
-use Rattle.std.proofs.Common.{ℕ, ◌≡◌, ◌⊎◌, ◌∙◌, inl, inr, List, [], ◌∷◌, ◌++◌, refl, sym, ap, subst, Option, None, Some}
+use Rattle.std.proofs.Common.{ℕ, ◌≡◌, ◌⊎◌, ◌∙◌, inl, inr, List, [], ◌∷◌, ◌++◌, refl, sym, subst, Option, None, Some}
 use Rattle.dft_base.specs.Outside.{Held}
 use Rattle.dft_words.specs.Words.{Command, Replay, Scan, ScanFiles, AreFor, IsScan}
 use Rattle.dft_top.specs.declared.answer.Answer.{Answer}
-use Rattle.dft_top.specs.declared.answer.Status.{Status}
 use Rattle.dft_top.specs.declared.outcome.Outcome.{Outcome}
 use Rattle.dft_top.specs.declared.outcome.Outcome.TheVariants.{Usage, Refused, Passed, Mismatch, Undetermined, Scanned}
 use Rattle.dft_top.specs.Answers.{status_of}
 use Rattle.dft_top.specs.Run.{EndsFor, IsDelivered, IsQuiet, KeepsFiles, Seen}
-use Rattle.dft_top.specs.Saves.{CountsSaves, HaveSaved, HaveSavedSome, SaveFailed, Saving, savings}
+use Rattle.dft_top.specs.Saves.{CountsSaves, HaveSaved, Saving, savings}
 
 -- ---- nothing to save
 

@@ -1,5 +1,5 @@
 -- What holds of the scanned netlist of a design, in style Plain.
-use Rattle.std.specs.Prelude.{ℕ, suc, ◌<◌, ◌≡◌, true, List, ◌∷◌, length, None, Some}
+use Rattle.std.specs.Prelude.{ℕ, suc, ◌<◌, ◌≡◌, true, List, ◌∷◌, None, Some}
 use Rattle.dft_base.specs.declared.tri.Tri.{Tri}
 use Rattle.dft_base.specs.declared.tri.Tri.TheVariants.{Zero}
 use Rattle.dft_config.specs.declared.config.Config.{Config}

@@ -31,16 +31,40 @@ use std::alloc::Global;
 /// out. Only a scan that passes all checks changes files.
 pub fn run<F: Files, O: Sink>(alloc: Global, words: &[String], files: &mut F, out: &mut O) -> Answer
     ensures ends { Ends (map string_bytes words.entry.now)
-        (record { held = F.held files.old; failed = F.failed files.old; read_faults = F.read_faults files.old; write_faults = F.write_faults files.old;
-            printed = O.told out.old; put_faults = O.faults out.old })
-        (record { held = F.held files.new; failed = F.failed files.new; read_faults = F.read_faults files.new; write_faults = F.write_faults files.new;
-            printed = O.told out.new; put_faults = O.faults out.new })
+        (record {
+          held = F.held files.old;
+          failed = F.failed files.old;
+          read_faults = F.read_faults files.old;
+          write_faults = F.write_faults files.old;
+          printed = O.told out.old;
+          put_faults = O.faults out.old;
+        })
+        (record {
+          held = F.held files.new;
+          failed = F.failed files.new;
+          read_faults = F.read_faults files.new;
+          write_faults = F.write_faults files.new;
+          printed = O.told out.new;
+          put_faults = O.faults out.new;
+        })
         result }
     ensures kept { KeepsFiles (map string_bytes words.entry.now)
-        (record { held = F.held files.old; failed = F.failed files.old; read_faults = F.read_faults files.old; write_faults = F.write_faults files.old;
-            printed = O.told out.old; put_faults = O.faults out.old })
-        (record { held = F.held files.new; failed = F.failed files.new; read_faults = F.read_faults files.new; write_faults = F.write_faults files.new;
-            printed = O.told out.new; put_faults = O.faults out.new })
+        (record {
+          held = F.held files.old;
+          failed = F.failed files.old;
+          read_faults = F.read_faults files.old;
+          write_faults = F.write_faults files.old;
+          printed = O.told out.old;
+          put_faults = O.faults out.old;
+        })
+        (record {
+          held = F.held files.new;
+          failed = F.failed files.new;
+          read_faults = F.read_faults files.new;
+          write_faults = F.write_faults files.new;
+          printed = O.told out.new;
+          put_faults = O.faults out.new;
+        })
         result }
     ensures passes { PassesTold (map string_bytes words.entry.now) (F.held files.old) result }
     ensures scans { ScansTold (map string_bytes words.entry.now) (F.held files.old) (F.held files.new) result }
@@ -60,10 +84,22 @@ fn run_command<F: Files, O: Sink>(
 ) -> Answer
     requires { SavesApart (option_map command_of command) }
     ensures { EndsFor (option_map command_of command.entry)
-        (record { held = F.held files.old; failed = F.failed files.old; read_faults = F.read_faults files.old; write_faults = F.write_faults files.old;
-            printed = O.told out.old; put_faults = O.faults out.old })
-        (record { held = F.held files.new; failed = F.failed files.new; read_faults = F.read_faults files.new; write_faults = F.write_faults files.new;
-            printed = O.told out.new; put_faults = O.faults out.new })
+        (record {
+          held = F.held files.old;
+          failed = F.failed files.old;
+          read_faults = F.read_faults files.old;
+          write_faults = F.write_faults files.old;
+          printed = O.told out.old;
+          put_faults = O.faults out.old;
+        })
+        (record {
+          held = F.held files.new;
+          failed = F.failed files.new;
+          read_faults = F.read_faults files.new;
+          write_faults = F.write_faults files.new;
+          printed = O.told out.new;
+          put_faults = O.faults out.new;
+        })
         result }
 {
     match outcome_of(alloc, command, files) {
@@ -106,10 +142,22 @@ fn deliver<F: Files, O: Sink>(
 ) -> Answer
     requires { SavesApart (option_map command_of command) }
     ensures delivered { IsDelivered (option_map command_of command.entry) outcome
-        (record { held = F.held files.old; failed = F.failed files.old; read_faults = F.read_faults files.old; write_faults = F.write_faults files.old;
-            printed = O.told out.old; put_faults = O.faults out.old })
-        (record { held = F.held files.new; failed = F.failed files.new; read_faults = F.read_faults files.new; write_faults = F.write_faults files.new;
-            printed = O.told out.new; put_faults = O.faults out.new })
+        (record {
+          held = F.held files.old;
+          failed = F.failed files.old;
+          read_faults = F.read_faults files.old;
+          write_faults = F.write_faults files.old;
+          printed = O.told out.old;
+          put_faults = O.faults out.old;
+        })
+        (record {
+          held = F.held files.new;
+          failed = F.failed files.new;
+          read_faults = F.read_faults files.new;
+          write_faults = F.write_faults files.new;
+          printed = O.told out.new;
+          put_faults = O.faults out.new;
+        })
         result }
     ensures counts { CountsSaves (savings (option_map command_of command.entry) outcome) (F.write_faults files.old) (F.write_faults files.new) }
 {
