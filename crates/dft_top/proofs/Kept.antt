@@ -62,7 +62,7 @@ saves_none words command o before after answer are delivered (inr no_scan) = oth
 
 -- ---- of words that are for a command
 
-pub kept_for : (words : List (List ℕ)) (command : Option Command) (before after : Seen) (answer : Answer) → AreFor words command → EndsFor command before after answer → KeepsFiles words before after answer
+pub kept_for : (words : List (List ℕ)) (command : Option Command) (before after : Seen) (answer : Answer) → AreFor words command → EndsFor command before after answer → KeepsFiles words before.held after.held before.write_faults after.write_faults answer
 kept_for words command before after answer are (inl x) given =
     let none = saves_none words command x.o before after answer are x.delivered given in
     (held_kept command x.o before after answer none x.delivered, subst (λ (all : List Saving). CountsSaves all before.write_faults after.write_faults) none x.counts)
