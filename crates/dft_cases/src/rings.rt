@@ -152,12 +152,7 @@ fn columns_in(alloc: Global, words: &[u64], columns: u32) -> Result<String, Allo
 }
 
 // The columns of each cell's row on a line of its own, chain after chain, for loads of so many cycles.
-fn told(
-    alloc: Global,
-    config: &Config,
-    lengths: &[u16],
-    cycles: u16,
-) -> Result<String, AllocError>
+fn told(alloc: Global, config: &Config, lengths: &[u16], cycles: u16) -> Result<String, AllocError>
     requires ring { IsRingInRange config.now.chains config.now.ring }
     requires chains { length lengths.now ≡ config.now.chains }
     requires lengths { IsTrue (list_all (λ cells. nat_le cells cycles) lengths.now) }
@@ -190,7 +185,8 @@ const WITH_WARM_CYCLES: &str = "1 3\n0 2\n1\n1 2\n0 1\n";
 const WITH_NONE: &str = "1\n0\n\n0\n\n";
 
 // The states of the crossed ring, stage by stage, the sixth one first; column 2 t is channel 0 at cycle t, and 2 t + 1 channel 1.
-const BY_HAND: &str = "0 2 5 7 8\n0 3 5 6\n1 3 4\n1 2\n0\n\n1 2 4 7 9\n0 2 5 7\n0 3 5\n1 3\n1\n\n0 3 5 6 8\n1 3 4 6\n1 2 4\n0 2\n0\n\n";
+const BY_HAND: &str =
+    "0 2 5 7 8\n0 3 5 6\n1 3 4\n1 2\n0\n\n1 2 4 7 9\n0 2 5 7\n0 3 5\n1 3\n1\n\n0 3 5 6 8\n1 3 4 6\n1 2 4\n0 2\n0\n\n";
 
 const AS_LONG_AS_MASKS: &str = "1 2\n1 3\n0 2\n";
 
@@ -226,7 +222,11 @@ fn the_newest_variables_of_a_realistic_ring_fall_by_a_cycle(rt: HostRuntime) -> 
     let alloc = rt.alloc();
     let config = config(alloc, 8, realistic_ring(alloc)?)?;
     let rows = told(alloc, &config, &[5u16, 5, 5, 5, 5, 5, 5, 5], 13)?;
-    assert!(rt; newest(alloc, rows.as_str())?.as_str().starts_with("22 20 18 16 "));
+    assert!(rt;
+        newest(alloc, rows.as_str())?
+            .as_str()
+            .starts_with("22 20 18 16 ")
+    );
     Ok(())
 }
 

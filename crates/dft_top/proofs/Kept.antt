@@ -1,14 +1,13 @@
 -- Where there is nothing to save, no file is changed.
-use Rattle.std.proofs.Common.{ℕ, ◌≡◌, ◌⊎◌, ◌∙◌, inl, inr, List, [], ◌∷◌, ◌++◌, refl, sym, ap, subst, Option, None, Some}
+use Rattle.std.proofs.Common.{ℕ, ◌≡◌, ◌⊎◌, ◌∙◌, inl, inr, List, [], ◌∷◌, ◌++◌, refl, sym, subst, Option, None, Some}
 use Rattle.dft_base.specs.Outside.{Held}
 use Rattle.dft_words.specs.Words.{Command, Replay, Scan, ScanFiles, AreFor, IsScan}
 use Rattle.dft_top.specs.declared.answer.Answer.{Answer}
-use Rattle.dft_top.specs.declared.answer.Status.{Status}
 use Rattle.dft_top.specs.declared.outcome.Outcome.{Outcome}
 use Rattle.dft_top.specs.declared.outcome.Outcome.TheVariants.{Usage, Refused, Passed, Mismatch, Undetermined, Scanned}
 use Rattle.dft_top.specs.Answers.{status_of}
 use Rattle.dft_top.specs.Run.{EndsFor, IsDelivered, IsQuiet, KeepsFiles, Seen}
-use Rattle.dft_top.specs.Saves.{CountsSaves, HaveSaved, HaveSavedSome, SaveFailed, Saving, savings}
+use Rattle.dft_top.specs.Saves.{CountsSaves, HaveSaved, Saving, savings}
 
 -- ---- nothing to save
 
@@ -63,7 +62,7 @@ saves_none words command o before after answer are delivered (inr no_scan) = oth
 
 -- ---- of words that are for a command
 
-pub kept_for : (words : List (List ℕ)) (command : Option Command) (before after : Seen) (answer : Answer) → AreFor words command → EndsFor command before after answer → KeepsFiles words before after answer
+pub kept_for : (words : List (List ℕ)) (command : Option Command) (before after : Seen) (answer : Answer) → AreFor words command → EndsFor command before after answer → KeepsFiles words before.held after.held before.write_faults after.write_faults answer
 kept_for words command before after answer are (inl x) given =
     let none = saves_none words command x.o before after answer are x.delivered given in
     (held_kept command x.o before after answer none x.delivered, subst (λ (all : List Saving). CountsSaves all before.write_faults after.write_faults) none x.counts)

@@ -1,5 +1,5 @@
 -- What Done says of the files of a command.
-use Rattle.std.proofs.Common.{ℕ, ◌≡◌, ◌∙◌, inl, inr, List, [], ◌∷◌, codes, refl, sym, ap, subst, Option, None, Some, Result, Ok, Err, bytes_eq, false}
+use Rattle.std.proofs.Common.{ℕ, ◌≡◌, ◌∙◌, inl, inr, List, [], ◌∷◌, codes, refl, sym, ap, subst, Option, None, Some, Result, Ok}
 use Rattle.dft_base.specs.Outside.{Held, Told, ToldChange, file_at}
 use Rattle.dft_cells.specs.declared.cell.Cell.{Cell}
 use Rattle.dft_config.specs.declared.config.Config.{Config}
@@ -7,7 +7,7 @@ use Rattle.dft_insert.proofs.Containing.{agrees}
 use Rattle.dft_insert.proofs.KeepingLemmas.{keeps_design}
 use Rattle.dft_insert.proofs.Shifted.{scanned_shifts, scanned_shows}
 use Rattle.dft_insert.specs.declared.style.Style.TheVariants.{Plain}
-use Rattle.dft_insert.specs.Statements.{IsReady, scanned}
+use Rattle.dft_insert.specs.Statements.{scanned}
 use Rattle.dft_netlist.specs.Netlist.{Netlist}
 use Rattle.dft_netlist.specs.NetlistText.{StandsFor}
 use Rattle.dft_netlist.proofs.RankLemmas.{order_ranks}
@@ -19,9 +19,9 @@ use Rattle.dft_replay.specs.Verdicts.{HasVerdict}
 use Rattle.dft_replay.proofs.Soundness.{pass_sound}
 use Rattle.dft_scan.specs.declared.error.ScanError.{ScanError}
 use Rattle.dft_scan.specs.Refusals.{refusal}
-use Rattle.dft_scan.specs.Scans.{counts_of, netlist_text, report_text}
+use Rattle.dft_scan.specs.Scans.{netlist_text, report_text}
 use Rattle.dft_verilog_out.proofs.JoinedTexts.{library_kept}
-use Rattle.dft_words.specs.Words.{Command, Replay, Scan, ReplayFiles, ScanFiles, AreFor, IsReplay, IsScan}
+use Rattle.dft_words.specs.Words.{Command, Replay, Scan, ReplayFiles, ScanFiles, AreFor}
 use Rattle.dft_words.proofs.Understood.{for_once}
 use Rattle.dft_top.specs.declared.answer.Answer.{Answer}
 use Rattle.dft_top.specs.declared.answer.Refusal.{Refusal}

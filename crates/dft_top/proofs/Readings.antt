@@ -6,7 +6,6 @@ use Rattle.dft_cells.specs.Text.{IsTable, IsNoTable}
 use Rattle.dft_cells.specs.declared.cell.Cell.{Cell}
 use Rattle.dft_cells.specs.declared.refusal.LibraryError.{LibraryError}
 use Rattle.dft_cells.specs.declared.refusal.LibraryError.TheVariants as library
-use Rattle.dft_cells.specs.Standard.{standard_cells}
 use Rattle.dft_cells.specs.Reading.{library_of, IsLibraryOf, FirstFails, IsRefusedAs}
 use Rattle.dft_config.specs.declared.config.Config.{Config}
 use Rattle.dft_config.specs.declared.error.ConfigError.{ConfigError}
@@ -36,9 +35,9 @@ use Rattle.dft_stil.specs.declared.reader.TheConstants.{MAX_VECTORS}
 use Rattle.dft_top.specs.declared.answer.Refusal.{Refusal}
 use Rattle.dft_top.specs.declared.outcome.Outcome.{Outcome}
 use Rattle.dft_top.specs.declared.outcome.Outcome.TheVariants.{Refused}
-use Rattle.dft_top.specs.declared.limits.TheConstants.{MAX_LIBRARY_BYTES, MAX_CONFIG_BYTES, MAX_NETLIST_BYTES, MAX_PATTERN_BYTES}
+use Rattle.dft_top.specs.declared.limits.TheConstants.{MAX_LIBRARY_BYTES}
 use Rattle.dft_top.specs.Refusals.{config_refusal, library_refusal, stil_refusal, verilog_refusal}
-use Rattle.dft_top.specs.Checks.{ConfigGives, ConfigText, FileGives, LibraryGives, LibraryText, NetlistGives, NetlistText, PatternText, PatternsGive, Then}
+use Rattle.dft_top.specs.Checks.{ConfigText, FileGives, LibraryGives, LibraryText, NetlistText, PatternText, Then}
 use Rattle.dft_top.proofs.NetlistRefusals.{IsReason, reason_one, finished_or_refused}
 
 err_same : {A E : Type 0} (r : Result A E) (a b : E) → r ≡ Err a → r ≡ Err b → a ≡ b
@@ -251,4 +250,3 @@ pattern_text_one text (Ok a) (Ok b) x y = ap Ok (patterns_one text a b x.stands 
 pattern_text_one text (Ok p) (Err refusal) x y = absurd (patterns_or_refused text p y.0 x.stands (first_refusal text y.0 refusal y.1.0 y.1.1))
 pattern_text_one text (Err refusal) (Ok p) x y = absurd (patterns_or_refused text p x.0 y.stands (first_refusal text x.0 refusal x.1.0 x.1.1))
 pattern_text_one text (Err a) (Err b) x y = ap Err (told_one _ _ a b (ap stil_refusal (stil_one text x.0 y.0 (first_refusal text x.0 a x.1.0 x.1.1) (first_refusal text y.0 b y.1.0 y.1.1))) x.1.1 y.1.1)
-

@@ -24,6 +24,16 @@ pub record Seen : Type 0 where
   pub printed : Option (List ℕ)
   pub put_faults : ℕ
 
+abbrev pub seen : (held : Option Held) → (failed : List ℕ) → (read_faults write_faults : ℕ) → (printed : Option (List ℕ)) → (put_faults : ℕ) → Seen
+seen held failed read_faults write_faults printed put_faults = record {
+  held = held;
+  failed = failed;
+  read_faults = read_faults;
+  write_faults = write_faults;
+  printed = printed;
+  put_faults = put_faults;
+}
+
 -- ---- the outcome
 
 -- a replay comes to a refusal or a verdict, a scan to a refusal or a scan, and Usage is the outcome of exactly the words that are no command
@@ -156,6 +166,6 @@ IsQuiet WriteFault = ⊥
 IsQuiet OutOfMemory = ⊥
 
 -- where the status is Usage, Refused, NotPassed or ReadFault, or the words are no scan, no file is changed, and no save has failed
-abbrev pub KeepsFiles : List (List ℕ) → (before after : Seen) → Answer → Type 0
-KeepsFiles words before after answer =
-    IsQuiet answer.status ⊎ ((files : ScanFiles) → IsScan words files → ⊥) → (after.held ≡ before.held) × (after.write_faults ≡ before.write_faults)
+abbrev pub KeepsFiles : List (List ℕ) → (held held' : Option Held) → (write_faults write_faults' : ℕ) → Answer → Type 0
+KeepsFiles words held held' write_faults write_faults' answer =
+    IsQuiet answer.status ⊎ ((files : ScanFiles) → IsScan words files → ⊥) → (held' ≡ held) × (write_faults' ≡ write_faults)

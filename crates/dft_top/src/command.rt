@@ -5,7 +5,7 @@ ghost use Rattle.dft_base.specs.Outside.{Rose, Told};
 ghost use Rattle.dft_words.specs.Named.{command_of};
 ghost use Rattle.dft_top.specs.Lines.{line_of};
 ghost use Rattle.dft_top.specs.Outcomes.{HasTurn, IsLoaded};
-ghost use Rattle.dft_top.specs.Run.{Ends, EndsFor, IsDelivered, IsOutcomeTold, KeepsFiles, PassesTold, Prints, ScansTold};
+ghost use Rattle.dft_top.specs.Run.{Ends, EndsFor, IsDelivered, IsOutcomeTold, KeepsFiles, PassesTold, Prints, ScansTold, seen};
 ghost use Rattle.dft_top.specs.Saves.{CountsSaves, SavesApart, savings};
 ghost use Rattle.dft_top.specs.Stops.{ComesTo};
 
@@ -29,19 +29,17 @@ use std::alloc::Global;
 /// Done, NotPassed, Refused with the first check that fails, or Usage. Or a load of a file whose turn came failed
 /// (ReadFault). Or a save failed, and nothing is printed; or the line could not be put whole (WriteFault). Or memory ran
 /// out. Only a scan that passes all checks changes files.
+///
+/// Where a replay answers Done and the files are told, every run of the netlist over the patterns, whatever the starting
+/// bits, the order of clock edges and the free bits, shows each compared bit as printed. Where a scan does, the netlist
+/// that is saved keeps the design and behaves as it while scan is off, and its chains shift in every run.
 pub fn run<F: Files, O: Sink>(alloc: Global, words: &[String], files: &mut F, out: &mut O) -> Answer
     ensures ends { Ends (map string_bytes words.entry.now)
-        (record { held = F.held files.old; failed = F.failed files.old; read_faults = F.read_faults files.old; write_faults = F.write_faults files.old;
-            printed = O.told out.old; put_faults = O.faults out.old })
-        (record { held = F.held files.new; failed = F.failed files.new; read_faults = F.read_faults files.new; write_faults = F.write_faults files.new;
-            printed = O.told out.new; put_faults = O.faults out.new })
+        (seen (F.held files.old) (F.failed files.old) (F.read_faults files.old) (F.write_faults files.old) (O.told out.old) (O.faults out.old))
+        (seen (F.held files.new) (F.failed files.new) (F.read_faults files.new) (F.write_faults files.new) (O.told out.new) (O.faults out.new))
         result }
-    ensures kept { KeepsFiles (map string_bytes words.entry.now)
-        (record { held = F.held files.old; failed = F.failed files.old; read_faults = F.read_faults files.old; write_faults = F.write_faults files.old;
-            printed = O.told out.old; put_faults = O.faults out.old })
-        (record { held = F.held files.new; failed = F.failed files.new; read_faults = F.read_faults files.new; write_faults = F.write_faults files.new;
-            printed = O.told out.new; put_faults = O.faults out.new })
-        result }
+    ensures kept { KeepsFiles (map string_bytes words.entry.now) (F.held files.old) (F.held files.new) (F.write_faults files.old)
+        (F.write_faults files.new) result }
     ensures passes { PassesTold (map string_bytes words.entry.now) (F.held files.old) result }
     ensures scans { ScansTold (map string_bytes words.entry.now) (F.held files.old) (F.held files.new) result }
 {
@@ -60,10 +58,8 @@ fn run_command<F: Files, O: Sink>(
 ) -> Answer
     requires { SavesApart (option_map command_of command) }
     ensures { EndsFor (option_map command_of command.entry)
-        (record { held = F.held files.old; failed = F.failed files.old; read_faults = F.read_faults files.old; write_faults = F.write_faults files.old;
-            printed = O.told out.old; put_faults = O.faults out.old })
-        (record { held = F.held files.new; failed = F.failed files.new; read_faults = F.read_faults files.new; write_faults = F.write_faults files.new;
-            printed = O.told out.new; put_faults = O.faults out.new })
+        (seen (F.held files.old) (F.failed files.old) (F.read_faults files.old) (F.write_faults files.old) (O.told out.old) (O.faults out.old))
+        (seen (F.held files.new) (F.failed files.new) (F.read_faults files.new) (F.write_faults files.new) (O.told out.new) (O.faults out.new))
         result }
 {
     match outcome_of(alloc, command, files) {
@@ -106,10 +102,8 @@ fn deliver<F: Files, O: Sink>(
 ) -> Answer
     requires { SavesApart (option_map command_of command) }
     ensures delivered { IsDelivered (option_map command_of command.entry) outcome
-        (record { held = F.held files.old; failed = F.failed files.old; read_faults = F.read_faults files.old; write_faults = F.write_faults files.old;
-            printed = O.told out.old; put_faults = O.faults out.old })
-        (record { held = F.held files.new; failed = F.failed files.new; read_faults = F.read_faults files.new; write_faults = F.write_faults files.new;
-            printed = O.told out.new; put_faults = O.faults out.new })
+        (seen (F.held files.old) (F.failed files.old) (F.read_faults files.old) (F.write_faults files.old) (O.told out.old) (O.faults out.old))
+        (seen (F.held files.new) (F.failed files.new) (F.read_faults files.new) (F.write_faults files.new) (O.told out.new) (O.faults out.new))
         result }
     ensures counts { CountsSaves (savings (option_map command_of command.entry) outcome) (F.write_faults files.old) (F.write_faults files.new) }
 {

@@ -11,11 +11,20 @@ pub enum Outcome {
     /// A file is refused.
     Refused(Refusal),
     /// Every compared bit is known and as printed.
-    Passed { vectors: u32, compared: u64 },
+    Passed {
+        vectors: u32,
+        compared: u64,
+    },
     /// The first compared bit that is not known to be as printed is the opposite, at this signal.
-    Mismatch { vector: u32, signal: Name },
+    Mismatch {
+        vector: u32,
+        signal: Name,
+    },
     /// The first compared bit that is not known to be as printed is not known, at this signal.
-    Undetermined { vector: u32, signal: Name },
+    Undetermined {
+        vector: u32,
+        signal: Name,
+    },
     /// The design is scanned: what is counted, and the texts of the scanned netlist and of the report, to be saved.
     Scanned {
         counts: Counts,

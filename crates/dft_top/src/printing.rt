@@ -145,13 +145,9 @@ fn failed_line(alloc: Global, what: &str, vector: u32, signal: &Name) -> Result<
 fn scanned_line(alloc: Global, counts: Counts) -> Result<Vec<u8>, AllocError>
     ensures { IfOk result (λ line. line.items ≡ spec.scanned_line counts) }
 {
-    let line = format!(
-        in alloc;
+    let line = format!(in alloc;
         "scanned cells {} unscanned {} chains {} lockups {}\n",
-        counts.cells,
-        counts.unscanned,
-        counts.chains,
-        counts.lockups
+        counts.cells, counts.unscanned, counts.chains, counts.lockups
     )?;
     Ok(line.into_bytes())
 }

@@ -10,6 +10,13 @@ use dft_base::{Files, SaveError};
 use dft_words::Command;
 use std::alloc::Global;
 
+/// A file that is to be saved.
+#[derive(Clone, Copy, Debug)]
+pub struct Saving<'a> {
+    pub name: &'a str,
+    pub bytes: &'a [u8],
+}
+
 /// Saves what a command saves of its outcome, in order: of a scan the scanned netlist, and then the report.
 pub fn save_outcome<F: Files>(
     alloc: Global,
@@ -26,21 +33,27 @@ pub fn save_outcome<F: Files>(
     ensures counts { CountsSaves (savings (option_map command_of command.entry) outcome.now) (F.write_faults files.old) (F.write_faults files.new) }
 {
     match (command, outcome) {
-        (Some(Command::Scan(names)), Outcome::Scanned { netlist, report, .. }) => save_both(
+        (
+            Some(Command::Scan(names)),
+            Outcome::Scanned {
+                netlist,
+                report,
+                ..
+            },
+        ) => save_both(
             alloc,
-            Saving { name: names.out, bytes: netlist.as_slice() },
-            Saving { name: names.report, bytes: report.as_slice() },
+            Saving {
+                name: names.out,
+                bytes: netlist.as_slice(),
+            },
+            Saving {
+                name: names.report,
+                bytes: report.as_slice(),
+            },
             files,
         ),
         _ => Ok(()),
     }
-}
-
-/// A file that is to be saved.
-#[derive(Clone, Copy, Debug)]
-pub struct Saving<'a> {
-    pub name: &'a str,
-    pub bytes: &'a [u8],
 }
 
 /// Saves one file, and then another.

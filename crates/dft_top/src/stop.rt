@@ -1,7 +1,7 @@
 //! Where a command stops before its last step.
 
 use crate::answer::Refusal;
-use std::alloc::{AllocError, Global};
+use std::alloc::AllocError;
 
 /// Why a step of a command gives no value.
 #[derive(Debug, Drop)]

@@ -1,4 +1,3 @@
-use Rattle.std.proofs.Common.{List}
 use Rattle.dft_top.proofs.Kept.{kept_for}
 use Rattle.dft_top.proofs.Promised.{passes_for, scans_for}
 use Rattle.dft_top.proofs.command.run.Goals as goal

@@ -1,4 +1,4 @@
-use Rattle.std.proofs.Common.{◌≡◌, ◌∙◌, Err, List, refl, rules}
+use Rattle.std.proofs.Common.{◌≡◌, ◌∙◌, Err, refl, rules}
 use Rattle.dft_words.specs.Named.{replay_files_of}
 use Rattle.dft_replay.specs.Fits.{first_misfit}
 use Rattle.dft_top.specs.Checks.{LibraryGives, NetlistGives, PatternsGive}

@@ -1,4 +1,4 @@
-use Rattle.std.proofs.Common.{◌≡◌, ◌∙◌, Err, List, refl, rules}
+use Rattle.std.proofs.Common.{◌≡◌, ◌∙◌, Err, refl, rules}
 use Rattle.dft_words.specs.Named.{scan_files_of}
 use Rattle.dft_scan.specs.Refusals.{refusal}
 use Rattle.dft_top.specs.Checks.{ConfigGives, LibraryGives, NetlistGives}
