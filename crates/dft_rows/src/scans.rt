@@ -179,11 +179,14 @@ fn a_saved_netlist_shifts_past_its_lockup(rt: HostRuntime) -> Result<(), Fail> {
 
 // The number of the call on files that fails and how many bytes a save keeps, the number of the put that fails, and
 // then the status, the saved netlist and the saved report. The configuration and the netlist are loaded before the saves.
-static FAULTS: [(u32, u32, u32, Status, &str, &str); 6] = [
+static FAULTS: [(u32, u32, u32, Status, &str, &str); 9] = [
     (0, 0, 9, Status::ReadFault, "-", "-"),
     (1, 0, 9, Status::ReadFault, "-", "-"),
+    (2, 0, 9, Status::WriteFault, "", "-"),
     (2, 10, 9, Status::WriteFault, "module s (", "-"),
+    (2, 1_000_000, 9, Status::WriteFault, WRITTEN, "-"),
     (3, 0, 9, Status::WriteFault, WRITTEN, ""),
+    (3, 10, 9, Status::WriteFault, WRITTEN, "edt report"),
     (3, 1_000_000, 9, Status::WriteFault, WRITTEN, REPORT),
     (9, 0, 0, Status::WriteFault, WRITTEN, REPORT),
 ];
@@ -212,6 +215,8 @@ fn faults_leave_whole_files_and_a_prefix(rt: HostRuntime) -> Result<(), Fail> {
             report.as_bytes(),
             "at call {call} and put {put}"
         );
+        assert_eq!(rt; text_of(&files, "n"), ROW.as_bytes());
+        assert_eq!(rt; text_of(&files, "c"), config.as_bytes());
     }
     Ok(())
 }

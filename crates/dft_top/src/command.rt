@@ -1,6 +1,6 @@
 //! A run of the tool.
 
-ghost use Rattle.std.specs.Prelude.{◌≡◌, ◌≢◌, List, Some, Err, OnErr, OnOk, map, option_map, string_bytes};
+ghost use Rattle.std.specs.Prelude.{◌≡◌, Some, Err, map, option_map, string_bytes};
 ghost use Rattle.dft_base.specs.Outside.{Rose, Told};
 ghost use Rattle.dft_words.specs.Named.{command_of};
 ghost use Rattle.dft_top.specs.Lines.{line_of};

@@ -1,6 +1,6 @@
 //! The files of a command: each is loaded in its turn, and gives a value by its checks, or is refused.
 
-ghost use Rattle.std.specs.Prelude.{◌≡◌, ◌≤◌, ◌<◌, IfOk, IsSomeAnd, Err, Some, codes, length, option_map};
+ghost use Rattle.std.specs.Prelude.{◌≡◌, ◌≤◌, ◌<◌, IfOk, IsSomeAnd, Err, Some, length, option_map};
 ghost use Rattle.dft_base.specs.Name.{IsName};
 ghost use Rattle.dft_base.specs.Outside.{Told, file_at};
 ghost use Rattle.dft_config.specs.Range.{IsInRange};

@@ -1,6 +1,6 @@
 //! The saves of an outcome.
 
-ghost use Rattle.std.specs.Prelude.{◌≡◌, ◌≢◌, ◌≤◌, [], ◌∷◌, Err, OnErr, OnOk, option_map};
+ghost use Rattle.std.specs.Prelude.{◌≡◌, ◌≢◌, [], ◌∷◌, Err, OnErr, OnOk, option_map};
 ghost use Rattle.dft_words.specs.Named.{command_of};
 ghost use Rattle.dft_top.specs.Saves.{CountsSaves, HaveSaved, HaveSavedSome, SaveFailed, SavesApart, savings};
 ghost use Rattle.dft_top.specs.Named.{saving_of};
