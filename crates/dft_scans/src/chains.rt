@@ -14,7 +14,7 @@ use std::alloc::{AllocError, Global};
 use std::test::Fail;
 
 // Four flip-flops in a row on two clocks.
-pub(crate) const ROW: &str =
+const ROW: &str =
     "module s (ca, cb, d, q); input ca, cb, d; output q; DFF f0 (.CK(ca), .D(d), .Q(n0)); DFF f1 (.CK(cb), .D(n0), .Q(n1)); DFF f2 (.CK(ca), .D(n1), .Q(n2)); DFF f3 (.CK(cb), .D(n2), .Q(q)); endmodule";
 
 const SCANNED: &str =
@@ -29,13 +29,13 @@ const CLOCK_AS_DATA: &str =
 const QUOTED: &str =
     "module s (ca, \\a\"b , q); input ca, \\a\"b ; output q; DFF f (.CK(ca), .D(\\a\"b ), .Q(q)); endmodule";
 
-pub(crate) const ONE_CHAIN: &str =
+const ONE_CHAIN: &str =
     "version = 1\nchains = 1\nwarm = 0\nwindow = 1\nring = { stages = 2, channels = 1, taps = [], injectors = [[0, 1]], phase = [[0]] }\ncompactor = { groups = [[0]], mask_inputs = 1 }\n";
 
 const FIVE_CHAINS: &str =
     "version = 1\nchains = 5\nwarm = 0\nwindow = 1\nring = { stages = 2, channels = 1, taps = [], injectors = [[0, 1]], phase = [[0], [1], [0], [1], [0]] }\ncompactor = { groups = [[0, 1, 2, 3, 4]], mask_inputs = 1 }\n";
 
-pub(crate) fn named(alloc: Global, code: &str, name: &Name) -> Result<String, AllocError> {
+fn named(alloc: Global, code: &str, name: &Name) -> Result<String, AllocError> {
     let mut line = String::from_str(alloc, code)?;
     line.push(' ')?;
     for byte in name.as_slice() {
@@ -44,7 +44,7 @@ pub(crate) fn named(alloc: Global, code: &str, name: &Name) -> Result<String, Al
     Ok(line)
 }
 
-pub(crate) fn refused(alloc: Global, error: RuleError) -> Result<String, AllocError> {
+fn refused(alloc: Global, error: RuleError) -> Result<String, AllocError> {
     match error {
         RuleError::ClockAsData { net } => named(alloc, "G1", &net),
         RuleError::ScanCellPresent { instance } => named(alloc, "G2", &instance),

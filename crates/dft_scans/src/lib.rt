@@ -1,9 +1,7 @@
-//! Netlists worked by hand, as tests of the scan rules, of the chains, of reports and of scans.
+//! Netlists worked by hand, as tests of the scan rules and of the chains, and a report worked by hand.
 #![tactic(auto)]
 
 #[cfg(test)]
 mod chains;
 #[cfg(test)]
 mod reports;
-#[cfg(test)]
-mod scans;
