@@ -69,7 +69,7 @@ def configuration(flops, clocks, out):
     domains = ", ".join(f'"clk{i}"' for i in range(clocks))
     phase = ", ".join(f"[{chain % stages}]" for chain in range(chains))
     groups = ", ".join(str(chain) for chain in range(chains))
-    out.write(f"version = 1\ndomains = [{domains}]\nchains = {chains}\n")
+    out.write(f"version = 1\ndomains = [{domains}]\nchains = {chains}\nwarm = 0\nwindow = 1\n")
     out.write(f"[ring]\nstages = {stages}\nchannels = 1\ntaps = []\ninjectors = [[0, 0]]\nphase = [{phase}]\n")
     out.write(f"[compactor]\ngroups = [[{groups}]]\nmask_inputs = 1\n")
 
