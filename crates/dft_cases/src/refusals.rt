@@ -21,9 +21,37 @@ fn text_of(alloc: Global, parts: &[&str]) -> Result<Vec<u8>, AllocError> {
     Ok(text)
 }
 
-fn line(alloc: Global, code: &str, name: &Name) -> Result<Vec<u8>, AllocError> {
-    let mut line = Vec::from_slice(alloc, code.as_bytes())?;
-    line.extend_from_slice(name.as_slice())?;
+/// A refusal by its code and its parts.
+#[derive(Drop)]
+struct Told {
+    code: &'static str,
+    first: Option<i64>,
+    name: Option<Name>,
+}
+
+fn parts_of(error: ConfigError) -> Result<Told, AllocError> {
+    let (code, first, name) = match error {
+        ConfigError::C1 => ("C1", None, None),
+        ConfigError::C2 { name } => ("C2", None, Some(name)),
+        ConfigError::C3 { name, first } => ("C3", Some(first), Some(name)),
+        ConfigError::C4 { name } => ("C4", None, Some(name)),
+        ConfigError::C5 { first } => ("C5", Some(first), None),
+        ConfigError::C6 { name } => ("C6", None, Some(name)),
+        ConfigError::Memory(error) => return Err(error),
+    };
+    Ok(Told { code, first, name })
+}
+
+fn line(alloc: Global, told: &Told) -> Result<Vec<u8>, AllocError> {
+    let mut line = Vec::from_slice(alloc, told.code.as_bytes())?;
+    if let Some(first) = told.first {
+        let text = format!(in alloc; " {first}")?;
+        line.extend_from_slice(text.as_bytes())?;
+    }
+    if let Some(name) = &told.name {
+        line.push(b' ')?;
+        line.extend_from_slice(name.as_slice())?;
+    }
     Ok(line)
 }
 
@@ -35,19 +63,7 @@ fn answer(alloc: Global, parts: &[&str]) -> Result<Vec<u8>, AllocError> {
     }
     match Config::read(alloc, &text) {
         Ok(_) => Vec::from_slice(alloc, b"ok"),
-        Err(ConfigError::C1) => Vec::from_slice(alloc, b"C1"),
-        Err(ConfigError::C2 { name }) => line(alloc, "C2 ", &name),
-        Err(ConfigError::C3 { name, first }) => {
-            let code = format!(in alloc; "C3 {first} ")?;
-            line(alloc, code.as_str(), &name)
-        }
-        Err(ConfigError::C4 { name }) => line(alloc, "C4 ", &name),
-        Err(ConfigError::C5 { first }) => {
-            let code = format!(in alloc; "C5 {first}")?;
-            Vec::from_slice(alloc, code.as_bytes())
-        }
-        Err(ConfigError::C6 { name }) => line(alloc, "C6 ", &name),
-        Err(ConfigError::Memory(e)) => Err(e),
+        Err(error) => line(alloc, &parts_of(error)?),
     }
 }
 
