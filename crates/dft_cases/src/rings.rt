@@ -151,8 +151,24 @@ fn columns_in(alloc: Global, words: &[u64], columns: u32) -> Result<String, Allo
     Ok(text)
 }
 
-// The columns of each cell's row on a line of its own, chain after chain, for loads of so many cycles.
-fn told(alloc: Global, config: &Config, lengths: &[u16], cycles: u16) -> Result<String, AllocError>
+// The columns of each cell's row on a line of its own, chain after chain, for loads of so many cycles through this ring.
+fn told(
+    alloc: Global,
+    chains: u16,
+    ring: RingConfig,
+    lengths: &[u16],
+    cycles: u16,
+) -> Result<String, AllocError>
+    requires ring { IsRingInRange chains ring }
+    requires chains { length lengths.now ≡ chains }
+    requires lengths { IsTrue (list_all (λ cells. nat_le cells cycles) lengths.now) }
+    requires columns { cycles ≤ 512 }
+{
+    let config = config(alloc, chains, ring)?;
+    rows(alloc, &config, lengths, cycles)
+}
+
+fn rows(alloc: Global, config: &Config, lengths: &[u16], cycles: u16) -> Result<String, AllocError>
     requires ring { IsRingInRange config.now.chains config.now.ring }
     requires chains { length lengths.now ≡ config.now.chains }
     requires lengths { IsTrue (list_all (λ cells. nat_le cells cycles) lengths.now) }
@@ -193,8 +209,7 @@ const AS_LONG_AS_MASKS: &str = "1 2\n1 3\n0 2\n";
 #[test]
 fn a_small_ring_gives_its_equations(rt: HostRuntime) -> Result<(), Fail> {
     let alloc = rt.alloc();
-    let config = config(alloc, 2, small_ring(alloc)?)?;
-    let rows = told(alloc, &config, &[3u16, 2], 5)?;
+    let rows = told(alloc, 2, small_ring(alloc)?, &[3u16, 2], 5)?;
     assert_eq!(rt; rows.as_str(), WITH_WARM_CYCLES);
     Ok(())
 }
@@ -202,8 +217,7 @@ fn a_small_ring_gives_its_equations(rt: HostRuntime) -> Result<(), Fail> {
 #[test]
 fn without_warm_cycles_some_equations_are_empty(rt: HostRuntime) -> Result<(), Fail> {
     let alloc = rt.alloc();
-    let config = config(alloc, 2, small_ring(alloc)?)?;
-    let rows = told(alloc, &config, &[3u16, 2], 3)?;
+    let rows = told(alloc, 2, small_ring(alloc)?, &[3u16, 2], 3)?;
     assert_eq!(rt; rows.as_str(), WITH_NONE);
     Ok(())
 }
@@ -211,8 +225,7 @@ fn without_warm_cycles_some_equations_are_empty(rt: HostRuntime) -> Result<(), F
 #[test]
 fn states_of_crossed_taps_are_as_by_hand(rt: HostRuntime) -> Result<(), Fail> {
     let alloc = rt.alloc();
-    let config = config(alloc, 3, crossed_ring(alloc)?)?;
-    let rows = told(alloc, &config, &[6u16, 6, 6], 6)?;
+    let rows = told(alloc, 3, crossed_ring(alloc)?, &[6u16, 6, 6], 6)?;
     assert_eq!(rt; rows.as_str(), BY_HAND);
     Ok(())
 }
@@ -220,8 +233,13 @@ fn states_of_crossed_taps_are_as_by_hand(rt: HostRuntime) -> Result<(), Fail> {
 #[test]
 fn the_newest_variables_of_a_realistic_ring_fall_by_a_cycle(rt: HostRuntime) -> Result<(), Fail> {
     let alloc = rt.alloc();
-    let config = config(alloc, 8, realistic_ring(alloc)?)?;
-    let rows = told(alloc, &config, &[5u16, 5, 5, 5, 5, 5, 5, 5], 13)?;
+    let rows = told(
+        alloc,
+        8,
+        realistic_ring(alloc)?,
+        &[5u16, 5, 5, 5, 5, 5, 5, 5],
+        13,
+    )?;
     assert!(rt;
         newest(alloc, rows.as_str())?
             .as_str()
@@ -234,8 +252,7 @@ fn the_newest_variables_of_a_realistic_ring_fall_by_a_cycle(rt: HostRuntime) -> 
 #[test]
 fn loads_may_be_as_long_as_the_longest_mask_segment(rt: HostRuntime) -> Result<(), Fail> {
     let alloc = rt.alloc();
-    let config = config(alloc, 3, crossed_ring(alloc)?)?;
-    let rows = told(alloc, &config, &[1u16, 1, 1], 3)?;
+    let rows = told(alloc, 3, crossed_ring(alloc)?, &[1u16, 1, 1], 3)?;
     assert_eq!(rt; rows.as_str(), AS_LONG_AS_MASKS);
     Ok(())
 }

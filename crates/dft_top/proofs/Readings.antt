@@ -72,6 +72,11 @@ then_one gives next a b one behind (inl x) (inr y) = absurd (let e = one (Ok x.0
 then_one gives next a b one behind (inr x) (inl y) = absurd (let e = one (Err x.0) (Ok y.0) x.1.0 y.1.0 in cc)
 then_one gives next a b one behind (inr x) (inr y) = x.1.1 ∙ (let e = one (Err x.0) (Err y.0) x.1.0 y.1.0 in let f : x.0 ≡ y.0 = cc in ap Refused f) ∙ sym y.1.1
 
+-- where a step gives this value, what comes behind the value gives the outcome
+pub given_next : {A : Type 0} (gives : Result A Refusal → Type 0) (next : A → Outcome → Type 0) (o : Outcome) (value : A) → ((r s : Result A Refusal) → gives r → gives s → r ≡ s) → gives (Ok value) → Then gives next o → next value o
+given_next gives next o value one given (inl x) = subst (λ value. next value o) (ok_same (Ok value) x.0 value (one (Ok value) (Ok x.0) given x.1.0) refl) x.1.1
+given_next gives next o value one given (inr x) = absurd (let e = one (Ok value) (Err x.0) given x.1.0 in cc)
+
 -- a file that gives a value is held, and its text gives the value
 pub text_of : {A : Type 0} (limit : ℕ) (option : List ℕ) (text_gives : List ℕ → Result A Refusal → Type 0) (file : Option (List ℕ)) (value : A) → FileGives limit option text_gives file (Ok value) → (text : List ℕ) × text_gives text (Ok value)
 text_of limit option text_gives None value x = absurd x

@@ -1,8 +1,32 @@
--- That words and files have one outcome at most.
-use Rattle.std.specs.Prelude.{ℕ, ◌≡◌, List}
+-- That words and files have one outcome at most, and which it is where each file passes its checks.
+use Rattle.std.specs.Prelude.{ℕ, ◌≡◌, List, None, Ok}
 use Rattle.dft_base.specs.Outside.{Held}
+use Rattle.dft_cells.specs.declared.cell.Cell.{Cell}
+use Rattle.dft_config.specs.declared.config.Config.{Config}
+use Rattle.dft_netlist.specs.Netlist.{Netlist}
+use Rattle.dft_stil.specs.Patterns.{Patterns}
+use Rattle.dft_replay.specs.Fits.{first_misfit}
+use Rattle.dft_scan.specs.Refusals.{refusal}
+use Rattle.dft_scan.specs.Scans.{counts_of, netlist_text, report_text}
+use Rattle.dft_words.specs.Words.{ReplayFiles, ScanFiles, IsReplay, IsScan}
 use Rattle.dft_top.specs.declared.outcome.Outcome.{Outcome}
-use Rattle.dft_top.specs.Outcomes.{IsOutcome}
+use Rattle.dft_top.specs.declared.outcome.Outcome.TheVariants.{Scanned}
+use Rattle.dft_top.specs.Checks.{ConfigGives, LibraryGives, NetlistGives, PatternsGive}
+use Rattle.dft_top.specs.Outcomes.{IsOutcome, IsOutcomeOn}
 
 abbrev pub OutcomeIsOne : Type 0
 OutcomeIsOne = (words : List (List ℕ)) (held : Held) (a b : Outcome) → IsOutcome words held a → IsOutcome words held b → a ≡ b
+
+-- where each file of a replay passes its checks, the outcome is that of the patterns on the netlist
+abbrev pub PassingIsReplayed : Type 0
+PassingIsReplayed =
+    (words : List (List ℕ)) (files : ReplayFiles) (held : Held) (cells : List Cell) (n : Netlist) (p : Patterns) (o : Outcome) → IsReplay words files →
+    LibraryGives files.library held (Ok cells) → NetlistGives cells files.netlist held (Ok n) → PatternsGive files.patterns held (Ok p) →
+    IsOutcome words held o → IsOutcomeOn n p (first_misfit n p.signals) o
+
+-- where each file of a scan passes its checks, and no check of the scan fails, the design is scanned
+abbrev pub PassingIsScanned : Type 0
+PassingIsScanned =
+    (words : List (List ℕ)) (files : ScanFiles) (held : Held) (cells : List Cell) (config : Config) (n : Netlist) (o : Outcome) → IsScan words files →
+    LibraryGives files.library held (Ok cells) → ConfigGives files.config held (Ok config) → NetlistGives cells files.netlist held (Ok n) → refusal n config ≡ None →
+    IsOutcome words held o → o ≡ Scanned (counts_of n config) (netlist_text n config) (report_text n config)

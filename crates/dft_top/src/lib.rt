@@ -17,6 +17,6 @@ mod stop;
 
 pub use answer::{Answer, Code, Refusal, Status};
 pub use command::run;
-pub use laws::outcome_is_one;
+pub use laws::{outcome_is_one, passing_files_are_answered};
 pub use limits::{MAX_CONFIG_BYTES, MAX_LIBRARY_BYTES, MAX_NETLIST_BYTES, MAX_PATTERN_BYTES};
 pub use outcome::Outcome;

@@ -1,0 +1,44 @@
+-- Files that pass all checks are never refused.
+use Rattle.std.proofs.Common.{ℕ, ◌≡◌, List, codes, Option, None, Some, Ok, subst}
+use Rattle.dft_base.specs.Outside.{Held, file_at}
+use Rattle.dft_cells.specs.declared.cell.Cell.{Cell}
+use Rattle.dft_config.specs.declared.config.Config.{Config}
+use Rattle.dft_netlist.specs.Netlist.{Netlist}
+use Rattle.dft_stil.specs.Patterns.{Patterns}
+use Rattle.dft_replay.specs.Fits.{first_misfit}
+use Rattle.dft_scan.specs.declared.error.ScanError.{ScanError}
+use Rattle.dft_scan.specs.Refusals.{refusal}
+use Rattle.dft_scan.specs.Scans.{counts_of, netlist_text, report_text}
+use Rattle.dft_words.specs.Words.{Command, Replay, Scan, ReplayFiles, ScanFiles}
+use Rattle.dft_words.proofs.Understood.{for_once}
+use Rattle.dft_top.specs.declared.outcome.Outcome.{Outcome}
+use Rattle.dft_top.specs.declared.outcome.Outcome.TheVariants.{Scanned}
+use Rattle.dft_top.specs.declared.limits.TheConstants.{MAX_CONFIG_BYTES, MAX_NETLIST_BYTES, MAX_PATTERN_BYTES}
+use Rattle.dft_top.specs.Checks.{ConfigGives, ConfigText, LibraryGives, NetlistGives, NetlistText, PatternText, PatternsGive}
+use Rattle.dft_top.specs.Outcomes.{IsOutcome, IsOutcomeFor, IsOutcomeOfReplay, IsOutcomeOfScan, IsOutcomeOfScanOf, IsOutcomeOn}
+use Rattle.dft_top.specs.Laws.{PassingIsReplayed, PassingIsScanned}
+use Rattle.dft_top.proofs.Readings.{config_text_one, file_one, given_next, library_gives_one, netlist_text_one, pattern_text_one}
+use Rattle.dft_top.proofs.Steps.{ReplayOn, ReplayOver, ScanOn, ScanOver}
+
+replay_due : (files : ReplayFiles) (held : Held) (cells : List Cell) (n : Netlist) (p : Patterns) (o : Outcome) → LibraryGives files.library held (Ok cells) → NetlistGives cells files.netlist held (Ok n) →
+    PatternsGive files.patterns held (Ok p) → IsOutcomeOfReplay files held o → IsOutcomeOn n p (first_misfit n p.signals) o
+replay_due files held cells n p o library netlist patterns is =
+    let over = given_next (LibraryGives files.library held) (ReplayOver files held) o cells (library_gives_one files.library held) library is in
+    let on = given_next (NetlistGives cells files.netlist held) (ReplayOn files held) o n (file_one MAX_NETLIST_BYTES (codes "netlist") (NetlistText cells) (netlist_text_one cells) (file_at files.netlist held)) netlist over in
+    given_next (PatternsGive files.patterns held) (λ p. IsOutcomeOn n p (first_misfit n p.signals)) o p (file_one MAX_PATTERN_BYTES (codes "patterns") PatternText pattern_text_one (file_at files.patterns held)) patterns on
+
+scan_due : (files : ScanFiles) (held : Held) (cells : List Cell) (c : Config) (n : Netlist) (o : Outcome) → LibraryGives files.library held (Ok cells) → ConfigGives files.config held (Ok c) →
+    NetlistGives cells files.netlist held (Ok n) → refusal n c ≡ None → IsOutcomeOfScan files held o → o ≡ Scanned (counts_of n c) (netlist_text n c) (report_text n c)
+scan_due files held cells c n o library config netlist none is =
+    let over = given_next (LibraryGives files.library held) (ScanOver files held) o cells (library_gives_one files.library held) library is in
+    let on = given_next (ConfigGives files.config held) (ScanOn files cells held) o c (file_one MAX_CONFIG_BYTES (codes "config") ConfigText config_text_one (file_at files.config held)) config over in
+    let scan = given_next (NetlistGives cells files.netlist held) (λ n. IsOutcomeOfScanOf n c (refusal n c)) o n (file_one MAX_NETLIST_BYTES (codes "netlist") (NetlistText cells) (netlist_text_one cells) (file_at files.netlist held)) netlist on in
+    (subst (λ (refused : Option ScanError). IsOutcomeOfScanOf n c refused o) none scan).is
+
+pub passing_replayed : PassingIsReplayed
+passing_replayed words files held cells n p o is library netlist patterns x =
+    replay_due files held cells n p o library netlist patterns (subst (λ (command : Option Command). IsOutcomeFor command held o) (for_once words x.0 (Some (Replay files)) x.1.0 is) x.1.1)
+
+pub passing_scanned : PassingIsScanned
+passing_scanned words files held cells c n o is library config netlist none x =
+    scan_due files held cells c n o library config netlist none (subst (λ (command : Option Command). IsOutcomeFor command held o) (for_once words x.0 (Some (Scan files)) x.1.0 is) x.1.1)

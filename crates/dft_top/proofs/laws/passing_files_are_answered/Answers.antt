@@ -1,0 +1,8 @@
+use Rattle.dft_top.proofs.PassingFiles.{passing_replayed, passing_scanned}
+use Rattle.dft_top.proofs.laws.passing_files_are_answered.Goals as goal
+
+pub returns-clause-replayed : goal.returns-clause-replayed
+returns-clause-replayed c = passing_replayed
+
+pub returns-clause-scanned : goal.returns-clause-scanned
+returns-clause-scanned c = passing_scanned
