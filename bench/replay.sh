@@ -3,19 +3,7 @@
 # memory, then with 1, 16 and 256 clocks; and times the readers alone: of netlists (the patterns are then a file that is
 # not there), and of patterns (on a netlist without their ports). crates/stil_pace times patterns with 50 signals, also
 # their writing. Build the program first (./dft does). It promises nothing.
-here=$(cd "$(dirname "$0")" && pwd)
-dft=$here/../crates/dft/out/dft
-[ -x "$dft" ] || { echo "build dft first: ./dft replay .." >&2; exit 2; }
-work=$(mktemp -d) || exit 2
-trap 'rm -rf "$work"' EXIT
-# prints the seconds and the peak megabytes of a command
-timed() { /usr/bin/python3 - "$@" <<'PY'
-import os, resource, subprocess, sys, time
-start = time.time()
-subprocess.run(sys.argv[1:], stdout=subprocess.DEVNULL)
-print(f"{time.time() - start:.3f} {resource.getrusage(resource.RUSAGE_CHILDREN).ru_maxrss / 1024:.0f}")
-PY
-}
+. "$(dirname "$0")/common.sh"
 replay() {
     python3 "$here/make.py" "$1" "$2" "$3" "$work"
     set -- "$1" "$2" "$3" $(timed "$dft" replay --netlist "$work/bench.v" --patterns "$work/bench.stil")

@@ -1,19 +1,7 @@
 #!/bin/sh
 # Times the built dft: scans made netlists of 10,000 to 200,000 instances with 1 and 16 clocks, and prints the seconds,
 # the peak memory and the instances per second. Build the program first (./dft does). It promises nothing.
-here=$(cd "$(dirname "$0")" && pwd)
-dft=$here/../crates/dft/out/dft
-[ -x "$dft" ] || { echo "build dft first: ./dft replay .." >&2; exit 2; }
-work=$(mktemp -d) || exit 2
-trap 'rm -rf "$work"' EXIT
-# prints the seconds and the peak megabytes of a command, whose line goes to standard error
-timed() { /usr/bin/python3 - "$@" <<'PY'
-import os, resource, subprocess, sys, time
-start = time.time()
-subprocess.run(sys.argv[1:], stdout=sys.stderr)
-print(f"{time.time() - start:.3f} {resource.getrusage(resource.RUSAGE_CHILDREN).ru_maxrss / 1024:.0f}")
-PY
-}
+. "$(dirname "$0")/common.sh"
 scan() {
     instances=$1 clocks=$2 gates=$(($1 * 5 / 6))
     python3 "$here/make.py" "$gates" 0 "$clocks" "$work"
