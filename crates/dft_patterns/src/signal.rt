@@ -1,8 +1,7 @@
 ghost use Rattle.std.specs.Prelude.{◌≡◌, ◌≤◌, length};
 ghost use Rattle.dft_patterns.specs.Patterns as spec;
 
-use dft_base::Name;
-use dft_base::Dir;
+use dft_base::{Dir, Name};
 
 /// A signal of a pattern text (IEEE 1450-1999 `Signals`): a port that vectors set or compare.
 #[derive(Debug, Drop)]

@@ -6,8 +6,7 @@ ghost use Rattle.dft_stil.specs.MembersShown.{meant, AreBelow};
 
 use crate::known_names::KnownNames;
 use crate::members::{Meant, Members};
-use dft_base::Name;
-use dft_base::Dir;
+use dft_base::{Dir, Name};
 use dft_patterns::StilSignal;
 use std::alloc::{AllocError, Global};
 use std::marker::Model;

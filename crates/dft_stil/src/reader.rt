@@ -16,7 +16,7 @@ use crate::error::StilError;
 use crate::pattern_text::pattern_text;
 use dft_base::{Name, Place, place_of};
 use dft_patterns::{PatternSet, Unsteady, first_unsteady};
-use dft_stil_tokens::{MAX_TEXT, Cause, Fault, ReadError, Tokens};
+use dft_stil_tokens::{Cause, Fault, MAX_TEXT, ReadError, Tokens};
 use std::alloc::Global;
 
 /// The most vectors that a pattern text may have.

@@ -13,7 +13,7 @@ use crate::names::Names;
 use crate::shape_table::ShapeTable;
 use crate::tables::Tables;
 use crate::vector::{Vector, assignment};
-use dft_patterns::Acts;
+use dft_patterns::{Act, Acts};
 use dft_stil_tokens::{Cause, ReadError, TokenKind, Tokens, fault_at, unknown};
 use std::alloc::{AllocError, Global};
 
@@ -34,7 +34,7 @@ fn shapes_at(tables: &Tables, number: Option<usize>) -> Option<&ShapeTable>
 }
 
 // A vector that mentions no signal, behind one with these acts.
-fn begun(alloc: Global, acts: &[crate::act::Act]) -> Result<Vector, AllocError>
+fn begun(alloc: Global, acts: &[Act]) -> Result<Vector, AllocError>
     ensures value { IfOk result (λ v. vector_as v ≡ spec.begun acts.now) }
     ensures acts { IfOk result (λ v. length v.acts ≡ length acts.now) }
     ensures told { IfOk result (λ v. length v.told.items ≡ length acts.now) }

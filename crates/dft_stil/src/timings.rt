@@ -16,7 +16,9 @@ use crate::namings::name_if_any;
 use crate::shape_table::ShapeTable;
 use crate::tables::Tables;
 use dft_patterns::{Drawing, Event, Times, act_drawn, act_of_events, begins_shape, extended};
-use dft_stil_tokens::{Cause, ReadError, TokenKind, Tokens, fault_at, taken, unknown, unsupported_at};
+use dft_stil_tokens::{
+    Cause, ReadError, TokenKind, Tokens, fault_at, taken, unknown, unsupported_at,
+};
 use std::alloc::Global;
 
 /// A table so far: its shapes and its times.
