@@ -1,5 +1,5 @@
 -- The tables of waveforms of a pattern text (IEEE 1450-1999 `Timing`).
-use Rattle.std.specs.Prelude.{ℕ, zero, suc, ◌+◌, ◌*◌, Bool, true, false, not, ◌&&◌, ◌||◌, ◌==◌, nat_lt, codes, List, [], ◌∷◌, ◌++◌, map, length, Option, Some, None, unwrap_or, is_some, slice_index_or, slice_set, get_or, replicate, if◌then◌else◌, Ok, Err}
+use Rattle.std.specs.Prelude.{ℕ, zero, suc, ◌+◌, ◌*◌, Bool, not, codes, List, [], ◌∷◌, ◌++◌, map, length, Option, Some, None, is_some, slice_index_or, slice_set, get_or, replicate, if◌then◌else◌, Ok, Err}
 use Rattle.std.specs.List.{list_any, list_all}
 use Rattle.dft_base.specs.Lexing.{Text}
 use Rattle.dft_base.specs.Parser.{pure, ◌>>=◌, ◌>>◌}
@@ -8,8 +8,6 @@ use Rattle.dft_base.specs.declared.dir.Dir.TheVariants as dir
 use Rattle.dft_stil_tokens.specs.declared.text.TokenKind.TheVariants as kind
 use Rattle.dft_stil_tokens.specs.declared.text.Cause.TheVariants as cause
 use Rattle.dft_patterns.specs.declared.act.Act.{Act}
-use Rattle.dft_patterns.specs.declared.act.Act.TheVariants as act
-use Rattle.dft_patterns.specs.declared.shapes.Event.{Event}
 use Rattle.dft_patterns.specs.declared.shapes.Drawing.{Drawing}
 use Rattle.dft_patterns.specs.declared.shapes.Drawing.TheVariants as drawing
 use Rattle.dft_patterns.specs.Drawings.{begins_shape, extended, act_of_events, act_drawn}
