@@ -1,8 +1,6 @@
 //! Times the writing and the reading of patterns with 50 signals.
-//! Its words are numbers of vectors; with none it takes 1,000. The times go to standard error.
-#![tactic(auto)]
 
-use dft_netlist::Dir;
+use dft_base::Dir;
 use dft_stil::{Act, Acts, MAX_TEXT, PatternSet, StilSignal, read, write};
 use dft_toml::name_of;
 use rand_core::utils::NextWord;
@@ -10,27 +8,17 @@ use rand_pcg::Pcg32;
 use std::alloc::{AllocError, Global};
 use std::rt::Clock;
 use std::time::Instant;
-use std::{env, io};
+use std::io;
 
 // How many signals there are; the first half are inputs.
 const SIGNALS: u32 = 50;
 
-fn main(rt: HostRuntime) -> io::Result<()> {
-    let mut none = true;
-    for word in env::args(&rt)?.skip(1) {
-        if let Ok(vectors) = word.as_str().parse::<u32>() {
-            time(&rt, rt.alloc(), vectors)?;
-            none = false;
-        }
-    }
-    if none {
-        time(&rt, rt.alloc(), 1000)?;
-    }
-    Ok(())
-}
-
-// Writes a set of random vectors and reads it back, and says what each took.
-fn time(rt: &(impl Clock + Eprint), alloc: Global, vectors: u32) -> io::Result<()> {
+/// Writes a set of so many random vectors and reads it back, and says what each took.
+pub fn time_patterns(
+    rt: &(impl Clock + Eprint),
+    alloc: Global,
+    vectors: u32,
+) -> io::Result<()> {
     let set = PatternSet::new(alloc, signals(alloc)?, drawn(alloc, vectors)?);
     let start = Instant::now(rt)?;
     let text = match write(alloc, &set) {

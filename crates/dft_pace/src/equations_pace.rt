@@ -1,6 +1,4 @@
 //! Times the load equations of 16 chains behind a ring of 16 stages and 4 channels, for loads of 4,096 cycles.
-//! Its words are numbers of cells a chain, at most 4,096; with none it takes 64. The times go to standard error.
-#![tactic(auto)]
 
 ghost use Rattle.std.specs.Prelude.{◌≡◌, ◌≤◌};
 ghost use Rattle.dft_config.specs.Range.{IsInRange};
@@ -10,7 +8,7 @@ use dft_equations::equations;
 use std::alloc::Global;
 use std::rt::Clock;
 use std::time::Instant;
-use std::{env, io};
+use std::io;
 
 // Sixteen chains of three stages each.
 const CONFIGURATION: &str = "version = 1
@@ -30,23 +28,13 @@ groups = [[0, 1, 2, 3, 4, 5, 6, 7, 8, 9, 10, 11, 12, 13, 14, 15]]
 mask_inputs = 1
 ";
 
-fn main(rt: HostRuntime) -> io::Result<()> {
-    let mut none = true;
-    for word in env::args(&rt)?.skip(1) {
-        if let Ok(cells) = word.as_str().parse::<u16>() {
-            read_and_time(&rt, rt.alloc(), cells.min(4096))?;
-            none = false;
-        }
-    }
-    if none {
-        read_and_time(&rt, rt.alloc(), 64)?;
-    }
-    Ok(())
-}
-
-fn read_and_time(rt: &(impl Clock + Eprint), alloc: Global, cells: u16) -> io::Result<()>
-    requires { cells ≤ 4096 }
-{
+/// Reads the configuration and times the equations of chains of so many cells, at most 4,096.
+pub fn time_equations(
+    rt: &(impl Clock + Eprint),
+    alloc: Global,
+    cells: u32,
+) -> io::Result<()> {
+    let cells = cells.min(4096) as u16;
     match Config::read(alloc, CONFIGURATION.as_bytes()) {
         Ok(config) if config.chains == 16 && config.ring.channels == 4 => {
             time(rt, alloc, &config, cells)

@@ -1,6 +1,4 @@
-//! Times one equation more at systems that are half full of random equations.
-//! Its words are numbers of columns; with none it takes 256. The times go to standard error.
-#![tactic(auto)]
+//! Times one equation more at systems of linear equations that are half full of random ones.
 
 use dft_gf2::{Outcome, System};
 use rand_core::utils::NextWord;
@@ -8,27 +6,17 @@ use rand_pcg::Pcg32;
 use std::alloc::Global;
 use std::rt::Clock;
 use std::time::Instant;
-use std::{env, io};
+use std::io;
 
 // How many equations are timed.
 const TIMED: u32 = 16;
 
-fn main(rt: HostRuntime) -> io::Result<()> {
-    let mut none = true;
-    for word in env::args(&rt)?.skip(1) {
-        if let Ok(columns) = word.as_str().parse::<u32>() {
-            time(&rt, rt.alloc(), columns)?;
-            none = false;
-        }
-    }
-    if none {
-        time(&rt, rt.alloc(), 256)?;
-    }
-    Ok(())
-}
-
-// Fills a system to the half, and times what an equation more takes.
-fn time(rt: &(impl Clock + Eprint), alloc: Global, columns: u32) -> io::Result<()> {
+/// Fills a system with so many columns to the half, and times what an equation more takes.
+pub fn time_systems(
+    rt: &(impl Clock + Eprint),
+    alloc: Global,
+    columns: u32,
+) -> io::Result<()> {
     let mut random = Pcg32::new(42, 54);
     let mut system = System::new(alloc, columns)?;
     let mut row = vec![in alloc; false; columns as usize]?;
