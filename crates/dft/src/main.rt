@@ -4,7 +4,7 @@
 ghost use Rattle.std.specs.Prelude.{◌≡◌};
 ghost use Rattle.dft.specs.Ends.{status_number};
 
-use dft_base::{HostFiles, OutSink};
+use dft_files::{HostFiles, OutSink};
 use dft_top::{Status, run};
 use std::io;
 use std::process::ExitCode;

@@ -24,6 +24,7 @@ mod text;
 
 pub use builder::DesignBuilder;
 pub use design::Design;
+pub use dft_base::Dir;
 pub use error::{Counted, NetlistError};
 pub use ids::{InstanceId, NetId, PortId};
 pub use instance::{CellRef, Instance, Join, Signal};
@@ -32,6 +33,6 @@ pub use limits::{MAX_INSTANCES, MAX_NETS, MAX_PORTS};
 pub use named::Named;
 pub use net_driver::NetDriver;
 pub use pins::PinSignals;
-pub use port::{Dir, NetIds, Port};
+pub use port::{NetIds, Port};
 pub use root::Root;
 pub use text::{Cause, Declared, Fault, Meaning, Select, Shape, Site, TokenKind};

@@ -2,8 +2,7 @@
 
 use crate::error::Counted;
 use crate::ids::NetId;
-use crate::port::Dir;
-use dft_base::{Name, Range};
+use dft_base::{Dir, Name, Range};
 
 /// What a token of a netlist text is (IEEE 1364, lexical conventions).
 #[derive(Clone, Copy, Debug, PartialEq, Eq)]

@@ -3,8 +3,8 @@ use Rattle.std.specs.Prelude.{codes, ℕ, List, [], ◌∷◌, None, Some}
 use Rattle.dft_cells.specs.Standard.{standard_cells}
 use Rattle.dft_netlist.specs.declared.ids.NetId.{NetId}
 use Rattle.dft_netlist.specs.declared.port.Port.{Port}
-use Rattle.dft_netlist.specs.declared.port.Dir.{Dir}
-use Rattle.dft_netlist.specs.declared.port.Dir.TheVariants.{Input, Output}
+use Rattle.dft_base.specs.declared.dir.Dir.{Dir}
+use Rattle.dft_base.specs.declared.dir.Dir.TheVariants.{Input, Output}
 use Rattle.dft_netlist.specs.declared.instance.Signal.{Signal}
 use Rattle.dft_netlist.specs.declared.instance.Signal.TheVariants.{Net, Unconnected}
 use Rattle.dft_netlist.specs.declared.instance.CellRef.TheVariants.{Library}

@@ -3,7 +3,7 @@ use Rattle.std.specs.Prelude.{ℕ, ◌≡◌, ◌<◌, ◌≢◌, Bool, true, fa
 use Rattle.std.specs.List.{list_any, range_with_len}
 use Rattle.dft_base.specs.declared.tri.Tri.{Tri}
 use Rattle.dft_netlist.specs.declared.ids.NetId.{NetId}
-use Rattle.dft_netlist.specs.declared.port.Dir.{Dir}
+use Rattle.dft_base.specs.declared.dir.Dir.{Dir}
 use Rattle.dft_netlist.specs.declared.port.Port.{Port}
 use Rattle.dft_netlist.specs.Orders.{Has, numbers_of}
 use Rattle.dft_cycle.specs.Cycle.{Round, IsRound, after_round}

@@ -5,7 +5,7 @@ use crate::designs::{
     QUOTED, RESET, ROW, SCANNED, THREE_CHAINS, TWO_CHAINS, WATCH, WATCH_CONFIG,
 };
 use crate::files::{LIBRARY, patterns, ran, shelf};
-use dft_base::{Failing, MemoryFiles};
+use dft_files::{Failing, MemoryFiles};
 use dft_top::Status;
 use std::test::Fail;
 

@@ -5,7 +5,7 @@ use Rattle.dft_base.specs.declared.place.Place.{Place}
 use Rattle.dft_base.specs.Lexing.{Text, place_of, place_after, next_place}
 use Rattle.dft_stil.specs.declared.text.Cause.{Cause}
 use Rattle.dft_stil.specs.declared.text.Cause.TheVariants as cause
-use Rattle.dft_netlist.specs.declared.port.Dir.TheVariants as dir
+use Rattle.dft_base.specs.declared.dir.Dir.TheVariants as dir
 use Rattle.dft_stil.specs.declared.act.Act.TheVariants as act
 use Rattle.dft_stil.specs.Patterns.{Patterns}
 use Rattle.dft_stil.specs.Lexemes.{comment_rest, note_rest, gap_len, gaps_from, blank_len, mark_kind, quoted_text, word_or_note, lexeme}

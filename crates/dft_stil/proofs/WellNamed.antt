@@ -7,7 +7,7 @@ use Rattle.std.proofs.lemmas.Bool.{cases_lt}
 use Rattle.std.proofs.lemmas.List.{get_or_append_left}
 use Rattle.std.proofs.lemmas.Slice.Eq.{bytes_eq-Decides}
 use Rattle.dft_base.specs.Lexing.{Text}
-use Rattle.dft_netlist.specs.declared.port.Dir.{Dir}
+use Rattle.dft_base.specs.declared.dir.Dir.{Dir}
 use Rattle.dft_stil.specs.declared.text.TokenKind.TheVariants as kind
 use Rattle.dft_stil.specs.declared.signal.StilSignal.{StilSignal}
 use Rattle.dft_stil.specs.Steps.{left, no_token, expect, eat, keyword, name}

@@ -4,8 +4,8 @@ use Rattle.std.specs.Fmt.{digits}
 use Rattle.dft_base.specs.Lexing.{Text}
 use Rattle.dft_stil.specs.declared.text.Cause.{Cause}
 use Rattle.dft_stil.specs.declared.text.Cause.TheVariants as cause
-use Rattle.dft_netlist.specs.declared.port.Dir.{Dir}
-use Rattle.dft_netlist.specs.declared.port.Dir.TheVariants.{Input, Output}
+use Rattle.dft_base.specs.declared.dir.Dir.{Dir}
+use Rattle.dft_base.specs.declared.dir.Dir.TheVariants.{Input, Output}
 use Rattle.dft_stil.specs.declared.act.Act.{Act}
 use Rattle.dft_stil.specs.declared.act.Act.TheVariants as act
 use Rattle.dft_stil.specs.declared.notes.Note.{Note}

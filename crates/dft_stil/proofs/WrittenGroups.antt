@@ -5,8 +5,8 @@ use Rattle.std.specs.List.{join_with_byte}
 use Rattle.std.proofs.lemmas.Bool.Decides.{nat_tests}
 use Rattle.std.proofs.lemmas.List.{map-append, length-map}
 use Rattle.dft_base.specs.Lexing.{Text}
-use Rattle.dft_netlist.specs.declared.port.Dir.{Dir}
-use Rattle.dft_netlist.specs.declared.port.Dir.TheVariants.{Input, Output}
+use Rattle.dft_base.specs.declared.dir.Dir.{Dir}
+use Rattle.dft_base.specs.declared.dir.Dir.TheVariants.{Input, Output}
 use Rattle.dft_stil.specs.declared.signal.StilSignal.{StilSignal}
 use Rattle.dft_stil.specs.declared.text.TokenKind.TheVariants as kind
 use Rattle.dft_stil.specs.Lexemes.{Token}

@@ -8,8 +8,8 @@ use Rattle.std.proofs.lemmas.List.{get_or_append_left}
 use Rattle.std.proofs.lemmas.Slice.Eq.{bytes_eq-Decides}
 use Rattle.std.proofs.Math.Seq.{get_or-append_seam}
 use Rattle.dft_base.specs.Lexing.{Text}
-use Rattle.dft_netlist.specs.declared.port.Dir.{Dir}
-use Rattle.dft_netlist.specs.declared.port.Dir.TheVariants.{Input, Output}
+use Rattle.dft_base.specs.declared.dir.Dir.{Dir}
+use Rattle.dft_base.specs.declared.dir.Dir.TheVariants.{Input, Output}
 use Rattle.dft_stil.specs.declared.signal.StilSignal.{StilSignal}
 use Rattle.dft_stil.specs.declared.text.TokenKind.{TokenKind}
 use Rattle.dft_stil.specs.declared.text.TokenKind.TheVariants as kind

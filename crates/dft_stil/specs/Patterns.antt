@@ -1,8 +1,8 @@
 -- Patterns: signals, and vectors of acts at them.
 use Rattle.std.specs.Prelude.{◌≡◌, ◌≢◌, ℕ, ◌<◌, ◌^◌, Bool, true, false, List, [], length, take, drop, get_or, All, AllPairs}
 use Rattle.std.specs.List.{AllZip, prefix_len}
-use Rattle.dft_netlist.specs.declared.port.Dir.{Dir}
-use Rattle.dft_netlist.specs.declared.port.Dir.TheVariants.{Input, Output}
+use Rattle.dft_base.specs.declared.dir.Dir.{Dir}
+use Rattle.dft_base.specs.declared.dir.Dir.TheVariants.{Input, Output}
 use Rattle.dft_stil.specs.declared.act.Act.{Act}
 use Rattle.dft_stil.specs.declared.act.Act.TheVariants.{Unset, High, Pulse, Ignore}
 use Rattle.dft_stil.specs.declared.notes.Note.{Note}

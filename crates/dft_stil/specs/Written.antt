@@ -1,8 +1,8 @@
 -- The written form of patterns: one text for each set (IEEE 1450-1999, in a subset of its forms).
 use Rattle.std.specs.Prelude.{ℕ, suc, nat_le, List, [], ◌∷◌, ◌++◌, codes, decimal, map, take, drop, flat_map}
 use Rattle.std.specs.List.{concat, join_with_byte, prefix_len}
-use Rattle.dft_netlist.specs.declared.port.Dir.{Dir}
-use Rattle.dft_netlist.specs.declared.port.Dir.TheVariants.{Input, Output}
+use Rattle.dft_base.specs.declared.dir.Dir.{Dir}
+use Rattle.dft_base.specs.declared.dir.Dir.TheVariants.{Input, Output}
 use Rattle.dft_stil.specs.declared.act.Act.{Act}
 use Rattle.dft_stil.specs.declared.notes.Note.{Note}
 use Rattle.dft_stil.specs.declared.notes.NoteKind.{NoteKind}

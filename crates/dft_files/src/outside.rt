@@ -1,6 +1,6 @@
 ghost use Rattle.std.specs.Prelude.{◌≡◌, ◌≢◌, ◌<◌, ◌≤◌, ◌+◌, ◌↔◌, ℕ, List, Option, Some, None, Err, IfOk, OnOk, OnErr, IsSomeAnd, length, is_some};
-ghost use Rattle.dft_base.specs.Outside.{Held, KeepsOthers, Rose, RoseBy, Told, ToldChange, ComesToLength, LeavesPart, file_at};
-ghost use Rattle.dft_base.specs.Put.{Adds, AddsPrefix};
+ghost use Rattle.dft_files.specs.Outside.{Held, KeepsOthers, Rose, RoseBy, Told, ToldChange, ComesToLength, LeavesPart, file_at};
+ghost use Rattle.dft_files.specs.Put.{Adds, AddsPrefix};
 
 use std::alloc::{AllocError, Global};
 
@@ -34,7 +34,7 @@ pub enum PutError {
 }
 
 impl From<AllocError> for LoadError {
-    ghost use Rattle.dft_base.specs.declared.outside.LoadError.TheVariants.{Memory};
+    ghost use Rattle.dft_files.specs.declared.outside.LoadError.TheVariants.{Memory};
 
     ghost from_gives = { λ a e. e ≡ Memory a };
 
@@ -44,7 +44,7 @@ impl From<AllocError> for LoadError {
 }
 
 impl From<AllocError> for SaveError {
-    ghost use Rattle.dft_base.specs.declared.outside.SaveError.TheVariants.{Memory};
+    ghost use Rattle.dft_files.specs.declared.outside.SaveError.TheVariants.{Memory};
 
     ghost from_gives = { λ a e. e ≡ Memory a };
 
@@ -54,7 +54,7 @@ impl From<AllocError> for SaveError {
 }
 
 impl From<AllocError> for PutError {
-    ghost use Rattle.dft_base.specs.declared.outside.PutError.TheVariants.{Memory};
+    ghost use Rattle.dft_files.specs.declared.outside.PutError.TheVariants.{Memory};
 
     ghost from_gives = { λ a e. e ≡ Memory a };
 

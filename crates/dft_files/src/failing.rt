@@ -1,5 +1,5 @@
 ghost use Rattle.std.specs.Prelude.{◌≡◌, ◌==◌};
-ghost use Rattle.dft_base.specs.Store.{kept_at};
+ghost use Rattle.dft_files.specs.Store.{kept_at};
 
 /// A call that is to fail.
 #[derive(Clone, Copy, Debug)]

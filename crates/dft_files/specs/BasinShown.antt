@@ -1,6 +1,6 @@
 -- What `MemorySink` shows.
-use Rattle.dft_base.specs.declared.sinks.MemorySink.TheInside.{Inside}
-use Rattle.dft_base.specs.Basin.{Basin}
+use Rattle.dft_files.specs.declared.sinks.MemorySink.TheInside.{Inside}
+use Rattle.dft_files.specs.Basin.{Basin}
 
 -- its bytes, the calls that are to fail, and what has come to pass
 abbrev pub basin_of : Inside → Basin

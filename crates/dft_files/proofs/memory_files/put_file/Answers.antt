@@ -1,9 +1,9 @@
 use Rattle.std.proofs.Common.{rules, ◌≡◌, List, ◌∷◌, [], Some, None, set, ap, ◌∙◌, string_bytes}
 use Rattle.std.proofs.lemmas.List.{map-append}
 use Rattle.std.specs.List.{position}
-use Rattle.dft_base.proofs.StoreLemmas.{Entry, has_name, held_of-set, held_of-push}
-use Rattle.dft_base.specs.Entries.{held_of}
-use Rattle.dft_base.proofs.memory_files.put_file.Goals as goal
+use Rattle.dft_files.proofs.StoreLemmas.{Entry, has_name, held_of-set, held_of-push}
+use Rattle.dft_files.specs.Entries.{held_of}
+use Rattle.dft_files.proofs.memory_files.put_file.Goals as goal
 
 pub returns-in-Some-clause-ok : goal.returns-in-Some-clause-ok
 returns-in-Some-clause-ok c =

@@ -1,6 +1,6 @@
 use Rattle.std.proofs.Common.{◌≤◌, length}
-use Rattle.dft_base.specs.Outside.{RoseBy}
-use Rattle.dft_base.proofs.host.read_up_to.Given as goal
+use Rattle.dft_files.specs.Outside.{RoseBy}
+use Rattle.dft_files.proofs.host.read_up_to.Given as goal
 
 -- the bytes so far are within the limit, and were all counted
 abbrev pub invariant-loop-turn : goal.invariant-loop-turn

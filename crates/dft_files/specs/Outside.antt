@@ -3,8 +3,8 @@ use Rattle.std.specs.Prelude.{◌≡◌, ◌+◌, ◌-◌, ◌^◌, ◌≤◌, �
 use Rattle.std.specs.Map.{lookup}
 use Rattle.std.specs.Str.{bytes_eq}
 use Rattle.std.specs.declared.alloc.Global.{Global}
-use Rattle.dft_base.specs.declared.outside.LoadError.{LoadError}
-use Rattle.dft_base.specs.declared.outside.LoadError.TheVariants as load
+use Rattle.dft_files.specs.declared.outside.LoadError.{LoadError}
+use Rattle.dft_files.specs.declared.outside.LoadError.TheVariants as load
 
 -- the bytes of each name, with the bytes of its file
 abbrev pub Held : Type 0

@@ -1,8 +1,8 @@
 -- What `MemoryFiles` shows.
 use Rattle.std.specs.Prelude.{string_bytes}
-use Rattle.dft_base.specs.declared.memory_files.MemoryFiles.TheInside.{Inside}
-use Rattle.dft_base.specs.Entries.{held_of}
-use Rattle.dft_base.specs.Store.{Store}
+use Rattle.dft_files.specs.declared.memory_files.MemoryFiles.TheInside.{Inside}
+use Rattle.dft_files.specs.Entries.{held_of}
+use Rattle.dft_files.specs.Store.{Store}
 
 -- its files, the calls that are to fail, and what has come to pass
 abbrev pub store_of : Inside → Store

@@ -2,12 +2,12 @@
 use Rattle.std.specs.Prelude.{◌≡◌, ◌==◌, ◌+◌, ◌-◌, ◌^◌, ◌<◌, ◌≤◌, ◌⊎◌, ℕ, min, List, [], ◌∷◌, length, take, find, if◌then◌else◌, Option, Some, None, option_map, IsSome, IsSomeAnd, Result, Ok, Err, Vec}
 use Rattle.std.specs.Str.{bytes_eq}
 use Rattle.std.specs.declared.alloc.Global.{Global}
-use Rattle.dft_base.specs.declared.failing.Failing.{Failing}
-use Rattle.dft_base.specs.declared.outside.LoadError.{LoadError}
-use Rattle.dft_base.specs.declared.outside.LoadError.TheVariants as load
-use Rattle.dft_base.specs.declared.outside.SaveError.{SaveError}
-use Rattle.dft_base.specs.declared.outside.SaveError.TheVariants as save
-use Rattle.dft_base.specs.Outside.{Held, file_at}
+use Rattle.dft_files.specs.declared.failing.Failing.{Failing}
+use Rattle.dft_files.specs.declared.outside.LoadError.{LoadError}
+use Rattle.dft_files.specs.declared.outside.LoadError.TheVariants as load
+use Rattle.dft_files.specs.declared.outside.SaveError.{SaveError}
+use Rattle.dft_files.specs.declared.outside.SaveError.TheVariants as save
+use Rattle.dft_files.specs.Outside.{Held, file_at}
 
 -- what files in memory are seen as: the files, the calls that are to fail, and what has come to pass
 pub record Store : Type 0 where

@@ -6,9 +6,9 @@ use Rattle.std.proofs.lemmas.List.Quantifiers.{position-Some}
 use Rattle.std.specs.List.{position, position_from}
 use Rattle.std.specs.Str.{bytes_eq}
 use Rattle.std.specs.declared.alloc.Global.{Global}
-use Rattle.dft_base.specs.Entries.{held_of}
-use Rattle.dft_base.specs.Outside.{Held, file_at, KeepsOthers}
-use Rattle.dft_base.specs.Store.{with_file}
+use Rattle.dft_files.specs.Entries.{held_of}
+use Rattle.dft_files.specs.Outside.{Held, file_at, KeepsOthers}
+use Rattle.dft_files.specs.Store.{with_file}
 
 abbrev pub Entry : Type 0
 Entry = String Global × Vec ℕ Global

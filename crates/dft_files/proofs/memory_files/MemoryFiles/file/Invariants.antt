@@ -1,7 +1,7 @@
 use Rattle.std.proofs.Common.{◌≡◌, drop}
-use Rattle.dft_base.specs.Outside.{file_at}
-use Rattle.dft_base.specs.Entries.{held_of}
-use Rattle.dft_base.proofs.memory_files.MemoryFiles.file.Given as goal
+use Rattle.dft_files.specs.Outside.{file_at}
+use Rattle.dft_files.specs.Entries.{held_of}
+use Rattle.dft_files.proofs.memory_files.MemoryFiles.file.Given as goal
 
 -- the entries that are left hold the file that all of them hold
 abbrev pub invariant-loop-entry : goal.invariant-loop-entry

@@ -1,6 +1,6 @@
 ghost use Rattle.std.specs.Prelude.{◌≡◌, ◌≤◌, [], Some, Err};
-ghost use Rattle.dft_base.specs.Basin.{Puts};
-ghost use Rattle.dft_base.specs.Put.{AddsPrefix};
+ghost use Rattle.dft_files.specs.Basin.{Puts};
+ghost use Rattle.dft_files.specs.Put.{AddsPrefix};
 
 use crate::failing::{Failing, kept_at};
 use crate::outside::{PutError, Sink};
@@ -17,11 +17,11 @@ pub struct MemorySink {
 }
 
 impl Model for MemorySink {
-    ghost use Rattle.dft_base.specs.Basin.{Basin};
+    ghost use Rattle.dft_files.specs.Basin.{Basin};
 
     ghost Value = { Basin };
 
-    ghost use Rattle.dft_base.specs.BasinShown.{basin_of};
+    ghost use Rattle.dft_files.specs.BasinShown.{basin_of};
 
     ghost view = { basin_of };
 }

@@ -1,5 +1,5 @@
 ghost use Rattle.std.specs.Prelude.{◌≡◌, ◌≤◌, ◌+◌, [], None, Err, Ok, IfOk, IfErr, length, string_bytes};
-ghost use Rattle.dft_base.specs.Outside.{Rose, RoseBy};
+ghost use Rattle.dft_files.specs.Outside.{Rose, RoseBy};
 
 use crate::outside::{Files, LoadError, PutError, SaveError, Sink};
 use std::alloc::Global;

@@ -1,9 +1,9 @@
 -- A sink in memory, with calls that fail on demand.
 use Rattle.std.specs.Prelude.{◌≡◌, ◌++◌, ℕ, List, take, None, IsSomeAnd, Result, Ok, Err}
-use Rattle.dft_base.specs.declared.failing.Failing.{Failing}
-use Rattle.dft_base.specs.declared.outside.PutError.{PutError}
-use Rattle.dft_base.specs.declared.outside.PutError.TheVariants as put
-use Rattle.dft_base.specs.Store.{count_up, kept_at}
+use Rattle.dft_files.specs.declared.failing.Failing.{Failing}
+use Rattle.dft_files.specs.declared.outside.PutError.{PutError}
+use Rattle.dft_files.specs.declared.outside.PutError.TheVariants as put
+use Rattle.dft_files.specs.Store.{count_up, kept_at}
 
 -- what a sink in memory is seen as: the bytes put so far, the calls that are to fail, and what has come to pass
 pub record Basin : Type 0 where

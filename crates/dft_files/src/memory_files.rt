@@ -1,10 +1,10 @@
 ghost use Rattle.std.specs.Prelude.{◌≡◌, ◌≤◌, [], Some, Err, OnOk, OnErr, IsSome, option_map, string_bytes};
 ghost use Rattle.std.specs.List.{position};
 ghost use Rattle.std.specs.Str.{bytes_eq};
-ghost use Rattle.dft_base.specs.Outside.{HasDistinctNames, KeepsOthers, LeavesPart, file_at};
-ghost use Rattle.dft_base.specs.Entries.{held_of};
-ghost use Rattle.dft_base.specs.Store.{with_file, called, read_failed, write_failed, left, Loads, Saves};
-ghost use Rattle.dft_base.specs.Store as store;
+ghost use Rattle.dft_files.specs.Outside.{HasDistinctNames, KeepsOthers, LeavesPart, file_at};
+ghost use Rattle.dft_files.specs.Entries.{held_of};
+ghost use Rattle.dft_files.specs.Store.{with_file, called, read_failed, write_failed, left, Loads, Saves};
+ghost use Rattle.dft_files.specs.Store as store;
 
 use crate::failing::{Failing, kept_at};
 use crate::outside::{Files, LoadError, SaveError};
@@ -24,11 +24,11 @@ pub struct MemoryFiles {
 }
 
 impl Model for MemoryFiles {
-    ghost use Rattle.dft_base.specs.Store.{Store};
+    ghost use Rattle.dft_files.specs.Store.{Store};
 
     ghost Value = { Store };
 
-    ghost use Rattle.dft_base.specs.StoreShown.{store_of};
+    ghost use Rattle.dft_files.specs.StoreShown.{store_of};
 
     ghost view = { store_of };
 }
