@@ -1,4 +1,4 @@
--- What shift vectors do to scan chains.
+-- What shift vectors do to scan chains (Bushnell and Agrawal, Essentials of Electronic Testing).
 use Rattle.std.specs.Prelude.{ℕ, zero, suc, ◌+◌, ◌≡◌, Bool, true, List, [], ◌∷◌, length, None, Some, slice_get}
 use Rattle.dft_base.specs.declared.tri.Tri.{Tri}
 use Rattle.dft_base.specs.declared.tri.Tri.TheVariants.{One}
