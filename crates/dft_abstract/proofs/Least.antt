@@ -10,8 +10,8 @@ use Rattle.dft_netlist.specs.Logic.{Logic, Force, Scan, IsRanked}
 use Rattle.dft_netlist.specs.Settled.{TriSources, value_from, IsTriSettled}
 use Rattle.dft_netlist.specs.Runs.{Vector}
 use Rattle.dft_netlist.proofs.Meanings.{source_monotone, source_over, meaning_monotone, at_nets}
-use Rattle.dft_cycle.specs.Cycle.{Pulse, tri_forced_by, tri_taken_by, view_sources, AreViews, next_value, IsLeast, after_pulse, pulse_of, strobe_sources, Round, IsRound}
-use Rattle.dft_cycle.specs.Laws.{StepIsBelow, RoundIsOne}
+use Rattle.dft_abstract.specs.Cycle.{Pulse, tri_forced_by, tri_taken_by, view_sources, AreViews, next_value, IsLeast, after_pulse, pulse_of, strobe_sources, Round, IsRound}
+use Rattle.dft_abstract.specs.Laws.{StepIsBelow, RoundIsOne}
 
 pub both_above : (t u : Tri) → AboveTri t u → AboveTri u t → t ≡ u
 both_above Unknown Unknown p q = refl

@@ -7,7 +7,7 @@ use Rattle.dft_netlist.specs.Drivers.{Source}
 use Rattle.dft_netlist.specs.Logic.{Logic, Lockup, IsRanked}
 use Rattle.dft_netlist.specs.Settled.{IsTriSettled, value_from}
 use Rattle.dft_netlist.specs.Runs.{State, Now, Vector, Turn, IsTurn, after_turn, AreLow}
-use Rattle.dft_cycle.specs.Cycle.{Pulse, AreViews, next_value, IsClosed, after_pulse, pulse_of, strobe_sources, Round, IsRound, after_round, tri_forced_by, tri_taken_by}
+use Rattle.dft_abstract.specs.Cycle.{Pulse, AreViews, next_value, IsClosed, after_pulse, pulse_of, strobe_sources, Round, IsRound, after_round, tri_forced_by, tri_taken_by}
 
 -- what holds between vectors: each value stands above its flip-flop's bit, and all clocks are low
 pub record Stands (old : ℕ → Tri) (s : State) : Type 0 where

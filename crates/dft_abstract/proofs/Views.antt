@@ -7,8 +7,8 @@ use Rattle.dft_netlist.specs.Drivers.{Source, nets_of, AreBelow}
 use Rattle.dft_netlist.specs.Logic.{Logic, Meaning, Input, Clock, Gate, Joined, Flop, Lockup, Free, reads, IsRanked}
 use Rattle.dft_netlist.specs.Settled.{TriSources, value_from, value_given, IsTriSettled}
 use Rattle.dft_netlist.proofs.Meanings.{source_same, inputs_same}
-use Rattle.dft_cycle.specs.Cycle.{Pulse, view_sources, AreViews, strobe_sources}
-use Rattle.dft_cycle.specs.Laws.{ClosedExists, StrobeExists}
+use Rattle.dft_abstract.specs.Cycle.{Pulse, view_sources, AreViews, strobe_sources}
+use Rattle.dft_abstract.specs.Laws.{ClosedExists, StrobeExists}
 
 -- a meaning's value depends on the sources and on what it reads
 pub given_same : (rank : ℕ → ℕ) (t s : TriSources) (a b : ℕ → Tri) (net : ℕ) (m : Meaning) →

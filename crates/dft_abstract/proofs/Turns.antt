@@ -10,10 +10,10 @@ use Rattle.dft_netlist.specs.Settled.{value_from}
 use Rattle.dft_netlist.specs.Runs.{State, Now, sources_of, next_now, after, Edge, rise_step, fall_step, times, Vector, Turn, set_step}
 use Rattle.dft_netlist.proofs.Meanings.{completed_above}
 use Rattle.dft_netlist.proofs.Steps.{after-append, AreSteps-append}
-use Rattle.dft_cycle.specs.Cycle.{Pulse, tri_forced_by, tri_taken_by, after_pulse, pulse_of, strobe_sources}
-use Rattle.dft_cycle.specs.Laws.{Stands, StrobeIsAbove, TurnIsAbove}
-use Rattle.dft_cycle.proofs.Strobe.{SourcesAbove, strobe_above}
-use Rattle.dft_cycle.proofs.Pulses.{above_forced, again, tri_choice, cases, Holds, IsForced, rises_above, low_holds}
+use Rattle.dft_abstract.specs.Cycle.{Pulse, tri_forced_by, tri_taken_by, after_pulse, pulse_of, strobe_sources}
+use Rattle.dft_abstract.specs.Laws.{Stands, StrobeIsAbove, TurnIsAbove}
+use Rattle.dft_abstract.proofs.Strobe.{SourcesAbove, strobe_above}
+use Rattle.dft_abstract.proofs.Pulses.{above_forced, again, tri_choice, cases, Holds, IsForced, rises_above, low_holds}
 
 -- ---- the Set and the strobe
 

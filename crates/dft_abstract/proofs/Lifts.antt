@@ -6,10 +6,10 @@ use Rattle.dft_base.specs.Tri.{known, Above}
 use Rattle.dft_cells.proofs.Completions.{above_known}
 use Rattle.dft_netlist.specs.Logic.{Logic, IsRanked}
 use Rattle.dft_netlist.specs.Runs.{State, Now, Vector, Turn, IsTurn, after_turn, AreLow}
-use Rattle.dft_cycle.specs.Cycle.{IsClosed, after_pulse, pulse_of}
-use Rattle.dft_cycle.specs.Laws.{Stands, bits, KnownAfterTurn, KnownAtStrobe, LowAfterTurn}
-use Rattle.dft_cycle.proofs.Turns.{strobe_stands, turn_stands}
-use Rattle.dft_cycle.proofs.Views.{closed_exists, strobe_exists}
+use Rattle.dft_abstract.specs.Cycle.{IsClosed, after_pulse, pulse_of}
+use Rattle.dft_abstract.specs.Laws.{Stands, bits, KnownAfterTurn, KnownAtStrobe, LowAfterTurn}
+use Rattle.dft_abstract.proofs.Turns.{strobe_stands, turn_stands}
+use Rattle.dft_abstract.proofs.Views.{closed_exists, strobe_exists}
 
 -- a bit below a known value is it
 known_below : (a b : Bool) → Above (known a) b → b ≡ a

@@ -10,9 +10,9 @@ use Rattle.dft_netlist.specs.Drivers.{Source, Net, Tied, Loose}
 use Rattle.dft_netlist.specs.Logic.{Logic, Scan, IsRanked}
 use Rattle.dft_netlist.specs.Settled.{value_from, IsTriSettled}
 use Rattle.dft_netlist.specs.Runs.{Vector}
-use Rattle.dft_cycle.specs.Cycle.{Pulse, tri_forced_by, tri_taken_by, view_sources, AreViews, next_value, pulse_of, strobe_sources, Round}
-use Rattle.dft_cycle.specs.Laws.{HasNoLockup, next_from, OneDomain}
-use Rattle.dft_cycle.proofs.Views.{views_exist, settled_same}
+use Rattle.dft_abstract.specs.Cycle.{Pulse, tri_forced_by, tri_taken_by, view_sources, AreViews, next_value, pulse_of, strobe_sources, Round}
+use Rattle.dft_abstract.specs.Laws.{HasNoLockup, next_from, OneDomain}
+use Rattle.dft_abstract.proofs.Views.{views_exist, settled_same}
 
 source_equal : (v w : ℕ → Tri) (source : Source) → ((net : ℕ) → v net ≡ w net) → value_from v source ≡ value_from w source
 source_equal v w (Net net) same = same net

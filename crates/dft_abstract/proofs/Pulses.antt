@@ -11,7 +11,7 @@ use Rattle.dft_netlist.specs.Logic.{Logic, Meaning, Lockup, Force, Scan, IsRanke
 use Rattle.dft_netlist.specs.Settled.{bit_from, value_from}
 use Rattle.dft_netlist.specs.Runs.{State, Moment, Now, port_bits, sources_of, IsNow, forced_by, taken_by, held_after, rise, at_moment, next_now, after, AreSteps, Edge, rise_step, times}
 use Rattle.dft_netlist.proofs.Meanings.{completed_above, source_above, source_all, meaning_above, at_net}
-use Rattle.dft_cycle.specs.Cycle.{Pulse, tri_forced_by, tri_taken_by, view_sources, next_value, IsClosed}
+use Rattle.dft_abstract.specs.Cycle.{Pulse, tri_forced_by, tri_taken_by, view_sources, next_value, IsClosed}
 
 -- ---- flip-flops
 
