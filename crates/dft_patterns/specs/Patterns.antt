@@ -1,4 +1,4 @@
--- Patterns: signals, and vectors of acts at them.
+-- Patterns: signals, and vectors of acts at them (IEEE 1450-1999, a part).
 use Rattle.std.specs.Prelude.{◌≡◌, ◌≢◌, ℕ, ◌<◌, ◌^◌, Bool, true, false, List, [], length, take, drop, get_or, All, AllPairs}
 use Rattle.std.specs.List.{AllZip, prefix_len}
 use Rattle.dft_base.specs.declared.dir.Dir.{Dir}

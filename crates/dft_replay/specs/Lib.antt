@@ -1,4 +1,4 @@
-pub use Rattle.dft_cycle.specs.Cycle
+pub use Rattle.dft_abstract.specs.Cycle
 pub use Rattle.dft_patterns.specs.Patterns
 pub mod Rows
 pub mod Verdicts

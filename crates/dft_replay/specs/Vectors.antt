@@ -6,7 +6,7 @@ use Rattle.dft_netlist.specs.declared.ids.NetId.{NetId}
 use Rattle.dft_base.specs.declared.dir.Dir.{Dir}
 use Rattle.dft_netlist.specs.declared.port.Port.{Port}
 use Rattle.dft_netlist.specs.Orders.{Has, numbers_of}
-use Rattle.dft_cycle.specs.Cycle.{Round, IsRound, after_round}
+use Rattle.dft_abstract.specs.Cycle.{Round, IsRound, after_round}
 use Rattle.dft_cycle.specs.Machine.{Machine, value_at, logic}
 use Rattle.dft_cycle.specs.MachineLaws.{IsForced}
 use Rattle.dft_patterns.specs.declared.act.Act.{Act}

@@ -3,7 +3,7 @@
 ghost use Rattle.std.specs.Prelude.{◌≡◌, ◌<◌, ◌^◌, ℕ, List, All, None, length, IfOk, IfErr};
 ghost use Rattle.dft_netlist.specs.Logic.{logic_of};
 ghost use Rattle.dft_netlist.specs.Orders.{numbers_of};
-ghost use Rattle.dft_cycle.specs.Cycle.{all_unknown};
+ghost use Rattle.dft_abstract.specs.Cycle.{all_unknown};
 ghost use Rattle.dft_patterns.specs.Patterns.{IsWellFormed};
 ghost use Rattle.dft_replay.specs.Fits.{first_misfit, TellsMisfit};
 ghost use Rattle.dft_replay.specs.Laws.{HoldsInRuns};
