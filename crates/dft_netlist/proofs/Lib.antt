@@ -3,8 +3,6 @@ pub mod Steps
 pub mod Ranks
 pub mod OneSettled
 pub mod Walks
-mod TextExamples
-mod MoreTextExamples
 pub mod NameTableLemmas
 pub mod Places
 pub mod NamesLemmas

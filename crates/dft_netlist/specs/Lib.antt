@@ -21,12 +21,6 @@ pub mod NameTableShown
 pub mod BuilderShown
 pub mod Shown
 pub mod DesignLaws
-pub mod Lexemes
-pub mod Steps
-pub mod Modules
-pub mod Expressions
-pub mod Items
-pub mod NetlistText
 pub mod NamedParts
 pub mod Reading
 pub mod Notes

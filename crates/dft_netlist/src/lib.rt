@@ -20,7 +20,6 @@ mod pins;
 mod port;
 mod progress;
 mod root;
-mod text;
 
 pub use builder::DesignBuilder;
 pub use design::Design;
@@ -34,4 +33,3 @@ pub use net_driver::NetDriver;
 pub use pins::PinSignals;
 pub use port::{Dir, NetIds, Port};
 pub use root::Root;
-pub use text::{Cause, Declared, Fault, Meaning, Select, Shape, Site, TokenKind};

@@ -8,8 +8,8 @@ use Rattle.std.proofs.lemmas.Slice.Eq.{bytes_eq-Decides}
 use Rattle.std.proofs.lemmas.Bool.Decides.{same_from_decides, nat_tests}
 use Rattle.dft_base.specs.declared.place.Range.{Range}
 use Rattle.dft_netlist.specs.Names.{bit_name, bit_names, going_up, going_down}
-use Rattle.dft_netlist.specs.declared.text.Meaning.{Meaning}
-use Rattle.dft_netlist.specs.Modules.{Draft, Entry, first_taken, names_of_bits}
+use Rattle.dft_netlist_text.specs.declared.text.Meaning.{Meaning}
+use Rattle.dft_netlist_text.specs.Modules.{Draft, Entry, first_taken, names_of_bits}
 use Rattle.dft_verilog.specs.Free.{AreFree, AreFreeBits, bit_entry, IsApart, AreApart, AreBitsApart}
 use Rattle.dft_verilog.specs.TakenNames.{meaning_in}
 

@@ -4,7 +4,7 @@ use Rattle.std.proofs.lemmas.Bool.Decides.{nat_tests}
 use Rattle.dft_base.specs.Lexing.{Text}
 use Rattle.std.specs.Prelude.{codes, take}
 use Rattle.std.specs.List.{prefix_len}
-use Rattle.dft_netlist.specs.Lexemes.{is_space, begins_with, comment_rest, attribute_rest, closed_len, word_len, is_passed_over, blank_len, begins_blank, is_passed_directive, directive_len, to_blank}
+use Rattle.dft_netlist_text.specs.Lexemes.{is_space, begins_with, comment_rest, attribute_rest, closed_len, word_len, is_passed_over, blank_len, begins_blank, is_passed_directive, directive_len, to_blank}
 
 unpassed : (t : Bool) (len : ℕ) → 0 < len → cond t len 0 ≡ 0 → t ≡ false
 unpassed true len some none = absurd (omega arith)

@@ -5,18 +5,18 @@ use Rattle.std.proofs.Math.Seq.{drop-append_seam}
 use Rattle.std.proofs.lemmas.Bool.Decides.{nat_tests}
 use Rattle.dft_base.specs.declared.place.Range.{Range}
 use Rattle.dft_base.specs.Parser.{Checked}
-use Rattle.dft_netlist.specs.declared.text.Cause.TheVariants as cause
+use Rattle.dft_netlist_text.specs.declared.text.Cause.TheVariants as cause
 use Rattle.dft_netlist.specs.declared.error.Counted.TheVariants as counted
-use Rattle.dft_netlist.specs.Steps.{fault}
-use Rattle.dft_netlist.specs.declared.text.Fault.{Fault}
-use Rattle.dft_netlist.specs.declared.text.Meaning.{Meaning}
+use Rattle.dft_netlist_text.specs.Steps.{fault}
+use Rattle.dft_netlist_text.specs.declared.text.Fault.{Fault}
+use Rattle.dft_netlist_text.specs.declared.text.Meaning.{Meaning}
 use Rattle.dft_netlist.specs.declared.limits.TheConstants.{MAX_NETS, MAX_PORTS}
 use Rattle.dft_netlist.specs.Names.{bit_names, bit_name, going_up, going_down, indices_of}
-use Rattle.dft_netlist.specs.Modules.{Draft, net_count, names_of_bits, first_taken, free_bits, room_for_nets, width, with_nets, with_bits, next_shape}
+use Rattle.dft_netlist_text.specs.Modules.{Draft, net_count, names_of_bits, first_taken, free_bits, room_for_nets, width, with_nets, with_bits, next_shape}
 use Rattle.dft_verilog.specs.Free.{new_bits, unless_taken, with_bits_of, AreFreeBits}
 use Rattle.dft_verilog.specs.Drafts.{IsShapeWithin}
 use Rattle.dft_verilog.proofs.BitNameLemmas.{first_indices-all}
-use Rattle.dft_netlist.specs.declared.text.Shape.{Shape}
+use Rattle.dft_netlist_text.specs.declared.text.Shape.{Shape}
 
 -- ---- the tests
 

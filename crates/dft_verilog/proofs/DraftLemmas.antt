@@ -5,16 +5,16 @@ use Rattle.dft_verilog.specs.TakenNames.{meaning_in}
 use Rattle.std.proofs.lemmas.List.Elements.{All-weaker, All-head, All-tail}
 use Rattle.dft_base.specs.Lexing.{Text}
 use Rattle.dft_cells.specs.declared.cell.Cell.{Cell}
-use Rattle.dft_netlist.specs.declared.text.Meaning.{Meaning}
-use Rattle.dft_netlist.specs.declared.text.Meaning.TheVariants as meaning
-use Rattle.dft_netlist.specs.declared.text.Declared.{Declared}
+use Rattle.dft_netlist_text.specs.declared.text.Meaning.{Meaning}
+use Rattle.dft_netlist_text.specs.declared.text.Meaning.TheVariants as meaning
+use Rattle.dft_netlist_text.specs.declared.text.Declared.{Declared}
 use Rattle.dft_netlist.specs.declared.instance.Signal.{Signal}
 use Rattle.dft_netlist.specs.declared.instance.Signal.TheVariants as signal
 use Rattle.dft_netlist.specs.declared.instance.Instance.{Instance}
 use Rattle.dft_netlist.specs.declared.instance.Join.{Join}
 use Rattle.dft_netlist.specs.declared.limits.TheConstants.{MAX_NETS}
 use Rattle.dft_netlist.specs.Sound.{IsLive}
-use Rattle.dft_netlist.specs.Modules.{Draft, HeaderPort, Entry}
+use Rattle.dft_netlist_text.specs.Modules.{Draft, HeaderPort, Entry}
 use Rattle.dft_verilog.specs.Drafts.{IsDraft, IsMeaningWithin, AreNamesWithin, IsDeclaredWithin, InstanceFits, JoinFits, bare, nets_alone}
 
 -- ---- more nets

@@ -2,7 +2,7 @@
 use Rattle.std.proofs.Common.{◌≡◌, ℕ, List, [], ◌∷◌, ◌++◌, Option, Some, Result, Ok, Err, OnOk, refl, sym, ap, ◌∙◌, subst}
 use Rattle.std.proofs.lemmas.List.Elements.{All-push}
 use Rattle.dft_base.specs.declared.place.Range.{Range}
-use Rattle.dft_netlist.specs.Modules.{Draft, Entry, with_bits}
+use Rattle.dft_netlist_text.specs.Modules.{Draft, Entry, with_bits}
 use Rattle.dft_verilog.specs.Drafts.{AreNamesWithin, IsMeaningWithin}
 use Rattle.dft_verilog.specs.Free.{AreFree, and_bits, bit_entry, with_bits_of}
 

@@ -4,8 +4,8 @@ use Rattle.std.proofs.lemmas.Bool.Decides.{nat_tests}
 use Rattle.std.proofs.lemmas.List.{drop-take}
 use Rattle.dft_base.specs.Lexing.{Text, Blank, Cut, tokens_from}
 use Rattle.dft_base.proofs.LexingLemmas.{tokens_from-blank, tokens_from-cut}
-use Rattle.dft_netlist.specs.Lexemes.{Lexeme, front, lexeme, token_of, blank_len, is_base_kind}
-use Rattle.dft_netlist.specs.Steps.{kind_of, bytes, left, next}
+use Rattle.dft_netlist_text.specs.Lexemes.{Lexeme, front, lexeme, token_of, blank_len, is_base_kind}
+use Rattle.dft_netlist_text.specs.Steps.{kind_of, bytes, left, next}
 
 blank_front : (mode : Bool) (text : Text) (len : ℕ) → blank_len text ≡ len → 0 < len → front mode text ≡ Blank len
 blank_front mode text len e some =

@@ -8,7 +8,7 @@ use Rattle.std.proofs.lemmas.List.Sums.{prefix_len_passes, prefix_len-le-length}
 use Rattle.dft_base.specs.Lexing.{Text}
 use Rattle.dft_base.specs.Name.{IsName}
 use Rattle.dft_base.specs.Words.{begins_word, continues_word}
-use Rattle.dft_netlist.specs.Lexemes.{is_printed, is_in_digits, word_len}
+use Rattle.dft_netlist_text.specs.Lexemes.{is_printed, is_in_digits, word_len}
 
 -- a byte that may stand in a name
 abbrev IsPrinted : ℕ → Type 0

@@ -8,20 +8,20 @@ use Rattle.dft_base.specs.declared.place.Range.{Range}
 use Rattle.dft_base.specs.Parser.{Checked}
 use Rattle.dft_netlist.specs.declared.instance.Signal.{Signal}
 use Rattle.dft_netlist.specs.declared.instance.Signal.TheVariants as signal
-use Rattle.dft_netlist.specs.declared.text.Declared.{Declared}
-use Rattle.dft_netlist.specs.declared.text.Cause.TheVariants as cause
-use Rattle.dft_netlist.specs.declared.text.Fault.{Fault}
+use Rattle.dft_netlist_text.specs.declared.text.Declared.{Declared}
+use Rattle.dft_netlist_text.specs.declared.text.Cause.TheVariants as cause
+use Rattle.dft_netlist_text.specs.declared.text.Fault.{Fault}
 use Rattle.dft_netlist.specs.declared.error.Counted.TheVariants as counted
 use Rattle.dft_netlist.specs.declared.limits.TheConstants.{MAX_NETS}
-use Rattle.dft_netlist.specs.Steps.{fault}
-use Rattle.dft_netlist.specs.declared.text.Meaning.{Meaning}
-use Rattle.dft_netlist.specs.declared.text.Meaning.TheVariants as meaning
-use Rattle.dft_netlist.specs.declared.text.Select.{Select}
-use Rattle.dft_netlist.specs.declared.text.Select.TheVariants as select
-use Rattle.dft_netlist.specs.declared.text.Shape.{Shape}
-use Rattle.dft_netlist.specs.declared.text.Site.{Site}
-use Rattle.dft_netlist.specs.Modules.{Draft, HeaderPort, meaning_of, declared_at, declare_nets, net_count, falls, width, is_taken, with_name, with_nets, next_shape}
-use Rattle.dft_netlist.specs.Expressions.{Named, Operand, nets_of_shape, has_index, place_in, has_part, selected_in, selected, fitting, implied_net, bits_of_port, bits_of_meaning, bits_of_name, implies, is_whole}
+use Rattle.dft_netlist_text.specs.Steps.{fault}
+use Rattle.dft_netlist_text.specs.declared.text.Meaning.{Meaning}
+use Rattle.dft_netlist_text.specs.declared.text.Meaning.TheVariants as meaning
+use Rattle.dft_netlist_text.specs.declared.text.Select.{Select}
+use Rattle.dft_netlist_text.specs.declared.text.Select.TheVariants as select
+use Rattle.dft_netlist_text.specs.declared.text.Shape.{Shape}
+use Rattle.dft_netlist_text.specs.declared.text.Site.{Site}
+use Rattle.dft_netlist_text.specs.Modules.{Draft, HeaderPort, meaning_of, declared_at, declare_nets, net_count, falls, width, is_taken, with_name, with_nets, next_shape}
+use Rattle.dft_netlist_text.specs.Expressions.{Named, Operand, nets_of_shape, has_index, place_in, has_part, selected_in, selected, fitting, implied_net, bits_of_port, bits_of_meaning, bits_of_name, implies, is_whole}
 use Rattle.dft_verilog.specs.Drafts.{IsDraft, IsShapeWithin, IsMeaningWithin, IsDeclaredWithin}
 use Rattle.dft_verilog.specs.Operands.{Grows, IsBit, AreBits}
 use Rattle.dft_verilog.specs.Selecting.{behind}

@@ -4,7 +4,7 @@ use Rattle.std.proofs.lemmas.List.Elements.{All-append, All-map}
 use Rattle.dft_netlist.specs.declared.ids.NetId.{NetId}
 use Rattle.dft_netlist.specs.declared.instance.Signal.{Signal}
 use Rattle.dft_netlist.specs.declared.instance.Signal.TheVariants as signal
-use Rattle.dft_netlist.specs.Modules.{Draft}
+use Rattle.dft_netlist_text.specs.Modules.{Draft}
 use Rattle.dft_netlist.specs.Sound.{IsLive, IsConnected}
 use Rattle.dft_verilog.specs.Drafts.{JoinFits, nets_alone}
 use Rattle.dft_verilog.specs.Operands.{Grows, IsBit, AreBits}

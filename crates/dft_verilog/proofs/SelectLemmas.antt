@@ -2,10 +2,10 @@
 use Rattle.std.proofs.Common.{◌≡◌, ℕ, zero, suc, ◌+◌, List, [], ◌∷◌, ◌++◌, refl, sym, ap, ◌∙◌, arith, add-zero, add-one, append_assoc, Bool, true, ◌&&◌, Option, None, ap₂}
 use Rattle.dft_netlist.specs.declared.instance.Signal.{Signal}
 use Rattle.dft_netlist.specs.declared.instance.Signal.TheVariants as signal
-use Rattle.dft_netlist.specs.Expressions.{nets_of_shape, Named, implies, is_whole, bits_of_name, bits_of_meaning, implied_net}
-use Rattle.dft_netlist.specs.declared.text.Site.{Site}
-use Rattle.dft_netlist.specs.declared.text.Meaning.{Meaning}
-use Rattle.dft_netlist.specs.Modules.{Draft, meaning_of, declare_nets}
+use Rattle.dft_netlist_text.specs.Expressions.{nets_of_shape, Named, implies, is_whole, bits_of_name, bits_of_meaning, implied_net}
+use Rattle.dft_netlist_text.specs.declared.text.Site.{Site}
+use Rattle.dft_netlist_text.specs.declared.text.Meaning.{Meaning}
+use Rattle.dft_netlist_text.specs.Modules.{Draft, meaning_of, declare_nets}
 
 -- the signal of a net
 abbrev pub net_signal : ℕ → Signal

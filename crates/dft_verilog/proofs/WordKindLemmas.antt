@@ -3,8 +3,8 @@ use Rattle.std.proofs.Common.{◌≡◌, ℕ, List, Bool, true, false, codes, re
 use Rattle.std.specs.Str.{bytes_eq}
 use Rattle.std.proofs.lemmas.Slice.Eq.{bytes_eq-Decides}
 use Rattle.dft_base.specs.Words.{is_reserved, reserved_words}
-use Rattle.dft_netlist.specs.Lexemes.{word_kind}
-use Rattle.dft_netlist.specs.declared.text.TokenKind.TheVariants as kind
+use Rattle.dft_netlist_text.specs.Lexemes.{word_kind}
+use Rattle.dft_netlist_text.specs.declared.text.TokenKind.TheVariants as kind
 
 is_other : (t : Bool) (word known : List ℕ) → bytes_eq word known ≡ t → is_reserved known ≡ true → is_reserved word ≡ false → t ≡ false
 is_other true word known same reserved free = sym reserved ∙ ap is_reserved (sym ((bytes_eq-Decides word known).0 same)) ∙ free

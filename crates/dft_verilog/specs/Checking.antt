@@ -1,7 +1,7 @@
 -- What a test of a meaning ensures.
 use Rattle.std.specs.Prelude.{◌≡◌, Result, Ok, Err}
 use Rattle.dft_base.specs.Parser.{Checked}
-use Rattle.dft_netlist.specs.declared.text.Fault.{Fault}
+use Rattle.dft_netlist_text.specs.declared.text.Fault.{Fault}
 use Rattle.dft_verilog.specs.declared.read_error.ReadError.{ReadError}
 use Rattle.dft_verilog.specs.declared.read_error.ReadError.TheVariants as error
 

@@ -1,6 +1,6 @@
 -- The bits of a constant.
 use Rattle.std.specs.Prelude.{Bool, List}
-use Rattle.dft_netlist.specs.Expressions.{bits_of_value}
+use Rattle.dft_netlist_text.specs.Expressions.{bits_of_value}
 use Rattle.dft_verilog.specs.declared.constants.SizedConstant.{SizedConstant}
 
 -- leftmost first

@@ -1,8 +1,8 @@
 -- What the code's tokens are in the words of the definitions.
 use Rattle.std.specs.Prelude.{Bool, true, false}
-use Rattle.dft_netlist.specs.Lexemes as spec
-use Rattle.dft_netlist.specs.declared.text.TokenKind.{TokenKind}
-use Rattle.dft_netlist.specs.declared.text.TokenKind.TheVariants as kind
+use Rattle.dft_netlist_text.specs.Lexemes as spec
+use Rattle.dft_netlist_text.specs.declared.text.TokenKind.{TokenKind}
+use Rattle.dft_netlist_text.specs.declared.text.TokenKind.TheVariants as kind
 use Rattle.dft_verilog.specs.declared.lexeme.Lexeme as code
 
 -- a token in front as the definitions have it

@@ -4,12 +4,12 @@ use Rattle.std.specs.Str.{bytes_eq}
 use Rattle.dft_base.specs.declared.place.Range.{Range}
 use Rattle.dft_base.specs.Lexing.{Text}
 use Rattle.dft_base.specs.Parser.{Checked}
-use Rattle.dft_netlist.specs.declared.text.Cause.TheVariants as cause
-use Rattle.dft_netlist.specs.declared.text.Fault.{Fault}
-use Rattle.dft_netlist.specs.declared.text.Meaning.TheVariants as meaning
+use Rattle.dft_netlist_text.specs.declared.text.Cause.TheVariants as cause
+use Rattle.dft_netlist_text.specs.declared.text.Fault.{Fault}
+use Rattle.dft_netlist_text.specs.declared.text.Meaning.TheVariants as meaning
 use Rattle.dft_netlist.specs.Names.{bit_names}
-use Rattle.dft_netlist.specs.Steps.{fault}
-use Rattle.dft_netlist.specs.Modules.{Draft, Entry, first_taken, names_of_bits, with_bits}
+use Rattle.dft_netlist_text.specs.Steps.{fault}
+use Rattle.dft_netlist_text.specs.Modules.{Draft, Entry, first_taken, names_of_bits, with_bits}
 use Rattle.dft_verilog.specs.TakenNames.{meaning_in}
 
 -- the name of a bit is taken

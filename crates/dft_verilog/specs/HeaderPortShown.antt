@@ -1,5 +1,5 @@
 -- What a `HeaderPort` shows.
-use Rattle.dft_netlist.specs.Modules as spec
+use Rattle.dft_netlist_text.specs.Modules as spec
 use Rattle.dft_verilog.specs.declared.header_port.HeaderPort.TheInside.{Inside}
 
 abbrev pub header_port_of : Inside → spec.HeaderPort

@@ -1,7 +1,7 @@
 pub mod Cut
 pub mod Reading
 pub mod TokensAhead
-pub use Rattle.dft_netlist.specs.NetlistText
+pub use Rattle.dft_netlist_text.specs.NetlistText
 pub mod TakenNames
 pub mod TakenNamesShown
 pub mod HeaderPortShown

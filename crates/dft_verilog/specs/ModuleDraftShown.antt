@@ -1,5 +1,5 @@
 -- What a `ModuleDraft` shows, and what holds of it.
-use Rattle.dft_netlist.specs.Modules.{Draft}
+use Rattle.dft_netlist_text.specs.Modules.{Draft}
 use Rattle.dft_verilog.specs.Drafts.{IsDraft}
 use Rattle.dft_verilog.specs.declared.module_draft.ModuleDraft.TheInside.{Inside}
 

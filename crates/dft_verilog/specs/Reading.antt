@@ -1,8 +1,8 @@
 -- What a function that reads a part of a netlist text ensures.
 use Rattle.std.specs.Prelude.{◌≡◌, List, Result, Ok, Err}
-use Rattle.dft_netlist.specs.Lexemes.{Token}
-use Rattle.dft_netlist.specs.Steps.{Outcome}
-use Rattle.dft_netlist.specs.declared.text.Fault.{Fault}
+use Rattle.dft_netlist_text.specs.Lexemes.{Token}
+use Rattle.dft_netlist_text.specs.Steps.{Outcome}
+use Rattle.dft_netlist_text.specs.declared.text.Fault.{Fault}
 use Rattle.dft_verilog.specs.declared.read_error.ReadError.{ReadError}
 use Rattle.dft_verilog.specs.declared.read_error.ReadError.TheVariants as errors
 

@@ -2,10 +2,10 @@
 use Rattle.std.specs.Prelude.{ℕ, List, ◌++◌, Option, Some, None, Ok, Err}
 use Rattle.dft_base.specs.Parser.{Checked}
 use Rattle.dft_netlist.specs.declared.instance.Signal.{Signal}
-use Rattle.dft_netlist.specs.declared.text.Cause.TheVariants as cause
-use Rattle.dft_netlist.specs.declared.text.Fault.{Fault}
-use Rattle.dft_netlist.specs.Steps.{fault}
-use Rattle.dft_netlist.specs.Expressions.{Operand, nets_of_shape}
+use Rattle.dft_netlist_text.specs.declared.text.Cause.TheVariants as cause
+use Rattle.dft_netlist_text.specs.declared.text.Fault.{Fault}
+use Rattle.dft_netlist_text.specs.Steps.{fault}
+use Rattle.dft_netlist_text.specs.Expressions.{Operand, nets_of_shape}
 use Rattle.dft_verilog.specs.declared.selecting.Run.{Run}
 
 -- the signals of nets with numbers one after the other

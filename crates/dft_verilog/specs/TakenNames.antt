@@ -2,8 +2,8 @@
 use Rattle.std.specs.Prelude.{List, find, Option, option_map}
 use Rattle.std.specs.Str.{bytes_eq}
 use Rattle.dft_base.specs.Lexing.{Text}
-use Rattle.dft_netlist.specs.declared.text.Meaning.{Meaning}
-use Rattle.dft_netlist.specs.Modules.{Entry}
+use Rattle.dft_netlist_text.specs.declared.text.Meaning.{Meaning}
+use Rattle.dft_netlist_text.specs.Modules.{Entry}
 
 -- what a name stands for, if it is one of these
 abbrev pub meaning_in : List Entry → Text → Option Meaning

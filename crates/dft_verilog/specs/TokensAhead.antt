@@ -2,7 +2,7 @@
 use Rattle.std.specs.Prelude.{◌≡◌, ◌<◌, ◌≤◌, List, true, length, take, drop}
 use Rattle.dft_base.specs.Lexing.{tokens_from}
 use Rattle.dft_base.specs.Name.{IsName}
-use Rattle.dft_netlist.specs.Lexemes.{Token, front, lexeme, blank_len}
+use Rattle.dft_netlist_text.specs.Lexemes.{Token, front, lexeme, blank_len}
 use Rattle.dft_verilog.specs.declared.blanks.TheConstants.{MAX_TEXT}
 use Rattle.dft_verilog.specs.declared.cursor.Tokens.TheInside.{Inside}
 use Rattle.dft_verilog.specs.Cut.{shown, carries_name}

@@ -2,7 +2,7 @@
 
 ghost use Rattle.std.specs.Prelude.{◌≡◌, ◌<◌, Some, IfOk};
 ghost use Rattle.dft_base.specs.Name.{IsName};
-ghost use Rattle.dft_netlist.specs.Modules as spec;
+ghost use Rattle.dft_netlist_text.specs.Modules as spec;
 ghost use Rattle.dft_netlist.specs.Names as names;
 ghost use Rattle.dft_verilog.specs.BitNames as bits;
 ghost use Rattle.dft_verilog.specs.Free.{AreBitsApart};

@@ -3,7 +3,7 @@
 ghost use Rattle.std.specs.Prelude.{false, ◌≡◌, ◌≤◌, ◌<◌, ◌+◌, ◌-◌, ◌^◌, ◌==◌, ◌&&◌, ◌||◌, nat_le, not, [], ◌∷◌, length, drop, IfSome};
 ghost use Rattle.std.specs.List.{prefix_len};
 ghost use Rattle.dft_base.specs.Words as words;
-ghost use Rattle.dft_netlist.specs.Lexemes as spec;
+ghost use Rattle.dft_netlist_text.specs.Lexemes as spec;
 
 /// The most bytes that a netlist text may have: 64 MiB.
 pub const MAX_TEXT: usize = 67_108_864;
@@ -88,7 +88,7 @@ fn begins_with_pair(text: &[u8], first: u8, second: u8) -> bool
     matches!(text, [a, b, ..] if *a == first && *b == second)
 }
 
-#[tactic(auto, unfolding(dft_netlist::specs::Lexemes::comment_rest))]
+#[tactic(auto, unfolding(dft_netlist_text::specs::Lexemes::comment_rest))]
 // How many bytes a comment has from behind its opening to behind the next `*/`.
 fn comment_rest(text: &[u8]) -> Option<usize>
     ensures value { result ≡ spec.comment_rest text.now }
@@ -104,7 +104,7 @@ fn comment_rest(text: &[u8]) -> Option<usize>
     None
 }
 
-#[tactic(auto, unfolding(dft_netlist::specs::Lexemes::attribute_rest))]
+#[tactic(auto, unfolding(dft_netlist_text::specs::Lexemes::attribute_rest))]
 // How many bytes an attribute has from behind its opening to behind the next `*)` that stands in no quotes.
 fn attribute_rest(text: &[u8]) -> Option<usize>
     ensures value { result ≡ spec.attribute_rest false text.now }
@@ -178,7 +178,7 @@ pub fn blank_len(text: &[u8]) -> usize
     }
 }
 
-#[tactic(auto, unfolding(dft_netlist::specs::Lexemes::blank_len))]
+#[tactic(auto, unfolding(dft_netlist_text::specs::Lexemes::blank_len))]
 // How many bytes of blank stand at the front.
 #[inline(never)]
 fn any_blank_len(text: &[u8]) -> usize
@@ -197,7 +197,7 @@ fn any_blank_len(text: &[u8]) -> usize
     }
 }
 
-#[tactic(auto, unfolding(dft_netlist::specs::Lexemes::begins_blank))]
+#[tactic(auto, unfolding(dft_netlist_text::specs::Lexemes::begins_blank))]
 /// Whether a blank begins here, closed or not.
 pub fn begins_blank(text: &[u8]) -> bool
     requires { 0 < length text.now }

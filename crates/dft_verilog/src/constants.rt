@@ -4,7 +4,7 @@ ghost use Rattle.std.specs.Prelude.{◌≡◌, ◌≤◌, ◌==◌, not, find, I
 ghost use Rattle.std.specs.List.{list_all};
 ghost use Rattle.std.specs.Char.{is_digit};
 ghost use Rattle.dft_base.specs.Name.{IsName};
-ghost use Rattle.dft_netlist.specs.Expressions as spec;
+ghost use Rattle.dft_netlist_text.specs.Expressions as spec;
 ghost use Rattle.dft_verilog.specs.Constants.{bits_of_constant};
 ghost use Rattle.dft_verilog.specs.Reading.{Reads};
 
@@ -14,7 +14,7 @@ use crate::numbers::{digit, value_of_digits};
 use crate::ranges::number;
 use crate::read_error::ReadError;
 use dft_base::{Name, is_reserved};
-use dft_netlist::{Cause, TokenKind};
+use dft_netlist_text::{Cause, TokenKind};
 use std::alloc::{AllocError, Global};
 
 /// A constant of so many bits, at most 128. A larger value is cut from the left.
@@ -79,7 +79,7 @@ fn cause_of_digits(alloc: Global, radix: u8, word: &[u8]) -> Result<Option<Cause
     }
 }
 
-#[tactic(auto, unfolding(dft_netlist::specs::Expressions::digits))]
+#[tactic(auto, unfolding(dft_netlist_text::specs::Expressions::digits))]
 // The digits behind a base, as a constant of this size.
 fn digits(
     alloc: Global,
@@ -102,7 +102,7 @@ fn digits(
     }
 }
 
-#[tactic(auto, unfolding(dft_netlist::specs::Expressions::constant))]
+#[tactic(auto, unfolding(dft_netlist_text::specs::Expressions::constant))]
 /// A size of 1 to 128 bits, a base and digits, whose value is below 2^128.
 pub fn constant(alloc: Global, tokens: &mut Tokens<'_>) -> Result<SizedConstant, ReadError>
     ensures read { Reads bits_of_constant (spec.constant tokens.old) result tokens.new }

@@ -3,9 +3,9 @@
 ghost use Rattle.std.specs.Prelude.{Bool, true, ◌≡◌, ◌≤◌, ◌<◌, length, IfOk};
 ghost use Rattle.dft_base.specs.Lexing.{tokens_from};
 ghost use Rattle.dft_base.specs.Name.{IsName};
-ghost use Rattle.dft_netlist.specs.Lexemes as lexical;
-ghost use Rattle.dft_netlist.specs.Steps as spec;
-ghost use Rattle.dft_netlist.specs.declared.text.TokenKind.TheVariants as kinds;
+ghost use Rattle.dft_netlist_text.specs.Lexemes as lexical;
+ghost use Rattle.dft_netlist_text.specs.Steps as spec;
+ghost use Rattle.dft_netlist_text.specs.declared.text.TokenKind.TheVariants as kinds;
 ghost use Rattle.dft_verilog.specs.Cut.{carries_name};
 ghost use Rattle.dft_verilog.specs.Reading.{Reads, Faults};
 
@@ -13,7 +13,7 @@ use crate::blanks::{MAX_TEXT, blank_len};
 use crate::lexeme::{Lexeme, cut};
 use crate::read_error::ReadError;
 use dft_base::Name;
-use dft_netlist::{Cause, Fault, TokenKind};
+use dft_netlist_text::{Cause, Fault, TokenKind};
 use std::alloc::{AllocError, Global};
 use std::marker::Model;
 
@@ -32,7 +32,7 @@ pub struct Tokens<'a> {
 
 impl<'a> Model for Tokens<'a> {
     ghost use Rattle.std.specs.Prelude.{List};
-    ghost use Rattle.dft_netlist.specs.Lexemes.{Token};
+    ghost use Rattle.dft_netlist_text.specs.Lexemes.{Token};
 
     ghost Value = { List Token };
 
@@ -128,7 +128,7 @@ impl<'a> Tokens<'a> {
         bytes
     }
 
-    #[tactic(auto, unfolding(dft_netlist::specs::Steps::sees, dft_netlist::specs::Steps::same_kind))]
+    #[tactic(auto, unfolding(dft_netlist_text::specs::Steps::sees, dft_netlist_text::specs::Steps::same_kind))]
     /// Whether a token of this kind comes next.
     pub fn sees(&self, kind: TokenKind) -> bool
         ensures value { result ≡ spec.sees kind self.now }
@@ -137,7 +137,7 @@ impl<'a> Tokens<'a> {
         self.kind() == kind
     }
 
-    #[tactic(auto, unfolding(dft_netlist::specs::Steps::after))]
+    #[tactic(auto, unfolding(dft_netlist_text::specs::Steps::after))]
     /// Takes a token of this kind, if it comes next.
     pub fn eat(&mut self, kind: TokenKind) -> bool
         ensures found { result ≡ spec.sees kind self.old }
@@ -150,7 +150,7 @@ impl<'a> Tokens<'a> {
         found
     }
 
-    #[tactic(auto, unfolding(dft_netlist::specs::Steps::expect))]
+    #[tactic(auto, unfolding(dft_netlist_text::specs::Steps::expect))]
     /// Takes a token of this kind, which must come next; else the next token is refused.
     #[inline(always)]
     pub fn expect(&mut self, kind: TokenKind) -> Result<&'a [u8], ReadError>
@@ -164,7 +164,7 @@ impl<'a> Tokens<'a> {
         }
     }
 
-    #[tactic(auto, unfolding(dft_netlist::specs::Steps::refusal))]
+    #[tactic(auto, unfolding(dft_netlist_text::specs::Steps::refusal))]
     /// That no rule takes the next token.
     #[cold]
     pub fn refusal(&self) -> ReadError

@@ -2,7 +2,7 @@
 
 ghost use Rattle.std.specs.Prelude.{◌≡◌, ◌+◌, ◌≤◌, ◌++◌, length, not, nat_lt, None, Some, Ok, IfOk, option_copied};
 ghost use Rattle.dft_base.specs.Name.{IsName};
-ghost use Rattle.dft_netlist.specs.Modules as spec;
+ghost use Rattle.dft_netlist_text.specs.Modules as spec;
 ghost use Rattle.dft_verilog.specs.Checking.{Checks};
 ghost use Rattle.dft_verilog.specs.Free.{AreBitsApart, new_bits};
 
@@ -13,9 +13,8 @@ use crate::module_draft::ModuleDraft;
 use crate::read_error::ReadError;
 use crate::word::Word;
 use dft_base::{Name, Range};
-use dft_netlist::{
-    Cause, Counted, Declared, Dir, MAX_INSTANCES, MAX_NETS, MAX_PORTS, Meaning, NetId, Shape,
-};
+use dft_netlist::{Counted, Dir, MAX_INSTANCES, MAX_NETS, MAX_PORTS, NetId};
+use dft_netlist_text::{Cause, Declared, Meaning, Shape};
 
 /// The place in the header that a name stands for.
 fn port_place(meaning: Option<Meaning>) -> Option<usize>

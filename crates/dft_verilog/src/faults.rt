@@ -2,12 +2,13 @@
 
 ghost use Rattle.std.specs.Prelude.{◌≡◌};
 ghost use Rattle.dft_base.specs.Name.{IsName};
-ghost use Rattle.dft_netlist.specs.Steps.{fault};
+ghost use Rattle.dft_netlist_text.specs.Steps.{fault};
 ghost use Rattle.dft_verilog.specs.Checking.{Refuses};
 
 use crate::read_error::ReadError;
 use dft_base::Name;
-use dft_netlist::{Cause, Counted, Fault};
+use dft_netlist::Counted;
+use dft_netlist_text::{Cause, Fault};
 use std::alloc::Global;
 
 /// The name is taken.

@@ -3,7 +3,7 @@
 
 ghost use Rattle.std.specs.Prelude.{◌≡◌, [], ◌∷◌, length, unwrap_or, IfOk, OnOk, IfErr};
 ghost use Rattle.dft_netlist.specs.Building.{empty_netlist};
-ghost use Rattle.dft_netlist.specs.NetlistText as spec;
+ghost use Rattle.dft_netlist_text.specs.NetlistText as spec;
 ghost use Rattle.dft_netlist.specs.Sound.{HasOnlyPorts};
 ghost use Rattle.dft_verilog.specs.Drafts.{InstanceFits, JoinFits, nets_alone};
 ghost use Rattle.dft_verilog.specs.FinalNets.{name_unless, without_number, all_numbered, AreFinal};

@@ -1,7 +1,7 @@
 ghost use Rattle.std.specs.Prelude.{◌≡◌};
 
 use dft_base::Name;
-use dft_netlist::Declared;
+use dft_netlist_text::Declared;
 use std::marker::Model;
 
 /// A port of a module's header: its name, and how it was declared, once it was.
@@ -12,7 +12,7 @@ pub struct HeaderPort {
 }
 
 impl Model for HeaderPort {
-    ghost use Rattle.dft_netlist.specs.Modules as spec;
+    ghost use Rattle.dft_netlist_text.specs.Modules as spec;
 
     ghost Value = { spec.HeaderPort };
 

@@ -5,14 +5,14 @@ ghost use Rattle.std.specs.List.{All, prefix_len};
 ghost use Rattle.std.specs.Char.{is_ascii_digit};
 ghost use Rattle.dft_base.specs.Name.{IsName};
 ghost use Rattle.dft_base.specs.Words.{begins_word};
-ghost use Rattle.dft_netlist.specs.Lexemes as spec;
-ghost use Rattle.dft_netlist.specs.declared.text.TokenKind.TheVariants as kind;
+ghost use Rattle.dft_netlist_text.specs.Lexemes as spec;
+ghost use Rattle.dft_netlist_text.specs.declared.text.TokenKind.TheVariants as kind;
 ghost use Rattle.dft_verilog.specs.Cut.{carries_name, shown};
 
 use crate::blanks::{MAX_TEXT, begins_blank, is_printed, is_space, word_len};
 use crate::words::{mark_kind, word_kind};
 use dft_base::begins_word;
-use dft_netlist::TokenKind;
+use dft_netlist_text::TokenKind;
 
 /// The token at the front of a text.
 #[derive(Clone, Copy, Debug)]
@@ -114,7 +114,7 @@ fn to_space(text: &[u8]) -> usize
     text.iter().take_while(|byte| !is_space(**byte)).count()
 }
 
-#[tactic(auto, unfolding(dft_netlist::specs::Lexemes::to_blank))]
+#[tactic(auto, unfolding(dft_netlist_text::specs::Lexemes::to_blank))]
 // How many bytes stand before the next blank.
 fn to_blank(text: &[u8]) -> usize
     ensures value { result ≡ spec.to_blank text.now }
@@ -130,7 +130,7 @@ fn to_blank(text: &[u8]) -> usize
     text.len()
 }
 
-#[tactic(auto, unfolding(dft_netlist::specs::Lexemes::escaped))]
+#[tactic(auto, unfolding(dft_netlist_text::specs::Lexemes::escaped))]
 // A name behind a backslash goes to the next space, and has a byte at least.
 #[inline(never)]
 fn escaped(behind: &[u8]) -> Lexeme
@@ -163,7 +163,7 @@ fn is_base(byte: u8) -> bool
     matches!(byte, b'b' | b'B' | b'o' | b'O' | b'd' | b'D' | b'h' | b'H')
 }
 
-#[tactic(auto, unfolding(dft_netlist::specs::Lexemes::quote))]
+#[tactic(auto, unfolding(dft_netlist_text::specs::Lexemes::quote))]
 // A quote, with the letter of a base behind it; at the end of the text a quote waits for one.
 #[inline(never)]
 fn quote(behind: &[u8]) -> Lexeme
@@ -187,7 +187,7 @@ fn quote(behind: &[u8]) -> Lexeme
     }
 }
 
-#[tactic(auto, using(crate::proofs::BlankLemmas::before_blank), unfolding(dft_netlist::specs::Lexemes::directive))]
+#[tactic(auto, using(crate::proofs::BlankLemmas::before_blank), unfolding(dft_netlist_text::specs::Lexemes::directive))]
 // A `#` or another directive goes to the next blank.
 #[inline(never)]
 fn directive(text: &[u8]) -> Lexeme
@@ -205,7 +205,7 @@ fn directive(text: &[u8]) -> Lexeme
     Lexeme::plain(TokenKind::Directive, len).with_printed(&text[..len])
 }
 
-#[tactic(auto, using(crate::proofs::BlankLemmas::no_blank), unfolding(dft_netlist::specs::Lexemes::lexeme))]
+#[tactic(auto, using(crate::proofs::BlankLemmas::no_blank), unfolding(dft_netlist_text::specs::Lexemes::lexeme))]
 /// The token at the front of a text that begins with no blank. Behind a base a run of letters, digits and `_` is one token.
 #[inline(always)]
 pub fn cut(behind_base: bool, text: &[u8]) -> Lexeme

@@ -1,7 +1,7 @@
 ghost use Rattle.std.specs.Prelude.{◌≡◌, ◌+◌, ◌<◌, ◌≤◌, ◌++◌, ◌∷◌, [], None, OnOk, IfSome, option_copied, length, drop, slice_set};
 ghost use Rattle.dft_base.specs.Name.{IsName};
-ghost use Rattle.dft_netlist.specs.Modules as spec;
-ghost use Rattle.dft_netlist.specs.NetlistText.{first_undeclared};
+ghost use Rattle.dft_netlist_text.specs.Modules as spec;
+ghost use Rattle.dft_netlist_text.specs.NetlistText.{first_undeclared};
 ghost use Rattle.dft_verilog.specs.Drafts.{IsDraft, IsMeaningWithin, IsDeclaredWithin, InstanceFits, JoinFits, nets_alone};
 ghost use Rattle.dft_verilog.specs.Free.{AreFreeBits, with_bits_of};
 
@@ -11,7 +11,8 @@ use crate::taken_names::TakenNames;
 use crate::word::Word;
 use dft_base::{Name, Range};
 use dft_cells::Library;
-use dft_netlist::{Declared, Join, MAX_INSTANCES, MAX_NETS, MAX_PORTS, Meaning};
+use dft_netlist::{Join, MAX_INSTANCES, MAX_NETS, MAX_PORTS};
+use dft_netlist_text::{Declared, Meaning};
 use std::alloc::{AllocError, Global};
 use std::marker::Model;
 
@@ -30,7 +31,7 @@ pub struct ModuleDraft<'a> {
 }
 
 impl<'a> Model for ModuleDraft<'a> {
-    ghost use Rattle.dft_netlist.specs.Modules.{Draft};
+    ghost use Rattle.dft_netlist_text.specs.Modules.{Draft};
 
     ghost Value = { Draft };
 

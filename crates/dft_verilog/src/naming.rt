@@ -2,7 +2,7 @@
 
 ghost use Rattle.std.specs.Prelude.{◌≡◌, OnOk, length};
 ghost use Rattle.dft_base.specs.Name.{IsName};
-ghost use Rattle.dft_netlist.specs.Expressions as spec;
+ghost use Rattle.dft_netlist_text.specs.Expressions as spec;
 ghost use Rattle.dft_verilog.specs.Checking.{Checks};
 ghost use Rattle.dft_verilog.specs.Operands.{Grows, AreBits};
 ghost use Rattle.dft_verilog.specs.Selecting.{behind};
@@ -10,7 +10,8 @@ ghost use Rattle.dft_verilog.specs.Selecting.{behind};
 use crate::module_draft::ModuleDraft;
 use crate::read_error::ReadError;
 use crate::selecting::Spot;
-use dft_netlist::{PinSignals, Select};
+use dft_netlist::PinSignals;
+use dft_netlist_text::Select;
 
 impl<'a> ModuleDraft<'a> {
     /// Puts what a name gives behind the bits before, which are nets of the draft or constants that are not driven, and

@@ -2,7 +2,7 @@
 
 ghost use Rattle.std.specs.Prelude.{◌≡◌, ◌≤◌, ◌++◌, ◌+◌, ◌*◌, ◌^◌, map, length, OnOk};
 ghost use Rattle.std.specs.Char.{digit_value};
-ghost use Rattle.dft_netlist.specs.Expressions as spec;
+ghost use Rattle.dft_netlist_text.specs.Expressions as spec;
 ghost use Rattle.dft_netlist.specs.declared.instance.Signal.TheVariants as signal;
 ghost use Rattle.dft_verilog.specs.Digits.{below};
 

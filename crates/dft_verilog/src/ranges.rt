@@ -1,6 +1,6 @@
 //! Numbers, ranges and selections of netlist texts (IEEE 1364).
 
-ghost use Rattle.dft_netlist.specs.Expressions as spec;
+ghost use Rattle.dft_netlist_text.specs.Expressions as spec;
 ghost use Rattle.dft_verilog.specs.Reading.{Reads};
 
 use crate::cursor::Tokens;
@@ -8,9 +8,9 @@ use crate::faults::refused;
 use crate::numbers::small_number;
 use crate::read_error::ReadError;
 use dft_base::Range;
-use dft_netlist::{Cause, Select, TokenKind};
+use dft_netlist_text::{Cause, Select, TokenKind};
 
-#[tactic(auto, unfolding(dft_netlist::specs::Expressions::number))]
+#[tactic(auto, unfolding(dft_netlist_text::specs::Expressions::number))]
 /// A number, which is at most 65,535.
 pub fn number(tokens: &mut Tokens<'_>) -> Result<u16, ReadError>
     ensures { Reads (λ number. number) (spec.number tokens.old) result tokens.new }
@@ -23,7 +23,7 @@ pub fn number(tokens: &mut Tokens<'_>) -> Result<u16, ReadError>
     }
 }
 
-#[tactic(auto, unfolding(dft_netlist::specs::Expressions::rest_of_range))]
+#[tactic(auto, unfolding(dft_netlist_text::specs::Expressions::rest_of_range))]
 // The rest of a range behind its first number.
 fn rest_of_range(left: u16, tokens: &mut Tokens<'_>) -> Result<Range, ReadError>
     ensures { Reads (λ range. range) (spec.rest_of_range left tokens.old) result tokens.new }
@@ -34,7 +34,7 @@ fn rest_of_range(left: u16, tokens: &mut Tokens<'_>) -> Result<Range, ReadError>
     Ok(Range { left, right })
 }
 
-#[tactic(auto, unfolding(dft_netlist::specs::Expressions::range))]
+#[tactic(auto, unfolding(dft_netlist_text::specs::Expressions::range))]
 // Two numbers in brackets.
 fn range(tokens: &mut Tokens<'_>) -> Result<Range, ReadError>
     ensures { Reads (λ range. range) (spec.range tokens.old) result tokens.new }
@@ -44,7 +44,7 @@ fn range(tokens: &mut Tokens<'_>) -> Result<Range, ReadError>
     rest_of_range(left, tokens)
 }
 
-#[tactic(auto, unfolding(dft_netlist::specs::Expressions::range_if_any))]
+#[tactic(auto, unfolding(dft_netlist_text::specs::Expressions::range_if_any))]
 /// A range, or none.
 pub fn range_if_any(tokens: &mut Tokens<'_>) -> Result<Option<Range>, ReadError>
     ensures { Reads (λ range. range) (spec.range_if_any tokens.old) result tokens.new }
@@ -56,7 +56,7 @@ pub fn range_if_any(tokens: &mut Tokens<'_>) -> Result<Option<Range>, ReadError>
     }
 }
 
-#[tactic(auto, unfolding(dft_netlist::specs::Expressions::rest_of_select))]
+#[tactic(auto, unfolding(dft_netlist_text::specs::Expressions::rest_of_select))]
 // The rest of a bit or a part behind its first number.
 fn rest_of_select(first: u16, tokens: &mut Tokens<'_>) -> Result<Select, ReadError>
     ensures { Reads (λ what. what) (spec.rest_of_select first tokens.old) result tokens.new }
@@ -69,7 +69,7 @@ fn rest_of_select(first: u16, tokens: &mut Tokens<'_>) -> Result<Select, ReadErr
     }
 }
 
-#[tactic(auto, unfolding(dft_netlist::specs::Expressions::selection))]
+#[tactic(auto, unfolding(dft_netlist_text::specs::Expressions::selection))]
 /// A bit, a part, or all of a name.
 pub fn selection(tokens: &mut Tokens<'_>) -> Result<Select, ReadError>
     ensures { Reads (λ what. what) (spec.selection tokens.old) result tokens.new }

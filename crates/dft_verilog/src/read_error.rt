@@ -1,7 +1,7 @@
 ghost use Rattle.std.specs.Prelude.{◌≡◌, alloc_error};
 ghost use Rattle.dft_verilog.specs.declared.read_error.ReadError.TheVariants as errors;
 
-use dft_netlist::Fault;
+use dft_netlist_text::Fault;
 use std::alloc::{AllocError, AllocFailed};
 
 /// Why a netlist text was not read.

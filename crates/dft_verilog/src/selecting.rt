@@ -2,8 +2,8 @@
 
 ghost use Rattle.std.specs.Prelude.{◌≡◌, ◌≤◌, ◌+◌, ◌<◌, ◌^◌, ◌++◌, ◌&&◌, None, option_map, IfSome, OnOk};
 ghost use Rattle.dft_base.specs.Name.{IsName};
-ghost use Rattle.dft_netlist.specs.Expressions as spec;
-ghost use Rattle.dft_netlist.specs.Modules.{declare_nets, declared_at, meaning_of};
+ghost use Rattle.dft_netlist_text.specs.Expressions as spec;
+ghost use Rattle.dft_netlist_text.specs.Modules.{declare_nets, declared_at, meaning_of};
 ghost use Rattle.dft_verilog.specs.Checking.{Checks};
 ghost use Rattle.dft_verilog.specs.Selecting.{signals_of, behind, and_selected};
 
@@ -12,7 +12,8 @@ use crate::faults::{refused, taken, undeclared};
 use crate::module_draft::ModuleDraft;
 use crate::read_error::ReadError;
 use dft_base::Range;
-use dft_netlist::{Cause, MAX_NETS, Meaning, NetId, PinSignals, Select, Shape, Signal, Site};
+use dft_netlist::{MAX_NETS, NetId, PinSignals, Signal};
+use dft_netlist_text::{Cause, Meaning, Select, Shape, Site};
 use std::alloc::AllocError;
 
 /// Nets with numbers one after the other.

@@ -4,7 +4,7 @@ ghost use Rattle.dft_verilog.specs.Free.{AreFree, and_bits};
 ghost use Rattle.dft_verilog.specs.TakenNames.{meaning_in};
 
 use crate::word::Word;
-use dft_netlist::Meaning;
+use dft_netlist_text::Meaning;
 use indexmap::IndexMap;
 use std::alloc::{AllocError, Global};
 use std::borrow::CowSlice;
@@ -19,7 +19,7 @@ pub struct TakenNames<'a> {
 
 impl<'a> Model for TakenNames<'a> {
     ghost use Rattle.std.specs.Prelude.{List};
-    ghost use Rattle.dft_netlist.specs.Modules.{Entry};
+    ghost use Rattle.dft_netlist_text.specs.Modules.{Entry};
 
     ghost Value = { List Entry };
 

@@ -2,12 +2,12 @@
 
 ghost use Rattle.std.specs.Prelude.{false, ◌≡◌, IsTrue};
 ghost use Rattle.dft_base.specs.Words as words;
-ghost use Rattle.dft_netlist.specs.Lexemes as spec;
+ghost use Rattle.dft_netlist_text.specs.Lexemes as spec;
 ghost use Rattle.dft_verilog.specs.Cut.{carries_name};
 
 use crate::blanks::is_printed;
 use dft_base::is_reserved;
-use dft_netlist::TokenKind;
+use dft_netlist_text::TokenKind;
 
 #[tactic(auto, using(crate::proofs::WordKindLemmas::free_words))]
 /// The kind of a word: a keyword, another reserved word, or a name.
@@ -22,7 +22,7 @@ pub fn word_kind(word: &[u8]) -> TokenKind
     }
 }
 
-#[tactic(auto, unfolding(dft_netlist::specs::Lexemes::word_kind))]
+#[tactic(auto, unfolding(dft_netlist_text::specs::Lexemes::word_kind))]
 // The kind of a word that is reserved.
 #[inline(never)]
 fn reserved_kind(word: &[u8]) -> TokenKind
@@ -64,7 +64,7 @@ fn reserved_kind(word: &[u8]) -> TokenKind
     }
 }
 
-#[tactic(auto, unfolding(dft_netlist::specs::Lexemes::mark_kind))]
+#[tactic(auto, unfolding(dft_netlist_text::specs::Lexemes::mark_kind))]
 /// The kind of a byte that stands for itself.
 #[inline(always)]
 pub fn mark_kind(byte: u8) -> TokenKind

@@ -1,6 +1,6 @@
 use Rattle.std.proofs.Common.{false, ◌≡◌, ◌≤◌, ◌+◌, ◌-◌, length}
 use Rattle.std.specs.Prelude.{option_map}
-use Rattle.dft_netlist.specs.Lexemes as spec
+use Rattle.dft_netlist_text.specs.Lexemes as spec
 use Rattle.dft_verilog.proofs.blanks.attribute_rest.Given as goal
 
 -- the rest of the text gives what the whole gives

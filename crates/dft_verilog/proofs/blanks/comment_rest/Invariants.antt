@@ -1,6 +1,6 @@
 use Rattle.std.proofs.Common.{◌≡◌, ◌≤◌, ◌+◌, ◌-◌, length}
 use Rattle.std.specs.Prelude.{option_map}
-use Rattle.dft_netlist.specs.Lexemes as spec
+use Rattle.dft_netlist_text.specs.Lexemes as spec
 use Rattle.dft_verilog.proofs.blanks.comment_rest.Given as goal
 
 -- the rest of the text gives what the whole gives

@@ -1,6 +1,6 @@
 use Rattle.std.proofs.Common.{◌≡◌, ◌≤◌, length, Bool}
 use Rattle.dft_base.specs.Lexing.{tokens_from}
-use Rattle.dft_netlist.specs.Lexemes as spec
+use Rattle.dft_netlist_text.specs.Lexemes as spec
 use Rattle.dft_verilog.proofs.cursor.skip_blanks.Given as goal
 
 -- the rest has the tokens of the whole, and its blanks in front are measured

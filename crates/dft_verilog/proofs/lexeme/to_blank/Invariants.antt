@@ -1,5 +1,5 @@
 use Rattle.std.proofs.Common.{◌≡◌, ◌≤◌, ◌+◌, ◌-◌, length}
-use Rattle.dft_netlist.specs.Lexemes as spec
+use Rattle.dft_netlist_text.specs.Lexemes as spec
 use Rattle.dft_verilog.proofs.lexeme.to_blank.Given as goal
 
 -- the rest of the text gives what the whole gives

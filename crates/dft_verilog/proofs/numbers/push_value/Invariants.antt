@@ -1,5 +1,5 @@
 use Rattle.std.proofs.Common.{◌≡◌, ◌≤◌, ◌++◌, map}
-use Rattle.dft_netlist.specs.Expressions as spec
+use Rattle.dft_netlist_text.specs.Expressions as spec
 use Rattle.dft_netlist.specs.declared.instance.Signal.TheVariants as signal
 use Rattle.dft_verilog.proofs.numbers.push_value.Given as goal
 

@@ -1,6 +1,6 @@
 use Rattle.std.proofs.Common.{◌≡◌, ◌<◌, ◌^◌, drop}
 use Rattle.std.specs.Str.Parse.{digits_value, digits_value_after}
-use Rattle.dft_netlist.specs.Expressions.{bare_digits}
+use Rattle.dft_netlist_text.specs.Expressions.{bare_digits}
 use Rattle.dft_verilog.proofs.numbers.value_of_digits.Given as goal
 
 abbrev pub invariant-loop-byte : goal.invariant-loop-byte

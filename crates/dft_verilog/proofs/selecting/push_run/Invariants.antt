@@ -1,5 +1,5 @@
 use Rattle.std.proofs.Common.{◌≡◌, ◌++◌}
-use Rattle.dft_netlist.specs.Expressions.{nets_of_shape}
+use Rattle.dft_netlist_text.specs.Expressions.{nets_of_shape}
 use Rattle.dft_verilog.proofs.selecting.push_run.Given as goal
 
 abbrev pub invariant-loop-place : goal.invariant-loop-place

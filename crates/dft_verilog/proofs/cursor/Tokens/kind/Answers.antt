@@ -1,7 +1,7 @@
 use Rattle.std.proofs.Common.{◌≡◌, take, drop, subst, ap}
 use Rattle.dft_base.specs.Lexing.{Text}
 use Rattle.dft_base.specs.Name.{IsName}
-use Rattle.dft_netlist.specs.Steps as spec
+use Rattle.dft_netlist_text.specs.Steps as spec
 use Rattle.dft_verilog.specs.Cut.{shown, carries_name}
 use Rattle.dft_verilog.proofs.FrontLemmas.{named_at}
 use Rattle.dft_verilog.proofs.cursor.Tokens.kind.Goals as goal

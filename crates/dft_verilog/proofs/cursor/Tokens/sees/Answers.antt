@@ -1,6 +1,6 @@
 use Rattle.std.proofs.Common.{sym, ◌∙◌, rules}
 use denote.Enum.Bare.{same_true}
-use Rattle.dft_netlist.specs.contracts.text.TokenKind.{the_type}
+use Rattle.dft_netlist_text.specs.contracts.text.TokenKind.{the_type}
 use Rattle.dft_verilog.proofs.cursor.Tokens.sees.Goals as goal
 
 pub returns-clause-name : goal.returns-clause-name

@@ -1,7 +1,7 @@
 use Rattle.std.proofs.Common.{◌∙◌, ap, ap₂, arith}
 use Rattle.dft_base.specs.Lexing.{tokens_from}
-use Rattle.dft_netlist.specs.Lexemes.{front}
-use Rattle.dft_netlist.specs.Steps.{left, next}
+use Rattle.dft_netlist_text.specs.Lexemes.{front}
+use Rattle.dft_netlist_text.specs.Steps.{left, next}
 use Rattle.dft_verilog.specs.Cut.{shown}
 use Rattle.dft_verilog.proofs.FrontLemmas.{left_at, next_at}
 use Rattle.dft_verilog.proofs.cursor.Tokens.take.Goals as goal

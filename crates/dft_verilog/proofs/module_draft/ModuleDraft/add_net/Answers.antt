@@ -1,5 +1,5 @@
 use Rattle.std.proofs.Common.{◌≡◌, ◌∙◌, ◌+◌, ◌∷◌, [], length, length-append, ap, arith, List, ℕ}
-use Rattle.dft_netlist.specs.Modules.{Draft}
+use Rattle.dft_netlist_text.specs.Modules.{Draft}
 use Rattle.dft_verilog.specs.ModuleDraftShown.{draft_of}
 use Rattle.dft_verilog.proofs.DraftLemmas.{IsDraft-nets}
 use Rattle.dft_verilog.proofs.module_draft.ModuleDraft.add_net.Goals as goal

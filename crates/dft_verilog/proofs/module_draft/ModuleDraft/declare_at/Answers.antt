@@ -1,7 +1,7 @@
 use Rattle.std.proofs.Common.{◌≡◌, ◌∙◌, ◌++◌, ap, ap₂, sym, subst, length, List, ℕ, true, false, Ok, rules, slice_set, Some}
 use Rattle.dft_netlist.specs.declared.port.Dir.{Dir}
-use Rattle.dft_netlist.specs.declared.text.Shape.{Shape}
-use Rattle.dft_netlist.specs.Modules.{Draft, HeaderPort, with_declared, next_shape}
+use Rattle.dft_netlist_text.specs.declared.text.Shape.{Shape}
+use Rattle.dft_netlist_text.specs.Modules.{Draft, HeaderPort, with_declared, next_shape}
 use Rattle.dft_verilog.specs.Free.{AreBitsApart, AreFreeBits}
 use Rattle.dft_verilog.proofs.ApartLemmas.{AreFreeBits-plain}
 use Rattle.dft_verilog.proofs.DeclareLemmas.{new_bits-ok, tests, shape-within, free-at, with_nets-made}

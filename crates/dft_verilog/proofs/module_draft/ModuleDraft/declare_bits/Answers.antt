@@ -1,7 +1,7 @@
 use Rattle.std.proofs.Common.{◌≡◌, ◌∙◌, ap, ap₂, sym, subst, length, List, ℕ, true, false, Ok, rules}
-use Rattle.dft_netlist.specs.declared.text.Shape.{Shape}
-use Rattle.dft_netlist.specs.declared.text.Meaning.TheVariants as meaning
-use Rattle.dft_netlist.specs.Modules.{Draft, with_name, next_shape, meaning_of}
+use Rattle.dft_netlist_text.specs.declared.text.Shape.{Shape}
+use Rattle.dft_netlist_text.specs.declared.text.Meaning.TheVariants as meaning
+use Rattle.dft_netlist_text.specs.Modules.{Draft, with_name, next_shape, meaning_of}
 use Rattle.dft_verilog.specs.Free.{AreBitsApart, AreFreeBits}
 use Rattle.dft_verilog.proofs.ApartLemmas.{AreFreeBits-named}
 use Rattle.dft_verilog.proofs.DeclareLemmas.{new_bits-ok, name_by, tests, shape-within, free-at, with_nets-made}

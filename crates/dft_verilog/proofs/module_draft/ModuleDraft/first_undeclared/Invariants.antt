@@ -1,5 +1,5 @@
 use Rattle.std.proofs.Common.{◌≡◌, drop}
-use Rattle.dft_netlist.specs.NetlistText.{first_undeclared}
+use Rattle.dft_netlist_text.specs.NetlistText.{first_undeclared}
 use Rattle.dft_verilog.proofs.module_draft.ModuleDraft.first_undeclared.Given as goal
 
 -- the ports before are declared

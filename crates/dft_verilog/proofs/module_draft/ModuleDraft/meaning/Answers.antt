@@ -1,6 +1,6 @@
 use Rattle.std.proofs.Common.{◌∙◌, ap, sym, subst, length, Option, IfSome}
-use Rattle.dft_netlist.specs.declared.text.Meaning.{Meaning}
-use Rattle.dft_netlist.specs.Modules.{Draft}
+use Rattle.dft_netlist_text.specs.declared.text.Meaning.{Meaning}
+use Rattle.dft_netlist_text.specs.Modules.{Draft}
 use Rattle.dft_verilog.specs.Drafts.{IsMeaningWithin}
 use Rattle.dft_verilog.specs.TakenNames.{meaning_in}
 use Rattle.dft_verilog.proofs.DraftLemmas.{meaning-within}

@@ -1,5 +1,5 @@
 use Rattle.dft_verilog.proofs.NamingLemmas.{name_grows, name_bits}
-use Rattle.dft_netlist.specs.Expressions.{drives}
+use Rattle.dft_netlist_text.specs.Expressions.{drives}
 use Rattle.dft_verilog.proofs.module_draft.ModuleDraft.read_name.Goals as goal
 
 pub returns-clause-grown : goal.returns-clause-grown

@@ -1,5 +1,5 @@
 use Rattle.std.proofs.Common.{◌∙◌, length, drop, ap, List, ℕ}
-use Rattle.dft_netlist.specs.Modules.{Draft}
+use Rattle.dft_netlist_text.specs.Modules.{Draft}
 use Rattle.dft_verilog.specs.Free.{with_bits_of, and_bits}
 use Rattle.dft_verilog.specs.ModuleDraftShown.{draft_of}
 use Rattle.dft_verilog.proofs.DraftLemmas.{IsDraft-names}

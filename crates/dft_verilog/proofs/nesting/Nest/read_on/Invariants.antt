@@ -1,6 +1,6 @@
 use Rattle.std.proofs.Common.{◌≡◌, ◌+◌, ◌-◌, ◌≤◌, suc, length}
-use Rattle.dft_netlist.specs.Steps.{left}
-use Rattle.dft_netlist.specs.Expressions as spec
+use Rattle.dft_netlist_text.specs.Steps.{left}
+use Rattle.dft_netlist_text.specs.Expressions as spec
 use Rattle.dft_verilog.specs.declared.blanks.TheConstants.{MAX_TEXT}
 use Rattle.dft_verilog.specs.Operands.{Grows, AreBits}
 use Rattle.dft_verilog.proofs.nesting.Nest.read_on.Given as goal

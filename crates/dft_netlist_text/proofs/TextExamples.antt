@@ -1,29 +1,15 @@
 -- Netlist texts worked by hand.
-use Rattle.std.proofs.Common.{◌≡◌, ◌++◌, ℕ, refl, codes, Option, Some, None, Result, Ok, Err, [], ◌∷◌}
-use Rattle.dft_base.specs.declared.place.Place.{Place}
+use Rattle.std.proofs.Common.{◌≡◌, ◌++◌, refl, codes, None, [], ◌∷◌}
 use Rattle.std.specs.Fmt as fmt
 use Rattle.dft_base.specs.Words as words
-use Rattle.dft_base.specs.Lexing.{Text, place_of, place_after, next_place}
-use Rattle.dft_cells.specs.Standard.{standard_cells}
-use Rattle.dft_netlist.specs.declared.text.Cause.{Cause}
-use Rattle.dft_netlist.specs.declared.text.Cause.TheVariants as cause
-use Rattle.dft_netlist.specs.declared.text.Fault.{Fault}
-use Rattle.dft_netlist.specs.Lexemes.{comment_rest, attribute_rest, blank_len, begins_blank, to_blank, word_kind, mark_kind, escaped, quote, directive, lexeme}
-use Rattle.dft_netlist.specs.Steps.{kind_of, bytes, left, next, same_kind, sees, refusal, expect, after}
-use Rattle.dft_netlist.specs.Modules.{Draft}
-use Rattle.dft_netlist.specs.Expressions.{number, rest_of_range, range, range_if_any, digits, constant, followed, rest_of_select, selection, named_operand, constant_operand, operand, opening, closing, nest_from, expression}
-use Rattle.dft_netlist.specs.Items.{declared_name, declared_names_from, declared_names, declaration, port_item, wire_item, right_side, assignment, assignments_from, assignments, assign_item, terminal, inputs_from, inputs, terminals, named_gate, unnamed_gate, one_gate, gates_from, gates, gate_item, pin_name, pin_signal, pin_content, connection, connections_from, some_connections, connections, instance, instances_from, instances, cell_item, item, items_from, items}
-use Rattle.dft_netlist.specs.NetlistText.{announced_name, announced_names_from, announced_names, new_port, facing_of, facing, new_ports_from, new_ports, header_names, header, heading, module_end, end_of_text, module_text, module_of}
-
-abbrev pub refused_at : Text → Result Draft Fault → Option (Cause × Place)
-refused_at text (Ok d) = None
-refused_at text (Err f) = Some (f.cause, place_of text f.left)
-
-abbrev pub outcome : Text → Option (Cause × Place)
-outcome text = refused_at text (module_of standard_cells text)
-
-abbrev pub refused : Cause → ℕ → ℕ → Option (Cause × Place)
-refused why line column = Some (why, record { line = line; column = column })
+use Rattle.dft_base.specs.Lexing.{place_after, next_place}
+use Rattle.dft_netlist_text.specs.declared.text.Cause.TheVariants as cause
+use Rattle.dft_netlist_text.specs.Lexemes.{comment_rest, attribute_rest, blank_len, begins_blank, to_blank, word_kind, mark_kind, escaped, quote, directive, lexeme}
+use Rattle.dft_netlist_text.specs.Steps.{kind_of, bytes, left, next, same_kind, sees, refusal, expect, after}
+use Rattle.dft_netlist_text.specs.Expressions.{number, rest_of_range, range, range_if_any, digits, constant, followed, rest_of_select, selection, named_operand, constant_operand, operand, opening, closing, nest_from, expression}
+use Rattle.dft_netlist_text.specs.Items.{declared_name, declared_names_from, declared_names, declaration, port_item, wire_item, right_side, assignment, assignments_from, assignments, assign_item, terminal, inputs_from, inputs, terminals, named_gate, unnamed_gate, one_gate, gates_from, gates, gate_item, pin_name, pin_signal, pin_content, connection, connections_from, some_connections, connections, instance, instances_from, instances, cell_item, item, items_from, items}
+use Rattle.dft_netlist_text.specs.NetlistText.{announced_name, announced_names_from, announced_names, new_port, facing_of, facing, new_ports_from, new_ports, header_names, header, heading, module_end, end_of_text, module_text, module_of}
+use Rattle.dft_netlist_text.proofs.Outcomes.{outcome, refused}
 
 pub worked_1 :
     (outcome (codes "module m (a); input a; endmodule") ≡ None)

@@ -19,13 +19,13 @@ use Rattle.dft_netlist.specs.declared.instance.Signal.{Signal}
 use Rattle.dft_netlist.specs.declared.instance.Signal.TheVariants as signal
 use Rattle.dft_netlist.specs.declared.instance.CellRef.TheVariants as cell_ref
 use Rattle.dft_netlist.specs.declared.instance.Instance.{Instance}
-use Rattle.dft_netlist.specs.declared.text.TokenKind.{TokenKind}
-use Rattle.dft_netlist.specs.declared.text.TokenKind.TheVariants as kind
-use Rattle.dft_netlist.specs.declared.text.Cause.TheVariants as cause
-use Rattle.dft_netlist.specs.declared.text.Site.TheVariants as site
-use Rattle.dft_netlist.specs.Steps.{Rule, kind_of, left, next, sees, refuse, expect, eat, fault, needed, checked}
-use Rattle.dft_netlist.specs.Modules.{Draft, declare_port, declare_wire, name_instance, room_for_instance, with_instance, with_join}
-use Rattle.dft_netlist.specs.Expressions.{range_if_any, expression, drives}
+use Rattle.dft_netlist_text.specs.declared.text.TokenKind.{TokenKind}
+use Rattle.dft_netlist_text.specs.declared.text.TokenKind.TheVariants as kind
+use Rattle.dft_netlist_text.specs.declared.text.Cause.TheVariants as cause
+use Rattle.dft_netlist_text.specs.declared.text.Site.TheVariants as site
+use Rattle.dft_netlist_text.specs.Steps.{Rule, kind_of, left, next, sees, refuse, expect, eat, fault, needed, checked}
+use Rattle.dft_netlist_text.specs.Modules.{Draft, declare_port, declare_wire, name_instance, room_for_instance, with_instance, with_join}
+use Rattle.dft_netlist_text.specs.Expressions.{range_if_any, expression, drives}
 
 -- ---- declarations of ports and wires
 

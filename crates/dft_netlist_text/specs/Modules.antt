@@ -8,16 +8,16 @@ use Rattle.dft_cells.specs.declared.cell.Cell.{Cell}
 use Rattle.dft_netlist.specs.declared.port.Dir.{Dir}
 use Rattle.dft_netlist.specs.declared.instance.Instance.{Instance}
 use Rattle.dft_netlist.specs.declared.instance.Join.{Join}
-use Rattle.dft_netlist.specs.declared.text.Cause.TheVariants as cause
+use Rattle.dft_netlist_text.specs.declared.text.Cause.TheVariants as cause
 use Rattle.dft_netlist.specs.declared.error.Counted.TheVariants as counted
 use Rattle.dft_netlist.specs.declared.limits.TheConstants.{MAX_PORTS, MAX_NETS, MAX_INSTANCES}
 use Rattle.dft_netlist.specs.Names.{bit_names}
-use Rattle.dft_netlist.specs.declared.text.Fault.{Fault}
-use Rattle.dft_netlist.specs.declared.text.Shape.{Shape}
-use Rattle.dft_netlist.specs.declared.text.Meaning.{Meaning}
-use Rattle.dft_netlist.specs.declared.text.Meaning.TheVariants as meaning
-use Rattle.dft_netlist.specs.declared.text.Declared.{Declared}
-use Rattle.dft_netlist.specs.Steps.{fault}
+use Rattle.dft_netlist_text.specs.declared.text.Fault.{Fault}
+use Rattle.dft_netlist_text.specs.declared.text.Shape.{Shape}
+use Rattle.dft_netlist_text.specs.declared.text.Meaning.{Meaning}
+use Rattle.dft_netlist_text.specs.declared.text.Meaning.TheVariants as meaning
+use Rattle.dft_netlist_text.specs.declared.text.Declared.{Declared}
+use Rattle.dft_netlist_text.specs.Steps.{fault}
 
 -- a port of the header: its name, and how it was declared, once it was
 pub record HeaderPort : Type 0 where

@@ -9,21 +9,21 @@ use Rattle.dft_base.specs.Parser.{Checked, pure, ◌>>=◌, ◌>>◌}
 use Rattle.dft_base.specs.Words.{is_reserved}
 use Rattle.dft_netlist.specs.declared.instance.Signal.{Signal}
 use Rattle.dft_netlist.specs.declared.instance.Signal.TheVariants as signal
-use Rattle.dft_netlist.specs.declared.text.TokenKind.{TokenKind}
-use Rattle.dft_netlist.specs.declared.text.TokenKind.TheVariants as kind
-use Rattle.dft_netlist.specs.declared.text.Cause.{Cause}
-use Rattle.dft_netlist.specs.declared.text.Cause.TheVariants as cause
-use Rattle.dft_netlist.specs.declared.text.Fault.{Fault}
-use Rattle.dft_netlist.specs.declared.text.Shape.{Shape}
-use Rattle.dft_netlist.specs.declared.text.Meaning.{Meaning}
-use Rattle.dft_netlist.specs.declared.text.Meaning.TheVariants as meaning
-use Rattle.dft_netlist.specs.declared.text.Declared.{Declared}
-use Rattle.dft_netlist.specs.declared.text.Select.{Select}
-use Rattle.dft_netlist.specs.declared.text.Select.TheVariants as select
-use Rattle.dft_netlist.specs.declared.text.Site.{Site}
-use Rattle.dft_netlist.specs.declared.text.Site.TheVariants as site
-use Rattle.dft_netlist.specs.Steps.{Rule, kind_of, left, next, sees, refuse, expect, fault, needed, checked}
-use Rattle.dft_netlist.specs.Modules.{Draft, meaning_of, declared_at, declare_nets, falls, width, count_from}
+use Rattle.dft_netlist_text.specs.declared.text.TokenKind.{TokenKind}
+use Rattle.dft_netlist_text.specs.declared.text.TokenKind.TheVariants as kind
+use Rattle.dft_netlist_text.specs.declared.text.Cause.{Cause}
+use Rattle.dft_netlist_text.specs.declared.text.Cause.TheVariants as cause
+use Rattle.dft_netlist_text.specs.declared.text.Fault.{Fault}
+use Rattle.dft_netlist_text.specs.declared.text.Shape.{Shape}
+use Rattle.dft_netlist_text.specs.declared.text.Meaning.{Meaning}
+use Rattle.dft_netlist_text.specs.declared.text.Meaning.TheVariants as meaning
+use Rattle.dft_netlist_text.specs.declared.text.Declared.{Declared}
+use Rattle.dft_netlist_text.specs.declared.text.Select.{Select}
+use Rattle.dft_netlist_text.specs.declared.text.Select.TheVariants as select
+use Rattle.dft_netlist_text.specs.declared.text.Site.{Site}
+use Rattle.dft_netlist_text.specs.declared.text.Site.TheVariants as site
+use Rattle.dft_netlist_text.specs.Steps.{Rule, kind_of, left, next, sees, refuse, expect, fault, needed, checked}
+use Rattle.dft_netlist_text.specs.Modules.{Draft, meaning_of, declared_at, declare_nets, falls, width, count_from}
 
 -- ---- numbers
 

@@ -3,13 +3,13 @@ use Rattle.std.specs.Prelude.{ℕ, Bool, true, false, List, [], ◌∷◌, if◌
 use denote.Enum.Bare.{sameb}
 use Rattle.dft_base.specs.Lexing.{Text}
 use Rattle.dft_base.specs.Parser as parser
-use Rattle.dft_netlist.specs.contracts.text.TokenKind.{the_type}
-use Rattle.dft_netlist.specs.declared.text.TokenKind.{TokenKind}
-use Rattle.dft_netlist.specs.declared.text.TokenKind.TheVariants as kind
-use Rattle.dft_netlist.specs.declared.text.Cause.{Cause}
-use Rattle.dft_netlist.specs.declared.text.Cause.TheVariants as cause
-use Rattle.dft_netlist.specs.declared.text.Fault.{Fault}
-use Rattle.dft_netlist.specs.Lexemes.{Token}
+use Rattle.dft_netlist_text.specs.contracts.text.TokenKind.{the_type}
+use Rattle.dft_netlist_text.specs.declared.text.TokenKind.{TokenKind}
+use Rattle.dft_netlist_text.specs.declared.text.TokenKind.TheVariants as kind
+use Rattle.dft_netlist_text.specs.declared.text.Cause.{Cause}
+use Rattle.dft_netlist_text.specs.declared.text.Cause.TheVariants as cause
+use Rattle.dft_netlist_text.specs.declared.text.Fault.{Fault}
+use Rattle.dft_netlist_text.specs.Lexemes.{Token}
 
 -- what a rule gives: a value and the tokens after it, or a fault
 abbrev pub Outcome : Type 0 → Type 0

@@ -12,21 +12,21 @@ use Rattle.dft_netlist.specs.declared.instance.Signal.{Signal}
 use Rattle.dft_netlist.specs.declared.instance.Signal.TheVariants as signal
 use Rattle.dft_netlist.specs.declared.instance.Instance.{Instance}
 use Rattle.dft_netlist.specs.declared.instance.Join.{Join}
-use Rattle.dft_netlist.specs.declared.text.TokenKind.TheVariants as kind
-use Rattle.dft_netlist.specs.declared.text.Cause.TheVariants as cause
-use Rattle.dft_netlist.specs.declared.text.Fault.{Fault}
-use Rattle.dft_netlist.specs.declared.text.Declared.{Declared}
+use Rattle.dft_netlist_text.specs.declared.text.TokenKind.TheVariants as kind
+use Rattle.dft_netlist_text.specs.declared.text.Cause.TheVariants as cause
+use Rattle.dft_netlist_text.specs.declared.text.Fault.{Fault}
+use Rattle.dft_netlist_text.specs.declared.text.Declared.{Declared}
 use Rattle.dft_netlist.specs.declared.error.NetlistError.{NetlistError}
 use Rattle.dft_netlist.specs.Names.{bit_names}
 use Rattle.dft_netlist.specs.NetNumbers.{nets_from}
 use Rattle.dft_netlist.specs.Building.{empty_netlist, port_of, port_refusal, net_refusal, instance_refusal}
 use Rattle.dft_netlist.specs.Finishing.{IsFinished}
 use Rattle.dft_netlist.specs.Netlist.{Netlist}
-use Rattle.dft_netlist.specs.Lexemes.{Token, tokens}
-use Rattle.dft_netlist.specs.Steps.{Rule, left, next, sees, refuse, expect, eat, fault, checked}
-use Rattle.dft_netlist.specs.Modules.{Draft, HeaderPort, begun, announce, declare_new_port, net_count, count_from}
-use Rattle.dft_netlist.specs.Expressions.{range_if_any}
-use Rattle.dft_netlist.specs.Items.{items}
+use Rattle.dft_netlist_text.specs.Lexemes.{Token, tokens}
+use Rattle.dft_netlist_text.specs.Steps.{Rule, left, next, sees, refuse, expect, eat, fault, checked}
+use Rattle.dft_netlist_text.specs.Modules.{Draft, HeaderPort, begun, announce, declare_new_port, net_count, count_from}
+use Rattle.dft_netlist_text.specs.Expressions.{range_if_any}
+use Rattle.dft_netlist_text.specs.Items.{items}
 
 -- ---- the header
 

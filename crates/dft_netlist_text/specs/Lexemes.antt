@@ -6,8 +6,8 @@ use Rattle.std.specs.Str.{bytes_eq}
 use Rattle.dft_base.specs.Lexing.{Text, Front, Blank, Cut, tokens_from}
 use Rattle.dft_base.specs.Lexing as lexing
 use Rattle.dft_base.specs.Words.{begins_word, continues_word, is_reserved}
-use Rattle.dft_netlist.specs.declared.text.TokenKind.{TokenKind}
-use Rattle.dft_netlist.specs.declared.text.TokenKind.TheVariants as kind
+use Rattle.dft_netlist_text.specs.declared.text.TokenKind.{TokenKind}
+use Rattle.dft_netlist_text.specs.declared.text.TokenKind.TheVariants as kind
 
 -- a token of a netlist text
 abbrev pub Token : Type 0

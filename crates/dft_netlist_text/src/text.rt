@@ -1,9 +1,7 @@
 //! The parts of a netlist text as it is read (IEEE 1364): kinds of tokens, why a text is refused, what a name stands for.
 
-use crate::error::Counted;
-use crate::ids::NetId;
-use crate::port::Dir;
 use dft_base::{Name, Range};
+use dft_netlist::{Counted, Dir, NetId};
 
 /// What a token of a netlist text is (IEEE 1364, lexical conventions).
 #[derive(Clone, Copy, Debug, PartialEq, Eq)]
