@@ -11,6 +11,8 @@ pub mod RefusalLemmas
 pub mod FindLemmas
 pub mod NotesLemmas
 pub mod CellLemmas
+pub mod PinLemmas
+pub mod LookUpLemmas
 pub mod DriveLemmas
 pub mod ClashLemmas
 pub mod LiveLemmas

@@ -15,6 +15,7 @@ pub mod NetDrivers
 pub mod Orders
 pub mod Finishing
 pub mod Finding
+pub mod Connections
 pub mod Roots
 pub mod NameTables
 pub mod NameTableShown

@@ -12,6 +12,7 @@ mod ids;
 mod instance;
 mod laws;
 mod limits;
+mod look_ups;
 mod name_table;
 mod named;
 mod net_driver;
@@ -21,6 +22,7 @@ mod port;
 mod progress;
 mod root;
 
+pub use cells::{is_role, kind_of, role_at, signal_of};
 pub use builder::DesignBuilder;
 pub use design::Design;
 pub use error::{Counted, NetlistError};
