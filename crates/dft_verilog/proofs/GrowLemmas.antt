@@ -22,7 +22,7 @@ use Rattle.dft_netlist.specs.Sound.{HasOnlyPorts, bits_of}
 use Rattle.dft_netlist_text.specs.Modules.{HeaderPort, Draft, net_count}
 use Rattle.dft_netlist_text.specs.NetlistText.{Grown, add_port, nets_of_port, nets_of_ports, net_order, unless_refused, and_grown, add_declared, add_ports, add_net, add_nets, add_instance, add_instances, add_joins, final_join, final_signal}
 use Rattle.dft_verilog.specs.FinalNets.{name_unless, without_number, all_numbered}
-use Rattle.dft_verilog.proofs.DeclareLemmas.{length-bit_names}
+use Rattle.dft_verilog_draft.proofs.DeclareLemmas.{length-bit_names}
 use Rattle.dft_verilog.proofs.NumberingLemmas.{length-count_from}
 use Rattle.dft_verilog.specs.Built.{IsRefusal, HasNetsOf}
 

@@ -7,7 +7,7 @@ use Rattle.dft_netlist_text.specs.Lexemes.{Token}
 use Rattle.dft_netlist_text.specs.Modules.{Draft}
 use Rattle.dft_netlist_text.specs.Steps.{Outcome, left, sees, next}
 use Rattle.dft_netlist_text.specs.Expressions.{Operand, unread, with_operand, nest_from, opening, operand, followed, expression}
-use Rattle.dft_verilog.specs.Operands.{operand_behind}
+use Rattle.dft_verilog_draft.specs.Operands.{operand_behind}
 
 pub behind_none : (r : Outcome Operand) → operand_behind [] r ≡ r
 behind_none (Ok p) = refl

@@ -9,7 +9,7 @@ use Rattle.dft_netlist.specs.declared.ids.NetId.{NetId}
 use Rattle.dft_netlist_text.specs.declared.text.Declared.{Declared}
 use Rattle.dft_netlist_text.specs.Modules.{HeaderPort, count_from, net_count}
 use Rattle.dft_netlist_text.specs.NetlistText.{nets_of_port, nets_of_ports}
-use Rattle.dft_verilog.specs.Drafts.{IsDeclaredWithin}
+use Rattle.dft_verilog_draft.specs.Drafts.{IsDeclaredWithin}
 use Rattle.dft_verilog.specs.FinalNets.{number_among, numbers_among, with_number, with_numbers}
 
 -- ---- the first place

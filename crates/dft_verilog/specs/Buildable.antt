@@ -10,7 +10,7 @@ use Rattle.dft_netlist.specs.Names.{port_names}
 use Rattle.dft_netlist.specs.Building.{own_names}
 use Rattle.dft_netlist_text.specs.Modules.{Draft, HeaderPort}
 use Rattle.dft_netlist_text.specs.NetlistText.{built, net_order, names_of_others, module_of}
-use Rattle.dft_verilog.specs.Free.{AreApart}
+use Rattle.dft_verilog_draft.specs.Free.{AreApart}
 
 -- the printed names of a port that was declared: a vector's own, and its bits'
 abbrev pub names_of_port : Text → Option Declared → List Text

@@ -3,19 +3,17 @@
 ghost use Rattle.std.specs.Prelude.{◌≡◌, ℕ, ◌<◌, length, slice_get, IfOk, OnOk};
 ghost use Rattle.dft_netlist_text.specs.Items as spec;
 ghost use Rattle.dft_verilog.specs.JoinedPins.{FitsCell, IsPinSignal};
-ghost use Rattle.dft_verilog.specs.Operands.{Grows};
-ghost use Rattle.dft_verilog.specs.Reading.{Reads};
+ghost use Rattle.dft_verilog_draft.specs.Operands.{Grows};
+ghost use Rattle.dft_verilog_tokens.specs.Reading.{Reads};
 
-use crate::cursor::Tokens;
-use crate::faults::{joined_twice, no_pin};
 use crate::gates::one_bit;
 use crate::joined_pins::JoinedPins;
-use crate::module_draft::ModuleDraft;
 use crate::nesting::expression;
-use crate::read_error::ReadError;
 use dft_cells::{Cell, Role};
 use dft_netlist::Signal;
 use dft_netlist_text::{Site, TokenKind};
+use dft_verilog_draft::ModuleDraft;
+use dft_verilog_tokens::{ReadError, Tokens, joined_twice, no_pin};
 use std::alloc::{AllocError, Global};
 
 #[tactic(auto, using(crate::proofs::ConnectionLemmas::unjoined_pins))]
@@ -99,7 +97,7 @@ fn pin_signal<'a>(
     one_bit(place, bits.as_slice())
 }
 
-#[tactic(auto, using(crate::proofs::OperandLemmas::growing), unfolding(dft_netlist_text::specs::Items::pin_content))]
+#[tactic(auto, using(dft_verilog_draft::proofs::OperandLemmas::growing), unfolding(dft_netlist_text::specs::Items::pin_content))]
 // Nothing between the brackets leaves the pin unconnected.
 fn pin_content<'a>(
     cell: &Cell,
@@ -163,7 +161,7 @@ fn some_connections<'a>(
     Err(tokens.refusal())
 }
 
-#[tactic(auto, using(crate::proofs::OperandLemmas::growing), unfolding(dft_netlist_text::specs::Items::connections))]
+#[tactic(auto, using(dft_verilog_draft::proofs::OperandLemmas::growing), unfolding(dft_netlist_text::specs::Items::connections))]
 /// Connections, or none.
 pub fn connections<'a>(
     cell: &Cell,

@@ -3,15 +3,13 @@
 ghost use Rattle.std.specs.Prelude.{◌≡◌, OnOk};
 ghost use Rattle.dft_netlist_text.specs.Items as spec;
 ghost use Rattle.dft_verilog.specs.Declarations.{declaring};
-ghost use Rattle.dft_verilog.specs.Reading.{Reads};
+ghost use Rattle.dft_verilog_tokens.specs.Reading.{Reads};
 
-use crate::cursor::Tokens;
-use crate::module_draft::ModuleDraft;
-use crate::ranges::range_if_any;
-use crate::read_error::ReadError;
 use dft_base::Range;
 use dft_netlist::Dir;
 use dft_netlist_text::TokenKind;
+use dft_verilog_draft::ModuleDraft;
+use dft_verilog_tokens::{ReadError, Tokens, range_if_any};
 
 /// What a declaration declares.
 #[derive(Clone, Copy, Debug)]

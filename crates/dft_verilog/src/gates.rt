@@ -5,19 +5,15 @@ ghost use Rattle.dft_netlist_text.specs.Items as spec;
 ghost use Rattle.dft_netlist_text.specs.Lexemes.{Token};
 ghost use Rattle.dft_netlist_text.specs.Modules.{Draft};
 ghost use Rattle.dft_netlist.specs.Sound.{is_primitive};
-ghost use Rattle.dft_verilog.specs.Operands.{Grows, AreBits, IsBit};
-ghost use Rattle.dft_verilog.specs.Reading.{Reads};
+ghost use Rattle.dft_verilog_draft.specs.Operands.{Grows, AreBits, IsBit};
+ghost use Rattle.dft_verilog_tokens.specs.Reading.{Reads};
 
-use crate::cursor::Tokens;
-use crate::draft_instance::DraftInstance;
-use crate::faults::refused;
-use crate::module_draft::ModuleDraft;
 use crate::nesting::expression;
-use crate::read_error::ReadError;
-use crate::word::Word;
 use dft_cells::Kind;
 use dft_netlist::{CellRef, MAX_INSTANCES, PinSignals, Signal};
 use dft_netlist_text::{Cause, Site, TokenKind};
+use dft_verilog_draft::{DraftInstance, ModuleDraft};
+use dft_verilog_tokens::{ReadError, Tokens, Word, refused};
 
 /// The kind of a gate primitive.
 pub fn gate_kind(kind: TokenKind) -> Option<Kind>
@@ -58,7 +54,7 @@ pub fn one_bit(place: usize, bits: &[Signal]) -> Result<Signal, ReadError>
     }
 }
 
-#[tactic(auto, using(crate::proofs::OperandLemmas::one), unfolding(dft_netlist_text::specs::Items::terminal))]
+#[tactic(auto, using(dft_verilog_draft::proofs::OperandLemmas::one), unfolding(dft_netlist_text::specs::Items::terminal))]
 // A terminal of a gate; its width is tested at its first token.
 fn terminal<'a>(
     drives: bool,

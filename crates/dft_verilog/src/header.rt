@@ -3,16 +3,14 @@
 ghost use Rattle.std.specs.Prelude.{◌≡◌, IfOk, OnOk};
 ghost use Rattle.dft_netlist_text.specs.NetlistText as spec;
 ghost use Rattle.dft_verilog.specs.Facings.{facing_as};
-ghost use Rattle.dft_verilog.specs.Reading.{Reads};
+ghost use Rattle.dft_verilog_tokens.specs.Reading.{Reads};
 
-use crate::cursor::Tokens;
-use crate::module_draft::ModuleDraft;
-use crate::ranges::range_if_any;
-use crate::read_error::ReadError;
 use dft_base::{Name, Range};
 use dft_cells::Library;
 use dft_netlist::Dir;
 use dft_netlist_text::TokenKind;
+use dft_verilog_draft::ModuleDraft;
+use dft_verilog_tokens::{ReadError, Tokens, range_if_any};
 use std::alloc::Global;
 
 /// What the names behind a direction have.

@@ -3,18 +3,14 @@
 ghost use Rattle.std.specs.Prelude.{◌≡◌, map, slice_get, Some, IfOk, OnOk};
 ghost use Rattle.dft_netlist_text.specs.Items as spec;
 ghost use Rattle.dft_netlist_text.specs.Steps.{left};
-ghost use Rattle.dft_verilog.specs.Reading.{Reads};
+ghost use Rattle.dft_verilog_tokens.specs.Reading.{Reads};
 
 use crate::connections::{connections, unjoined};
-use crate::cursor::Tokens;
-use crate::draft_instance::DraftInstance;
-use crate::faults::no_cell;
-use crate::module_draft::ModuleDraft;
-use crate::read_error::ReadError;
-use crate::word::Word;
 use dft_cells::{Cell, CellId, Library};
 use dft_netlist::{CellRef, PinSignals, Signal};
 use dft_netlist_text::TokenKind;
+use dft_verilog_draft::{DraftInstance, ModuleDraft};
+use dft_verilog_tokens::{ReadError, Tokens, Word, no_cell};
 use std::alloc::{AllocError, Global};
 
 // What a pin is joined to; one that was not named is not connected.

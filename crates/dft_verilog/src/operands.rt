@@ -3,19 +3,13 @@
 ghost use Rattle.std.specs.Prelude.{◌≡◌, OnOk, length};
 ghost use Rattle.dft_netlist_text.specs.Expressions as spec;
 ghost use Rattle.dft_netlist_text.specs.Modules.{Draft};
-ghost use Rattle.dft_verilog.specs.Operands.{operand_behind, Grows, AreBits};
-ghost use Rattle.dft_verilog.specs.Reading.{Reads};
+ghost use Rattle.dft_verilog_draft.specs.Operands.{operand_behind, Grows, AreBits};
+ghost use Rattle.dft_verilog_tokens.specs.Reading.{Reads};
 
-use crate::constants::constant;
-use crate::cursor::Tokens;
-use crate::faults::refused;
-use crate::module_draft::ModuleDraft;
-use crate::numbers::push_value;
-use crate::ranges::selection;
-use crate::read_error::ReadError;
-use crate::selecting::Spot;
 use dft_netlist::PinSignals;
 use dft_netlist_text::{Cause, Site, TokenKind};
+use dft_verilog_draft::{ModuleDraft, Spot};
+use dft_verilog_tokens::{ReadError, Tokens, constant, push_value, refused, selection};
 use std::alloc::Global;
 
 // Whether a token of this kind may follow an expression that stands here.
@@ -92,7 +86,7 @@ fn named_operand<'a>(
     draft.read_name(spot, word, what, bits)
 }
 
-#[tactic(auto, using(crate::proofs::OperandLemmas::constants), unfolding(dft_netlist_text::specs::Expressions::constant_operand))]
+#[tactic(auto, using(dft_verilog_draft::proofs::OperandLemmas::constants), unfolding(dft_netlist_text::specs::Expressions::constant_operand))]
 // A constant, which must not be driven. That needs the token behind it.
 fn constant_operand(
     alloc: Global,

@@ -3,24 +3,21 @@
 ghost use Rattle.std.specs.Prelude.{◌≡◌, ◌≤◌, Ok, Err, length, pos, IfOk, IfErr};
 ghost use Rattle.dft_netlist_text.specs.NetlistText as spec;
 ghost use Rattle.dft_netlist_text.specs.NetlistText.{StandsFor};
-ghost use Rattle.dft_verilog.specs.Reading.{Reads};
+ghost use Rattle.dft_verilog_tokens.specs.Reading.{Reads};
 ghost use Rattle.dft_verilog.specs.Refusals.{IsRefused, told_of, told_whole as told_as_whole, most};
-ghost use Rattle.dft_verilog.specs.Checking.{Checks};
+ghost use Rattle.dft_verilog_tokens.specs.Checking.{Checks};
 ghost use Rattle.dft_base.specs.Lexing.{place_of as place_in};
 
-use crate::blanks::MAX_TEXT;
-use crate::cursor::Tokens;
 use crate::error::VerilogError;
-use crate::faults::{refused, undeclared};
 use crate::finishing::finished;
 use crate::header::heading;
-use crate::module_draft::ModuleDraft;
 use crate::module_items::items;
-use crate::read_error::ReadError;
 use dft_base::{Place, place_of};
 use dft_cells::Library;
 use dft_netlist::{Counted, Design, MAX_INSTANCES, MAX_NETS, MAX_PORTS, NetlistError};
 use dft_netlist_text::{Cause, Fault, TokenKind};
+use dft_verilog_draft::ModuleDraft;
+use dft_verilog_tokens::{MAX_TEXT, ReadError, Tokens, refused, undeclared};
 use std::alloc::Global;
 
 #[tactic(auto, unfolding(dft_netlist_text::specs::NetlistText::module_end))]
