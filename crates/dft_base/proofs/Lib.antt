@@ -1,6 +1,5 @@
 pub mod LexingLemmas
 pub mod PlaceLemmas
-pub mod StoreLemmas
 pub mod Turns
 pub mod WordLemmas
 pub mod ReservedLemmas

@@ -1,12 +1,5 @@
 pub mod Tri
 pub mod Name
-pub mod Outside
-pub mod Put
-pub mod Basin
-pub mod BasinShown
-pub mod Entries
-pub mod Store
-pub mod StoreShown
 pub mod Words
 pub mod Parser
 pub mod Lexing

@@ -1,25 +1,21 @@
-//! What every crate of the tool speaks of: three-valued bits, names, places in texts, and the outside.
+//! What every crate of the tool speaks of: three-valued bits, names, directions, lists, scan rules, and places in texts.
 #![tactic(auto)]
 
-mod failing;
-mod host;
-mod memory_files;
+mod dir;
+mod listed;
 mod name;
-mod outside;
 mod place;
 mod reserved;
-mod sinks;
+mod rule;
 mod tri;
 mod words;
 
-pub use failing::Failing;
-pub use host::{HostFiles, OutSink};
-pub use memory_files::MemoryFiles;
+pub use dir::Dir;
+pub use listed::Listed;
 pub use name::Name;
-pub use outside::{Files, LoadError, PutError, SaveError, Sink};
 pub use place::{Place, Range, place_of};
 pub use reserved::is_reserved;
-pub use sinks::{MemorySink, NeverFails};
+pub use rule::Rule;
 pub use tri::Tri;
 pub use words::{
     begins_word, continues_word, is_later_reserved, is_simple_name, is_word, needs_escape,

@@ -41,4 +41,11 @@ impl Name {
     {
         &self.bytes
     }
+
+    /// The same name once more.
+    pub fn copy(&self, alloc: Global) -> Result<Name, AllocError>
+        ensures { IfOk result (λ same. same ≡ self.now) }
+    {
+        Name::from_slice(alloc, &self.bytes)
+    }
 }

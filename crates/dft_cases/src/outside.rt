@@ -1,6 +1,7 @@
-use dft_base::{
-    Failing, Files, HostFiles, LoadError, MemoryFiles, MemorySink, Name, NeverFails, OutSink,
-    PutError, SaveError, Sink, is_simple_name, needs_escape,
+use dft_base::{Name, is_simple_name, needs_escape};
+use dft_files::{
+    Failing, Files, HostFiles, LoadError, MemoryFiles, MemorySink, NeverFails, OutSink, PutError,
+    SaveError, Sink,
 };
 use std::test::Fail;
 

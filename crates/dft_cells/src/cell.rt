@@ -75,7 +75,7 @@ impl Pin {
         ensures { IfOk result (λ copy. copy ≡ self.now) }
     {
         Ok(Pin {
-            name: Name::from_slice(alloc, self.name.as_slice())?,
+            name: self.name.copy(alloc)?,
             role: self.role,
         })
     }
@@ -97,7 +97,7 @@ impl Cell {
         ensures { IfOk result (λ copy. copy ≡ self.now) }
     {
         Ok(Cell {
-            name: Name::from_slice(alloc, self.name.as_slice())?,
+            name: self.name.copy(alloc)?,
             kind: self.kind,
             pins: self.pins.copy(alloc)?,
             scan: self.scan,

@@ -90,7 +90,7 @@ fn add_pins(alloc: Global, pins: &mut Pins, role: Role, names: &[Name]) -> Resul
     ensures { OnOk result (pins.new ≡ pins.old ++ map (spec.pin_with role) names.now) }
 {
     for name in names {
-        let name = Name::from_slice(alloc, name.as_slice())?;
+        let name = name.copy(alloc)?;
         pins.push(Pin { name, role })?;
     }
     Ok(())

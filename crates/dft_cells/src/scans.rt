@@ -43,7 +43,7 @@ fn cell_of(alloc: Global, drafts: &[Draft], draft: &Draft) -> Result<Cell, Libra
     match scan_cell(drafts, draft, name.as_slice()) {
         Some(id) => Ok(cell_with(alloc, Some(id), draft)?),
         None => Err(LibraryError::L5 {
-            name: Name::from_slice(alloc, draft.name.as_slice())?,
+            name: draft.name.copy(alloc)?,
         }),
     }
 }
@@ -52,7 +52,7 @@ fn cell_with(alloc: Global, scan: Option<CellId>, draft: &Draft) -> Result<Cell,
     ensures { IfOk result (λ cell. cell ≡ spec.cell_with scan draft.now) }
 {
     Ok(Cell {
-        name: Name::from_slice(alloc, draft.name.as_slice())?,
+        name: draft.name.copy(alloc)?,
         kind: draft.kind,
         pins: draft.pins.copy(alloc)?,
         scan,

@@ -10,8 +10,7 @@ use crate::distinct::{
     chains_differ, injectors_differ, names_differ, stages_differ, taps_differ, texts_differ,
 };
 use crate::fault::Key;
-use crate::listed::Listed;
-use dft_base::Name;
+use dft_base::{Listed, Name};
 use std::alloc::{AllocError, Global};
 
 /// The first key with something that stands twice in one list.

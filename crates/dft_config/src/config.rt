@@ -1,5 +1,4 @@
-use crate::listed::Listed;
-use dft_base::Name;
+use dft_base::{Listed, Name};
 use dft_toml::Names;
 
 /// The bits of channels that no equation decides.

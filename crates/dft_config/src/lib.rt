@@ -8,7 +8,6 @@ mod distinct;
 mod error;
 mod fault;
 mod laws;
-mod listed;
 mod lists;
 mod port;
 mod reader;
@@ -19,6 +18,6 @@ mod values;
 
 pub use config::{CompactorConfig, Config, FillRule, Injector, PortNames, RingConfig, Tap};
 pub use cycles::load_cycles;
+pub use dft_base::Listed;
 pub use error::ConfigError;
 pub use laws::loads_are_sums;
-pub use listed::Listed;

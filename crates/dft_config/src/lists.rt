@@ -6,7 +6,7 @@ ghost use Rattle.dft_config.specs.Faults.{IsFault};
 ghost use Rattle.dft_config.specs.Settings as spec;
 
 use crate::fault::{Fault, Key};
-use crate::listed::Listed;
+use dft_base::Listed;
 use std::alloc::{AllocError, Global};
 use toml::Value;
 use toml::value::Array;

@@ -6,9 +6,8 @@ ghost use Rattle.dft_config.specs.Sections.{prefix_of};
 ghost use Rattle.dft_config.specs.Unknown as spec;
 
 use crate::config::FillRule;
-use crate::listed::Listed;
 use crate::section::{Section, is_always_key};
-use dft_base::Name;
+use dft_base::{Listed, Name};
 use dft_toml::{printable, table_at};
 use std::alloc::{AllocError, Global};
 use toml::{Table, Value};

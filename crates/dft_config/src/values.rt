@@ -7,13 +7,12 @@ ghost use Rattle.dft_config.specs.Settings as spec;
 
 use crate::config::{FillRule, Injector, Tap};
 use crate::fault::{Fault, Key};
-use crate::listed::Listed;
 use crate::lists::{
     Pair, all_below, bounded, integers_of, lists_below, lists_of, pairs_of, small_below,
     small_lists_below,
 };
 use crate::port::Port;
-use dft_base::{Name, is_later_reserved, is_simple_name};
+use dft_base::{Listed, Name, is_later_reserved, is_simple_name};
 use dft_toml::{Names, name_of, names_of_value, value_in};
 use std::alloc::{AllocError, Global};
 use toml::{Table, Value};

@@ -10,7 +10,7 @@ use Rattle.dft_cells.specs.declared.kind.Role.TheVariants.{Clock, Din, Reset, Pr
 use Rattle.dft_cells.specs.declared.cell.Cell.{Cell}
 use Rattle.dft_cells.specs.declared.cell.CellId.{CellId}
 use Rattle.dft_netlist.specs.declared.ids.InstanceId.{InstanceId}
-use Rattle.dft_netlist.specs.declared.port.Dir.TheVariants as dir
+use Rattle.dft_base.specs.declared.dir.Dir.TheVariants as dir
 use Rattle.dft_netlist.specs.declared.instance.Signal.{Signal}
 use Rattle.dft_netlist.specs.declared.instance.CellRef.TheVariants.{Library}
 use Rattle.dft_netlist.specs.declared.instance.Instance.{Instance}

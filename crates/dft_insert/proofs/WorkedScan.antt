@@ -9,8 +9,8 @@ use Rattle.dft_netlist.specs.declared.instance.Instance.{Instance}
 use Rattle.dft_netlist.specs.declared.instance.Signal.{Signal}
 use Rattle.dft_netlist.specs.declared.instance.Signal.TheVariants.{Net, Unconnected}
 use Rattle.dft_netlist.specs.declared.port.Port.{Port}
-use Rattle.dft_netlist.specs.declared.port.Dir.{Dir}
-use Rattle.dft_netlist.specs.declared.port.Dir.TheVariants.{Input, Output}
+use Rattle.dft_base.specs.declared.dir.Dir.{Dir}
+use Rattle.dft_base.specs.declared.dir.Dir.TheVariants.{Input, Output}
 use Rattle.dft_netlist.specs.Netlist.{Netlist}
 use Rattle.dft_config.specs.declared.config.Config.{Config}
 use Rattle.dft_config.specs.declared.config.FillRule.TheVariants.{Zeros}

@@ -18,8 +18,8 @@ use crate::ids::InstanceId;
 use crate::instance::{Instance, Join, Signal};
 use crate::limits::MAX_INSTANCES;
 use crate::net_driver::NetDriver;
-use crate::port::{Dir, Port};
-use dft_base::Name;
+use crate::port::Port;
+use dft_base::{Dir, Name};
 use dft_cells::{Cell, Role};
 use std::alloc::Global;
 

@@ -2,16 +2,9 @@ ghost use Rattle.std.specs.Prelude.{◌≡◌, ◌+◌, ◌<◌, ◌^◌, ◌++�
 ghost use Rattle.dft_netlist.specs.NetNumbers.{nets_from};
 
 use crate::ids::NetId;
-use dft_base::{Name, Range};
+use dft_base::{Dir, Name, Range};
 use std::alloc::{AllocError, Global};
 use std::marker::Model;
-
-/// Which way a port goes (IEEE 1364 `input` and `output`).
-#[derive(Clone, Copy, Debug, PartialEq, Eq)]
-pub enum Dir {
-    Input,
-    Output,
-}
 
 /// Nets in order. A clause sees them as a list.
 #[derive(Debug, Drop)]

@@ -4,7 +4,7 @@ use Rattle.std.specs.Fmt as fmt
 use Rattle.dft_base.specs.Words as words
 use Rattle.dft_base.specs.Parser.{Checked}
 use Rattle.dft_base.specs.Lexing.{place_after, next_place}
-use Rattle.dft_netlist.specs.declared.port.Dir.TheVariants as dir
+use Rattle.dft_base.specs.declared.dir.Dir.TheVariants as dir
 use Rattle.dft_netlist_text.specs.declared.text.Cause.{Cause}
 use Rattle.dft_netlist_text.specs.declared.text.Cause.TheVariants as cause
 use Rattle.dft_netlist.specs.declared.error.Counted.TheVariants as counted

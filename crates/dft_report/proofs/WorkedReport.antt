@@ -1,7 +1,7 @@
 -- A report and its written form, worked by hand.
 use Rattle.std.proofs.Common.{◌≡◌, true, false, [], ◌∷◌, codes, Some, refl}
 use Rattle.std.specs.Fmt as fmt
-use Rattle.dft_rules.specs.declared.judged.Rule.TheVariants.{S4}
+use Rattle.dft_base.specs.declared.rule.Rule.TheVariants.{S4}
 use Rattle.dft_report.specs.declared.report.CubeLine.TheVariants.{Encoded, Unsolvable, Skipped}
 use Rattle.dft_report.specs.declared.report.Report.{Report}
 use Rattle.dft_report.specs.Written.{counts_text, header_line, chain_line, place_text, scanned_line, unscanned_line, sum_line, unsolvable_text, cube_lines, written}

@@ -1,8 +1,8 @@
 -- The written form of a report: one text for each.
 use Rattle.std.specs.Prelude.{ℕ, ◌+◌, Bool, true, false, List, [], ◌∷◌, ◌++◌, length, flat_map, Option, Some, None, codes, decimal}
 use Rattle.dft_base.specs.Lexing.{Text}
-use Rattle.dft_rules.specs.declared.judged.Rule.{Rule}
-use Rattle.dft_rules.specs.declared.judged.Rule.TheVariants.{S1, S2, S3, S4}
+use Rattle.dft_base.specs.declared.rule.Rule.{Rule}
+use Rattle.dft_base.specs.declared.rule.Rule.TheVariants.{S1, S2, S3, S4}
 use Rattle.dft_report.specs.declared.report.Load.{Load}
 use Rattle.dft_report.specs.declared.report.Header.{Header}
 use Rattle.dft_report.specs.declared.report.ScannedLine.{ScannedLine}

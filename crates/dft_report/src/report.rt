@@ -1,6 +1,4 @@
-use dft_base::Name;
-use dft_config::Listed;
-use dft_rules::Rule;
+use dft_base::{Listed, Name, Rule};
 
 /// The cycles of a load, and its variables: the bits of all channels in these cycles.
 #[derive(Clone, Copy, Debug, PartialEq, Eq)]

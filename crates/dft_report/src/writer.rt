@@ -9,7 +9,7 @@ use crate::error::ReportError;
 use crate::limits::MAX_BYTES;
 use crate::numbers::add_number;
 use crate::report::{Header, Load, Report, ScannedLine, UnscannedLine};
-use dft_rules::Rule;
+use dft_base::Rule;
 use std::alloc::{AllocError, Global};
 
 /// Adds the cycles and the variables of a load.

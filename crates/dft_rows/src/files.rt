@@ -1,6 +1,6 @@
 //! Runs over files in memory, and the texts that they load.
 
-use dft_base::{Failing, MemoryFiles, MemorySink};
+use dft_files::{Failing, MemoryFiles, MemorySink};
 use dft_top::{Status, run};
 use std::alloc::{AllocError, Global};
 

@@ -7,13 +7,13 @@ use Rattle.dft_cells.specs.declared.kind.Role.TheVariants as role
 use Rattle.dft_netlist.specs.declared.instance.CellRef.TheVariants as cell_ref
 use Rattle.dft_netlist.specs.declared.instance.Instance.{Instance}
 use Rattle.dft_netlist.specs.declared.instance.Signal.TheVariants as signal
-use Rattle.dft_netlist.specs.declared.port.Dir.TheVariants as dir
+use Rattle.dft_base.specs.declared.dir.Dir.TheVariants as dir
 use Rattle.dft_netlist.specs.Netlist.{Netlist}
 use Rattle.dft_config.specs.declared.config.Config.{Config}
 use Rattle.dft_config.specs.declared.config.FillRule.TheVariants.{Zeros}
 use Rattle.dft_rules.specs.declared.error.RuleError.TheVariants.{ClockAsData, LockupPresent, PortName, ScanCellPresent, TooFewCells, UnknownName}
 use Rattle.dft_rules.specs.declared.judged.Judged.TheVariants.{Scanned, Unscanned}
-use Rattle.dft_rules.specs.declared.judged.Rule.TheVariants.{S1, S4}
+use Rattle.dft_base.specs.declared.rule.Rule.TheVariants.{S1, S4}
 use Rattle.dft_rules.specs.Refusals.{refusal}
 use Rattle.dft_rules.specs.Rules.{judgements}
 

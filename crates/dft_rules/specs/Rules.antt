@@ -1,4 +1,4 @@
--- The scan rules: which flip-flops are scanned, and in which domain. A flip-flop is judged by the first rule that fails.
+-- The scan rules: which flip-flops are scanned, and in which domain. A flip-flop is judged by the first rule that fails (Bushnell and Agrawal, Essentials of Electronic Testing).
 use Rattle.std.specs.Prelude.{ℕ, ◌==◌, Bool, true, false, not, List, [], ◌∷◌, map, length, Option, None, Some, is_some, is_none, option_and_then, position, slice_get, find, if◌then◌else◌}
 use Rattle.std.specs.List.{list_any, range_with_len}
 use Rattle.dft_base.specs.Lexing.{Text}
@@ -18,8 +18,8 @@ use Rattle.dft_netlist.specs.Logic.{pin_of}
 use Rattle.dft_netlist.specs.Names.{find_net, find_instance}
 use Rattle.dft_netlist.specs.Traces.{Root, Port, Constant, Other, root_of}
 use Rattle.dft_config.specs.declared.config.Config.{Config}
-use Rattle.dft_rules.specs.declared.judged.Rule.{Rule}
-use Rattle.dft_rules.specs.declared.judged.Rule.TheVariants.{S1, S2, S3, S4}
+use Rattle.dft_base.specs.declared.rule.Rule.{Rule}
+use Rattle.dft_base.specs.declared.rule.Rule.TheVariants.{S1, S2, S3, S4}
 use Rattle.dft_rules.specs.declared.judged.Judged.{Judged}
 use Rattle.dft_rules.specs.declared.judged.Judged.TheVariants.{Scanned, Unscanned}
 

@@ -1,15 +1,4 @@
-/// Why a flip-flop is not scanned: the first of the scan rules that fails.
-#[derive(Clone, Copy, Debug, PartialEq, Eq)]
-pub enum Rule {
-    /// Its clock does not trace to a configured domain.
-    S1,
-    /// Its set or reset does not trace to a configured reset or to constant 1.
-    S2,
-    /// Its cell names no scan cell.
-    S3,
-    /// The configuration keeps it.
-    S4,
-}
+use dft_base::Rule;
 
 /// How a flip-flop is judged.
 #[derive(Clone, Copy, Debug, PartialEq, Eq)]

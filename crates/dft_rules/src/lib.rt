@@ -12,8 +12,9 @@ mod laws;
 mod roots;
 mod verdicts;
 
+pub use dft_base::Rule;
 pub use error::RuleError;
-pub use judged::{Judged, Rule};
+pub use judged::Judged;
 pub use judging::judge;
 pub use laws::flip_flops_are_judged;
 pub use verdicts::Verdicts;

@@ -1,6 +1,6 @@
 -- Where there is nothing to save, no file is changed.
 use Rattle.std.proofs.Common.{ℕ, ◌≡◌, ◌⊎◌, ◌∙◌, inl, inr, List, [], ◌∷◌, ◌++◌, refl, sym, subst, Option, None, Some}
-use Rattle.dft_base.specs.Outside.{Held}
+use Rattle.dft_files.specs.Outside.{Held}
 use Rattle.dft_words.specs.Words.{Command, Replay, Scan, ScanFiles, AreFor, IsScan}
 use Rattle.dft_top.specs.declared.answer.Answer.{Answer}
 use Rattle.dft_top.specs.declared.outcome.Outcome.{Outcome}

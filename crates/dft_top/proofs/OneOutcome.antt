@@ -1,6 +1,6 @@
 -- Words and held files have one outcome at most.
 use Rattle.std.proofs.Common.{ℕ, ◌≡◌, List, codes, sym, ap, ◌∙◌, Option, None, Some, subst}
-use Rattle.dft_base.specs.Outside.{Held, file_at}
+use Rattle.dft_files.specs.Outside.{Held, file_at}
 use Rattle.dft_config.specs.declared.config.Config.{Config}
 use Rattle.dft_netlist.specs.Drivers.{IsOrdered}
 use Rattle.dft_netlist.specs.Netlist.{Netlist}

@@ -1,6 +1,6 @@
 -- Files that pass all checks are never refused.
 use Rattle.std.proofs.Common.{ℕ, ◌≡◌, List, codes, Option, None, Some, Ok, subst}
-use Rattle.dft_base.specs.Outside.{Held, file_at}
+use Rattle.dft_files.specs.Outside.{Held, file_at}
 use Rattle.dft_cells.specs.declared.cell.Cell.{Cell}
 use Rattle.dft_config.specs.declared.config.Config.{Config}
 use Rattle.dft_netlist.specs.Netlist.{Netlist}

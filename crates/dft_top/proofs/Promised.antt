@@ -1,6 +1,6 @@
 -- What Done says of the files of a command.
 use Rattle.std.proofs.Common.{ℕ, ◌≡◌, ◌∙◌, inl, inr, List, [], ◌∷◌, codes, refl, sym, ap, subst, Option, None, Some, Result, Ok}
-use Rattle.dft_base.specs.Outside.{Held, Told, ToldChange, file_at}
+use Rattle.dft_files.specs.Outside.{Held, Told, ToldChange, file_at}
 use Rattle.dft_cells.specs.declared.cell.Cell.{Cell}
 use Rattle.dft_config.specs.declared.config.Config.{Config}
 use Rattle.dft_insert.proofs.Containing.{agrees}

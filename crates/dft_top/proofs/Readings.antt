@@ -1,6 +1,6 @@
 -- A file gives one value or one refusal at most.
 use Rattle.std.proofs.Common.{ℕ, ◌≡◌, ◌⊎◌, inl, inr, List, codes, refl, sym, ap, ◌∙◌, arith, Option, None, Some, Result, Ok, Err, subst}
-use Rattle.dft_base.specs.Outside.{Held, file_at}
+use Rattle.dft_files.specs.Outside.{Held, file_at}
 use Rattle.dft_cells.specs.Data.{Members}
 use Rattle.dft_cells.specs.Text.{IsTable, IsNoTable}
 use Rattle.dft_cells.specs.declared.cell.Cell.{Cell}

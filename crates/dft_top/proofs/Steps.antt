@@ -1,6 +1,6 @@
 -- Steps one after another: what a value, and what a stop, makes of all that comes behind.
 use Rattle.std.proofs.Common.{ℕ, ◌≡◌, ◌≤◌, length, inl, inr, refl, sym, subst, List, Option, None, Some, Result, Ok, Err}
-use Rattle.dft_base.specs.Outside.{Held, Told, file_at}
+use Rattle.dft_files.specs.Outside.{Held, Told, file_at}
 use Rattle.dft_cells.specs.declared.cell.Cell.{Cell}
 use Rattle.dft_config.specs.declared.config.Config.{Config}
 use Rattle.dft_netlist.specs.Netlist.{Netlist}

@@ -1,8 +1,8 @@
 -- What one save and then another leave.
 use Rattle.std.proofs.Common.{ℕ, ◌≡◌, ◌≤◌, false, true, List, [], ◌∷◌, Option, None, Some, refl, sym, ◌∙◌, arith, subst, bytes_eq, Bool, Decides, Result, Ok, Err, OnErr}
 use Rattle.std.proofs.lemmas.Slice.Eq.{bytes_eq-Decides}
-use Rattle.dft_base.specs.Outside.{Held, LeavesPart, Rose, Told, ToldChange, file_at}
-use Rattle.dft_base.specs.Outside as base
+use Rattle.dft_files.specs.Outside.{Held, LeavesPart, Rose, Told, ToldChange, file_at}
+use Rattle.dft_files.specs.Outside as base
 use Rattle.dft_top.specs.Saves.{Saving, AreSavedBut, HaveSaved, HaveSavedSome, SaveFailed}
 
 no_of : (t : Bool) (P : Type 0) → Decides t P → (P → ⊥) → t ≡ false

@@ -1,6 +1,6 @@
 -- What the files of a command give, each by its checks: a value, or the refusal of the first check that fails.
 use Rattle.std.specs.Prelude.{ℕ, ◌<◌, ◌≤◌, ◌≡◌, ◌⊎◌, List, codes, length, Option, None, Some, Result, Ok, Err}
-use Rattle.dft_base.specs.Outside.{Held, file_at}
+use Rattle.dft_files.specs.Outside.{Held, file_at}
 use Rattle.dft_cells.specs.declared.cell.Cell.{Cell}
 use Rattle.dft_cells.specs.declared.refusal.LibraryError.{LibraryError}
 use Rattle.dft_cells.specs.Standard.{standard_cells}

@@ -1,6 +1,6 @@
 -- That words and files have one outcome at most, and which it is where each file passes its checks.
 use Rattle.std.specs.Prelude.{ℕ, ◌≡◌, List, None, Ok}
-use Rattle.dft_base.specs.Outside.{Held}
+use Rattle.dft_files.specs.Outside.{Held}
 use Rattle.dft_cells.specs.declared.cell.Cell.{Cell}
 use Rattle.dft_config.specs.declared.config.Config.{Config}
 use Rattle.dft_netlist.specs.Netlist.{Netlist}

@@ -1,6 +1,6 @@
 -- What a command comes to, from its words and the files that are held.
 use Rattle.std.specs.Prelude.{ℕ, ◌≡◌, ◌⊎◌, List, [], length, Option, None, Some, slice_get}
-use Rattle.dft_base.specs.Outside.{Held}
+use Rattle.dft_files.specs.Outside.{Held}
 use Rattle.dft_config.specs.declared.config.Config.{Config}
 use Rattle.dft_insert.specs.Statements.{IsReady, scanned}
 use Rattle.dft_insert.specs.declared.style.Style.TheVariants.{Plain}

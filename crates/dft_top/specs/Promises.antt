@@ -1,6 +1,6 @@
 -- What Done promises of a command.
 use Rattle.std.specs.Prelude.{ℕ, ◌≡◌, List, None, Some, Ok}
-use Rattle.dft_base.specs.Outside.{Held, file_at}
+use Rattle.dft_files.specs.Outside.{Held, file_at}
 use Rattle.dft_cells.specs.declared.cell.Cell.{Cell}
 use Rattle.dft_config.specs.declared.config.Config.{Config}
 use Rattle.dft_insert.specs.declared.style.Style.TheVariants.{Plain}

@@ -1,7 +1,7 @@
 -- What a run promises.
 use Rattle.std.specs.Prelude.{ℕ, ◌≡◌, ◌⊎◌, List, Option, None, Some}
-use Rattle.dft_base.specs.Outside.{Held, Told, ToldChange, Rose}
-use Rattle.dft_base.specs.Put.{Adds, AddsPrefix}
+use Rattle.dft_files.specs.Outside.{Held, Told, ToldChange, Rose}
+use Rattle.dft_files.specs.Put.{Adds, AddsPrefix}
 use Rattle.dft_top.specs.declared.answer.Status.{Status}
 use Rattle.dft_top.specs.declared.answer.Status.TheVariants.{Done, NotPassed, Usage, Refused, ReadFault, WriteFault, OutOfMemory}
 use Rattle.dft_top.specs.declared.answer.Answer.{Answer}

@@ -2,7 +2,7 @@
 use Rattle.std.specs.Prelude.{ℕ, ◌≡◌, false, List, [], ◌∷◌, ◌++◌, Option, None, Some}
 use Rattle.std.specs.List.{AllByRecursion}
 use Rattle.std.specs.Str.{bytes_eq}
-use Rattle.dft_base.specs.Outside.{Held, LeavesPart, Rose, ToldChange, file_at}
+use Rattle.dft_files.specs.Outside.{Held, LeavesPart, Rose, ToldChange, file_at}
 use Rattle.dft_words.specs.Words.{Command, Replay, Scan, ScanFiles}
 use Rattle.dft_top.specs.declared.outcome.Outcome.{Outcome}
 use Rattle.dft_top.specs.declared.outcome.Outcome.TheVariants.{Usage, Refused, Passed, Mismatch, Undetermined, Scanned}

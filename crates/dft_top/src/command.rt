@@ -1,7 +1,7 @@
 //! A run of the tool.
 
 ghost use Rattle.std.specs.Prelude.{◌≡◌, Some, Err, map, option_map, string_bytes};
-ghost use Rattle.dft_base.specs.Outside.{Rose, Told};
+ghost use Rattle.dft_files.specs.Outside.{Rose, Told};
 ghost use Rattle.dft_words.specs.Named.{command_of};
 ghost use Rattle.dft_top.specs.Lines.{line_of};
 ghost use Rattle.dft_top.specs.Outcomes.{HasTurn, IsLoaded};
@@ -16,7 +16,7 @@ use crate::replaying::outcome_of_replay;
 use crate::saving::save_outcome;
 use crate::scanning::outcome_of_scan;
 use crate::stop::Stop;
-use dft_base::{Files, PutError, SaveError, Sink};
+use dft_files::{Files, PutError, SaveError, Sink};
 use dft_words::{Command, command};
 use std::alloc::Global;
 

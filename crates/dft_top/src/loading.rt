@@ -2,7 +2,7 @@
 
 ghost use Rattle.std.specs.Prelude.{◌≡◌, ◌≤◌, ◌<◌, IfOk, IsSomeAnd, Err, Some, length, option_map};
 ghost use Rattle.dft_base.specs.Name.{IsName};
-ghost use Rattle.dft_base.specs.Outside.{Told, file_at};
+ghost use Rattle.dft_files.specs.Outside.{Told, file_at};
 ghost use Rattle.dft_config.specs.Range.{IsInRange};
 ghost use Rattle.dft_stil.specs.Patterns.{IsWellFormed};
 ghost use Rattle.dft_verilog_out.specs.Named.{GatesAreJoined};
@@ -13,9 +13,10 @@ use crate::answer::{Code, Refusal};
 use crate::limits::{MAX_CONFIG_BYTES, MAX_LIBRARY_BYTES, MAX_NETLIST_BYTES, MAX_PATTERN_BYTES};
 use crate::reading::{config_in, design_in, library_in, patterns_in};
 use crate::stop::Stop;
-use dft_base::{Files, LoadError, Name};
+use dft_base::Name;
 use dft_cells::Library;
 use dft_config::Config;
+use dft_files::{Files, LoadError};
 use dft_netlist::Design;
 use dft_stil::PatternSet;
 use std::alloc::{AllocError, Global};

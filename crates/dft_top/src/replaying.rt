@@ -1,7 +1,7 @@
 //! The outcome of a replay: the verdict of patterns on a netlist.
 
 ghost use Rattle.std.specs.Prelude.{◌≡◌, ◌<◌, ◌^◌, IfOk, Err, length};
-ghost use Rattle.dft_base.specs.Outside.{Rose, Told};
+ghost use Rattle.dft_files.specs.Outside.{Rose, Told};
 ghost use Rattle.dft_replay.specs.Fits.{first_misfit};
 ghost use Rattle.dft_replay.specs.Verdicts.{IsPlaced};
 ghost use Rattle.dft_stil.specs.Patterns.{IsWellFormed};
@@ -16,7 +16,8 @@ use crate::answer::{Code, Refusal};
 use crate::loading::{load_library, load_netlist, load_patterns};
 use crate::outcome::Outcome;
 use crate::stop::Stop;
-use dft_base::{Files, Name};
+use dft_base::Name;
+use dft_files::Files;
 use dft_netlist::Design;
 use dft_replay::{ReplayError, Verdict, replay};
 use dft_stil::{PatternSet, StilSignal};

@@ -6,7 +6,7 @@ ghost use Rattle.dft_top.specs.Saves.{CountsSaves, HaveSaved, HaveSavedSome, Sav
 ghost use Rattle.dft_top.specs.Named.{saving_of};
 
 use crate::outcome::Outcome;
-use dft_base::{Files, SaveError};
+use dft_files::{Files, SaveError};
 use dft_words::Command;
 use std::alloc::Global;
 

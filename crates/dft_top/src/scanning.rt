@@ -1,7 +1,7 @@
 //! The outcome of a scan: the texts of a scanned netlist and of its report.
 
 ghost use Rattle.std.specs.Prelude.{◌≡◌, Err};
-ghost use Rattle.dft_base.specs.Outside.{Rose, Told};
+ghost use Rattle.dft_files.specs.Outside.{Rose, Told};
 ghost use Rattle.dft_config.specs.Range.{IsInRange};
 ghost use Rattle.dft_scan.specs.Refusals.{refusal};
 ghost use Rattle.dft_verilog_out.specs.Named.{GatesAreJoined};
@@ -15,8 +15,8 @@ use crate::loading::{load_config, load_library, load_netlist};
 use crate::outcome::Outcome;
 use crate::refusing::scan_refusal;
 use crate::stop::Stop;
-use dft_base::Files;
 use dft_config::{Config, Listed};
+use dft_files::Files;
 use dft_netlist::Design;
 use dft_scan::{ScanTexts, scan};
 use dft_words::ScanFiles;

@@ -5,7 +5,7 @@ use Rattle.dft_base.specs.declared.place.Range.{Range}
 use Rattle.dft_base.specs.Lexing.{Text}
 use Rattle.dft_netlist.specs.declared.ids.NetId.{NetId}
 use Rattle.dft_netlist.specs.declared.ids.PortId.{PortId}
-use Rattle.dft_netlist.specs.declared.port.Dir.{Dir}
+use Rattle.dft_base.specs.declared.dir.Dir.{Dir}
 use Rattle.dft_netlist.specs.declared.port.Port.{Port}
 use Rattle.dft_netlist.specs.declared.instance.Instance.{Instance}
 use Rattle.dft_netlist.specs.declared.instance.Join.{Join}

@@ -4,7 +4,7 @@ use Rattle.std.specs.Str.{bytes_eq}
 use Rattle.std.proofs.lemmas.Bool.Decides.{nat_tests}
 use Rattle.dft_base.specs.declared.place.Range.{Range}
 use Rattle.dft_base.specs.Lexing.{Text}
-use Rattle.dft_netlist.specs.declared.port.Dir.{Dir}
+use Rattle.dft_base.specs.declared.dir.Dir.{Dir}
 use Rattle.dft_netlist.specs.declared.limits.TheConstants.{MAX_PORTS, MAX_NETS, MAX_INSTANCES}
 use Rattle.dft_netlist_text.specs.declared.text.Meaning.{Meaning}
 use Rattle.dft_netlist_text.specs.declared.text.Meaning.TheVariants as meaning

@@ -1,7 +1,7 @@
 use Rattle.std.proofs.Common.{◌≡◌, ◌∷◌, ◌++◌, ◌∙◌, List, None, suc, length, ap, sym, subst}
 use Rattle.std.specs.Result.{OnOk}
 use Rattle.dft_base.specs.Lexing.{Text}
-use Rattle.dft_netlist.specs.declared.port.Dir.TheVariants.{Input, Output}
+use Rattle.dft_base.specs.declared.dir.Dir.TheVariants.{Input, Output}
 use Rattle.dft_netlist.specs.Netlist.{Netlist}
 use Rattle.dft_insert.specs.AddedPorts.{NewPort, numbered_ports}
 use Rattle.dft_insert.specs.Growing.{APort, next_port, with_thing, with_things}

@@ -1,5 +1,5 @@
 use Rattle.std.proofs.Common.{◌≡◌, sym, rules, Err}
-use Rattle.dft_base.specs.declared.outside.SaveError.TheVariants.{Failed}
+use Rattle.dft_files.specs.declared.outside.SaveError.TheVariants.{Failed}
 use Rattle.dft_top.specs.Named.{saving_of}
 use Rattle.dft_top.proofs.TwoSaves.{apart, first_fails, second_fails, second_runs_out, on_err}
 use Rattle.dft_top.proofs.saving.save_both.Goals as goal

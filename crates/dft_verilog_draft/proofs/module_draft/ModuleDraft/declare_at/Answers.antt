@@ -1,5 +1,5 @@
 use Rattle.std.proofs.Common.{◌≡◌, ◌∙◌, ◌++◌, ap, ap₂, sym, subst, length, List, ℕ, true, false, Ok, rules, slice_set, Some}
-use Rattle.dft_netlist.specs.declared.port.Dir.{Dir}
+use Rattle.dft_base.specs.declared.dir.Dir.{Dir}
 use Rattle.dft_netlist_text.specs.declared.text.Shape.{Shape}
 use Rattle.dft_netlist_text.specs.Modules.{Draft, HeaderPort, with_declared, next_shape}
 use Rattle.dft_verilog_draft.specs.Free.{AreBitsApart, AreFreeBits}

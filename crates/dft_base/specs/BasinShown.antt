@@ -1,7 +1,0 @@
--- What `MemorySink` shows.
-use Rattle.dft_base.specs.declared.sinks.MemorySink.TheInside.{Inside}
-use Rattle.dft_base.specs.Basin.{Basin}
-
--- its bytes, the calls that are to fail, and what has come to pass
-abbrev pub basin_of : Inside → Basin
-basin_of s = record { bytes = s.bytes.items; failing = s.failing.items; calls = s.calls; faults = s.faults }

@@ -1,0 +1,118 @@
+ghost use Rattle.std.specs.Prelude.{◌≡◌, ◌≤◌, [], Some, Err};
+ghost use Rattle.dft_files.specs.Basin.{Puts};
+ghost use Rattle.dft_files.specs.Put.{AddsPrefix};
+
+use crate::failing::{Failing, kept_at};
+use crate::outside::{PutError, Sink};
+use std::alloc::Global;
+use std::marker::Model;
+
+/// A sink in memory that tells its bytes, with calls that fail on demand.
+#[derive(Drop)]
+pub struct MemorySink {
+    bytes: Vec<u8>,
+    failing: Vec<Failing>,
+    calls: u64,
+    faults: u64,
+}
+
+impl Model for MemorySink {
+    ghost use Rattle.dft_files.specs.Basin.{Basin};
+
+    ghost Value = { Basin };
+
+    ghost use Rattle.dft_files.specs.BasinShown.{basin_of};
+
+    ghost view = { basin_of };
+}
+
+impl MemorySink {
+    /// An empty sink. Its calls are counted from 0, and those of `failing` fail.
+    pub fn new(alloc: Global, failing: Vec<Failing>) -> MemorySink
+        ensures bytes { result.bytes ≡ [] }
+        ensures failing { result.failing ≡ failing.items }
+        ensures calls { result.calls ≡ 0 }
+        ensures faults { result.faults ≡ 0 }
+    {
+        MemorySink {
+            bytes: Vec::new(alloc),
+            failing,
+            calls: 0,
+            faults: 0,
+        }
+    }
+
+    /// The bytes put so far.
+    pub fn bytes(&self) -> &[u8]
+        ensures { result.now ≡ self.now.bytes }
+    {
+        &self.bytes
+    }
+}
+
+impl Sink for MemorySink {
+    ghost told = { λ s. Some s.bytes };
+
+    ghost faults = { λ s. s.faults };
+
+    fn put(&mut self, bytes: &[u8]) -> Result<(), PutError>
+        ensures puts { Puts bytes.now self.old result self.new }
+        ensures prefix { result ≡ Err PutError.Failed → AddsPrefix bytes.now (Some self.old.bytes) (Some self.new.bytes) }
+        ensures faults { self.old.faults ≤ self.new.faults }
+        ensures none_failing { self.old.failing ≡ [] → self.new.faults ≡ self.old.faults }
+    {
+        let Some(kept) = kept_at(&self.failing, self.calls) else {
+            self.bytes.extend_from_slice(bytes)?;
+            self.calls = self.calls.saturating_add(1);
+            return Ok(());
+        };
+        let kept = bytes.len().min(kept as usize);
+        self.bytes.extend_from_slice(&bytes[..kept])?;
+        self.calls = self.calls.saturating_add(1);
+        self.faults = self.faults.saturating_add(1);
+        Err(PutError::Failed)
+    }
+}
+
+/// A sink in memory that never fails.
+#[derive(Drop)]
+pub struct NeverFails {
+    bytes: Vec<u8>,
+}
+
+impl Model for NeverFails {
+    ghost use Rattle.std.specs.Prelude.{List, ℕ};
+
+    ghost Value = { List ℕ };
+
+    ghost view = { λ s. s.bytes.items };
+}
+
+impl NeverFails {
+    /// An empty sink.
+    pub fn new(alloc: Global) -> NeverFails
+        ensures { result ≡ [] }
+    {
+        NeverFails {
+            bytes: Vec::new(alloc),
+        }
+    }
+
+    /// The bytes put so far.
+    pub fn bytes(&self) -> &[u8]
+        ensures { result.now ≡ self.now }
+    {
+        &self.bytes
+    }
+}
+
+impl Sink for NeverFails {
+    ghost told = { λ bytes. Some bytes };
+
+    ghost faults = { λ bytes. 0 };
+
+    fn put(&mut self, bytes: &[u8]) -> Result<(), PutError> {
+        self.bytes.extend_from_slice(bytes)?;
+        Ok(())
+    }
+}
