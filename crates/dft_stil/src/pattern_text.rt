@@ -110,6 +110,19 @@ pub struct Burst<'a> {
     pub pattern: &'a [u8],
 }
 
+#[tactic(auto, unfolding(dft_stil_text::specs::PatternText::listed_pattern))]
+// The one pattern that a burst lists.
+fn listed_pattern<'a>(tokens: &mut Tokens<'a>) -> Result<&'a [u8], ReadError>
+    ensures { ReadsText (λ w. w.now) (spec.listed_pattern tokens.old) result tokens.new }
+{
+    tokens.keyword(b"PatList")?;
+    tokens.expect(TokenKind::OpenBrace)?;
+    let word = tokens.name()?;
+    tokens.expect(TokenKind::Semicolon)?;
+    tokens.expect(TokenKind::CloseBrace)?;
+    Ok(word)
+}
+
 #[tactic(auto, unfolding(dft_stil_text::specs::PatternText::burst))]
 // The burst.
 fn the_burst<'a>(tokens: &mut Tokens<'a>) -> Result<Burst<'a>, ReadError>
@@ -118,11 +131,7 @@ fn the_burst<'a>(tokens: &mut Tokens<'a>) -> Result<Burst<'a>, ReadError>
     tokens.keyword(b"PatternBurst")?;
     let name = tokens.name()?;
     tokens.expect(TokenKind::OpenBrace)?;
-    tokens.keyword(b"PatList")?;
-    tokens.expect(TokenKind::OpenBrace)?;
-    let pattern = tokens.name()?;
-    tokens.expect(TokenKind::Semicolon)?;
-    tokens.expect(TokenKind::CloseBrace)?;
+    let pattern = listed_pattern(tokens)?;
     tokens.expect(TokenKind::CloseBrace)?;
     Ok(Burst { name, pattern })
 }

@@ -68,16 +68,23 @@ pub record Burst : Type 0 where
   pub name : Text
   pub pattern : Text
 
+-- the one pattern that a burst lists
+unfoldable pub listed_pattern : Rule Text
+listed_pattern = do
+  keyword (codes "PatList")
+  expect kind.OpenBrace
+  word ← name
+  expect kind.Semicolon
+  expect kind.CloseBrace
+  pure word
+
+-- the burst
 unfoldable pub burst : Rule Burst
 burst = do
   keyword (codes "PatternBurst")
   word ← name
   expect kind.OpenBrace
-  keyword (codes "PatList")
-  expect kind.OpenBrace
-  pattern ← name
-  expect kind.Semicolon
-  expect kind.CloseBrace
+  pattern ← listed_pattern
   expect kind.CloseBrace
   pure (record { name = word; pattern = pattern })
 
