@@ -1,4 +1,4 @@
--- Three-valued bits, ordered with Unknown above both bits.
+-- Three-valued bits (IEEE 1364, the value x), ordered with Unknown above both bits.
 use Rattle.std.specs.Prelude.{Bool, true, false}
 use Rattle.dft_base.specs.declared.tri.Tri.{Tri}
 use Rattle.dft_base.specs.declared.tri.Tri.TheVariants.{Zero, One, Unknown}

@@ -1,4 +1,4 @@
--- The next bit of a flip-flop, over bits and over three-valued bits.
+-- The next bit of a flip-flop, over bits and over three-valued bits: reset, set, scan (Bushnell and Agrawal, Essentials of Electronic Testing).
 use Rattle.std.specs.Prelude.{Bool, true, false, if◌then◌else◌}
 use Rattle.dft_base.specs.declared.tri.Tri.{Tri}
 use Rattle.dft_base.specs.Tri.{known}

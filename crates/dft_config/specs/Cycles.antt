@@ -1,4 +1,4 @@
--- The cycles of a load.
+-- The cycles of a load (Rajski and others, 2004).
 use Rattle.std.specs.Prelude.{ℕ, ◌+◌, ◌/◌, ◌%◌, max, nat_lt, if◌then◌else◌}
 use Rattle.dft_config.specs.declared.config.Config.{Config}
 

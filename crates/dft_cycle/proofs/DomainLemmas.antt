@@ -14,7 +14,7 @@ use Rattle.dft_cycle.specs.declared.circuit.Op.{Op}
 use Rattle.dft_cycle.specs.declared.circuit.Op.TheVariants as op
 use Rattle.dft_cycle.specs.declared.circuit.Circuit.{Circuit}
 use Rattle.dft_cycle.specs.declared.settling.View.{View}
-use Rattle.dft_cycle.specs.Cycle.{Pulse}
+use Rattle.dft_abstract.specs.Cycle.{Pulse}
 use Rattle.dft_cycle.specs.Machine.{value_at, acted}
 use Rattle.dft_cycle.specs.Circuit.{base_of, pulse_at, held_in, IsGivenIn, GivenIn, IsReady, source_places, flag_at, meaning, op_at, cell_of, cell_at, latch_at, latch_domains, force_nets, leaf_domains, leaves_from, IsCircuit}
 use Rattle.dft_cycle.specs.Tables.{list_at}

@@ -1,10 +1,3 @@
-pub mod Strobe
-pub mod Pulses
-pub mod Turns
-pub mod Views
-pub mod Least
-pub mod OneDomain
-pub mod Lifts
 pub mod Settlings
 pub mod Sweepings
 pub mod CircuitRanks

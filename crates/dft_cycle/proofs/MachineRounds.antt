@@ -7,7 +7,7 @@ use Rattle.dft_base.specs.declared.tri.Tri.TheVariants.{Zero, One, Unknown}
 use Rattle.dft_cells.specs.FlipFlops.{tri_forced}
 use Rattle.dft_netlist.specs.Logic.{Logic, Force}
 use Rattle.dft_netlist.specs.Settled.{TriSources, value_from, IsTriSettled}
-use Rattle.dft_cycle.specs.Cycle.{Pulse, tri_forced_by, tri_taken_by, next_value, after_pulse, IsLeast, pulse_of, strobe_sources, Round}
+use Rattle.dft_abstract.specs.Cycle.{Pulse, tri_forced_by, tri_taken_by, next_value, after_pulse, IsLeast, pulse_of, strobe_sources, Round}
 use Rattle.dft_cycle.specs.Machine.{Machine, value_at, logic, acted, at_strobe, pulses, pulse_from}
 use Rattle.dft_cycle.specs.MachineLaws.{IsForced, StartIsForced, SetStands, CallsAreRound}
 

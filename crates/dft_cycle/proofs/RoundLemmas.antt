@@ -12,11 +12,11 @@ use Rattle.dft_netlist.specs.Settled.{TriSources, value_from, IsTriSettled}
 use Rattle.dft_netlist.proofs.Meanings.{source_same}
 use Rattle.dft_cycle.specs.declared.circuit.Latch.{Latch}
 use Rattle.dft_cycle.specs.declared.circuit.Circuit.{Circuit}
-use Rattle.dft_cycle.specs.Cycle.{Pulse, view_sources, AreViews}
+use Rattle.dft_abstract.specs.Cycle.{Pulse, view_sources, AreViews}
 use Rattle.dft_cycle.specs.Machine.{value_at}
 use Rattle.dft_cycle.specs.Circuit.{logic_at, latch_of, latch_at, IsCircuit}
 use Rattle.dft_cycle.specs.Views.{held_by, Among, rank_of, IsHeld, OwnsLatches}
-use Rattle.dft_cycle.proofs.Views.{given_same}
+use Rattle.dft_abstract.proofs.Views.{given_same}
 use Rattle.dft_cycle.proofs.CircuitRanks.{circuit_ranked}
 
 -- sources of a view whose lock-ups show held values

@@ -21,8 +21,8 @@ use Rattle.dft_cycle.specs.declared.circuit.Circuit.{Circuit}
 use Rattle.dft_cycle.specs.declared.circuit.Latch.{Latch}
 use Rattle.dft_cycle.specs.declared.settling.Pulse.{Pulse}
 use Rattle.dft_cycle.specs.declared.settling.View.{View}
-use Rattle.dft_cycle.specs.Cycle.{view_sources}
-use Rattle.dft_cycle.specs.Cycle as Cycle
+use Rattle.dft_abstract.specs.Cycle.{view_sources}
+use Rattle.dft_abstract.specs.Cycle as Cycle
 use Rattle.dft_cycle.specs.Machine.{value_at}
 use Rattle.dft_cycle.specs.Tables.{IsTable}
 

@@ -3,8 +3,7 @@ pub use Rattle.dft_netlist.specs.Drivers
 pub use Rattle.dft_netlist.specs.Logic
 pub use Rattle.dft_netlist.specs.Settled
 pub use Rattle.dft_netlist.specs.Runs
-pub mod Cycle
-pub mod Laws
+pub use Rattle.dft_abstract.specs.Cycle
 pub mod Machine
 pub mod Tables
 pub mod Circuit

@@ -7,7 +7,7 @@ use Rattle.dft_netlist.specs.declared.ids.NetId.{NetId}
 use Rattle.dft_netlist.specs.Netlist.{Netlist}
 use Rattle.dft_netlist.specs.Logic.{Ports, Logic, Force, logic_of}
 use Rattle.dft_netlist.specs.Settled.{TriSources, value_from, IsTriSettled}
-use Rattle.dft_cycle.specs.Cycle.{Pulse, IsLeast, after_pulse}
+use Rattle.dft_abstract.specs.Cycle.{Pulse, IsLeast, after_pulse}
 
 pub record Machine : Type 0 where
   pub netlist : Netlist

@@ -9,8 +9,8 @@ use Rattle.dft_netlist.specs.Logic.{Logic, Lockup, Cell}
 use Rattle.dft_netlist.specs.Settled.{value_from}
 use Rattle.dft_netlist.specs.Orders.{numbers_of}
 use Rattle.dft_cycle.specs.declared.circuit.Circuit.{Circuit}
-use Rattle.dft_cycle.specs.Cycle.{tri_forced_by, tri_taken_by, next_value, IsClosed}
-use Rattle.dft_cycle.specs.Cycle as Cycle
+use Rattle.dft_abstract.specs.Cycle.{tri_forced_by, tri_taken_by, next_value, IsClosed}
+use Rattle.dft_abstract.specs.Cycle as Cycle
 use Rattle.dft_cycle.specs.Machine.{value_at}
 use Rattle.dft_cycle.specs.Circuit.{logic_at, latch_at, flag_at}
 

@@ -1,4 +1,4 @@
-//! The abstract cycle of a design over test vectors, and its laws, as contracts of functions that do nothing.
+//! The machine of the abstract cycle: it computes the cycle's values for every design, vector by vector.
 #![tactic(auto)]
 
 mod building;
@@ -13,33 +13,6 @@ mod sweeping;
 mod tables;
 mod wires;
 
-ghost use Rattle.dft_cycle.specs.Laws.{ClosedExists, StrobeExists, StrobeIsAbove, TurnIsAbove, StepIsBelow, RoundIsOne, OneDomain, KnownAfterTurn, KnownAtStrobe, LowAfterTurn};
-
+pub use dft_abstract::{cycle_is_above, cycle_is_determined, known_in_runs, one_domain};
 pub use laws::calls_are_round;
 pub use machine::AbstractMachine;
-
-/// In every run, whatever the order of edges and the free bits, the abstract values stand above the bits.
-pub fn cycle_is_above()
-    ensures strobe { StrobeIsAbove }
-    ensures turn { TurnIsAbove }
-{}
-
-/// The abstract values of a vector exist for any map and are determined; joins stay below all closed maps.
-pub fn cycle_is_determined()
-    ensures closed { ClosedExists }
-    ensures strobe { StrobeExists }
-    ensures step { StepIsBelow }
-    ensures one { RoundIsOne }
-{}
-
-/// Where one domain pulses, flip-flops take their next values from the strobe's values.
-pub fn one_domain()
-    ensures { OneDomain }
-{}
-
-/// What the abstract cycle knows from a run's own bits, the run has.
-pub fn known_in_runs()
-    ensures after { KnownAfterTurn }
-    ensures strobe { KnownAtStrobe }
-    ensures low { LowAfterTurn }
-{}

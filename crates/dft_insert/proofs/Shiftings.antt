@@ -12,9 +12,9 @@ use Rattle.dft_netlist.specs.Drivers.{Source, Net}
 use Rattle.dft_netlist.specs.Logic.{Logic, Ports, Meaning, Force, Scan, Input, Flop, Lockup, IsRanked}
 use Rattle.dft_netlist.specs.Settled.{TriSources, value_from, value_given, IsTriSettled, bit_given}
 use Rattle.dft_netlist.specs.Runs.{Now, Moment, State, next_now, set_step, sources_of, port_bits, forced_by, Vector, Turn, after_turn, AreTurns, AreLow}
-use Rattle.dft_cycle.specs.Cycle.{Pulse, tri_forced_by, tri_taken_by, view_sources, AreViews, next_value, after_pulse, pulse_of}
-use Rattle.dft_cycle.specs.Laws.{bits}
-use Rattle.dft_cycle.proofs.Lifts.{known_after_turn, low_after_turn}
+use Rattle.dft_abstract.specs.Cycle.{Pulse, tri_forced_by, tri_taken_by, view_sources, AreViews, next_value, after_pulse, pulse_of}
+use Rattle.dft_abstract.specs.Laws.{bits}
+use Rattle.dft_abstract.proofs.Lifts.{known_after_turn, low_after_turn}
 use Rattle.dft_stitch.specs.Plans.{cell_at}
 use Rattle.dft_insert.specs.Hardware.{ScanNets, ActsByPort, IsScanCell, Leads, Directly, ByLockup, HasChains, Shows, IsPlain}
 use Rattle.dft_insert.specs.Shifts.{IsShift, LinkLaw, EntryLaw, IsShifted, ShiftInRuns, after_turns, AreShifts, AreShifted, ShiftExperiment, at_strobe, EndsShow, EndsShowBefore}

@@ -1,4 +1,4 @@
--- What shift vectors do to scan chains.
+-- What shift vectors do to scan chains (Bushnell and Agrawal, Essentials of Electronic Testing).
 use Rattle.std.specs.Prelude.{ℕ, zero, suc, ◌+◌, ◌≡◌, Bool, true, List, [], ◌∷◌, length, None, Some, slice_get}
 use Rattle.dft_base.specs.declared.tri.Tri.{Tri}
 use Rattle.dft_base.specs.declared.tri.Tri.TheVariants.{One}
@@ -6,8 +6,8 @@ use Rattle.dft_base.specs.Tri.{Above}
 use Rattle.dft_netlist.specs.declared.ids.InstanceId.{InstanceId}
 use Rattle.dft_netlist.specs.Logic.{Logic, Ports, IsRanked}
 use Rattle.dft_netlist.specs.Runs.{State, Now, next_now, set_step, Vector, Turn, IsTurn, after_turn, AreTurns, AreLow, IsRun}
-use Rattle.dft_cycle.specs.Cycle.{AreViews, after_pulse, pulse_of}
-use Rattle.dft_cycle.specs.Laws.{shown}
+use Rattle.dft_abstract.specs.Cycle.{AreViews, after_pulse, pulse_of}
+use Rattle.dft_abstract.specs.Laws.{shown}
 use Rattle.dft_stitch.specs.Plans.{cell_at}
 use Rattle.dft_insert.specs.Hardware.{ScanNets, HasChains, Enters, IsPlain}
 

@@ -17,7 +17,7 @@ use Rattle.dft_rules.specs.Rules.{input_net, is_net, judged}
 use Rattle.dft_rules.specs.Refusals.{is_scanned}
 use Rattle.dft_rules.specs.Refusals as rules
 use Rattle.dft_netlist.specs.declared.ids.InstanceId.{InstanceId}
-use Rattle.dft_cycle.specs.Laws.{shown}
+use Rattle.dft_abstract.specs.Laws.{shown}
 use Rattle.dft_stitch.specs.Chains.{plan_of}
 use Rattle.dft_stitch.specs.Plans.{cell_at}
 use Rattle.dft_insert.specs.declared.style.Style.{Style}

@@ -1,4 +1,4 @@
--- The printed names of a netlist: of nets, among them the bits of ports, of vector ports and of instances.
+-- The printed names of a netlist: of nets, among them the bits of ports, of vector ports and of instances (IEEE 1364, identifiers).
 use Rattle.std.specs.Prelude.{ℕ, zero, suc, ◌-◌, ◌≡◌, Bool, false, List, [], ◌∷◌, ◌++◌, map, Option, None, Some, slice_get, if◌then◌else◌, nat_le}
 use Rattle.std.specs.List.{filter_map}
 use Rattle.std.specs.Option.{option_and_then}

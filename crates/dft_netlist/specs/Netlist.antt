@@ -1,4 +1,4 @@
--- What a design is: its ports, nets, instances and joins, each list in order.
+-- What a design is: its ports, nets, instances and joins, each list in order (IEEE 1364, structural part).
 use Rattle.std.specs.Prelude.{ℕ, List}
 use Rattle.dft_cells.specs.declared.cell.Cell.{Cell}
 use Rattle.dft_netlist.specs.declared.port.Port.{Port}

@@ -4,7 +4,7 @@ use Rattle.std.specs.Prelude.{if◌then◌else◌}
 use Rattle.std.proofs.lemmas.Bool.{eqb-true}
 use Rattle.dft_netlist.specs.Netlist.{Netlist}
 use Rattle.dft_netlist.specs.Drivers.{Driver, Driven, driver_in, all_driven, nets_read, AreBelow, IsOrdered}
-use Rattle.dft_stil.specs.declared.act.Act.TheVariants.{ExpectLow, ExpectHigh}
+use Rattle.dft_patterns.specs.declared.act.Act.TheVariants.{ExpectLow, ExpectHigh}
 use Rattle.dft_replay.specs.Examples.{row, row_with_lockup, both_pulse, TwoDomains, set_once, KeptInput, row_with_quiet_lockup, one_pulses, QuietLockup, row_of_three, all_pulse, ThreeDomains}
 use Rattle.dft_replay.proofs.PlainLemmas.{verdict_plain}
 

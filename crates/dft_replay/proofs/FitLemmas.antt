@@ -18,7 +18,7 @@ use Rattle.dft_netlist.specs.Sound.{IsNetlist, bit_names_of}
 use Rattle.dft_base.specs.Lexing.{Text}
 use Rattle.dft_netlist.proofs.NamesLemmas.{same_of, bytes_eq-same}
 use Rattle.dft_netlist.proofs.LiveLemmas.{AreWide}
-use Rattle.dft_stil.specs.declared.signal.StilSignal.{StilSignal}
+use Rattle.dft_patterns.specs.declared.signal.StilSignal.{StilSignal}
 use Rattle.dft_replay.specs.Fits.{same_dir, has_bit, is_port_bit}
 use Rattle.dft_replay.specs.Vectors.{dirs_of}
 use Rattle.dft_replay.proofs.TestLemmas.{or_cases, or_left, or_right, and_parts, and_both}

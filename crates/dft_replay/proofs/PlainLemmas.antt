@@ -11,9 +11,9 @@ use Rattle.dft_netlist.specs.Settled.{IsTriSettled}
 use Rattle.dft_netlist.specs.Runs.{Vector}
 use Rattle.dft_netlist.proofs.Meanings.{source_same}
 use Rattle.dft_netlist.proofs.Ranks.{order_is_rank}
-use Rattle.dft_cycle.specs.Cycle.{Pulse, view_sources, AreViews, next_value, IsClosed, IsLeast, after_pulse, pulse_of, strobe_sources, Round, IsRound, after_round}
-use Rattle.dft_cycle.proofs.Views.{given_same}
-use Rattle.dft_cycle.proofs.Least.{step_below}
+use Rattle.dft_abstract.specs.Cycle.{Pulse, view_sources, AreViews, next_value, IsClosed, IsLeast, after_pulse, pulse_of, strobe_sources, Round, IsRound, after_round}
+use Rattle.dft_abstract.proofs.Views.{given_same}
+use Rattle.dft_abstract.proofs.Least.{step_below}
 use Rattle.dft_cells.proofs.Completions.{above_self, join_over_left}
 use Rattle.std.proofs.lemmas.Bool.{and_cases}
 use Rattle.dft_replay.specs.declared.verdict.Verdict.{Verdict}

@@ -9,9 +9,9 @@ use Rattle.dft_netlist.specs.declared.ids.NetId.{NetId}
 use Rattle.dft_netlist.specs.Netlist.{Netlist}
 use Rattle.dft_netlist.specs.Logic.{Logic, logic_of}
 use Rattle.dft_netlist.specs.Orders.{numbers_of}
-use Rattle.dft_cycle.specs.Cycle.{Round, IsRound, after_round, all_unknown}
+use Rattle.dft_abstract.specs.Cycle.{Round, IsRound, after_round, all_unknown}
 use Rattle.dft_cycle.specs.Machine.{Machine, value_at, logic, is_one_of, IsStart}
-use Rattle.dft_stil.specs.declared.act.Act.{Act}
+use Rattle.dft_patterns.specs.declared.act.Act.{Act}
 use Rattle.dft_replay.specs.declared.verdict.Verdict.{Verdict}
 use Rattle.dft_replay.specs.Rows.{Row, row_of, rows_from, ports_in, pulses}
 use Rattle.dft_replay.specs.Vectors.{net_at, clocks_of, is_compared, IsPlayed}

@@ -13,11 +13,11 @@ use Rattle.dft_netlist.specs.Names.{find_net}
 use Rattle.dft_netlist.specs.Orders.{numbers_of}
 use Rattle.dft_netlist.specs.Sound.{IsNetlist}
 use Rattle.dft_cycle.specs.Machine.{AreNets}
-use Rattle.dft_stil.specs.declared.act.Act.{Act}
-use Rattle.dft_stil.specs.declared.signal.StilSignal.{StilSignal}
-use Rattle.dft_stil.specs.Patterns.{Patterns, IsVector}
+use Rattle.dft_patterns.specs.declared.act.Act.{Act}
+use Rattle.dft_patterns.specs.declared.signal.StilSignal.{StilSignal}
+use Rattle.dft_patterns.specs.Patterns.{Patterns, IsVector}
 use Rattle.dft_netlist.specs.Logic.{logic_of}
-use Rattle.dft_cycle.specs.Cycle.{all_unknown}
+use Rattle.dft_abstract.specs.Cycle.{all_unknown}
 use Rattle.dft_replay.specs.declared.verdict.Verdict.{Verdict}
 use Rattle.dft_replay.specs.Verdicts.{HasVerdictFrom, HasVerdict}
 use Rattle.dft_replay.specs.Rows.{or_past, net_named, nets_of, rows_from, ports_in}

@@ -10,13 +10,13 @@ use Rattle.dft_netlist.specs.Orders.{IsOrder}
 use Rattle.dft_netlist.specs.Sound.{IsNetlist}
 use Rattle.dft_netlist.proofs.Ranks.{order_is_rank}
 use Rattle.dft_netlist.proofs.RankLemmas.{order_ranks}
-use Rattle.dft_cycle.specs.Cycle.{Round, after_round, all_unknown}
-use Rattle.dft_cycle.specs.Laws.{Stands}
-use Rattle.dft_cycle.proofs.Turns.{strobe_stands, turn_stands}
+use Rattle.dft_abstract.specs.Cycle.{Round, after_round, all_unknown}
+use Rattle.dft_abstract.specs.Laws.{Stands}
+use Rattle.dft_abstract.proofs.Turns.{strobe_stands, turn_stands}
 use Rattle.dft_replay.specs.declared.verdict.Verdict.{Verdict}
 use Rattle.dft_replay.specs.declared.verdict.Verdict.TheVariants.{Pass, Mismatch, Undetermined}
 use Rattle.dft_replay.specs.Rows.{Compared, Row, rows_of, ports_of}
-use Rattle.dft_stil.specs.Patterns.{Patterns}
+use Rattle.dft_patterns.specs.Patterns.{Patterns}
 use Rattle.dft_replay.specs.Verdicts.{decided_by, decided, Stops, HasVerdictFrom, HasVerdict}
 use Rattle.dft_replay.specs.Laws.{vectors_of, Shows, AllShow, Breaks, FirstBreak, PassIsSound, MismatchIsSound, HoldsInRuns}
 

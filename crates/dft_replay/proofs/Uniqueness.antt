@@ -3,8 +3,8 @@ use Rattle.std.proofs.Common.{ℕ, suc, ◌+◌, List, [], ◌∷◌, ◌≡◌,
 use Rattle.dft_base.specs.declared.tri.Tri.{Tri}
 use Rattle.dft_netlist.specs.Logic.{Logic, IsRanked, logic_of}
 use Rattle.dft_netlist.proofs.Ranks.{order_is_rank}
-use Rattle.dft_cycle.specs.Cycle.{Round, after_round, all_unknown}
-use Rattle.dft_cycle.proofs.Least.{round_one}
+use Rattle.dft_abstract.specs.Cycle.{Round, after_round, all_unknown}
+use Rattle.dft_abstract.proofs.Least.{round_one}
 use Rattle.dft_replay.specs.declared.verdict.Verdict.{Verdict}
 use Rattle.dft_replay.specs.Rows.{Row, rows_of, ports_of}
 use Rattle.dft_replay.specs.Verdicts.{decided, Stops, HasVerdictFrom}

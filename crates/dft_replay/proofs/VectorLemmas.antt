@@ -14,8 +14,8 @@ use Rattle.dft_netlist.specs.Orders.{Has, numbers_of}
 use Rattle.dft_cycle.specs.Machine.{Machine, value_at, logic, is_one_of, pulses, IsSet, IsStrobed, IsPulsed}
 use Rattle.dft_cycle.specs.MachineLaws.{IsForced, StandsSince}
 use Rattle.dft_cycle.proofs.MachineRounds.{set_stands, calls_round}
-use Rattle.dft_stil.specs.declared.act.Act.{Act}
-use Rattle.dft_stil.specs.declared.act.Act.TheVariants.{Unset, Low, High, Pulse, ExpectLow, ExpectHigh, Ignore}
+use Rattle.dft_patterns.specs.declared.act.Act.{Act}
+use Rattle.dft_patterns.specs.declared.act.Act.TheVariants.{Unset, Low, High, Pulse, ExpectLow, ExpectHigh, Ignore}
 use Rattle.dft_replay.specs.declared.verdict.Verdict.{Verdict}
 use Rattle.dft_replay.specs.Rows.{Compared, Row, act_on, set_by, is_pulse, compared_at, compared_from, row_of}
 use Rattle.dft_replay.specs.Rows as rows

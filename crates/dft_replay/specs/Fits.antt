@@ -7,7 +7,7 @@ use Rattle.dft_base.specs.declared.dir.Dir.TheVariants.{Input, Output}
 use Rattle.dft_netlist.specs.declared.port.Port.{Port}
 use Rattle.dft_netlist.specs.Netlist.{Netlist}
 use Rattle.dft_netlist.specs.Names.{bit_names}
-use Rattle.dft_stil.specs.declared.signal.StilSignal.{StilSignal}
+use Rattle.dft_patterns.specs.declared.signal.StilSignal.{StilSignal}
 use Rattle.dft_replay.specs.declared.error.ReplayError.{ReplayError}
 use Rattle.dft_replay.specs.declared.error.ReplayError.TheVariants.{P7, Memory}
 

@@ -1,5 +1,5 @@
-pub use Rattle.dft_cycle.specs.Cycle
-pub use Rattle.dft_stil.specs.Patterns
+pub use Rattle.dft_abstract.specs.Cycle
+pub use Rattle.dft_patterns.specs.Patterns
 pub mod Rows
 pub mod Verdicts
 pub mod Fits

@@ -8,8 +8,8 @@ use Rattle.dft_netlist.specs.Drivers.{IsOrdered}
 use Rattle.dft_netlist.specs.Logic.{Logic, logic_of}
 use Rattle.dft_netlist.specs.Settled.{value_given}
 use Rattle.dft_netlist.specs.Runs.{Vector}
-use Rattle.dft_cycle.specs.Cycle.{Pulse, view_sources, next_value, after_pulse, pulse_of, strobe_sources}
-use Rattle.dft_stil.specs.Patterns.{Patterns}
+use Rattle.dft_abstract.specs.Cycle.{Pulse, view_sources, next_value, after_pulse, pulse_of, strobe_sources}
+use Rattle.dft_patterns.specs.Patterns.{Patterns}
 use Rattle.dft_replay.specs.declared.verdict.Verdict.{Verdict}
 use Rattle.dft_replay.specs.declared.verdict.Verdict.TheVariants.{Pass}
 use Rattle.dft_replay.specs.Rows.{Row, rows_of, ports_of}

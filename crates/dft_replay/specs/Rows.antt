@@ -8,11 +8,11 @@ use Rattle.dft_netlist.specs.Netlist.{Netlist}
 use Rattle.dft_netlist.specs.Names.{find_net}
 use Rattle.dft_netlist.specs.Logic.{Ports}
 use Rattle.dft_netlist.specs.Runs.{Vector}
-use Rattle.dft_cycle.specs.Cycle.{all_unknown}
-use Rattle.dft_stil.specs.declared.act.Act.{Act}
-use Rattle.dft_stil.specs.declared.act.Act.TheVariants.{Unset, Low, High, Pulse, ExpectLow, ExpectHigh, Ignore}
-use Rattle.dft_stil.specs.declared.signal.StilSignal.{StilSignal}
-use Rattle.dft_stil.specs.Patterns.{Patterns}
+use Rattle.dft_abstract.specs.Cycle.{all_unknown}
+use Rattle.dft_patterns.specs.declared.act.Act.{Act}
+use Rattle.dft_patterns.specs.declared.act.Act.TheVariants.{Unset, Low, High, Pulse, ExpectLow, ExpectHigh, Ignore}
+use Rattle.dft_patterns.specs.declared.signal.StilSignal.{StilSignal}
+use Rattle.dft_patterns.specs.Patterns.{Patterns}
 
 -- ---- nets
 

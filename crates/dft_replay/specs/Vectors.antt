@@ -6,11 +6,11 @@ use Rattle.dft_netlist.specs.declared.ids.NetId.{NetId}
 use Rattle.dft_base.specs.declared.dir.Dir.{Dir}
 use Rattle.dft_netlist.specs.declared.port.Port.{Port}
 use Rattle.dft_netlist.specs.Orders.{Has, numbers_of}
-use Rattle.dft_cycle.specs.Cycle.{Round, IsRound, after_round}
+use Rattle.dft_abstract.specs.Cycle.{Round, IsRound, after_round}
 use Rattle.dft_cycle.specs.Machine.{Machine, value_at, logic}
 use Rattle.dft_cycle.specs.MachineLaws.{IsForced}
-use Rattle.dft_stil.specs.declared.act.Act.{Act}
-use Rattle.dft_stil.specs.declared.act.Act.TheVariants.{Unset, Low, High, Pulse, ExpectLow, ExpectHigh, Ignore}
+use Rattle.dft_patterns.specs.declared.act.Act.{Act}
+use Rattle.dft_patterns.specs.declared.act.Act.TheVariants.{Unset, Low, High, Pulse, ExpectLow, ExpectHigh, Ignore}
 use Rattle.dft_replay.specs.declared.verdict.Verdict.{Verdict}
 use Rattle.dft_replay.specs.Rows.{Row, is_pulse}
 use Rattle.dft_replay.specs.Verdicts.{decided_by, decided}

@@ -4,8 +4,8 @@ use Rattle.dft_base.specs.declared.tri.Tri.{Tri}
 use Rattle.dft_base.specs.declared.tri.Tri.TheVariants.{Zero, One, Unknown}
 use Rattle.dft_netlist.specs.Netlist.{Netlist}
 use Rattle.dft_netlist.specs.Logic.{Logic, logic_of}
-use Rattle.dft_cycle.specs.Cycle.{Round, IsRound, after_round, all_unknown}
-use Rattle.dft_stil.specs.Patterns.{Patterns}
+use Rattle.dft_abstract.specs.Cycle.{Round, IsRound, after_round, all_unknown}
+use Rattle.dft_patterns.specs.Patterns.{Patterns}
 use Rattle.dft_replay.specs.declared.verdict.Verdict.{Verdict}
 use Rattle.dft_replay.specs.declared.verdict.Verdict.TheVariants.{Pass, Mismatch, Undetermined}
 use Rattle.dft_replay.specs.Rows.{Compared, Row, rows_of, ports_of}

@@ -9,7 +9,7 @@ ghost use Rattle.dft_replay.specs.Verdicts.{decided_by};
 use crate::verdict::Verdict;
 use dft_base::Tri;
 use dft_netlist::NetId;
-use dft_stil::{Act, Acts};
+use dft_patterns::{Act, Acts};
 use std::alloc::{AllocError, Global};
 
 /// The act at the signal with this number.

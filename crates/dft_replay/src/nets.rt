@@ -10,9 +10,9 @@ ghost use Rattle.dft_replay.specs.Rows as rows;
 ghost use Rattle.dft_replay.specs.Vectors.{dirs_of};
 
 use crate::error::ReplayError;
-use dft_base::Name;
-use dft_netlist::{Design, Dir, NetId, Port};
-use dft_stil::StilSignal;
+use dft_base::{Dir, Name};
+use dft_netlist::{Design, NetId, Port};
+use dft_patterns::StilSignal;
 use std::alloc::{AllocError, Global};
 
 fn same_dir(a: Dir, b: Dir) -> bool

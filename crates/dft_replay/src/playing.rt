@@ -14,7 +14,7 @@ use crate::acts::{act_at, differ, judged, mark, set_by};
 use crate::verdict::Verdict;
 use dft_cycle::AbstractMachine;
 use dft_netlist::NetId;
-use dft_stil::Act;
+use dft_patterns::Act;
 
 /// Sets the inputs that a vector sets.
 fn set_inputs(machine: &mut AbstractMachine<'_>, nets: &[NetId], acts: &[Act])

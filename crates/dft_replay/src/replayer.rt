@@ -3,8 +3,8 @@
 ghost use Rattle.std.specs.Prelude.{◌≡◌, ◌<◌, ◌^◌, ℕ, List, All, None, length, IfOk, IfErr};
 ghost use Rattle.dft_netlist.specs.Logic.{logic_of};
 ghost use Rattle.dft_netlist.specs.Orders.{numbers_of};
-ghost use Rattle.dft_cycle.specs.Cycle.{all_unknown};
-ghost use Rattle.dft_stil.specs.Patterns.{IsWellFormed};
+ghost use Rattle.dft_abstract.specs.Cycle.{all_unknown};
+ghost use Rattle.dft_patterns.specs.Patterns.{IsWellFormed};
 ghost use Rattle.dft_replay.specs.Fits.{first_misfit, TellsMisfit};
 ghost use Rattle.dft_replay.specs.Laws.{HoldsInRuns};
 ghost use Rattle.dft_replay.specs.Rows.{rows_from, ports_in};
@@ -18,7 +18,7 @@ use crate::playing::play;
 use crate::verdict::Verdict;
 use dft_cycle::AbstractMachine;
 use dft_netlist::{Design, NetId};
-use dft_stil::{Acts, PatternSet};
+use dft_patterns::{Acts, PatternSet};
 use std::alloc::{AllocError, Global};
 
 /// The verdict of vectors at signals with these nets.

@@ -1,10 +1,14 @@
-//! Cases worked by hand, as tests of whole runs of the tool over files in memory.
+//! Cases worked by hand, as tests of whole runs of the tool over files in memory, and of its plans and reports.
 #![tactic(auto)]
 
+#[cfg(test)]
+mod chains;
 #[cfg(test)]
 mod designs;
 #[cfg(test)]
 mod files;
+#[cfg(test)]
+mod reports;
 #[cfg(test)]
 mod rows;
 #[cfg(test)]

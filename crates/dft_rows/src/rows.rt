@@ -346,24 +346,3 @@ fn netlists_are_read_over_the_library(rt: HostRuntime) -> Result<(), Fail> {
     }
     Ok(())
 }
-
-// A counter of four bits as a synthesis tool wrote it.
-const COUNTER: &str =
-    "module counter(clk, rst_n, en, count, carry); wire _00_; wire _01_; wire _02_; wire _03_; wire _04_; wire _05_; wire _06_; wire _07_; wire _08_; wire _09_; wire _10_; wire _11_; wire _12_; wire [3:0] _13_; wire _14_; wire _15_; wire _16_; output carry; wire carry; input clk; wire clk; output [3:0] count; wire [3:0] count; input en; wire en; input rst_n; wire rst_n; INV _17_ ( .A(en), .Y(_04_) ); NAND2 _18_ ( .A(count[1]), .B(count[2]), .Y(_05_) ); NAND2 _19_ ( .A(count[2]), .B(count[3]), .Y(_06_) ); NAND2 _20_ ( .A(count[0]), .B(count[1]), .Y(_07_) ); NOR2 _21_ ( .A(_06_), .B(_07_), .Y(carry) ); NAND2 _22_ ( .A(count[0]), .B(en), .Y(_08_) ); NOR2 _23_ ( .A(_04_), .B(_07_), .Y(_09_) ); XNOR2 _24_ ( .A(count[1]), .B(_08_), .Y(_00_) ); NOR2 _25_ ( .A(_05_), .B(_08_), .Y(_10_) ); XOR2 _26_ ( .A(count[2]), .B(_09_), .Y(_01_) ); XOR2 _27_ ( .A(count[3]), .B(_10_), .Y(_02_) ); NAND2 _28_ ( .A(en), .B(_13_[0]), .Y(_11_) ); NAND2 _29_ ( .A(count[0]), .B(_04_), .Y(_12_) ); NAND2 _30_ ( .A(_11_), .B(_12_), .Y(_03_) ); DFFR _31_ ( .CK(clk), .D(_00_), .Q(count[1]), .QN(_16_), .RN(rst_n) ); DFFR _32_ ( .CK(clk), .D(_01_), .Q(count[2]), .QN(_15_), .RN(rst_n) ); DFFR _33_ ( .CK(clk), .D(_02_), .Q(count[3]), .QN(_14_), .RN(rst_n) ); DFFR _34_ ( .CK(clk), .D(_03_), .Q(count[0]), .QN(_13_[0]), .RN(rst_n) ); assign _13_[3:1] = count[3:1]; endmodule";
-
-#[test]
-fn a_synthesised_counter_counts(rt: HostRuntime) -> Result<(), Fail> {
-    let mut vectors = String::from_str(rt.alloc(), "000 L")?;
-    for _count in 0..15 {
-        vectors.push_str(" P11 L")?;
-    }
-    vectors.push_str(" 010 H")?;
-    let text = patterns(rt.alloc(), "clk rst_n en", "carry", vectors.as_str())?;
-    let texts = ("", COUNTER, text.as_str());
-    let end = replayed(rt.alloc(), &WORDS, texts, None, None)?;
-    assert_eq!(rt;
-        end.line.as_slice(),
-        b"pass 17 vectors 17 compared\n".as_slice()
-    );
-    Ok(())
-}

@@ -2,7 +2,7 @@
 
 use crate::designs::{
     CLASHING, CLOCK_AS_DATA, GATED, LATE_CHAIN, LOCKED, ON_BOTH, ON_ONE, ONE, ONE_CHAIN, PAIR,
-    QUOTED, RESET, ROW, SCANNED, THREE_CHAINS, TWO_CHAINS, WATCH, WATCH_CONFIG,
+    QUOTED, RESET, ROW, SCANNED, THREE_CHAINS,
 };
 use crate::files::{LIBRARY, patterns, ran, shelf};
 use dft_files::{Failing, MemoryFiles};
@@ -262,36 +262,5 @@ fn words_of_a_scan_are_of_the_form_or_usage(rt: HostRuntime) -> Result<(), Fail>
         let end = ran(rt.alloc(), words.as_slice(), &mut files, None)?;
         assert_eq!(rt; end.line.as_slice(), line.as_bytes());
     }
-    Ok(())
-}
-
-const WATCH_REPORT: &str =
-    "edt report 1\ncells 7 chains 2\nchain 0 length 4\nchain 1 length 3\nscanned _30_ clk_a chain 0 place 0\nscanned _31_ clk_a chain 0 place 1\nscanned _32_ clk_a chain 0 place 2\nscanned _33_ clk_b chain 0 place 3\nscanned _34_ clk_b chain 1 place 0\nscanned _35_ clk_b chain 1 place 1\nscanned _36_ clk_b chain 1 place 2\n";
-
-// A reset; three loads, each with a capture, on the first clock, the second and both; and what is captured, compared as
-// the next load goes in.
-const WATCH_VECTORS: &str =
-    "0000000 LLLLLLL PP10100 XXXXXLL PP10100 XXXXXLL PP10111 XXXXXLL PP10111 XXXXXLL P011000 LHHHLXX PP10101 XXXXXLL PP10110 XXXXXHH PP10101 XXXXXLH PP10110 XXXXXLH 0P11000 HLHHLXX PP10100 XXXXXHH PP10111 XXXXXHL PP10110 XXXXXLH PP10100 XXXXXHL PP10000 HHLLLXX PP10100 XXXXXLL PP10100 XXXXXHL PP10100 XXXXXHH PP10100 XXXXXLL";
-
-#[test]
-fn a_synthesised_netlist_is_scanned_and_replayed(rt: HostRuntime) -> Result<(), Fail> {
-    let inputs = "clk_a clk_b rst_n en scan_enable scan_in0 scan_in1";
-    let outputs = "count[2] count[1] count[0] seen flag scan_out0 scan_out1";
-    let text = patterns(rt.alloc(), inputs, outputs, WATCH_VECTORS)?;
-    let mut config = String::from_str(rt.alloc(), WATCH_CONFIG)?;
-    config.push_str(TWO_CHAINS)?;
-    let texts = ("", WATCH, config.as_str(), text.as_str());
-    let mut files = shelf(rt.alloc(), texts, Vec::new(rt.alloc()))?;
-    let scan = ran(rt.alloc(), &SCAN, &mut files, None)?;
-    assert_eq!(rt;
-        scan.line.as_slice(),
-        b"scanned cells 7 unscanned 0 chains 2 lockups 1\n".as_slice()
-    );
-    assert_eq!(rt; text_of(&files, "r"), WATCH_REPORT.as_bytes());
-    let end = ran(rt.alloc(), &SAVED, &mut files, None)?;
-    assert_eq!(rt;
-        end.line.as_slice(),
-        b"pass 20 vectors 54 compared\n".as_slice()
-    );
     Ok(())
 }

@@ -1,4 +1,4 @@
--- The scan rules: which flip-flops are scanned, and in which domain. A flip-flop is judged by the first rule that fails.
+-- The scan rules: which flip-flops are scanned, and in which domain. A flip-flop is judged by the first rule that fails (Bushnell and Agrawal, Essentials of Electronic Testing).
 use Rattle.std.specs.Prelude.{ℕ, ◌==◌, Bool, true, false, not, List, [], ◌∷◌, map, length, Option, None, Some, is_some, is_none, option_and_then, position, slice_get, find, if◌then◌else◌}
 use Rattle.std.specs.List.{list_any, range_with_len}
 use Rattle.dft_base.specs.Lexing.{Text}

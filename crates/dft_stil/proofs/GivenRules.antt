@@ -2,10 +2,10 @@
 use Rattle.std.proofs.Common.{◌≡◌, ℕ, Bool, true, false, cond, true≢false, List, Option, Some, None, Ok, Err, is_ok, refl, sym, ap, subst}
 use Rattle.dft_base.specs.Lexing.{Text}
 use Rattle.dft_base.specs.Parser.{and_then}
-use Rattle.dft_stil.specs.declared.text.Cause.{Cause}
-use Rattle.dft_stil.specs.declared.text.Fault.{Fault}
-use Rattle.dft_stil.specs.Lexemes.{Token}
-use Rattle.dft_stil.specs.Steps.{Rule, Outcome, needed}
+use Rattle.dft_stil_tokens.specs.declared.text.Cause.{Cause}
+use Rattle.dft_stil_tokens.specs.declared.text.Fault.{Fault}
+use Rattle.dft_stil_tokens.specs.Lexemes.{Token}
+use Rattle.dft_stil_tokens.specs.Steps.{Rule, Outcome, needed}
 use Rattle.dft_stil.specs.Namings.{Members, given}
 
 -- each value that the outcome, or the rule, gives is such

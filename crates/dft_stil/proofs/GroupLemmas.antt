@@ -1,7 +1,7 @@
 -- The line of a group, name by name.
 use Rattle.std.proofs.Common.{◌≡◌, ℕ, ◌≤◌, ◌-◌, List, [], ◌∷◌, ◌++◌, codes, map, flat_map, length, get_or, take, drop, take_all, refl, sym, ap, append_assoc, append-nil, arith}
 use Rattle.std.specs.List.{join_with_byte}
-use Rattle.dft_stil.specs.declared.signal.StilSignal.{StilSignal}
+use Rattle.dft_patterns.specs.declared.signal.StilSignal.{StilSignal}
 use Rattle.dft_stil.specs.Written.{quoted, group}
 
 -- a name between quotes, behind a plus sign

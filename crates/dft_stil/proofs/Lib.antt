@@ -1,5 +1,4 @@
 pub mod GroupLemmas
-pub mod SteadyLemmas
 pub mod PatternExamples
 pub mod NoteLemmas
 pub mod KnownNameLemmas
@@ -8,14 +7,9 @@ pub mod WellNamed
 pub mod WellShaped
 pub mod WellFitted
 pub mod WellFormed
-pub mod GapLemmas
-pub mod NameBytes
-pub mod FrontLemmas
-pub mod NumberLemmas
 pub mod MemberLemmas
 pub mod NamesLemmas
 pub mod TableLemmas
-pub mod CharacterNames
 pub mod FlagLemmas
 pub mod CharacterLemmas
 pub mod ReaderLemmas

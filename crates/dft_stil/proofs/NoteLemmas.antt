@@ -1,9 +1,9 @@
 -- Lines of vectors behind lines of notes.
 use Rattle.std.proofs.Common.{◌≡◌, ℕ, suc, ◌<◌, ◌+◌, List, [], ◌∷◌, ◌++◌, codes, flat_map, length, take, drop, drop-cons, get_or, add-one, refl, sym, ap, ◌∙◌, append_assoc, append-nil, ◌≤◌}
 use Rattle.std.proofs.lemmas.List.{drop_all}
-use Rattle.dft_stil.specs.declared.act.Act.{Act}
-use Rattle.dft_stil.specs.declared.notes.Note.{Note}
-use Rattle.dft_stil.specs.Patterns.{input_count}
+use Rattle.dft_patterns.specs.declared.act.Act.{Act}
+use Rattle.dft_patterns.specs.declared.notes.Note.{Note}
+use Rattle.dft_patterns.specs.Patterns.{input_count}
 use Rattle.dft_stil.specs.Written.{head, vector_line, note_line, due, noted_lines, noted, written}
 use Rattle.dft_stil.specs.Laws.{HasOneForm}
 

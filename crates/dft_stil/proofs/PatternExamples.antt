@@ -3,13 +3,13 @@ use Rattle.std.proofs.Common.{◌≡◌, ℕ, refl, codes, Option, Some, None, R
 use Rattle.std.specs.List.{concat}
 use Rattle.dft_base.specs.declared.place.Place.{Place}
 use Rattle.dft_base.specs.Lexing.{Text, place_of, place_after, next_place}
-use Rattle.dft_stil.specs.declared.text.Cause.{Cause}
-use Rattle.dft_stil.specs.declared.text.Cause.TheVariants as cause
+use Rattle.dft_stil_tokens.specs.declared.text.Cause.{Cause}
+use Rattle.dft_stil_tokens.specs.declared.text.Cause.TheVariants as cause
 use Rattle.dft_base.specs.declared.dir.Dir.TheVariants as dir
-use Rattle.dft_stil.specs.declared.act.Act.TheVariants as act
-use Rattle.dft_stil.specs.Patterns.{Patterns}
-use Rattle.dft_stil.specs.Lexemes.{comment_rest, note_rest, gap_len, gaps_from, blank_len, mark_kind, quoted_text, word_or_note, lexeme}
-use Rattle.dft_stil.specs.Steps.{kind_of, bytes, left, next, sees, sees_word, left_out, sees_left_out, sees_capital, mark_refusal, keyword_refusal, expect, after, after_word, keyword, sees_name, name, sees_run, character, letter, number_from, small_number, unit}
+use Rattle.dft_patterns.specs.declared.act.Act.TheVariants as act
+use Rattle.dft_patterns.specs.Patterns.{Patterns}
+use Rattle.dft_stil_tokens.specs.Lexemes.{comment_rest, note_rest, gap_len, gaps_from, blank_len, mark_kind, quoted_text, word_or_note, lexeme}
+use Rattle.dft_stil_tokens.specs.Steps.{kind_of, bytes, left, next, sees, sees_word, left_out, sees_left_out, sees_capital, mark_refusal, keyword_refusal, expect, after, after_word, keyword, sees_name, name, sees_run, character, letter, number_from, small_number, unit}
 use Rattle.dft_stil.specs.Namings.{direction, signal, signals_from, signals_block, member, members_from, members, group, groups_from, name_if_any, group_block, sees_groups, after_groups, group_blocks_from, group_blocks}
 use Rattle.dft_stil.specs.Timings.{time, event_letter, event, events_from, shape, shapes_from, wave, waves_from, table_body, table, tables_from, timing}
 use Rattle.dft_stil.specs.Statements.{sees_characters, characters_refusal, run_of_characters, runs_from, characters, assignment, assignments_from, vector, table_used, labelled, statement, statements_from}

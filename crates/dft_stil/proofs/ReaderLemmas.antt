@@ -3,23 +3,23 @@ use Rattle.std.proofs.Common.{◌≡◌, ℕ, suc, ◌<◌, ◌≤◌, ◌+◌, 
 use Rattle.dft_base.specs.Lexing.{Text, place_of, place_after}
 use Rattle.dft_base.specs.Parser.{value_of}
 use Rattle.dft_base.specs.declared.place.Place.{Place}
-use Rattle.dft_stil.specs.declared.act.Act.{Act}
-use Rattle.dft_stil.specs.declared.signal.StilSignal.{StilSignal}
-use Rattle.dft_stil.specs.declared.text.Cause.{Cause}
-use Rattle.dft_stil.specs.declared.text.Cause.TheVariants as cause
-use Rattle.dft_stil.specs.declared.text.Fault.{Fault}
-use Rattle.dft_stil.specs.declared.steadiness.Unsteady.{Unsteady}
+use Rattle.dft_patterns.specs.declared.act.Act.{Act}
+use Rattle.dft_patterns.specs.declared.signal.StilSignal.{StilSignal}
+use Rattle.dft_stil_tokens.specs.declared.text.Cause.{Cause}
+use Rattle.dft_stil_tokens.specs.declared.text.Cause.TheVariants as cause
+use Rattle.dft_stil_tokens.specs.declared.text.Fault.{Fault}
+use Rattle.dft_patterns.specs.declared.steadiness.Unsteady.{Unsteady}
 use Rattle.dft_stil.specs.declared.error.StilError.{StilError}
 use Rattle.dft_stil.specs.declared.error.StilError.TheVariants as told
 use Rattle.dft_stil.specs.declared.reader.TheConstants.{MAX_VECTORS}
 use Rattle.dft_stil.specs.Laws.{StandsForOne}
-use Rattle.dft_stil.specs.declared.read_error.ReadError.{ReadError}
-use Rattle.dft_stil.specs.Reading.{ReadsText}
-use Rattle.dft_stil.specs.Lexemes.{Token, tokens}
-use Rattle.dft_stil.specs.Patterns.{Patterns, IsVector, IsWellFormed}
+use Rattle.dft_stil_tokens.specs.declared.read_error.ReadError.{ReadError}
+use Rattle.dft_stil_tokens.specs.Reading.{ReadsText}
+use Rattle.dft_stil_tokens.specs.Lexemes.{Token, tokens}
+use Rattle.dft_patterns.specs.Patterns.{Patterns, IsVector, IsWellFormed}
 use Rattle.dft_stil.specs.PatternText.{pattern_text, patterns_of, tested, steady_or, StandsFor, At, Unsteadily, name_of_signal}
 use Rattle.dft_stil.specs.Refusals.{IsFirstRefusal, IsRefused, IsFirstUnsteady, IsUnsteadyAs, told_at}
-use Rattle.dft_stil.specs.Steadiness.{HaveLength, is_not_low, first_not_low, first_unsteady, first_unsteady_from, found_or, pulses}
+use Rattle.dft_patterns.specs.Steadiness.{HaveLength, is_not_low, first_not_low, first_unsteady, first_unsteady_from, found_or, pulses}
 use Rattle.dft_stil.proofs.WellFormed.{fitting, well_formed}
 
 -- ---- places

@@ -8,15 +8,15 @@ use Rattle.dft_base.specs.Lexing.{Text}
 use Rattle.dft_base.specs.Parser.{Checked, pure, ◌>>=◌, ◌>>◌}
 use Rattle.dft_base.specs.declared.dir.Dir.{Dir}
 use Rattle.dft_base.specs.declared.dir.Dir.TheVariants.{Input, Output}
-use Rattle.dft_stil.specs.declared.act.Act.{Act}
-use Rattle.dft_stil.specs.declared.act.Act.TheVariants.{Unset}
-use Rattle.dft_stil.specs.declared.signal.StilSignal.{StilSignal}
-use Rattle.dft_stil.specs.declared.text.Cause.TheVariants as cause
-use Rattle.dft_stil.specs.declared.text.Fault.{Fault}
-use Rattle.dft_stil.specs.declared.text.TokenKind.TheVariants as kind
-use Rattle.dft_stil.specs.Acts.{IsActOf}
-use Rattle.dft_stil.specs.Patterns.{IsVector}
-use Rattle.dft_stil.specs.Steps.{left, next, no_token, unsupported, bytes, sees, expect, eat, keyword, name, sees_word, sees_left_out, checked, needed, Rule}
+use Rattle.dft_patterns.specs.declared.act.Act.{Act}
+use Rattle.dft_patterns.specs.declared.act.Act.TheVariants.{Unset}
+use Rattle.dft_patterns.specs.declared.signal.StilSignal.{StilSignal}
+use Rattle.dft_stil_tokens.specs.declared.text.Cause.TheVariants as cause
+use Rattle.dft_stil_tokens.specs.declared.text.Fault.{Fault}
+use Rattle.dft_stil_tokens.specs.declared.text.TokenKind.TheVariants as kind
+use Rattle.dft_patterns.specs.Acts.{IsActOf}
+use Rattle.dft_patterns.specs.Patterns.{IsVector}
+use Rattle.dft_stil_tokens.specs.Steps.{left, next, no_token, unsupported, bytes, sees, expect, eat, keyword, name, sees_word, sees_left_out, checked, needed, Rule}
 use Rattle.dft_stil.specs.Namings.{Names, Members, number_of, elsewhere}
 use Rattle.dft_stil.specs.Timings.{Shapes, Tables, dir_of}
 use Rattle.dft_stil.specs.Statements as spec

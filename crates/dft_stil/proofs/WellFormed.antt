@@ -2,20 +2,20 @@
 use Rattle.std.proofs.Common.{◌≡◌, ℕ, ◌<◌, ◌≤◌, ◌^◌, List, [], length, All, AllPairs, ◌≢◌, Option, None, Some, Result, Ok, Err, is_ok, true≢false, refl, sym, ap, subst, arith}
 use Rattle.dft_base.specs.Lexing.{Text}
 use Rattle.dft_base.specs.Parser.{value_of}
-use Rattle.dft_stil.specs.declared.signal.StilSignal.{StilSignal}
-use Rattle.dft_stil.specs.declared.text.TokenKind.TheVariants as kind
-use Rattle.dft_stil.specs.declared.text.Fault.{Fault}
-use Rattle.dft_stil.specs.declared.steadiness.Unsteady.{Unsteady}
-use Rattle.dft_stil.specs.Patterns.{Patterns, IsVector, IsWellFormed}
-use Rattle.dft_stil.specs.Steadiness.{first_unsteady}
-use Rattle.dft_stil.specs.Lexemes.{tokens}
-use Rattle.dft_stil.specs.Steps.{Outcome, left, expect, keyword}
+use Rattle.dft_patterns.specs.declared.signal.StilSignal.{StilSignal}
+use Rattle.dft_stil_tokens.specs.declared.text.TokenKind.TheVariants as kind
+use Rattle.dft_stil_tokens.specs.declared.text.Fault.{Fault}
+use Rattle.dft_patterns.specs.declared.steadiness.Unsteady.{Unsteady}
+use Rattle.dft_patterns.specs.Patterns.{Patterns, IsVector, IsWellFormed}
+use Rattle.dft_patterns.specs.Steadiness.{first_unsteady}
+use Rattle.dft_stil_tokens.specs.Lexemes.{tokens}
+use Rattle.dft_stil_tokens.specs.Steps.{Outcome, left, expect, keyword}
 use Rattle.dft_stil.specs.Namings.{Names, signals_block, group_blocks}
 use Rattle.dft_stil.specs.Timings.{Timing, timing}
 use Rattle.dft_stil.specs.PatternText as spec
 use Rattle.dft_stil.specs.PatternText.{version, header_if_any, burst, exec, known_name, pattern, pattern_part, pattern_text, patterns_of}
 use Rattle.dft_stil.proofs.GivenRules.{Gives, GivesOf, after_any, then_gives, pure_gives}
-use Rattle.dft_stil.proofs.SteadyLemmas.{none_is_steady}
+use Rattle.dft_patterns.proofs.SteadyLemmas.{none_is_steady}
 use Rattle.dft_stil.proofs.WellNamed.{Differ, Keeps, block_differs, groups_kept}
 use Rattle.dft_stil.proofs.WellShaped.{TimingFits, timing_fits}
 use Rattle.dft_stil.proofs.WellFitted.{PatternFits, unset_vector, statements_fit}

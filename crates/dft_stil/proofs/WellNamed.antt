@@ -8,9 +8,9 @@ use Rattle.std.proofs.lemmas.List.{get_or_append_left}
 use Rattle.std.proofs.lemmas.Slice.Eq.{bytes_eq-Decides}
 use Rattle.dft_base.specs.Lexing.{Text}
 use Rattle.dft_base.specs.declared.dir.Dir.{Dir}
-use Rattle.dft_stil.specs.declared.text.TokenKind.TheVariants as kind
-use Rattle.dft_stil.specs.declared.signal.StilSignal.{StilSignal}
-use Rattle.dft_stil.specs.Steps.{left, no_token, expect, eat, keyword, name}
+use Rattle.dft_stil_tokens.specs.declared.text.TokenKind.TheVariants as kind
+use Rattle.dft_patterns.specs.declared.signal.StilSignal.{StilSignal}
+use Rattle.dft_stil_tokens.specs.Steps.{left, no_token, expect, eat, keyword, name}
 use Rattle.dft_stil.specs.Namings as spec
 use Rattle.dft_stil.specs.Namings.{direction, signal, signals_from, signals_block, members, group, groups_from, name_if_any, group_block, group_blocks_from, group_blocks}
 use Rattle.dft_stil.proofs.GivenRules.{Gives, after_any, then_gives, pure_gives, refuse_gives, if_gives, needed_gives}

@@ -10,17 +10,18 @@ use Rattle.std.proofs.lemmas.List.Elements.{All-append}
 use Rattle.dft_base.specs.Lexing.{Text}
 use Rattle.dft_base.specs.declared.dir.Dir.{Dir}
 use Rattle.dft_base.specs.declared.dir.Dir.TheVariants.{Input, Output}
-use Rattle.dft_stil.specs.declared.act.Act.{Act}
-use Rattle.dft_stil.specs.declared.act.Act.TheVariants.{Low, High, Pulse, ExpectLow, ExpectHigh, Ignore}
-use Rattle.dft_stil.specs.declared.shapes.Event.{Event}
-use Rattle.dft_stil.specs.declared.shapes.Drawing.{Drawing}
-use Rattle.dft_stil.specs.declared.shapes.Drawing.TheVariants.{Begun, One, Two, Three, Many}
-use Rattle.dft_stil.specs.declared.text.TokenKind.TheVariants as kind
-use Rattle.dft_stil.specs.Acts.{IsActOf}
-use Rattle.dft_stil.specs.Steps.{left, next, no_token, unsupported, bytes, sees, sees_run, character, expect, eat, keyword, letter, name}
+use Rattle.dft_patterns.specs.declared.act.Act.{Act}
+use Rattle.dft_patterns.specs.declared.act.Act.TheVariants.{Low, High, Pulse, ExpectLow, ExpectHigh, Ignore}
+use Rattle.dft_patterns.specs.declared.shapes.Event.{Event}
+use Rattle.dft_patterns.specs.declared.shapes.Drawing.{Drawing}
+use Rattle.dft_patterns.specs.declared.shapes.Drawing.TheVariants.{Begun, One, Two, Three, Many}
+use Rattle.dft_stil_tokens.specs.declared.text.TokenKind.TheVariants as kind
+use Rattle.dft_patterns.specs.Acts.{IsActOf}
+use Rattle.dft_stil_tokens.specs.Steps.{left, next, no_token, unsupported, bytes, sees, sees_run, character, expect, eat, keyword, letter, name}
 use Rattle.dft_stil.specs.Namings.{Names, name_if_any}
+use Rattle.dft_patterns.specs.Drawings.{is, begins_shape, extended, act_of_event, act_of_events, act_drawn}
 use Rattle.dft_stil.specs.Timings as spec
-use Rattle.dft_stil.specs.Timings.{is, begins_shape, act_of_events, place_in, act_of, with_shape, dir_of, begin_all, time, event_letter, event, events_from, shape, shapes_from, wave, waves_from, table_body, table, tables_from, timing}
+use Rattle.dft_stil.specs.Timings.{place_in, act_of, with_shape, dir_of, begin_all, time, event_letter, event, events_from, shape, shapes_from, wave, waves_from, table_body, table, tables_from, timing}
 use Rattle.dft_stil.proofs.GivenRules.{Gives, after_any, then_gives, pure_gives, refuse_gives, if_gives, if_of, ok_gives, err_gives, needed_gives, given_gives}
 
 abbrev act_or : Act → Option Act → Act
@@ -62,7 +63,7 @@ input_two b e u h =
     let k : is 72 e ≡ false = grind (arith, nat_tests) in
     no_act Input b (sym (ap (λ t. cond t (Some ExpectLow) (cond (is 72 e) (Some ExpectHigh) None)) l ∙ ap (λ t. cond t (Some ExpectHigh) None) k) ∙ h)
 
-output_event : (b : Act) (e : Event) → (is 88 e || is 76 e || is 72 e) ≡ true → spec.act_of_event e ≡ Some b → IsActOf Output b
+output_event : (b : Act) (e : Event) → (is 88 e || is 76 e || is 72 e) ≡ true → act_of_event e ≡ Some b → IsActOf Output b
 output_event b e h g =
     let d : is 68 e ≡ false = grind (arith, nat_tests) in
     let u : is 85 e ≡ false = grind (arith, nat_tests) in
@@ -143,7 +144,7 @@ letter_begins : (names : Names) (signals : List ℕ) (d : Drawing) (at : ℕ) �
 unfolding event_letter
 letter_begins names signals d at ts =
     after_any (Begins names signals) letter _ (λ l.
-    let more : Drawing = spec.extended d (record { letter = l; time = at }) in
+    let more : Drawing = extended d (record { letter = l; time = at }) in
     if_gives (Begins names signals) (begin_all names signals more) (λ us. Ok (more, us)) (λ us. Err (unsupported ts)) (λ h. pure_gives (Begins names signals) more h) (λ _. refuse_gives (Begins names signals) (λ us. unsupported ts))) ts
 
 event_begins : (names : Names) (signals : List ℕ) (d : Drawing) → Gives (Begins names signals) (event names signals d)
@@ -181,7 +182,7 @@ unfolding shape
 shape_fits names signals t f ts =
     then_gives Small (TableFits names) character _ character_small (λ c small. needed_gives (TableFits names) _ _ _ _ (λ fresh. after_any (TableFits names) (expect kind.OpenBrace) _ (λ u.
     then_gives (Whole names signals) (TableFits names) _ _ (λ us. events_whole (left us) names signals Begun (inl refl) us)
-    (λ d w. pure_gives (TableFits names) (spec.drawn signals c (spec.act_drawn d) d t) (shape_fits' names signals c (spec.act_drawn d) d t.shapes w.0 (some_or (act_of_events d) w.1) small f))))) ts
+    (λ d w. pure_gives (TableFits names) (spec.drawn signals c (act_drawn d) d t) (shape_fits' names signals c (act_drawn d) d t.shapes w.0 (some_or (act_of_events d) w.1) small f))))) ts
 
 shapes_fit : (n : ℕ) (names : Names) (signals : List ℕ) (t : spec.Table) → TableFits names t → Gives (TableFits names) (shapes_from n names signals t)
 unfolding shapes_from

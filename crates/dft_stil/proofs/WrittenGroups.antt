@@ -7,10 +7,10 @@ use Rattle.std.proofs.lemmas.List.{map-append, length-map}
 use Rattle.dft_base.specs.Lexing.{Text}
 use Rattle.dft_base.specs.declared.dir.Dir.{Dir}
 use Rattle.dft_base.specs.declared.dir.Dir.TheVariants.{Input, Output}
-use Rattle.dft_stil.specs.declared.signal.StilSignal.{StilSignal}
-use Rattle.dft_stil.specs.declared.text.TokenKind.TheVariants as kind
-use Rattle.dft_stil.specs.Lexemes.{Token}
-use Rattle.dft_stil.specs.Steps.{kind_of, bytes, left, next, sees, sees_word, sees_name, expect, after, after_word, name}
+use Rattle.dft_patterns.specs.declared.signal.StilSignal.{StilSignal}
+use Rattle.dft_stil_tokens.specs.declared.text.TokenKind.TheVariants as kind
+use Rattle.dft_stil_tokens.specs.Lexemes.{Token}
+use Rattle.dft_stil_tokens.specs.Steps.{kind_of, bytes, left, next, sees, sees_word, sees_name, expect, after, after_word, name}
 use Rattle.dft_stil.specs.Namings.{Names, Members, number_of, is_known, names_of_signals, one_signal, has, joined, member, members_from, members, with_group, group, groups_from, name_if_any, group_block, sees_groups, after_groups, group_blocks_from, group_blocks}
 use Rattle.dft_stil.specs.Written.{quoted}
 use Rattle.dft_stil.specs.Written as form

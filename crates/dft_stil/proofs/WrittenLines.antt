@@ -4,13 +4,13 @@ use Rattle.std.proofs.lemmas.List.{take-append-drop, length-take, length-drop}
 use Rattle.std.proofs.Math.Seq.{take-append_seam, drop-append_seam}
 use Rattle.dft_base.specs.Lexing.{Text}
 use Rattle.dft_base.specs.declared.dir.Dir.TheVariants.{Input, Output}
-use Rattle.dft_stil.specs.declared.act.Act.{Act}
-use Rattle.dft_stil.specs.declared.notes.Note.{Note}
-use Rattle.dft_stil.specs.declared.signal.StilSignal.{StilSignal}
-use Rattle.dft_stil.specs.declared.text.TokenKind.TheVariants as kind
-use Rattle.dft_stil.specs.Acts.{letter}
-use Rattle.dft_stil.specs.Lexemes.{Token}
-use Rattle.dft_stil.specs.Steps.{kind_of, bytes, next, sees, sees_word, after}
+use Rattle.dft_patterns.specs.declared.act.Act.{Act}
+use Rattle.dft_patterns.specs.declared.notes.Note.{Note}
+use Rattle.dft_patterns.specs.declared.signal.StilSignal.{StilSignal}
+use Rattle.dft_stil_tokens.specs.declared.text.TokenKind.TheVariants as kind
+use Rattle.dft_stil.specs.Letters.{letter}
+use Rattle.dft_stil_tokens.specs.Lexemes.{Token}
+use Rattle.dft_stil_tokens.specs.Steps.{kind_of, bytes, next, sees, sees_word, after}
 use Rattle.dft_stil.specs.Namings.{Names}
 use Rattle.dft_stil.specs.Timings.{Shapes, Tables}
 use Rattle.dft_stil.specs.Statements.{Pattern, vector, statement, statements_from}

@@ -7,17 +7,17 @@ use Rattle.dft_base.specs.Lexing.{Text}
 use Rattle.dft_base.specs.Parser.{value_of}
 use Rattle.dft_base.specs.declared.dir.Dir.{Dir}
 use Rattle.dft_base.specs.declared.dir.Dir.TheVariants.{Input, Output}
-use Rattle.dft_stil.specs.declared.act.Act.{Act}
-use Rattle.dft_stil.specs.declared.act.Act.TheVariants.{Unset}
+use Rattle.dft_patterns.specs.declared.act.Act.{Act}
+use Rattle.dft_patterns.specs.declared.act.Act.TheVariants.{Unset}
 use Rattle.dft_stil.specs.declared.reader.TheConstants.{MAX_VECTORS}
-use Rattle.dft_stil.specs.declared.signal.StilSignal.{StilSignal}
-use Rattle.dft_stil.specs.declared.steadiness.Unsteady.{Unsteady}
-use Rattle.dft_stil.specs.declared.text.TokenKind.TheVariants as kind
-use Rattle.dft_stil.specs.Acts.{IsActOf, IsTold}
-use Rattle.dft_stil.specs.Lexemes.{Token, tokens}
-use Rattle.dft_stil.specs.Patterns.{Patterns, IsWellFormed, IsSteady, is_input, input_count, inputs, outputs}
-use Rattle.dft_stil.specs.Steadiness.{first_unsteady}
-use Rattle.dft_stil.specs.Steps.{Outcome, kind_of, bytes, left, next, sees, sees_word, sees_name, expect, after, after_word, keyword, name}
+use Rattle.dft_patterns.specs.declared.signal.StilSignal.{StilSignal}
+use Rattle.dft_patterns.specs.declared.steadiness.Unsteady.{Unsteady}
+use Rattle.dft_stil_tokens.specs.declared.text.TokenKind.TheVariants as kind
+use Rattle.dft_patterns.specs.Acts.{IsActOf, IsTold}
+use Rattle.dft_stil_tokens.specs.Lexemes.{Token, tokens}
+use Rattle.dft_patterns.specs.Patterns.{Patterns, IsWellFormed, IsSteady, is_input, input_count, inputs, outputs}
+use Rattle.dft_patterns.specs.Steadiness.{first_unsteady}
+use Rattle.dft_stil_tokens.specs.Steps.{Outcome, kind_of, bytes, left, next, sees, sees_word, sees_name, expect, after, after_word, keyword, name}
 use Rattle.dft_stil.specs.Namings.{Names, signals_block, group_blocks, name_if_any}
 use Rattle.dft_stil.specs.Timings.{Timing, Table, timing}
 use Rattle.dft_stil.specs.Statements.{Pattern, table_used, statement, statements_from}
@@ -26,7 +26,7 @@ use Rattle.dft_stil.specs.Writable.{IsWritable}
 use Rattle.dft_stil.specs.Written.{declaration, input_waves, output_waves, middle, head, noted_lines, noted}
 use Rattle.dft_stil.specs.Written as form
 use Rattle.dft_stil.specs.Laws.{HasWrittenReading}
-use Rattle.dft_stil.proofs.SteadyLemmas.{some_is_unsteady}
+use Rattle.dft_patterns.proofs.SteadyLemmas.{some_is_unsteady}
 use Rattle.dft_stil.proofs.WrittenTokens.{cut_up, token, ahead, cut_up-start, cut_up-groups, cut_up-burst, cut_up-exec, cut_up-pattern}
 use Rattle.dft_stil.proofs.WrittenSignals.{AllNew, all_new, AllQuotable, all_quotable, alone, declarations_read}
 use Rattle.dft_stil.proofs.WrittenGroups.{grouped, grouped-signals, groups_read, timing_text}

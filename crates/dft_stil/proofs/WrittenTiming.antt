@@ -6,20 +6,22 @@ use Rattle.std.proofs.lemmas.List.{length-set, length-replicate}
 use Rattle.dft_base.specs.Lexing.{Text}
 use Rattle.dft_base.specs.declared.dir.Dir.{Dir}
 use Rattle.dft_base.specs.declared.dir.Dir.TheVariants.{Input, Output}
-use Rattle.dft_stil.specs.declared.act.Act.{Act}
-use Rattle.dft_stil.specs.declared.act.Act.TheVariants.{Unset, Low, High, Pulse, ExpectLow, ExpectHigh, Ignore}
-use Rattle.dft_stil.specs.declared.shapes.Event.{Event}
-use Rattle.dft_stil.specs.declared.shapes.Drawing.{Drawing}
-use Rattle.dft_stil.specs.declared.shapes.Drawing.TheVariants.{One, Two, Three}
-use Rattle.dft_stil.specs.declared.signal.StilSignal.{StilSignal}
-use Rattle.dft_stil.specs.declared.text.TokenKind.{TokenKind}
-use Rattle.dft_stil.specs.declared.text.TokenKind.TheVariants as kind
-use Rattle.dft_stil.specs.Acts.{IsActOf, IsTold}
-use Rattle.dft_stil.specs.Acts as acts
-use Rattle.dft_stil.specs.Lexemes.{Token}
-use Rattle.dft_stil.specs.Steps.{kind_of, bytes, left, next, sees, sees_word, sees_name, expect, after, keyword, name, sees_run, character, letter, number_from, small_number, unit}
+use Rattle.dft_patterns.specs.declared.act.Act.{Act}
+use Rattle.dft_patterns.specs.declared.act.Act.TheVariants.{Unset, Low, High, Pulse, ExpectLow, ExpectHigh, Ignore}
+use Rattle.dft_patterns.specs.declared.shapes.Event.{Event}
+use Rattle.dft_patterns.specs.declared.shapes.Drawing.{Drawing}
+use Rattle.dft_patterns.specs.declared.shapes.Drawing.TheVariants.{One, Two, Three}
+use Rattle.dft_patterns.specs.declared.signal.StilSignal.{StilSignal}
+use Rattle.dft_stil_tokens.specs.declared.text.TokenKind.{TokenKind}
+use Rattle.dft_stil_tokens.specs.declared.text.TokenKind.TheVariants as kind
+use Rattle.dft_patterns.specs.Acts.{IsActOf, IsTold}
+use Rattle.dft_patterns.specs.Drawings.{begins_shape}
+use Rattle.dft_patterns.specs.Times.{times_fit}
+use Rattle.dft_stil.specs.Letters as acts
+use Rattle.dft_stil_tokens.specs.Lexemes.{Token}
+use Rattle.dft_stil_tokens.specs.Steps.{kind_of, bytes, left, next, sees, sees_word, sees_name, expect, after, keyword, name, sees_run, character, letter, number_from, small_number, unit}
 use Rattle.dft_stil.specs.Namings.{Names, Members, elsewhere, name_if_any}
-use Rattle.dft_stil.specs.Timings.{begins_shape, Shapes, place_in, act_of, with_shape, is_given, Table, empty_table, drawn, times_fit, dir_of, begin_all, time, event_letter, event, events_from, shape, shapes_from, wave, waves_from, table_body, table, tables_from, timing, Timing}
+use Rattle.dft_stil.specs.Timings.{Shapes, place_in, act_of, with_shape, is_given, Table, empty_table, drawn, dir_of, begin_all, time, event_letter, event, events_from, shape, shapes_from, wave, waves_from, table_body, table, tables_from, timing, Timing}
 use Rattle.dft_stil.specs.Written.{input_waves, output_waves}
 use Rattle.dft_stil.proofs.WrittenTokens.{cut_up, token, ahead, cut_up-timing, cut_up-input_waves, cut_up-output_waves, cut_up-close, cut_up-table_end}
 use Rattle.dft_stil.proofs.WrittenSignals.{left-token}

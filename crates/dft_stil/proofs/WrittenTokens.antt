@@ -9,15 +9,16 @@ use Rattle.std.proofs.lemmas.List.Sums.{list_all-from_AllPass}
 use Rattle.std.proofs.Math.Seq.{take-append_seam, drop-append_seam}
 use Rattle.dft_base.specs.Lexing.{Text, Blank, Cut, tokens_from}
 use Rattle.dft_base.proofs.LexingLemmas.{tokens_from-cut, tokens_from-blank}
-use Rattle.dft_stil.specs.declared.act.Act.{Act}
-use Rattle.dft_stil.specs.declared.act.Act.TheVariants.{Unset, Low, High, Pulse, ExpectLow, ExpectHigh, Ignore}
-use Rattle.dft_stil.specs.declared.notes.Note.{Note}
-use Rattle.dft_stil.specs.declared.notes.NoteKind.{NoteKind}
-use Rattle.dft_stil.specs.declared.notes.NoteKind.TheVariants.{SetUp, Pattern, Unload}
-use Rattle.dft_stil.specs.declared.text.TokenKind.{TokenKind}
-use Rattle.dft_stil.specs.declared.text.TokenKind.TheVariants as kind
-use Rattle.dft_stil.specs.Acts.{IsTold, letter}
-use Rattle.dft_stil.specs.Lexemes.{Token, Lexeme, plain, is_printed, continues_name, is_in_number, to_quote, closed_quote, token_of, quoted_behind, front, comment_rest, note_rest, gap_len, gaps_from, blank_len, mark_kind, quoted_text, word_or_note, lexeme, begins_with, index_len, word_len, semicolon_len, note_opening}
+use Rattle.dft_patterns.specs.declared.act.Act.{Act}
+use Rattle.dft_patterns.specs.declared.act.Act.TheVariants.{Unset, Low, High, Pulse, ExpectLow, ExpectHigh, Ignore}
+use Rattle.dft_patterns.specs.declared.notes.Note.{Note}
+use Rattle.dft_patterns.specs.declared.notes.NoteKind.{NoteKind}
+use Rattle.dft_patterns.specs.declared.notes.NoteKind.TheVariants.{SetUp, Pattern, Unload}
+use Rattle.dft_stil_tokens.specs.declared.text.TokenKind.{TokenKind}
+use Rattle.dft_stil_tokens.specs.declared.text.TokenKind.TheVariants as kind
+use Rattle.dft_patterns.specs.Acts.{IsTold}
+use Rattle.dft_stil.specs.Letters.{letter}
+use Rattle.dft_stil_tokens.specs.Lexemes.{Token, Lexeme, plain, is_printed, continues_name, is_in_number, to_quote, closed_quote, token_of, quoted_behind, front, comment_rest, note_rest, gap_len, gaps_from, blank_len, mark_kind, quoted_text, word_or_note, lexeme, begins_with, index_len, word_len, semicolon_len, note_opening}
 use Rattle.dft_stil.specs.Written.{note_words, note_line}
 use Rattle.dft_stil.specs.Writable.{IsQuotable}
 

@@ -1,7 +1,7 @@
 -- What the written form promises.
 use Rattle.std.specs.Prelude.{◌≡◌, ◌<◌, ◌≤◌, ◌^◌, ℕ, List, [], length, Ok}
 use Rattle.dft_stil.specs.declared.reader.TheConstants.{MAX_VECTORS}
-use Rattle.dft_stil.specs.Patterns.{Patterns, IsWellFormed}
+use Rattle.dft_patterns.specs.Patterns.{Patterns, IsWellFormed}
 use Rattle.dft_stil.specs.PatternText.{StandsFor, patterns_of}
 use Rattle.dft_stil.specs.Writable.{IsWritable}
 use Rattle.dft_stil.specs.Written.{noted, written}

@@ -2,7 +2,7 @@
 use Rattle.std.specs.Prelude.{◌≡◌, ◌<◌, ℕ, List, length}
 use Rattle.dft_stil.specs.declared.write_error.WriteError.{WriteError}
 use Rattle.dft_stil.specs.declared.write_error.WriteError.TheVariants.{P6, Memory}
-use Rattle.dft_stil.specs.declared.blanks.TheConstants.{MAX_TEXT}
+use Rattle.dft_stil_tokens.specs.declared.blanks.TheConstants.{MAX_TEXT}
 
 -- it has so many bytes, and these are more than there may be; nothing is said where memory runs out
 abbrev pub TellsLength : List ℕ → WriteError → Type 0

@@ -6,11 +6,11 @@ use Rattle.dft_base.specs.Lexing.{Text}
 use Rattle.dft_base.specs.Parser.{pure, ◌>>=◌, ◌>>◌}
 use Rattle.dft_base.specs.declared.dir.Dir.{Dir}
 use Rattle.dft_base.specs.declared.dir.Dir.TheVariants as dir
-use Rattle.dft_stil.specs.declared.text.TokenKind.TheVariants as kind
-use Rattle.dft_stil.specs.declared.text.Cause.TheVariants as cause
-use Rattle.dft_stil.specs.declared.signal.StilSignal.{StilSignal}
-use Rattle.dft_stil.specs.Lexemes.{Token}
-use Rattle.dft_stil.specs.Steps.{Rule, left, next, sees_word, sees_name, refuse, keyword_refusal, expect, eat, after_word, keyword, name, needed, fault}
+use Rattle.dft_stil_tokens.specs.declared.text.TokenKind.TheVariants as kind
+use Rattle.dft_stil_tokens.specs.declared.text.Cause.TheVariants as cause
+use Rattle.dft_patterns.specs.declared.signal.StilSignal.{StilSignal}
+use Rattle.dft_stil_tokens.specs.Lexemes.{Token}
+use Rattle.dft_stil_tokens.specs.Steps.{Rule, left, next, sees_word, sees_name, refuse, keyword_refusal, expect, eat, after_word, keyword, name, needed, fault}
 
 -- the signals that a name stands for, by number: each once, in the order of its first mention; and whether one was mentioned twice
 pub record Members : Type 0 where

@@ -3,20 +3,20 @@ use Rattle.std.specs.Prelude.{◌≡◌, ℕ, zero, suc, ◌+◌, ◌-◌, Bool,
 use Rattle.std.specs.Str.{bytes_eq}
 use Rattle.dft_base.specs.Lexing.{Text}
 use Rattle.dft_base.specs.Parser.{pure, value_of, ◌>>=◌, ◌>>◌}
-use Rattle.dft_stil.specs.declared.text.TokenKind.{TokenKind}
-use Rattle.dft_stil.specs.declared.text.TokenKind.TheVariants as kind
-use Rattle.dft_stil.specs.declared.text.Cause.TheVariants as cause
-use Rattle.dft_stil.specs.declared.text.Fault.{Fault}
-use Rattle.dft_stil.specs.declared.act.Act.TheVariants as act
-use Rattle.dft_stil.specs.declared.steadiness.Unsteady.{Unsteady}
+use Rattle.dft_stil_tokens.specs.declared.text.TokenKind.{TokenKind}
+use Rattle.dft_stil_tokens.specs.declared.text.TokenKind.TheVariants as kind
+use Rattle.dft_stil_tokens.specs.declared.text.Cause.TheVariants as cause
+use Rattle.dft_stil_tokens.specs.declared.text.Fault.{Fault}
+use Rattle.dft_patterns.specs.declared.act.Act.TheVariants as act
+use Rattle.dft_patterns.specs.declared.steadiness.Unsteady.{Unsteady}
 use Rattle.dft_stil.specs.declared.reader.TheConstants.{MAX_VECTORS}
-use Rattle.dft_stil.specs.Lexemes.{tokens}
-use Rattle.dft_stil.specs.Steps.{Rule, kind_of, bytes, left, next, sees, refuse, mark_refusal, expect, eat_word, keyword, name, needed, fault}
+use Rattle.dft_stil_tokens.specs.Lexemes.{tokens}
+use Rattle.dft_stil_tokens.specs.Steps.{Rule, kind_of, bytes, left, next, sees, refuse, mark_refusal, expect, eat_word, keyword, name, needed, fault}
 use Rattle.dft_stil.specs.Namings.{Names, signals_block, group_blocks, name_if_any}
 use Rattle.dft_stil.specs.Timings.{Timing, timing}
 use Rattle.dft_stil.specs.Statements.{Pattern, statements_from}
-use Rattle.dft_stil.specs.Patterns.{Patterns}
-use Rattle.dft_stil.specs.Steadiness.{first_unsteady}
+use Rattle.dft_patterns.specs.Patterns.{Patterns}
+use Rattle.dft_patterns.specs.Steadiness.{first_unsteady}
 
 -- ---- the header
 

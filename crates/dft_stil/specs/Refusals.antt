@@ -2,14 +2,14 @@
 use Rattle.std.specs.Prelude.{◌≡◌, pos, Some, Err}
 use Rattle.dft_base.specs.Lexing.{Text, place_of}
 use Rattle.dft_base.specs.declared.place.Place.{Place}
-use Rattle.dft_stil.specs.declared.text.Cause.{Cause}
-use Rattle.dft_stil.specs.declared.text.Cause.TheVariants as cause
-use Rattle.dft_stil.specs.declared.steadiness.Unsteady.{Unsteady}
+use Rattle.dft_stil_tokens.specs.declared.text.Cause.{Cause}
+use Rattle.dft_stil_tokens.specs.declared.text.Cause.TheVariants as cause
+use Rattle.dft_patterns.specs.declared.steadiness.Unsteady.{Unsteady}
 use Rattle.dft_stil.specs.declared.error.StilError.{StilError}
 use Rattle.dft_stil.specs.declared.error.StilError.TheVariants as told
 use Rattle.dft_stil.specs.declared.reader.TheConstants.{MAX_VECTORS}
-use Rattle.dft_stil.specs.Patterns.{Patterns}
-use Rattle.dft_stil.specs.Steadiness.{first_unsteady}
+use Rattle.dft_patterns.specs.Patterns.{Patterns}
+use Rattle.dft_patterns.specs.Steadiness.{first_unsteady}
 use Rattle.dft_stil.specs.PatternText.{Refusal, At, Unsteadily, patterns_of, name_of_signal}
 
 -- how a cause is told of this place

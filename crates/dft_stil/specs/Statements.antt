@@ -4,12 +4,12 @@ use Rattle.std.specs.List.{list_any}
 use Rattle.std.specs.Char.{is_ascii_alphanumeric}
 use Rattle.dft_base.specs.Lexing.{Text}
 use Rattle.dft_base.specs.Parser.{pure, Checked, ◌>>=◌, ◌>>◌}
-use Rattle.dft_stil.specs.declared.text.TokenKind.TheVariants as kind
-use Rattle.dft_stil.specs.declared.text.Cause.TheVariants as cause
-use Rattle.dft_stil.specs.declared.text.Fault.{Fault}
-use Rattle.dft_stil.specs.declared.act.Act.{Act}
-use Rattle.dft_stil.specs.Lexemes.{Token}
-use Rattle.dft_stil.specs.Steps.{Rule, bytes, left, next, sees, sees_word, sees_left_out, refuse, no_token, unsupported, expect, eat, keyword, name, needed, fault, checked}
+use Rattle.dft_stil_tokens.specs.declared.text.TokenKind.TheVariants as kind
+use Rattle.dft_stil_tokens.specs.declared.text.Cause.TheVariants as cause
+use Rattle.dft_stil_tokens.specs.declared.text.Fault.{Fault}
+use Rattle.dft_patterns.specs.declared.act.Act.{Act}
+use Rattle.dft_stil_tokens.specs.Lexemes.{Token}
+use Rattle.dft_stil_tokens.specs.Steps.{Rule, bytes, left, next, sees, sees_word, sees_left_out, refuse, no_token, unsupported, expect, eat, keyword, name, needed, fault, checked}
 use Rattle.dft_stil.specs.Namings.{Names, Members, number_of, given, elsewhere, has}
 use Rattle.dft_stil.specs.Timings.{Shapes, Tables, act_of}
 

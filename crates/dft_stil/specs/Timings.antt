@@ -5,59 +5,18 @@ use Rattle.dft_base.specs.Lexing.{Text}
 use Rattle.dft_base.specs.Parser.{pure, ◌>>=◌, ◌>>◌}
 use Rattle.dft_base.specs.declared.dir.Dir.{Dir}
 use Rattle.dft_base.specs.declared.dir.Dir.TheVariants as dir
-use Rattle.dft_stil.specs.declared.text.TokenKind.TheVariants as kind
-use Rattle.dft_stil.specs.declared.text.Cause.TheVariants as cause
-use Rattle.dft_stil.specs.declared.act.Act.{Act}
-use Rattle.dft_stil.specs.declared.act.Act.TheVariants as act
-use Rattle.dft_stil.specs.declared.shapes.Event.{Event}
-use Rattle.dft_stil.specs.declared.shapes.Drawing.{Drawing}
-use Rattle.dft_stil.specs.declared.shapes.Drawing.TheVariants as drawing
-use Rattle.dft_stil.specs.declared.times.Times.{Times}
-use Rattle.dft_stil.specs.Steps.{Rule, left, refuse, expect, eat, keyword, name, needed, next, sees, unsupported, character, letter, small_number, unit}
+use Rattle.dft_stil_tokens.specs.declared.text.TokenKind.TheVariants as kind
+use Rattle.dft_stil_tokens.specs.declared.text.Cause.TheVariants as cause
+use Rattle.dft_patterns.specs.declared.act.Act.{Act}
+use Rattle.dft_patterns.specs.declared.act.Act.TheVariants as act
+use Rattle.dft_patterns.specs.declared.shapes.Event.{Event}
+use Rattle.dft_patterns.specs.declared.shapes.Drawing.{Drawing}
+use Rattle.dft_patterns.specs.declared.shapes.Drawing.TheVariants as drawing
+use Rattle.dft_patterns.specs.Drawings.{begins_shape, extended, act_of_events, act_drawn}
+use Rattle.dft_patterns.specs.Times.{no_times, with_times, times_fit}
+use Rattle.dft_patterns.specs.declared.times.Times.{Times}
+use Rattle.dft_stil_tokens.specs.Steps.{Rule, left, refuse, expect, eat, keyword, name, needed, next, sees, unsupported, character, letter, small_number, unit}
 use Rattle.dft_stil.specs.Namings.{Names, given, elsewhere, is_known, name_if_any}
-
--- ---- shapes
-
--- the letter of an event: D 68, H 72, L 76, U 85, X 88
-abbrev pub is : ℕ → Event → Bool
-is letter e = e.letter == letter
-
--- one event is before another
-abbrev pub before : Event → Event → Bool
-before a b = nat_lt a.time b.time
-
--- Whether a shape of a signal can begin with these events: of an input D, or U, or D and U and D; of an output X and then L or H,
--- or L or H alone. Their times rise.
-abbrev pub begins_shape : Dir → Drawing → Bool
-begins_shape dir.Input (drawing.One a) = is 68 a || is 85 a
-begins_shape dir.Input (drawing.Two a b) = is 68 a && is 85 b && before a b
-begins_shape dir.Input (drawing.Three a b c) = is 68 a && is 85 b && is 68 c && before a b && before b c
-begins_shape dir.Output (drawing.One a) = is 88 a || is 76 a || is 72 a
-begins_shape dir.Output (drawing.Two a b) = is 88 a && (is 76 b || is 72 b) && before a b
-begins_shape _ _ = false
-
--- one event more
-abbrev pub extended : Drawing → Event → Drawing
-extended drawing.Begun e = drawing.One e
-extended (drawing.One a) e = drawing.Two a e
-extended (drawing.Two a b) e = drawing.Three a b e
-extended _ e = drawing.Many
-
--- what a shape does that is a single event
-abbrev pub act_of_event : Event → Option Act
-act_of_event e =
-    if is 68 e then Some act.Low
-    else (if is 85 e then Some act.High
-    else (if is 88 e then Some act.Ignore
-    else (if is 76 e then Some act.ExpectLow
-    else (if is 72 e then Some act.ExpectHigh else None))))
-
--- what a shape does that is these events, which begin one; none where it would have to go on
-abbrev pub act_of_events : Drawing → Option Act
-act_of_events (drawing.One a) = act_of_event a
-act_of_events (drawing.Two a b) = if is 76 b then Some act.ExpectLow else (if is 72 b then Some act.ExpectHigh else None)
-act_of_events (drawing.Three a b c) = Some act.Pulse
-act_of_events _ = None
 
 -- ---- tables
 
@@ -85,58 +44,6 @@ with_shape (signal ∷ signals) c a shapes = with_shape signals c a (record { ac
 -- whether some of these signals has a shape for this character
 abbrev pub is_given : Shapes → List ℕ → ℕ → Bool
 is_given shapes signals c = list_any (λ signal. is_some (act_of shapes signal c)) signals
-
--- no time
-abbrev pub no_times : Times
-no_times = record { last_setting = None; first_strobe = None; last_strobe = None; first_rise = None; last_rise = None; first_fall = None; last = None }
-
--- the later of the last time and a time, and the earlier of the first time and a time
-abbrev pub later : Option ℕ → ℕ → Option ℕ
-later None time = Some time
-later (Some last) time = Some (if nat_lt last time then time else last)
-
-abbrev pub earlier : Option ℕ → ℕ → Option ℕ
-earlier None time = Some time
-earlier (Some first) time = Some (if nat_lt time first then time else first)
-
--- inputs are set at a time
-abbrev pub with_setting : ℕ → Times → Times
-with_setting time t = record t { last_setting = later t.last_setting time }
-
--- outputs are compared at a time
-abbrev pub with_strobe : ℕ → Times → Times
-with_strobe time t = record t { first_strobe = earlier t.first_strobe time; last_strobe = later t.last_strobe time }
-
--- pulses rise and fall
-abbrev pub with_pulse : ℕ → ℕ → Times → Times
-with_pulse rise fall t = record t { first_rise = earlier t.first_rise rise; last_rise = later t.last_rise rise; first_fall = earlier t.first_fall fall }
-
--- the last event of a shape is at a time
-abbrev pub with_last : ℕ → Times → Times
-with_last time t = record t { last = later t.last time }
-
--- the times of a shape that is one event: of an input, or of an output where it is compared
-abbrev pub with_event : Event → Times → Times
-with_event e t = if is 68 e || is 85 e then with_setting e.time t else (if is 76 e || is 72 e then with_strobe e.time t else t)
-
--- the times of a shape. Its events rise.
-abbrev pub with_times : Drawing → Times → Times
-with_times (drawing.One a) t = with_last a.time (with_event a t)
-with_times (drawing.Two a b) t = with_last b.time (with_strobe b.time t)
-with_times (drawing.Three a b c) t = with_last c.time (with_pulse b.time c.time (with_setting a.time t))
-with_times _ t = t
-
--- each of some times is before each of others, where the last of them is before the first of the others
-abbrev pub all_before : Option ℕ → Option ℕ → Bool
-all_before (Some last) (Some first) = nat_lt last first
-all_before _ _ = true
-
--- The times of a table fit its period: inputs are set before outputs are compared, or else before pulses rise; outputs are compared
--- before pulses rise, these before pulses fall, and all before the period ends.
-abbrev pub times_fit : ℕ → Times → Bool
-times_fit period t =
-    all_before t.last_setting t.first_strobe && all_before t.last_strobe t.first_rise && all_before t.last_rise t.first_fall && all_before t.last (Some period)
-    && (is_some t.first_strobe || all_before t.last_setting t.first_rise)
 
 -- a table so far
 pub record Table : Type 0 where
@@ -194,10 +101,6 @@ unfoldable pub events_from : ℕ → Names → List ℕ → Drawing → Rule Dra
 events_from zero names signals d = refuse
 events_from (suc n) names signals d = λ ts.
     if sees kind.CloseBrace ts then ended d (act_of_events d) ts else (event names signals d >>= (λ more. events_from n names signals more)) ts
-
--- the act of a whole shape
-abbrev pub act_drawn : Drawing → Act
-act_drawn d = unwrap_or (act_of_events d) act.Ignore
 
 -- a shape of these signals: a character, which none of them may have so far, and its events
 unfoldable pub shape : Names → List ℕ → Table → Rule Table

@@ -2,7 +2,7 @@
 use Rattle.std.specs.Prelude.{◌≡◌, ◌≢◌, ◌<◌, ◌⊎◌, ℕ, List, [], length, All}
 use Rattle.dft_base.specs.Name.{IsName}
 use Rattle.dft_base.specs.declared.dir.Dir.TheVariants.{Output}
-use Rattle.dft_stil.specs.Patterns.{Patterns, IsFullVector, inputs, outputs}
+use Rattle.dft_patterns.specs.Patterns.{Patterns, IsFullVector, inputs, outputs}
 
 -- a name that may stand between double quotes
 pub record IsQuotable (bytes : List ℕ) : Type 0 where

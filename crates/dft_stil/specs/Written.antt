@@ -3,13 +3,13 @@ use Rattle.std.specs.Prelude.{ℕ, suc, nat_le, List, [], ◌∷◌, ◌++◌, c
 use Rattle.std.specs.List.{concat, join_with_byte, prefix_len}
 use Rattle.dft_base.specs.declared.dir.Dir.{Dir}
 use Rattle.dft_base.specs.declared.dir.Dir.TheVariants.{Input, Output}
-use Rattle.dft_stil.specs.declared.act.Act.{Act}
-use Rattle.dft_stil.specs.declared.notes.Note.{Note}
-use Rattle.dft_stil.specs.declared.notes.NoteKind.{NoteKind}
-use Rattle.dft_stil.specs.declared.notes.NoteKind.TheVariants.{SetUp, Pattern, Unload}
-use Rattle.dft_stil.specs.declared.signal.StilSignal.{StilSignal}
-use Rattle.dft_stil.specs.Acts.{letter}
-use Rattle.dft_stil.specs.Patterns.{Patterns, inputs, outputs, input_count}
+use Rattle.dft_patterns.specs.declared.act.Act.{Act}
+use Rattle.dft_patterns.specs.declared.notes.Note.{Note}
+use Rattle.dft_patterns.specs.declared.notes.NoteKind.{NoteKind}
+use Rattle.dft_patterns.specs.declared.notes.NoteKind.TheVariants.{SetUp, Pattern, Unload}
+use Rattle.dft_patterns.specs.declared.signal.StilSignal.{StilSignal}
+use Rattle.dft_stil.specs.Letters.{letter}
+use Rattle.dft_patterns.specs.Patterns.{Patterns, inputs, outputs, input_count}
 
 -- ---- signals
 

@@ -2,18 +2,15 @@
 
 ghost use Rattle.std.specs.Prelude.{◌≡◌, ◌<◌, ◌-◌, length, option_map, OnOk, IfOk, IfSome};
 ghost use Rattle.dft_stil.specs.Statements as spec;
-ghost use Rattle.dft_stil.specs.Steps.{left};
+ghost use Rattle.dft_stil_tokens.specs.Steps.{left};
 ghost use Rattle.dft_stil.specs.MembersShown.{AreBelow};
 ghost use Rattle.dft_stil.specs.ShapeTableShown.{IsWide};
 ghost use Rattle.dft_stil.specs.CharactersShown.{filling_as};
-ghost use Rattle.dft_stil.specs.Reading.{ReadsText, Checks, Faults};
+ghost use Rattle.dft_stil_tokens.specs.Reading.{ReadsText, Checks, Faults};
 
-use crate::act::{Act, Acts};
-use crate::faults::fault_at;
-use crate::read_error::ReadError;
 use crate::shape_table::ShapeTable;
-use crate::text::{Cause, TokenKind};
-use crate::tokens::Tokens;
+use dft_patterns::{Act, Acts};
+use dft_stil_tokens::{Cause, ReadError, TokenKind, Tokens, fault_at};
 
 /// Characters so far: the acts of the vector, the signals that have no character yet, and whether there was one more than signals.
 #[derive(Debug, Drop)]

@@ -3,7 +3,7 @@
 ghost use Rattle.std.specs.Prelude.{◌≡◌, ◌++◌, ◌∷◌, flat_map, OnOk, IfOk};
 ghost use Rattle.dft_stil.specs.Written as form;
 
-use crate::signal::StilSignal;
+use dft_patterns::StilSignal;
 use std::alloc::{AllocError, Global};
 
 // A name between quotes.

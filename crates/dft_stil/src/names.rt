@@ -6,9 +6,8 @@ ghost use Rattle.dft_stil.specs.MembersShown.{meant, AreBelow};
 
 use crate::known_names::KnownNames;
 use crate::members::{Meant, Members};
-use crate::signal::StilSignal;
-use dft_base::Name;
-use dft_netlist::Dir;
+use dft_base::{Dir, Name};
+use dft_patterns::StilSignal;
 use std::alloc::{AllocError, Global};
 use std::marker::Model;
 

@@ -2,17 +2,14 @@
 
 ghost use Rattle.std.specs.Prelude.{◌≡◌, length, IfOk, OnOk, option_map};
 ghost use Rattle.dft_stil.specs.Namings as spec;
-ghost use Rattle.dft_stil.specs.Steps.{left};
+ghost use Rattle.dft_stil_tokens.specs.Steps.{left};
 ghost use Rattle.dft_stil.specs.MembersShown.{meant, Sees, AreBelow};
-ghost use Rattle.dft_stil.specs.Reading.{ReadsText};
+ghost use Rattle.dft_stil_tokens.specs.Reading.{ReadsText};
 
-use crate::faults::{taken, unknown};
 use crate::members::{Meant, Members};
 use crate::names::Names;
-use crate::read_error::ReadError;
-use crate::text::TokenKind;
-use crate::tokens::Tokens;
-use dft_netlist::Dir;
+use dft_base::Dir;
+use dft_stil_tokens::{ReadError, TokenKind, Tokens, taken, unknown};
 use std::alloc::Global;
 
 #[tactic(auto, unfolding(crate::specs::Namings::direction))]

@@ -3,21 +3,17 @@
 ghost use Rattle.std.specs.Prelude.{◌≡◌, ◌<◌, ◌^◌, Some, length, option_map, OnOk, IfOk};
 ghost use Rattle.dft_base.specs.Name.{IsName};
 ghost use Rattle.dft_stil.specs.PatternText as spec;
-ghost use Rattle.dft_stil.specs.Steps.{left};
+ghost use Rattle.dft_stil_tokens.specs.Steps.{left};
 ghost use Rattle.dft_stil.specs.TablesShown.{timing_as, AreWide};
 ghost use Rattle.dft_stil.specs.PatternShown.{pattern_as, burst_as};
-ghost use Rattle.dft_stil.specs.Reading.{ReadsText};
+ghost use Rattle.dft_stil_tokens.specs.Reading.{ReadsText};
 
-use crate::act::Acts;
-use crate::faults::{fault_at, unknown};
 use crate::names::Names;
 use crate::namings::{group_blocks, name_if_any, signals_block};
-use crate::pattern_set::PatternSet;
-use crate::read_error::ReadError;
 use crate::statements::{Pattern, statements};
-use crate::text::{Cause, TokenKind};
 use crate::timings::{Timing, timing_block};
-use crate::tokens::Tokens;
+use dft_patterns::{Acts, PatternSet};
+use dft_stil_tokens::{Cause, ReadError, TokenKind, Tokens, fault_at, unknown};
 use std::alloc::{AllocError, Global};
 
 #[tactic(auto, unfolding(crate::specs::PatternText::version))]

@@ -3,24 +3,20 @@
 ghost use Rattle.std.specs.Prelude.{◌≡◌, ◌≤◌, Some, length, IfOk, IfErr};
 ghost use Rattle.dft_base.specs.Lexing.{place_of as place_in};
 ghost use Rattle.dft_base.specs.Parser.{value_of};
-ghost use Rattle.dft_stil.specs.Lexemes.{tokens as tokens_of};
-ghost use Rattle.dft_stil.specs.Patterns.{IsWellFormed};
+ghost use Rattle.dft_stil_tokens.specs.Lexemes.{tokens as tokens_of};
+ghost use Rattle.dft_patterns.specs.Patterns.{IsWellFormed};
 ghost use Rattle.dft_stil.specs.PatternText as spec;
 ghost use Rattle.dft_stil.specs.PatternText.{StandsFor};
-ghost use Rattle.dft_stil.specs.Reading.{Checks};
+ghost use Rattle.dft_stil_tokens.specs.Reading.{Checks};
 ghost use Rattle.dft_stil.specs.Refusals.{IsRefused, IsUnsteadyAs, told_at as told_as};
-ghost use Rattle.dft_stil.specs.Steadiness as steadiness;
-ghost use Rattle.dft_stil.specs.Steadiness.{HaveLength};
+ghost use Rattle.dft_patterns.specs.Steadiness as steadiness;
+ghost use Rattle.dft_patterns.specs.Steadiness.{HaveLength};
 
-use crate::blanks::MAX_TEXT;
 use crate::error::StilError;
-use crate::pattern_set::PatternSet;
 use crate::pattern_text::pattern_text;
-use crate::read_error::ReadError;
-use crate::steadiness::{Unsteady, first_unsteady};
-use crate::text::{Cause, Fault};
-use crate::tokens::Tokens;
 use dft_base::{Name, Place, place_of};
+use dft_patterns::{PatternSet, Unsteady, first_unsteady};
+use dft_stil_tokens::{Cause, Fault, MAX_TEXT, ReadError, Tokens};
 use std::alloc::Global;
 
 /// The most vectors that a pattern text may have.

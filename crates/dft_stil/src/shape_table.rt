@@ -3,7 +3,7 @@ ghost use Rattle.dft_stil.specs.Timings as spec;
 ghost use Rattle.dft_stil.specs.ShapeTableShown.{IsWide};
 ghost use Rattle.dft_stil.specs.MembersShown.{AreBelow};
 
-use crate::act::Act;
+use dft_patterns::Act;
 use std::alloc::{AllocError, Global};
 use std::marker::Model;
 

@@ -2,22 +2,19 @@
 
 ghost use Rattle.std.specs.Prelude.{◌≡◌, ℕ, false, length, option_map, OnOk, IfOk, IfSome};
 ghost use Rattle.dft_stil.specs.Statements as spec;
-ghost use Rattle.dft_stil.specs.Steps.{left};
+ghost use Rattle.dft_stil_tokens.specs.Steps.{left};
 ghost use Rattle.dft_stil.specs.TablesShown.{AreWide};
 ghost use Rattle.dft_stil.specs.PatternShown.{pattern_as};
 ghost use Rattle.dft_stil.specs.ShapeTableShown.{IsWide};
 ghost use Rattle.dft_stil.specs.VectorShown.{vector_as};
-ghost use Rattle.dft_stil.specs.Reading.{ReadsText};
+ghost use Rattle.dft_stil_tokens.specs.Reading.{ReadsText};
 
-use crate::act::Acts;
-use crate::faults::{fault_at, unknown};
 use crate::names::Names;
-use crate::read_error::ReadError;
 use crate::shape_table::ShapeTable;
 use crate::tables::Tables;
-use crate::text::{Cause, TokenKind};
-use crate::tokens::Tokens;
 use crate::vector::{Vector, assignment};
+use dft_patterns::{Act, Acts};
+use dft_stil_tokens::{Cause, ReadError, TokenKind, Tokens, fault_at, unknown};
 use std::alloc::{AllocError, Global};
 
 /// A pattern so far: the table of the last `W`, by number, the acts of the last vector, and the vectors.
@@ -37,7 +34,7 @@ fn shapes_at(tables: &Tables, number: Option<usize>) -> Option<&ShapeTable>
 }
 
 // A vector that mentions no signal, behind one with these acts.
-fn begun(alloc: Global, acts: &[crate::act::Act]) -> Result<Vector, AllocError>
+fn begun(alloc: Global, acts: &[Act]) -> Result<Vector, AllocError>
     ensures value { IfOk result (λ v. vector_as v ≡ spec.begun acts.now) }
     ensures acts { IfOk result (λ v. length v.acts ≡ length acts.now) }
     ensures told { IfOk result (λ v. length v.told.items ≡ length acts.now) }

@@ -2,24 +2,23 @@
 
 ghost use Rattle.std.specs.Prelude.{◌≡◌, ◌<◌, ◌^◌, length, IfOk, OnOk, option_map};
 ghost use Rattle.dft_base.specs.Name.{IsName};
+ghost use Rattle.dft_patterns.specs.Drawings as drawn;
 ghost use Rattle.dft_stil.specs.Timings as spec;
-ghost use Rattle.dft_stil.specs.Steps.{left, bytes};
+ghost use Rattle.dft_stil_tokens.specs.Steps.{left, bytes};
 ghost use Rattle.dft_stil.specs.MembersShown.{AreBelow};
 ghost use Rattle.dft_stil.specs.ShapeTableShown.{IsWide};
 ghost use Rattle.dft_stil.specs.TablesShown.{table_as, timing_as, AreWide};
-ghost use Rattle.dft_stil.specs.declared.shapes.Drawing.TheVariants as drawings;
-ghost use Rattle.dft_stil.specs.Reading.{ReadsText};
+ghost use Rattle.dft_patterns.specs.declared.shapes.Drawing.TheVariants as drawings;
+ghost use Rattle.dft_stil_tokens.specs.Reading.{ReadsText};
 
-use crate::faults::{fault_at, taken, unknown, unsupported_at};
 use crate::names::Names;
 use crate::namings::name_if_any;
-use crate::read_error::ReadError;
 use crate::shape_table::ShapeTable;
-use crate::shapes::{Drawing, Event, act_drawn, act_of_events, begins_shape, extended};
 use crate::tables::Tables;
-use crate::text::{Cause, TokenKind};
-use crate::times::Times;
-use crate::tokens::Tokens;
+use dft_patterns::{Drawing, Event, Times, act_drawn, act_of_events, begins_shape, extended};
+use dft_stil_tokens::{
+    Cause, ReadError, TokenKind, Tokens, fault_at, taken, unknown, unsupported_at,
+};
 use std::alloc::Global;
 
 /// A table so far: its shapes and its times.
@@ -93,7 +92,7 @@ fn event(
 // The brace that ends a shape, which may not come too early.
 fn ended(drawing: Drawing, tokens: &mut Tokens<'_>) -> Result<Drawing, ReadError>
     requires { IsName (bytes tokens.old) }
-    ensures { ReadsText (λ d. d) (spec.ended drawing (spec.act_of_events drawing) tokens.old) result tokens.new }
+    ensures { ReadsText (λ d. d) (spec.ended drawing (drawn.act_of_events drawing) tokens.old) result tokens.new }
 {
     match act_of_events(drawing) {
         Some(_) => {

@@ -3,21 +3,18 @@
 ghost use Rattle.std.specs.Prelude.{◌≡◌, ◌<◌, length, option_map, IfOk, IfSome};
 ghost use Rattle.std.specs.List.{list_any};
 ghost use Rattle.dft_stil.specs.Statements as spec;
-ghost use Rattle.dft_stil.specs.Steps.{left};
+ghost use Rattle.dft_stil_tokens.specs.Steps.{left};
 ghost use Rattle.dft_stil.specs.MembersShown.{AreBelow, meant as meant_as};
 ghost use Rattle.dft_stil.specs.ShapeTableShown.{IsWide};
 ghost use Rattle.dft_stil.specs.VectorShown.{vector_as, told_of};
-ghost use Rattle.dft_stil.specs.Reading.{ReadsText};
+ghost use Rattle.dft_stil_tokens.specs.Reading.{ReadsText};
 
-use crate::act::Acts;
 use crate::characters::characters;
-use crate::faults::{taken, unknown};
 use crate::members::Meant;
 use crate::names::Names;
-use crate::read_error::ReadError;
 use crate::shape_table::ShapeTable;
-use crate::text::TokenKind;
-use crate::tokens::Tokens;
+use dft_patterns::Acts;
+use dft_stil_tokens::{ReadError, TokenKind, Tokens, taken, unknown};
 use std::alloc::Global;
 
 /// A vector so far: its acts, and flags for the signals that it mentions.

@@ -1,19 +1,16 @@
 //! The written form of whole sets of patterns.
 
 ghost use Rattle.std.specs.Prelude.{◌≡◌, ◌≤◌, ◌++◌, length, flat_map, map, OnOk, IfOk, IfErr};
-ghost use Rattle.dft_stil.specs.Acts as letters;
+ghost use Rattle.dft_stil.specs.Letters as letters;
 ghost use Rattle.dft_stil.specs.Written as form;
 ghost use Rattle.dft_stil.specs.Laws.{ReadsBack};
 ghost use Rattle.dft_stil.specs.Lengths.{TellsLength};
 
-use crate::act::{Act, Acts};
-use crate::blanks::MAX_TEXT;
 use crate::middle::middle;
-use crate::notes::{Note, NoteKind};
-use crate::pattern_set::PatternSet;
-use crate::signal::{StilSignal, groups, input_count};
 use crate::write_error::WriteError;
-use dft_netlist::Dir;
+use dft_base::Dir;
+use dft_patterns::{Act, Acts, Note, NoteKind, PatternSet, StilSignal, groups, input_count};
+use dft_stil_tokens::MAX_TEXT;
 use itoa::Buffer;
 use std::alloc::{AllocError, Global};
 

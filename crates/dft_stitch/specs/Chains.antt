@@ -1,4 +1,4 @@
--- Scan chains: the scanned cells by domain and then by instance order, cut into blocks.
+-- Scan chains: the scanned cells by domain and then by instance order, cut into blocks (Rajski and others, 2004).
 use Rattle.std.specs.Prelude.{ℕ, ◌+◌, ◌==◌, List, [], ◌∷◌, length, map, take, drop, flat_map, Option, None, Some, option_and_then, slice_get, slice_index_or, if◌then◌else◌}
 use Rattle.std.specs.List.{filter_map, range_with_len}
 use Rattle.dft_netlist.specs.declared.ids.InstanceId.{InstanceId}

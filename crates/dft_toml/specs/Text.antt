@@ -1,4 +1,4 @@
--- The table that the bytes of a text stand for.
+-- The table that the bytes of a text stand for (TOML 1.0).
 use Rattle.std.specs.Prelude.{◌≡◌, ℕ, List, Some, IsUtf8}
 use Rattle.toml.specs.Data.{Members}
 use Rattle.toml.specs.Parse.{parse_document}

@@ -1,7 +1,7 @@
 -- A turn stays below all closed maps, and one that changes nothing has the next values.
 use Rattle.std.proofs.Common.{List, ◌≡◌, ◌∙◌, inl, inr, subst}
 use Rattle.dft_base.specs.declared.tri.Tri.{Tri}
-use Rattle.dft_cycle.specs.Cycle.{AreViews}
+use Rattle.dft_abstract.specs.Cycle.{AreViews}
 use Rattle.dft_cycle.specs.Machine.{value_at}
 use Rattle.dft_cycle.specs.Circuit.{logic_at, pulse_at}
 use Rattle.dft_cycle.proofs.AloneLemmas.{turn_alone}

@@ -4,8 +4,8 @@ use Rattle.std.specs.Prelude.{All}
 use Rattle.dft_netlist.specs.Netlist.{Netlist}
 use Rattle.dft_netlist.specs.Orders.{numbers_of}
 use Rattle.dft_cycle.specs.Machine.{AreNets}
-use Rattle.dft_stil.specs.declared.act.Act.{Act}
-use Rattle.dft_stil.specs.Patterns.{Patterns}
+use Rattle.dft_patterns.specs.declared.act.Act.{Act}
+use Rattle.dft_patterns.specs.Patterns.{Patterns}
 use Rattle.dft_replay.specs.Fits.{first_misfit}
 use Rattle.dft_replay.specs.Rows.{nets_of}
 use Rattle.dft_replay.specs.Verdicts.{HasVerdict, IsPlaced}

@@ -7,7 +7,7 @@ use Rattle.dft_netlist.specs.Logic.{logic_of}
 use Rattle.dft_netlist.specs.Orders.{numbers_of}
 use Rattle.dft_cycle.specs.Machine.{Machine, AreNets, logic}
 use Rattle.dft_cycle.proofs.MachineRounds.{start_forced}
-use Rattle.dft_stil.specs.declared.act.Act.{Act}
+use Rattle.dft_patterns.specs.declared.act.Act.{Act}
 use Rattle.dft_replay.specs.Rows.{ports_in}
 use Rattle.dft_replay.specs.Vectors.{net_at, clocks_of, AreClocks}
 use Rattle.dft_replay.proofs.VectorLemmas.{clock_live, clock_nets_live, are_clocks}

@@ -2,7 +2,7 @@
 use Rattle.std.proofs.Common.{◌≡◌, ◌≤◌, ◌*◌, length, drop, map}
 use Rattle.dft_netlist.specs.Logic.{logic_of}
 use Rattle.dft_netlist.specs.Orders.{numbers_of}
-use Rattle.dft_cycle.specs.Cycle.{all_unknown}
+use Rattle.dft_abstract.specs.Cycle.{all_unknown}
 use Rattle.dft_cycle.specs.Machine.{value_at}
 use Rattle.dft_cycle.specs.MachineLaws.{IsForced}
 use Rattle.dft_replay.specs.declared.verdict.Verdict.{Verdict}

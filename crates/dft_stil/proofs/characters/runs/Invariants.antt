@@ -1,5 +1,5 @@
 use Rattle.std.proofs.Common.{◌≡◌, ◌-◌}
-use Rattle.dft_stil.specs.Steps.{left}
+use Rattle.dft_stil_tokens.specs.Steps.{left}
 use Rattle.dft_stil.specs.Statements as spec
 use Rattle.std.proofs.Common.{option_map, length}
 use Rattle.dft_stil.specs.MembersShown.{AreBelow}

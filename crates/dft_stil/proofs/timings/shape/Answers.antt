@@ -1,4 +1,4 @@
-use Rattle.dft_stil.proofs.CharacterNames.{character_named}
+use Rattle.dft_stil_tokens.proofs.CharacterNames.{character_named}
 use Rattle.dft_stil.proofs.timings.shape.Goals as goal
 
 pub taken-requires : goal.taken-requires

@@ -1,5 +1,5 @@
 use Rattle.std.proofs.Common.{◌≡◌, ◌++◌, map, drop}
-use Rattle.dft_stil.specs.Acts as letters
+use Rattle.dft_stil.specs.Letters as letters
 use Rattle.dft_stil.proofs.writer.add_letters.Given as goal
 
 abbrev pub invariant-loop-act : goal.invariant-loop-act

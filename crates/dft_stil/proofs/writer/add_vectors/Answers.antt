@@ -1,5 +1,5 @@
 use Rattle.std.proofs.Common.{◌≤◌, ◌+◌, ◌++◌, ℕ, List, flat_map, length, take, drop, sym, ap, subst, ◌∙◌, arith}
-use Rattle.dft_stil.specs.declared.notes.Note.{Note}
+use Rattle.dft_patterns.specs.declared.notes.Note.{Note}
 use Rattle.dft_stil.specs.Written as form
 use Rattle.dft_stil.proofs.NoteLemmas.{Written, one_more_vector, all_written}
 use Rattle.dft_stil.proofs.writer.add_vectors.Goals as goal

@@ -3,7 +3,7 @@ use Rattle.std.proofs.Common.{Bool, ◌≡◌, ◌∙◌, refl, ap, sym, subst, 
 use Rattle.std.specs.Vec.{with_items}
 use Rattle.dft_base.specs.declared.tri.Tri.{Tri}
 use Rattle.dft_netlist.specs.declared.ids.NetId.{NetId}
-use Rattle.dft_cycle.specs.Cycle.{Pulse}
+use Rattle.dft_abstract.specs.Cycle.{Pulse}
 use Rattle.dft_cycle.specs.Machine.{Machine, logic, value_at, pulses, IsPulsed}
 use Rattle.dft_cycle.specs.Circuit.{flag_at, logic_at}
 use Rattle.dft_cycle.specs.Views.{Among}

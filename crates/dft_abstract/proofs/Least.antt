@@ -1,0 +1,83 @@
+-- Views and next values grow with the map, so the least map is one, and joins stay below all closed maps.
+use Rattle.std.proofs.Common.{ℕ, Bool, true, false, [], ◌∷◌, ◌≡◌, ◌<◌, ◌==◌, zero, suc, refl, arith, Option, None, Some}
+use Rattle.std.specs.Prelude.{if◌then◌else◌}
+use Rattle.dft_base.specs.declared.tri.Tri.{Tri}
+use Rattle.dft_base.specs.declared.tri.Tri.TheVariants.{Zero, One, Unknown}
+use Rattle.dft_base.specs.Tri.{AboveTri}
+use Rattle.dft_cells.proofs.Completions.{above_self, trans, join_least, forced_monotone, chosen_monotone}
+use Rattle.dft_netlist.specs.Drivers.{Source, nets_of, AreBelow}
+use Rattle.dft_netlist.specs.Logic.{Logic, Force, Scan, IsRanked}
+use Rattle.dft_netlist.specs.Settled.{TriSources, value_from, IsTriSettled}
+use Rattle.dft_netlist.specs.Runs.{Vector}
+use Rattle.dft_netlist.proofs.Meanings.{source_monotone, source_over, meaning_monotone, at_nets}
+use Rattle.dft_abstract.specs.Cycle.{Pulse, tri_forced_by, tri_taken_by, view_sources, AreViews, next_value, IsLeast, after_pulse, pulse_of, strobe_sources, Round, IsRound}
+use Rattle.dft_abstract.specs.Laws.{StepIsBelow, RoundIsOne}
+
+pub both_above : (t u : Tri) → AboveTri t u → AboveTri u t → t ≡ u
+both_above Unknown Unknown p q = refl
+both_above Unknown Zero p q = absurd q
+both_above Unknown One p q = absurd q
+both_above Zero Zero p q = refl
+both_above Zero One p q = absurd p
+both_above Zero Unknown p q = absurd p
+both_above One One p q = refl
+both_above One Zero p q = absurd p
+both_above One Unknown p q = absurd p
+
+-- a family of settled assignments grows with its sources
+settled_monotone : (l : Logic) (rank : ℕ → ℕ) (t s : ℕ → TriSources) (w u : ℕ → ℕ → Tri) → IsRanked l rank → ((d : ℕ) → IsTriSettled l (t d) (w d)) → ((d : ℕ) → IsTriSettled l (s d) (u d)) →
+    ((d k : ℕ) → AboveTri ((t d).ports k) ((s d).ports k)) → ((d e : ℕ) → AboveTri ((t d).clocks e) ((s d).clocks e)) → ((d c : ℕ) → AboveTri ((t d).flops c) ((s d).flops c)) →
+    ((r : ℕ) → ((k : ℕ) → rank k < r → (d : ℕ) → AboveTri (w d k) (u d k)) → (d c e : ℕ) (source : Source) → AreBelow rank r (nets_of (source ∷ [])) → AboveTri ((t d).lockups c e source) ((s d).lockups c e source)) →
+    (fuel net : ℕ) → rank net < fuel → (d : ℕ) → AboveTri (w d net) (u d net)
+settled_monotone l rank t s w u ranked tw su ports clocks flops lockups zero net less d = absurd (omega arith)
+settled_monotone l rank t s w u ranked tw su ports clocks flops lockups (suc fuel) net less d =
+    let ih : (k : ℕ) → rank k < rank net → (e : ℕ) → AboveTri (w e k) (u e k) = λ k below. settled_monotone l rank t s w u ranked tw su ports clocks flops lockups fuel k (omega arith) in
+    at_nets _ _ _ _ (tw d net) (su d net) (meaning_monotone rank (t d) (s d) (w d) (u d) net (ports d) (clocks d) (flops d) (l.net net) (ranked net) (λ k below. ih k below d) (lockups (rank net) ih d))
+
+choices : (b : Bool) (x y a c : Tri) → AboveTri x a → AboveTri y c → AboveTri (if b then x else y) (if b then a else c)
+choices true x y a c p q = p
+choices false x y a c p q = q
+
+pub views_monotone : (l : Logic) (rank : ℕ → ℕ) (p : Pulse) (high low : ℕ → Tri) (w u : ℕ → ℕ → Tri) → IsRanked l rank → AreViews l p high w → AreViews l p low u → ((c : ℕ) → AboveTri (high c) (low c)) → (d net : ℕ) → AboveTri (w d net) (u d net)
+views_monotone l rank p high low w u ranked hw lu over d net =
+    settled_monotone l rank (view_sources l p high w) (view_sources l p low u) w u ranked hw lu
+    (λ d k. above_self (p.ports k)) (λ d e. above_self ((view_sources l p high w d).clocks e))
+    (λ d c. choices (p.pulsed (l.cell c).domain) _ _ _ _ (choices ((l.cell c).domain == d) _ _ _ _ (above_self (p.old c)) (over c)) (above_self (p.old c)))
+    (λ r ih d c e source below. source_monotone rank r (w e) (u e) source below (λ k less. ih k less e)) (suc (rank net)) net (omega arith) d
+
+forced_by_monotone : (f : Option Force) (ports : ℕ → Tri) (t u : Tri) → AboveTri t u → AboveTri (tri_forced_by f ports t) (tri_forced_by f ports u)
+forced_by_monotone None ports t u h = h
+forced_by_monotone (Some f) ports t u h = forced_monotone f.value (ports f.port) (ports f.port) t u (above_self (ports f.port)) h
+
+taken_by_monotone : (s : Option Scan) (at below : Source → Tri) (t u : Tri) → ((source : Source) → AboveTri (at source) (below source)) → AboveTri t u → AboveTri (tri_taken_by s at t) (tri_taken_by s below u)
+taken_by_monotone None at below t u p h = h
+taken_by_monotone (Some s) at below t u p h = chosen_monotone (at s.enable) (below s.enable) (at s.input) (below s.input) t u (p s.enable) (p s.input) h
+
+next_monotone : (l : Logic) (rank : ℕ → ℕ) (p : Pulse) (high low : ℕ → Tri) (w u : ℕ → ℕ → Tri) → IsRanked l rank → AreViews l p high w → AreViews l p low u → ((c : ℕ) → AboveTri (high c) (low c)) → (c : ℕ) → AboveTri (next_value l p w c) (next_value l p u c)
+next_monotone l rank p high low w u ranked hw lu over c =
+    let d : ℕ = (l.cell c).domain in
+    let at : (source : Source) → AboveTri (value_from (w d) source) (value_from (u d) source) = λ source. source_over (w d) (u d) source (views_monotone l rank p high low w u ranked hw lu over d) in
+    forced_by_monotone (l.cell c).force p.ports _ _ (taken_by_monotone (l.cell c).scan (value_from (w d)) (value_from (u d)) _ _ at (at (l.cell c).input))
+
+pub step_below : StepIsBelow
+step_below l rank p poss other view its ranked views closed over c pulsed =
+    join_least (other c) (poss c) (next_value l p view c) (over c)
+    (trans (other c) (next_value l p its c) (next_value l p view c) (closed.next c pulsed) (next_monotone l rank p other poss its view ranked closed.views views over c))
+
+strobe_over : (l : Logic) (rank : ℕ → ℕ) (x : Vector) (old : ℕ → Tri) (r q : Round) → IsRanked l rank → IsRound l x old r → IsRound l x old q → (net : ℕ) → AboveTri (r.strobe net) (q.strobe net)
+strobe_over l rank x old r q ranked rr qq net =
+    settled_monotone l rank (λ d. strobe_sources l x old r.strobe) (λ d. strobe_sources l x old q.strobe) (λ d. r.strobe) (λ d. q.strobe) ranked (λ d. rr.strobe) (λ d. qq.strobe)
+    (λ d k. above_self (x.ports k)) (λ d e. tt) (λ d c. above_self ((pulse_of l x old).old c))
+    (λ n ih d c e source below. source_monotone rank n r.strobe q.strobe source below (λ k less. ih k less d)) (suc (rank net)) net (omega arith) 0
+
+after_over : (l : Logic) (rank : ℕ → ℕ) (p : Pulse) (poss other : ℕ → Tri) (view its : ℕ → ℕ → Tri) → IsRanked l rank → IsLeast l p poss view → IsLeast l p other its → (c : ℕ) → AboveTri (after_pulse l p view c) (after_pulse l p its c)
+after_over l rank p poss other view its ranked this that c =
+    choices (p.pulsed (l.cell c).domain) _ _ _ _
+    (next_monotone l rank p poss other view its ranked this.closed.views that.closed.views (that.least poss view this.closed) c)
+    (above_self (p.old c))
+
+pub round_one : RoundIsOne
+round_one l rank x old r q ranked rr qq = (
+  (λ net. both_above _ _ (strobe_over l rank x old r q ranked rr qq net) (strobe_over l rank x old q r ranked qq rr net)),
+  (λ c. both_above _ _ (after_over l rank (pulse_of l x old) r.poss q.poss r.view q.view ranked rr.least qq.least c) (after_over l rank (pulse_of l x old) q.poss r.poss q.view r.view ranked qq.least rr.least c)),
+)

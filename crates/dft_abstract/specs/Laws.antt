@@ -1,0 +1,88 @@
+-- What the abstract cycle says of runs.
+use Rattle.std.specs.Prelude.{ℕ, Bool, true, ◌≡◌, if◌then◌else◌}
+use Rattle.dft_base.specs.declared.tri.Tri.{Tri}
+use Rattle.dft_base.specs.declared.tri.Tri.TheVariants.{Unknown}
+use Rattle.dft_base.specs.Tri.{known, Above, AboveTri, join}
+use Rattle.dft_netlist.specs.Drivers.{Source}
+use Rattle.dft_netlist.specs.Logic.{Logic, Lockup, IsRanked}
+use Rattle.dft_netlist.specs.Settled.{IsTriSettled, value_from}
+use Rattle.dft_netlist.specs.Runs.{State, Now, Vector, Turn, IsTurn, after_turn, AreLow}
+use Rattle.dft_abstract.specs.Cycle.{Pulse, AreViews, next_value, IsClosed, after_pulse, pulse_of, strobe_sources, Round, IsRound, after_round, tri_forced_by, tri_taken_by}
+
+-- what holds between vectors: each value stands above its flip-flop's bit, and all clocks are low
+pub record Stands (old : ℕ → Tri) (s : State) : Type 0 where
+  pub above : (c : ℕ) → Above (old c) (s.flops c)
+  pub low : AreLow s
+
+-- the bits that a run shows at the strobe of a turn
+abbrev pub shown : Turn → ℕ → Bool
+shown t = t.strobe.seen
+
+-- At the strobe of every turn each net's value stands above its bit.
+abbrev pub StrobeIsAbove : Type 0
+StrobeIsAbove =
+    (l : Logic) (rank : ℕ → ℕ) (x : Vector) (old values : ℕ → Tri) (now : Now) (t : Turn) → IsRanked l rank → Stands old now.state → IsTurn l x now t →
+    IsTriSettled l (strobe_sources l x old values) values → (net : ℕ) → Above (values net) (shown t net)
+
+-- After every turn, whatever the order of its edges and the free bits, the values of any closed map stand above the bits.
+abbrev pub TurnIsAbove : Type 0
+TurnIsAbove =
+    (l : Logic) (rank : ℕ → ℕ) (x : Vector) (old : ℕ → Tri) (now : Now) (t : Turn) (poss : ℕ → Tri) (view : ℕ → ℕ → Tri) → IsRanked l rank → Stands old now.state → IsTurn l x now t →
+    IsClosed l (pulse_of l x old) poss view → Stands (after_pulse l (pulse_of l x old) view) (after_turn l x now t).state
+
+-- The map that is Unknown everywhere is closed, with its views; and a vector has strobe values.
+abbrev pub ClosedExists : Type 0
+ClosedExists = (l : Logic) (rank : ℕ → ℕ) (p : Pulse) → IsRanked l rank → (view : ℕ → ℕ → Tri) × IsClosed l p (λ c. Unknown) view
+
+abbrev pub StrobeExists : Type 0
+StrobeExists = (l : Logic) (rank : ℕ → ℕ) (x : Vector) (old : ℕ → Tri) → IsRanked l rank → (values : ℕ → Tri) × IsTriSettled l (strobe_sources l x old values) values
+
+-- A map that is below all closed maps stays below them where a pulsed cell's next value in its views is joined to it.
+abbrev pub StepIsBelow : Type 0
+StepIsBelow =
+    (l : Logic) (rank : ℕ → ℕ) (p : Pulse) (poss other : ℕ → Tri) (view its : ℕ → ℕ → Tri) → IsRanked l rank → AreViews l p poss view → IsClosed l p other its →
+    ((c : ℕ) → AboveTri (other c) (poss c)) → (c : ℕ) → p.pulsed (l.cell c).domain ≡ true → AboveTri (other c) (join (poss c) (next_value l p view c))
+
+-- The values of a vector are determined.
+abbrev pub RoundIsOne : Type 0
+RoundIsOne =
+    (l : Logic) (rank : ℕ → ℕ) (x : Vector) (old : ℕ → Tri) (r q : Round) → IsRanked l rank → IsRound l x old r → IsRound l x old q →
+    ((net : ℕ) → r.strobe net ≡ q.strobe net) × ((c : ℕ) → after_round l x old r c ≡ after_round l x old q c)
+
+-- ---- where one domain pulses
+
+abbrev pub HasNoLockup : Logic → Type 0
+HasNoLockup l = (net c e : ℕ) (source : Source) → l.net net ≡ Lockup c e source → ⊥
+
+-- the next value of a flip-flop from the values of the strobe
+abbrev pub next_from : Logic → Vector → (values : ℕ → Tri) → (cell : ℕ) → Tri
+next_from l x values c = tri_forced_by (l.cell c).force x.ports (tri_taken_by (l.cell c).scan (value_from values) (value_from values (l.cell c).input))
+
+-- Without lock-ups, where one domain pulses at most, a vector's round has these strobe values, and its flip-flops take their next values from them.
+abbrev pub OneDomain : Type 0
+OneDomain =
+    (l : Logic) (rank : ℕ → ℕ) (x : Vector) (d : ℕ) (old values : ℕ → Tri) → IsRanked l rank → HasNoLockup l → ((e : ℕ) → x.pulsed e ≡ true → e ≡ d) →
+    IsTriSettled l (strobe_sources l x old values) values →
+    (r : Round) × ((r.strobe ≡ values) × IsRound l x old r × ((c : ℕ) → after_round l x old r c ≡ (if x.pulsed (l.cell c).domain then next_from l x values c else (pulse_of l x old).old c)))
+
+-- ---- from the abstract cycle to runs: what it knows from a run's own bits, the run has
+
+abbrev pub bits : State → ℕ → Tri
+bits s c = known (s.flops c)
+
+-- a cell that all views give a known bit has it after every turn
+abbrev pub KnownAfterTurn : Type 0
+KnownAfterTurn =
+    (l : Logic) (rank : ℕ → ℕ) (x : Vector) (now : Now) (t : Turn) → IsRanked l rank → AreLow now.state → IsTurn l x now t → (c : ℕ) (b : Bool) →
+    ((poss : ℕ → Tri) (view : ℕ → ℕ → Tri) → AreViews l (pulse_of l x (bits now.state)) poss view → after_pulse l (pulse_of l x (bits now.state)) view c ≡ known b) →
+    (after_turn l x now t).state.flops c ≡ b
+
+-- a net that the strobe gives a known bit shows it
+abbrev pub KnownAtStrobe : Type 0
+KnownAtStrobe =
+    (l : Logic) (rank : ℕ → ℕ) (x : Vector) (now : Now) (t : Turn) → IsRanked l rank → AreLow now.state → IsTurn l x now t → (net : ℕ) (b : Bool) →
+    ((values : ℕ → Tri) → IsTriSettled l (strobe_sources l x (bits now.state) values) values → values net ≡ known b) → shown t net ≡ b
+
+-- all clocks are low after every turn
+abbrev pub LowAfterTurn : Type 0
+LowAfterTurn = (l : Logic) (rank : ℕ → ℕ) (x : Vector) (now : Now) (t : Turn) → IsRanked l rank → AreLow now.state → IsTurn l x now t → AreLow (after_turn l x now t).state

@@ -1,5 +1,0 @@
-use Rattle.dft_cycle.proofs.Turns.{strobe_stands, turn_stands}
-use Rattle.dft_cycle.proofs.cycle_is_above.Goals as goal
-
-pub returns : goal.returns
-returns c = record { strobe = strobe_stands; turn = turn_stands }

@@ -1,0 +1,25 @@
+-- The exit status of a run.
+use Rattle.std.specs.Prelude.{ℕ, ◌≡◌, List}
+use Rattle.dft_top.specs.declared.answer.Answer.{Answer}
+use Rattle.dft_top.specs.declared.answer.Status.{Status}
+use Rattle.dft_top.specs.declared.answer.Status.TheVariants.{Done, NotPassed, Usage, Refused, ReadFault, WriteFault, OutOfMemory}
+use Rattle.dft_top.specs.Run.{Ends, KeepsFiles, PassesTold, ScansTold, Seen}
+
+-- the exit status of each status
+abbrev pub status_number : Status → ℕ
+status_number Done = 0
+status_number NotPassed = 1
+status_number Usage = 2
+status_number Refused = 3
+status_number ReadFault = 4
+status_number WriteFault = 5
+status_number OutOfMemory = 6
+
+-- The exit status is the number of the status that a run of these words answers, and the run promises what every run does.
+pub record IsStatusOfRun (words : List (List ℕ)) (before after : Seen) (number : ℕ) : Type 0 where
+  pub answer : Answer
+  pub number : number ≡ status_number answer.status
+  pub ends : Ends words before after answer
+  pub kept : KeepsFiles words before.held after.held before.write_faults after.write_faults answer
+  pub passes : PassesTold words before.held answer
+  pub scans : ScansTold words before.held after.held answer

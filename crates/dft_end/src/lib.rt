@@ -1,0 +1,6 @@
+//! The end of the program: the words, files and output of a host to an exit status.
+#![tactic(auto)]
+
+mod ending;
+
+pub use ending::{end, status_of_run};

@@ -1,0 +1,49 @@
+//! Runs each command line of the file `commands` on the files beside it, and prints the line that it puts, its exit status
+//! and what it saved. The stored output holds what was worked out by hand; it promises nothing.
+#![tactic(auto)]
+
+use dft_end::status_of_run;
+use dft_files::{HostFiles, OutSink};
+use std::alloc::Global;
+use std::{fs, io};
+
+fn main(rt: HostRuntime) -> io::Result<()> {
+    let commands = fs::read_to_string(&rt, "commands")?;
+    for line in commands.lines() {
+        println!(&rt; "$ dft {line}")?;
+        play(&rt, line)?;
+    }
+    Ok(())
+}
+
+// Runs the words of a line, and shows what they saved.
+fn play<R: AllocGlobal + Print + std::rt::Files>(rt: &R, line: &str) -> io::Result<()> {
+    let words = words_of(rt.alloc(), line)?;
+    let mut files = HostFiles::new(rt, rt.alloc());
+    let mut out = OutSink::new(rt);
+    let status = status_of_run(rt.alloc(), words.as_slice(), &mut files, &mut out);
+    println!(rt; "status {status}")?;
+    let mut is_saved = false;
+    for word in &words {
+        if is_saved {
+            show(rt, word.as_str())?;
+        }
+        is_saved = word.as_str() == "--out" || word.as_str() == "--report";
+    }
+    Ok(())
+}
+
+fn words_of(alloc: Global, line: &str) -> io::Result<Vec<String>> {
+    let mut words = Vec::new(alloc);
+    for word in line.split_whitespace() {
+        words.push(String::from_str(alloc, word)?)?;
+    }
+    Ok(words)
+}
+
+// Shows a file.
+fn show<R: AllocGlobal + Print + std::rt::Files>(rt: &R, name: &str) -> io::Result<()> {
+    let text = fs::read_to_string(rt, name)?;
+    println!(rt; "-- {name}")?;
+    print!(rt; "{text}")
+}

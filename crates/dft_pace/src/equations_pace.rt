@@ -1,0 +1,59 @@
+//! Times the load equations of 16 chains behind a ring of 16 stages and 4 channels, for loads of 4,096 cycles.
+
+ghost use Rattle.std.specs.Prelude.{◌≡◌, ◌≤◌};
+ghost use Rattle.dft_config.specs.Range.{IsInRange};
+
+use dft_config::Config;
+use dft_equations::equations;
+use std::alloc::Global;
+use std::rt::Clock;
+use std::time::Instant;
+use std::io;
+
+// Sixteen chains of three stages each.
+const CONFIGURATION: &str = "version = 1
+domains = ['clk']
+chains = 16
+warm = 0
+window = 1
+[ring]
+stages = 16
+channels = 4
+taps = [[2, 10], [13, 4], [6, 1]]
+injectors = [[0, 0], [1, 4], [2, 8], [3, 12]]
+phase = [[0, 5, 11], [1, 6, 12], [2, 7, 13], [3, 8, 14], [4, 9, 15], [5, 10, 0], [6, 11, 1], [7, 12, 2],
+    [8, 13, 3], [9, 14, 4], [10, 15, 5], [11, 0, 6], [12, 1, 7], [13, 2, 8], [14, 3, 9], [15, 4, 10]]
+[compactor]
+groups = [[0, 1, 2, 3, 4, 5, 6, 7, 8, 9, 10, 11, 12, 13, 14, 15]]
+mask_inputs = 1
+";
+
+/// Reads the configuration and times the equations of chains of so many cells, at most 4,096.
+pub fn time_equations(
+    rt: &(impl Clock + Eprint),
+    alloc: Global,
+    cells: u32,
+) -> io::Result<()> {
+    let cells = cells.min(4096) as u16;
+    match Config::read(alloc, CONFIGURATION.as_bytes()) {
+        Ok(config) if config.chains == 16 && config.ring.channels == 4 => {
+            time(rt, alloc, &config, cells)
+        }
+        _ => eprintln!(rt; "the configuration is not read"),
+    }
+}
+
+// Times the equations of chains of so many cells.
+fn time(rt: &(impl Clock + Eprint), alloc: Global, config: &Config, cells: u16) -> io::Result<()>
+    requires config { IsInRange config.now }
+    requires chains { config.now.chains ≡ 16 }
+    requires channels { config.now.ring.channels ≡ 4 }
+    requires cells { cells ≤ 4096 }
+{
+    let lengths = [cells; 16];
+    let start = Instant::now(rt)?;
+    let equations = equations(alloc, config, &lengths, 4096)?;
+    let took = start.elapsed(rt)?.as_micros();
+    let columns = equations.columns();
+    eprintln!(rt; "16 chains of {cells} cells, {columns} columns: {took} us")
+}

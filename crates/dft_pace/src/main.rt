@@ -1,0 +1,60 @@
+//! Times parts of the tool that no command reaches alone. Its words name what is timed, each with sizes behind it:
+//! `equations` with cells a chain, `systems` with columns, `patterns` with vectors. With no words it times each once, small.
+//! The times go to standard error. It promises nothing.
+#![tactic(auto)]
+
+mod equations_pace;
+mod patterns_pace;
+mod systems_pace;
+
+use equations_pace::time_equations;
+use patterns_pace::time_patterns;
+use std::alloc::Global;
+use std::rt::Clock;
+use std::{env, io};
+use systems_pace::time_systems;
+
+// What is timed.
+#[derive(Clone, Copy)]
+enum Timed {
+    Equations,
+    Systems,
+    Patterns,
+}
+
+fn main(rt: HostRuntime) -> io::Result<()> {
+    let mut timed = None;
+    let mut none = true;
+    for word in env::args(&rt)?.skip(1) {
+        none = false;
+        match word.as_str() {
+            "equations" => timed = Some(Timed::Equations),
+            "systems" => timed = Some(Timed::Systems),
+            "patterns" => timed = Some(Timed::Patterns),
+            size => {
+                if let (Some(timed), Ok(size)) = (timed, size.parse::<u32>()) {
+                    time(&rt, rt.alloc(), timed, size)?;
+                }
+            }
+        }
+    }
+    if none {
+        time(&rt, rt.alloc(), Timed::Equations, 64)?;
+        time(&rt, rt.alloc(), Timed::Systems, 256)?;
+        time(&rt, rt.alloc(), Timed::Patterns, 1000)?;
+    }
+    Ok(())
+}
+
+fn time(
+    rt: &(impl Clock + Eprint),
+    alloc: Global,
+    timed: Timed,
+    size: u32,
+) -> io::Result<()> {
+    match timed {
+        Timed::Equations => time_equations(rt, alloc, size),
+        Timed::Systems => time_systems(rt, alloc, size),
+        Timed::Patterns => time_patterns(rt, alloc, size),
+    }
+}

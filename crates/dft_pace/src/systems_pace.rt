@@ -1,0 +1,49 @@
+//! Times one equation more at systems of linear equations that are half full of random ones.
+
+use dft_gf2::{Outcome, System};
+use rand_core::utils::NextWord;
+use rand_pcg::Pcg32;
+use std::alloc::Global;
+use std::rt::Clock;
+use std::time::Instant;
+use std::io;
+
+// How many equations are timed.
+const TIMED: u32 = 16;
+
+/// Fills a system with so many columns to the half, and times what an equation more takes.
+pub fn time_systems(
+    rt: &(impl Clock + Eprint),
+    alloc: Global,
+    columns: u32,
+) -> io::Result<()> {
+    let mut random = Pcg32::new(42, 54);
+    let mut system = System::new(alloc, columns)?;
+    let mut row = vec![in alloc; false; columns as usize]?;
+    let mut kept = 0u32;
+    for id in 0..columns / 2 {
+        draw(&mut row, &mut random);
+        if added(&mut system, &row, id) {
+            kept = kept.wrapping_add(1);
+        }
+    }
+    draw(&mut row, &mut random);
+    let start = Instant::now(rt)?;
+    for id in 0..TIMED {
+        added(&mut system, &row, id);
+    }
+    let took = start.elapsed(rt)?.as_nanos() / TIMED as u128;
+    eprintln!(rt; "{columns} columns, {kept} kept: {took} ns for one more")
+}
+
+// Draws each bit of a row.
+fn draw(row: &mut [bool], random: &mut Pcg32) {
+    for bit in row.iter_mut() {
+        *bit = random.next_word() % 2 == 1;
+    }
+}
+
+// Adds the equation that gives the row 0, and says whether it was kept.
+fn added(system: &mut System, row: &[bool], id: u32) -> bool {
+    row.len() == system.columns() as usize && system.try_add(row, false, id) == Outcome::Kept
+}

@@ -1,7 +1,0 @@
-use Rattle.std.proofs.Common.{◌≡◌, drop, get_or, false}
-use Rattle.dft_stil.specs.Steadiness as spec
-use Rattle.dft_stil.proofs.steadiness.first_not_low.Given as goal
-
-abbrev pub invariant-loop-signal : goal.invariant-loop-signal
-invariant-loop-signal l =
-    spec.first_not_low (λ signal. get_or l.flags signal false) l.signal (drop l.signal l.acts) ≡ spec.first_not_low (λ signal. get_or l.flags signal false) 0 l.acts

@@ -1,5 +1,0 @@
-use Rattle.dft_stil.proofs.SteadyLemmas.{Flagged}
-use Rattle.dft_stil.proofs.steadiness.flag_pulses.Given as goal
-
-abbrev pub invariant-loop-signal : goal.invariant-loop-signal
-invariant-loop-signal l = Flagged l.acts l.initial.flags l.flags l.signal

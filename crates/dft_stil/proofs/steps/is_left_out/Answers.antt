@@ -1,6 +1,0 @@
-use Rattle.dft_stil.specs.Steps.{left_out}
-use Rattle.dft_stil.proofs.steps.is_left_out.Goals as goal
-
-pub returns : goal.returns
-unfolding left_out
-returns c = c.is_among.ensures

@@ -1,6 +1,0 @@
--- What a set of patterns shows.
-use Rattle.dft_stil.specs.declared.pattern_set.PatternSet.TheInside.{Inside}
-use Rattle.dft_stil.specs.Patterns.{Patterns}
-
-abbrev pub patterns_of : Inside → Patterns
-patterns_of s = record { signals = s.signals.items; vectors = s.vectors.items; notes = s.notes.items }

@@ -1,0 +1,225 @@
+//! The blanks between the tokens of a pattern text: spaces, comments and annotations (IEEE 1450-1999).
+
+ghost use Rattle.std.specs.Prelude.{false, ◌≡◌, ◌≤◌, ◌<◌, ◌+◌, ◌-◌, ◌^◌, ◌==◌, not, [], ◌∷◌, length, drop, Option, IfSome};
+ghost use Rattle.std.specs.List.{prefix_len};
+ghost use Rattle.std.specs.Char.{is_ascii_digit};
+ghost use Rattle.dft_stil_tokens.specs.Lexemes as spec;
+
+/// The most bytes that a pattern text may have: 256 MiB.
+pub const MAX_TEXT: usize = 268_435_456;
+
+/// Whether a byte separates tokens: a tab, a line feed, a form feed, a carriage return or a space.
+pub fn is_space(byte: u8) -> bool
+    ensures { result ≡ spec.is_space byte }
+{
+    byte == b'\t' || byte == b'\n' || byte == 12 || byte == b'\r' || byte == b' '
+}
+
+// Whether a byte may stand in a word behind its first letter.
+fn continues_name(byte: u8) -> bool
+    ensures { result ≡ spec.continues_name byte }
+{
+    byte.is_ascii_alphanumeric() || byte == b'_'
+}
+
+// How many bytes at the front may stand in a word.
+fn name_len(text: &[u8]) -> usize
+    ensures value { result ≡ prefix_len spec.continues_name text.now }
+    ensures within { result ≤ length text.now }
+{
+    text.iter()
+        .take_while(|byte| continues_name(**byte))
+        .count()
+}
+
+/// How many digits stand at the front.
+pub fn digits_len(text: &[u8]) -> usize
+    ensures value { result ≡ prefix_len is_ascii_digit text.now }
+    ensures within { result ≤ length text.now }
+{
+    text.iter().take_while(|byte| byte.is_ascii_digit()).count()
+}
+
+// How many bytes digits in brackets have; none where the text does not begin with such.
+fn index_len(text: &[u8]) -> usize
+    requires { length text.now ≤ MAX_TEXT }
+    ensures value { result ≡ spec.index_len text.now }
+    ensures within { result ≤ length text.now }
+{
+    let [b'[', behind @ ..] = text else {
+        return 0;
+    };
+    let digits = digits_len(behind);
+    if 0 < digits && matches!(&behind[digits..], [b']', ..]) {
+        2 + digits
+    } else {
+        0
+    }
+}
+
+/// How many bytes the word at the front has; a text may begin with none.
+pub fn word_len(text: &[u8]) -> usize
+    requires { length text.now ≤ MAX_TEXT }
+    ensures value { result ≡ spec.word_len text.now }
+    ensures within { result ≤ length text.now }
+{
+    let len = name_len(text);
+    len + index_len(&text[len..])
+}
+
+// How many bytes stand before the end of the line.
+fn to_line_end(text: &[u8]) -> usize
+    ensures value { result ≡ prefix_len (λ c. not (c == 10)) text.now }
+    ensures within { result ≤ length text.now }
+{
+    text.iter().take_while(|byte| **byte != b'\n').count()
+}
+
+// Whether these two bytes stand at the front.
+fn begins_with_pair(text: &[u8], first: u8, second: u8) -> bool
+    ensures { result ≡ spec.begins_with (first ∷ second ∷ []) text.now }
+{
+    matches!(text, [a, b, ..] if *a == first && *b == second)
+}
+
+#[tactic(auto, unfolding(crate::specs::Lexemes::comment_rest))]
+// How many bytes a comment has from behind its opening to behind the next `*/`.
+fn comment_rest(text: &[u8]) -> Option<usize>
+    ensures value { result ≡ spec.comment_rest text.now }
+    ensures within { IfSome result (λ len. len ≤ length text.now) }
+{
+    let mut rest = text;
+    while let [_, behind @ ..] = rest {
+        if begins_with_pair(rest, b'*', b'/') {
+            return Some(text.len() - rest.len() + 2);
+        }
+        rest = behind;
+    }
+    None
+}
+
+#[tactic(auto, unfolding(crate::specs::Lexemes::note_rest))]
+// How many bytes an annotation has from behind its opening to behind the next `*}`.
+fn note_rest(text: &[u8]) -> Option<usize>
+    ensures value { result ≡ spec.note_rest text.now }
+    ensures within { IfSome result (λ len. len ≤ length text.now) }
+{
+    let mut rest = text;
+    while let [_, behind @ ..] = rest {
+        if begins_with_pair(rest, b'*', b'}') {
+            return Some(text.len() - rest.len() + 2);
+        }
+        rest = behind;
+    }
+    None
+}
+
+// What a comment has with its opening of two bytes; none where the text does not close it.
+fn closed_len(rest: Option<usize>) -> usize
+    requires { IfSome rest (λ len. len + 2 < 2 ^ 64) }
+    ensures { result ≡ spec.closed_len rest }
+{
+    match rest {
+        Some(len) => 2 + len,
+        None => 0,
+    }
+}
+
+#[tactic(auto, unfolding(crate::specs::Lexemes::gap_len))]
+// How many bytes a space or a comment at the front has.
+fn gap_len(text: &[u8]) -> usize
+    requires { length text.now ≤ MAX_TEXT }
+    ensures value { result ≡ spec.gap_len text.now }
+    ensures within { result ≤ length text.now }
+{
+    match text {
+        [] => 0,
+        [first, ..] if is_space(*first) => 1,
+        [b'/', b'/', ..] => to_line_end(text),
+        [b'/', b'*', behind @ ..] => closed_len(comment_rest(behind)),
+        _ => 0,
+    }
+}
+
+#[tactic(auto, using(crate::proofs::GapLemmas::gaps_in_front))]
+// How many bytes of spaces and comments stand at the front.
+fn gaps(text: &[u8]) -> usize
+    requires { length text.now ≤ MAX_TEXT }
+    ensures value { result ≡ spec.gaps text.now }
+    ensures within { result ≤ length text.now }
+{
+    let mut rest = text;
+    let mut gap = gap_len(rest);
+    while 0 < gap {
+        (_, rest) = rest.split_at(gap);
+        gap = gap_len(rest);
+    }
+    text.len() - rest.len()
+}
+
+// How many bytes the opening of an annotation has whose word has three, if `{*` stands behind the word.
+fn opening_behind(behind: &[u8]) -> Option<usize>
+    requires { length behind.now ≤ MAX_TEXT }
+    ensures value { result ≡ spec.opening_behind behind.now }
+    ensures within { IfSome result (λ len. len ≤ 3 + length behind.now) }
+{
+    let gap = gaps(behind);
+    if begins_with_pair(&behind[gap..], b'{', b'*') {
+        Some(5 + gap)
+    } else {
+        None
+    }
+}
+
+/// How many bytes the opening of an annotation has, if one begins here: the word `Ann`, and `{*`.
+pub fn note_opening(text: &[u8]) -> Option<usize>
+    requires { length text.now ≤ MAX_TEXT }
+    ensures value { result ≡ spec.note_opening text.now }
+    ensures within { IfSome result (λ len. len ≤ length text.now) }
+{
+    if text.starts_with(b"Ann") && word_len(text) == 3 {
+        opening_behind(&text[3..])
+    } else {
+        None
+    }
+}
+
+// How many bytes stand to behind a semicolon that follows; none where none follows.
+fn semicolon_len(text: &[u8]) -> usize
+    requires { length text.now ≤ MAX_TEXT }
+    ensures value { result ≡ spec.semicolon_len text.now }
+    ensures within { result ≤ length text.now }
+{
+    let gap = gaps(text);
+    if matches!(&text[gap..], [b';', ..]) {
+        gap + 1
+    } else {
+        0
+    }
+}
+
+// What an annotation has whose opening has so many bytes, with its semicolon; none where the text does not close it.
+fn note_len(text: &[u8], opening: usize) -> usize
+    requires inside { opening ≤ length text.now }
+    requires short { length text.now ≤ MAX_TEXT }
+    ensures value { result ≡ spec.blank_behind text.now (Option.Some opening) }
+    ensures within { result ≤ length text.now }
+{
+    match note_rest(&text[opening..]) {
+        Some(rest) => opening + rest + semicolon_len(&text[opening + rest..]),
+        None => 0,
+    }
+}
+
+#[tactic(auto, unfolding(crate::specs::Lexemes::blank_len))]
+/// How many bytes of blank stand at the front: a space, a comment or an annotation.
+pub fn blank_len(text: &[u8]) -> usize
+    requires { length text.now ≤ MAX_TEXT }
+    ensures value { result ≡ spec.blank_len text.now }
+    ensures within { result ≤ length text.now }
+{
+    match note_opening(text) {
+        Some(opening) => note_len(text, opening),
+        None => gap_len(text),
+    }
+}

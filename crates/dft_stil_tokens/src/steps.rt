@@ -1,0 +1,282 @@
+//! Steps of the rules of pattern texts: keywords, names, characters and times (IEEE 1450-1999).
+
+ghost use Rattle.std.specs.Prelude.{true, ◌≡◌, ◌≤◌, ◌<◌, ◌+◌, ◌-◌, ◌*◌, ◌||◌, nat_lt, length, slice_index, IfOk};
+ghost use Rattle.std.specs.List.{list_all, list_any};
+ghost use Rattle.std.specs.Str.{bytes_eq};
+ghost use Rattle.std.specs.Char.{is_ascii_alphabetic, is_ascii_alphanumeric};
+ghost use Rattle.dft_base.specs.Name.{IsName};
+ghost use Rattle.dft_stil_tokens.specs.Steps as spec;
+ghost use Rattle.dft_stil_tokens.specs.Reading.{ReadsText, Faults};
+
+use crate::read_error::ReadError;
+use crate::text::TokenKind;
+use crate::tokens::Tokens;
+
+// The words that the profile leaves out, in their order.
+static LEFT_OUT: [&str; 12] = [
+    "Procedures",
+    "MacroDefs",
+    "Loop",
+    "Call",
+    "ScanStructures",
+    "Include",
+    "InOut",
+    "Pseudo",
+    "Stop",
+    "Macro",
+    "C",
+    "F",
+];
+
+// Whether a word is among these.
+fn is_among(words: &[&str], word: &[u8]) -> bool
+    ensures { result ≡ list_any (λ known. bytes_eq known.now word.now) words.entry.now }
+{
+    words.iter().any(|known| known.as_bytes() == word)
+}
+
+// Whether the profile leaves out this word.
+fn is_left_out(word: &[u8]) -> bool
+    ensures { result ≡ spec.is_left_out word.now }
+{
+    is_among(&LEFT_OUT, word)
+}
+
+fn is_capital(byte: u8) -> bool
+    ensures { result ≡ spec.is_capital byte }
+{
+    65 <= byte && byte <= 90
+}
+
+// Whether these bytes are letters and digits.
+fn is_run(bytes: &[u8]) -> bool
+    ensures { result ≡ list_all is_ascii_alphanumeric bytes.now }
+{
+    bytes.iter().all(|byte| byte.is_ascii_alphanumeric())
+}
+
+// The value behind one digit more; a value that is too large stays.
+fn next_value(value: u64, digit: u8) -> u64
+    ensures small { value < 1000000000 → result ≡ value * 10 + (digit - 48) }
+    ensures large { 1000000000 ≤ value → result ≡ value }
+{
+    if value < 1_000_000_000 {
+        value * 10 + u64::from(digit.saturating_sub(b'0'))
+    } else {
+        value
+    }
+}
+
+#[tactic(auto, using(crate::proofs::NumberLemmas::digits_add), unfolding(crate::specs::Steps::number_from))]
+// The value of decimal digits; where it is too large, a number that is too large.
+fn number(digits: &[u8]) -> u64
+    ensures small { spec.number_from 0 digits.now < 1000000000 → result ≡ spec.number_from 0 digits.now }
+    ensures large { 1000000000 ≤ spec.number_from 0 digits.now → 1000000000 ≤ result }
+{
+    let mut value = 0;
+    for digit in digits {
+        value = next_value(value, *digit);
+    }
+    value
+}
+
+impl<'a> Tokens<'a> {
+    #[tactic(auto, unfolding(crate::specs::Steps::sees_word))]
+    /// Whether this word comes next, without quotes.
+    pub fn sees_word(&self, word: &[u8]) -> bool
+        ensures { result ≡ spec.sees_word word.now self.now }
+    {
+        self.sees(TokenKind::Word) && self.bytes() == word
+    }
+
+    #[tactic(auto, unfolding(crate::specs::Steps::after_word))]
+    /// Takes this keyword, if it comes next.
+    pub fn eat_word(&mut self, word: &[u8]) -> bool
+        ensures found { result ≡ spec.sees_word word.now self.old }
+        ensures after { self.new ≡ spec.after_word word.now self.old }
+    {
+        let found = self.sees_word(word);
+        if found {
+            self.take();
+        }
+        found
+    }
+
+    #[tactic(auto, unfolding(crate::specs::Steps::sees_left_out))]
+    /// Whether a word comes next that the profile leaves out, without quotes.
+    pub fn sees_left_out(&self) -> bool
+        ensures value { result ≡ spec.sees_left_out self.now }
+        ensures name { result ≡ true → IsName (spec.bytes self.now) }
+    {
+        self.sees(TokenKind::Word) && is_left_out(self.bytes())
+    }
+
+    #[tactic(auto, unfolding(crate::specs::Steps::sees_capital))]
+    // Whether a word comes next that begins with a capital letter, without quotes.
+    fn sees_capital(&self) -> bool
+        ensures value { result ≡ spec.sees_capital self.now }
+        ensures name { result ≡ true → IsName (spec.bytes self.now) }
+    {
+        self.sees(TokenKind::Word) && is_capital(first_of(self.bytes()))
+    }
+
+    #[tactic(auto, unfolding(crate::specs::Steps::mark_refusal))]
+    /// That no rule takes the next token, where a mark must come.
+    pub fn mark_refusal(&self) -> ReadError
+        ensures { Faults (spec.mark_refusal self.now) result }
+    {
+        if self.sees_left_out() {
+            self.unsupported()
+        } else {
+            self.no_token()
+        }
+    }
+
+    #[tactic(auto, unfolding(crate::specs::Steps::keyword_refusal))]
+    /// That no rule takes the next token, where a keyword might come, and no name.
+    pub fn keyword_refusal(&self) -> ReadError
+        ensures { Faults (spec.keyword_refusal self.now) result }
+    {
+        if self.sees_capital() {
+            self.unsupported()
+        } else {
+            self.no_token()
+        }
+    }
+
+    #[tactic(auto, unfolding(crate::specs::Steps::expect))]
+    /// Takes a token of this kind, which must come next.
+    pub fn expect(&mut self, kind: TokenKind) -> Result<&'a [u8], ReadError>
+        ensures { ReadsText (λ bytes. bytes.now) (spec.expect kind self.old) result self.new }
+    {
+        if self.sees(kind) {
+            Ok(self.take())
+        } else {
+            Err(self.mark_refusal())
+        }
+    }
+
+    #[tactic(auto, unfolding(crate::specs::Steps::keyword))]
+    /// Takes this keyword, which must come next.
+    pub fn keyword(&mut self, word: &[u8]) -> Result<&'a [u8], ReadError>
+        ensures { ReadsText (λ bytes. bytes.now) (spec.keyword word.now self.old) result self.new }
+    {
+        if self.sees_word(word) {
+            Ok(self.take())
+        } else {
+            Err(self.keyword_refusal())
+        }
+    }
+
+    #[tactic(auto, unfolding(crate::specs::Steps::sees_name))]
+    /// Whether a name comes next, with quotes or without.
+    pub fn sees_name(&self) -> bool
+        ensures value { result ≡ spec.sees_name self.now }
+        ensures name { result ≡ true → IsName (spec.bytes self.now) }
+    {
+        self.sees(TokenKind::Word) || self.sees(TokenKind::Quoted)
+    }
+
+    #[tactic(auto, unfolding(crate::specs::Steps::name))]
+    /// Takes a name, which must come next.
+    pub fn name(&mut self) -> Result<&'a [u8], ReadError>
+        ensures read { ReadsText (λ bytes. bytes.now) (spec.name self.old) result self.new }
+        ensures name { IfOk result (λ bytes. IsName bytes.now) }
+    {
+        if self.sees_name() {
+            Ok(self.take())
+        } else {
+            Err(self.no_token())
+        }
+    }
+
+    #[tactic(auto, unfolding(crate::specs::Steps::sees_run))]
+    // Whether a run of letters and digits comes next.
+    fn sees_run(&self) -> bool
+        ensures value { result ≡ spec.sees_run self.now }
+        ensures name { result ≡ true → IsName (spec.bytes self.now) }
+    {
+        (self.sees(TokenKind::Word) || self.sees(TokenKind::Number)) && is_run(self.bytes())
+    }
+
+    #[tactic(auto, unfolding(crate::specs::Steps::character))]
+    /// Takes one letter or digit; the profile leaves out a run of more.
+    pub fn character(&mut self) -> Result<u8, ReadError>
+        ensures read { ReadsText (λ b. b) (spec.character self.old) result self.new }
+        ensures name { IfOk result (λ _. IsName (spec.bytes self.old)) }
+    {
+        if !self.sees_run() {
+            return Err(self.no_token());
+        }
+        if self.bytes().len() == 1 {
+            Ok(first_of(self.take()))
+        } else {
+            Err(self.unsupported())
+        }
+    }
+
+    #[tactic(auto, unfolding(crate::specs::Steps::letter))]
+    /// Takes one letter; the profile leaves out a run of more letters or digits.
+    pub fn letter(&mut self) -> Result<u8, ReadError>
+        ensures read { ReadsText (λ b. b) (spec.letter self.old) result self.new }
+        ensures name { IfOk result (λ _. IsName (spec.bytes self.old)) }
+    {
+        if self.sees_run() && is_letter_or_long(self.bytes()) {
+            self.character()
+        } else {
+            Err(self.no_token())
+        }
+    }
+
+    #[tactic(auto, unfolding(crate::specs::Steps::small_number))]
+    /// Takes a whole number below 10 ^ 9.
+    pub fn small_number(&mut self) -> Result<u64, ReadError>
+        ensures read { ReadsText (λ n. n) (spec.small_number self.old) result self.new }
+        ensures small { IfOk result (λ n. n < 1000000000) }
+    {
+        if !self.sees(TokenKind::Number) {
+            return Err(self.mark_refusal());
+        }
+        let value = number(self.bytes());
+        if value < 1_000_000_000 {
+            self.take();
+            Ok(value)
+        } else {
+            Err(self.no_token())
+        }
+    }
+
+    #[tactic(auto, unfolding(crate::specs::Steps::unit))]
+    /// Takes a unit: how many picoseconds it has.
+    pub fn unit(&mut self) -> Result<u64, ReadError>
+        ensures read { ReadsText (λ n. n) (spec.unit self.old) result self.new }
+        ensures small { IfOk result (λ n. n ≤ 1000) }
+    {
+        if self.sees_word(b"ns") {
+            self.take();
+            Ok(1000)
+        } else if self.sees_word(b"ps") {
+            self.take();
+            Ok(1)
+        } else {
+            Err(self.keyword_refusal())
+        }
+    }
+}
+
+// The first of these bytes, and 0 where there is none.
+fn first_of(bytes: &[u8]) -> u8
+    ensures { result ≡ slice_index bytes.now 0 }
+{
+    match bytes {
+        [first, ..] => *first,
+        [] => 0,
+    }
+}
+
+// Whether these bytes begin with a letter, or are more than one.
+fn is_letter_or_long(bytes: &[u8]) -> bool
+    ensures { result ≡ (nat_lt 1 (length bytes.now) || is_ascii_alphabetic (slice_index bytes.now 0)) }
+{
+    1 < bytes.len() || first_of(bytes).is_ascii_alphabetic()
+}
