@@ -16,24 +16,6 @@ use Rattle.dft_cycle.specs.declared.wires.Wire.{Wire}
 use Rattle.dft_cycle.specs.Circuit.{source_at}
 use Rattle.dft_cycle.specs.Compiling.{Wired, wired_at, wired_by, found_in, IsLiveOperand, AreLiveWires}
 
-pub input_role : (inputs pin : ℕ) → pin < inputs → Some Input ≡ slice_get (gate_roles inputs) pin
-input_role zero pin less = absurd (omega arith)
-input_role (suc inputs) zero less = refl
-input_role (suc inputs) (suc pin) less = input_role inputs pin (omega arith)
-
-pub output_role : (inputs pin : ℕ) → pin ≡ inputs → Some Output ≡ slice_get (gate_roles inputs) pin
-output_role zero zero e = refl
-output_role zero (suc pin) e = absurd (omega arith)
-output_role (suc inputs) zero e = absurd (omega arith)
-output_role (suc inputs) (suc pin) e = output_role inputs pin (omega arith)
-
-pub no_role : (inputs pin : ℕ) → inputs < pin → None ≡ slice_get (gate_roles inputs) pin
-no_role zero zero less = absurd (omega arith)
-no_role zero (suc zero) less = refl
-no_role zero (suc (suc pin)) less = refl
-no_role (suc inputs) zero less = absurd (omega arith)
-no_role (suc inputs) (suc pin) less = no_role inputs pin (omega arith)
-
 pub drop_front : {X : Type 0} (xs : List X) (j : ℕ) (d : X) → j < length xs → drop j xs ≡ get_or xs j d ∷ drop (j + 1) xs
 drop_front xs j d less = rw (add-one) (drop-cons xs j d less)
 
