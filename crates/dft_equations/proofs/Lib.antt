@@ -1,4 +1,3 @@
-pub mod Fits
 pub mod ImpulseLemmas
 pub mod LoadLemmas
 pub mod RowLemmas

@@ -3,8 +3,6 @@ pub mod Steps
 pub mod Ranks
 pub mod OneSettled
 pub mod Walks
-mod TextExamples
-mod MoreTextExamples
 pub mod NameTableLemmas
 pub mod Places
 pub mod NamesLemmas
@@ -13,6 +11,8 @@ pub mod RefusalLemmas
 pub mod FindLemmas
 pub mod NotesLemmas
 pub mod CellLemmas
+pub mod PinLemmas
+pub mod LookUpLemmas
 pub mod DriveLemmas
 pub mod ClashLemmas
 pub mod LiveLemmas

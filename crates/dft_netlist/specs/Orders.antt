@@ -33,6 +33,11 @@ pub record IsOrder (n : Netlist) (order : List ℕ) : Type 0 where
 abbrev pub numbers_of : List NetId → List ℕ
 numbers_of nets = map (λ net. net.0) nets
 
+-- all its nets can be put into an order
+pub record HasOrder (n : Netlist) : Type 0 where
+  pub order : List ℕ
+  pub is : IsOrder n order
+
 -- ---- where there is no order
 
 -- a net can be ordered where every net that its driver reads can be

@@ -11,7 +11,7 @@ ghost use Rattle.dft_netlist.specs.Notes.{all_noted, port_drives, instance_drive
 ghost use Rattle.dft_netlist.specs.Sound.{IsInstance, IsLive};
 
 use crate::builder::DesignBuilder;
-use crate::cells::{is_output, role_at};
+use crate::cells::{is_output, known_role};
 use crate::driver_notes::DriverNotes;
 use crate::error::NetlistError;
 use crate::ids::InstanceId;
@@ -77,7 +77,7 @@ fn note_instance(notes: &mut DriverNotes, cells: &[Cell], id: InstanceId, instan
     ensures { notes.new ≡ all_noted notes.old (instance_drives cells.now id.0 instance.now) }
 {
     for (pin, signal) in instance.pins.as_slice().iter().enumerate() {
-        let role = role_at(cells, instance.cell, pin);
+        let role = known_role(cells, instance.cell, pin);
         note_pin(notes, id, pin, role, *signal);
     }
 }

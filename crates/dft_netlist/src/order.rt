@@ -12,7 +12,7 @@ ghost use Rattle.dft_netlist.specs.Reading.{pins_read, read_at, net_of_signal};
 ghost use Rattle.dft_netlist.specs.Sound.{IsInstance, IsLive};
 
 use crate::builder::DesignBuilder;
-use crate::cells::{kind_of, reads_role, role_at};
+use crate::cells::{kind_of, reads_role, known_role};
 use crate::error::NetlistError;
 use crate::ids::NetId;
 use crate::instance::{Instance, Signal};
@@ -104,7 +104,7 @@ fn first_open_pin(cells: &[Cell], instance: &Instance, states: &[State]) -> Opti
 {
     let kind = kind_of(cells, instance.cell);
     for (pin, signal) in instance.pins.as_slice().iter().enumerate() {
-        let role = role_at(cells, instance.cell, pin);
+        let role = known_role(cells, instance.cell, pin);
         if let Some(net) = open_pin(kind, role, *signal, states) {
             return Some(net);
         }

@@ -2,7 +2,7 @@
 
 ghost use Rattle.dft_scan.specs.Laws.{FlipFlopsHaveLines};
 
-/// Each flip-flop that is judged has its line in the report: where it stands, or why it is not scanned.
+/// Of each flip-flop that is judged a line can be written: where it stands, at whichever place, or why it is not scanned.
 pub fn flip_flops_have_lines()
     ensures { FlipFlopsHaveLines }
 {}

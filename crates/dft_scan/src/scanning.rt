@@ -6,7 +6,7 @@ ghost use Rattle.dft_insert.specs.Statements.{IsReady, scanned};
 ghost use Rattle.dft_insert.specs.declared.style.Style.TheVariants.{Plain};
 ghost use Rattle.dft_config.specs.declared.config.Config.{Config};
 ghost use Rattle.dft_rules.specs.Refusals as rules;
-ghost use Rattle.dft_netlist.specs.NetlistText.{StandsFor};
+ghost use Rattle.dft_netlist_text.specs.NetlistText.{StandsFor};
 ghost use Rattle.dft_scan.specs.Refusals.{IsRefusal, refusal};
 ghost use Rattle.dft_scan.specs.Scans.{IsScanOf};
 ghost use Rattle.dft_verilog_out.specs.Named.{GatesAreJoined};

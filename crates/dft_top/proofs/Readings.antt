@@ -16,10 +16,10 @@ use Rattle.dft_config.specs.Refusals as refusals
 use Rattle.dft_netlist.specs.declared.error.NetlistError.{NetlistError}
 use Rattle.dft_netlist.specs.declared.error.NetlistError.TheVariants as netlist
 use Rattle.dft_netlist.specs.Finishing.{CannotFinish}
-use Rattle.dft_netlist.specs.declared.text.Fault.{Fault}
-use Rattle.dft_netlist.specs.Modules.{Draft}
+use Rattle.dft_netlist_text.specs.declared.text.Fault.{Fault}
+use Rattle.dft_netlist_text.specs.Modules.{Draft}
 use Rattle.dft_netlist.specs.Netlist.{Netlist}
-use Rattle.dft_netlist.specs.NetlistText.{StandsFor, module_of, built}
+use Rattle.dft_netlist_text.specs.NetlistText.{StandsFor, module_of, built}
 use Rattle.dft_verilog.specs.declared.error.VerilogError.{VerilogError}
 use Rattle.dft_verilog.specs.declared.error.VerilogError.TheVariants as verilog
 use Rattle.dft_verilog.specs.Refusals.{IsFirstFault, IsUnfinished, IsRefused, told_of}

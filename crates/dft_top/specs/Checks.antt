@@ -11,7 +11,7 @@ use Rattle.dft_config.specs.Range.{IsInRange}
 use Rattle.dft_config.specs.Refusals.{IsConfig}
 use Rattle.dft_config.specs.Refusals as config
 use Rattle.dft_netlist.specs.Netlist.{Netlist}
-use Rattle.dft_netlist.specs.NetlistText.{StandsFor}
+use Rattle.dft_netlist_text.specs.NetlistText.{StandsFor}
 use Rattle.dft_netlist.specs.Orders.{IsOrder}
 use Rattle.dft_netlist.specs.Sound.{IsNetlist}
 use Rattle.dft_verilog.specs.declared.error.VerilogError.{VerilogError}

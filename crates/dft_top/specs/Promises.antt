@@ -6,7 +6,7 @@ use Rattle.dft_config.specs.declared.config.Config.{Config}
 use Rattle.dft_insert.specs.declared.style.Style.TheVariants.{Plain}
 use Rattle.dft_insert.specs.Statements.{ChainsShift, ChainsShow, IsKept, IsReady, IsSameWhileOff, scanned}
 use Rattle.dft_netlist.specs.Netlist.{Netlist}
-use Rattle.dft_netlist.specs.NetlistText.{StandsFor}
+use Rattle.dft_netlist_text.specs.NetlistText.{StandsFor}
 use Rattle.dft_netlist.specs.Runs.{Now, Turn}
 use Rattle.dft_stil.specs.Patterns.{Patterns}
 use Rattle.dft_replay.specs.declared.verdict.Verdict.TheVariants.{Pass}

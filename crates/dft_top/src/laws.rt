@@ -7,7 +7,8 @@ pub fn outcome_is_one()
     ensures { OutcomeIsOne }
 {}
 
-/// Files that pass all checks are never refused: a replay comes to its verdict, and a design is scanned.
+/// Files that pass their own checks are not refused for themselves: a replay comes to its verdict, or to P7 where a signal is no bit
+/// of a port with its direction; and a design is scanned where no check of the scan fails.
 pub fn passing_files_are_answered()
     ensures replayed { PassingIsReplayed }
     ensures scanned { PassingIsScanned }

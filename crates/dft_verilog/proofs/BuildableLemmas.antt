@@ -13,18 +13,18 @@ use Rattle.dft_netlist.specs.declared.error.Counted.TheVariants as counted
 use Rattle.dft_netlist.specs.declared.error.NetlistError.{NetlistError}
 use Rattle.dft_netlist.specs.declared.error.NetlistError.TheVariants as error
 use Rattle.dft_netlist.specs.declared.ids.NetId.{NetId}
-use Rattle.dft_netlist.specs.declared.text.Declared.{Declared}
+use Rattle.dft_netlist_text.specs.declared.text.Declared.{Declared}
 use Rattle.dft_base.specs.declared.dir.Dir.{Dir}
 use Rattle.dft_netlist.specs.declared.instance.Instance.{Instance}
 use Rattle.dft_netlist.specs.Netlist.{Netlist}
 use Rattle.dft_netlist.specs.Names.{bit_names, port_names, is_taken, first_taken, vector_name, instance_name}
 use Rattle.dft_netlist.specs.NetNumbers.{nets_from}
 use Rattle.dft_netlist.specs.Building.{taken_or, port_limit, port_of, own_names, empty_netlist, port_refusal, net_refusal, instance_refusal}
-use Rattle.dft_netlist.specs.Modules.{HeaderPort, net_count}
-use Rattle.dft_netlist.specs.NetlistText.{Grown, final_signal, unless_refused, and_grown, add_declared, add_ports, add_net, add_nets, add_instance, add_instances, add_joins, built, nets_of_port, nets_of_ports, net_order, other_nets, names_of_others}
-use Rattle.dft_verilog.specs.Free.{IsApart, AreApart}
+use Rattle.dft_netlist_text.specs.Modules.{HeaderPort, net_count}
+use Rattle.dft_netlist_text.specs.NetlistText.{Grown, final_signal, unless_refused, and_grown, add_declared, add_ports, add_net, add_nets, add_instance, add_instances, add_joins, built, nets_of_port, nets_of_ports, net_order, other_nets, names_of_others}
+use Rattle.dft_verilog_draft.specs.Free.{IsApart, AreApart}
 use Rattle.dft_verilog.specs.Buildable.{names_of_port, names_of_header, names_of_instances, printed_names, BuildableAreBuilt}
-use Rattle.dft_verilog.proofs.DeclareLemmas.{length-bit_names}
+use Rattle.dft_verilog_draft.proofs.DeclareLemmas.{length-bit_names}
 use Rattle.dft_verilog.proofs.NumberingLemmas.{length-count_from}
 use Rattle.dft_verilog.proofs.GrowLemmas.{add_port-Ok, add_ports-Ok, add_declared-Ok}
 

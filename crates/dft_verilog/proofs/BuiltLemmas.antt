@@ -5,8 +5,8 @@ use Rattle.dft_netlist.specs.declared.ids.NetId.{NetId}
 use Rattle.dft_netlist.specs.declared.error.NetlistError.{NetlistError}
 use Rattle.dft_netlist.specs.Netlist.{Netlist}
 use Rattle.dft_netlist.specs.Building.{empty_netlist}
-use Rattle.dft_netlist.specs.Modules.{Draft}
-use Rattle.dft_netlist.specs.NetlistText.{Grown, and_grown, nets_of_ports, other_nets, net_order, names_of_others, add_ports, add_nets, add_instances, add_joins, built}
+use Rattle.dft_netlist_text.specs.Modules.{Draft}
+use Rattle.dft_netlist_text.specs.NetlistText.{Grown, and_grown, nets_of_ports, other_nets, net_order, names_of_others, add_ports, add_nets, add_instances, add_joins, built}
 use Rattle.dft_verilog.specs.FinalNets.{numbers_among, without_number, all_numbered, AreFinal}
 use Rattle.dft_verilog.specs.Built.{Grows, HasNetsOf}
 use Rattle.dft_verilog.proofs.GrowLemmas.{and_grown-assoc, add_ports-Ok, add_nets-Ok}

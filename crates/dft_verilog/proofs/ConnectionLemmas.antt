@@ -14,12 +14,12 @@ use Rattle.dft_netlist.specs.declared.instance.Signal.{Signal}
 use Rattle.dft_netlist.specs.declared.instance.Signal.TheVariants as signal
 use Rattle.dft_netlist.specs.Drivers.{shape_of_cell}
 use Rattle.dft_netlist.specs.Sound.{IsLive, is_output, IsInstanceOf}
-use Rattle.dft_netlist.specs.Modules.{Draft}
-use Rattle.dft_netlist.specs.Items.{Joined, unjoined, pin_drives, is_driving, signal_at, cell_instance}
-use Rattle.dft_verilog.specs.Drafts.{InstanceFits, nets_alone}
-use Rattle.dft_verilog.specs.Operands.{IsBit, AreBits}
+use Rattle.dft_netlist_text.specs.Modules.{Draft}
+use Rattle.dft_netlist_text.specs.Items.{Joined, unjoined, pin_drives, is_driving, signal_at, cell_instance}
+use Rattle.dft_verilog_draft.specs.Drafts.{InstanceFits, nets_alone}
+use Rattle.dft_verilog_draft.specs.Operands.{IsBit, AreBits}
 use Rattle.dft_verilog.specs.JoinedPins.{IsPinSignal, FitsCell}
-use Rattle.dft_verilog.proofs.OperandLemmas.{grows_on, grows_not, first_bit}
+use Rattle.dft_verilog_draft.proofs.OperandLemmas.{grows_on, grows_not, first_bit}
 use Rattle.dft_verilog.proofs.GateLemmas.{named_room, named_library}
 
 -- ---- what a pin may be joined to

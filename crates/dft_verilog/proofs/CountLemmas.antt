@@ -3,8 +3,8 @@ use Rattle.std.proofs.Common.{◌≡◌, ℕ, ◌+◌, ◌≤◌, Bool, true, fa
 use Rattle.std.specs.Str.{bytes_eq}
 use Rattle.std.proofs.lemmas.Slice.Eq.{bytes_eq-Decides}
 use Rattle.dft_base.specs.Lexing.{Text}
-use Rattle.dft_netlist.specs.Modules.{Draft, Entry, first_taken, is_taken}
-use Rattle.dft_verilog.specs.Free.{IsApart, AreApart}
+use Rattle.dft_netlist_text.specs.Modules.{Draft, Entry, first_taken, is_taken}
+use Rattle.dft_verilog_draft.specs.Free.{IsApart, AreApart}
 
 -- one, or none
 abbrev pub once : Bool → ℕ

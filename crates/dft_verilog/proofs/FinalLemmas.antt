@@ -7,8 +7,8 @@ use Rattle.std.proofs.lemmas.List.Elements.{All-nil, All-cons}
 use Rattle.std.proofs.lemmas.List.Quantifiers.{position-Some}
 use Rattle.dft_base.specs.Lexing.{Text}
 use Rattle.dft_netlist.specs.declared.ids.NetId.{NetId}
-use Rattle.dft_netlist.specs.Modules.{Draft, count_from}
-use Rattle.dft_netlist.specs.NetlistText.{nets_of_ports, other_nets, net_order, final_net, names_of_others}
+use Rattle.dft_netlist_text.specs.Modules.{Draft, count_from}
+use Rattle.dft_netlist_text.specs.NetlistText.{nets_of_ports, other_nets, net_order, final_net, names_of_others}
 use Rattle.dft_verilog.specs.FinalNets.{number_among, numbers_among, without_number, all_numbered, AreFinal}
 use Rattle.dft_verilog.proofs.NumberingLemmas.{position-cons, position-append, or_behind, id_of, is_net, length-count_from}
 

@@ -10,18 +10,18 @@ use Rattle.dft_cells.specs.WellFormed.{TakesInputs}
 use Rattle.dft_netlist.specs.declared.instance.Signal.{Signal}
 use Rattle.dft_netlist.specs.declared.instance.Signal.TheVariants as signal
 use Rattle.dft_netlist.specs.declared.instance.CellRef.TheVariants as cell_ref
-use Rattle.dft_netlist.specs.declared.text.Cause.TheVariants as cause
-use Rattle.dft_netlist.specs.declared.text.Meaning.TheVariants as meaning
+use Rattle.dft_netlist_text.specs.declared.text.Cause.TheVariants as cause
+use Rattle.dft_netlist_text.specs.declared.text.Meaning.TheVariants as meaning
 use Rattle.dft_netlist.specs.declared.error.Counted.TheVariants as counted
 use Rattle.dft_netlist.specs.declared.limits.TheConstants.{MAX_INSTANCES}
 use Rattle.dft_netlist.specs.Drivers.{gate_roles}
 use Rattle.dft_netlist.specs.Sound.{IsLive, AreLive, is_primitive, is_output, NoConstantOutput, IsInstanceOf}
-use Rattle.dft_netlist.specs.Steps.{fault}
-use Rattle.dft_netlist.specs.Modules.{Draft, name_instance, room_for_instance, is_taken, with_name}
-use Rattle.dft_netlist.specs.Items.{has_inputs, gate_instance}
-use Rattle.dft_verilog.specs.Drafts.{InstanceFits, nets_alone}
-use Rattle.dft_verilog.specs.Operands.{IsBit, AreBits}
-use Rattle.dft_verilog.proofs.OperandLemmas.{live_bit, bit_more, bits_more, grows_on, grows_not}
+use Rattle.dft_netlist_text.specs.Steps.{fault}
+use Rattle.dft_netlist_text.specs.Modules.{Draft, name_instance, room_for_instance, is_taken, with_name}
+use Rattle.dft_netlist_text.specs.Items.{has_inputs, gate_instance}
+use Rattle.dft_verilog_draft.specs.Drafts.{InstanceFits, nets_alone}
+use Rattle.dft_verilog_draft.specs.Operands.{IsBit, AreBits}
+use Rattle.dft_verilog_draft.proofs.OperandLemmas.{live_bit, bit_more, bits_more, grows_on, grows_not}
 
 takes : (k : Kind) (n : ℕ) → IsTrue (is_primitive k) → has_inputs k n ≡ true → TakesInputs k n
 takes primitive.Buf n p h = grind (arith, nat_tests)

@@ -13,22 +13,22 @@ use Rattle.dft_cells.specs.Cells.{find_cell}
 use Rattle.dft_base.specs.declared.dir.Dir.{Dir}
 use Rattle.dft_base.specs.declared.dir.Dir.TheVariants as dir
 use Rattle.dft_netlist.specs.declared.instance.Signal.{Signal}
-use Rattle.dft_netlist.specs.declared.text.TokenKind.{TokenKind}
-use Rattle.dft_netlist.specs.declared.text.TokenKind.TheVariants as kind
-use Rattle.dft_netlist.specs.declared.text.Cause.{Cause}
-use Rattle.dft_netlist.specs.declared.text.Fault.{Fault}
-use Rattle.dft_netlist.specs.declared.text.Meaning.{Meaning}
-use Rattle.dft_netlist.specs.declared.text.Meaning.TheVariants as meaning
-use Rattle.dft_netlist.specs.declared.text.Declared.{Declared}
-use Rattle.dft_netlist.specs.declared.text.Site.{Site}
-use Rattle.dft_netlist.specs.declared.text.Site.TheVariants as site
+use Rattle.dft_netlist_text.specs.declared.text.TokenKind.{TokenKind}
+use Rattle.dft_netlist_text.specs.declared.text.TokenKind.TheVariants as kind
+use Rattle.dft_netlist_text.specs.declared.text.Cause.{Cause}
+use Rattle.dft_netlist_text.specs.declared.text.Fault.{Fault}
+use Rattle.dft_netlist_text.specs.declared.text.Meaning.{Meaning}
+use Rattle.dft_netlist_text.specs.declared.text.Meaning.TheVariants as meaning
+use Rattle.dft_netlist_text.specs.declared.text.Declared.{Declared}
+use Rattle.dft_netlist_text.specs.declared.text.Site.{Site}
+use Rattle.dft_netlist_text.specs.declared.text.Site.TheVariants as site
 use Rattle.dft_netlist.specs.Building.{own_names}
-use Rattle.dft_netlist.specs.Lexemes.{Token, tokens}
-use Rattle.dft_netlist.specs.Steps.{Rule, Outcome, kind_of, left, next, sees, expect, eat, needed, checked}
-use Rattle.dft_netlist.specs.Modules.{Draft, begun, announce, declare_nets, declare_new_port, declare_port, declare_wire, declared_at, meaning_of, name_instance, room_for_instance}
-use Rattle.dft_netlist.specs.Expressions.{unless_too_large, number, rest_of_range, range, range_if_any, Named, fitting, implied_net, bits_of_port, bits_of_meaning, bits_of_name, implies, is_whole, selected, named_operand, constant_operand, constant, selection, followed, drives, operand, Nest, unread, is_read, opening, closing, turn, nest_from, expression}
-use Rattle.dft_netlist.specs.Items.{Declaring, Ports, Wires, declare, declared_name, declared_names_from, declared_names, declaration, port_item, wire_item, with_joins, right_side, assignment, assignments_from, assignments, assign_item, one_bit, gate_kind, has_inputs, terminal, inputs_from, inputs, gate_instance, terminals, named_gate, unnamed_gate, one_gate, gates_from, gates, gate_item, unjoined, pin_name, Connected, pin_signal, pin_content, connection, connections_from, some_connections, connections, cell_instance, instance, instances_from, instances, instances_of, instances_named, cell_item, gate_or_cell, item_of, item, items_from, items}
-use Rattle.dft_netlist.specs.NetlistText.{announced_name, announced_names_from, announced_names, new_port, Facing, facing_of, facing, new_ports_from, new_ports, sees_direction, header_names, header, heading, first_undeclared, all_declared, module_end, end_of_text, module_text, module_of}
+use Rattle.dft_netlist_text.specs.Lexemes.{Token, tokens}
+use Rattle.dft_netlist_text.specs.Steps.{Rule, Outcome, kind_of, left, next, sees, expect, eat, needed, checked}
+use Rattle.dft_netlist_text.specs.Modules.{Draft, begun, announce, declare_nets, declare_new_port, declare_port, declare_wire, declared_at, meaning_of, name_instance, room_for_instance}
+use Rattle.dft_netlist_text.specs.Expressions.{unless_too_large, number, rest_of_range, range, range_if_any, Named, fitting, implied_net, bits_of_port, bits_of_meaning, bits_of_name, implies, is_whole, selected, named_operand, constant_operand, constant, selection, followed, drives, operand, Nest, unread, is_read, opening, closing, turn, nest_from, expression}
+use Rattle.dft_netlist_text.specs.Items.{Declaring, Ports, Wires, declare, declared_name, declared_names_from, declared_names, declaration, port_item, wire_item, with_joins, right_side, assignment, assignments_from, assignments, assign_item, one_bit, gate_kind, has_inputs, terminal, inputs_from, inputs, gate_instance, terminals, named_gate, unnamed_gate, one_gate, gates_from, gates, gate_item, unjoined, pin_name, Connected, pin_signal, pin_content, connection, connections_from, some_connections, connections, cell_instance, instance, instances_from, instances, instances_of, instances_named, cell_item, gate_or_cell, item_of, item, items_from, items}
+use Rattle.dft_netlist_text.specs.NetlistText.{announced_name, announced_names_from, announced_names, new_port, Facing, facing_of, facing, new_ports_from, new_ports, sees_direction, header_names, header, heading, first_undeclared, all_declared, module_end, end_of_text, module_text, module_of}
 use Rattle.dft_verilog.specs.Buildable.{IsBuildable, ModulesAreBuildable}
 use Rattle.dft_verilog.proofs.SaidLemmas.{IsSaid, Gives, IsShort, said_is_buildable, nets_said, announce_said, new_port_said, port_said, wire_said, name_said, room_said, instance_said}
 

@@ -13,16 +13,16 @@ use Rattle.dft_netlist.specs.declared.instance.Signal.{Signal}
 use Rattle.dft_netlist.specs.declared.instance.CellRef.{CellRef}
 use Rattle.dft_netlist.specs.declared.error.NetlistError.{NetlistError}
 use Rattle.dft_netlist.specs.declared.error.NetlistError.TheVariants as error
-use Rattle.dft_netlist.specs.declared.text.Declared.{Declared}
+use Rattle.dft_netlist_text.specs.declared.text.Declared.{Declared}
 use Rattle.dft_netlist.specs.Netlist.{Netlist}
 use Rattle.dft_netlist.specs.Names.{bit_names}
 use Rattle.dft_netlist.specs.Building.{WithPort, port_of, port_refusal, net_refusal, instance_refusal}
 use Rattle.dft_netlist.specs.NetNumbers.{nets_from}
 use Rattle.dft_netlist.specs.Sound.{HasOnlyPorts, bits_of}
-use Rattle.dft_netlist.specs.Modules.{HeaderPort, Draft, net_count}
-use Rattle.dft_netlist.specs.NetlistText.{Grown, add_port, nets_of_port, nets_of_ports, net_order, unless_refused, and_grown, add_declared, add_ports, add_net, add_nets, add_instance, add_instances, add_joins, final_join, final_signal}
+use Rattle.dft_netlist_text.specs.Modules.{HeaderPort, Draft, net_count}
+use Rattle.dft_netlist_text.specs.NetlistText.{Grown, add_port, nets_of_port, nets_of_ports, net_order, unless_refused, and_grown, add_declared, add_ports, add_net, add_nets, add_instance, add_instances, add_joins, final_join, final_signal}
 use Rattle.dft_verilog.specs.FinalNets.{name_unless, without_number, all_numbered}
-use Rattle.dft_verilog.proofs.DeclareLemmas.{length-bit_names}
+use Rattle.dft_verilog_draft.proofs.DeclareLemmas.{length-bit_names}
 use Rattle.dft_verilog.proofs.NumberingLemmas.{length-count_from}
 use Rattle.dft_verilog.specs.Built.{IsRefusal, HasNetsOf}
 

@@ -4,16 +4,16 @@ use Rattle.dft_base.specs.declared.place.Range.{Range}
 use Rattle.dft_base.specs.Lexing.{Text}
 use Rattle.dft_base.specs.declared.dir.Dir.{Dir}
 use Rattle.dft_netlist.specs.declared.instance.Signal.{Signal}
-use Rattle.dft_netlist.specs.declared.text.Declared.{Declared}
-use Rattle.dft_netlist.specs.declared.text.Cause.TheVariants as cause
-use Rattle.dft_netlist.specs.declared.text.Fault.{Fault}
-use Rattle.dft_netlist.specs.declared.text.Meaning.TheVariants as meaning
+use Rattle.dft_netlist_text.specs.declared.text.Declared.{Declared}
+use Rattle.dft_netlist_text.specs.declared.text.Cause.TheVariants as cause
+use Rattle.dft_netlist_text.specs.declared.text.Fault.{Fault}
+use Rattle.dft_netlist_text.specs.declared.text.Meaning.TheVariants as meaning
 use Rattle.dft_netlist.specs.declared.error.Counted.{Counted}
 use Rattle.dft_netlist.specs.declared.error.Counted.TheVariants as counted
-use Rattle.dft_netlist.specs.Steps.{fault}
+use Rattle.dft_netlist_text.specs.Steps.{fault}
 use Rattle.dft_netlist.specs.declared.limits.TheConstants.{MAX_NETS, MAX_PORTS}
-use Rattle.dft_netlist.specs.Modules.{Draft, with_name, with_declared, next_shape, free_bits, with_bits, with_nets, names_of_bits, declare_nets, announce, declare_found, declare_port, declare_new_port, repeat_port, declare_wire_as, declare_wire, declared_at, is_taken, first_taken, net_count, port_place, meaning_of}
-use Rattle.dft_netlist.specs.Items.{with_joins}
+use Rattle.dft_netlist_text.specs.Modules.{Draft, with_name, with_declared, next_shape, free_bits, with_bits, with_nets, names_of_bits, declare_nets, announce, declare_found, declare_port, declare_new_port, repeat_port, declare_wire_as, declare_wire, declared_at, is_taken, first_taken, net_count, port_place, meaning_of}
+use Rattle.dft_netlist_text.specs.Items.{with_joins}
 
 -- the faults of the tests
 abbrev taken : ℕ → Text → Fault

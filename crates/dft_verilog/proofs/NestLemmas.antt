@@ -1,13 +1,13 @@
 -- An expression of one operand.
 use Rattle.std.proofs.Common.{◌≡◌, ℕ, suc, ◌-◌, ◌<◌, false, cond, List, [], Ok, Err, refl, sym, ap, ◌∙◌, arith}
 use Rattle.dft_base.specs.Parser.{and_then}
-use Rattle.dft_netlist.specs.declared.text.Site.{Site}
-use Rattle.dft_netlist.specs.declared.text.TokenKind.TheVariants as kind
-use Rattle.dft_netlist.specs.Lexemes.{Token}
-use Rattle.dft_netlist.specs.Modules.{Draft}
-use Rattle.dft_netlist.specs.Steps.{Outcome, left, sees, next}
-use Rattle.dft_netlist.specs.Expressions.{Operand, unread, with_operand, nest_from, opening, operand, followed, expression}
-use Rattle.dft_verilog.specs.Operands.{operand_behind}
+use Rattle.dft_netlist_text.specs.declared.text.Site.{Site}
+use Rattle.dft_netlist_text.specs.declared.text.TokenKind.TheVariants as kind
+use Rattle.dft_netlist_text.specs.Lexemes.{Token}
+use Rattle.dft_netlist_text.specs.Modules.{Draft}
+use Rattle.dft_netlist_text.specs.Steps.{Outcome, left, sees, next}
+use Rattle.dft_netlist_text.specs.Expressions.{Operand, unread, with_operand, nest_from, opening, operand, followed, expression}
+use Rattle.dft_verilog_draft.specs.Operands.{operand_behind}
 
 pub behind_none : (r : Outcome Operand) → operand_behind [] r ≡ r
 behind_none (Ok p) = refl

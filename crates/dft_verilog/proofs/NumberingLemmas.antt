@@ -6,10 +6,10 @@ use Rattle.std.proofs.lemmas.Bool.{lt-ltb, eqb-true, eq-eqb, ne_eqb}
 use Rattle.std.proofs.lemmas.Bool.Decides.{nat_tests}
 use Rattle.std.proofs.lemmas.List.{length_push, length-set, append_assoc}
 use Rattle.dft_netlist.specs.declared.ids.NetId.{NetId}
-use Rattle.dft_netlist.specs.declared.text.Declared.{Declared}
-use Rattle.dft_netlist.specs.Modules.{HeaderPort, count_from, net_count}
-use Rattle.dft_netlist.specs.NetlistText.{nets_of_port, nets_of_ports}
-use Rattle.dft_verilog.specs.Drafts.{IsDeclaredWithin}
+use Rattle.dft_netlist_text.specs.declared.text.Declared.{Declared}
+use Rattle.dft_netlist_text.specs.Modules.{HeaderPort, count_from, net_count}
+use Rattle.dft_netlist_text.specs.NetlistText.{nets_of_port, nets_of_ports}
+use Rattle.dft_verilog_draft.specs.Drafts.{IsDeclaredWithin}
 use Rattle.dft_verilog.specs.FinalNets.{number_among, numbers_among, with_number, with_numbers}
 
 -- ---- the first place

@@ -7,7 +7,7 @@ use Rattle.std.proofs.lemmas.List.{append-nil, append_assoc, get_or_append_left}
 use Rattle.std.proofs.lemmas.List.Elements.{filter-append}
 use Rattle.std.proofs.Math.Seq.{get_or-append_seam}
 use Rattle.dft_base.specs.Lexing.{Text}
-use Rattle.dft_netlist.specs.Modules.{count_from}
+use Rattle.dft_netlist_text.specs.Modules.{count_from}
 use Rattle.dft_verilog.proofs.NumberingLemmas.{AreBelow}
 
 -- whether a net is one of these

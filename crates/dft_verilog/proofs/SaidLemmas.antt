@@ -10,23 +10,23 @@ use Rattle.dft_base.specs.declared.place.Range.{Range}
 use Rattle.dft_base.specs.Lexing.{Text}
 use Rattle.dft_base.specs.Parser.{Checked}
 use Rattle.dft_base.specs.declared.dir.Dir.{Dir}
-use Rattle.dft_netlist.specs.declared.text.Cause.TheVariants as cause
+use Rattle.dft_netlist_text.specs.declared.text.Cause.TheVariants as cause
 use Rattle.dft_netlist.specs.declared.error.Counted.TheVariants as counted
-use Rattle.dft_netlist.specs.declared.text.Fault.{Fault}
-use Rattle.dft_netlist.specs.declared.text.Meaning.{Meaning}
-use Rattle.dft_netlist.specs.declared.text.Meaning.TheVariants as meaning
-use Rattle.dft_netlist.specs.declared.text.Declared.{Declared}
+use Rattle.dft_netlist_text.specs.declared.text.Fault.{Fault}
+use Rattle.dft_netlist_text.specs.declared.text.Meaning.{Meaning}
+use Rattle.dft_netlist_text.specs.declared.text.Meaning.TheVariants as meaning
+use Rattle.dft_netlist_text.specs.declared.text.Declared.{Declared}
 use Rattle.dft_netlist.specs.declared.instance.Instance.{Instance}
 use Rattle.dft_netlist.specs.declared.limits.TheConstants.{MAX_PORTS, MAX_NETS, MAX_INSTANCES}
 use Rattle.dft_netlist.specs.Names.{bit_names, port_names}
 use Rattle.dft_netlist.specs.Building.{own_names}
-use Rattle.dft_netlist.specs.Steps.{fault}
-use Rattle.dft_netlist.specs.Modules.{Draft, HeaderPort, Entry, meaning_of, is_taken, with_name, net_count, count_from, names_of_bits, first_taken, free_bits, with_bits, next_shape, with_nets, declare_nets, declared_at, port_place, announce, with_declared, declare_found, declare_port, declare_new_port, same_range, repeat_port, declare_wire_as, declare_wire, room_for_instance, name_instance, with_instance}
-use Rattle.dft_netlist.specs.NetlistText.{nets_of_port, nets_of_ports, other_nets, names_of_others}
-use Rattle.dft_verilog.specs.Free.{AreApart, bit_entry}
+use Rattle.dft_netlist_text.specs.Steps.{fault}
+use Rattle.dft_netlist_text.specs.Modules.{Draft, HeaderPort, Entry, meaning_of, is_taken, with_name, net_count, count_from, names_of_bits, first_taken, free_bits, with_bits, next_shape, with_nets, declare_nets, declared_at, port_place, announce, with_declared, declare_found, declare_port, declare_new_port, same_range, repeat_port, declare_wire_as, declare_wire, room_for_instance, name_instance, with_instance}
+use Rattle.dft_netlist_text.specs.NetlistText.{nets_of_port, nets_of_ports, other_nets, names_of_others}
+use Rattle.dft_verilog_draft.specs.Free.{AreApart, bit_entry}
 use Rattle.dft_verilog.specs.Buildable.{names_of_port, names_of_header, names_of_instances, printed_names, IsBuildable}
-use Rattle.dft_verilog.proofs.ApartLemmas.{bit_names-apart}
-use Rattle.dft_verilog.proofs.DeclareLemmas.{length-bit_names}
+use Rattle.dft_verilog_draft.proofs.ApartLemmas.{bit_names-apart}
+use Rattle.dft_verilog_draft.proofs.DeclareLemmas.{length-bit_names}
 use Rattle.dft_verilog.proofs.NumberingLemmas.{AreBelow, AreBelow-append, AreBelow-count, length-count_from}
 use Rattle.dft_verilog.proofs.CountLemmas.{count, count-append, AreOnce, apart_if_once, names_of, AreFreeIn, first_taken-none, free_once, eq_same}
 use Rattle.dft_verilog.proofs.OtherNetLemmas.{is_among, others_from, others_more, others_kept, name_at, names_kept, names_new}

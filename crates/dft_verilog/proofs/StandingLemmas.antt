@@ -12,9 +12,9 @@ use Rattle.dft_netlist.specs.declared.instance.Join.{Join}
 use Rattle.dft_netlist.specs.Netlist.{Netlist}
 use Rattle.dft_netlist.specs.Drivers.{shape_of}
 use Rattle.dft_netlist.specs.Sound.{IsCellOf, IsLive, AreLive, IsConnected, IsInstanceOf, IsJoinOf}
-use Rattle.dft_netlist.specs.Modules.{Draft}
-use Rattle.dft_netlist.specs.NetlistText.{net_order, final_net, final_signal}
-use Rattle.dft_verilog.specs.Drafts.{InstanceFits, JoinFits, nets_alone}
+use Rattle.dft_netlist_text.specs.Modules.{Draft}
+use Rattle.dft_netlist_text.specs.NetlistText.{net_order, final_net, final_signal}
+use Rattle.dft_verilog_draft.specs.Drafts.{InstanceFits, JoinFits, nets_alone}
 use Rattle.dft_verilog.specs.FinalNets.{AreFinal, net_by, signal_by}
 use Rattle.dft_verilog.specs.Built.{HasNetsOf}
 

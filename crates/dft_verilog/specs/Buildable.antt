@@ -3,14 +3,14 @@ use Rattle.std.specs.Prelude.{◌≡◌, ◌≤◌, List, [], ◌∷◌, ◌++�
 use Rattle.dft_base.specs.Lexing.{Text}
 use Rattle.dft_cells.specs.declared.cell.Cell.{Cell}
 use Rattle.dft_netlist.specs.declared.limits.TheConstants.{MAX_PORTS, MAX_NETS, MAX_INSTANCES}
-use Rattle.dft_netlist.specs.declared.text.Declared.{Declared}
+use Rattle.dft_netlist_text.specs.declared.text.Declared.{Declared}
 use Rattle.dft_netlist.specs.declared.instance.Instance.{Instance}
 use Rattle.dft_netlist.specs.Netlist.{Netlist}
 use Rattle.dft_netlist.specs.Names.{port_names}
 use Rattle.dft_netlist.specs.Building.{own_names}
-use Rattle.dft_netlist.specs.Modules.{Draft, HeaderPort}
-use Rattle.dft_netlist.specs.NetlistText.{built, net_order, names_of_others, module_of}
-use Rattle.dft_verilog.specs.Free.{AreApart}
+use Rattle.dft_netlist_text.specs.Modules.{Draft, HeaderPort}
+use Rattle.dft_netlist_text.specs.NetlistText.{built, net_order, names_of_others, module_of}
+use Rattle.dft_verilog_draft.specs.Free.{AreApart}
 
 -- the printed names of a port that was declared: a vector's own, and its bits'
 abbrev pub names_of_port : Text → Option Declared → List Text

@@ -5,8 +5,8 @@ use Rattle.dft_netlist.specs.declared.error.NetlistError.{NetlistError}
 use Rattle.dft_netlist.specs.declared.error.NetlistError.TheVariants as error
 use Rattle.dft_netlist.specs.Netlist.{Netlist}
 use Rattle.dft_netlist.specs.Finishing.{IsFinished, CannotFinish}
-use Rattle.dft_netlist.specs.Modules.{Draft}
-use Rattle.dft_netlist.specs.NetlistText.{Grown, built, net_order}
+use Rattle.dft_netlist_text.specs.Modules.{Draft}
+use Rattle.dft_netlist_text.specs.NetlistText.{Grown, built, net_order}
 
 -- the outcome is this refusal; nothing where memory runs out
 abbrev pub IsRefusal : Grown → NetlistError → Type 0

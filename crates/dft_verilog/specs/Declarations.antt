@@ -1,5 +1,5 @@
 -- What a declaration declares, in the words of the definitions.
-use Rattle.dft_netlist.specs.Items as spec
+use Rattle.dft_netlist_text.specs.Items as spec
 use Rattle.dft_verilog.specs.declared.declarations.Declaring.{Declaring}
 use Rattle.dft_verilog.specs.declared.declarations.Declaring.TheVariants as code
 

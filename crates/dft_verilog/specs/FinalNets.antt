@@ -5,8 +5,8 @@ use Rattle.dft_base.specs.Lexing.{Text}
 use Rattle.dft_netlist.specs.declared.ids.NetId.{NetId}
 use Rattle.dft_netlist.specs.declared.instance.Signal.{Signal}
 use Rattle.dft_netlist.specs.declared.instance.Signal.TheVariants as signal
-use Rattle.dft_netlist.specs.Modules.{Draft, count_from}
-use Rattle.dft_netlist.specs.NetlistText.{net_order, final_net}
+use Rattle.dft_netlist_text.specs.Modules.{Draft, count_from}
+use Rattle.dft_netlist_text.specs.NetlistText.{net_order, final_net}
 
 -- the place of a net among these, if it is one of them
 abbrev pub number_among : (nets : List ℕ) → (net : ℕ) → Option NetId

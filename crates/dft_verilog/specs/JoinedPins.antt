@@ -3,7 +3,7 @@ use Rattle.std.specs.Prelude.{ℕ, Bool, true, false, ◌≡◌, ◌<◌, length
 use Rattle.dft_cells.specs.declared.cell.Cell.{Cell}
 use Rattle.dft_netlist.specs.declared.instance.Signal.{Signal}
 use Rattle.dft_netlist.specs.declared.instance.Signal.TheVariants as signal
-use Rattle.dft_netlist.specs.Items.{Joined, pin_drives}
+use Rattle.dft_netlist_text.specs.Items.{Joined, pin_drives}
 
 -- a pin is joined to one of the first `count` nets, to nothing, or to a constant that it does not drive
 abbrev pub IsPinSignal : (count : ℕ) → (drives : Bool) → Signal → Type 0

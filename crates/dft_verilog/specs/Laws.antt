@@ -3,7 +3,7 @@ use Rattle.std.specs.Prelude.{◌≡◌, List}
 use Rattle.dft_base.specs.Lexing.{Text}
 use Rattle.dft_cells.specs.declared.cell.Cell.{Cell}
 use Rattle.dft_netlist.specs.Netlist.{Netlist}
-use Rattle.dft_netlist.specs.NetlistText.{StandsFor}
+use Rattle.dft_netlist_text.specs.NetlistText.{StandsFor}
 
 -- a text stands for one netlist at most
 abbrev pub StandsForOne : Type 0

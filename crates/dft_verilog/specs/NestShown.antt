@@ -1,5 +1,5 @@
 -- What a `Nest` shows.
-use Rattle.dft_netlist.specs.Expressions as spec
+use Rattle.dft_netlist_text.specs.Expressions as spec
 use Rattle.dft_verilog.specs.declared.nesting.Nest.TheInside.{Inside}
 
 abbrev pub nest_of : Inside → spec.Nest

@@ -1,21 +1,20 @@
 //! Continuous assignments (IEEE 1364).
 
 ghost use Rattle.std.specs.Prelude.{◌≡◌, true, false, length, OnOk};
-ghost use Rattle.dft_netlist.specs.Expressions.{drives};
-ghost use Rattle.dft_netlist.specs.Items as spec;
-ghost use Rattle.dft_netlist.specs.Modules.{with_join};
-ghost use Rattle.dft_verilog.specs.Operands.{AreBits, IsBit};
-ghost use Rattle.dft_verilog.specs.Reading.{Reads};
+ghost use Rattle.dft_netlist_text.specs.Expressions.{drives};
+ghost use Rattle.dft_netlist_text.specs.Items as spec;
+ghost use Rattle.dft_netlist_text.specs.Modules.{with_join};
+ghost use Rattle.dft_verilog_draft.specs.Operands.{AreBits, IsBit};
+ghost use Rattle.dft_verilog_tokens.specs.Reading.{Reads};
 
-use crate::cursor::Tokens;
-use crate::faults::refused;
-use crate::module_draft::ModuleDraft;
 use crate::nesting::expression;
-use crate::read_error::ReadError;
-use dft_netlist::{Cause, Join, Signal, Site, TokenKind};
+use dft_netlist::{Join, Signal};
+use dft_netlist_text::{Cause, Site, TokenKind};
+use dft_verilog_draft::ModuleDraft;
+use dft_verilog_tokens::{ReadError, Tokens, refused};
 use std::alloc::AllocError;
 
-#[tactic(auto, using(crate::proofs::OperandLemmas::joins))]
+#[tactic(auto, using(dft_verilog_draft::proofs::OperandLemmas::joins))]
 // The target has the source's bit.
 fn join(draft: &mut ModuleDraft<'_>, target: Signal, source: Signal) -> Result<(), AllocError>
     requires target { IsBit (length draft.old.nets) true target }
@@ -46,7 +45,7 @@ fn join_all(
     Ok(())
 }
 
-#[tactic(auto, using(crate::proofs::OperandLemmas::bits), unfolding(dft_netlist::specs::Items::right_side))]
+#[tactic(auto, using(dft_verilog_draft::proofs::OperandLemmas::bits), unfolding(dft_netlist_text::specs::Items::right_side))]
 // The right side of an assignment, for these bits on the left. The widths are compared behind it.
 fn right_side<'a>(
     targets: &[Signal],
@@ -67,7 +66,7 @@ fn right_side<'a>(
     Ok(())
 }
 
-#[tactic(auto, unfolding(dft_netlist::specs::Items::assignment))]
+#[tactic(auto, unfolding(dft_netlist_text::specs::Items::assignment))]
 // A left side, `=`, and a right side.
 fn assignment<'a>(draft: &mut ModuleDraft<'a>, tokens: &mut Tokens<'a>) -> Result<(), ReadError>
     ensures read { Reads (λ _. draft.new) (spec.assignment draft.old tokens.old) result tokens.new }
@@ -92,7 +91,7 @@ fn assignments<'a>(draft: &mut ModuleDraft<'a>, tokens: &mut Tokens<'a>) -> Resu
     Err(tokens.refusal())
 }
 
-#[tactic(auto, unfolding(dft_netlist::specs::Items::assign_item))]
+#[tactic(auto, unfolding(dft_netlist_text::specs::Items::assign_item))]
 /// `assign` and its assignments.
 pub fn assign_item<'a>(
     draft: &mut ModuleDraft<'a>,

@@ -1,20 +1,19 @@
 //! The connections of a cell's pins (IEEE 1364).
 
 ghost use Rattle.std.specs.Prelude.{◌≡◌, ℕ, ◌<◌, length, slice_get, IfOk, OnOk};
-ghost use Rattle.dft_netlist.specs.Items as spec;
+ghost use Rattle.dft_netlist_text.specs.Items as spec;
 ghost use Rattle.dft_verilog.specs.JoinedPins.{FitsCell, IsPinSignal};
-ghost use Rattle.dft_verilog.specs.Operands.{Grows};
-ghost use Rattle.dft_verilog.specs.Reading.{Reads};
+ghost use Rattle.dft_verilog_draft.specs.Operands.{Grows};
+ghost use Rattle.dft_verilog_tokens.specs.Reading.{Reads};
 
-use crate::cursor::Tokens;
-use crate::faults::{joined_twice, no_pin};
 use crate::gates::one_bit;
 use crate::joined_pins::JoinedPins;
-use crate::module_draft::ModuleDraft;
 use crate::nesting::expression;
-use crate::read_error::ReadError;
 use dft_cells::{Cell, Role};
-use dft_netlist::{Signal, Site, TokenKind};
+use dft_netlist::Signal;
+use dft_netlist_text::{Site, TokenKind};
+use dft_verilog_draft::ModuleDraft;
+use dft_verilog_tokens::{ReadError, Tokens, joined_twice, no_pin};
 use std::alloc::{AllocError, Global};
 
 #[tactic(auto, using(crate::proofs::ConnectionLemmas::unjoined_pins))]
@@ -60,7 +59,7 @@ fn was_joined(joined: &[Option<Signal>], pin: usize) -> bool
     matches!(joined.get(pin), Some(Some(_)))
 }
 
-#[tactic(auto, unfolding(dft_netlist::specs::Items::pin_name))]
+#[tactic(auto, unfolding(dft_netlist_text::specs::Items::pin_name))]
 // The name of a pin, which is tested at itself.
 fn pin_name(
     alloc: Global,
@@ -80,7 +79,7 @@ fn pin_name(
     }
 }
 
-#[tactic(auto, using(crate::proofs::ConnectionLemmas::pins), unfolding(dft_netlist::specs::Items::pin_signal))]
+#[tactic(auto, using(crate::proofs::ConnectionLemmas::pins), unfolding(dft_netlist_text::specs::Items::pin_signal))]
 // The expression of a pin; its width is tested at this place.
 fn pin_signal<'a>(
     cell: &Cell,
@@ -98,7 +97,7 @@ fn pin_signal<'a>(
     one_bit(place, bits.as_slice())
 }
 
-#[tactic(auto, using(crate::proofs::OperandLemmas::growing), unfolding(dft_netlist::specs::Items::pin_content))]
+#[tactic(auto, using(dft_verilog_draft::proofs::OperandLemmas::growing), unfolding(dft_netlist_text::specs::Items::pin_content))]
 // Nothing between the brackets leaves the pin unconnected.
 fn pin_content<'a>(
     cell: &Cell,
@@ -118,7 +117,7 @@ fn pin_content<'a>(
     }
 }
 
-#[tactic(auto, using(crate::proofs::ConnectionLemmas::pins), unfolding(dft_netlist::specs::Items::connection))]
+#[tactic(auto, using(crate::proofs::ConnectionLemmas::pins), unfolding(dft_netlist_text::specs::Items::connection))]
 // A point, a pin, and what it is joined to; the width is tested at the point.
 fn connection<'a>(
     cell: &Cell,
@@ -162,7 +161,7 @@ fn some_connections<'a>(
     Err(tokens.refusal())
 }
 
-#[tactic(auto, using(crate::proofs::OperandLemmas::growing), unfolding(dft_netlist::specs::Items::connections))]
+#[tactic(auto, using(dft_verilog_draft::proofs::OperandLemmas::growing), unfolding(dft_netlist_text::specs::Items::connections))]
 /// Connections, or none.
 pub fn connections<'a>(
     cell: &Cell,

@@ -1,16 +1,15 @@
 //! Declarations of ports and wires (IEEE 1364).
 
 ghost use Rattle.std.specs.Prelude.{◌≡◌, OnOk};
-ghost use Rattle.dft_netlist.specs.Items as spec;
+ghost use Rattle.dft_netlist_text.specs.Items as spec;
 ghost use Rattle.dft_verilog.specs.Declarations.{declaring};
-ghost use Rattle.dft_verilog.specs.Reading.{Reads};
+ghost use Rattle.dft_verilog_tokens.specs.Reading.{Reads};
 
-use crate::cursor::Tokens;
-use crate::module_draft::ModuleDraft;
-use crate::ranges::range_if_any;
-use crate::read_error::ReadError;
 use dft_base::Range;
-use dft_netlist::{Dir, TokenKind};
+use dft_netlist::Dir;
+use dft_netlist_text::TokenKind;
+use dft_verilog_draft::ModuleDraft;
+use dft_verilog_tokens::{ReadError, Tokens, range_if_any};
 
 /// What a declaration declares.
 #[derive(Clone, Copy, Debug)]
@@ -20,7 +19,7 @@ pub enum Declaring {
     Wires,
 }
 
-#[tactic(auto, using(crate::proofs::KeptLemmas::declared_kept), unfolding(dft_netlist::specs::Items::declared_name))]
+#[tactic(auto, using(crate::proofs::KeptLemmas::declared_kept), unfolding(dft_netlist_text::specs::Items::declared_name))]
 // One name is declared; its meaning is tested at the name.
 fn declared_name<'a>(
     what: Declaring,
@@ -58,7 +57,7 @@ fn declared_names<'a>(
     Err(tokens.refusal())
 }
 
-#[tactic(auto, unfolding(dft_netlist::specs::Items::declaration))]
+#[tactic(auto, unfolding(dft_netlist_text::specs::Items::declaration))]
 // A range, if any, and names.
 fn declaration<'a>(
     what: Declaring,
@@ -74,7 +73,7 @@ fn declaration<'a>(
     Ok(())
 }
 
-#[tactic(auto, unfolding(dft_netlist::specs::Items::port_item))]
+#[tactic(auto, unfolding(dft_netlist_text::specs::Items::port_item))]
 /// `input` or `output`, perhaps `wire`, and what they declare.
 pub fn port_item<'a>(
     dir: Dir,
@@ -89,7 +88,7 @@ pub fn port_item<'a>(
     declaration(Declaring::Ports(dir), draft, tokens)
 }
 
-#[tactic(auto, unfolding(dft_netlist::specs::Items::wire_item))]
+#[tactic(auto, unfolding(dft_netlist_text::specs::Items::wire_item))]
 /// `wire`, and what it declares.
 pub fn wire_item<'a>(draft: &mut ModuleDraft<'a>, tokens: &mut Tokens<'a>) -> Result<(), ReadError>
     ensures read { Reads (λ _. draft.new) (spec.wire_item draft.old tokens.old) result tokens.new }

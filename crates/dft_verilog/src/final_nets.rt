@@ -2,16 +2,16 @@
 
 ghost use Rattle.std.specs.Prelude.{◌≡◌, ◌+◌, ◌*◌, ◌<◌, ◌≤◌, ◌^◌, length, IfOk, Some, slice_get, map};
 ghost use Rattle.std.specs.List.{All};
-ghost use Rattle.dft_netlist.specs.Modules as spec;
-ghost use Rattle.dft_netlist.specs.NetlistText.{nets_of_port, nets_of_ports};
+ghost use Rattle.dft_netlist_text.specs.Modules as spec;
+ghost use Rattle.dft_netlist_text.specs.NetlistText.{nets_of_port, nets_of_ports};
 ghost use Rattle.dft_netlist.specs.Sound.{IsLive, AreLive};
-ghost use Rattle.dft_verilog.specs.Drafts.{IsDeclaredWithin};
+ghost use Rattle.dft_verilog_draft.specs.Drafts.{IsDeclaredWithin};
 ghost use Rattle.dft_verilog.specs.FinalNets.{with_number, with_numbers, numbers_among, net_by, signal_by};
 
-use crate::bits::width;
-use crate::header_port::HeaderPort;
 use dft_base::Range;
-use dft_netlist::{Declared, MAX_PORTS, NetId, PinSignals, Signal};
+use dft_netlist::{MAX_PORTS, NetId, PinSignals, Signal};
+use dft_netlist_text::Declared;
+use dft_verilog_draft::{HeaderPort, width};
 use std::alloc::{AllocError, Global};
 
 /// Gives a net this number, unless it has one.

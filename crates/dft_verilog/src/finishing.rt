@@ -3,19 +3,17 @@
 
 ghost use Rattle.std.specs.Prelude.{◌≡◌, [], ◌∷◌, length, unwrap_or, IfOk, OnOk, IfErr};
 ghost use Rattle.dft_netlist.specs.Building.{empty_netlist};
-ghost use Rattle.dft_netlist.specs.NetlistText as spec;
+ghost use Rattle.dft_netlist_text.specs.NetlistText as spec;
 ghost use Rattle.dft_netlist.specs.Sound.{HasOnlyPorts};
-ghost use Rattle.dft_verilog.specs.Drafts.{InstanceFits, JoinFits, nets_alone};
+ghost use Rattle.dft_verilog_draft.specs.Drafts.{InstanceFits, JoinFits, nets_alone};
 ghost use Rattle.dft_verilog.specs.FinalNets.{name_unless, without_number, all_numbered, AreFinal};
 ghost use Rattle.dft_verilog.specs.Built.{Grows, Builds, HasNetsOf, IsBuilt, CannotBuild};
 
-use crate::draft_instance::DraftInstance;
 use crate::final_nets::{final_net, final_pins, final_signal, port_numbers};
-use crate::header_port::HeaderPort;
-use crate::module_draft::ModuleDraft;
-use crate::word::Word;
 use dft_base::Name;
 use dft_netlist::{Design, DesignBuilder, Join, NetId, NetlistError};
+use dft_verilog_draft::{DraftInstance, HeaderPort, ModuleDraft};
+use dft_verilog_tokens::Word;
 use std::alloc::{AllocError, Global};
 
 /// The same name once more.

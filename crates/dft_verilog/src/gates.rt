@@ -1,22 +1,19 @@
 //! Instances of gate primitives (IEEE 1364).
 
 ghost use Rattle.std.specs.Prelude.{◌≡◌, ◌<◌, true, false, length, IsTrue, List, [], ◌∷◌, IfSome, IfOk, OnOk};
-ghost use Rattle.dft_netlist.specs.Items as spec;
-ghost use Rattle.dft_netlist.specs.Lexemes.{Token};
-ghost use Rattle.dft_netlist.specs.Modules.{Draft};
+ghost use Rattle.dft_netlist_text.specs.Items as spec;
+ghost use Rattle.dft_netlist_text.specs.Lexemes.{Token};
+ghost use Rattle.dft_netlist_text.specs.Modules.{Draft};
 ghost use Rattle.dft_netlist.specs.Sound.{is_primitive};
-ghost use Rattle.dft_verilog.specs.Operands.{Grows, AreBits, IsBit};
-ghost use Rattle.dft_verilog.specs.Reading.{Reads};
+ghost use Rattle.dft_verilog_draft.specs.Operands.{Grows, AreBits, IsBit};
+ghost use Rattle.dft_verilog_tokens.specs.Reading.{Reads};
 
-use crate::cursor::Tokens;
-use crate::draft_instance::DraftInstance;
-use crate::faults::refused;
-use crate::module_draft::ModuleDraft;
 use crate::nesting::expression;
-use crate::read_error::ReadError;
-use crate::word::Word;
 use dft_cells::Kind;
-use dft_netlist::{Cause, CellRef, MAX_INSTANCES, PinSignals, Signal, Site, TokenKind};
+use dft_netlist::{CellRef, MAX_INSTANCES, PinSignals, Signal};
+use dft_netlist_text::{Cause, Site, TokenKind};
+use dft_verilog_draft::{DraftInstance, ModuleDraft};
+use dft_verilog_tokens::{ReadError, Tokens, Word, refused};
 
 /// The kind of a gate primitive.
 pub fn gate_kind(kind: TokenKind) -> Option<Kind>
@@ -57,7 +54,7 @@ pub fn one_bit(place: usize, bits: &[Signal]) -> Result<Signal, ReadError>
     }
 }
 
-#[tactic(auto, using(crate::proofs::OperandLemmas::one), unfolding(dft_netlist::specs::Items::terminal))]
+#[tactic(auto, using(dft_verilog_draft::proofs::OperandLemmas::one), unfolding(dft_netlist_text::specs::Items::terminal))]
 // A terminal of a gate; its width is tested at its first token.
 fn terminal<'a>(
     drives: bool,
@@ -96,7 +93,7 @@ fn input_count(inputs: &PinSignals) -> usize
     inputs.as_slice().len()
 }
 
-#[tactic(auto, using(crate::proofs::GateLemmas::gates), unfolding(dft_netlist::specs::Items::terminals))]
+#[tactic(auto, using(crate::proofs::GateLemmas::gates), unfolding(dft_netlist_text::specs::Items::terminals))]
 // The terminals of a gate behind the bracket that stands at this place, where the number of terminals is refused.
 fn terminals<'a>(
     kind: Kind,
@@ -123,7 +120,7 @@ fn terminals<'a>(
     Ok(())
 }
 
-#[tactic(auto, using(crate::proofs::GateLemmas::naming), unfolding(dft_netlist::specs::Items::named_gate))]
+#[tactic(auto, using(crate::proofs::GateLemmas::naming), unfolding(dft_netlist_text::specs::Items::named_gate))]
 // A gate with a name.
 fn named_gate<'a>(
     kind: Kind,
@@ -142,7 +139,7 @@ fn named_gate<'a>(
     terminals(kind, Some(Word::read(word)), bracket, draft, tokens)
 }
 
-#[tactic(auto, using(crate::proofs::GateLemmas::naming), unfolding(dft_netlist::specs::Items::unnamed_gate))]
+#[tactic(auto, using(crate::proofs::GateLemmas::naming), unfolding(dft_netlist_text::specs::Items::unnamed_gate))]
 // A gate without a name. The room for it is tested at its bracket.
 fn unnamed_gate<'a>(
     kind: Kind,
@@ -159,7 +156,7 @@ fn unnamed_gate<'a>(
     terminals(kind, None, bracket, draft, tokens)
 }
 
-#[tactic(auto, unfolding(dft_netlist::specs::Items::one_gate))]
+#[tactic(auto, unfolding(dft_netlist_text::specs::Items::one_gate))]
 // A gate with or without a name.
 fn one_gate<'a>(
     kind: Kind,
@@ -196,7 +193,7 @@ fn gates<'a>(
     Err(tokens.refusal())
 }
 
-#[tactic(auto, unfolding(dft_netlist::specs::Items::gate_item))]
+#[tactic(auto, unfolding(dft_netlist_text::specs::Items::gate_item))]
 /// The kind of a gate and gates of this kind.
 pub fn gate_item<'a>(
     kind: Kind,

@@ -1,17 +1,16 @@
 //! The header of a module: names alone, or ports with their directions (IEEE 1364).
 
 ghost use Rattle.std.specs.Prelude.{◌≡◌, IfOk, OnOk};
-ghost use Rattle.dft_netlist.specs.NetlistText as spec;
+ghost use Rattle.dft_netlist_text.specs.NetlistText as spec;
 ghost use Rattle.dft_verilog.specs.Facings.{facing_as};
-ghost use Rattle.dft_verilog.specs.Reading.{Reads};
+ghost use Rattle.dft_verilog_tokens.specs.Reading.{Reads};
 
-use crate::cursor::Tokens;
-use crate::module_draft::ModuleDraft;
-use crate::ranges::range_if_any;
-use crate::read_error::ReadError;
 use dft_base::{Name, Range};
 use dft_cells::Library;
-use dft_netlist::{Dir, TokenKind};
+use dft_netlist::Dir;
+use dft_netlist_text::TokenKind;
+use dft_verilog_draft::ModuleDraft;
+use dft_verilog_tokens::{ReadError, Tokens, range_if_any};
 use std::alloc::Global;
 
 /// What the names behind a direction have.
@@ -21,7 +20,7 @@ pub struct Facing {
     pub range: Option<Range>,
 }
 
-#[tactic(auto, using(crate::proofs::KeptLemmas::declared_kept), unfolding(dft_netlist::specs::NetlistText::announced_name))]
+#[tactic(auto, using(crate::proofs::KeptLemmas::declared_kept), unfolding(dft_netlist_text::specs::NetlistText::announced_name))]
 // One name of a header without directions.
 fn announced_name<'a>(draft: &mut ModuleDraft<'a>, tokens: &mut Tokens<'a>) -> Result<(), ReadError>
     ensures read { Reads (λ _. draft.new) (spec.announced_name draft.old tokens.old) result tokens.new }
@@ -49,7 +48,7 @@ fn announced_names<'a>(
     Err(tokens.refusal())
 }
 
-#[tactic(auto, using(crate::proofs::KeptLemmas::declared_kept), unfolding(dft_netlist::specs::NetlistText::new_port))]
+#[tactic(auto, using(crate::proofs::KeptLemmas::declared_kept), unfolding(dft_netlist_text::specs::NetlistText::new_port))]
 // One name of a header with directions.
 fn new_port<'a>(
     facing: Facing,
@@ -64,7 +63,7 @@ fn new_port<'a>(
     draft.declare_new_port(place, word, facing.dir, facing.range)
 }
 
-#[tactic(auto, unfolding(dft_netlist::specs::NetlistText::facing_of))]
+#[tactic(auto, unfolding(dft_netlist_text::specs::NetlistText::facing_of))]
 // `input` or `output`, perhaps `wire`, perhaps a range.
 fn facing_of(dir: Dir, tokens: &mut Tokens<'_>) -> Result<Facing, ReadError>
     ensures { Reads facing_as (spec.facing_of dir tokens.old) result tokens.new }
@@ -75,7 +74,7 @@ fn facing_of(dir: Dir, tokens: &mut Tokens<'_>) -> Result<Facing, ReadError>
     Ok(Facing { dir, range })
 }
 
-#[tactic(auto, unfolding(dft_netlist::specs::NetlistText::facing))]
+#[tactic(auto, unfolding(dft_netlist_text::specs::NetlistText::facing))]
 // A new direction, or the one of the name before.
 fn next_facing(before: Facing, tokens: &mut Tokens<'_>) -> Result<Facing, ReadError>
     ensures { Reads facing_as (spec.facing (facing_as before) tokens.old) result tokens.new }
@@ -108,7 +107,7 @@ fn new_ports<'a>(draft: &mut ModuleDraft<'a>, tokens: &mut Tokens<'a>) -> Result
     Err(tokens.refusal())
 }
 
-#[tactic(auto, unfolding(dft_netlist::specs::NetlistText::header_names))]
+#[tactic(auto, unfolding(dft_netlist_text::specs::NetlistText::header_names))]
 // What stands between the brackets of a header.
 fn header_names<'a>(draft: &mut ModuleDraft<'a>, tokens: &mut Tokens<'a>) -> Result<(), ReadError>
     ensures read { Reads (λ _. draft.new) (spec.header_names draft.old tokens.old) result tokens.new }
@@ -123,7 +122,7 @@ fn header_names<'a>(draft: &mut ModuleDraft<'a>, tokens: &mut Tokens<'a>) -> Res
     }
 }
 
-#[tactic(auto, unfolding(dft_netlist::specs::NetlistText::header))]
+#[tactic(auto, unfolding(dft_netlist_text::specs::NetlistText::header))]
 // The header in brackets, or none.
 fn header<'a>(draft: &mut ModuleDraft<'a>, tokens: &mut Tokens<'a>) -> Result<(), ReadError>
     ensures read { Reads (λ _. draft.new) (spec.header draft.old tokens.old) result tokens.new }
@@ -138,7 +137,7 @@ fn header<'a>(draft: &mut ModuleDraft<'a>, tokens: &mut Tokens<'a>) -> Result<()
     Ok(())
 }
 
-#[tactic(auto, unfolding(dft_netlist::specs::NetlistText::heading))]
+#[tactic(auto, unfolding(dft_netlist_text::specs::NetlistText::heading))]
 /// `module`, its name and its header.
 pub fn heading<'a>(
     alloc: Global,

@@ -1,19 +1,16 @@
 //! Instances of library cells (IEEE 1364).
 
 ghost use Rattle.std.specs.Prelude.{◌≡◌, map, slice_get, Some, IfOk, OnOk};
-ghost use Rattle.dft_netlist.specs.Items as spec;
-ghost use Rattle.dft_netlist.specs.Steps.{left};
-ghost use Rattle.dft_verilog.specs.Reading.{Reads};
+ghost use Rattle.dft_netlist_text.specs.Items as spec;
+ghost use Rattle.dft_netlist_text.specs.Steps.{left};
+ghost use Rattle.dft_verilog_tokens.specs.Reading.{Reads};
 
 use crate::connections::{connections, unjoined};
-use crate::cursor::Tokens;
-use crate::draft_instance::DraftInstance;
-use crate::faults::no_cell;
-use crate::module_draft::ModuleDraft;
-use crate::read_error::ReadError;
-use crate::word::Word;
 use dft_cells::{Cell, CellId, Library};
-use dft_netlist::{CellRef, PinSignals, Signal, TokenKind};
+use dft_netlist::{CellRef, PinSignals, Signal};
+use dft_netlist_text::TokenKind;
+use dft_verilog_draft::{DraftInstance, ModuleDraft};
+use dft_verilog_tokens::{ReadError, Tokens, Word, no_cell};
 use std::alloc::{AllocError, Global};
 
 // What a pin is joined to; one that was not named is not connected.
@@ -37,7 +34,7 @@ fn pins_of(alloc: Global, joined: &[Option<Signal>]) -> Result<PinSignals, Alloc
     Ok(pins)
 }
 
-#[tactic(auto, using(crate::proofs::ConnectionLemmas::instances), unfolding(dft_netlist::specs::Items::instance))]
+#[tactic(auto, using(crate::proofs::ConnectionLemmas::instances), unfolding(dft_netlist_text::specs::Items::instance))]
 // The name of an instance, which is tested at itself, and its connections.
 fn instance<'a>(
     id: CellId,
@@ -82,7 +79,7 @@ fn instances_of_cell<'a>(
     Err(tokens.refusal())
 }
 
-#[tactic(auto, unfolding(dft_netlist::specs::Items::instances))]
+#[tactic(auto, unfolding(dft_netlist_text::specs::Items::instances))]
 // Instances and the semicolon behind them.
 fn instances<'a>(
     id: CellId,
@@ -99,7 +96,7 @@ fn instances<'a>(
     Ok(())
 }
 
-#[tactic(auto, unfolding(dft_netlist::specs::Items::cell_item))]
+#[tactic(auto, unfolding(dft_netlist_text::specs::Items::cell_item))]
 /// The name of a cell of the draft's library, and instances of it.
 pub fn cell_item<'a>(
     library: &Library,

@@ -12,7 +12,7 @@ pub struct JoinedPins {
 }
 
 impl Model for JoinedPins {
-    ghost use Rattle.dft_netlist.specs.Items.{Joined};
+    ghost use Rattle.dft_netlist_text.specs.Items.{Joined};
 
     ghost Value = { Joined };
 

@@ -1,18 +1,18 @@
 //! The items of a module (IEEE 1364, structural part).
 
 ghost use Rattle.std.specs.Prelude.{◌≡◌, OnOk};
-ghost use Rattle.dft_netlist.specs.Items as spec;
-ghost use Rattle.dft_verilog.specs.Reading.{Reads};
+ghost use Rattle.dft_netlist_text.specs.Items as spec;
+ghost use Rattle.dft_verilog_tokens.specs.Reading.{Reads};
 
 use crate::assignments::assign_item;
-use crate::cursor::Tokens;
 use crate::declarations::{port_item, wire_item};
 use crate::gates::{gate_item, gate_kind};
 use crate::instances::cell_item;
-use crate::module_draft::ModuleDraft;
-use crate::read_error::ReadError;
 use dft_cells::Library;
-use dft_netlist::{Dir, TokenKind};
+use dft_netlist::Dir;
+use dft_netlist_text::TokenKind;
+use dft_verilog_draft::ModuleDraft;
+use dft_verilog_tokens::{ReadError, Tokens};
 
 // Gates of a kind, or instances of a cell.
 fn gate_or_cell<'a>(
@@ -31,7 +31,7 @@ fn gate_or_cell<'a>(
     }
 }
 
-#[tactic(auto, unfolding(dft_netlist::specs::Items::item))]
+#[tactic(auto, unfolding(dft_netlist_text::specs::Items::item))]
 // One item.
 fn item<'a>(
     library: &Library,

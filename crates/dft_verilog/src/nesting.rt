@@ -2,18 +2,17 @@
 
 ghost use Rattle.std.specs.Prelude.{◌≡◌, suc, ◌+◌, ◌≤◌, ◌<◌, false, OnOk, IfOk, length};
 ghost use Rattle.dft_base.specs.Parser.{and_then, pure};
-ghost use Rattle.dft_netlist.specs.Expressions as spec;
-ghost use Rattle.dft_netlist.specs.Steps.{left, sees};
-ghost use Rattle.dft_netlist.specs.declared.text.TokenKind.TheVariants as kinds;
-ghost use Rattle.dft_verilog.specs.Operands.{Grows, AreBits};
-ghost use Rattle.dft_verilog.specs.Reading.{Reads};
+ghost use Rattle.dft_netlist_text.specs.Expressions as spec;
+ghost use Rattle.dft_netlist_text.specs.Steps.{left, sees};
+ghost use Rattle.dft_netlist_text.specs.declared.text.TokenKind.TheVariants as kinds;
+ghost use Rattle.dft_verilog_draft.specs.Operands.{Grows, AreBits};
+ghost use Rattle.dft_verilog_tokens.specs.Reading.{Reads};
 
-use crate::blanks::MAX_TEXT;
-use crate::cursor::Tokens;
-use crate::module_draft::ModuleDraft;
 use crate::operands::{followed, operand};
-use crate::read_error::ReadError;
-use dft_netlist::{PinSignals, Site, TokenKind};
+use dft_netlist::PinSignals;
+use dft_netlist_text::{Site, TokenKind};
+use dft_verilog_draft::ModuleDraft;
+use dft_verilog_tokens::{MAX_TEXT, ReadError, Tokens};
 use std::alloc::Global;
 use std::marker::Model;
 
@@ -26,7 +25,7 @@ pub struct Nest {
 }
 
 impl Model for Nest {
-    ghost use Rattle.dft_netlist.specs.Expressions as spec;
+    ghost use Rattle.dft_netlist_text.specs.Expressions as spec;
 
     ghost Value = { spec.Nest };
 
@@ -71,7 +70,7 @@ impl Nest {
         Ok(())
     }
 
-    #[tactic(auto, using(crate::proofs::OperandLemmas::growing), unfolding(dft_netlist::specs::Expressions::opening))]
+    #[tactic(auto, using(dft_verilog_draft::proofs::OperandLemmas::growing), unfolding(dft_netlist_text::specs::Expressions::opening))]
     // A concatenation opens, or an operand comes.
     fn open<'a>(
         &mut self,
@@ -93,7 +92,7 @@ impl Nest {
         Ok(())
     }
 
-    #[tactic(auto, unfolding(dft_netlist::specs::Expressions::closing))]
+    #[tactic(auto, unfolding(dft_netlist_text::specs::Expressions::closing))]
     // Behind an operand of a concatenation comes a comma, or the concatenation closes.
     fn close(&mut self, draft: &ModuleDraft<'_>, tokens: &mut Tokens<'_>) -> Result<(), ReadError>
         ensures read { Reads (λ _. (draft.now, self.new)) (spec.closing draft.now self.old tokens.old) result tokens.new }
@@ -110,7 +109,7 @@ impl Nest {
         Ok(())
     }
 
-    #[tactic(auto, using(crate::proofs::OperandLemmas::growing))]
+    #[tactic(auto, using(dft_verilog_draft::proofs::OperandLemmas::growing))]
     // One step through an expression.
     fn turn<'a>(
         &mut self,
@@ -153,7 +152,7 @@ impl Nest {
     }
 }
 
-#[tactic(auto, unfolding(dft_netlist::specs::Expressions::expression))]
+#[tactic(auto, unfolding(dft_netlist_text::specs::Expressions::expression))]
 // An expression with concatenations, perhaps.
 fn nested<'a>(
     site: Site,

@@ -1,20 +1,15 @@
 //! Operands of expressions: names with what is selected of them, and constants (IEEE 1364).
 
 ghost use Rattle.std.specs.Prelude.{◌≡◌, OnOk, length};
-ghost use Rattle.dft_netlist.specs.Expressions as spec;
-ghost use Rattle.dft_netlist.specs.Modules.{Draft};
-ghost use Rattle.dft_verilog.specs.Operands.{operand_behind, Grows, AreBits};
-ghost use Rattle.dft_verilog.specs.Reading.{Reads};
+ghost use Rattle.dft_netlist_text.specs.Expressions as spec;
+ghost use Rattle.dft_netlist_text.specs.Modules.{Draft};
+ghost use Rattle.dft_verilog_draft.specs.Operands.{operand_behind, Grows, AreBits};
+ghost use Rattle.dft_verilog_tokens.specs.Reading.{Reads};
 
-use crate::constants::constant;
-use crate::cursor::Tokens;
-use crate::faults::refused;
-use crate::module_draft::ModuleDraft;
-use crate::numbers::push_value;
-use crate::ranges::selection;
-use crate::read_error::ReadError;
-use crate::selecting::Spot;
-use dft_netlist::{Cause, PinSignals, Site, TokenKind};
+use dft_netlist::PinSignals;
+use dft_netlist_text::{Cause, Site, TokenKind};
+use dft_verilog_draft::{ModuleDraft, Spot};
+use dft_verilog_tokens::{ReadError, Tokens, constant, push_value, refused, selection};
 use std::alloc::Global;
 
 // Whether a token of this kind may follow an expression that stands here.
@@ -47,7 +42,7 @@ fn may_follow(site: Site, depth: usize, kind: TokenKind) -> bool
     }
 }
 
-#[tactic(auto, unfolding(dft_netlist::specs::Expressions::followed))]
+#[tactic(auto, unfolding(dft_netlist_text::specs::Expressions::followed))]
 /// Tests that the token behind is one that may follow.
 pub fn followed(site: Site, depth: usize, tokens: &Tokens<'_>) -> Result<(), ReadError>
     ensures { Reads (λ _. tt) (spec.followed site depth tokens.now) result tokens.now }
@@ -70,7 +65,7 @@ fn drives(site: Site) -> bool
     }
 }
 
-#[tactic(auto, unfolding(dft_netlist::specs::Expressions::named_operand))]
+#[tactic(auto, unfolding(dft_netlist_text::specs::Expressions::named_operand))]
 // A name with what is selected of it. Its meaning needs the token behind it.
 fn named_operand<'a>(
     site: Site,
@@ -91,7 +86,7 @@ fn named_operand<'a>(
     draft.read_name(spot, word, what, bits)
 }
 
-#[tactic(auto, using(crate::proofs::OperandLemmas::constants), unfolding(dft_netlist::specs::Expressions::constant_operand))]
+#[tactic(auto, using(dft_verilog_draft::proofs::OperandLemmas::constants), unfolding(dft_netlist_text::specs::Expressions::constant_operand))]
 // A constant, which must not be driven. That needs the token behind it.
 fn constant_operand(
     alloc: Global,
@@ -113,7 +108,7 @@ fn constant_operand(
     Ok(())
 }
 
-#[tactic(auto, unfolding(dft_netlist::specs::Expressions::operand))]
+#[tactic(auto, unfolding(dft_netlist_text::specs::Expressions::operand))]
 /// An operand, whose bits come behind these. What is wrong of its meaning is refused at its first token.
 pub fn operand<'a>(
     site: Site,

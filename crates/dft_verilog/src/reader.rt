@@ -1,30 +1,26 @@
 //! Reads a netlist text: its module, and the design that it stands for (IEEE 1364, structural part).
 
 ghost use Rattle.std.specs.Prelude.{◌≡◌, ◌≤◌, Ok, Err, length, pos, IfOk, IfErr};
-ghost use Rattle.dft_netlist.specs.NetlistText as spec;
-ghost use Rattle.dft_netlist.specs.NetlistText.{StandsFor};
-ghost use Rattle.dft_verilog.specs.Reading.{Reads};
+ghost use Rattle.dft_netlist_text.specs.NetlistText as spec;
+ghost use Rattle.dft_netlist_text.specs.NetlistText.{StandsFor};
+ghost use Rattle.dft_verilog_tokens.specs.Reading.{Reads};
 ghost use Rattle.dft_verilog.specs.Refusals.{IsRefused, told_of, told_whole as told_as_whole, most};
-ghost use Rattle.dft_verilog.specs.Checking.{Checks};
+ghost use Rattle.dft_verilog_tokens.specs.Checking.{Checks};
 ghost use Rattle.dft_base.specs.Lexing.{place_of as place_in};
 
-use crate::blanks::MAX_TEXT;
-use crate::cursor::Tokens;
 use crate::error::VerilogError;
-use crate::faults::{refused, undeclared};
 use crate::finishing::finished;
 use crate::header::heading;
-use crate::module_draft::ModuleDraft;
 use crate::module_items::items;
-use crate::read_error::ReadError;
 use dft_base::{Place, place_of};
 use dft_cells::Library;
-use dft_netlist::{
-    Cause, Counted, Design, Fault, MAX_INSTANCES, MAX_NETS, MAX_PORTS, NetlistError, TokenKind,
-};
+use dft_netlist::{Counted, Design, MAX_INSTANCES, MAX_NETS, MAX_PORTS, NetlistError};
+use dft_netlist_text::{Cause, Fault, TokenKind};
+use dft_verilog_draft::ModuleDraft;
+use dft_verilog_tokens::{MAX_TEXT, ReadError, Tokens, refused, undeclared};
 use std::alloc::Global;
 
-#[tactic(auto, unfolding(dft_netlist::specs::NetlistText::module_end))]
+#[tactic(auto, unfolding(dft_netlist_text::specs::NetlistText::module_end))]
 // `endmodule`, where the ports must have been declared.
 fn module_end(draft: &ModuleDraft<'_>, tokens: &mut Tokens<'_>) -> Result<(), ReadError>
     ensures { Reads (λ _. draft.now) (spec.module_end draft.now tokens.old) result tokens.new }
@@ -37,7 +33,7 @@ fn module_end(draft: &ModuleDraft<'_>, tokens: &mut Tokens<'_>) -> Result<(), Re
     }
 }
 
-#[tactic(auto, unfolding(dft_netlist::specs::NetlistText::end_of_text))]
+#[tactic(auto, unfolding(dft_netlist_text::specs::NetlistText::end_of_text))]
 // No token comes behind the module; a second module is not taken.
 fn end_of_text(draft: &ModuleDraft<'_>, tokens: &Tokens<'_>) -> Result<(), ReadError>
     ensures { Reads (λ _. draft.now) (spec.end_of_text draft.now tokens.now) result tokens.now }
@@ -51,7 +47,7 @@ fn end_of_text(draft: &ModuleDraft<'_>, tokens: &Tokens<'_>) -> Result<(), ReadE
     }
 }
 
-#[tactic(auto, unfolding(dft_netlist::specs::NetlistText::module_text))]
+#[tactic(auto, unfolding(dft_netlist_text::specs::NetlistText::module_text))]
 // The whole text: a heading, items, and the end.
 fn module_text<'a>(
     alloc: Global,
@@ -68,7 +64,7 @@ fn module_text<'a>(
     Ok(draft)
 }
 
-#[tactic(auto, unfolding(dft_netlist::specs::NetlistText::module_of))]
+#[tactic(auto, unfolding(dft_netlist_text::specs::NetlistText::module_of))]
 // What the module of a text says.
 pub(crate) fn module_of<'a>(
     alloc: Global,

@@ -22,8 +22,8 @@ use Rattle.dft_netlist.specs.Names.{bit_names, port_names, names_taken, is_taken
 use Rattle.dft_netlist.specs.NetNumbers.{nets_from}
 use Rattle.dft_netlist.specs.Sound.{IsLive, AreLive, bits_of, bit_names_of, IsAJoin, IsNetlist}
 use Rattle.dft_netlist.specs.Building.{empty_netlist, port_of, taken_or, port_limit, own_names, port_refusal, instance_refusal}
-use Rattle.dft_netlist.specs.Modules.{Entry, Draft, count_from}
-use Rattle.dft_netlist.specs.NetlistText.{nets_of_ports, other_nets, net_order, final_net, final_signal, Grown, unless_refused, and_grown, add_port, add_ports, add_net, add_nets, add_instance, add_instances, final_join, add_joins, names_of_others, built}
+use Rattle.dft_netlist_text.specs.Modules.{Entry, Draft, count_from}
+use Rattle.dft_netlist_text.specs.NetlistText.{nets_of_ports, other_nets, net_order, final_net, final_signal, Grown, unless_refused, and_grown, add_port, add_ports, add_net, add_nets, add_instance, add_instances, final_join, add_joins, names_of_others, built}
 use Rattle.dft_verilog_out.proofs.CountLemmas.{Once, times, times-append, times-head, one_if, has_name-none}
 use Rattle.dft_verilog_out.proofs.FindLemmas.{position-cons}
 use Rattle.dft_verilog_out.proofs.PhaseLemmas.{stage, declared_ports, net_count-is}

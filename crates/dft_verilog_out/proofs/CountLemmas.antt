@@ -11,7 +11,7 @@ use Rattle.dft_netlist.specs.declared.named.Named.{Named}
 use Rattle.dft_netlist.specs.declared.named.Named.TheVariants as named
 use Rattle.dft_netlist.specs.Netlist.{Netlist}
 use Rattle.dft_netlist.specs.Names.{NamesDiffer, names_taken, vector_name, instance_name}
-use Rattle.dft_netlist.specs.Modules.{Entry}
+use Rattle.dft_netlist_text.specs.Modules.{Entry}
 
 abbrev pub one_if : Bool → ℕ
 one_if b = cond b 1 0

@@ -12,14 +12,14 @@ use Rattle.std.specs.Str.Parse.{digits_value}
 use Rattle.std.proofs.lemmas.Fmt.{decimal_is_IsNumeral, length-decimal-le, decimal_nonempty, digits_decimal}
 use Rattle.std.proofs.lemmas.Str.Parse.{numerals_by_value, tells_by_index}
 use Rattle.std.proofs.lemmas.List.Elements.{All-from_get_or}
-use Rattle.dft_netlist.specs.Expressions.{small_number}
+use Rattle.dft_netlist_text.specs.Expressions.{small_number}
 use Rattle.dft_base.specs.Lexing.{Text, Blank, Cut, tokens_from}
 use Rattle.dft_base.specs.Name.{IsName}
 use Rattle.dft_base.specs.Words.{begins_word, continues_word, is_reserved, is_word, is_later_reserved, needs_escape, reserved_words}
 use Rattle.dft_base.proofs.LexingLemmas.{tokens_from-cut}
-use Rattle.dft_netlist.specs.declared.text.TokenKind.{TokenKind}
-use Rattle.dft_netlist.specs.declared.text.TokenKind.TheVariants as kind
-use Rattle.dft_netlist.specs.Lexemes.{Token, Lexeme, tokens, front, lexeme, token_of, blank_len, is_base_kind, word_kind, mark_kind, escaped, quote, is_space, is_printed, word_len}
+use Rattle.dft_netlist_text.specs.declared.text.TokenKind.{TokenKind}
+use Rattle.dft_netlist_text.specs.declared.text.TokenKind.TheVariants as kind
+use Rattle.dft_netlist_text.specs.Lexemes.{Token, Lexeme, tokens, front, lexeme, token_of, blank_len, is_base_kind, word_kind, mark_kind, escaped, quote, is_space, is_printed, word_len}
 use Rattle.dft_verilog_out.specs.Written.{name_text}
 
 -- the tokens of a text, as a word that does not compute

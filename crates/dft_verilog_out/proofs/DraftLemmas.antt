@@ -6,10 +6,10 @@ use Rattle.dft_base.specs.declared.place.Range.{Range}
 use Rattle.dft_base.specs.Lexing.{Text}
 use Rattle.dft_base.specs.declared.dir.Dir.{Dir}
 use Rattle.dft_netlist.specs.declared.limits.TheConstants.{MAX_PORTS, MAX_NETS, MAX_INSTANCES}
-use Rattle.dft_netlist.specs.declared.text.Meaning.{Meaning}
-use Rattle.dft_netlist.specs.declared.text.Meaning.TheVariants as meaning
+use Rattle.dft_netlist_text.specs.declared.text.Meaning.{Meaning}
+use Rattle.dft_netlist_text.specs.declared.text.Meaning.TheVariants as meaning
 use Rattle.dft_netlist.specs.Names.{bit_names}
-use Rattle.dft_netlist.specs.Modules.{Entry, Draft, meaning_of, is_taken, with_name, net_count, names_of_bits, first_taken, with_bits, next_shape, declared_at, announce, declare_port, declare_wire, room_for_instance, name_instance}
+use Rattle.dft_netlist_text.specs.Modules.{Entry, Draft, meaning_of, is_taken, with_name, net_count, names_of_bits, first_taken, with_bits, next_shape, declared_at, announce, declare_port, declare_wire, room_for_instance, name_instance}
 use Rattle.dft_verilog_out.proofs.CountLemmas.{times, Once, times-append, times-head, look, words, look-none}
 
 -- a name, and what it stands for

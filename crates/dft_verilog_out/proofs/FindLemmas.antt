@@ -13,7 +13,7 @@ use Rattle.dft_cells.specs.declared.cell.Pin.{Pin}
 use Rattle.dft_cells.specs.declared.cell.Cell.{Cell}
 use Rattle.dft_cells.specs.Cells.{find_from, find_cell}
 use Rattle.dft_cells.specs.WellFormed.{ascend, comes_before, cell_name, pin_name, has_name, all_differ}
-use Rattle.dft_netlist.specs.Items.{pin_place}
+use Rattle.dft_netlist_text.specs.Items.{pin_place}
 
 -- the place of the first that passes, one more in front
 cons_by : (t : Bool) (n len : ℕ) → cond (ltb (cond (not t) (1 + n) 0) (suc len)) (Some (cond (not t) (1 + n) 0)) None ≡ cond t (Some 0) (option_map suc (cond (ltb n len) (Some n) None))

@@ -5,13 +5,13 @@ use Rattle.dft_base.specs.Lexing.{Text}
 use Rattle.dft_base.specs.Name.{IsName}
 use Rattle.dft_netlist.specs.declared.port.Port.{Port}
 use Rattle.dft_netlist.specs.declared.limits.TheConstants.{MAX_PORTS}
-use Rattle.dft_netlist.specs.declared.text.TokenKind.TheVariants as kind
-use Rattle.dft_netlist.specs.declared.text.Meaning.TheVariants as meaning
+use Rattle.dft_netlist_text.specs.declared.text.TokenKind.TheVariants as kind
+use Rattle.dft_netlist_text.specs.declared.text.Meaning.TheVariants as meaning
 use Rattle.dft_netlist.specs.Netlist.{Netlist}
-use Rattle.dft_netlist.specs.Lexemes.{Token}
-use Rattle.dft_netlist.specs.Modules.{HeaderPort, Entry, Draft, begun}
-use Rattle.dft_netlist.specs.NetlistText.{announced_names_from, header_names}
-use Rattle.dft_netlist.specs.NetlistText as text
+use Rattle.dft_netlist_text.specs.Lexemes.{Token}
+use Rattle.dft_netlist_text.specs.Modules.{HeaderPort, Entry, Draft, begun}
+use Rattle.dft_netlist_text.specs.NetlistText.{announced_names_from, header_names}
+use Rattle.dft_netlist_text.specs.NetlistText as text
 use Rattle.dft_verilog_out.specs.Written.{name_text, listed, listed_behind, heading}
 use Rattle.dft_verilog_out.proofs.CutLemmas.{cut_up, token, cut_up-module, cut_up-comma, cut_up-close, cut_up-semicolon, cut_up-space, cut_up-line, cut_up-opened, name_at, Opens}
 use Rattle.dft_verilog_out.proofs.ItemLemmas.{names_from-more, names_from-end, header_names-none, header_names-some, heading-at}

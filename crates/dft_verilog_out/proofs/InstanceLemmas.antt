@@ -11,16 +11,16 @@ use Rattle.dft_cells.specs.declared.cell.Cell.{Cell}
 use Rattle.dft_cells.specs.Cells.{find_cell}
 use Rattle.dft_netlist.specs.declared.instance.Signal.{Signal}
 use Rattle.dft_netlist.specs.declared.instance.Signal.TheVariants as signal
-use Rattle.dft_netlist.specs.declared.text.TokenKind.{TokenKind}
-use Rattle.dft_netlist.specs.declared.text.TokenKind.TheVariants as kind
-use Rattle.dft_netlist.specs.declared.text.Site.{Site}
-use Rattle.dft_netlist.specs.declared.text.Site.TheVariants as site
+use Rattle.dft_netlist_text.specs.declared.text.TokenKind.{TokenKind}
+use Rattle.dft_netlist_text.specs.declared.text.TokenKind.TheVariants as kind
+use Rattle.dft_netlist_text.specs.declared.text.Site.{Site}
+use Rattle.dft_netlist_text.specs.declared.text.Site.TheVariants as site
 use Rattle.dft_netlist.specs.Sound.{is_primitive}
-use Rattle.dft_netlist.specs.Lexemes.{Token}
-use Rattle.dft_netlist.specs.Steps.{kind_of, left, same_kind, sees}
-use Rattle.dft_netlist.specs.Modules.{Draft, name_instance, room_for_instance, with_instance}
-use Rattle.dft_netlist.specs.Expressions.{ends, expression}
-use Rattle.dft_netlist.specs.Items.{item, inputs_from, inputs, has_inputs, gate_instance, terminals, Joined, Connected, unjoined, pin_place, is_driving, pin_drives, was_joined, connection, connections_from, connections, signal_at, cell_instance}
+use Rattle.dft_netlist_text.specs.Lexemes.{Token}
+use Rattle.dft_netlist_text.specs.Steps.{kind_of, left, same_kind, sees}
+use Rattle.dft_netlist_text.specs.Modules.{Draft, name_instance, room_for_instance, with_instance}
+use Rattle.dft_netlist_text.specs.Expressions.{ends, expression}
+use Rattle.dft_netlist_text.specs.Items.{item, inputs_from, inputs, has_inputs, gate_instance, terminals, Joined, Connected, unjoined, pin_place, is_driving, pin_drives, was_joined, connection, connections_from, connections, signal_at, cell_instance}
 use Rattle.dft_verilog_out.specs.Written.{name_text, signal_text, listed, listed_behind, joined_text, is_joined, connections_of, gate_text, own_name_text}
 use Rattle.dft_verilog_out.proofs.CutLemmas.{cut_up, token, cut_up-buf, cut_up-not, cut_up-and, cut_up-nand, cut_up-or, cut_up-nor, cut_up-xor, cut_up-xnor, cut_up-point, cut_up-comma, cut_up-close, cut_up-semicolon, cut_up-space, cut_up-line, cut_up-opened, name_at, Opens}
 use Rattle.dft_verilog_out.proofs.ItemLemmas.{gate_token, gate-named, gate-unnamed, terminal-at, inputs_from-more, inputs_from-end, terminals-at, connection-at, cell-at, connections-none, connections-some, connections_from-more, connections_from-end}

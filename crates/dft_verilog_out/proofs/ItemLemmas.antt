@@ -12,17 +12,17 @@ use Rattle.dft_base.specs.declared.dir.Dir.{Dir}
 use Rattle.dft_base.specs.declared.dir.Dir.TheVariants as dir
 use Rattle.dft_netlist.specs.declared.instance.Signal.{Signal}
 use Rattle.dft_netlist.specs.declared.instance.Signal.TheVariants as signal
-use Rattle.dft_netlist.specs.declared.text.TokenKind.{TokenKind}
-use Rattle.dft_netlist.specs.declared.text.TokenKind.TheVariants as kind
-use Rattle.dft_netlist.specs.declared.text.Site.TheVariants as site
-use Rattle.dft_netlist.specs.Lexemes.{Token}
-use Rattle.dft_netlist.specs.Steps.{kind_of, bytes, left, next, same_kind, sees, expect, after}
-use Rattle.dft_netlist.specs.Modules.{Draft, begun, announce, declare_port, declare_wire, name_instance, room_for_instance, with_instance, with_join}
-use Rattle.dft_netlist.specs.Expressions.{range_if_any, expression}
-use Rattle.dft_netlist.specs.Items.{Declaring, Ports, Wires, declare, declared_name, declared_names_from, declared_names, declaration, port_item, wire_item, right_side, assignment, assignments_from, assignments, assign_item, terminal, inputs_from, inputs, has_inputs, gate_instance, terminals, named_gate, unnamed_gate, one_gate, gates_from, gates, gate_item, Joined, Connected, unjoined, pin_place, pin_drives, was_joined, pin_name, pin_signal, pin_content, connection, connections_from, some_connections, connections, cell_instance, instance, instances_from, instances, cell_item, item, items_from, items}
+use Rattle.dft_netlist_text.specs.declared.text.TokenKind.{TokenKind}
+use Rattle.dft_netlist_text.specs.declared.text.TokenKind.TheVariants as kind
+use Rattle.dft_netlist_text.specs.declared.text.Site.TheVariants as site
+use Rattle.dft_netlist_text.specs.Lexemes.{Token}
+use Rattle.dft_netlist_text.specs.Steps.{kind_of, bytes, left, next, same_kind, sees, expect, after}
+use Rattle.dft_netlist_text.specs.Modules.{Draft, begun, announce, declare_port, declare_wire, name_instance, room_for_instance, with_instance, with_join}
+use Rattle.dft_netlist_text.specs.Expressions.{range_if_any, expression}
+use Rattle.dft_netlist_text.specs.Items.{Declaring, Ports, Wires, declare, declared_name, declared_names_from, declared_names, declaration, port_item, wire_item, right_side, assignment, assignments_from, assignments, assign_item, terminal, inputs_from, inputs, has_inputs, gate_instance, terminals, named_gate, unnamed_gate, one_gate, gates_from, gates, gate_item, Joined, Connected, unjoined, pin_place, pin_drives, was_joined, pin_name, pin_signal, pin_content, connection, connections_from, some_connections, connections, cell_instance, instance, instances_from, instances, cell_item, item, items_from, items}
 use Rattle.dft_netlist.specs.Sound.{is_primitive}
 use Rattle.dft_base.specs.Parser.{value_of}
-use Rattle.dft_netlist.specs.NetlistText.{announced_name, announced_names_from, announced_names, header_names, header, heading, first_undeclared, module_end, end_of_text, module_text}
+use Rattle.dft_netlist_text.specs.NetlistText.{announced_name, announced_names_from, announced_names, header_names, header, heading, first_undeclared, module_end, end_of_text, module_text}
 use Rattle.dft_verilog_out.proofs.CutLemmas.{token}
 
 -- ---- declarations

@@ -11,15 +11,15 @@ use Rattle.dft_base.specs.declared.dir.Dir.{Dir}
 use Rattle.dft_base.specs.declared.dir.Dir.TheVariants as dir
 use Rattle.dft_netlist.specs.declared.instance.Signal.{Signal}
 use Rattle.dft_netlist.specs.declared.instance.Instance.{Instance}
-use Rattle.dft_netlist.specs.declared.text.TokenKind.{TokenKind}
-use Rattle.dft_netlist.specs.declared.text.TokenKind.TheVariants as kind
-use Rattle.dft_netlist.specs.declared.text.Site.TheVariants as site
-use Rattle.dft_netlist.specs.Lexemes.{Token}
-use Rattle.dft_netlist.specs.Steps.{Rule, kind_of, left, next, sees, expect, eat, checked}
-use Rattle.dft_netlist.specs.Modules.{Draft, begun, announce, declare_new_port, declare_port, declare_wire, name_instance, room_for_instance, with_instance}
-use Rattle.dft_netlist.specs.Expressions.{range_if_any, expression}
-use Rattle.dft_netlist.specs.Items.{Declaring, Ports, Wires, declare, declared_name, declared_names_from, declared_names, declaration, port_item, wire_item, with_joins, right_side, assignment, assignments_from, assignments, assign_item, One, one_bit, gate_kind, has_inputs, terminal, inputs_from, inputs, gate_instance, terminals, named_gate, unnamed_gate, one_gate, gates_from, gates, gate_item, unjoined, pin_name, Connected, pin_signal, pin_content, connection, connections_from, some_connections, connections, cell_instance, instance, instances_from, instances, instances_of, instances_named, cell_item, gate_or_cell, item_of, item, items_from, items}
-use Rattle.dft_netlist.specs.NetlistText.{announced_name, announced_names_from, announced_names, new_port, Facing, facing, new_ports_from, new_ports, sees_direction, header_names, header, heading, first_undeclared, all_declared, module_end, end_of_text, module_text}
+use Rattle.dft_netlist_text.specs.declared.text.TokenKind.{TokenKind}
+use Rattle.dft_netlist_text.specs.declared.text.TokenKind.TheVariants as kind
+use Rattle.dft_netlist_text.specs.declared.text.Site.TheVariants as site
+use Rattle.dft_netlist_text.specs.Lexemes.{Token}
+use Rattle.dft_netlist_text.specs.Steps.{Rule, kind_of, left, next, sees, expect, eat, checked}
+use Rattle.dft_netlist_text.specs.Modules.{Draft, begun, announce, declare_new_port, declare_port, declare_wire, name_instance, room_for_instance, with_instance}
+use Rattle.dft_netlist_text.specs.Expressions.{range_if_any, expression}
+use Rattle.dft_netlist_text.specs.Items.{Declaring, Ports, Wires, declare, declared_name, declared_names_from, declared_names, declaration, port_item, wire_item, with_joins, right_side, assignment, assignments_from, assignments, assign_item, One, one_bit, gate_kind, has_inputs, terminal, inputs_from, inputs, gate_instance, terminals, named_gate, unnamed_gate, one_gate, gates_from, gates, gate_item, unjoined, pin_name, Connected, pin_signal, pin_content, connection, connections_from, some_connections, connections, cell_instance, instance, instances_from, instances, instances_of, instances_named, cell_item, gate_or_cell, item_of, item, items_from, items}
+use Rattle.dft_netlist_text.specs.NetlistText.{announced_name, announced_names_from, announced_names, new_port, Facing, facing, new_ports_from, new_ports, sees_direction, header_names, header, heading, first_undeclared, all_declared, module_end, end_of_text, module_text}
 use Rattle.dft_verilog_out.specs.Written.{is_joined}
 use Rattle.dft_verilog_out.specs.Named.{is_joined_gate}
 use Rattle.dft_verilog_out.proofs.JoinedDrafts.{Yields, behind, passed, either, of_check, of_need, turns, IsJoinedDraft, AreBits, IsJoinedOperand, both, first_of, all_behind, announce_joined, new_port_joined, port_joined, wire_joined, name_joined, room_joined, expression_joined}

@@ -9,14 +9,14 @@ use Rattle.dft_netlist.specs.declared.instance.Signal.TheVariants as signal
 use Rattle.dft_netlist.specs.declared.instance.CellRef.{CellRef}
 use Rattle.dft_netlist.specs.declared.instance.CellRef.TheVariants as cell_ref
 use Rattle.dft_netlist.specs.declared.instance.Instance.{Instance}
-use Rattle.dft_netlist.specs.declared.text.Declared.{Declared}
+use Rattle.dft_netlist_text.specs.declared.text.Declared.{Declared}
 use Rattle.dft_netlist.specs.declared.error.NetlistError.{NetlistError}
 use Rattle.dft_netlist.specs.Netlist.{Netlist}
 use Rattle.dft_netlist.specs.Building.{empty_netlist, port_refusal, net_refusal, instance_refusal}
-use Rattle.dft_netlist.specs.Lexemes.{tokens}
-use Rattle.dft_netlist.specs.Steps.{Outcome}
-use Rattle.dft_netlist.specs.Modules.{Draft, HeaderPort}
-use Rattle.dft_netlist.specs.NetlistText.{module_text, module_of, net_order, names_of_others, final_signal, Grown, unless_refused, and_grown, add_declared, add_ports, add_net, add_nets, add_instance, add_instances, add_joins, built, StandsFor}
+use Rattle.dft_netlist_text.specs.Lexemes.{tokens}
+use Rattle.dft_netlist_text.specs.Steps.{Outcome}
+use Rattle.dft_netlist_text.specs.Modules.{Draft, HeaderPort}
+use Rattle.dft_netlist_text.specs.NetlistText.{module_text, module_of, net_order, names_of_others, final_signal, Grown, unless_refused, and_grown, add_declared, add_ports, add_net, add_nets, add_instance, add_instances, add_joins, built, StandsFor}
 use Rattle.dft_verilog_out.specs.Written.{is_joined}
 use Rattle.dft_verilog_out.specs.Named.{joins_its_pins, is_joined_gate}
 use Rattle.dft_verilog_out.specs.Laws.{TextsAreJoined, LibraryIsKept}

@@ -9,13 +9,13 @@ use Rattle.dft_base.specs.declared.place.Range.{Range}
 use Rattle.dft_base.specs.Lexing.{Text}
 use Rattle.dft_base.specs.Name.{IsName}
 use Rattle.dft_netlist.specs.declared.port.Port.{Port}
-use Rattle.dft_netlist.specs.declared.text.Meaning.TheVariants as meaning
-use Rattle.dft_netlist.specs.declared.text.Declared.{Declared}
+use Rattle.dft_netlist_text.specs.declared.text.Meaning.TheVariants as meaning
+use Rattle.dft_netlist_text.specs.declared.text.Declared.{Declared}
 use Rattle.dft_netlist.specs.Netlist.{Netlist}
 use Rattle.dft_netlist.specs.Names.{bit_names, indices_of, going_up, going_down, names_taken, vector_name, vector_name_in, instance_name}
 use Rattle.dft_netlist.specs.Sound.{bit_names_of}
-use Rattle.dft_netlist.specs.Modules.{HeaderPort, Entry, names_of_bits}
-use Rattle.dft_netlist.specs.Expressions.{has_index, place_in}
+use Rattle.dft_netlist_text.specs.Modules.{HeaderPort, Entry, names_of_bits}
+use Rattle.dft_netlist_text.specs.Expressions.{has_index, place_in}
 use Rattle.dft_netlist.proofs.BitLemmas.{rising, falling}
 use Rattle.dft_verilog_out.specs.Named.{IsSmallRange}
 use Rattle.dft_verilog_out.specs.Written.{name_text, bit_text, bit_texts, port_texts}

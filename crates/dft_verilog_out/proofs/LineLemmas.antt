@@ -8,14 +8,14 @@ use Rattle.dft_base.specs.declared.dir.Dir.TheVariants as dir
 use Rattle.dft_netlist.specs.declared.port.Port.{Port}
 use Rattle.dft_netlist.specs.declared.instance.Signal.TheVariants as signal
 use Rattle.dft_netlist.specs.declared.instance.Join.{Join}
-use Rattle.dft_netlist.specs.declared.text.TokenKind.{TokenKind}
-use Rattle.dft_netlist.specs.declared.text.TokenKind.TheVariants as kind
-use Rattle.dft_netlist.specs.declared.text.Site.TheVariants as site
-use Rattle.dft_netlist.specs.Lexemes.{Token}
-use Rattle.dft_netlist.specs.Steps.{kind_of, left, same_kind, sees}
-use Rattle.dft_netlist.specs.Modules.{Draft, declare_port, declare_wire, with_join}
-use Rattle.dft_netlist.specs.Expressions.{range_if_any}
-use Rattle.dft_netlist.specs.Items.{item, items_from}
+use Rattle.dft_netlist_text.specs.declared.text.TokenKind.{TokenKind}
+use Rattle.dft_netlist_text.specs.declared.text.TokenKind.TheVariants as kind
+use Rattle.dft_netlist_text.specs.declared.text.Site.TheVariants as site
+use Rattle.dft_netlist_text.specs.Lexemes.{Token}
+use Rattle.dft_netlist_text.specs.Steps.{kind_of, left, same_kind, sees}
+use Rattle.dft_netlist_text.specs.Modules.{Draft, declare_port, declare_wire, with_join}
+use Rattle.dft_netlist_text.specs.Expressions.{range_if_any}
+use Rattle.dft_netlist_text.specs.Items.{item, items_from}
 use Rattle.dft_verilog_out.specs.Named.{IsSmallRange}
 use Rattle.dft_verilog_out.specs.Written.{name_text, signal_text, dir_text, range_text, port_line, wire_line, join_line}
 use Rattle.dft_verilog_out.proofs.CutLemmas.{cut_up, token, cut_up-input, cut_up-output, cut_up-wire, cut_up-assign, cut_up-open_bracket, cut_up-close_bracket, cut_up-colon, cut_up-space, name_at, number_at}

@@ -9,20 +9,20 @@ use Rattle.dft_base.specs.Words.{begins_word, continues_word, is_word, is_reserv
 use Rattle.dft_netlist.specs.declared.ids.NetId.{NetId}
 use Rattle.dft_netlist.specs.declared.instance.Signal.{Signal}
 use Rattle.dft_netlist.specs.declared.instance.Signal.TheVariants as signal
-use Rattle.dft_netlist.specs.declared.text.TokenKind.{TokenKind}
-use Rattle.dft_netlist.specs.declared.text.TokenKind.TheVariants as kind
-use Rattle.dft_netlist.specs.declared.text.Shape.{Shape}
-use Rattle.dft_netlist.specs.declared.text.Meaning.TheVariants as meaning
-use Rattle.dft_netlist.specs.declared.text.Declared.{Declared}
-use Rattle.dft_netlist.specs.declared.text.Select.{Select}
-use Rattle.dft_netlist.specs.declared.text.Select.TheVariants as select
-use Rattle.dft_netlist.specs.declared.text.Site.{Site}
-use Rattle.dft_netlist.specs.declared.text.Site.TheVariants as site
+use Rattle.dft_netlist_text.specs.declared.text.TokenKind.{TokenKind}
+use Rattle.dft_netlist_text.specs.declared.text.TokenKind.TheVariants as kind
+use Rattle.dft_netlist_text.specs.declared.text.Shape.{Shape}
+use Rattle.dft_netlist_text.specs.declared.text.Meaning.TheVariants as meaning
+use Rattle.dft_netlist_text.specs.declared.text.Declared.{Declared}
+use Rattle.dft_netlist_text.specs.declared.text.Select.{Select}
+use Rattle.dft_netlist_text.specs.declared.text.Select.TheVariants as select
+use Rattle.dft_netlist_text.specs.declared.text.Site.{Site}
+use Rattle.dft_netlist_text.specs.declared.text.Site.TheVariants as site
 use Rattle.dft_netlist.specs.Sound.{IsLive, IsConnected}
-use Rattle.dft_netlist.specs.Lexemes.{Token}
-use Rattle.dft_netlist.specs.Steps.{kind_of, left, same_kind, sees}
-use Rattle.dft_netlist.specs.Modules.{HeaderPort, Entry, Draft, meaning_of}
-use Rattle.dft_netlist.specs.Expressions.{small_number, bits_of_meaning, fitting, selected, implies, drives, ends, has_index, place_in, expression}
+use Rattle.dft_netlist_text.specs.Lexemes.{Token}
+use Rattle.dft_netlist_text.specs.Steps.{kind_of, left, same_kind, sees}
+use Rattle.dft_netlist_text.specs.Modules.{HeaderPort, Entry, Draft, meaning_of}
+use Rattle.dft_netlist_text.specs.Expressions.{small_number, bits_of_meaning, fitting, selected, implies, drives, ends, has_index, place_in, expression}
 use Rattle.dft_verilog_out.specs.Written.{name_text, bit_text, signal_text}
 use Rattle.dft_verilog_out.proofs.CutLemmas.{cut_up, token, digit, constant_tokens, Close, Comma, Semicolon, Space, cut_up-constant, cut_up-close, cut_up-comma, cut_up-semicolon, cut_up-equals, cut_up-open_bracket, cut_up-close_bracket, cut_up-space, cut_up-line, name_at, IsSmall, number_at, Opens}
 use Rattle.dft_verilog_out.proofs.RuleLemmas.{whole-at, bit-at, constant-at}

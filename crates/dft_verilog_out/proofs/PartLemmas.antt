@@ -19,16 +19,16 @@ use Rattle.dft_netlist.specs.declared.instance.CellRef.TheVariants as cell_ref
 use Rattle.dft_netlist.specs.declared.instance.Instance.{Instance}
 use Rattle.dft_netlist.specs.declared.instance.Join.{Join}
 use Rattle.dft_netlist.specs.declared.limits.TheConstants.{MAX_INSTANCES}
-use Rattle.dft_netlist.specs.declared.text.Meaning.TheVariants as meaning
-use Rattle.dft_netlist.specs.declared.text.Site.{Site}
-use Rattle.dft_netlist.specs.declared.text.Site.TheVariants as site
+use Rattle.dft_netlist_text.specs.declared.text.Meaning.TheVariants as meaning
+use Rattle.dft_netlist_text.specs.declared.text.Site.{Site}
+use Rattle.dft_netlist_text.specs.declared.text.Site.TheVariants as site
 use Rattle.dft_netlist.specs.Netlist.{Netlist}
 use Rattle.dft_netlist.specs.Names.{instance_name}
 use Rattle.dft_netlist.specs.Drivers.{shape_of, shape_of_cell, gate_roles}
 use Rattle.dft_netlist.specs.Sound.{is_primitive, IsLive, AreLive, IsInstance, IsConnected, IsAJoin, is_output}
-use Rattle.dft_netlist.specs.Modules.{HeaderPort, Entry, Draft}
-use Rattle.dft_netlist.specs.Expressions.{drives}
-use Rattle.dft_netlist.specs.Items.{has_inputs, gate_instance, is_driving, cell_instance}
+use Rattle.dft_netlist_text.specs.Modules.{HeaderPort, Entry, Draft}
+use Rattle.dft_netlist_text.specs.Expressions.{drives}
+use Rattle.dft_netlist_text.specs.Items.{has_inputs, gate_instance, is_driving, cell_instance}
 use Rattle.dft_verilog_out.specs.Named.{IsNamedCell, IsNamedInstance, IsJoinedGate}
 use Rattle.dft_verilog_out.specs.Written.{join_line, is_joined, output_first, gate_line, cell_line, found_cell_line, line_of}
 use Rattle.dft_verilog_out.proofs.CountLemmas.{Once, look, words}

@@ -11,11 +11,11 @@ use Rattle.dft_netlist.specs.declared.port.Port.{Port}
 use Rattle.dft_netlist.specs.declared.instance.Instance.{Instance}
 use Rattle.dft_netlist.specs.declared.instance.Join.{Join}
 use Rattle.dft_netlist.specs.declared.limits.TheConstants.{MAX_NETS}
-use Rattle.dft_netlist.specs.declared.text.Meaning.TheVariants as meaning
+use Rattle.dft_netlist_text.specs.declared.text.Meaning.TheVariants as meaning
 use Rattle.dft_netlist.specs.Netlist.{Netlist}
 use Rattle.dft_netlist.specs.Names.{bit_name, bit_names, indices_of}
 use Rattle.dft_netlist.specs.Sound.{bit_names_of}
-use Rattle.dft_netlist.specs.Modules.{HeaderPort, Entry, Draft, net_count, names_of_bits, declare_port}
+use Rattle.dft_netlist_text.specs.Modules.{HeaderPort, Entry, Draft, net_count, names_of_bits, declare_port}
 use Rattle.dft_netlist.proofs.BitLemmas.{indices_length}
 use Rattle.dft_verilog_out.specs.Named.{IsNamedPort}
 use Rattle.dft_verilog_out.specs.Written.{name_text, port_line, wire_line}

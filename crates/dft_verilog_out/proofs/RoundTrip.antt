@@ -5,16 +5,16 @@ use Rattle.dft_base.specs.Lexing.{Text}
 use Rattle.dft_base.specs.Parser.{value_of}
 use Rattle.dft_cells.specs.WellFormed.{IsWellFormed}
 use Rattle.dft_netlist.specs.declared.port.Port.{Port}
-use Rattle.dft_netlist.specs.declared.text.TokenKind.TheVariants as kind
+use Rattle.dft_netlist_text.specs.declared.text.TokenKind.TheVariants as kind
 use Rattle.dft_netlist.specs.Netlist.{Netlist}
 use Rattle.dft_netlist.specs.Names.{instance_name}
 use Rattle.dft_netlist.specs.NetDrivers.{IsSingle}
 use Rattle.dft_netlist.specs.Orders.{IsOrderable}
 use Rattle.dft_netlist.specs.Sound.{IsNetlist, bit_names_of}
-use Rattle.dft_netlist.specs.Steps.{left}
-use Rattle.dft_netlist.specs.Modules.{HeaderPort, Entry, Draft, names_of_bits}
-use Rattle.dft_netlist.specs.Items.{items_from}
-use Rattle.dft_netlist.specs.NetlistText.{first_undeclared, module_text, module_of, StandsFor}
+use Rattle.dft_netlist_text.specs.Steps.{left}
+use Rattle.dft_netlist_text.specs.Modules.{HeaderPort, Entry, Draft, names_of_bits}
+use Rattle.dft_netlist_text.specs.Items.{items_from}
+use Rattle.dft_netlist_text.specs.NetlistText.{first_undeclared, module_text, module_of, StandsFor}
 use Rattle.dft_verilog_out.specs.Named.{IsNamedNetlist, GatesAreJoined}
 use Rattle.dft_verilog_out.specs.Written.{name_text, other_nets, net_texts, port_line, wire_line, join_line, line_of, heading, body, written}
 use Rattle.dft_verilog_out.proofs.FormLemmas.{length-port_texts, others-are, joins-stand, instances-stand}

@@ -5,13 +5,13 @@ use Rattle.dft_base.specs.Lexing.{Text}
 use Rattle.dft_base.specs.Words.{reserved_words}
 use Rattle.dft_netlist.specs.declared.instance.Signal.{Signal}
 use Rattle.dft_netlist.specs.declared.instance.Signal.TheVariants as signal
-use Rattle.dft_netlist.specs.declared.text.TokenKind.TheVariants as kind
-use Rattle.dft_netlist.specs.declared.text.Select.TheVariants as select
-use Rattle.dft_netlist.specs.declared.text.Site.{Site}
-use Rattle.dft_netlist.specs.Lexemes.{Token}
-use Rattle.dft_netlist.specs.Steps.{kind_of, bytes, left, next, same_kind, sees, expect}
-use Rattle.dft_netlist.specs.Modules.{Draft}
-use Rattle.dft_netlist.specs.Expressions.{small_number, number, rest_of_range, range, range_if_any, digits, constant, Named, bits_of_name, drives, ends, followed, rest_of_select, selection, named_operand, constant_operand, operand, opening, nest_from, expression}
+use Rattle.dft_netlist_text.specs.declared.text.TokenKind.TheVariants as kind
+use Rattle.dft_netlist_text.specs.declared.text.Select.TheVariants as select
+use Rattle.dft_netlist_text.specs.declared.text.Site.{Site}
+use Rattle.dft_netlist_text.specs.Lexemes.{Token}
+use Rattle.dft_netlist_text.specs.Steps.{kind_of, bytes, left, next, same_kind, sees, expect}
+use Rattle.dft_netlist_text.specs.Modules.{Draft}
+use Rattle.dft_netlist_text.specs.Expressions.{small_number, number, rest_of_range, range, range_if_any, digits, constant, Named, bits_of_name, drives, ends, followed, rest_of_select, selection, named_operand, constant_operand, operand, opening, nest_from, expression}
 use Rattle.dft_verilog_out.proofs.CutLemmas.{token, constant_tokens}
 
 -- ---- numbers and ranges

@@ -7,7 +7,7 @@ use Rattle.dft_netlist.specs.Netlist.{Netlist}
 use Rattle.dft_netlist.specs.NetDrivers.{IsSingle}
 use Rattle.dft_netlist.specs.Orders.{IsOrderable}
 use Rattle.dft_netlist.specs.Sound.{IsNetlist}
-use Rattle.dft_netlist.specs.NetlistText.{StandsFor}
+use Rattle.dft_netlist_text.specs.NetlistText.{StandsFor}
 use Rattle.dft_verilog_out.specs.Written.{written}
 use Rattle.dft_verilog_out.specs.Named.{IsNamedNetlist, GatesAreJoined}
 

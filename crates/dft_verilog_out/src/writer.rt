@@ -1,7 +1,7 @@
 //! The written form of whole designs.
 
 ghost use Rattle.std.specs.Prelude.{◌≡◌, IfOk};
-ghost use Rattle.dft_netlist.specs.NetlistText.{StandsFor};
+ghost use Rattle.dft_netlist_text.specs.NetlistText.{StandsFor};
 ghost use Rattle.dft_verilog_out.specs.Named.{GatesAreJoined};
 ghost use Rattle.dft_verilog_out.specs.Written as form;
 

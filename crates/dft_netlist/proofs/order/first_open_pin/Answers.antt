@@ -10,7 +10,7 @@ returns-in-Some-clause-first c =
     let pins = c.args.instance.now.pins in
     let lt : c.loop-pin.pin < length pins = rw (← c.as_slice-signal-items.ensures) c.loop-pin-test.true in
     let found = rw (c.in-Some.is, c.kind_of-kind.ensures, c.as_slice-signal-items.ensures) at c.open_pin.ensures.first in
-    sym (sym c.loop-pin.invariant ∙ ap (first_open c.args.states.now) (read_more shape.kind shape.roles pins c.loop-pin.pin c.role_at-role.result _ lt c.role_at-role.ensures) ∙ open_some c.args.states.now _ _ c.in-Some.net.0 (sym found))
+    sym (sym c.loop-pin.invariant ∙ ap (first_open c.args.states.now) (read_more shape.kind shape.roles pins c.loop-pin.pin c.known_role-role.result _ lt c.known_role-role.ensures) ∙ open_some c.args.states.now _ _ c.in-Some.net.0 (sym found))
 
 pub loop-pin-preserved : goal.loop-pin-preserved
 loop-pin-preserved c =
@@ -18,4 +18,4 @@ loop-pin-preserved c =
     let pins = c.args.instance.now.pins in
     let lt : c.loop-pin.pin < length pins = rw (← c.as_slice-signal-items.ensures) c.loop-pin-test.true in
     let found = rw (c.in_default.is, c.kind_of-kind.ensures, c.as_slice-signal-items.ensures) at c.open_pin.ensures.first in
-    sym (sym c.loop-pin.invariant ∙ ap (first_open c.args.states.now) (read_more shape.kind shape.roles pins c.loop-pin.pin c.role_at-role.result _ lt c.role_at-role.ensures) ∙ open_none c.args.states.now _ _ (sym found))
+    sym (sym c.loop-pin.invariant ∙ ap (first_open c.args.states.now) (read_more shape.kind shape.roles pins c.loop-pin.pin c.known_role-role.result _ lt c.known_role-role.ensures) ∙ open_none c.args.states.now _ _ (sym found))

@@ -1,7 +1,7 @@
 use Rattle.std.proofs.Common.{rules, arith}
 use Rattle.std.proofs.lemmas.Grind.{common_steps}
 use Rattle.dft_base.proofs.Turns.{one_more, no_more}
-use Rattle.dft_netlist.specs.Items.{assignments, assignments_from}
+use Rattle.dft_netlist_text.specs.Items.{assignments, assignments_from}
 use Rattle.dft_verilog.proofs.assignments.assignments.Goals as goal
 
 pub turns-init : goal.turns-init

@@ -1,5 +1,5 @@
 use Rattle.std.proofs.Common.{◌≡◌, ◌-◌}
-use Rattle.dft_netlist.specs.Items as spec
+use Rattle.dft_netlist_text.specs.Items as spec
 use Rattle.dft_verilog.proofs.assignments.assignments.Given as goal
 
 -- each turn reads one

@@ -1,6 +1,6 @@
 use Rattle.std.proofs.Common.{◌≡◌, true, false, length, drop}
-use Rattle.dft_netlist.specs.Items.{with_joins}
-use Rattle.dft_verilog.specs.Operands.{AreBits}
+use Rattle.dft_netlist_text.specs.Items.{with_joins}
+use Rattle.dft_verilog_draft.specs.Operands.{AreBits}
 use Rattle.dft_verilog.proofs.assignments.join_all.Given as goal
 
 -- the rest of the joins gives what all give

@@ -1,7 +1,7 @@
 use Rattle.std.proofs.Common.{◌≡◌, ◌-◌, length}
-use Rattle.dft_netlist.specs.Items as spec
+use Rattle.dft_netlist_text.specs.Items as spec
 use Rattle.dft_verilog.specs.JoinedPins.{FitsCell}
-use Rattle.dft_verilog.specs.Operands.{Grows}
+use Rattle.dft_verilog_draft.specs.Operands.{Grows}
 use Rattle.dft_verilog.proofs.connections.some_connections.Given as goal
 
 -- each turn reads one

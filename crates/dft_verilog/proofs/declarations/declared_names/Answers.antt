@@ -1,7 +1,7 @@
 use Rattle.std.proofs.Common.{rules, arith}
 use Rattle.std.proofs.lemmas.Grind.{common_steps}
 use Rattle.dft_base.proofs.Turns.{one_more, no_more}
-use Rattle.dft_netlist.specs.Items.{declared_names, declared_names_from}
+use Rattle.dft_netlist_text.specs.Items.{declared_names, declared_names_from}
 use Rattle.dft_verilog.specs.Declarations.{declaring}
 use Rattle.dft_verilog.proofs.declarations.declared_names.Goals as goal
 

@@ -1,5 +1,5 @@
 use Rattle.std.proofs.Common.{◌≡◌, ◌-◌}
-use Rattle.dft_netlist.specs.Items as spec
+use Rattle.dft_netlist_text.specs.Items as spec
 use Rattle.dft_verilog.specs.Declarations.{declaring}
 use Rattle.dft_verilog.proofs.declarations.declared_names.Given as goal
 

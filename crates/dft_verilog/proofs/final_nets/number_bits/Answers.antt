@@ -1,6 +1,6 @@
 use Rattle.std.proofs.Common.{◌∙◌, ◌+◌, ◌-◌, ap, sym, List, Option}
 use Rattle.dft_netlist.specs.declared.ids.NetId.{NetId}
-use Rattle.dft_netlist.specs.Modules.{count_from}
+use Rattle.dft_netlist_text.specs.Modules.{count_from}
 use Rattle.dft_verilog.specs.FinalNets.{with_numbers}
 use Rattle.dft_verilog.proofs.NumberingLemmas.{bits_more}
 use Rattle.dft_verilog.proofs.final_nets.number_bits.Goals as goal

@@ -1,5 +1,5 @@
 use Rattle.std.proofs.Common.{◌≡◌, ◌+◌, ◌-◌}
-use Rattle.dft_netlist.specs.Modules.{count_from}
+use Rattle.dft_netlist_text.specs.Modules.{count_from}
 use Rattle.dft_verilog.specs.FinalNets.{with_numbers}
 use Rattle.dft_verilog.proofs.final_nets.number_bits.Given as goal
 

@@ -1,9 +1,9 @@
 use Rattle.std.proofs.Common.{◌≡◌, ◌∙◌, ◌+◌, ◌<◌, ◌∷◌, drop, length, ap, ap₂, sym, subst, arith, List, Option}
 use Rattle.std.proofs.lemmas.List.{drop_more, drop_all, take_at}
 use Rattle.dft_netlist.specs.declared.ids.NetId.{NetId}
-use Rattle.dft_netlist.specs.declared.text.Declared.{Declared}
-use Rattle.dft_netlist.specs.Modules.{HeaderPort}
-use Rattle.dft_netlist.specs.NetlistText.{nets_of_port, nets_of_ports}
+use Rattle.dft_netlist_text.specs.declared.text.Declared.{Declared}
+use Rattle.dft_netlist_text.specs.Modules.{HeaderPort}
+use Rattle.dft_netlist_text.specs.NetlistText.{nets_of_port, nets_of_ports}
 use Rattle.dft_verilog.specs.FinalNets.{with_numbers}
 use Rattle.dft_verilog.proofs.NumberingLemmas.{NumbersPorts, NumbersPorts-more, with_numbers-all, AreBelow-ports}
 use Rattle.dft_verilog.proofs.final_nets.port_numbers.Goals as goal

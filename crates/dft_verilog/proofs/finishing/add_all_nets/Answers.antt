@@ -3,8 +3,8 @@ use Rattle.std.proofs.lemmas.List.{length-map}
 use Rattle.std.proofs.lemmas.Result.{IfOk-weaker}
 use Rattle.dft_base.specs.Lexing.{Text}
 use Rattle.dft_netlist.specs.Netlist.{Netlist}
-use Rattle.dft_netlist.specs.Modules.{Draft, HeaderPort, count_from}
-use Rattle.dft_netlist.specs.NetlistText.{Grown, and_grown, nets_of_ports, names_of_others, add_ports, add_nets}
+use Rattle.dft_netlist_text.specs.Modules.{Draft, HeaderPort, count_from}
+use Rattle.dft_netlist_text.specs.NetlistText.{Grown, and_grown, nets_of_ports, names_of_others, add_ports, add_nets}
 use Rattle.dft_verilog.specs.FinalNets.{number_among, numbers_among, without_number}
 use Rattle.dft_verilog.specs.Built.{Grows}
 use Rattle.dft_verilog.proofs.NumberingLemmas.{length-count_from}

@@ -2,8 +2,8 @@ use Rattle.std.proofs.Common.{◌≡◌, ◌∙◌, ◌++◌, ◌∷◌, [], map
 use Rattle.dft_netlist.specs.declared.instance.Instance.{Instance}
 use Rattle.dft_netlist.specs.declared.instance.CellRef.{CellRef}
 use Rattle.dft_netlist.specs.Netlist.{Netlist}
-use Rattle.dft_netlist.specs.Modules.{Draft}
-use Rattle.dft_netlist.specs.NetlistText.{net_order, final_signal}
+use Rattle.dft_netlist_text.specs.Modules.{Draft}
+use Rattle.dft_netlist_text.specs.NetlistText.{net_order, final_signal}
 use Rattle.dft_verilog.proofs.GrowLemmas.{instance_of, add_instance-by}
 use Rattle.dft_verilog.proofs.StandingLemmas.{pins-final, instance-stands}
 use Rattle.dft_verilog.proofs.finishing.add_instance.Goals as goal

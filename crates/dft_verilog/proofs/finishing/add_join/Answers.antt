@@ -3,9 +3,9 @@ use Rattle.dft_netlist.specs.declared.ids.NetId.{NetId}
 use Rattle.dft_netlist.specs.declared.instance.Signal.{Signal}
 use Rattle.dft_netlist.specs.declared.instance.Join.{Join}
 use Rattle.dft_netlist.specs.Netlist.{Netlist}
-use Rattle.dft_netlist.specs.Modules.{Draft}
-use Rattle.dft_netlist.specs.NetlistText.{net_order, final_net, final_signal}
-use Rattle.dft_verilog.proofs.FreeLemmas.{OnOk-then}
+use Rattle.dft_netlist_text.specs.Modules.{Draft}
+use Rattle.dft_netlist_text.specs.NetlistText.{net_order, final_net, final_signal}
+use Rattle.dft_verilog_draft.proofs.FreeLemmas.{OnOk-then}
 use Rattle.dft_verilog.proofs.StandingLemmas.{net-final, signal-final, join-stands}
 use Rattle.dft_verilog.proofs.finishing.add_join.Goals as goal
 

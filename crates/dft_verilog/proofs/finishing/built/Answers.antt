@@ -2,8 +2,8 @@ use Rattle.std.proofs.Common.{◌≡◌, ◌∙◌, ap₂}
 use Rattle.std.proofs.lemmas.Result.{err_from_is_err_and}
 use Rattle.dft_netlist.specs.Netlist.{Netlist}
 use Rattle.dft_netlist.specs.Building.{empty_netlist}
-use Rattle.dft_netlist.specs.Modules.{Draft}
-use Rattle.dft_netlist.specs.NetlistText.{net_order, add_instances, add_joins, built}
+use Rattle.dft_netlist_text.specs.Modules.{Draft}
+use Rattle.dft_netlist_text.specs.NetlistText.{net_order, add_instances, add_joins, built}
 use Rattle.dft_verilog.proofs.GrowLemmas.{IsRefusal-then, IsRefusal-same}
 use Rattle.dft_verilog.proofs.BuiltLemmas.{all_nets, built-by, built-refused}
 use Rattle.dft_verilog.proofs.finishing.built.Goals as goal

@@ -1,8 +1,8 @@
 use Rattle.std.proofs.Common.{rules, arith}
 use Rattle.std.proofs.lemmas.Grind.{common_steps}
 use Rattle.dft_base.proofs.Turns.{one_more, no_more}
-use Rattle.dft_netlist.specs.Items.{inputs, inputs_from}
-use Rattle.dft_verilog.proofs.OperandLemmas.{grows_on, bits_and}
+use Rattle.dft_netlist_text.specs.Items.{inputs, inputs_from}
+use Rattle.dft_verilog_draft.proofs.OperandLemmas.{grows_on, bits_and}
 use Rattle.dft_verilog.proofs.gates.inputs.Goals as goal
 
 pub turns-init : goal.turns-init

@@ -1,6 +1,6 @@
 use Rattle.std.proofs.Common.{◌≡◌, ◌-◌, false, length}
-use Rattle.dft_netlist.specs.Items as spec
-use Rattle.dft_verilog.specs.Operands.{Grows, AreBits}
+use Rattle.dft_netlist_text.specs.Items as spec
+use Rattle.dft_verilog_draft.specs.Operands.{Grows, AreBits}
 use Rattle.dft_verilog.proofs.gates.inputs.Given as goal
 
 -- each turn reads one

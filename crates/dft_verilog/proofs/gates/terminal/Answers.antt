@@ -1,8 +1,8 @@
 use Rattle.std.proofs.Common.{List, rules, arith, subst}
 use Rattle.std.proofs.lemmas.Grind.{common_steps}
 use Rattle.dft_netlist.specs.declared.instance.Signal.{Signal}
-use Rattle.dft_netlist.specs.Items.{one_bit, terminal}
-use Rattle.dft_verilog.specs.Reading.{Reads}
+use Rattle.dft_netlist_text.specs.Items.{one_bit, terminal}
+use Rattle.dft_verilog_tokens.specs.Reading.{Reads}
 use Rattle.dft_verilog.proofs.gates.terminal.Goals as goal
 
 pub returns-clause-read : goal.returns-clause-read

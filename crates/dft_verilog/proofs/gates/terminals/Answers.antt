@@ -1,6 +1,6 @@
 use Rattle.std.proofs.Common.{true, rules, arith}
 use Rattle.std.proofs.lemmas.Grind.{common_steps}
-use Rattle.dft_verilog.proofs.OperandLemmas.{bit_more}
+use Rattle.dft_verilog_draft.proofs.OperandLemmas.{bit_more}
 use Rattle.dft_verilog.proofs.GateLemmas.{gate_stands}
 use Rattle.dft_verilog.proofs.gates.terminals.Goals as goal
 

@@ -1,5 +1,5 @@
 use Rattle.std.proofs.Common.{◌≡◌, ◌-◌}
-use Rattle.dft_netlist.specs.NetlistText as spec
+use Rattle.dft_netlist_text.specs.NetlistText as spec
 use Rattle.dft_verilog.proofs.header.announced_names.Given as goal
 
 -- each turn reads one

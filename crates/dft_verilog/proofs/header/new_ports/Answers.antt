@@ -1,7 +1,7 @@
 use Rattle.std.proofs.Common.{rules, arith}
 use Rattle.std.proofs.lemmas.Grind.{common_steps}
 use Rattle.dft_base.proofs.Turns.{one_more, no_more}
-use Rattle.dft_netlist.specs.NetlistText.{new_ports, new_ports_from}
+use Rattle.dft_netlist_text.specs.NetlistText.{new_ports, new_ports_from}
 use Rattle.dft_verilog.specs.Facings.{facing_as}
 use Rattle.dft_verilog.proofs.header.new_ports.Goals as goal
 

@@ -1,5 +1,5 @@
 use Rattle.std.proofs.Common.{◌≡◌, ◌-◌}
-use Rattle.dft_netlist.specs.NetlistText as spec
+use Rattle.dft_netlist_text.specs.NetlistText as spec
 use Rattle.dft_verilog.specs.Facings.{facing_as}
 use Rattle.dft_verilog.proofs.header.new_ports.Given as goal
 

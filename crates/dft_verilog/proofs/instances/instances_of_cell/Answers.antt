@@ -1,7 +1,7 @@
 use Rattle.std.proofs.Common.{rules, arith}
 use Rattle.std.proofs.lemmas.Grind.{common_steps}
 use Rattle.dft_base.proofs.Turns.{one_more, no_more}
-use Rattle.dft_netlist.specs.Items.{instances_from}
+use Rattle.dft_netlist_text.specs.Items.{instances_from}
 use Rattle.dft_verilog.proofs.instances.instances_of_cell.Goals as goal
 
 pub returns-in_err-instance-clause-read : goal.returns-in_err-instance-clause-read

@@ -1,6 +1,6 @@
 use Rattle.std.proofs.Common.{◌≡◌, ◌-◌}
-use Rattle.dft_netlist.specs.Items as spec
-use Rattle.dft_netlist.specs.Steps.{left}
+use Rattle.dft_netlist_text.specs.Items as spec
+use Rattle.dft_netlist_text.specs.Steps.{left}
 use Rattle.dft_verilog.proofs.instances.instances_of_cell.Given as goal
 
 -- each turn reads one

@@ -1,5 +1,5 @@
 use Rattle.std.proofs.Common.{◌≡◌, map, take}
-use Rattle.dft_netlist.specs.Items.{signal_at}
+use Rattle.dft_netlist_text.specs.Items.{signal_at}
 use Rattle.dft_verilog.proofs.instances.pins_of.Given as goal
 
 abbrev pub invariant-loop-to : goal.invariant-loop-to

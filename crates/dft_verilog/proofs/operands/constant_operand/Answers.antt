@@ -1,9 +1,9 @@
 use Rattle.std.proofs.Common.{◌≡◌, false, List, length, sym, subst, rules, arith}
 use Rattle.std.proofs.lemmas.Grind.{common_steps}
-use Rattle.dft_netlist.specs.Expressions.{drives}
+use Rattle.dft_netlist_text.specs.Expressions.{drives}
 use Rattle.dft_netlist.specs.declared.instance.Signal.{Signal}
-use Rattle.dft_verilog.specs.Operands.{AreBits}
-use Rattle.dft_verilog.proofs.OperandLemmas.{and_constants}
+use Rattle.dft_verilog_draft.specs.Operands.{AreBits}
+use Rattle.dft_verilog_draft.proofs.OperandLemmas.{and_constants}
 use Rattle.dft_verilog.proofs.operands.constant_operand.Goals as goal
 
 pub returns-clause-bits : goal.returns-clause-bits

@@ -1,8 +1,8 @@
 use Rattle.std.proofs.Common.{rules, arith}
 use Rattle.std.proofs.lemmas.Grind.{common_steps}
 use Rattle.dft_base.proofs.Turns.{one_more, no_more}
-use Rattle.dft_netlist.specs.Expressions.{nest_from}
-use Rattle.dft_verilog.proofs.OperandLemmas.{grows_on}
+use Rattle.dft_netlist_text.specs.Expressions.{nest_from}
+use Rattle.dft_verilog_draft.proofs.OperandLemmas.{grows_on}
 use Rattle.dft_verilog.proofs.nesting.Nest.read_on.Goals as goal
 
 pub returns-then-is_read-clause-read : goal.returns-then-is_read-clause-read

@@ -1,8 +1,8 @@
 use Rattle.std.proofs.Common.{◌≡◌, ◌+◌, ◌-◌, ◌≤◌, suc, length}
-use Rattle.dft_netlist.specs.Steps.{left}
-use Rattle.dft_netlist.specs.Expressions as spec
-use Rattle.dft_verilog.specs.declared.blanks.TheConstants.{MAX_TEXT}
-use Rattle.dft_verilog.specs.Operands.{Grows, AreBits}
+use Rattle.dft_netlist_text.specs.Steps.{left}
+use Rattle.dft_netlist_text.specs.Expressions as spec
+use Rattle.dft_verilog_tokens.specs.declared.blanks.TheConstants.{MAX_TEXT}
+use Rattle.dft_verilog_draft.specs.Operands.{Grows, AreBits}
 use Rattle.dft_verilog.proofs.nesting.Nest.read_on.Given as goal
 
 -- each turn takes an operand, a comma or a brace

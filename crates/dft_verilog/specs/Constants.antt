@@ -1,8 +1,0 @@
--- The bits of a constant.
-use Rattle.std.specs.Prelude.{Bool, List}
-use Rattle.dft_netlist.specs.Expressions.{bits_of_value}
-use Rattle.dft_verilog.specs.declared.constants.SizedConstant.{SizedConstant}
-
--- leftmost first
-abbrev pub bits_of_constant : SizedConstant → List Bool
-bits_of_constant c = bits_of_value c.size c.value

@@ -1,8 +1,0 @@
--- What a `TakenNames` shows.
-use Rattle.std.specs.Prelude.{List, map}
-use Rattle.std.specs.Cow.{cow_slice_items}
-use Rattle.dft_netlist.specs.Modules.{Entry}
-use Rattle.dft_verilog.specs.declared.taken_names.TakenNames.TheInside.{Inside}
-
-abbrev pub names_of : Inside → List Entry
-names_of t = map (λ e. record { name = cow_slice_items e.0; meaning = e.1 }) t.meanings.entries

@@ -1,0 +1,9 @@
+pub mod TakenNameLemmas
+pub mod BitNameLemmas
+pub mod FreeLemmas
+pub mod DraftLemmas
+pub mod ApartLemmas
+pub mod DeclareLemmas
+pub mod SelectLemmas
+pub mod NamingLemmas
+pub mod OperandLemmas

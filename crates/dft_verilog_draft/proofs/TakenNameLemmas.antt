@@ -1,0 +1,25 @@
+-- The table of taken names: look-ups by bytes, and one name more.
+use Rattle.std.proofs.Common.{◌≡◌, ℕ, Bool, true, false, cond, List, [], ◌∷◌, map, Option, Some, option_map, refl, sym}
+use Rattle.std.specs.Str.{bytes_eq}
+use Rattle.std.specs.Map.{lookup}
+use Rattle.std.proofs.lemmas.Slice.Eq.{bytes_eq-Decides}
+use Rattle.std.proofs.lemmas.Bool.Decides.{same_from_decides, Decides-like}
+use Rattle.dft_netlist_text.specs.declared.text.Meaning.{Meaning}
+use Rattle.dft_netlist_text.specs.Modules.{Entry}
+use Rattle.dft_verilog_draft.specs.TakenNames.{meaning_in}
+
+pub bytes_eq-comm : (xs ys : List ℕ) → bytes_eq xs ys ≡ bytes_eq ys xs
+bytes_eq-comm xs ys = same_from_decides (bytes_eq xs ys) (bytes_eq ys xs) (bytes_eq-Decides xs ys) (Decides-like (bytes_eq ys xs) sym sym (bytes_eq-Decides ys xs))
+
+-- the first of two, or else the rest, seen by its meaning
+first_or : (here : Bool) (e : Entry) (rest : Option Meaning) (more : Option Entry) → rest ≡ option_map (λ (o : Entry). o.meaning) more → cond here (Some e.meaning) rest ≡ option_map (λ (o : Entry). o.meaning) (cond here (Some e) more)
+first_or true e rest more same = refl
+first_or false e rest more same = same
+
+abbrev entry_of : {K : Type 0} → (K → List ℕ) → K × Meaning → Entry
+entry_of shown e = record { name = shown e.0; meaning = e.1 }
+
+-- a look-up among keys that show their bytes
+pub meaning_in-map : {K : Type 0} (shown : K → List ℕ) (word : List ℕ) (es : List (K × Meaning)) → lookup (λ k. bytes_eq word (shown k)) es ≡ meaning_in (map (λ e. entry_of shown e) es) word
+meaning_in-map shown word [] = refl
+meaning_in-map shown word (e ∷ es) = rw (bytes_eq-comm word (shown e.0)) (first_or (bytes_eq (shown e.0) word) (entry_of shown e) _ _ (meaning_in-map shown word es))

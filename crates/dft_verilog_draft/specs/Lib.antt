@@ -1,0 +1,11 @@
+pub use Rattle.dft_netlist_text.specs.Modules
+pub mod TakenNames
+pub mod TakenNamesShown
+pub mod HeaderPortShown
+pub mod DraftInstanceShown
+pub mod BitNames
+pub mod Free
+pub mod Drafts
+pub mod ModuleDraftShown
+pub mod Selecting
+pub mod Operands

@@ -1,0 +1,14 @@
+use Rattle.std.proofs.Common.{◌≡◌, ◌≤◌, ◌+◌, ◌-◌, length}
+use Rattle.std.specs.Prelude.{option_map}
+use Rattle.dft_netlist_text.specs.Lexemes as spec
+use Rattle.dft_verilog_tokens.proofs.blanks.comment_rest.Given as goal
+
+-- the rest of the text gives what the whole gives
+abbrev pub invariant-loop-rest : goal.invariant-loop-rest
+invariant-loop-rest l = record {
+  same : spec.comment_rest l.text ≡ option_map (λ len. length l.text - length l.rest + len) (spec.comment_rest l.rest);
+  within : length l.rest ≤ length l.text;
+}
+
+abbrev pub decreases-loop-rest : goal.decreases-loop-rest
+decreases-loop-rest l = length l.rest

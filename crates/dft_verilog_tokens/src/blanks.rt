@@ -1,0 +1,211 @@
+//! The blanks between the tokens of a netlist text (IEEE 1364, lexical conventions).
+
+ghost use Rattle.std.specs.Prelude.{false, ◌≡◌, ◌≤◌, ◌<◌, ◌+◌, ◌-◌, ◌^◌, ◌==◌, ◌&&◌, ◌||◌, nat_le, not, [], ◌∷◌, length, drop, IfSome};
+ghost use Rattle.std.specs.List.{prefix_len};
+ghost use Rattle.dft_base.specs.Words as words;
+ghost use Rattle.dft_netlist_text.specs.Lexemes as spec;
+
+/// The most bytes that a netlist text may have: 64 MiB.
+pub const MAX_TEXT: usize = 67_108_864;
+
+/// Whether a byte separates tokens: a tab, a line feed, a form feed, a carriage return or a space.
+pub fn is_space(byte: u8) -> bool
+    ensures { result ≡ spec.is_space byte }
+{
+    byte == b'\t' || byte == b'\n' || byte == 12 || byte == b'\r' || byte == b' '
+}
+
+/// Whether a byte is printed, and no blank.
+pub fn is_printed(byte: u8) -> bool
+    ensures { result ≡ spec.is_printed byte }
+{
+    33 <= byte && byte <= 126
+}
+
+// Whether no blank begins with these bytes: the first is printed, no slash and no grave accent, and they open no
+// attribute.
+fn begin_no_blank(first: u8, second: u8) -> bool
+    ensures { result ≡ (nat_le 33 first && not (first == 47) && not (first == 96) && (not (first == 40) || not (second == 42))) }
+{
+    33 <= first && first != b'/' && first != b'`' && (first != b'(' || second != b'*')
+}
+
+// 1 for each byte with which a word may go on, and 0 for another.
+static WORD_BYTES: [u8; 256] = [
+    0, 0, 0, 0, 0, 0, 0, 0, 0, 0, 0, 0, 0, 0, 0, 0, 0, 0, 0, 0, 0, 0, 0, 0, 0, 0, 0, 0, 0, 0, 0, 0,
+    0, 0, 0, 0, 1, 0, 0, 0, 0, 0, 0, 0, 0, 0, 0, 0, 1, 1, 1, 1, 1, 1, 1, 1, 1, 1, 0, 0, 0, 0, 0, 0,
+    0, 1, 1, 1, 1, 1, 1, 1, 1, 1, 1, 1, 1, 1, 1, 1, 1, 1, 1, 1, 1, 1, 1, 1, 1, 1, 1, 0, 0, 0, 0, 1,
+    0, 1, 1, 1, 1, 1, 1, 1, 1, 1, 1, 1, 1, 1, 1, 1, 1, 1, 1, 1, 1, 1, 1, 1, 1, 1, 1, 0, 0, 0, 0, 0,
+    0, 0, 0, 0, 0, 0, 0, 0, 0, 0, 0, 0, 0, 0, 0, 0, 0, 0, 0, 0, 0, 0, 0, 0, 0, 0, 0, 0, 0, 0, 0, 0,
+    0, 0, 0, 0, 0, 0, 0, 0, 0, 0, 0, 0, 0, 0, 0, 0, 0, 0, 0, 0, 0, 0, 0, 0, 0, 0, 0, 0, 0, 0, 0, 0,
+    0, 0, 0, 0, 0, 0, 0, 0, 0, 0, 0, 0, 0, 0, 0, 0, 0, 0, 0, 0, 0, 0, 0, 0, 0, 0, 0, 0, 0, 0, 0, 0,
+    0, 0, 0, 0, 0, 0, 0, 0, 0, 0, 0, 0, 0, 0, 0, 0, 0, 0, 0, 0, 0, 0, 0, 0, 0, 0, 0, 0, 0, 0, 0, 0,
+];
+
+// Whether a word may go on with this byte.
+#[inline(always)]
+fn is_in_word(byte: u8) -> bool
+    ensures { result ≡ words.continues_word byte }
+{
+    WORD_BYTES[byte as usize] == 1
+}
+
+/// How many bytes the word at the front has; a text may begin with none.
+pub fn word_len(text: &[u8]) -> usize
+    ensures value { result ≡ spec.word_len text.now }
+    ensures within { result ≤ length text.now }
+{
+    text.iter().take_while(|byte| is_in_word(**byte)).count()
+}
+
+// Whether this byte may stand in a line behind a directive.
+fn is_in_line(byte: u8) -> bool
+    ensures { result ≡ spec.is_in_line byte }
+{
+    byte != b'\n' && (is_space(byte) || is_printed(byte))
+}
+
+// How many bytes of the line at the front may stand behind a directive.
+fn line_len(text: &[u8]) -> usize
+    ensures value { result ≡ prefix_len spec.is_in_line text.now }
+    ensures within { result ≤ length text.now }
+{
+    text.iter().take_while(|byte| is_in_line(**byte)).count()
+}
+
+// How many bytes stand before the end of the line.
+fn to_line_end(text: &[u8]) -> usize
+    ensures value { result ≡ prefix_len (λ c. not (c == 10)) text.now }
+    ensures within { result ≤ length text.now }
+{
+    text.iter().take_while(|byte| **byte != b'\n').count()
+}
+
+// Whether these two bytes stand at the front.
+fn begins_with_pair(text: &[u8], first: u8, second: u8) -> bool
+    ensures { result ≡ spec.begins_with (first ∷ second ∷ []) text.now }
+{
+    matches!(text, [a, b, ..] if *a == first && *b == second)
+}
+
+#[tactic(auto, unfolding(dft_netlist_text::specs::Lexemes::comment_rest))]
+// How many bytes a comment has from behind its opening to behind the next `*/`.
+fn comment_rest(text: &[u8]) -> Option<usize>
+    ensures value { result ≡ spec.comment_rest text.now }
+    ensures within { IfSome result (λ len. len ≤ length text.now) }
+{
+    let mut rest = text;
+    while let [_, behind @ ..] = rest {
+        if begins_with_pair(rest, b'*', b'/') {
+            return Some(text.len() - rest.len() + 2);
+        }
+        rest = behind;
+    }
+    None
+}
+
+#[tactic(auto, unfolding(dft_netlist_text::specs::Lexemes::attribute_rest))]
+// How many bytes an attribute has from behind its opening to behind the next `*)` that stands in no quotes.
+fn attribute_rest(text: &[u8]) -> Option<usize>
+    ensures value { result ≡ spec.attribute_rest false text.now }
+    ensures within { IfSome result (λ len. len ≤ length text.now) }
+{
+    let mut rest = text;
+    let mut quoted = false;
+    while let [byte, behind @ ..] = rest {
+        if !quoted && begins_with_pair(rest, b'*', b')') {
+            return Some(text.len() - rest.len() + 2);
+        }
+        quoted = quoted != (*byte == b'"');
+        rest = behind;
+    }
+    None
+}
+
+// What a comment or an attribute has with its opening of two bytes; none where the text does not close it.
+fn closed_len(rest: Option<usize>) -> usize
+    requires { IfSome rest (λ len. len + 2 < 2 ^ 64) }
+    ensures { result ≡ spec.closed_len rest }
+{
+    match rest {
+        Some(len) => 2 + len,
+        None => 0,
+    }
+}
+
+// A directive that says nothing of a netlist: it is passed over with the rest of its line.
+fn is_passed_over(word: &[u8]) -> bool
+    ensures { result ≡ spec.is_passed_over word.now }
+{
+    word == b"timescale".as_slice()
+        || word == b"celldefine".as_slice()
+        || word == b"endcelldefine".as_slice()
+        || word == b"resetall".as_slice()
+}
+
+// The name of a directive, and the rest of its line.
+fn directive_len(text: &[u8]) -> usize
+    requires { 0 < length text.now }
+    ensures value { result ≡ spec.directive_len text.now }
+    ensures within { result ≤ length text.now }
+{
+    let named = 1 + word_len(&text[1..]);
+    named + line_len(&text[named..])
+}
+
+// Whether a directive that is passed over begins at this text, which begins with a grave accent.
+fn is_passed_directive(text: &[u8]) -> bool
+    ensures { result ≡ spec.is_passed_directive text.now }
+{
+    match text {
+        [b'`', behind @ ..] => is_passed_over(&behind[..word_len(behind)]),
+        _ => false,
+    }
+}
+
+#[tactic(auto, using(crate::proofs::BlankLemmas::no_blank_begins))]
+/// How many bytes of blank stand at the front: a space, a comment, an attribute, or a directive that is passed over.
+#[inline(always)]
+pub fn blank_len(text: &[u8]) -> usize
+    requires { length text.now ≤ MAX_TEXT }
+    ensures value { result ≡ spec.blank_len text.now }
+    ensures within { result ≤ length text.now }
+{
+    match text {
+        [first, second, ..] if begin_no_blank(*first, *second) => 0,
+        [first, ..] if is_space(*first) => 1,
+        _ => any_blank_len(text),
+    }
+}
+
+#[tactic(auto, unfolding(dft_netlist_text::specs::Lexemes::blank_len))]
+// How many bytes of blank stand at the front.
+#[inline(never)]
+fn any_blank_len(text: &[u8]) -> usize
+    requires { length text.now ≤ MAX_TEXT }
+    ensures value { result ≡ spec.blank_len text.now }
+    ensures within { result ≤ length text.now }
+{
+    match text {
+        [] => 0,
+        [first, ..] if is_space(*first) => 1,
+        [b'/', b'/', ..] => to_line_end(text),
+        [b'/', b'*', behind @ ..] => closed_len(comment_rest(behind)),
+        [b'(', b'*', behind @ ..] => closed_len(attribute_rest(behind)),
+        _ if is_passed_directive(text) => directive_len(text),
+        _ => 0,
+    }
+}
+
+#[tactic(auto, unfolding(dft_netlist_text::specs::Lexemes::begins_blank))]
+/// Whether a blank begins here, closed or not.
+pub fn begins_blank(text: &[u8]) -> bool
+    requires { 0 < length text.now }
+    ensures { result ≡ spec.begins_blank text.now }
+{
+    match text {
+        [first, ..] if is_space(*first) => true,
+        [b'/', b'/' | b'*', ..] | [b'(', b'*', ..] => true,
+        _ => is_passed_directive(text),
+    }
+}
