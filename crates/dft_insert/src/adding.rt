@@ -35,8 +35,9 @@ pub(crate) fn check_additions(
     ensures accepted { OnOk result (refusal Plain design.now config.now chains.now ≡ None) }
     ensures refused { IfErr result (IsRefusal (refusal Plain design.now config.now chains.now)) }
 {
+    design.soundness();
     let port_nets = count_port_nets(design);
-    let mut tally = Tally::new(alloc, design, port_nets)?;
+    let mut tally = Tally::new(alloc, design, port_nets);
     add_ports(alloc, &mut tally, config)?;
     tally.add_others(design.net_count() as usize - port_nets)?;
     let open = count_open(design, chains);

@@ -1,4 +1,5 @@
-//! Reads pattern texts (IEEE 1450-1999, in a subset of its forms): the signals and vectors, or the first fault.
+//! Reads pattern texts (IEEE 1450-1999, in a subset of its forms): the signals and vectors, or the first fault. The writer
+//! is `dft_stil_out`, whose calls are named here too.
 #![tactic(auto)]
 
 mod characters;
@@ -19,6 +20,7 @@ pub use dft_patterns::{
     Act, Acts, Drawing, Event, Note, NoteKind, PatternSet, StilSignal, Times, Unsteady,
     first_unsteady,
 };
+pub use dft_stil_out::{WriteError, one_form, write};
 pub use dft_stil_text::{MAX_VECTORS, one_reading, well_formed};
 pub use dft_stil_tokens::{Cause, Fault, MAX_TEXT, TokenKind};
 pub use error::StilError;
