@@ -151,6 +151,19 @@ pattern_part most names t = do
   expect kind.End
   pure (record { signals = names.signals; vectors = p.vectors; notes = [] })
 
+-- the tables, and all behind them
+abbrev pub timed_part : (most : ℕ) → Names → Rule Patterns
+timed_part most names = do
+  t ← timing names
+  pattern_part most names t
+
+-- the signals and groups, and all behind them
+abbrev pub named_part : (most : ℕ) → Rule Patterns
+named_part most = do
+  signals ← signals_block
+  names ← group_blocks signals
+  timed_part most names
+
 -- the whole text
 unfoldable pub pattern_text : (most : ℕ) → Rule Patterns
 pattern_text most = do
@@ -158,10 +171,7 @@ pattern_text most = do
   version
   expect kind.Semicolon
   header_if_any
-  signals ← signals_block
-  names ← group_blocks signals
-  t ← timing names
-  pattern_part most names t
+  named_part most
 
 -- ---- what a reader gives
 
