@@ -4,10 +4,9 @@ use Rattle.std.specs.Prelude.{if◌then◌else◌}
 use Rattle.std.proofs.lemmas.List.{get_or_default, drop_all}
 use Rattle.std.proofs.lemmas.Option.{get_or_from_slice_get, slice_get-get_or}
 use Rattle.dft_cells.specs.declared.kind.Role.{Role}
-use Rattle.dft_cells.specs.declared.kind.Role.TheVariants.{Input, Output}
 use Rattle.dft_netlist.specs.declared.instance.Signal.{Signal}
 use Rattle.dft_netlist.specs.declared.instance.Signal.TheVariants as signal
-use Rattle.dft_netlist.specs.Drivers.{Connection, gate_roles, source_of, connections_from}
+use Rattle.dft_netlist.specs.Drivers.{Connection, source_of, connections_from}
 use Rattle.dft_netlist.specs.Logic.{same_role}
 use Rattle.dft_netlist.specs.Sound.{AreLive, IsLive}
 use Rattle.dft_cycle.specs.declared.circuit.Operand.{Operand}
@@ -15,24 +14,6 @@ use Rattle.dft_cycle.specs.declared.circuit.Operand.TheVariants.{Net, Tied, Loos
 use Rattle.dft_cycle.specs.declared.wires.Wire.{Wire}
 use Rattle.dft_cycle.specs.Circuit.{source_at}
 use Rattle.dft_cycle.specs.Compiling.{Wired, wired_at, wired_by, found_in, IsLiveOperand, AreLiveWires}
-
-pub input_role : (inputs pin : ℕ) → pin < inputs → Some Input ≡ slice_get (gate_roles inputs) pin
-input_role zero pin less = absurd (omega arith)
-input_role (suc inputs) zero less = refl
-input_role (suc inputs) (suc pin) less = input_role inputs pin (omega arith)
-
-pub output_role : (inputs pin : ℕ) → pin ≡ inputs → Some Output ≡ slice_get (gate_roles inputs) pin
-output_role zero zero e = refl
-output_role zero (suc pin) e = absurd (omega arith)
-output_role (suc inputs) zero e = absurd (omega arith)
-output_role (suc inputs) (suc pin) e = output_role inputs pin (omega arith)
-
-pub no_role : (inputs pin : ℕ) → inputs < pin → None ≡ slice_get (gate_roles inputs) pin
-no_role zero zero less = absurd (omega arith)
-no_role zero (suc zero) less = refl
-no_role zero (suc (suc pin)) less = refl
-no_role (suc inputs) zero less = absurd (omega arith)
-no_role (suc inputs) (suc pin) less = no_role inputs pin (omega arith)
 
 pub drop_front : {X : Type 0} (xs : List X) (j : ℕ) (d : X) → j < length xs → drop j xs ≡ get_or xs j d ∷ drop (j + 1) xs
 drop_front xs j d less = rw (add-one) (drop-cons xs j d less)

@@ -1,9 +1,7 @@
 //! The circuit of a design.
 
 ghost use Rattle.std.specs.Prelude.{◌≡◌, ℕ, ◌<◌, ◌≤◌, length, map, slice_get, IfOk};
-ghost use Rattle.dft_cells.specs.WellFormed.{IsWellFormed};
 ghost use Rattle.dft_netlist.specs.Drivers.{kind_at, pins_of};
-ghost use Rattle.dft_netlist.specs.Sound.{IsNetlist};
 ghost use Rattle.dft_netlist.specs.NetDrivers.{is_inverted as inverts, roles_at};
 ghost use Rattle.dft_cycle.specs.Circuit.{op_at};
 ghost use Rattle.dft_cycle.specs.Compiling.{ports_by, wired_at, wired_by, AreLiveWires, IsOpOf, IsFlopOf, IsLatchOf, AreFlops, AreLatches, IsCircuitOf};
@@ -12,7 +10,7 @@ use crate::circuit::{Circuit, FlipFlop, Latch, Op};
 use crate::compiling::{flop_at, latch_of, pin_op};
 use crate::settling::flag_at;
 use crate::tables::{cells, followers, holders, leaves, readers, sources};
-use crate::wires::{Wire, kind_of, operand, role_at, wires};
+use crate::wires::{Wire, operand, wires};
 use dft_cells::{Kind, Role};
 use dft_netlist::{Design, InstanceId, NetDriver, NetId};
 use std::alloc::{AllocError, Global};
@@ -27,16 +25,13 @@ struct Part {
 /// The instance of this number.
 fn part_at(alloc: Global, design: &Design, number: InstanceId) -> Result<Part, AllocError>
     requires { number.0 < length design.now.instances }
-    ensures sound { IsNetlist design.now }
-    ensures library { IsWellFormed design.now.library }
     ensures kind { IfOk result (λ part. part.kind ≡ kind_at design.now number.0) }
     ensures wired { IfOk result (λ part. map wired_at part.wires.items ≡ map (wired_by number.0) (pins_of design.now number.0)) }
     ensures live { IfOk result (λ part. AreLiveWires (length design.now.nets) part.wires.items) }
 {
     let instance = &design.instances()[number.0 as usize];
-    let library = design.library().cells();
-    let kind = kind_of(library, instance.cell);
-    let wires = wires(alloc, library, number, instance)?;
+    let kind = design.kind(number);
+    let wires = wires(alloc, design.library().cells(), number, instance)?;
     Ok(Part { kind, wires })
 }
 
@@ -45,8 +40,7 @@ fn is_inverted(design: &Design, number: InstanceId, pin: usize) -> bool
     requires { number.0 < length design.now.instances }
     ensures { result ≡ inverts (slice_get (roles_at design.now number.0) pin) }
 {
-    let instance = &design.instances()[number.0 as usize];
-    match role_at(design.library().cells(), instance.cell, pin) {
+    match design.role(number, pin) {
         Some(Role::Inverted) => true,
         _ => false,
     }
@@ -57,6 +51,7 @@ fn net_op(alloc: Global, design: &Design, flags: &[bool], net: NetId) -> Result<
     requires { net.0 < length design.now.nets }
     ensures { IfOk result (IsOpOf design.now (ports_by flags.now) net.0) }
 {
+    design.soundness();
     match design.driver(net) {
         NetDriver::Input => Ok(if flag_at(flags, net.0) {
             Op::Clock
@@ -162,7 +157,7 @@ pub(crate) fn compile(alloc: Global, design: &Design, flags: &[bool]) -> Result<
     let ops = net_ops(alloc, design, flags)?;
     let flops = flops(alloc, design, flags)?;
     let latches = latches(alloc, design, flags)?;
-    let _ = design.net_count();
+    design.soundness();
     let nets = ops.len();
     let readers = readers(alloc, &ops)?;
     let sources = sources(alloc, &ops)?;

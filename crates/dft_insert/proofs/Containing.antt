@@ -30,7 +30,8 @@ use Rattle.dft_netlist.proofs.Places.{get_left}
 use Rattle.dft_netlist.proofs.RankLemmas.{order_ranks}
 use Rattle.dft_netlist.proofs.Ranks.{order_is_rank}
 use Rattle.dft_config.specs.declared.config.Config.{Config}
-use Rattle.dft_rules.specs.Rules.{is_input, input_net, is_net, scan_cell_in}
+use Rattle.dft_netlist.specs.Connections.{is_input, input_net}
+use Rattle.dft_rules.specs.Rules.{is_net, scan_cell_in}
 use Rattle.dft_stitch.specs.declared.places.CellPlace.{CellPlace}
 use Rattle.dft_insert.specs.declared.style.Style.TheVariants.{Plain}
 use Rattle.dft_insert.specs.Moves as moves

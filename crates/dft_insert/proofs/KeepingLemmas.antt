@@ -14,7 +14,7 @@ use Rattle.dft_netlist.specs.Drivers.{connections_from, shape_of}
 use Rattle.dft_config.specs.declared.config.Config.{Config}
 use Rattle.dft_rules.specs.declared.judged.Judged.{Judged}
 use Rattle.dft_rules.specs.declared.judged.Judged.TheVariants.{Scanned, Unscanned}
-use Rattle.dft_rules.specs.Findings.{signal_of}
+use Rattle.dft_netlist.specs.Connections.{signal_of}
 use Rattle.dft_rules.specs.Refusals.{is_scanned}
 use Rattle.dft_rules.specs.Rules.{judged}
 use Rattle.dft_stitch.specs.declared.places.CellPlace.{CellPlace}

@@ -23,7 +23,8 @@ use Rattle.dft_netlist.proofs.Walks.{port_found}
 use Rattle.dft_config.specs.declared.config.Config.{Config}
 use Rattle.dft_rules.specs.declared.judged.Judged.{Judged}
 use Rattle.dft_rules.specs.declared.judged.Judged.TheVariants.{Scanned}
-use Rattle.dft_rules.specs.Rules.{is_input, input_net, is_net, judged, judgements}
+use Rattle.dft_netlist.specs.Connections.{is_input, input_net}
+use Rattle.dft_rules.specs.Rules.{is_net, judged, judgements}
 use Rattle.dft_stitch.specs.declared.places.LockupPlace.{LockupPlace}
 use Rattle.dft_stitch.specs.Chains.{domain_in, lockup_between, lockup_after, lockups_in, lockups_of, cells_of, plan_of}
 use Rattle.dft_stitch.specs.Chains as chains

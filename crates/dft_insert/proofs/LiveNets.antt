@@ -17,8 +17,8 @@ use Rattle.dft_netlist.specs.Drivers.{Source, connections_from, source_of, shape
 use Rattle.dft_netlist.specs.Logic.{same_role, pin_of}
 use Rattle.dft_netlist.specs.Sound.{IsNetlist, IsLive, AreLive}
 use Rattle.dft_config.specs.declared.config.Config.{Config}
-use Rattle.dft_rules.specs.Rules.{is_input, input_net}
-use Rattle.dft_rules.proofs.NameLemmas.{net_there}
+use Rattle.dft_netlist.specs.Connections.{is_input, input_net}
+use Rattle.dft_netlist.proofs.LookUpLemmas.{net_there}
 use Rattle.dft_stitch.specs.Plans.{Plan, cell_at}
 use Rattle.dft_insert.specs.declared.style.Style.TheVariants.{Plain}
 use Rattle.dft_insert.specs.Moves.{Gap, moved}

@@ -16,16 +16,15 @@ use Rattle.dft_netlist.specs.declared.instance.Signal.{Signal}
 use Rattle.dft_netlist.specs.declared.instance.Signal.TheVariants as signal
 use Rattle.dft_netlist.specs.declared.limits.TheConstants.{MAX_INSTANCES}
 use Rattle.dft_netlist.specs.Netlist.{Netlist}
-use Rattle.dft_netlist.specs.Drivers.{Connection, Source, connections_from, connections_of, gate_roles, pins_at, shape_of, source_of}
+use Rattle.dft_netlist.specs.Connections.{joined_to, signal_of}
+use Rattle.dft_netlist.specs.Drivers.{Connection, Source, pins_of, source_of}
 use Rattle.dft_netlist.specs.Logic.{pin_of, same_role}
-use Rattle.dft_netlist.specs.Sound.{AreLive, IsLive, IsNetlist, bits_of, bit_names_of}
-use Rattle.dft_netlist.proofs.LiveLemmas.{le_or_lt, length-bits}
+use Rattle.dft_netlist.specs.Sound.{IsNetlist, bits_of, bit_names_of}
+use Rattle.dft_netlist.proofs.LiveLemmas.{length-bits}
 use Rattle.dft_config.specs.declared.config.Config.{Config}
 use Rattle.dft_config.specs.Range.{IsInRange}
 use Rattle.dft_rules.specs.declared.judged.Judged.{Judged}
-use Rattle.dft_rules.specs.Findings.{joined_to, signal_of}
 use Rattle.dft_rules.specs.Rules.{judged, judgements}
-use Rattle.dft_rules.proofs.PinLemmas.{input_role, no_role, output_role}
 use Rattle.dft_stitch.specs.declared.places.CellPlace.{CellPlace}
 use Rattle.dft_stitch.specs.Chains.{cell_in, cells_in, cells_of, chain_lengths, plan_of, scanned_cells}
 use Rattle.dft_stitch.proofs.BlockLemmas.{blocks_short, chain_count}
@@ -144,26 +143,6 @@ few_chains n config range = omega (arith, chain_count (cells_of n config) config
 
 -- ---- outputs
 
--- a gate primitive's output comes behind its inputs
-pub gate_output : (inputs pin : ℕ) → (pin == inputs) ≡ option_map_or (same_role Output) (slice_get (gate_roles inputs) pin) false
-gate_output inputs pin = elim (le_or_lt inputs pin) [
-  | inl le ↦ elim (le_or_lt pin inputs) [
-    | inl ge ↦ (let e : pin ≡ inputs = omega arith in same_number pin inputs e ∙ ap output_test (output_role inputs pin e))
-    | inr past ↦ other_number pin inputs (inr past) ∙ ap output_test (no_role inputs pin past)
-  ]
-  | inr less ↦ other_number pin inputs (inl less) ∙ ap output_test (input_role inputs pin less)
-]
-  where
-    output_test : Option Role → Bool
-    output_test o = option_map_or (same_role Output) o false
-
-    same_number : (a b : ℕ) → a ≡ b → (a == b) ≡ true
-    same_number a b e = grind (arith, nat_tests)
-
-    other_number : (a b : ℕ) → (a < b) ⊎ (b < a) → (a == b) ≡ false
-    other_number a b (inl less) = grind (arith, nat_tests)
-    other_number a b (inr more) = grind (arith, nat_tests)
-
 -- the net that a pin is joined to
 abbrev pub net_at : Signal → Option ℕ
 net_at (signal.Net net) = Some net.0
@@ -185,21 +164,5 @@ pin_net r i [] = refl
 pin_net r i (c ∷ pins) = pin_or (same_role r c.role) i c (find (λ x. same_role r x.role) pins) (pin_of r i pins) (pin_net r i pins)
 
 -- the net of an instance's output, by what its pin is joined to
-pub own_output_is : (n : Netlist) (cell : InstanceId) (x : Instance) → slice_get n.instances cell.0 ≡ Some x → option_and_then net_at (signal_of Output (connections_of n.library x)) ≡ own_output n cell
-own_output_is n cell x at =
-    pin_net Output cell.0 (connections_of n.library x) ∙ ap (λ (o : Option Instance). option_and_then net_of (pin_of Output cell.0 (pins_at n.library o))) (sym at)
-
--- what a pin is joined to is one of the nets
-live_by : (t : Bool) (count : ℕ) (c : Connection) (rest : Option Connection) (s : Signal) → IsLive count c.to → (option_map joined_to rest ≡ Some s → IsLive count s) → option_map joined_to (cond t (Some c) rest) ≡ Some s → IsLive count s
-live_by true count c rest s here later e = let same : c.to ≡ s = cc in subst (IsLive count) same here
-live_by false count c rest s here later e = later e
-
-signal_live : (count pin : ℕ) (r : Role) (roles : List Role) (pins : List Signal) (s : Signal) → AreLive count pins → signal_of r (connections_from pin roles pins) ≡ Some s → IsLive count s
-signal_live count pin r [] pins s live e = absurd (let f : ⊥ = cc in f)
-signal_live count pin r (role ∷ roles) [] s live e = absurd (let f : ⊥ = cc in f)
-signal_live count pin r (role ∷ roles) (p ∷ pins) s live e =
-    live_by (same_role r role) count (record { role = role; pin = pin; to = p }) (find (λ x. same_role r x.role) (connections_from (suc pin) roles pins)) s (live 0 p refl)
-    (signal_live count (suc pin) r roles pins s (λ k q at. live (suc k) q at)) e
-
-pub output_live : (n : Netlist) (cell : InstanceId) (x : Instance) (net : NetId) → IsNetlist n → slice_get n.instances cell.0 ≡ Some x → signal_of Output (connections_of n.library x) ≡ Some (signal.Net net) → net.0 < length n.nets
-output_live n cell x net sound at is = signal_live (length n.nets) 0 Output (shape_of n.library x.cell).roles x.pins (signal.Net net) (sound.instances cell.0 x at).live is
+pub own_output_is : (n : Netlist) (cell : InstanceId) → option_and_then net_at (signal_of Output (pins_of n cell.0)) ≡ own_output n cell
+own_output_is n cell = pin_net Output cell.0 (pins_of n cell.0)

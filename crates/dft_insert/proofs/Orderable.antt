@@ -19,7 +19,7 @@ use Rattle.dft_netlist.specs.Logic.{pin_of}
 use Rattle.dft_netlist.specs.Orders.{Has, reads_of, IsOrderable, Follows}
 use Rattle.dft_netlist.proofs.StandLemmas.{order_orderable}
 use Rattle.dft_config.specs.declared.config.Config.{Config}
-use Rattle.dft_rules.specs.Rules.{is_input}
+use Rattle.dft_netlist.specs.Connections.{is_input}
 use Rattle.dft_stitch.specs.declared.places.CellPlace as places
 use Rattle.dft_stitch.specs.declared.places.LockupPlace.{LockupPlace}
 use Rattle.dft_stitch.specs.Chains.{cells_of, plan_of}

@@ -13,7 +13,7 @@ use Rattle.dft_netlist.specs.declared.instance.Signal.TheVariants.{Net, Unconnec
 use Rattle.dft_netlist.specs.declared.instance.Instance.{Instance}
 use Rattle.dft_netlist.specs.Netlist.{Netlist}
 use Rattle.dft_netlist.specs.Drivers.{connections_of}
-use Rattle.dft_rules.specs.Findings.{signal_of}
+use Rattle.dft_netlist.specs.Connections.{signal_of}
 use Rattle.dft_rules.specs.Rules.{scan_cell_in}
 use Rattle.dft_insert.specs.Moves.{Gap, moved_signal, moved_instance, moved_join}
 

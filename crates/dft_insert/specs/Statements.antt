@@ -13,7 +13,8 @@ use Rattle.dft_base.specs.declared.tri.Tri.{Tri}
 use Rattle.dft_base.specs.declared.tri.Tri.TheVariants.{Zero}
 use Rattle.dft_config.specs.declared.config.Config.{Config}
 use Rattle.dft_config.specs.Range.{IsInRange}
-use Rattle.dft_rules.specs.Rules.{input_net, is_net, judged}
+use Rattle.dft_netlist.specs.Connections.{input_net}
+use Rattle.dft_rules.specs.Rules.{is_net, judged}
 use Rattle.dft_rules.specs.Refusals.{is_scanned}
 use Rattle.dft_rules.specs.Refusals as rules
 use Rattle.dft_netlist.specs.declared.ids.InstanceId.{InstanceId}

@@ -35,8 +35,9 @@ pub(crate) fn check_additions(
     ensures accepted { OnOk result (refusal Plain design.now config.now chains.now ≡ None) }
     ensures refused { IfErr result (IsRefusal (refusal Plain design.now config.now chains.now)) }
 {
+    design.soundness();
     let port_nets = count_port_nets(design);
-    let mut tally = Tally::new(alloc, design, port_nets)?;
+    let mut tally = Tally::new(alloc, design, port_nets);
     add_ports(alloc, &mut tally, config)?;
     tally.add_others(design.net_count() as usize - port_nets)?;
     let open = count_open(design, chains);
@@ -60,7 +61,7 @@ fn add_ports(alloc: Global, tally: &mut Tally<'_>, config: &Config) -> Result<()
 {
     let names = &config.names;
     let chains = usize::from(config.chains);
-    let enable = Name::from_slice(alloc, names.scan_enable.as_slice())?;
+    let enable = names.scan_enable.copy(alloc)?;
     tally.add(alloc, Counted::Ports, enable)?;
     add_numbered(
         alloc,

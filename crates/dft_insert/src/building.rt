@@ -50,9 +50,7 @@ fn see_ready(design: &Design, config: &Config)
     requires passed { rules.refusal design.now config.now ≡ None }
     ensures { IsReady design.now config.now }
 {
-    let _name = design.module();
-    let _cells = design.library().cells();
-    let _order = design.order();
+    design.soundness();
 }
 
 /// So many ids from a number on.

@@ -2,7 +2,7 @@
 
 ghost use Rattle.std.specs.Prelude.{◌≡◌, ◌≤◌, ◌<◌, ◌*◌, ◌^◌, is_none, filter, length};
 ghost use Rattle.std.specs.List.{All};
-ghost use Rattle.dft_netlist.specs.Sound.{IsNetlist, bits_of};
+ghost use Rattle.dft_netlist.specs.Sound.{bits_of};
 ghost use Rattle.dft_netlist.specs.declared.limits.TheConstants.{MAX_INSTANCES};
 ghost use Rattle.dft_insert.specs.Stitching.{open_places};
 ghost use Rattle.dft_insert.specs.Stitching as spec;
@@ -15,7 +15,6 @@ use dft_stitch::Chains;
 pub(crate) fn count_port_nets(design: &Design) -> usize
     ensures count { result ≡ length (bits_of design.now.ports) }
     ensures within { result ≤ length design.now.nets }
-    ensures sound { IsNetlist design.now }
 {
     count_bits(design.ports())
 }

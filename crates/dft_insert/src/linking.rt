@@ -1,8 +1,7 @@
 //! The lock-ups and the buffers of the chains.
 
-ghost use Rattle.std.specs.Prelude.{◌≡◌, ◌+◌, ◌-◌, ◌<◌, ◌≤◌, [], IfOk, IfSome, OnOk, length, slice_index_or};
+ghost use Rattle.std.specs.Prelude.{◌≡◌, ◌+◌, ◌-◌, ◌<◌, ◌≤◌, [], IfOk, OnOk, length, slice_index_or};
 ghost use Rattle.dft_netlist.specs.declared.limits.TheConstants.{MAX_NETS, MAX_PORTS};
-ghost use Rattle.dft_rules.specs.Rules as rules;
 ghost use Rattle.dft_insert.specs.Growing.{AllFit, instance_things, with_things};
 ghost use Rattle.dft_insert.specs.Pieces.{buffers_with, domain_in, lockups_with, output_in};
 ghost use Rattle.dft_insert.specs.Pieces as spec;
@@ -16,7 +15,7 @@ use crate::stitching::nets_at;
 use dft_cells::{CellId, Kind, Library};
 use dft_config::Config;
 use dft_netlist::{
-    CellRef, Design, DesignBuilder, Instance, InstanceId, NetDriver, NetId, PinSignals, Signal,
+    CellRef, Design, DesignBuilder, Instance, InstanceId, NetId, PinSignals, Signal,
 };
 use dft_stitch::Chains;
 use std::alloc::{AllocError, Global};
@@ -122,7 +121,7 @@ fn domain_net(design: &Design, config: &Config, gap: &Gap, domain: u8) -> NetId
     requires few { length design.now.nets ≤ MAX_NETS }
     ensures { result.0 ≡ domain_in design.now gap.now config.now domain }
 {
-    match input_net(design, domain_name(config, domain)) {
+    match design.input(domain_name(config, domain)) {
         Some(net) => gap.moved(net),
         None => NetId(0),
     }
@@ -134,18 +133,6 @@ fn domain_name(config: &Config, domain: u8) -> &[u8]
     match config.domains.as_slice().get(usize::from(domain)) {
         Some(name) => name.as_slice(),
         None => &[],
-    }
-}
-
-/// The bit of an input port with this name.
-fn input_net(design: &Design, name: &[u8]) -> Option<NetId>
-    ensures net { result ≡ rules.input_net design.now name.now }
-    ensures live { IfSome result (λ net. net.0 < length design.now.nets) }
-{
-    let net = design.find(name)?;
-    match design.driver(net) {
-        NetDriver::Input => Some(net),
-        _ => None,
     }
 }
 

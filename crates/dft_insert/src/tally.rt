@@ -1,5 +1,4 @@
-ghost use Rattle.std.specs.Prelude.{◌≡◌, ◌≤◌, ◌||◌, ◌∷◌, [], ℕ, List, IfOk};
-ghost use Rattle.std.specs.List.{filter_map};
+ghost use Rattle.std.specs.Prelude.{◌≡◌, ◌≤◌, ◌||◌, ◌∷◌, []};
 ghost use Rattle.dft_cells.specs.WellFormed.{has_name};
 ghost use Rattle.dft_netlist.specs.Names as names;
 ghost use Rattle.dft_netlist.specs.declared.limits.TheConstants.{MAX_NETS};
@@ -10,16 +9,14 @@ use crate::counts::Counts;
 use crate::error::InsertError;
 use crate::name_set::NameSet;
 use dft_base::Name;
-use dft_netlist::{Counted, Design, Port};
-use std::alloc::{AllocError, Global};
+use dft_netlist::{Counted, Design};
+use std::alloc::Global;
 use std::marker::Model;
 
 /// What was added to a design so far: its names, and how many ports, nets and instances there are.
 #[derive(Drop)]
 pub(crate) struct Tally<'a> {
     design: &'a Design,
-    /// The own names of the design's vector ports.
-    vectors: NameSet,
     names: NameSet,
     counts: Counts,
 }
@@ -38,26 +35,20 @@ impl<'a> Model for Tally<'a> {
 
 impl<'a> Tally<'a> {
     /// Nothing was added yet to a design, so many nets of which are bits of its ports.
-    pub(crate) fn new(
-        alloc: Global,
-        design: &'a Design,
-        port_nets: usize,
-    ) -> Result<Tally<'a>, AllocError>
+    pub(crate) fn new(alloc: Global, design: &'a Design, port_nets: usize) -> Tally<'a>
         requires { port_nets ≤ MAX_NETS }
-        ensures { IfOk result (λ tally. tally ≡ nothing_added design.entry.now port_nets) }
+        ensures { result ≡ nothing_added design.entry.now port_nets }
     {
-        let vectors = vector_names(alloc, design.ports())?;
         let counts = Counts {
             ports: design.ports().len(),
             nets: port_nets,
             instances: design.instances().len(),
         };
-        Ok(Tally {
+        Tally {
             design,
-            vectors,
             names: NameSet::new(alloc),
             counts,
-        })
+        }
     }
 
     /// Adds a port of one bit, a net or an instance. It is refused where the name is taken, and else where it passes a limit.
@@ -91,22 +82,6 @@ impl<'a> Tally<'a> {
     fn is_taken(&self, name: &[u8]) -> bool
         ensures { result ≡ (names.is_taken self.now.design name.now || has_name self.now.so_far.names name.now) }
     {
-        self.design.find(name).is_some()
-            || self.vectors.has(name)
-            || self.design.find_instance(name).is_some()
-            || self.names.has(name)
+        self.design.is_taken(name) || self.names.has(name)
     }
-}
-
-/// The own names of vector ports.
-fn vector_names(alloc: Global, ports: &[Port]) -> Result<NameSet, AllocError>
-    ensures { IfOk result (λ set. (name : List ℕ) → has_name set name ≡ has_name (filter_map names.vector_name ports.now) name) }
-{
-    let mut set = NameSet::new(alloc);
-    for port in ports {
-        if port.range.is_some() {
-            set.add(Vec::from_slice(alloc, port.name.as_slice())?)?;
-        }
-    }
-    Ok(set)
 }

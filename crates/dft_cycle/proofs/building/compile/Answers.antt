@@ -16,7 +16,7 @@ pub returns : goal.returns
 returns c =
     let O : List NetId → Type 0 = λ l. IsOrder c.args.design.now (numbers_of l) in
     circuit_of c.args.design.now (ports_by c.args.flags.now) (record { order = c.in_ok-order.order; ops = c.in_ok-ops.ops; flops = c.in_ok-flops.flops; latches = c.in_ok-latches.latches; readers = c.in_ok-readers.readers; sources = c.in_ok-sources.sources; leaves = c.in_ok-leaves.leaves; cells = c.in_ok-cells.cells; holders = c.in_ok-holders.holders; followers = c.in_ok-followers.followers })
-    c.net_count.ensures.sound (subst O (sym c.in_ok-order.ensures.items) c.order.ensures) c.in_ok-ops.ensures.count c.in_ok-ops.ensures.each c.in_ok-flops.ensures c.in_ok-latches.ensures
+    c.soundness.ensures.netlist (subst O (sym c.in_ok-order.ensures.items) c.order.ensures) c.in_ok-ops.ensures.count c.in_ok-ops.ensures.each c.in_ok-flops.ensures c.in_ok-latches.ensures
     (let o : List Op → Type 0 = λ l. IsTable (length l) (length l) (λ k. reads (meaning (op_at l k))) c.in_ok-readers.readers.items in
     let s : List Op → Type 0 = λ l. IsTable 1 (length l) (λ k. source_places (meaning (op_at l k))) c.in_ok-sources.sources.items in
     let a : List Op → Type 0 = λ l. IsTable (length l) (length l) (λ k. leaf_domains (map cell_of c.deref-4.result.now) k (meaning (op_at l k))) c.in_ok-leaves.leaves.items in
