@@ -196,7 +196,7 @@ impl DesignBuilder {
         }
         for bit in bits {
             if self.table.get(bit.as_slice()).is_some() {
-                let name = Name::from_slice(self.alloc, bit.as_slice())?;
+                let name = bit.copy(self.alloc)?;
                 return Err(NetlistError::DuplicateName { name });
             }
         }
