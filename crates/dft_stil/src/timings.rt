@@ -264,7 +264,7 @@ fn table_body(
     waveforms(alloc, names, period, tokens)
 }
 
-#[tactic(auto, using(crate::proofs::TableLemmas::wide_tables), unfolding(dft_stil_text::specs::Timings::table))]
+#[tactic(auto, unfolding(dft_stil_text::specs::Timings::table))]
 // A table, whose name no other may have so far.
 fn one_table(
     alloc: Global,
