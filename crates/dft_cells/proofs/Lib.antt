@@ -1,4 +1,5 @@
 pub mod Completions
+pub mod NamedRows
 pub mod Finding
 pub mod StandardFits
 pub mod Pairs

@@ -4,6 +4,7 @@ pub mod Gates
 pub mod FlipFlops
 pub mod Laws
 pub mod Standard
+pub mod Rows
 pub mod Cells
 pub mod WellFormed
 pub mod Tables

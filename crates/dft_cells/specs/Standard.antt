@@ -1,5 +1,5 @@
 -- The cells that stand where no library is given, in byte order of their names.
-use Rattle.std.specs.Prelude.{codes, ℕ, List, [], ◌∷◌, ◌++◌, ◌≤◌, map, Some, None}
+use Rattle.std.specs.Prelude.{codes, ℕ, List, [], ◌∷◌, ◌++◌, map, Some, None}
 use Rattle.dft_cells.specs.declared.kind.Kind.{Kind}
 use Rattle.dft_cells.specs.declared.kind.Kind.TheVariants.{Buf, Inv, And, Nand, Or, Nor, Xor, Xnor, Mux2, Tie0, Tie1, Dff, Dffr, Dffs, Sdff, Sdffr, Sdffs, Lockup, Opaque}
 use Rattle.dft_cells.specs.declared.kind.Role.{Role}
@@ -10,10 +10,6 @@ use Rattle.dft_cells.specs.declared.cell.Cell.{Cell}
 -- a pin with a name and a role
 abbrev pub pin : List ℕ → Role → Pin
 pin name role = record { name = name; role = role }
-
--- a byte that is printed and no blank
-abbrev pub IsLetter : ℕ → Type 0
-IsLetter letter = (33 ≤ letter) × (letter ≤ 126)
 
 -- an input pin whose name is one letter
 abbrev pub letter_pin : ℕ → Pin

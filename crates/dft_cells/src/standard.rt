@@ -1,229 +1,271 @@
-//! The standard cells, made one after the other.
+//! The standard cells, as a table.
 
-ghost use Rattle.std.specs.Prelude.{◌≡◌, [], ◌∷◌, ◌++◌, IfOk, OnOk, None, Some};
-ghost use Rattle.std.specs.List.{All};
-ghost use Rattle.dft_base.specs.Name.{IsName};
-ghost use Rattle.dft_cells.specs.Standard as spec;
+ghost use Rattle.std.specs.Prelude.{◌≡◌, IfOk, IsTrue, map};
+ghost use Rattle.std.specs.List.{list_all};
+ghost use Rattle.dft_toml.specs.Values.{is_name};
+ghost use Rattle.dft_cells.specs.Rows as spec;
+ghost use Rattle.dft_cells.specs.Standard.{pin, standard_cells};
 
 use crate::cell::{Cell, CellId, Pin, Pins};
 use crate::kind::{Kind, Role};
 use dft_base::Name;
 use std::alloc::{AllocError, Global};
 
-fn add(alloc: Global, pins: &mut Pins, name: &[u8], role: Role) -> Result<(), AllocError>
-    requires { IsName name.now }
-    ensures { OnOk result (pins.new ≡ pins.old ++ spec.pin name.now role ∷ []) }
-{
-    let name = Name::from_slice(alloc, name)?;
-    pins.push(Pin { name, role })
-}
-
-fn cell(
-    alloc: Global,
-    name: &[u8],
+/// A cell as the table has it, with its pins in order.
+struct Row {
+    name: &'static str,
     kind: Kind,
-    pins: Pins,
+    pins: &'static [(&'static str, Role)],
     scan: Option<CellId>,
-) -> Result<Cell, AllocError>
-    requires { IsName name.now }
-    ensures { IfOk result (λ cell. cell ≡ record { name = name.now; kind = kind; pins = pins; scan = scan }) }
-{
-    Ok(Cell {
-        name: Name::from_slice(alloc, name)?,
-        kind,
-        pins,
-        scan,
-    })
 }
 
-fn gate(alloc: Global, name: &[u8], kind: Kind, letters: &[u8]) -> Result<Cell, AllocError>
-    requires name { IsName name.now }
-    requires letters { All spec.IsLetter letters.now }
-    ensures { IfOk result (λ cell. cell ≡ spec.gate name.now kind letters.now) }
-{
-    let mut pins = Pins::new(alloc);
-    for letter in letters {
-        add(alloc, &mut pins, &[*letter], Role::Input)?;
-    }
-    add(alloc, &mut pins, b"Y", Role::Output)?;
-    cell(alloc, name, kind, pins, None)
-}
+// The pins that more than one cell has.
+const CLOCK: (&str, Role) = ("CK", Role::Clock);
 
-fn front_pins(alloc: Global, kind: Kind) -> Result<Pins, AllocError>
-    ensures { IfOk result (λ pins. pins ≡ spec.front_pins kind) }
+const DATA: (&str, Role) = ("D", Role::Din);
+
+const RESET: (&str, Role) = ("RN", Role::Reset);
+
+const SET: (&str, Role) = ("SN", Role::Preset);
+
+const SCAN_IN: (&str, Role) = ("SI", Role::ScanIn);
+
+const SCAN_ENABLE: (&str, Role) = ("SE", Role::ScanEnable);
+
+const Q: (&str, Role) = ("Q", Role::Output);
+
+const QN: (&str, Role) = ("QN", Role::Inverted);
+
+const A: (&str, Role) = ("A", Role::Input);
+
+const B: (&str, Role) = ("B", Role::Input);
+
+const C: (&str, Role) = ("C", Role::Input);
+
+const Y: (&str, Role) = ("Y", Role::Output);
+
+const ONE_INPUT: &[(&str, Role)] = &[A, Y];
+
+const TWO_INPUTS: &[(&str, Role)] = &[A, B, Y];
+
+const THREE_INPUTS: &[(&str, Role)] = &[A, B, C, Y];
+
+const FOUR_INPUTS: &[(&str, Role)] = &[A, B, C, ("D", Role::Input), Y];
+
+// All standard cells, in byte order of their names. The scan cells of the flip-flops are the cells 21, 22 and 23.
+static ROWS: [Row; 28] = [
+    Row {
+        name: "AND2",
+        kind: Kind::And,
+        pins: TWO_INPUTS,
+        scan: None,
+    },
+    Row {
+        name: "AND3",
+        kind: Kind::And,
+        pins: THREE_INPUTS,
+        scan: None,
+    },
+    Row {
+        name: "AND4",
+        kind: Kind::And,
+        pins: FOUR_INPUTS,
+        scan: None,
+    },
+    Row {
+        name: "BUF",
+        kind: Kind::Buf,
+        pins: ONE_INPUT,
+        scan: None,
+    },
+    Row {
+        name: "CKGATE",
+        kind: Kind::Opaque,
+        pins: &[
+            ("CK", Role::Input),
+            ("EN", Role::Input),
+            ("GCK", Role::Output),
+        ],
+        scan: None,
+    },
+    Row {
+        name: "DFF",
+        kind: Kind::Dff,
+        pins: &[CLOCK, DATA, Q, QN],
+        scan: Some(CellId(21)),
+    },
+    Row {
+        name: "DFFR",
+        kind: Kind::Dffr,
+        pins: &[CLOCK, DATA, RESET, Q, QN],
+        scan: Some(CellId(22)),
+    },
+    Row {
+        name: "DFFS",
+        kind: Kind::Dffs,
+        pins: &[CLOCK, DATA, SET, Q, QN],
+        scan: Some(CellId(23)),
+    },
+    Row {
+        name: "INV",
+        kind: Kind::Inv,
+        pins: ONE_INPUT,
+        scan: None,
+    },
+    Row {
+        name: "LATCH",
+        kind: Kind::Opaque,
+        pins: &[("G", Role::Input), ("D", Role::Input), Q],
+        scan: None,
+    },
+    Row {
+        name: "LOCKUP",
+        kind: Kind::Lockup,
+        pins: &[CLOCK, DATA, Q],
+        scan: None,
+    },
+    Row {
+        name: "MUX2",
+        kind: Kind::Mux2,
+        pins: &[A, B, ("S", Role::Input), Y],
+        scan: None,
+    },
+    Row {
+        name: "NAND2",
+        kind: Kind::Nand,
+        pins: TWO_INPUTS,
+        scan: None,
+    },
+    Row {
+        name: "NAND3",
+        kind: Kind::Nand,
+        pins: THREE_INPUTS,
+        scan: None,
+    },
+    Row {
+        name: "NAND4",
+        kind: Kind::Nand,
+        pins: FOUR_INPUTS,
+        scan: None,
+    },
+    Row {
+        name: "NOR2",
+        kind: Kind::Nor,
+        pins: TWO_INPUTS,
+        scan: None,
+    },
+    Row {
+        name: "NOR3",
+        kind: Kind::Nor,
+        pins: THREE_INPUTS,
+        scan: None,
+    },
+    Row {
+        name: "NOR4",
+        kind: Kind::Nor,
+        pins: FOUR_INPUTS,
+        scan: None,
+    },
+    Row {
+        name: "OR2",
+        kind: Kind::Or,
+        pins: TWO_INPUTS,
+        scan: None,
+    },
+    Row {
+        name: "OR3",
+        kind: Kind::Or,
+        pins: THREE_INPUTS,
+        scan: None,
+    },
+    Row {
+        name: "OR4",
+        kind: Kind::Or,
+        pins: FOUR_INPUTS,
+        scan: None,
+    },
+    Row {
+        name: "SDFF",
+        kind: Kind::Sdff,
+        pins: &[CLOCK, DATA, SCAN_IN, SCAN_ENABLE, Q, QN],
+        scan: None,
+    },
+    Row {
+        name: "SDFFR",
+        kind: Kind::Sdffr,
+        pins: &[CLOCK, DATA, RESET, SCAN_IN, SCAN_ENABLE, Q, QN],
+        scan: None,
+    },
+    Row {
+        name: "SDFFS",
+        kind: Kind::Sdffs,
+        pins: &[CLOCK, DATA, SET, SCAN_IN, SCAN_ENABLE, Q, QN],
+        scan: None,
+    },
+    Row {
+        name: "TIE0",
+        kind: Kind::Tie0,
+        pins: &[Y],
+        scan: None,
+    },
+    Row {
+        name: "TIE1",
+        kind: Kind::Tie1,
+        pins: &[Y],
+        scan: None,
+    },
+    Row {
+        name: "XNOR2",
+        kind: Kind::Xnor,
+        pins: TWO_INPUTS,
+        scan: None,
+    },
+    Row {
+        name: "XOR2",
+        kind: Kind::Xor,
+        pins: TWO_INPUTS,
+        scan: None,
+    },
+];
+
+fn pins_of(alloc: Global, entries: &[(&'static str, Role)]) -> Result<Pins, AllocError>
+    requires { IsTrue (list_all (λ p. is_name p.0.now) entries.now) }
+    ensures { IfOk result (λ pins. pins ≡ map (λ p. pin p.0.now p.1) entries.now) }
 {
     let mut pins = Pins::new(alloc);
-    add(alloc, &mut pins, b"CK", Role::Clock)?;
-    add(alloc, &mut pins, b"D", Role::Din)?;
-    match kind {
-        Kind::Dffr | Kind::Sdffr => add(alloc, &mut pins, b"RN", Role::Reset)?,
-        Kind::Dffs | Kind::Sdffs => add(alloc, &mut pins, b"SN", Role::Preset)?,
-        _ => {}
+    for (name, role) in entries {
+        let name = Name::from_slice(alloc, name.as_bytes())?;
+        pins.push(Pin { name, role: *role })?;
     }
     Ok(pins)
 }
 
-fn add_back_pins(alloc: Global, pins: &mut Pins) -> Result<(), AllocError>
-    ensures { OnOk result (pins.new ≡ pins.old ++ spec.back_pins) }
+fn cell_of(alloc: Global, row: &Row) -> Result<Cell, AllocError>
+    requires { IsTrue (spec.is_named row.now) }
+    ensures { IfOk result (λ cell. cell ≡ spec.cell_of row.now) }
 {
-    add(alloc, pins, b"Q", Role::Output)?;
-    add(alloc, pins, b"QN", Role::Inverted)
+    Ok(Cell {
+        name: Name::from_slice(alloc, row.name.as_bytes())?,
+        kind: row.kind,
+        pins: pins_of(alloc, row.pins)?,
+        scan: row.scan,
+    })
 }
 
-fn flip_flop(alloc: Global, name: &[u8], kind: Kind, scan: u16) -> Result<Cell, AllocError>
-    requires { IsName name.now }
-    ensures { IfOk result (λ cell. cell ≡ spec.flip_flop name.now kind scan) }
+fn cells_of(alloc: Global, rows: &[Row]) -> Result<Vec<Cell>, AllocError>
+    requires { IsTrue (list_all spec.is_named rows.now) }
+    ensures { IfOk result (λ cells. cells.items ≡ map spec.cell_of rows.now) }
 {
-    let mut pins = front_pins(alloc, kind)?;
-    add_back_pins(alloc, &mut pins)?;
-    cell(alloc, name, kind, pins, Some(CellId(scan)))
-}
-
-fn scan_flip_flop(alloc: Global, name: &[u8], kind: Kind) -> Result<Cell, AllocError>
-    requires { IsName name.now }
-    ensures { IfOk result (λ cell. cell ≡ spec.scan_flip_flop name.now kind) }
-{
-    let mut pins = front_pins(alloc, kind)?;
-    add(alloc, &mut pins, b"SI", Role::ScanIn)?;
-    add(alloc, &mut pins, b"SE", Role::ScanEnable)?;
-    add_back_pins(alloc, &mut pins)?;
-    cell(alloc, name, kind, pins, None)
-}
-
-fn clock_gate(alloc: Global) -> Result<Cell, AllocError>
-    ensures { IfOk result (λ cell. cell ≡ spec.clock_gate) }
-{
-    let mut pins = Pins::new(alloc);
-    add(alloc, &mut pins, b"CK", Role::Input)?;
-    add(alloc, &mut pins, b"EN", Role::Input)?;
-    add(alloc, &mut pins, b"GCK", Role::Output)?;
-    cell(alloc, b"CKGATE", Kind::Opaque, pins, None)
-}
-
-fn latch(alloc: Global) -> Result<Cell, AllocError>
-    ensures { IfOk result (λ cell. cell ≡ spec.latch) }
-{
-    let mut pins = Pins::new(alloc);
-    add(alloc, &mut pins, b"G", Role::Input)?;
-    add(alloc, &mut pins, b"D", Role::Input)?;
-    add(alloc, &mut pins, b"Q", Role::Output)?;
-    cell(alloc, b"LATCH", Kind::Opaque, pins, None)
-}
-
-fn lockup(alloc: Global) -> Result<Cell, AllocError>
-    ensures { IfOk result (λ cell. cell ≡ spec.lockup) }
-{
-    let mut pins = Pins::new(alloc);
-    add(alloc, &mut pins, b"CK", Role::Clock)?;
-    add(alloc, &mut pins, b"D", Role::Din)?;
-    add(alloc, &mut pins, b"Q", Role::Output)?;
-    cell(alloc, b"LOCKUP", Kind::Lockup, pins, None)
+    let mut cells = Vec::new(alloc);
+    for row in rows {
+        cells.push(cell_of(alloc, row)?)?;
+    }
+    Ok(cells)
 }
 
 /// All standard cells.
 pub fn cells(alloc: Global) -> Result<Vec<Cell>, AllocError>
-    ensures { IfOk result (λ cells. cells.items ≡ spec.standard_cells) }
+    ensures { IfOk result (λ cells. cells.items ≡ standard_cells) }
 {
-    let mut cells = Vec::new(alloc);
-    add_and_gates(alloc, &mut cells)?;
-    add_buffer_and_clock_gate(alloc, &mut cells)?;
-    add_flip_flops(alloc, &mut cells)?;
-    add_inverter_to_mux(alloc, &mut cells)?;
-    add_nand_gates(alloc, &mut cells)?;
-    add_nor_gates(alloc, &mut cells)?;
-    add_or_gates(alloc, &mut cells)?;
-    add_scan_flip_flops(alloc, &mut cells)?;
-    add_tie_to_xor(alloc, &mut cells)?;
-    Ok(cells)
-}
-
-/// Adds AND2 to AND4.
-fn add_and_gates(alloc: Global, cells: &mut Vec<Cell>) -> Result<(), AllocError>
-    ensures { OnOk result (cells.new.items ≡ cells.old.items ++ spec.and_gates) }
-{
-    cells.push(gate(alloc, b"AND2", Kind::And, b"AB")?)?;
-    cells.push(gate(alloc, b"AND3", Kind::And, b"ABC")?)?;
-    cells.push(gate(alloc, b"AND4", Kind::And, b"ABCD")?)?;
-    Ok(())
-}
-
-/// Adds NAND2 to NAND4.
-fn add_nand_gates(alloc: Global, cells: &mut Vec<Cell>) -> Result<(), AllocError>
-    ensures { OnOk result (cells.new.items ≡ cells.old.items ++ spec.nand_gates) }
-{
-    cells.push(gate(alloc, b"NAND2", Kind::Nand, b"AB")?)?;
-    cells.push(gate(alloc, b"NAND3", Kind::Nand, b"ABC")?)?;
-    cells.push(gate(alloc, b"NAND4", Kind::Nand, b"ABCD")?)?;
-    Ok(())
-}
-
-/// Adds NOR2 to NOR4.
-fn add_nor_gates(alloc: Global, cells: &mut Vec<Cell>) -> Result<(), AllocError>
-    ensures { OnOk result (cells.new.items ≡ cells.old.items ++ spec.nor_gates) }
-{
-    cells.push(gate(alloc, b"NOR2", Kind::Nor, b"AB")?)?;
-    cells.push(gate(alloc, b"NOR3", Kind::Nor, b"ABC")?)?;
-    cells.push(gate(alloc, b"NOR4", Kind::Nor, b"ABCD")?)?;
-    Ok(())
-}
-
-/// Adds OR2 to OR4.
-fn add_or_gates(alloc: Global, cells: &mut Vec<Cell>) -> Result<(), AllocError>
-    ensures { OnOk result (cells.new.items ≡ cells.old.items ++ spec.or_gates) }
-{
-    cells.push(gate(alloc, b"OR2", Kind::Or, b"AB")?)?;
-    cells.push(gate(alloc, b"OR3", Kind::Or, b"ABC")?)?;
-    cells.push(gate(alloc, b"OR4", Kind::Or, b"ABCD")?)?;
-    Ok(())
-}
-
-/// Adds BUF and CKGATE.
-fn add_buffer_and_clock_gate(alloc: Global, cells: &mut Vec<Cell>) -> Result<(), AllocError>
-    ensures { OnOk result (cells.new.items ≡ cells.old.items ++ spec.buffer_and_clock_gate) }
-{
-    cells.push(gate(alloc, b"BUF", Kind::Buf, b"A")?)?;
-    cells.push(clock_gate(alloc)?)?;
-    Ok(())
-}
-
-/// Adds DFF to DFFS.
-fn add_flip_flops(alloc: Global, cells: &mut Vec<Cell>) -> Result<(), AllocError>
-    ensures { OnOk result (cells.new.items ≡ cells.old.items ++ spec.flip_flops) }
-{
-    cells.push(flip_flop(alloc, b"DFF", Kind::Dff, 21)?)?;
-    cells.push(flip_flop(alloc, b"DFFR", Kind::Dffr, 22)?)?;
-    cells.push(flip_flop(alloc, b"DFFS", Kind::Dffs, 23)?)?;
-    Ok(())
-}
-
-/// Adds INV to MUX2.
-fn add_inverter_to_mux(alloc: Global, cells: &mut Vec<Cell>) -> Result<(), AllocError>
-    ensures { OnOk result (cells.new.items ≡ cells.old.items ++ spec.inverter_to_mux) }
-{
-    cells.push(gate(alloc, b"INV", Kind::Inv, b"A")?)?;
-    cells.push(latch(alloc)?)?;
-    cells.push(lockup(alloc)?)?;
-    cells.push(gate(alloc, b"MUX2", Kind::Mux2, b"ABS")?)?;
-    Ok(())
-}
-
-/// Adds SDFF to SDFFS.
-fn add_scan_flip_flops(alloc: Global, cells: &mut Vec<Cell>) -> Result<(), AllocError>
-    ensures { OnOk result (cells.new.items ≡ cells.old.items ++ spec.scan_flip_flops) }
-{
-    cells.push(scan_flip_flop(alloc, b"SDFF", Kind::Sdff)?)?;
-    cells.push(scan_flip_flop(alloc, b"SDFFR", Kind::Sdffr)?)?;
-    cells.push(scan_flip_flop(alloc, b"SDFFS", Kind::Sdffs)?)?;
-    Ok(())
-}
-
-/// Adds TIE0 to XOR2.
-fn add_tie_to_xor(alloc: Global, cells: &mut Vec<Cell>) -> Result<(), AllocError>
-    ensures { OnOk result (cells.new.items ≡ cells.old.items ++ spec.tie_to_xor) }
-{
-    cells.push(gate(alloc, b"TIE0", Kind::Tie0, b"")?)?;
-    cells.push(gate(alloc, b"TIE1", Kind::Tie1, b"")?)?;
-    cells.push(gate(alloc, b"XNOR2", Kind::Xnor, b"AB")?)?;
-    cells.push(gate(alloc, b"XOR2", Kind::Xor, b"AB")?)?;
-    Ok(())
+    cells_of(alloc, &ROWS)
 }

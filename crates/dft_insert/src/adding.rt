@@ -61,7 +61,7 @@ fn add_ports(alloc: Global, tally: &mut Tally<'_>, config: &Config) -> Result<()
 {
     let names = &config.names;
     let chains = usize::from(config.chains);
-    let enable = Name::from_slice(alloc, names.scan_enable.as_slice())?;
+    let enable = names.scan_enable.copy(alloc)?;
     tally.add(alloc, Counted::Ports, enable)?;
     add_numbered(
         alloc,

@@ -13,7 +13,7 @@ use crate::carrying::{carry_joins, carry_nets, carry_ports};
 use crate::cell_nets::CellNets;
 use crate::counting::count_open;
 use crate::gap::Gap;
-use crate::growing::{copy_of, memory};
+use crate::growing::memory;
 use crate::linking::{add_buffers, add_lockups};
 use crate::making::{add_scan_ports, make_nets};
 use crate::stitching::carry_instances;
@@ -36,7 +36,7 @@ pub(crate) fn with_nets(
     requires gap { gap.now ≡ (plain_layout design.now config.now chains.now).gap }
     ensures { IfOk result (λ builder. builder ≡ nets_alone design.now config.now chains.now) }
 {
-    let name = copy_of(alloc, design.module())?;
+    let name = design.module().copy(alloc)?;
     let library = design.library().copy(alloc)?;
     let made = count_open(design, chains) + chains.lockups().len();
     let mut builder = DesignBuilder::new(alloc, name, library);

@@ -9,7 +9,7 @@ ghost use Rattle.dft_insert.specs.Moves.{moved_join};
 ghost use Rattle.dft_insert.specs.Moves as spec;
 
 use crate::gap::Gap;
-use crate::growing::{add_net, add_port, copy_of};
+use crate::growing::{add_net, add_port};
 use dft_netlist::{Design, DesignBuilder, Join, NetId, PinSignals, Port, Signal};
 use std::alloc::{AllocError, Global};
 
@@ -23,7 +23,7 @@ pub(crate) fn carry_ports(
     ensures { OnOk result (builder.new ≡ with_things builder.old (port_things ports.now)) }
 {
     for port in ports {
-        add_port(builder, copy_of(alloc, &port.name)?, port.dir, port.range)?;
+        add_port(builder, port.name.copy(alloc)?, port.dir, port.range)?;
     }
     Ok(())
 }
@@ -40,7 +40,7 @@ pub(crate) fn carry_nets(
     ensures { OnOk result (builder.new ≡ with_things builder.old (net_things (drop first design.now.nets))) }
 {
     for net in first..design.net_count() {
-        add_net(builder, copy_of(alloc, design.net_name(NetId(net)))?)?;
+        add_net(builder, design.net_name(NetId(net)).copy(alloc)?)?;
     }
     Ok(())
 }

@@ -61,10 +61,3 @@ pub(crate) fn memory(error: NetlistError) -> AllocError
         _ => unreachable!(),
     }
 }
-
-/// The same name once more.
-pub(crate) fn copy_of(alloc: Global, name: &Name) -> Result<Name, AllocError>
-    ensures { IfOk result (λ copy. copy ≡ name.now) }
-{
-    Name::from_slice(alloc, name.as_slice())
-}

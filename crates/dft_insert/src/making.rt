@@ -7,7 +7,7 @@ ghost use Rattle.dft_insert.specs.Growing.{AllFit, net_things, port_things, with
 ghost use Rattle.dft_insert.specs.Written.{made_nets};
 ghost use Rattle.dft_insert.specs.declared.style.Style.TheVariants.{Plain};
 
-use crate::growing::{add_net, add_port, copy_of};
+use crate::growing::{add_net, add_port};
 use crate::made_names::{made_net, numbered};
 use dft_base::Name;
 use dft_config::Config;
@@ -26,7 +26,7 @@ pub(crate) fn add_scan_ports(
     let names = &config.names;
     add_port(
         builder,
-        copy_of(alloc, &names.scan_enable)?,
+        names.scan_enable.copy(alloc)?,
         Dir::Input,
         None,
     )?;

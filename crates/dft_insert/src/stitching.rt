@@ -16,7 +16,7 @@ ghost use Rattle.dft_insert.specs.Written as spec;
 use crate::carrying::moved_pins;
 use crate::cell_nets::CellNets;
 use crate::gap::Gap;
-use crate::growing::{add_instance, copy_of};
+use crate::growing::add_instance;
 use dft_base::Name;
 use dft_cells::{CellId, Library, Pin, Role};
 use dft_netlist::{CellRef, Design, DesignBuilder, Instance, NetId, PinSignals, Signal};
@@ -85,7 +85,7 @@ fn own_name(alloc: Global, name: &Option<Name>) -> Result<Option<Name>, AllocErr
     ensures { IfOk result (λ copy. copy ≡ name.now) }
 {
     match name {
-        Some(name) => Ok(Some(copy_of(alloc, name)?)),
+        Some(name) => Ok(Some(name.copy(alloc)?)),
         None => Ok(None),
     }
 }

@@ -84,7 +84,7 @@ pub(crate) fn nets_of(
         match net_of(design, &dirs, signal) {
             Some(net) => nets.push(net)?,
             None => {
-                let name = Name::from_slice(alloc, signal.name.as_slice())?;
+                let name = signal.name.copy(alloc)?;
                 return Err(ReplayError::P7 { name });
             }
         }

@@ -38,10 +38,10 @@ fn check_kind(alloc: Global, cells: &[Cell], instance: &Instance) -> Result<(), 
     };
     match kind_of(cells, instance.cell) {
         Kind::Sdff | Kind::Sdffr | Kind::Sdffs => Err(RuleError::ScanCellPresent {
-            instance: Name::from_slice(alloc, name.as_slice())?,
+            instance: name.copy(alloc)?,
         }),
         Kind::Lockup => Err(RuleError::LockupPresent {
-            instance: Name::from_slice(alloc, name.as_slice())?,
+            instance: name.copy(alloc)?,
         }),
         _ => Ok(()),
     }
@@ -55,7 +55,7 @@ pub(crate) fn check_ports(alloc: Global, ports: &[Port]) -> Result<(), RuleError
     for port in ports {
         if has_quote(port.name.as_slice()) {
             return Err(RuleError::PortName {
-                name: Name::from_slice(alloc, port.name.as_slice())?,
+                name: port.name.copy(alloc)?,
             });
         }
     }

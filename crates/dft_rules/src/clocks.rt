@@ -32,7 +32,7 @@ pub(crate) fn check_clocks(
     let used = data_nets(alloc, design)?;
     match first_clock(domains, roots, &used) {
         Some(net) => Err(RuleError::ClockAsData {
-            net: Name::from_slice(alloc, design.net_name(net).as_slice())?,
+            net: design.net_name(net).copy(alloc)?,
         }),
         None => Ok(()),
     }

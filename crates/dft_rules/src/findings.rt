@@ -94,7 +94,7 @@ fn unknown(alloc: Global, name: &Name) -> Result<RuleError, AllocError>
     ensures { IfOk result (λ error. error ≡ RuleError.UnknownName name.now) }
 {
     Ok(RuleError::UnknownName {
-        name: Name::from_slice(alloc, name.as_slice())?,
+        name: name.copy(alloc)?,
     })
 }
 

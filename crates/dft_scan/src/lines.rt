@@ -60,7 +60,7 @@ fn copied(alloc: Global, name: &Option<Name>) -> Result<Option<Name>, AllocError
     ensures { IfOk result (λ copy. copy ≡ name.now) }
 {
     match name {
-        Some(name) => Ok(Some(Name::from_slice(alloc, name.as_slice())?)),
+        Some(name) => Ok(Some(name.copy(alloc)?)),
         None => Ok(None),
     }
 }
@@ -84,7 +84,7 @@ fn name_at(alloc: Global, names: &[Name], place: u8) -> Result<Option<Name>, All
     ensures { IfOk result (λ name. name ≡ slice_get names.now place) }
 {
     match names.get(usize::from(place)) {
-        Some(name) => Ok(Some(Name::from_slice(alloc, name.as_slice())?)),
+        Some(name) => Ok(Some(name.copy(alloc)?)),
         None => Ok(None),
     }
 }

@@ -2,8 +2,8 @@
 use Rattle.std.proofs.Common.{◌≡◌, ◌≢◌, ℕ, ◌<◌, ◌+◌, Bool, true, false, ◌||◌, ◌==◌, List, [], ◌∷◌, length, drop, get_or, slice_set, get_or-set_same, get_or-set_other, refl, sym, ap, ◌∙◌, arith}
 use Rattle.std.proofs.lemmas.Bool.Decides.{nat_tests}
 use Rattle.std.proofs.lemmas.List.{drop_more}
-use Rattle.dft_stil.specs.Namings.{has}
-use Rattle.dft_stil.specs.Statements.{with_told}
+use Rattle.dft_stil_text.specs.Namings.{has}
+use Rattle.dft_stil_text.specs.Statements.{with_told}
 use Rattle.dft_stil.specs.VectorShown.{told_of}
 
 flag_at : (told : List Bool) (n k : ℕ) (t : Bool) → n < length told → (n == k) ≡ t → get_or (slice_set told n true) k false ≡ (t || get_or told k false)

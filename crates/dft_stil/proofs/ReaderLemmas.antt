@@ -11,16 +11,15 @@ use Rattle.dft_stil_tokens.specs.declared.text.Fault.{Fault}
 use Rattle.dft_patterns.specs.declared.steadiness.Unsteady.{Unsteady}
 use Rattle.dft_stil.specs.declared.error.StilError.{StilError}
 use Rattle.dft_stil.specs.declared.error.StilError.TheVariants as told
-use Rattle.dft_stil.specs.declared.reader.TheConstants.{MAX_VECTORS}
-use Rattle.dft_stil.specs.Laws.{StandsForOne}
+use Rattle.dft_stil_text.specs.declared.limits.TheConstants.{MAX_VECTORS}
 use Rattle.dft_stil_tokens.specs.declared.read_error.ReadError.{ReadError}
 use Rattle.dft_stil_tokens.specs.Reading.{ReadsText}
 use Rattle.dft_stil_tokens.specs.Lexemes.{Token, tokens}
 use Rattle.dft_patterns.specs.Patterns.{Patterns, IsVector, IsWellFormed}
-use Rattle.dft_stil.specs.PatternText.{pattern_text, patterns_of, tested, steady_or, StandsFor, At, Unsteadily, name_of_signal}
+use Rattle.dft_stil_text.specs.PatternText.{pattern_text, patterns_of, tested, steady_or, StandsFor, At, Unsteadily, name_of_signal}
 use Rattle.dft_stil.specs.Refusals.{IsFirstRefusal, IsRefused, IsFirstUnsteady, IsUnsteadyAs, told_at}
 use Rattle.dft_patterns.specs.Steadiness.{HaveLength, is_not_low, first_not_low, first_unsteady, first_unsteady_from, found_or, pulses}
-use Rattle.dft_stil.proofs.WellFormed.{fitting, well_formed}
+use Rattle.dft_stil_text.proofs.WellFormed.{fitting, well_formed}
 
 -- ---- places
 
@@ -108,10 +107,6 @@ stands text p e none = ap tested e ∙ ap (steady_or p) none
 
 pub formed : (text : Text) (p : Patterns) → value_of (pattern_text MAX_VECTORS (tokens text)) ≡ Ok p → first_unsteady p ≡ None → IsWellFormed p
 formed text p e none = well_formed MAX_VECTORS text p (stands text p e none) (omega arith)
-
--- a text stands for one set of patterns
-pub one_set : StandsForOne
-one_set text p q a b = let e : Ok p ≡ Ok q = sym a ∙ b in cc
 
 by_cause : (text : Text) (why : Cause) (at : Place) → IsFirstRefusal text (told_at why at) → IsRefused text (told_at why at)
 by_cause text cause.Token at h = h

@@ -4,14 +4,11 @@ pub use Rattle.dft_patterns.specs.Patterns
 pub use Rattle.dft_patterns.specs.Steadiness
 pub use Rattle.dft_stil_tokens.specs.Lexemes
 pub use Rattle.dft_stil_tokens.specs.Steps
-pub mod Laws
-pub mod Lengths
-pub mod Letters
-pub mod Written
-pub mod Namings
-pub mod Timings
-pub mod Statements
-pub mod PatternText
+pub use Rattle.dft_stil_text.specs.Namings
+pub use Rattle.dft_stil_text.specs.Timings
+pub use Rattle.dft_stil_text.specs.Statements
+pub use Rattle.dft_stil_text.specs.PatternText
+pub use Rattle.dft_stil_text.specs.Laws
 pub mod Refusals
 pub mod PatternShown
 pub mod VectorShown
@@ -21,4 +18,3 @@ pub mod TablesShown
 pub mod NamesShown
 pub mod KnownNamesShown
 pub mod MembersShown
-pub mod Writable

@@ -7,10 +7,10 @@ use Rattle.dft_stil_tokens.specs.declared.text.Cause.TheVariants as cause
 use Rattle.dft_patterns.specs.declared.steadiness.Unsteady.{Unsteady}
 use Rattle.dft_stil.specs.declared.error.StilError.{StilError}
 use Rattle.dft_stil.specs.declared.error.StilError.TheVariants as told
-use Rattle.dft_stil.specs.declared.reader.TheConstants.{MAX_VECTORS}
+use Rattle.dft_stil_text.specs.declared.limits.TheConstants.{MAX_VECTORS}
 use Rattle.dft_patterns.specs.Patterns.{Patterns}
 use Rattle.dft_patterns.specs.Steadiness.{first_unsteady}
-use Rattle.dft_stil.specs.PatternText.{Refusal, At, Unsteadily, patterns_of, name_of_signal}
+use Rattle.dft_stil_text.specs.PatternText.{Refusal, At, Unsteadily, patterns_of, name_of_signal}
 
 -- how a cause is told of this place
 abbrev pub told_at : Cause → Place → StilError

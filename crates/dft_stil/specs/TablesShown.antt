@@ -4,7 +4,7 @@ use Rattle.std.specs.Prelude.{ℕ, All, option_map}
 use Rattle.dft_stil.specs.ShapeTableShown.{IsWide}
 use Rattle.dft_stil.specs.declared.timings.Table.{Table}
 use Rattle.dft_stil.specs.declared.timings.Timing.{Timing}
-use Rattle.dft_stil.specs.Timings as spec
+use Rattle.dft_stil_text.specs.Timings as spec
 
 abbrev pub tables_of : Inside → spec.Tables
 tables_of t = record { names = t.names; shapes = t.shapes.items }

@@ -1,7 +1,7 @@
 -- A vector so far, as the definitions have it.
 use Rattle.std.specs.Prelude.{ℕ, List, Bool, false, get_or}
 use Rattle.dft_stil.specs.declared.vector.Vector.{Vector}
-use Rattle.dft_stil.specs.Statements as spec
+use Rattle.dft_stil_text.specs.Statements as spec
 
 -- whether a signal is flagged
 abbrev pub told_of : List Bool → ℕ → Bool

@@ -1,7 +1,7 @@
 //! The characters of a vector: what each signal does (IEEE 1450-1999 `V`).
 
 ghost use Rattle.std.specs.Prelude.{◌≡◌, ◌<◌, ◌-◌, length, option_map, OnOk, IfOk, IfSome};
-ghost use Rattle.dft_stil.specs.Statements as spec;
+ghost use Rattle.dft_stil_text.specs.Statements as spec;
 ghost use Rattle.dft_stil_tokens.specs.Steps.{left};
 ghost use Rattle.dft_stil.specs.MembersShown.{AreBelow};
 ghost use Rattle.dft_stil.specs.ShapeTableShown.{IsWide};
@@ -78,7 +78,7 @@ fn fill(
     Ok(())
 }
 
-#[tactic(auto, unfolding(crate::specs::Statements::characters_refusal))]
+#[tactic(auto, unfolding(dft_stil_text::specs::Statements::characters_refusal))]
 // That no characters come next.
 fn characters_refusal(tokens: &Tokens<'_>) -> ReadError
     ensures { Faults (spec.characters_refusal tokens.now) result }
@@ -90,7 +90,7 @@ fn characters_refusal(tokens: &Tokens<'_>) -> ReadError
     }
 }
 
-#[tactic(auto, unfolding(crate::specs::Statements::run_of_characters, crate::specs::Statements::sees_characters))]
+#[tactic(auto, unfolding(dft_stil_text::specs::Statements::run_of_characters, dft_stil_text::specs::Statements::sees_characters))]
 // One run of characters.
 fn run(
     shapes: Option<&ShapeTable>,
@@ -139,7 +139,7 @@ fn is_full(filling: &Filling<'_>) -> bool
     !filling.over && filling.ahead.is_empty()
 }
 
-#[tactic(auto, unfolding(crate::specs::Statements::characters))]
+#[tactic(auto, unfolding(dft_stil_text::specs::Statements::characters))]
 /// The characters of some signals, and the semicolon behind them, where their number is tested.
 pub fn characters(
     shapes: Option<&ShapeTable>,

@@ -1,12 +1,11 @@
-//! Reads and writes pattern texts (IEEE 1450-1999, in a subset of its forms).
+//! Reads pattern texts (IEEE 1450-1999, in a subset of its forms): the signals and vectors, or the first fault. The writer
+//! is `dft_stil_out`, whose calls are named here too.
 #![tactic(auto)]
 
 mod characters;
 mod error;
 mod known_names;
-mod laws;
 mod members;
-mod middle;
 mod names;
 mod namings;
 mod pattern_text;
@@ -16,16 +15,13 @@ mod statements;
 mod tables;
 mod timings;
 mod vector;
-mod write_error;
-mod writer;
 
 pub use dft_patterns::{
     Act, Acts, Drawing, Event, Note, NoteKind, PatternSet, StilSignal, Times, Unsteady,
     first_unsteady,
 };
+pub use dft_stil_out::{WriteError, one_form, write};
+pub use dft_stil_text::{MAX_VECTORS, one_reading, well_formed};
 pub use dft_stil_tokens::{Cause, Fault, MAX_TEXT, TokenKind};
 pub use error::StilError;
-pub use laws::{one_form, one_reading, well_formed};
-pub use reader::{MAX_VECTORS, read};
-pub use write_error::WriteError;
-pub use writer::write;
+pub use reader::read;

@@ -2,7 +2,7 @@
 
 ghost use Rattle.std.specs.Prelude.{◌≡◌, ◌<◌, ◌^◌, Some, length, option_map, OnOk, IfOk};
 ghost use Rattle.dft_base.specs.Name.{IsName};
-ghost use Rattle.dft_stil.specs.PatternText as spec;
+ghost use Rattle.dft_stil_text.specs.PatternText as spec;
 ghost use Rattle.dft_stil_tokens.specs.Steps.{left};
 ghost use Rattle.dft_stil.specs.TablesShown.{timing_as, AreWide};
 ghost use Rattle.dft_stil.specs.PatternShown.{pattern_as, burst_as};
@@ -16,7 +16,7 @@ use dft_patterns::{Acts, PatternSet};
 use dft_stil_tokens::{Cause, ReadError, TokenKind, Tokens, fault_at, unknown};
 use std::alloc::{AllocError, Global};
 
-#[tactic(auto, unfolding(crate::specs::PatternText::version))]
+#[tactic(auto, unfolding(dft_stil_text::specs::PatternText::version))]
 // The version of the standard.
 fn version<'a>(tokens: &mut Tokens<'a>) -> Result<&'a [u8], ReadError>
     ensures { ReadsText (λ w. w.now) (spec.version tokens.old) result tokens.new }
@@ -82,7 +82,7 @@ fn block_rest(tokens: &mut Tokens<'_>) -> Result<(), ReadError>
     Err(tokens.no_token())
 }
 
-#[tactic(auto, unfolding(crate::specs::PatternText::block))]
+#[tactic(auto, unfolding(dft_stil_text::specs::PatternText::block))]
 // Braces that balance.
 fn block(tokens: &mut Tokens<'_>) -> Result<(), ReadError>
     ensures { ReadsText (λ _. 0) (spec.block tokens.old) result tokens.new }
@@ -91,7 +91,7 @@ fn block(tokens: &mut Tokens<'_>) -> Result<(), ReadError>
     block_rest(tokens)
 }
 
-#[tactic(auto, unfolding(crate::specs::PatternText::header_if_any))]
+#[tactic(auto, unfolding(dft_stil_text::specs::PatternText::header_if_any))]
 // A block behind `Header`, if there is one.
 fn header_if_any(tokens: &mut Tokens<'_>) -> Result<bool, ReadError>
     ensures { ReadsText (λ b. b) (spec.header_if_any tokens.old) result tokens.new }
@@ -110,7 +110,7 @@ pub struct Burst<'a> {
     pub pattern: &'a [u8],
 }
 
-#[tactic(auto, unfolding(crate::specs::PatternText::burst))]
+#[tactic(auto, unfolding(dft_stil_text::specs::PatternText::burst))]
 // The burst.
 fn the_burst<'a>(tokens: &mut Tokens<'a>) -> Result<Burst<'a>, ReadError>
     ensures { ReadsText burst_as (spec.burst tokens.old) result tokens.new }
@@ -137,7 +137,7 @@ fn is_name(known: Option<&[u8]>, word: &[u8]) -> bool
     }
 }
 
-#[tactic(auto, unfolding(crate::specs::PatternText::known_name))]
+#[tactic(auto, unfolding(dft_stil_text::specs::PatternText::known_name))]
 // A name, which must be this one.
 fn known_name<'a>(
     alloc: Global,
@@ -155,7 +155,7 @@ fn known_name<'a>(
     }
 }
 
-#[tactic(auto, unfolding(crate::specs::PatternText::known_name_if_any))]
+#[tactic(auto, unfolding(dft_stil_text::specs::PatternText::known_name_if_any))]
 // A name, if one comes next, which must be this one.
 fn known_name_if_any(
     alloc: Global,
@@ -171,7 +171,7 @@ fn known_name_if_any(
     Ok(true)
 }
 
-#[tactic(auto, unfolding(crate::specs::PatternText::used_timing))]
+#[tactic(auto, unfolding(dft_stil_text::specs::PatternText::used_timing))]
 // The block of tables that is used, if it is named.
 fn used_timing(
     alloc: Global,
@@ -188,7 +188,7 @@ fn used_timing(
     Ok(true)
 }
 
-#[tactic(auto, unfolding(crate::specs::PatternText::executed))]
+#[tactic(auto, unfolding(dft_stil_text::specs::PatternText::executed))]
 // The burst that is executed, and the end of the block.
 fn executed(alloc: Global, burst: Burst<'_>, tokens: &mut Tokens<'_>) -> Result<bool, ReadError>
     ensures { ReadsText (λ b. b) (spec.executed (burst_as burst.entry) tokens.old) result tokens.new }
@@ -200,7 +200,7 @@ fn executed(alloc: Global, burst: Burst<'_>, tokens: &mut Tokens<'_>) -> Result<
     Ok(true)
 }
 
-#[tactic(auto, unfolding(crate::specs::PatternText::exec))]
+#[tactic(auto, unfolding(dft_stil_text::specs::PatternText::exec))]
 // What is executed.
 fn exec(
     alloc: Global,
@@ -228,7 +228,7 @@ fn no_vector(alloc: Global, count: usize) -> Result<Pattern, AllocError>
     })
 }
 
-#[tactic(auto, unfolding(crate::specs::PatternText::pattern))]
+#[tactic(auto, unfolding(dft_stil_text::specs::PatternText::pattern))]
 // The pattern of the burst.
 fn the_pattern(
     alloc: Global,
@@ -249,7 +249,7 @@ fn the_pattern(
     Ok(pattern)
 }
 
-#[tactic(auto, unfolding(crate::specs::PatternText::pattern_part))]
+#[tactic(auto, unfolding(dft_stil_text::specs::PatternText::pattern_part))]
 // The burst, what is executed and the pattern, and no token behind.
 fn pattern_part(
     alloc: Global,
@@ -268,7 +268,7 @@ fn pattern_part(
     Ok(PatternSet::new(alloc, names.into_signals(), pattern.vectors))
 }
 
-#[tactic(auto, unfolding(crate::specs::PatternText::pattern_text))]
+#[tactic(auto, unfolding(dft_stil_text::specs::PatternText::pattern_text))]
 /// The whole text, with so many vectors at most.
 pub fn pattern_text(
     alloc: Global,

@@ -5,8 +5,8 @@ ghost use Rattle.dft_base.specs.Lexing.{place_of as place_in};
 ghost use Rattle.dft_base.specs.Parser.{value_of};
 ghost use Rattle.dft_stil_tokens.specs.Lexemes.{tokens as tokens_of};
 ghost use Rattle.dft_patterns.specs.Patterns.{IsWellFormed};
-ghost use Rattle.dft_stil.specs.PatternText as spec;
-ghost use Rattle.dft_stil.specs.PatternText.{StandsFor};
+ghost use Rattle.dft_stil_text.specs.PatternText as spec;
+ghost use Rattle.dft_stil_text.specs.PatternText.{StandsFor};
 ghost use Rattle.dft_stil_tokens.specs.Reading.{Checks};
 ghost use Rattle.dft_stil.specs.Refusals.{IsRefused, IsUnsteadyAs, told_at as told_as};
 ghost use Rattle.dft_patterns.specs.Steadiness as steadiness;
@@ -16,11 +16,9 @@ use crate::error::StilError;
 use crate::pattern_text::pattern_text;
 use dft_base::{Name, Place, place_of};
 use dft_patterns::{PatternSet, Unsteady, first_unsteady};
+use dft_stil_text::MAX_VECTORS;
 use dft_stil_tokens::{Cause, Fault, MAX_TEXT, ReadError, Tokens};
 use std::alloc::Global;
-
-/// The most vectors that a pattern text may have.
-pub const MAX_VECTORS: usize = 4_194_304;
 
 // The patterns of a text, steady or not.
 fn patterns(alloc: Global, bytes: &[u8]) -> Result<PatternSet, ReadError>

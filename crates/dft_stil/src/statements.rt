@@ -1,7 +1,7 @@
 //! The statements of a pattern (IEEE 1450-1999 `Pattern`).
 
 ghost use Rattle.std.specs.Prelude.{◌≡◌, ℕ, false, length, option_map, OnOk, IfOk, IfSome};
-ghost use Rattle.dft_stil.specs.Statements as spec;
+ghost use Rattle.dft_stil_text.specs.Statements as spec;
 ghost use Rattle.dft_stil_tokens.specs.Steps.{left};
 ghost use Rattle.dft_stil.specs.TablesShown.{AreWide};
 ghost use Rattle.dft_stil.specs.PatternShown.{pattern_as};
@@ -69,7 +69,7 @@ fn assignments(
     Err(tokens.no_token())
 }
 
-#[tactic(auto, unfolding(crate::specs::Statements::vector))]
+#[tactic(auto, unfolding(dft_stil_text::specs::Statements::vector))]
 // `V` and its assignments. There may be so many vectors at most.
 fn vector(
     alloc: Global,
@@ -100,7 +100,7 @@ fn vector(
     Ok(())
 }
 
-#[tactic(auto, unfolding(crate::specs::Statements::table_used))]
+#[tactic(auto, unfolding(dft_stil_text::specs::Statements::table_used))]
 // The name of a table, and a semicolon.
 fn table_used(
     alloc: Global,
@@ -121,7 +121,7 @@ fn table_used(
     Ok(())
 }
 
-#[tactic(auto, unfolding(crate::specs::Statements::labelled))]
+#[tactic(auto, unfolding(dft_stil_text::specs::Statements::labelled))]
 // A label, and a vector.
 fn labelled(
     alloc: Global,
@@ -141,7 +141,7 @@ fn labelled(
     vector(alloc, names, tables, most, pattern, tokens)
 }
 
-#[tactic(auto, unfolding(crate::specs::Statements::statement))]
+#[tactic(auto, unfolding(dft_stil_text::specs::Statements::statement))]
 // A statement: `W` without quotes, `V` without quotes, or a label.
 fn statement(
     alloc: Global,

@@ -1,6 +1,6 @@
 ghost use Rattle.std.specs.Prelude.{◌≡◌, None, option_map, slice_get, OnOk};
-ghost use Rattle.dft_stil.specs.Namings.{number_of};
-ghost use Rattle.dft_stil.specs.Timings as spec;
+ghost use Rattle.dft_stil_text.specs.Namings.{number_of};
+ghost use Rattle.dft_stil_text.specs.Timings as spec;
 
 use crate::known_names::KnownNames;
 use crate::shape_table::ShapeTable;
@@ -15,7 +15,7 @@ pub struct Tables {
 }
 
 impl Model for Tables {
-    ghost use Rattle.dft_stil.specs.Timings as timings;
+    ghost use Rattle.dft_stil_text.specs.Timings as timings;
 
     ghost Value = { timings.Tables };
 

@@ -3,7 +3,7 @@
 ghost use Rattle.std.specs.Prelude.{◌≡◌, ◌<◌, ◌^◌, length, IfOk, OnOk, option_map};
 ghost use Rattle.dft_base.specs.Name.{IsName};
 ghost use Rattle.dft_patterns.specs.Drawings as drawn;
-ghost use Rattle.dft_stil.specs.Timings as spec;
+ghost use Rattle.dft_stil_text.specs.Timings as spec;
 ghost use Rattle.dft_stil_tokens.specs.Steps.{left, bytes};
 ghost use Rattle.dft_stil.specs.MembersShown.{AreBelow};
 ghost use Rattle.dft_stil.specs.ShapeTableShown.{IsWide};
@@ -28,7 +28,7 @@ pub struct Table {
     pub times: Times,
 }
 
-#[tactic(auto, unfolding(crate::specs::Timings::time))]
+#[tactic(auto, unfolding(dft_stil_text::specs::Timings::time))]
 // A time between single quotes, in picoseconds.
 fn time(tokens: &mut Tokens<'_>) -> Result<u64, ReadError>
     ensures { ReadsText (λ n. n) (spec.time tokens.old) result tokens.new }
@@ -49,7 +49,7 @@ fn begin_all(names: &Names, signals: &[usize], drawing: Drawing) -> bool
         .all(|signal| begins_shape(names.dir_of(*signal), drawing))
 }
 
-#[tactic(auto, unfolding(crate::specs::Timings::event_letter))]
+#[tactic(auto, unfolding(dft_stil_text::specs::Timings::event_letter))]
 // The letter of an event at a time.
 fn event_letter(
     alloc: Global,
@@ -72,7 +72,7 @@ fn event_letter(
     }
 }
 
-#[tactic(auto, unfolding(crate::specs::Timings::event))]
+#[tactic(auto, unfolding(dft_stil_text::specs::Timings::event))]
 // An event more.
 fn event(
     alloc: Global,
@@ -122,7 +122,7 @@ fn events(
     Err(tokens.no_token())
 }
 
-#[tactic(auto, unfolding(crate::specs::Timings::shape))]
+#[tactic(auto, unfolding(dft_stil_text::specs::Timings::shape))]
 // A shape of these signals: a character, which none of them may have so far, and its events.
 fn shape(
     alloc: Global,
@@ -172,7 +172,7 @@ fn shapes(
     Err(tokens.no_token())
 }
 
-#[tactic(auto, unfolding(crate::specs::Timings::wave))]
+#[tactic(auto, unfolding(dft_stil_text::specs::Timings::wave))]
 // The name of signals, and their shapes.
 fn wave(
     alloc: Global,
@@ -213,7 +213,7 @@ fn waves(
     Err(tokens.no_token())
 }
 
-#[tactic(auto, unfolding(crate::specs::Timings::table_body))]
+#[tactic(auto, unfolding(dft_stil_text::specs::Timings::table_body))]
 // What stands in a table. At its last brace its times must fit.
 fn table_body(
     alloc: Global,
@@ -243,7 +243,7 @@ fn table_body(
     }
 }
 
-#[tactic(auto, using(crate::proofs::TableLemmas::wide_tables), unfolding(crate::specs::Timings::table))]
+#[tactic(auto, using(crate::proofs::TableLemmas::wide_tables), unfolding(dft_stil_text::specs::Timings::table))]
 // A table, whose name no other may have so far.
 fn one_table(
     alloc: Global,
@@ -289,7 +289,7 @@ pub struct Timing<'a> {
     pub tables: Tables,
 }
 
-#[tactic(auto, unfolding(crate::specs::Timings::timing))]
+#[tactic(auto, unfolding(dft_stil_text::specs::Timings::timing))]
 /// The block of tables.
 pub fn timing_block<'a>(
     alloc: Global,

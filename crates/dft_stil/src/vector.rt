@@ -2,7 +2,7 @@
 
 ghost use Rattle.std.specs.Prelude.{◌≡◌, ◌<◌, length, option_map, IfOk, IfSome};
 ghost use Rattle.std.specs.List.{list_any};
-ghost use Rattle.dft_stil.specs.Statements as spec;
+ghost use Rattle.dft_stil_text.specs.Statements as spec;
 ghost use Rattle.dft_stil_tokens.specs.Steps.{left};
 ghost use Rattle.dft_stil.specs.MembersShown.{AreBelow, meant as meant_as};
 ghost use Rattle.dft_stil.specs.ShapeTableShown.{IsWide};
@@ -56,7 +56,7 @@ fn is_told(vector: &Vector, meant: Meant<'_>) -> bool
     meant.repeated || is_flagged(&vector.told, meant.signals)
 }
 
-#[tactic(auto, unfolding(crate::specs::Statements::assignment))]
+#[tactic(auto, unfolding(dft_stil_text::specs::Statements::assignment))]
 /// The name of signals, none of which the vector may mention so far, and their characters.
 pub fn assignment(
     alloc: Global,

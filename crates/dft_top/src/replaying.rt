@@ -88,6 +88,5 @@ fn signal_name(alloc: Global, signals: &[StilSignal], signal: u32) -> Result<Nam
     requires { signal < length signals.now }
     ensures { IfOk result (λ name. name ≡ spec.signal_name signals.now signal) }
 {
-    let signal = &signals[signal as usize];
-    Name::from_slice(alloc, signal.name.as_slice())
+    signals[signal as usize].name.copy(alloc)
 }

@@ -16,13 +16,6 @@ use dft_verilog_draft::{DraftInstance, HeaderPort, ModuleDraft};
 use dft_verilog_tokens::Word;
 use std::alloc::{AllocError, Global};
 
-/// The same name once more.
-fn name_of(alloc: Global, name: &Name) -> Result<Name, AllocError>
-    ensures { IfOk result (λ same. same ≡ name.now) }
-{
-    Name::from_slice(alloc, name.as_slice())
-}
-
 /// Adds a port of the header, if it was declared.
 fn add_port(
     alloc: Global,
@@ -35,7 +28,7 @@ fn add_port(
 {
     match port.declared() {
         Some(declared) => {
-            let name = name_of(alloc, port.name())?;
+            let name = port.name().copy(alloc)?;
             builder.port(name, declared.dir, declared.shape.range)?;
             Ok(())
         }
@@ -183,7 +176,7 @@ fn add_instances(
 fn built(alloc: Global, draft: &ModuleDraft<'_>) -> Result<DesignBuilder, NetlistError>
     ensures { Builds (spec.built draft.now) result }
 {
-    let name = name_of(alloc, draft.name())?;
+    let name = draft.name().copy(alloc)?;
     let library = draft.library().copy(alloc)?;
     let mut builder = DesignBuilder::new(alloc, name, library);
     let finals = add_all_nets(alloc, &mut builder, draft)?;

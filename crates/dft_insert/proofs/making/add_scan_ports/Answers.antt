@@ -15,7 +15,7 @@ add_numbered-requires c =
     let name : Text = c.args.config.now.names.scan_enable in
     let ins : List NewPort = numbered_ports Input c.args.config.now.names.scan_in c.args.config.now.chains in
     let outs : List NewPort = numbered_ports Output c.args.config.now.names.scan_out c.args.config.now.chains in
-    let left = after_first n c.add_port.new.builder Input name (ins ++ outs) c.requires (c.in_ok-add_port.ensures ∙ ap (λ (x : Text). with_thing n (APort (next_port n x Input None))) c.in_ok-copy_of.ensures) in
+    let left = after_first n c.add_port.new.builder Input name (ins ++ outs) c.requires (c.in_ok-add_port.ensures ∙ ap (λ (x : Text). with_thing n (APort (next_port n x Input None))) c.in_ok-copy.ensures) in
     (parts c.add_port.new.builder (length c.add_port.new.builder.nets) ins outs left.fit).first
 
 pub add_numbered-requires-2 : goal.add_numbered-requires-2
@@ -25,7 +25,7 @@ add_numbered-requires-2 c =
     let ins : List NewPort = numbered_ports Input c.args.config.now.names.scan_in c.args.config.now.chains in
     let outs : List NewPort = numbered_ports Output c.args.config.now.names.scan_out c.args.config.now.chains in
     let whole : Netlist = with_things n (APort (port_at Input name (length n.nets)) ∷ bit_ports (suc (length n.nets)) (ins ++ outs)) in
-    let left = after_first n c.add_port.new.builder Input name (ins ++ outs) c.requires (c.in_ok-add_port.ensures ∙ ap (λ (x : Text). with_thing n (APort (next_port n x Input None))) c.in_ok-copy_of.ensures) in
+    let left = after_first n c.add_port.new.builder Input name (ins ++ outs) c.requires (c.in_ok-add_port.ensures ∙ ap (λ (x : Text). with_thing n (APort (next_port n x Input None))) c.in_ok-copy.ensures) in
     (after_front whole c.add_port.new.builder c.add_numbered.new.builder ins outs left c.in_ok-add_numbered.ensures).fit
 
 pub returns : goal.returns
@@ -35,6 +35,6 @@ returns c =
     let ins : List NewPort = numbered_ports Input c.args.config.now.names.scan_in c.args.config.now.chains in
     let outs : List NewPort = numbered_ports Output c.args.config.now.names.scan_out c.args.config.now.chains in
     let whole : Netlist = with_things n (APort (port_at Input name (length n.nets)) ∷ bit_ports (suc (length n.nets)) (ins ++ outs)) in
-    let left = after_first n c.add_port.new.builder Input name (ins ++ outs) c.requires (c.in_ok-add_port.ensures ∙ ap (λ (x : Text). with_thing n (APort (next_port n x Input None))) c.in_ok-copy_of.ensures) in
+    let left = after_first n c.add_port.new.builder Input name (ins ++ outs) c.requires (c.in_ok-add_port.ensures ∙ ap (λ (x : Text). with_thing n (APort (next_port n x Input None))) c.in_ok-copy.ensures) in
     let rest = after_front whole c.add_port.new.builder c.add_numbered.new.builder ins outs left c.in_ok-add_numbered.ensures in
     subst (λ (w : Netlist). OnOk c.add_numbered-2.result (c.add_numbered-2.new.builder ≡ w)) (sym rest.all) c.add_numbered-2.ensures

@@ -1,5 +1,5 @@
 use Rattle.std.proofs.Common.{◌≡◌, ◌-◌, drop, length, option_map}
-use Rattle.dft_stil.specs.Statements as spec
+use Rattle.dft_stil_text.specs.Statements as spec
 use Rattle.dft_stil.specs.MembersShown.{AreBelow}
 use Rattle.dft_stil.specs.CharactersShown.{filling_as}
 use Rattle.dft_stil.proofs.characters.fill.Given as goal

@@ -1,8 +1,8 @@
 use Rattle.std.proofs.Common.{rules, arith}
 use Rattle.std.proofs.lemmas.Grind.{common_steps}
 use Rattle.dft_base.proofs.Turns.{one_more, no_more}
-use Rattle.dft_stil.specs.Namings.{group_blocks_from}
-use Rattle.dft_stil.specs.Namings as spec
+use Rattle.dft_stil_text.specs.Namings.{group_blocks_from}
+use Rattle.dft_stil_text.specs.Namings as spec
 use Rattle.dft_stil.proofs.namings.all_groups.Goals as goal
 
 pub returns-then-not-eat_groups : goal.returns-then-not-eat_groups

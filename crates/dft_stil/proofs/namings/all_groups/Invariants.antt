@@ -1,6 +1,6 @@
 use Rattle.std.proofs.Common.{◌≡◌, ◌-◌}
 use Rattle.dft_stil_tokens.specs.Steps.{left}
-use Rattle.dft_stil.specs.Namings as spec
+use Rattle.dft_stil_text.specs.Namings as spec
 use Rattle.dft_stil.proofs.namings.all_groups.Given as goal
 
 -- each turn reads one

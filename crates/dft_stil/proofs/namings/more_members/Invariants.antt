@@ -1,6 +1,6 @@
 use Rattle.std.proofs.Common.{◌≡◌, ◌-◌}
 use Rattle.dft_stil_tokens.specs.Steps.{left}
-use Rattle.dft_stil.specs.Namings as spec
+use Rattle.dft_stil_text.specs.Namings as spec
 use Rattle.std.proofs.Common.{length}
 use Rattle.dft_stil.specs.MembersShown.{Sees}
 use Rattle.dft_stil.proofs.namings.more_members.Given as goal

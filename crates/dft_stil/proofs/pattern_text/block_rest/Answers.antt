@@ -1,8 +1,8 @@
 use Rattle.std.proofs.Common.{rules, arith}
 use Rattle.std.proofs.lemmas.Grind.{common_steps}
 use Rattle.dft_base.proofs.Turns.{one_more, no_more}
-use Rattle.dft_stil.specs.PatternText.{block_from}
-use Rattle.dft_stil.specs.PatternText as spec
+use Rattle.dft_stil_text.specs.PatternText.{block_from}
+use Rattle.dft_stil_text.specs.PatternText as spec
 use Rattle.dft_stil.proofs.pattern_text.block_rest.Goals as goal
 
 pub returns-then-ends_block : goal.returns-then-ends_block

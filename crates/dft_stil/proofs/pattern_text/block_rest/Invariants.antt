@@ -1,6 +1,6 @@
 use Rattle.std.proofs.Common.{◌≡◌, ◌-◌}
 use Rattle.dft_stil_tokens.specs.Steps.{left}
-use Rattle.dft_stil.specs.PatternText as spec
+use Rattle.dft_stil_text.specs.PatternText as spec
 use Rattle.std.proofs.Common.{◌≤◌, ◌+◌}
 use Rattle.dft_stil.proofs.pattern_text.block_rest.Given as goal
 

@@ -3,7 +3,7 @@ use Rattle.std.proofs.Math.Facts.{to_z_pos}
 use Rattle.std.proofs.lemmas.List.{get_or-map}
 use Rattle.dft_stil.specs.declared.error.StilError.TheVariants as told
 use Rattle.dft_patterns.specs.declared.signal.StilSignal.{StilSignal}
-use Rattle.dft_stil.specs.PatternText.{name_of_signal}
+use Rattle.dft_stil_text.specs.PatternText.{name_of_signal}
 use Rattle.dft_stil.proofs.ReaderLemmas.{found_vector, found_signal}
 use Rattle.dft_stil.proofs.reader.unsteady.Goals as goal
 

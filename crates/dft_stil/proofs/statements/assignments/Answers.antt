@@ -1,8 +1,8 @@
 use Rattle.std.proofs.Common.{rules, arith}
 use Rattle.std.proofs.lemmas.Grind.{common_steps}
 use Rattle.dft_base.proofs.Turns.{one_more, no_more}
-use Rattle.dft_stil.specs.Statements.{assignments_from}
-use Rattle.dft_stil.specs.Statements as spec
+use Rattle.dft_stil_text.specs.Statements.{assignments_from}
+use Rattle.dft_stil_text.specs.Statements as spec
 use Rattle.std.proofs.Common.{option_map}
 use Rattle.dft_stil.specs.VectorShown.{vector_as}
 use Rattle.dft_stil.proofs.statements.assignments.Goals as goal

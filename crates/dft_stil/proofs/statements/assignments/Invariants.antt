@@ -1,6 +1,6 @@
 use Rattle.std.proofs.Common.{◌≡◌, ◌-◌}
 use Rattle.dft_stil_tokens.specs.Steps.{left}
-use Rattle.dft_stil.specs.Statements as spec
+use Rattle.dft_stil_text.specs.Statements as spec
 use Rattle.std.proofs.Common.{option_map, length}
 use Rattle.dft_stil.specs.VectorShown.{vector_as}
 use Rattle.dft_stil.proofs.statements.assignments.Given as goal

@@ -1,8 +1,8 @@
 use Rattle.std.proofs.Common.{rules, arith}
 use Rattle.std.proofs.lemmas.Grind.{common_steps}
 use Rattle.dft_base.proofs.Turns.{one_more, no_more}
-use Rattle.dft_stil.specs.Statements.{statements_from}
-use Rattle.dft_stil.specs.Statements as spec
+use Rattle.dft_stil_text.specs.Statements.{statements_from}
+use Rattle.dft_stil_text.specs.Statements as spec
 use Rattle.dft_stil.specs.PatternShown.{pattern_as}
 use Rattle.dft_stil.proofs.statements.statements.Goals as goal
 

@@ -1,6 +1,6 @@
 use Rattle.std.proofs.Common.{◌≡◌, ◌-◌}
 use Rattle.dft_stil_tokens.specs.Steps.{left}
-use Rattle.dft_stil.specs.Timings as spec
+use Rattle.dft_stil_text.specs.Timings as spec
 use Rattle.dft_patterns.specs.declared.shapes.Drawing.TheVariants as drawings
 use Rattle.dft_stil.proofs.timings.events.Given as goal
 

@@ -1,8 +1,8 @@
 use Rattle.std.proofs.Common.{rules, arith}
 use Rattle.std.proofs.lemmas.Grind.{common_steps}
 use Rattle.dft_base.proofs.Turns.{one_more, no_more}
-use Rattle.dft_stil.specs.Timings.{waves_from}
-use Rattle.dft_stil.specs.Timings as spec
+use Rattle.dft_stil_text.specs.Timings.{waves_from}
+use Rattle.dft_stil_text.specs.Timings as spec
 use Rattle.dft_stil.specs.TablesShown.{table_as}
 use Rattle.dft_stil.proofs.timings.waves.Goals as goal
 

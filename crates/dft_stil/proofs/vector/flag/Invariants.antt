@@ -1,5 +1,5 @@
 use Rattle.std.proofs.Common.{◌≡◌, drop, length}
-use Rattle.dft_stil.specs.Statements as spec
+use Rattle.dft_stil_text.specs.Statements as spec
 use Rattle.dft_stil.specs.VectorShown.{told_of}
 use Rattle.dft_stil.proofs.vector.flag.Given as goal
 

@@ -1,7 +1,7 @@
 use Rattle.std.proofs.Common.{ap, ◌∙◌, cond, ◌++◌, ◌∷◌, [], refl}
 use Rattle.std.proofs.lemmas.List.{map-append}
-use Rattle.dft_stil.specs.Namings.{number_of}
-use Rattle.dft_stil.proofs.KnownNameLemmas.{number_of-none}
+use Rattle.dft_stil_text.specs.Namings.{number_of}
+use Rattle.dft_stil_text.proofs.KnownNameLemmas.{number_of-none}
 use Rattle.dft_stil.proofs.known_names.KnownNames.add.Goals as goal
 
 pub returns-clause-ok : goal.returns-clause-ok

@@ -1,6 +1,6 @@
 use Rattle.std.proofs.Common.{ap, ◌∙◌}
-use Rattle.dft_stil.specs.Namings.{number_of}
-use Rattle.dft_stil.proofs.KnownNameLemmas.{number_of-map}
+use Rattle.dft_stil_text.specs.Namings.{number_of}
+use Rattle.dft_stil_text.proofs.KnownNameLemmas.{number_of-map}
 use Rattle.dft_stil.proofs.known_names.KnownNames.number.Goals as goal
 
 pub returns-clause-value : goal.returns-clause-value

@@ -1,5 +1,0 @@
-use Rattle.dft_stil.proofs.NoteLemmas.{noted_bare}
-use Rattle.dft_stil.proofs.laws.one_form.Goals as goal
-
-pub returns : goal.returns
-returns c = noted_bare

@@ -1,5 +1,0 @@
-use Rattle.dft_stil.proofs.WellFormed as proofs
-use Rattle.dft_stil.proofs.laws.well_formed.Goals as goal
-
-pub returns : goal.returns
-returns c = proofs.well_formed

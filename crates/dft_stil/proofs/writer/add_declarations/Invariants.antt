@@ -1,6 +1,0 @@
-use Rattle.std.proofs.Common.{◌≡◌, ◌++◌, flat_map, drop}
-use Rattle.dft_stil.specs.Written as form
-use Rattle.dft_stil.proofs.writer.add_declarations.Given as goal
-
-abbrev pub invariant-loop-signal : goal.invariant-loop-signal
-invariant-loop-signal l = l.out.items ++ flat_map form.declaration (drop l.signal-index l.signals) ≡ l.fn.out.items ++ flat_map form.declaration l.signals

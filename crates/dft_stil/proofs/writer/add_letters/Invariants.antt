@@ -1,6 +1,0 @@
-use Rattle.std.proofs.Common.{◌≡◌, ◌++◌, map, drop}
-use Rattle.dft_stil.specs.Letters as letters
-use Rattle.dft_stil.proofs.writer.add_letters.Given as goal
-
-abbrev pub invariant-loop-act : goal.invariant-loop-act
-invariant-loop-act l = l.out.items ++ map letters.letter (drop l.act-index l.acts) ≡ l.fn.out.items ++ map letters.letter l.acts

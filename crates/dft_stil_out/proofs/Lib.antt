@@ -1,0 +1,10 @@
+pub mod GroupLemmas
+pub mod NoteLemmas
+pub mod WrittenTokens
+pub mod WrittenSignals
+pub mod WrittenGroups
+pub mod WrittenTiming
+pub mod WrittenVectors
+pub mod WrittenLines
+pub mod WrittenStands
+pub mod WrittenExamples
