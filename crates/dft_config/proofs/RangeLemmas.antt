@@ -16,12 +16,16 @@ use Rattle.dft_config.specs.declared.config.RingConfig.{RingConfig}
 use Rattle.dft_config.specs.declared.config.CompactorConfig.{CompactorConfig}
 use Rattle.dft_config.specs.declared.config.PortNames.{PortNames}
 use Rattle.dft_config.specs.declared.config.Config.{Config}
+use Rattle.dft_config.specs.declared.reading.Steering.{Steering}
+use Rattle.dft_config.specs.declared.reading.Carrying.{Carrying}
+use Rattle.dft_config.specs.declared.reading.Clocking.{Clocking}
+use Rattle.dft_config.specs.declared.reading.Loading.{Loading}
 use Rattle.dft_config.specs.Faults.{unless}
 use Rattle.dft_config.specs.Range.{IsInRange, IsSet, IsSeedInRange, has, all_differ, same_number, names_of}
 use Rattle.dft_config.specs.Settings.{number, numbers, taps, injectors, phase, groups, domains, resets, keep, fill, port_name}
 use Rattle.dft_config.specs.Unknown.{first_unknown}
 use Rattle.dft_config.specs.Checks.{Test, first_failing, are_apart, each_differs, have_items, repetition_tests, emptiness_tests, first_repeated, first_empty, is_reached, first_not, first_unreached}
-use Rattle.dft_config.specs.Reading.{ring_of, compactor_of, names_of_ports, keys_of, checked, reading}
+use Rattle.dft_config.specs.Reading.{ring_of, compactor_of, steering_of, carrying_of, names_of_ports, clocking_of, loading_of, keys_of, checked, reading}
 use Rattle.dft_config.proofs.BoundLemmas.{ok_after, ok_any, number_ok, numbers_ok, IsTapBelow, taps_ok, IsInjectorBelow, injectors_ok, AreBelow, phase_ok, AreGroups, groups_ok, domains_ok, resets_ok, fill_ok, IsFree, port_ok}
 use Rattle.dft_config.proofs.DistinctLemmas.{not_true}
 
@@ -36,6 +40,17 @@ pub record IsRingBounded (chains : ℕ) (ring : RingConfig) : Type 0 where
 pub record IsCompactorBounded (chains : ℕ) (compactor : CompactorConfig) : Type 0 where
   pub groups : AreGroups chains compactor.groups
   pub mask_inputs : (1 ≤ compactor.mask_inputs) × (compactor.mask_inputs ≤ min chains 32)
+
+pub record IsClockingBounded (clocking : Clocking) : Type 0 where
+  pub domains : (1 ≤ length clocking.domains) × (length clocking.domains ≤ 16)
+  pub resets : (0 ≤ length clocking.resets) × (length clocking.resets ≤ 16)
+
+pub record IsLoadingBounded (loading : Loading) : Type 0 where
+  pub chains : (1 ≤ loading.chains) × (loading.chains ≤ 1024)
+  pub warm : (0 ≤ loading.warm) × (loading.warm ≤ 4095)
+  pub window : (1 ≤ loading.window) × (loading.window ≤ 16)
+  pub seed : IsSeedInRange loading.fill
+  pub always_masked : All (λ n. n < loading.chains) loading.always_masked
 
 pub record IsBounded (config : Config) : Type 0 where
   pub domains : (1 ≤ length config.domains) × (length config.domains ≤ 16)
@@ -69,37 +84,79 @@ compactor_ok chains table =
 abbrev AreFree : PortNames → Type 0
 AreFree names = All IsFree (names_of names)
 
+-- the names that steer a load, and those that carry bits, are free
+record AreSteering (names : Steering) : Type 0 where
+  scan_enable : IsFree names.scan_enable
+  edt_clock : IsFree names.edt_clock
+  edt_update : IsFree names.edt_update
+
+record AreCarrying (names : Carrying) : Type 0 where
+  channel : IsFree names.channel
+  mask : IsFree names.mask
+  output : IsFree names.output
+  scan_in : IsFree names.scan_in
+  scan_out : IsFree names.scan_out
+
+steering_ok : (table : Option Members) → IfOk (steering_of table) AreSteering
+unfolding steering_of
+steering_ok table =
+    ok_after (port_name port.ScanEnable table) _ IsFree AreSteering (port_ok port.ScanEnable table) (λ a pa.
+    ok_after (port_name port.EdtClock table) _ IsFree AreSteering (port_ok port.EdtClock table) (λ b pb.
+    ok_after (port_name port.EdtUpdate table) _ IsFree AreSteering (port_ok port.EdtUpdate table) (λ c pc.
+    record { scan_enable = pa; edt_clock = pb; edt_update = pc })))
+
+carrying_ok : (table : Option Members) → IfOk (carrying_of table) AreCarrying
+unfolding carrying_of
+carrying_ok table =
+    ok_after (port_name port.Channel table) _ IsFree AreCarrying (port_ok port.Channel table) (λ d pd.
+    ok_after (port_name port.Mask table) _ IsFree AreCarrying (port_ok port.Mask table) (λ e pe.
+    ok_after (port_name port.Output table) _ IsFree AreCarrying (port_ok port.Output table) (λ f pf.
+    ok_after (port_name port.ScanIn table) _ IsFree AreCarrying (port_ok port.ScanIn table) (λ g pg.
+    ok_after (port_name port.ScanOut table) _ IsFree AreCarrying (port_ok port.ScanOut table) (λ h ph.
+    record { channel = pd; mask = pe; output = pf; scan_in = pg; scan_out = ph })))))
+
 ports_ok : (table : Option Members) → IfOk (names_of_ports table) AreFree
 unfolding names_of_ports
 ports_ok table =
-    ok_after (port_name port.ScanEnable table) _ IsFree AreFree (port_ok port.ScanEnable table) (λ a pa.
-    ok_after (port_name port.EdtClock table) _ IsFree AreFree (port_ok port.EdtClock table) (λ b pb.
-    ok_after (port_name port.EdtUpdate table) _ IsFree AreFree (port_ok port.EdtUpdate table) (λ c pc.
-    ok_after (port_name port.Channel table) _ IsFree AreFree (port_ok port.Channel table) (λ d pd.
-    ok_after (port_name port.Mask table) _ IsFree AreFree (port_ok port.Mask table) (λ e pe.
-    ok_after (port_name port.Output table) _ IsFree AreFree (port_ok port.Output table) (λ f pf.
-    ok_after (port_name port.ScanIn table) _ IsFree AreFree (port_ok port.ScanIn table) (λ g pg.
-    ok_after (port_name port.ScanOut table) _ IsFree AreFree (port_ok port.ScanOut table) (λ h ph.
-    All-cons IsFree a (b ∷ c ∷ d ∷ e ∷ f ∷ g ∷ h ∷ []) pa (All-cons IsFree b (c ∷ d ∷ e ∷ f ∷ g ∷ h ∷ []) pb (All-cons IsFree c (d ∷ e ∷ f ∷ g ∷ h ∷ []) pc
-    (All-cons IsFree d (e ∷ f ∷ g ∷ h ∷ []) pd (All-cons IsFree e (f ∷ g ∷ h ∷ []) pe (All-cons IsFree f (g ∷ h ∷ []) pf (All-cons IsFree g (h ∷ []) pg
-    (All-cons IsFree h [] ph (All-nil IsFree))))))))))))))))
+    ok_after (steering_of table) _ AreSteering AreFree (steering_ok table) (λ s x.
+    ok_after (carrying_of table) _ AreCarrying AreFree (carrying_ok table) (λ k y.
+    All-cons IsFree s.scan_enable (s.edt_clock ∷ s.edt_update ∷ k.channel ∷ k.mask ∷ k.output ∷ k.scan_in ∷ k.scan_out ∷ []) x.scan_enable
+    (All-cons IsFree s.edt_clock (s.edt_update ∷ k.channel ∷ k.mask ∷ k.output ∷ k.scan_in ∷ k.scan_out ∷ []) x.edt_clock
+    (All-cons IsFree s.edt_update (k.channel ∷ k.mask ∷ k.output ∷ k.scan_in ∷ k.scan_out ∷ []) x.edt_update
+    (All-cons IsFree k.channel (k.mask ∷ k.output ∷ k.scan_in ∷ k.scan_out ∷ []) y.channel
+    (All-cons IsFree k.mask (k.output ∷ k.scan_in ∷ k.scan_out ∷ []) y.mask
+    (All-cons IsFree k.output (k.scan_in ∷ k.scan_out ∷ []) y.output
+    (All-cons IsFree k.scan_in (k.scan_out ∷ []) y.scan_in
+    (All-cons IsFree k.scan_out [] y.scan_out (All-nil IsFree))))))))))
+
+clocking_ok : (table : Members) → IfOk (clocking_of table) IsClockingBounded
+unfolding clocking_of
+clocking_ok table =
+    ok_after (number key.Version 1 1 (get_member (codes "version") table)) _ (λ _. Unit {0}) IsClockingBounded (ok_any (number key.Version 1 1 (get_member (codes "version") table))) (λ version v.
+    ok_after (domains (get_member (codes "domains") table)) _ (λ names. (1 ≤ length names) × (length names ≤ 16)) IsClockingBounded (domains_ok (get_member (codes "domains") table)) (λ clocks d.
+    ok_after (resets (get_member (codes "resets") table)) _ (λ names. (0 ≤ length names) × (length names ≤ 16)) IsClockingBounded (resets_ok (get_member (codes "resets") table)) (λ reset_ports r.
+    ok_after (keep (get_member (codes "keep") table)) _ (λ _. Unit {0}) IsClockingBounded (ok_any (keep (get_member (codes "keep") table))) (λ kept k.
+    record { domains = d; resets = r }))))
+
+loading_ok : (table : Members) → IfOk (loading_of table) IsLoadingBounded
+unfolding loading_of
+loading_ok table =
+    ok_after (number key.Chains 1 1024 (get_member (codes "chains") table)) _ (λ n. (1 ≤ n) × (n ≤ 1024)) IsLoadingBounded (number_ok key.Chains 1 1024 (get_member (codes "chains") table)) (λ chains c.
+    ok_after (number key.Warm 0 4095 (get_member (codes "warm") table)) _ (λ n. (0 ≤ n) × (n ≤ 4095)) IsLoadingBounded (number_ok key.Warm 0 4095 (get_member (codes "warm") table)) (λ warm w.
+    ok_after (number key.Window 1 16 (get_member (codes "window") table)) _ (λ n. (1 ≤ n) × (n ≤ 16)) IsLoadingBounded (number_ok key.Window 1 16 (get_member (codes "window") table)) (λ window n.
+    ok_after (fill (get_member (codes "fill") table) (get_member (codes "seed") table)) _ IsSeedInRange IsLoadingBounded (fill_ok (get_member (codes "fill") table) (get_member (codes "seed") table)) (λ rule f.
+    ok_after (numbers key.AlwaysMasked chains (get_member (codes "always_masked") table)) _ (All (λ m. m < chains)) IsLoadingBounded (numbers_ok key.AlwaysMasked chains (get_member (codes "always_masked") table)) (λ masked m.
+    record { chains = c; warm = w; window = n; seed = f; always_masked = m })))))
 
 keys_ok : (table : Members) → IfOk (keys_of table) IsBounded
 unfolding keys_of
 keys_ok table =
-    ok_after (number key.Version 1 1 (get_member (codes "version") table)) _ (λ _. Unit {0}) IsBounded (ok_any (number key.Version 1 1 (get_member (codes "version") table))) (λ version v.
-    ok_after (domains (get_member (codes "domains") table)) _ (λ names. (1 ≤ length names) × (length names ≤ 16)) IsBounded (domains_ok (get_member (codes "domains") table)) (λ clocks d.
-    ok_after (resets (get_member (codes "resets") table)) _ (λ names. (0 ≤ length names) × (length names ≤ 16)) IsBounded (resets_ok (get_member (codes "resets") table)) (λ reset_ports r.
-    ok_after (keep (get_member (codes "keep") table)) _ (λ _. Unit {0}) IsBounded (ok_any (keep (get_member (codes "keep") table))) (λ kept k.
-    ok_after (number key.Chains 1 1024 (get_member (codes "chains") table)) _ (λ n. (1 ≤ n) × (n ≤ 1024)) IsBounded (number_ok key.Chains 1 1024 (get_member (codes "chains") table)) (λ chains c.
-    ok_after (number key.Warm 0 4095 (get_member (codes "warm") table)) _ (λ n. (0 ≤ n) × (n ≤ 4095)) IsBounded (number_ok key.Warm 0 4095 (get_member (codes "warm") table)) (λ warm w.
-    ok_after (number key.Window 1 16 (get_member (codes "window") table)) _ (λ n. (1 ≤ n) × (n ≤ 16)) IsBounded (number_ok key.Window 1 16 (get_member (codes "window") table)) (λ window n.
-    ok_after (fill (get_member (codes "fill") table) (get_member (codes "seed") table)) _ IsSeedInRange IsBounded (fill_ok (get_member (codes "fill") table) (get_member (codes "seed") table)) (λ rule f.
-    ok_after (numbers key.AlwaysMasked chains (get_member (codes "always_masked") table)) _ (All (λ m. m < chains)) IsBounded (numbers_ok key.AlwaysMasked chains (get_member (codes "always_masked") table)) (λ masked m.
-    ok_after (ring_of chains (table_at (codes "ring") table)) _ (IsRingBounded chains) IsBounded (ring_ok chains (table_at (codes "ring") table)) (λ ring g.
-    ok_after (compactor_of chains (table_at (codes "compactor") table)) _ (IsCompactorBounded chains) IsBounded (compactor_ok chains (table_at (codes "compactor") table)) (λ compactor p.
+    ok_after (clocking_of table) _ IsClockingBounded IsBounded (clocking_ok table) (λ clocking b.
+    ok_after (loading_of table) _ IsLoadingBounded IsBounded (loading_ok table) (λ loading l.
+    ok_after (ring_of loading.chains (table_at (codes "ring") table)) _ (IsRingBounded loading.chains) IsBounded (ring_ok loading.chains (table_at (codes "ring") table)) (λ ring g.
+    ok_after (compactor_of loading.chains (table_at (codes "compactor") table)) _ (IsCompactorBounded loading.chains) IsBounded (compactor_ok loading.chains (table_at (codes "compactor") table)) (λ compactor p.
     ok_after (names_of_ports (table_at (codes "names") table)) _ AreFree IsBounded (ports_ok (table_at (codes "names") table)) (λ names a.
-    record { domains = d; resets = r; chains = c; warm = w; window = n; seed = f; always_masked = m; ring = g; compactor = p; names = a }))))))))))))
+    record { domains = b.domains; resets = b.resets; chains = l.chains; warm = l.warm; window = l.window; seed = l.seed; always_masked = l.always_masked; ring = g; compactor = p; names = a })))))
 
 -- no test fails
 abbrev AllPassed : List Test → Type 0

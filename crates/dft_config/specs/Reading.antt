@@ -10,6 +10,10 @@ use Rattle.dft_config.specs.declared.config.RingConfig.{RingConfig}
 use Rattle.dft_config.specs.declared.config.CompactorConfig.{CompactorConfig}
 use Rattle.dft_config.specs.declared.config.PortNames.{PortNames}
 use Rattle.dft_config.specs.declared.config.Config.{Config}
+use Rattle.dft_config.specs.declared.reading.Steering.{Steering}
+use Rattle.dft_config.specs.declared.reading.Carrying.{Carrying}
+use Rattle.dft_config.specs.declared.reading.Clocking.{Clocking}
+use Rattle.dft_config.specs.declared.reading.Loading.{Loading}
 use Rattle.dft_config.specs.Faults.{after, unless}
 use Rattle.dft_config.specs.Settings.{number, numbers, taps, injectors, phase, groups, domains, resets, keep, fill, port_name}
 use Rattle.dft_config.specs.Unknown.{first_unknown}
@@ -32,47 +36,80 @@ compactor_of chains table =
     after (number key.MaskInputs 1 (min chains 32) (value_in (codes "mask_inputs") table)) (λ mask_inputs.
     Ok (record { groups = groups; mask_inputs = mask_inputs })))
 
--- the names of ports, each with its default
-unfoldable pub names_of_ports : Option Members → Result PortNames Fault
-names_of_ports table =
+-- the names of the ports that steer a load, each with its default
+unfoldable pub steering_of : Option Members → Result Steering Fault
+steering_of table =
     after (port_name port.ScanEnable table) (λ scan_enable.
     after (port_name port.EdtClock table) (λ edt_clock.
     after (port_name port.EdtUpdate table) (λ edt_update.
+    Ok (record { scan_enable = scan_enable; edt_clock = edt_clock; edt_update = edt_update }))))
+
+-- the names of the ports that carry bits, each with its default
+unfoldable pub carrying_of : Option Members → Result Carrying Fault
+carrying_of table =
     after (port_name port.Channel table) (λ channel.
     after (port_name port.Mask table) (λ mask.
     after (port_name port.Output table) (λ output.
     after (port_name port.ScanIn table) (λ scan_in.
     after (port_name port.ScanOut table) (λ scan_out.
-    Ok (record { scan_enable = scan_enable; edt_clock = edt_clock; edt_update = edt_update; channel = channel; mask = mask; output = output; scan_in = scan_in; scan_out = scan_out })))))))))
+    Ok (record { channel = channel; mask = mask; output = output; scan_in = scan_in; scan_out = scan_out }))))))
 
--- the configuration whose keys a table has: the keys are read in this order, and the version is 1
-unfoldable pub keys_of : Members → Result Config Fault
-keys_of table =
+-- the names of ports, in this order
+unfoldable pub names_of_ports : Option Members → Result PortNames Fault
+names_of_ports table =
+    after (steering_of table) (λ steering.
+    after (carrying_of table) (λ carrying.
+    Ok (record {
+      scan_enable = steering.scan_enable;
+      edt_clock = steering.edt_clock;
+      edt_update = steering.edt_update;
+      channel = carrying.channel;
+      mask = carrying.mask;
+      output = carrying.output;
+      scan_in = carrying.scan_in;
+      scan_out = carrying.scan_out;
+    })))
+
+-- the domains, the resets and the kept cells, in this order behind the version, which is 1
+unfoldable pub clocking_of : Members → Result Clocking Fault
+clocking_of table =
     after (number key.Version 1 1 (get_member (codes "version") table)) (λ version.
     after (domains (get_member (codes "domains") table)) (λ domains.
     after (resets (get_member (codes "resets") table)) (λ resets.
     after (keep (get_member (codes "keep") table)) (λ keep.
+    Ok (record { domains = domains; resets = resets; keep = keep })))))
+
+-- the chains, the loads, and the chains that are always masked, in this order
+unfoldable pub loading_of : Members → Result Loading Fault
+loading_of table =
     after (number key.Chains 1 1024 (get_member (codes "chains") table)) (λ chains.
     after (number key.Warm 0 4095 (get_member (codes "warm") table)) (λ warm.
     after (number key.Window 1 16 (get_member (codes "window") table)) (λ window.
     after (fill (get_member (codes "fill") table) (get_member (codes "seed") table)) (λ fill.
     after (numbers key.AlwaysMasked chains (get_member (codes "always_masked") table)) (λ always_masked.
-    after (ring_of chains (table_at (codes "ring") table)) (λ ring.
-    after (compactor_of chains (table_at (codes "compactor") table)) (λ compactor.
+    Ok (record { chains = chains; warm = warm; window = window; fill = fill; always_masked = always_masked }))))))
+
+-- the configuration whose keys a table has: the keys are read in this order
+unfoldable pub keys_of : Members → Result Config Fault
+keys_of table =
+    after (clocking_of table) (λ clocking.
+    after (loading_of table) (λ loading.
+    after (ring_of loading.chains (table_at (codes "ring") table)) (λ ring.
+    after (compactor_of loading.chains (table_at (codes "compactor") table)) (λ compactor.
     after (names_of_ports (table_at (codes "names") table)) (λ names.
     Ok (record {
-      domains = domains;
-      resets = resets;
-      keep = keep;
-      chains = chains;
-      warm = warm;
-      window = window;
-      fill = fill;
-      always_masked = always_masked;
+      domains = clocking.domains;
+      resets = clocking.resets;
+      keep = clocking.keep;
+      chains = loading.chains;
+      warm = loading.warm;
+      window = loading.window;
+      fill = loading.fill;
+      always_masked = loading.always_masked;
       ring = ring;
       compactor = compactor;
       names = names;
-    })))))))))))))
+    }))))))
 
 -- a configuration whose keys were read, or its first fault: no key is unknown, nothing stands twice, no list in a list is empty, and
 -- each chain stands in a group

@@ -6,14 +6,15 @@ ghost use Rattle.dft_config.specs.Faults.{IsFault};
 ghost use Rattle.dft_config.specs.Reading as spec;
 
 use crate::checks::{first_empty, first_repeated, first_unreached};
-use crate::config::{CompactorConfig, Config, PortNames, RingConfig};
+use crate::config::{CompactorConfig, Config, FillRule, PortNames, RingConfig};
 use crate::fault::{Fault, Key};
 use crate::port::Port;
 use crate::unknown::first_unknown;
 use crate::values::{
     domains, fill, groups, injectors, keep, number, numbers, phase, port_name, resets, taps,
 };
-use dft_toml::{table_at, value_at, value_in};
+use dft_base::{Listed, Name};
+use dft_toml::{Names, table_at, value_at, value_in};
 use std::alloc::Global;
 use toml::Table;
 
@@ -52,21 +53,123 @@ fn compactor_of(alloc: Global, chains: u16, table: Option<&Table>) -> Result<Com
     })
 }
 
+/// The names of the ports that steer a load.
+#[derive(Drop)]
+struct Steering {
+    scan_enable: Name,
+    edt_clock: Name,
+    edt_update: Name,
+}
+
+/// The names of the ports that carry bits.
+#[derive(Drop)]
+struct Carrying {
+    channel: Name,
+    mask: Name,
+    output: Name,
+    scan_in: Name,
+    scan_out: Name,
+}
+
+#[tactic(auto, unfolding(crate::specs::Reading::steering_of))]
+fn steering_of(alloc: Global, table: Option<&Table>) -> Result<Steering, Fault>
+    ensures ok { IfOk result (λ names. spec.steering_of (option_map (λ t. table_view t.now) table.entry) ≡ Ok names) }
+    ensures refused { IfErr result (λ e. IsFault e → spec.steering_of (option_map (λ t. table_view t.now) table.entry) ≡ Err e) }
+{
+    Ok(Steering {
+        scan_enable: port_name(alloc, Port::ScanEnable, table)?,
+        edt_clock: port_name(alloc, Port::EdtClock, table)?,
+        edt_update: port_name(alloc, Port::EdtUpdate, table)?,
+    })
+}
+
+#[tactic(auto, unfolding(crate::specs::Reading::carrying_of))]
+fn carrying_of(alloc: Global, table: Option<&Table>) -> Result<Carrying, Fault>
+    ensures ok { IfOk result (λ names. spec.carrying_of (option_map (λ t. table_view t.now) table.entry) ≡ Ok names) }
+    ensures refused { IfErr result (λ e. IsFault e → spec.carrying_of (option_map (λ t. table_view t.now) table.entry) ≡ Err e) }
+{
+    Ok(Carrying {
+        channel: port_name(alloc, Port::Channel, table)?,
+        mask: port_name(alloc, Port::Mask, table)?,
+        output: port_name(alloc, Port::Output, table)?,
+        scan_in: port_name(alloc, Port::ScanIn, table)?,
+        scan_out: port_name(alloc, Port::ScanOut, table)?,
+    })
+}
+
 /// The names of ports.
 #[tactic(auto, unfolding(crate::specs::Reading::names_of_ports))]
 fn names_of_ports(alloc: Global, table: Option<&Table>) -> Result<PortNames, Fault>
     ensures ok { IfOk result (λ names. spec.names_of_ports (option_map (λ t. table_view t.now) table.entry) ≡ Ok names) }
     ensures refused { IfErr result (λ e. IsFault e → spec.names_of_ports (option_map (λ t. table_view t.now) table.entry) ≡ Err e) }
 {
+    let steering = steering_of(alloc, table)?;
+    let carrying = carrying_of(alloc, table)?;
     Ok(PortNames {
-        scan_enable: port_name(alloc, Port::ScanEnable, table)?,
-        edt_clock: port_name(alloc, Port::EdtClock, table)?,
-        edt_update: port_name(alloc, Port::EdtUpdate, table)?,
-        channel: port_name(alloc, Port::Channel, table)?,
-        mask: port_name(alloc, Port::Mask, table)?,
-        output: port_name(alloc, Port::Output, table)?,
-        scan_in: port_name(alloc, Port::ScanIn, table)?,
-        scan_out: port_name(alloc, Port::ScanOut, table)?,
+        scan_enable: steering.scan_enable,
+        edt_clock: steering.edt_clock,
+        edt_update: steering.edt_update,
+        channel: carrying.channel,
+        mask: carrying.mask,
+        output: carrying.output,
+        scan_in: carrying.scan_in,
+        scan_out: carrying.scan_out,
+    })
+}
+
+/// What is read first: the domains, the resets and the kept cells.
+#[derive(Drop)]
+struct Clocking {
+    domains: Names,
+    resets: Names,
+    keep: Names,
+}
+
+/// What is read next: the chains, the loads, and the chains that are always masked.
+#[derive(Drop)]
+struct Loading {
+    chains: u16,
+    warm: u16,
+    window: u8,
+    fill: FillRule,
+    always_masked: Listed<u16>,
+}
+
+/// The domains, the resets and the kept cells, behind the version.
+#[tactic(auto, unfolding(crate::specs::Reading::clocking_of))]
+fn clocking_of(alloc: Global, table: &Table) -> Result<Clocking, Fault>
+    ensures ok { IfOk result (λ clocking. spec.clocking_of (table_view table.now) ≡ Ok clocking) }
+    ensures refused { IfErr result (λ e. IsFault e → spec.clocking_of (table_view table.now) ≡ Err e) }
+{
+    number(Key::Version, 1, 1, value_at(table, "version"))?;
+    let domains = domains(alloc, value_at(table, "domains"))?;
+    let resets = resets(alloc, value_at(table, "resets"))?;
+    let keep = keep(alloc, value_at(table, "keep"))?;
+    Ok(Clocking {
+        domains,
+        resets,
+        keep,
+    })
+}
+
+/// The chains, the loads, and the chains that are always masked.
+#[tactic(auto, unfolding(crate::specs::Reading::loading_of))]
+fn loading_of(alloc: Global, table: &Table) -> Result<Loading, Fault>
+    ensures ok { IfOk result (λ loading. spec.loading_of (table_view table.now) ≡ Ok loading) }
+    ensures refused { IfErr result (λ e. IsFault e → spec.loading_of (table_view table.now) ≡ Err e) }
+{
+    let chains = number(Key::Chains, 1, 1024, value_at(table, "chains"))? as u16;
+    let warm = number(Key::Warm, 0, 4095, value_at(table, "warm"))? as u16;
+    let window = number(Key::Window, 1, 16, value_at(table, "window"))? as u8;
+    let fill = fill(value_at(table, "fill"), value_at(table, "seed"))?;
+    let masked = value_at(table, "always_masked");
+    let always_masked = numbers(alloc, Key::AlwaysMasked, chains, masked)?;
+    Ok(Loading {
+        chains,
+        warm,
+        window,
+        fill,
+        always_masked,
     })
 }
 
@@ -76,32 +179,20 @@ pub fn keys_of(alloc: Global, table: &Table) -> Result<Config, Fault>
     ensures ok { IfOk result (λ config. spec.keys_of (table_view table.now) ≡ Ok config) }
     ensures refused { IfErr result (λ e. IsFault e → spec.keys_of (table_view table.now) ≡ Err e) }
 {
-    number(Key::Version, 1, 1, value_at(table, "version"))?;
-    let domains = domains(alloc, value_at(table, "domains"))?;
-    let resets = resets(alloc, value_at(table, "resets"))?;
-    let keep = keep(alloc, value_at(table, "keep"))?;
-    let chains = number(Key::Chains, 1, 1024, value_at(table, "chains"))? as u16;
-    let warm = number(Key::Warm, 0, 4095, value_at(table, "warm"))? as u16;
-    let window = number(Key::Window, 1, 16, value_at(table, "window"))? as u8;
-    let fill = fill(value_at(table, "fill"), value_at(table, "seed"))?;
-    let always_masked = numbers(
-        alloc,
-        Key::AlwaysMasked,
-        chains,
-        value_at(table, "always_masked"),
-    )?;
-    let ring = ring_of(alloc, chains, table_at(table, "ring"))?;
-    let compactor = compactor_of(alloc, chains, table_at(table, "compactor"))?;
+    let clocking = clocking_of(alloc, table)?;
+    let loading = loading_of(alloc, table)?;
+    let ring = ring_of(alloc, loading.chains, table_at(table, "ring"))?;
+    let compactor = compactor_of(alloc, loading.chains, table_at(table, "compactor"))?;
     let names = names_of_ports(alloc, table_at(table, "names"))?;
     Ok(Config {
-        domains,
-        resets,
-        keep,
-        chains,
-        warm,
-        window,
-        fill,
-        always_masked,
+        domains: clocking.domains,
+        resets: clocking.resets,
+        keep: clocking.keep,
+        chains: loading.chains,
+        warm: loading.warm,
+        window: loading.window,
+        fill: loading.fill,
+        always_masked: loading.always_masked,
         ring,
         compactor,
         names,

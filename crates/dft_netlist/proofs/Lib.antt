@@ -3,7 +3,8 @@ pub mod Steps
 pub mod Ranks
 pub mod OneSettled
 pub mod Walks
-pub mod NameTableLemmas
+pub mod StoreLemmas
+pub mod TableLemmas
 pub mod Places
 pub mod NamesLemmas
 pub mod SoundLemmas

@@ -6,7 +6,7 @@ use Rattle.dft_netlist.specs.NameTables.{Knows}
 
 -- the netlist so far
 abbrev pub netlist_so_far : Inside → Netlist
-netlist_so_far b = record { name = b.name; library = b.library; ports = b.ports.items; nets = b.nets.items; instances = b.instances.items; joins = b.joins.items }
+netlist_so_far b = record { name = b.name; library = b.library; ports = b.ports.items; nets = b.table.nets; instances = b.instances.items; joins = b.joins.items }
 
 -- it is sound, and the table knows its names
 pub record IsBuilder (b : Inside) : Type 0 where

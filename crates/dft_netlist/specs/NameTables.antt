@@ -11,10 +11,24 @@ use Rattle.dft_base.specs.Lexing.{Text}
 abbrev pub Entry : Type 0
 Entry = Text × Named
 
--- the names in order of adding, and how many more need no memory
-pub record Table : Type 0 where
+-- names and what they stand for, in order of adding, and how many more need no memory
+pub record Store : Type 0 where
   pub entries : List Entry
   pub room : ℕ
+
+-- the same, with the names of nets by their numbers
+pub record Table : Type 0 where
+  pub entries : List Entry
+  pub nets : List Text
+  pub room : ℕ
+
+-- the name of an entry; past the end there is none
+abbrev pub name_in : Option Entry → Text
+name_in None = []
+name_in (Some e) = e.0
+
+abbrev pub name_at : List Entry → (place : ℕ) → Text
+name_at entries place = name_in (slice_get entries place)
 
 -- what a name stands for
 abbrev pub look_up : List Entry → Text → Option Named

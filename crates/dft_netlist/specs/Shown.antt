@@ -8,7 +8,7 @@ use Rattle.dft_netlist.specs.NameTables.{Knows}
 
 -- the netlist of a design
 abbrev pub netlist_of : Inside → Netlist
-netlist_of d = record { name = d.name; library = d.library; ports = d.ports.items; nets = d.nets.items; instances = d.instances.items; joins = d.joins.items }
+netlist_of d = record { name = d.name; library = d.library; ports = d.ports.items; nets = d.table.nets; instances = d.instances.items; joins = d.joins.items }
 
 -- it is sound, each net has one driver at most, which is at hand, and an order is there
 pub record IsDesign (d : Inside) : Type 0 where

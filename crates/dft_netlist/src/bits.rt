@@ -21,7 +21,7 @@ pub(crate) fn bit_names(
         Some(range) => vector_names(alloc, name, range),
         None => {
             let mut names = Vec::new(alloc);
-            names.push(Name::from_slice(alloc, name.as_slice())?)?;
+            names.push(name.copy(alloc)?)?;
             Ok(names)
         }
     }
@@ -41,7 +41,7 @@ fn vector_names(alloc: Global, name: &Name, range: Range) -> Result<Vec<Name>, A
 }
 
 /// The index at a place of a range, counted from its left end.
-fn index_at(range: Range, place: u32) -> u16
+pub fn index_at(range: Range, place: u32) -> u16
     requires { place < length (indices_of range) }
     ensures { slice_get (indices_of range) place ≡ Some result }
 {
@@ -69,30 +69,11 @@ pub(crate) fn vector_key(
     alloc: Global,
     name: &Name,
     range: Option<Range>,
-) -> Result<Option<Vec<u8>>, AllocError>
-    ensures { IfOk result (λ key. option_map (λ k. k.items) key ≡ vector_name_in name.now range) }
+) -> Result<Option<Name>, AllocError>
+    ensures { IfOk result (λ key. key ≡ vector_name_in name.now range) }
 {
     match range {
-        Some(_) => Ok(Some(Vec::from_slice(alloc, name.as_slice())?)),
+        Some(_) => Ok(Some(name.copy(alloc)?)),
         None => Ok(None),
     }
-}
-
-/// The bytes of these names.
-pub(crate) fn keys_of(alloc: Global, names: &[Name]) -> Result<Vec<Vec<u8>>, AllocError>
-    ensures { IfOk result (λ keys. map (λ k. k.items) keys.items ≡ names.now) }
-{
-    let mut keys = Vec::new(alloc);
-    for name in names {
-        keys.push(Vec::from_slice(alloc, name.as_slice())?)?;
-    }
-    Ok(keys)
-}
-
-/// Moves these names behind the others, for which there is room.
-pub(crate) fn push_all(nets: &mut Vec<Name>, mut names: Vec<Name>)
-    requires { vec_len nets.old + vec_len names ≤ vec_capacity nets.old }
-    ensures { nets.new.items ≡ nets.old.items ++ names.items }
-{
-    let _ = nets.append(&mut names);
 }

@@ -4,7 +4,7 @@ ghost use Rattle.dft_netlist.specs.Finishing.{IsFinished, CannotFinish};
 ghost use Rattle.dft_netlist.specs.Names.{find_net, IsNamed, bit_names, port_names, first_taken};
 ghost use Rattle.dft_netlist.specs.Sound.{IsNetlist, IsInstanceOf, IsJoinOf, HasOnlyPorts};
 
-use crate::bits::{bit_names, keys_of, push_all, vector_key};
+use crate::bits::{bit_names, vector_key};
 use crate::design::Design;
 use crate::drivers::find_drivers;
 use crate::error::{Counted, NetlistError};
@@ -29,7 +29,6 @@ pub struct DesignBuilder {
     name: Name,
     library: Library,
     ports: Vec<Port>,
-    nets: Vec<Name>,
     instances: Vec<Instance>,
     joins: Vec<Join>,
     table: NameTable,
@@ -57,7 +56,6 @@ impl DesignBuilder {
             name: module,
             library,
             ports: Vec::new(alloc),
-            nets: Vec::new(alloc),
             instances: Vec::new(alloc),
             joins: Vec::new(alloc),
             table: NameTable::new(alloc),
@@ -83,15 +81,13 @@ impl DesignBuilder {
         let name = self.untaken_port(name, range, &names)?;
         self.check_room(names.len())?;
         let port = PortId(self.ports.len() as u16);
-        let bits = NetIds::counted(self.alloc, self.nets.len() as u32, names.len() as u32)?;
+        let first = self.table.net_count() as u32;
+        let bits = NetIds::counted(self.alloc, first, names.len() as u32)?;
         let own = vector_key(self.alloc, &name, range)?;
-        let keys = keys_of(self.alloc, &names)?;
         self.ports.reserve(1)?;
-        self.nets.reserve(names.len())?;
         self.table.reserve(names.len() + 1)?;
         self.table.insert_own(own, Named::Vector(port));
-        self.table.insert_nets(keys, self.nets.len() as u32);
-        push_all(&mut self.nets, names);
+        self.table.insert_nets(names);
         self.ports.push_reserved(Port {
             name,
             dir,
@@ -110,17 +106,13 @@ impl DesignBuilder {
         if self.table.get(name.as_slice()).is_some() {
             return Err(NetlistError::DuplicateName { name });
         }
-        let count = self.nets.len();
+        let count = self.table.net_count();
         if count >= MAX_NETS {
             return Err(too_many(Counted::Nets, MAX_NETS));
         }
-        let net = NetId(count as u32);
-        let key = Vec::from_slice(self.alloc, name.as_slice())?;
-        self.nets.reserve(1)?;
         self.table.reserve(1)?;
-        self.table.insert_reserved(key, Named::Net(net));
-        self.nets.push_reserved(name);
-        Ok(net)
+        self.table.insert_net(name);
+        Ok(NetId(count as u32))
     }
 
     /// Adds an instance of a cell or a gate. Its pins follow the order of its cell's pins; a gate's are its inputs, then
@@ -204,7 +196,7 @@ impl DesignBuilder {
         }
         for bit in bits {
             if self.table.get(bit.as_slice()).is_some() {
-                let name = Name::from_slice(self.alloc, bit.as_slice())?;
+                let name = bit.copy(self.alloc)?;
                 return Err(NetlistError::DuplicateName { name });
             }
         }
@@ -218,7 +210,7 @@ impl DesignBuilder {
         if self.ports.len() >= MAX_PORTS {
             return Err(too_many(Counted::Ports, MAX_PORTS));
         }
-        if width > MAX_NETS - self.nets.len() {
+        if width > MAX_NETS - self.table.net_count() {
             return Err(too_many(Counted::Nets, MAX_NETS));
         }
         Ok(())
@@ -267,7 +259,7 @@ impl DesignBuilder {
         ensures count { result ≡ length self.now.nets }
         ensures sound { IsNetlist self.now }
     {
-        self.nets.len() as u32
+        self.table.net_count() as u32
     }
 
     /// The printed name of this net.
@@ -275,7 +267,7 @@ impl DesignBuilder {
         requires { net.0 < length self.now.nets }
         ensures { slice_get self.now.nets net.0 ≡ Some result.now }
     {
-        &self.nets[net.0 as usize]
+        self.table.net_name(net)
     }
 
     /// The net with this printed name, if there is one.
@@ -304,7 +296,6 @@ impl DesignBuilder {
             name: self.name,
             library: self.library,
             ports: self.ports,
-            nets: self.nets,
             instances: self.instances,
             joins: self.joins,
             table: self.table,
@@ -326,11 +317,11 @@ fn too_many(what: Counted, limit: usize) -> NetlistError
 }
 
 /// The bytes of a name, if there is one.
-fn key_of(alloc: Global, name: &Option<Name>) -> Result<Option<Vec<u8>>, AllocError>
-    ensures { IfOk result (λ key. option_map (λ k. k.items) key ≡ name.now) }
+fn key_of(alloc: Global, name: &Option<Name>) -> Result<Option<Name>, AllocError>
+    ensures { IfOk result (λ key. key ≡ name.now) }
 {
     match name {
-        Some(name) => Ok(Some(Vec::from_slice(alloc, name.as_slice())?)),
+        Some(name) => Ok(Some(name.copy(alloc)?)),
         None => Ok(None),
     }
 }

@@ -30,7 +30,6 @@ pub struct Design {
     pub(crate) name: Name,
     pub(crate) library: Library,
     pub(crate) ports: Vec<Port>,
-    pub(crate) nets: Vec<Name>,
     pub(crate) instances: Vec<Instance>,
     pub(crate) joins: Vec<Join>,
     pub(crate) table: NameTable,
@@ -97,7 +96,7 @@ impl Design {
         ensures count { result ≡ length self.now.nets }
         ensures sound { IsNetlist self.now }
     {
-        self.nets.len() as u32
+        self.table.net_count() as u32
     }
 
     /// The printed name of this net.
@@ -105,7 +104,7 @@ impl Design {
         requires { net.0 < length self.now.nets }
         ensures { slice_get self.now.nets net.0 ≡ Some result.now }
     {
-        &self.nets[net.0 as usize]
+        self.table.net_name(net)
     }
 
     /// The net with this printed name, if there is one.
@@ -144,7 +143,7 @@ impl Design {
         ensures { shown_root result ≡ root_of self.now (ANet net.0) }
     {
         let mut at = net;
-        for _step in 0..self.nets.len() + 1 {
+        for _step in 0..self.table.net_count() + 1 {
             match self.step_back(at) {
                 Step::Back(from) => at = from,
                 Step::End(root) => return root,

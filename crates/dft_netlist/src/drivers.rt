@@ -36,7 +36,7 @@ pub(crate) fn find_drivers(
     note_instances(&mut notes, builder.library().cells(), builder.instances());
     note_joins(&mut notes, builder.joins());
     if let Some(net) = notes.clash() {
-        let net = Name::from_slice(alloc, builder.net_name(net).as_slice())?;
+        let net = builder.net_name(net).copy(alloc)?;
         return Err(NetlistError::MultipleDrivers { net });
     }
     Ok(notes.into_found())

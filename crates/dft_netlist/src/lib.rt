@@ -13,6 +13,7 @@ mod instance;
 mod laws;
 mod limits;
 mod look_ups;
+mod name_store;
 mod name_table;
 mod named;
 mod net_driver;
@@ -22,8 +23,9 @@ mod port;
 mod progress;
 mod root;
 
-pub use cells::{is_role, kind_of, role_at, signal_of};
+pub use bits::index_at;
 pub use builder::DesignBuilder;
+pub use cells::{is_role, kind_of, role_at, signal_of};
 pub use design::Design;
 pub use dft_base::Dir;
 pub use error::{Counted, NetlistError};

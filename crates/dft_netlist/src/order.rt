@@ -12,7 +12,7 @@ ghost use Rattle.dft_netlist.specs.Reading.{pins_read, read_at, net_of_signal};
 ghost use Rattle.dft_netlist.specs.Sound.{IsInstance, IsLive};
 
 use crate::builder::DesignBuilder;
-use crate::cells::{kind_of, reads_role, known_role};
+use crate::cells::{kind_of, known_role, reads_role};
 use crate::error::NetlistError;
 use crate::ids::NetId;
 use crate::instance::{Instance, Signal};
@@ -36,7 +36,7 @@ pub(crate) fn find_order(
     let mut progress = Progress::new(alloc, count as usize)?;
     for number in 0..count {
         if let Some(net) = place(builder, drivers, NetId(number), &mut progress)? {
-            let net = Name::from_slice(alloc, builder.net_name(net).as_slice())?;
+            let net = builder.net_name(net).copy(alloc)?;
             return Err(NetlistError::Loop { net });
         }
     }

@@ -1,6 +1,6 @@
 //! Nets and constants as they are written.
 
-ghost use Rattle.std.specs.Prelude.{ℕ, ◌≡◌, ◌<◌, ◌≤◌, ◌++◌, IfOk, OnOk, Some, drop, flat_map, length, map, slice_get};
+ghost use Rattle.std.specs.Prelude.{ℕ, ◌≡◌, ◌≤◌, ◌++◌, IfOk, OnOk, Some, drop, flat_map, length, map, slice_get};
 ghost use Rattle.dft_base.specs.Lexing.{Text};
 ghost use Rattle.dft_base.specs.Name.{IsName};
 ghost use Rattle.dft_netlist.specs.Names.{indices_of};
@@ -9,7 +9,7 @@ ghost use Rattle.dft_verilog_out.specs.Written as form;
 
 use crate::names::{add_name, add_number};
 use dft_base::{Name, Range};
-use dft_netlist::{Design, NetId, Port, Signal};
+use dft_netlist::{Design, NetId, Port, Signal, index_at};
 use std::alloc::{AllocError, Global};
 use std::marker::Model;
 
@@ -56,18 +56,6 @@ fn bit(alloc: Global, name: &Name, index: u16) -> Result<NetText, AllocError>
     add_number(&mut bytes, index)?;
     bytes.push(b']')?;
     Ok(NetText { bytes })
-}
-
-/// The index at a place of a range, counted from its left end.
-fn index_at(range: Range, place: u32) -> u16
-    requires { place < length (indices_of range) }
-    ensures { slice_get (indices_of range) place ≡ Some result }
-{
-    if range.left <= range.right {
-        range.left + place as u16
-    } else {
-        range.left - place as u16
-    }
 }
 
 /// Adds the bits of a vector, leftmost first.

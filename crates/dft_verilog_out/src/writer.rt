@@ -19,8 +19,8 @@ pub fn write(alloc: Global, design: &Design) -> Result<Vec<u8>, AllocError>
     ensures form { IfOk result (λ bytes. bytes.items ≡ form.written design.now) }
     ensures reads { IfOk result (λ bytes. StandsFor design.now.library bytes.items design.now) }
 {
-    // Every net can be ordered, as this clause says.
-    let _order = design.order();
+    // Every net can be ordered, as a clause of this call says.
+    design.soundness();
     let mut nets = port_texts(alloc, design.ports())?;
     let first = nets.len();
     add_other_texts(alloc, &mut nets, design)?;

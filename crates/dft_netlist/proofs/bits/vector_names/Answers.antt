@@ -7,7 +7,7 @@ use Rattle.dft_netlist.specs.NameTables.{AllDiffer}
 use Rattle.dft_base.specs.Lexing.{Text}
 use Rattle.dft_netlist.proofs.BitLemmas.{indices_length}
 use Rattle.dft_netlist.proofs.PortNames.{bits_differ}
-use Rattle.dft_netlist.proofs.NameTableLemmas.{map-append}
+use Rattle.std.proofs.lemmas.List.{map-append}
 use Rattle.dft_netlist.proofs.bits.vector_names.Goals as goal
 
 whole : (name : Text) (range : Range) (names : List Text) (place : ℕ) → length (indices_of range) ≤ place → names ≡ map (bit_name name) (take place (indices_of range)) → names ≡ map (bit_name name) (indices_of range)

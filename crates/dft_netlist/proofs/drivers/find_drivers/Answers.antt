@@ -42,7 +42,7 @@ returns-in-Some-clause-refused c =
     let clash : (notes_of n).clash ≡ Some c.in-Some.net = ap (λ (s : Notes). s.clash) (sym whole) ∙ sym c.clash.ensures ∙ c.in-Some.is in
     record {
       net = c.in-Some.net.0;
-      named = c.net_name.ensures ∙ ap Some (sym (c.in_ok-net.ensures ∙ c.as_slice.ensures.bytes));
+      named = c.net_name.ensures ∙ ap Some (sym c.in_ok-net.ensures);
       first = (clash_first n c.net_count.ensures.sound c.in-Some.net clash).1;
     }
 

@@ -1,9 +1,7 @@
 use Rattle.std.proofs.Common.{◌∙◌, ◌++◌, ap, sym, refl, subst, arith, length, flat_map, drop}
 use Rattle.dft_netlist_text.specs.NetlistText.{StandsFor}
-use Rattle.dft_netlist.proofs.StandLemmas.{order_orderable}
 use Rattle.dft_base.specs.Lexing.{Text}
 use Rattle.dft_base.specs.Name.{IsName}
-use Rattle.dft_cells.specs.WellFormed.{IsWellFormed}
 use Rattle.dft_verilog_out.specs.Written.{port_texts, port_line, wire_line}
 use Rattle.dft_verilog_out.proofs.FormLemmas.{ports-fit, texts-are, heading-is, wires-are, rest-is, assembled, joins-stand, instances-stand, all_named}
 use Rattle.dft_verilog_out.proofs.RoundTrip.{written_stands}
@@ -38,5 +36,5 @@ returns c =
     (c.in_ok-add_instances.ensures.text ∙ rw (cells, c.deref-3.ensures.value, c.instances.ensures.instances) refl)
     c.in_ok-extend_from_slice.ensures.items in
     let named = all_named n _ _ _ _ (subst IsName c.module.ensures.name c.in_ok-add_heading.ensures.named) c.ports-3.ensures.ports cells c.instances.ensures.instances first c.in_ok-add_ports.ensures.named c.in_ok-add_other_texts.ensures.named c.in_ok-add_instances.ensures.named in
-    let stands = written_stands n (record { sound = c.joins.ensures.sound; well = subst IsWellFormed c.library.ensures.library c.cells.ensures.well_formed; named = named; gates = c.requires }) c.module.ensures.single (order_orderable n _ c.order-order.ensures) in
+    let stands = written_stands n (record { sound = c.soundness.ensures.netlist; well = c.soundness.ensures.library; named = named; gates = c.requires }) c.soundness.ensures.single c.soundness.ensures.finished.orderable in
     record { form = form; reads = subst (λ (text : Text). StandsFor n.library text n) (sym form) stands }

@@ -15,7 +15,7 @@ pub insert_own-requires-clause-fresh : goal.insert_own-requires-clause-fresh
 insert_own-requires-clause-fresh c =
     let n = netlist_so_far c.self.inside in
     let free : first_taken n (own_names c.args.name) ≡ None = subst (λ (m : Netlist). first_taken m (own_names c.args.name) ≡ None) (sym c.self.view_is) (free_of _ c.in_ok-name.ensures.refused) in
-    rw (c.in_ok-reserve-2.ensures.same, c.in_ok-key.ensures, c.in_ok-name.ensures.same) (own_free_look_up _ n c.args.name c.self.invariant.table free)
+    rw (c.in_ok-reserve-2.ensures.entries, c.in_ok-key.ensures, c.in_ok-name.ensures.same) (own_free_look_up _ n c.args.name c.self.invariant.table free)
 
 pub invariant_of-self-2 : goal.invariant_of-self-2
 invariant_of-self-2 c =
@@ -28,6 +28,6 @@ invariant_of-self-2 c =
     let few : length n.instances < MAX_INSTANCES = omega arith in
     let known = own_knows es n x c.args.name refl c.self.invariant.table (own_free_look_up _ n c.args.name c.self.invariant.table free) in
     record {
-      netlist = rw (c.push_reserved.ensures.items, c.in_ok-reserve.ensures.items, c.in_ok-name.ensures.same, c.in_ok-pins.ensures) (instance_sound _ n x c.self.invariant.netlist known few is);
-      table = rw (c.push_reserved.ensures.items, c.in_ok-reserve.ensures.items, c.insert_own.ensures.added, c.in_ok-reserve-2.ensures.same, c.in_ok-key.ensures, c.in_ok-name.ensures.same, c.in_ok-pins.ensures, counted) known;
+      netlist = rw (c.push_reserved.ensures.items, c.in_ok-reserve.ensures.items, c.insert_own.ensures.nets, c.in_ok-reserve-2.ensures.nets, c.in_ok-name.ensures.same, c.in_ok-pins.ensures) (instance_sound _ n x c.self.invariant.netlist known few is);
+      table = rw (c.push_reserved.ensures.items, c.in_ok-reserve.ensures.items, c.insert_own.ensures.nets, c.in_ok-reserve-2.ensures.nets, c.insert_own.ensures.added, c.in_ok-reserve-2.ensures.entries, c.in_ok-key.ensures, c.in_ok-name.ensures.same, c.in_ok-pins.ensures, counted) known;
     }

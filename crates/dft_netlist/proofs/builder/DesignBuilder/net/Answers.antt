@@ -30,12 +30,10 @@ invariant_of-self-2 c =
     let looked : look_up es q ≡ c.get.result = ap (look_up es) (sym c.as_slice.ensures.bytes) ∙ sym c.get.ensures in
     let none : look_up es q ≡ None = looked ∙ none_of c.get.result (sym c.is_some.ensures ∙ c.if-is_some.false) in
     let few : length n.nets < MAX_NETS = omega arith in
-    let counted : c.len-count.result ≡ length n.nets = omega arith in
     let known = net_knows es n q c.self.invariant.table none in
-    let key : c.in_ok-key.key.items ≡ q = c.in_ok-key.ensures.items ∙ c.as_slice-2.ensures.bytes in
     record {
-      netlist = rw (c.push_reserved.ensures.items, c.in_ok-reserve.ensures.items) (net_sound _ n q c.self.invariant.netlist known few);
-      table = rw (c.push_reserved.ensures.items, c.in_ok-reserve.ensures.items, c.insert_reserved.ensures.added, c.in_ok-reserve-2.ensures.same, key, counted) known;
+      netlist = rw (c.insert_net.ensures.nets, c.in_ok-reserve.ensures.nets) (net_sound _ n q c.self.invariant.netlist known few);
+      table = rw (c.insert_net.ensures.added, c.insert_net.ensures.nets, c.in_ok-reserve.ensures.entries, c.in_ok-reserve.ensures.nets) known;
     }
 
 pub returns-clause-refused : goal.returns-clause-refused

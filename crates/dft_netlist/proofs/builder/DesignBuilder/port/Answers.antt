@@ -1,5 +1,4 @@
-use Rattle.std.proofs.Common.{◌≡◌, ◌∙◌, sym, ap, subst, length, None, arith, refl, List, ℕ, Vec, Global}
-use Rattle.std.proofs.lemmas.List.{length-map}
+use Rattle.std.proofs.Common.{◌≡◌, ◌∙◌, ◌++◌, sym, ap, subst, length, None, arith, refl, List}
 use Rattle.dft_netlist.specs.declared.port.Port.{Port}
 use Rattle.dft_netlist.specs.BuilderShown.{netlist_so_far}
 use Rattle.dft_netlist.specs.Building.{port_of, room_limit}
@@ -18,15 +17,12 @@ pub insert_own-requires-clause-fresh : goal.insert_own-requires-clause-fresh
 insert_own-requires-clause-fresh c =
     let n = netlist_so_far c.self.inside in
     let free : first_taken n (port_names c.args.name c.args.range) ≡ None = subst (λ (m : Netlist). first_taken m (port_names c.args.name c.args.range) ≡ None) (sym c.self.view_is) (free_of _ c.in_ok-name.ensures.refused) in
-    rw (c.in_ok-reserve-3.ensures.same, c.in_ok-own.ensures, c.in_ok-name.ensures.same) (vector_is_free _ n c.args.name c.args.range c.self.invariant.table free)
+    rw (c.in_ok-reserve-2.ensures.entries, c.in_ok-own.ensures, c.in_ok-name.ensures.same) (vector_is_free _ n c.args.name c.args.range c.self.invariant.table free)
 
 pub insert_nets-requires-clause-room : goal.insert_nets-requires-clause-room
 insert_nets-requires-clause-room c =
-    let room = c.in_ok-reserve-3.ensures.room in
+    let room = c.in_ok-reserve-2.ensures.room in
     let left = c.insert_own.ensures.room in
-    let same = ap (λ (xs : List (List ℕ)). length xs) (c.in_ok-keys.ensures ∙ c.deref-2.ensures.value) in
-    let keys = length-map c.in_ok-keys.keys.items (λ (k : Vec ℕ Global). k.items) in
-    let counted = c.len-6.ensures in
     omega arith
 
 pub insert_nets-requires-clause-new : goal.insert_nets-requires-clause-new
@@ -34,7 +30,7 @@ insert_nets-requires-clause-new c =
     let n = netlist_so_far c.self.inside in
     let free : first_taken n (port_names c.args.name c.args.range) ≡ None = subst (λ (m : Netlist). first_taken m (port_names c.args.name c.args.range) ≡ None) (sym c.self.view_is) (free_of _ c.in_ok-name.ensures.refused) in
     let differ = subst AllDiffer c.in_ok-names.ensures.names c.in_ok-names.ensures.differ in
-    rw (c.insert_own.ensures.added, c.in_ok-reserve-3.ensures.same, c.in_ok-own.ensures, c.in_ok-name.ensures.same, c.in_ok-keys.ensures, c.deref-2.ensures.value, c.in_ok-names.ensures.names) (bits_are_new _ n c.args.name c.args.range _ differ c.self.invariant.table free)
+    rw (c.insert_own.ensures.added, c.in_ok-reserve-2.ensures.entries, c.in_ok-own.ensures, c.in_ok-name.ensures.same, c.in_ok-names.ensures.names) (bits_are_new _ n c.args.name c.args.range _ differ c.self.invariant.table free)
 
 pub invariant_of-self-2 : goal.invariant_of-self-2
 invariant_of-self-2 c =
@@ -53,11 +49,12 @@ invariant_of-self-2 c =
     let fits = (room_of n (length names) room).1 in
     let sound = port_sound _ n x c.self.invariant.netlist only known few fits refl in
     let number : c.len-2.result ≡ length n.ports = omega arith in
-    let first : c.len-7.result ≡ length n.nets = omega (arith, c.in_ok-reserve-2.ensures.len) in
-    let from : c.len-3.result ≡ length n.nets = omega arith in
-    let count : c.len-4.result ≡ length names = omega (arith, wide) in
+    let from : c.net_count-first.result ≡ length n.nets = omega arith in
+    let count : c.len-3.result ≡ length names = omega (arith, wide) in
     let bits : c.in_ok-bits.bits ≡ nets_from (length n.nets) (length names) = rw (← from, ← count) c.in_ok-bits.ensures in
+    let own_nets : c.insert_own.new.self.nets ≡ n.nets = c.insert_own.ensures.nets ∙ c.in_ok-reserve-2.ensures.nets in
+    let nets : c.insert_nets.new.self.nets ≡ n.nets ++ names = rw (← own_nets, ← c.in_ok-names.ensures.names) c.insert_nets.ensures.nets in
     record {
-      netlist = rw (c.push_reserved.ensures.items, c.in_ok-reserve.ensures.items, c.push_all.ensures, c.in_ok-reserve-2.ensures.items, c.in_ok-names.ensures.names, c.in_ok-name.ensures.same, bits) sound;
-      table = rw (c.push_reserved.ensures.items, c.in_ok-reserve.ensures.items, c.push_all.ensures, c.in_ok-reserve-2.ensures.items, c.in_ok-names.ensures.names, c.in_ok-name.ensures.same, bits) (rw (c.insert_nets.ensures, c.insert_own.ensures.added, c.in_ok-reserve-3.ensures.same, c.in_ok-own.ensures, c.in_ok-name.ensures.same, c.in_ok-keys.ensures, c.deref-2.ensures.value, c.in_ok-names.ensures.names, first, number) known);
+      netlist = rw (c.push_reserved.ensures.items, c.in_ok-reserve.ensures.items, nets, c.in_ok-name.ensures.same, bits) sound;
+      table = rw (c.push_reserved.ensures.items, c.in_ok-reserve.ensures.items, nets, c.in_ok-name.ensures.same, bits) (rw (c.insert_nets.ensures.added, own_nets, c.insert_own.ensures.added, c.in_ok-reserve-2.ensures.entries, c.in_ok-own.ensures, c.in_ok-name.ensures.same, c.in_ok-names.ensures.names, number) known);
     }

@@ -38,7 +38,7 @@ returns-then-is_some-3-clause-refused c =
     let looked : look_up es q ≡ c.get-in-loop-bit.result = ap (look_up es) (sym c.as_slice-in-loop-bit.ensures.bytes) ∙ sym c.get-in-loop-bit.ensures in
     let taken : is_taken n q ≡ true = taken_of _ n q c.get-in-loop-bit.result c.self.invariant.table looked ∙ sym c.is_some-in-loop-bit.ensures ∙ c.if-is_some-3.true in
     let here = name_taken c.args.self.now c.args.bits.now c.loop-bit.bit-index q (omega arith) c.bit-item.is (subst (λ (m : Netlist). is_taken m q ≡ true) c.self.view_is taken) in
-    ap (λ x. taken_or x None) (sym c.loop-bit.invariant ∙ here) ∙ rw (c.in_ok-name.ensures, c.as_slice-then-is_some-3.ensures.bytes) refl
+    ap (λ x. taken_or x None) (sym c.loop-bit.invariant ∙ here) ∙ rw c.in_ok-name.ensures refl
 
 pub loop-bit-preserved : goal.loop-bit-preserved
 loop-bit-preserved c =

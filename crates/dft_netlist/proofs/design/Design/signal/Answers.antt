@@ -1,4 +1,4 @@
-use Rattle.std.proofs.Common.{◌≡◌, ◌≤◌, ◌∙◌, Some, sym, length, slice_get}
+use Rattle.std.proofs.Common.{◌≡◌, ◌≤◌, Some, sym, length, slice_get}
 use Rattle.std.proofs.lemmas.Bool.{ltb-false}
 use Rattle.dft_netlist.specs.Shown.{netlist_of}
 use Rattle.dft_netlist.proofs.NotesLemmas.{item_at}

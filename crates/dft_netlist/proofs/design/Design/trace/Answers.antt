@@ -10,7 +10,7 @@ use Rattle.dft_netlist.proofs.design.Design.trace.Goals as goal
 pub loop-step-init : goal.loop-step-init
 loop-step-init c =
     let n = netlist_of c.self.inside in
-    let counted : c.len-step-end.result + 1 - 0 ≡ suc (length n.nets) = omega arith in
+    let counted : c.net_count-step-end.result + 1 - 0 ≡ suc (length n.nets) = omega arith in
     record {
       same = ap (λ k. root_within c.args.self.now k (Net c.args.net.0)) (counted ∙ ap (λ (m : Netlist). suc (length m.nets)) c.self.view_is);
       live = c.requires;
@@ -18,7 +18,7 @@ loop-step-init c =
 
 pub loop-step-preserved : goal.loop-step-preserved
 loop-step-preserved c =
-    let end = c.len-step-end.result + 1 in
+    let end = c.net_count-step-end.result + 1 in
     let k = c.loop-step._step in
     let more = c.loop-step-test.true in
     let e : end - k ≡ suc (end - (k + 1)) = omega arith in
