@@ -62,8 +62,7 @@ pub fn replay(alloc: Global, design: &Design, patterns: &PatternSet) -> Result<V
     ensures placed { IfOk result (IsPlaced (length patterns.now.vectors) (length patterns.now.signals)) }
     ensures misfit { IfErr result (TellsMisfit design.now patterns.now.signals) }
 {
-    let _ = design.module();
-    let _ = design.order();
+    design.soundness();
     let nets = nets_of(alloc, design, patterns.signals())?;
     let verdict = verdict_at(alloc, design, &nets, patterns.vectors())?;
     Ok(verdict)

@@ -58,15 +58,18 @@ fn signals(alloc: Global, names: &mut Names, tokens: &mut Tokens<'_>) -> Result<
 }
 
 #[tactic(auto, unfolding(dft_stil_text::specs::Namings::signals_block))]
-/// The block of the signals.
-pub fn signals_block(alloc: Global, tokens: &mut Tokens<'_>) -> Result<Names, ReadError>
-    ensures { ReadsText (λ names. names) (spec.signals_block tokens.old) result tokens.new }
+/// The block of the signals, where there are no names so far.
+pub fn signals_block(
+    alloc: Global,
+    names: &mut Names,
+    tokens: &mut Tokens<'_>,
+) -> Result<(), ReadError>
+    requires { names.old ≡ spec.no_names }
+    ensures { ReadsText (λ _. names.new) (spec.signals_block tokens.old) result tokens.new }
 {
     tokens.keyword(b"Signals")?;
     tokens.expect(TokenKind::OpenBrace)?;
-    let mut names = Names::new(alloc);
-    signals(alloc, &mut names, tokens)?;
-    Ok(names)
+    signals(alloc, names, tokens)
 }
 
 // One name of a group's list.

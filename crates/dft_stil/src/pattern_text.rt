@@ -2,10 +2,11 @@
 
 ghost use Rattle.std.specs.Prelude.{◌≡◌, ◌<◌, ◌^◌, Some, length, option_map, OnOk, IfOk};
 ghost use Rattle.dft_base.specs.Name.{IsName};
+ghost use Rattle.dft_stil_text.specs.Namings.{no_names};
 ghost use Rattle.dft_stil_text.specs.PatternText as spec;
 ghost use Rattle.dft_stil_tokens.specs.Steps.{left};
 ghost use Rattle.dft_stil.specs.TablesShown.{timing_as, AreWide};
-ghost use Rattle.dft_stil.specs.PatternShown.{pattern_as, burst_as};
+ghost use Rattle.dft_stil.specs.PatternShown.{pattern_as, burst_as, patterns_with};
 ghost use Rattle.dft_stil_tokens.specs.Reading.{ReadsText};
 
 use crate::names::Names;
@@ -110,6 +111,19 @@ pub struct Burst<'a> {
     pub pattern: &'a [u8],
 }
 
+#[tactic(auto, unfolding(dft_stil_text::specs::PatternText::listed_pattern))]
+// The one pattern that a burst lists.
+fn listed_pattern<'a>(tokens: &mut Tokens<'a>) -> Result<&'a [u8], ReadError>
+    ensures { ReadsText (λ w. w.now) (spec.listed_pattern tokens.old) result tokens.new }
+{
+    tokens.keyword(b"PatList")?;
+    tokens.expect(TokenKind::OpenBrace)?;
+    let word = tokens.name()?;
+    tokens.expect(TokenKind::Semicolon)?;
+    tokens.expect(TokenKind::CloseBrace)?;
+    Ok(word)
+}
+
 #[tactic(auto, unfolding(dft_stil_text::specs::PatternText::burst))]
 // The burst.
 fn the_burst<'a>(tokens: &mut Tokens<'a>) -> Result<Burst<'a>, ReadError>
@@ -118,11 +132,7 @@ fn the_burst<'a>(tokens: &mut Tokens<'a>) -> Result<Burst<'a>, ReadError>
     tokens.keyword(b"PatternBurst")?;
     let name = tokens.name()?;
     tokens.expect(TokenKind::OpenBrace)?;
-    tokens.keyword(b"PatList")?;
-    tokens.expect(TokenKind::OpenBrace)?;
-    let pattern = tokens.name()?;
-    tokens.expect(TokenKind::Semicolon)?;
-    tokens.expect(TokenKind::CloseBrace)?;
+    let pattern = listed_pattern(tokens)?;
     tokens.expect(TokenKind::CloseBrace)?;
     Ok(Burst { name, pattern })
 }
@@ -250,22 +260,63 @@ fn the_pattern(
 }
 
 #[tactic(auto, unfolding(dft_stil_text::specs::PatternText::pattern_part))]
-// The burst, what is executed and the pattern, and no token behind.
-fn pattern_part(
+// The vectors: the burst, what is executed and the pattern, and no token behind.
+fn vectors(
     alloc: Global,
     most: usize,
-    names: Names,
+    names: &Names,
     timing: &Timing<'_>,
     tokens: &mut Tokens<'_>,
-) -> Result<PatternSet, ReadError>
-    requires { AreWide (length names.signals) timing.now.tables }
-    ensures { ReadsText (λ set. set) (spec.pattern_part most names (timing_as timing.now) tokens.old) result tokens.new }
+) -> Result<Vec<Acts>, ReadError>
+    requires { AreWide (length names.now.signals) timing.now.tables }
+    ensures { ReadsText (λ v. patterns_with names.now v.items) (spec.pattern_part most names.now (timing_as timing.now) tokens.old) result tokens.new }
 {
     let burst = the_burst(tokens)?;
     exec(alloc, timing, burst, tokens)?;
-    let pattern = the_pattern(alloc, most, &names, timing, burst, tokens)?;
+    let pattern = the_pattern(alloc, most, names, timing, burst, tokens)?;
     tokens.expect(TokenKind::End)?;
-    Ok(PatternSet::new(alloc, names.into_signals(), pattern.vectors))
+    Ok(pattern.vectors)
+}
+
+// The vectors behind the tables.
+fn timed_part(
+    alloc: Global,
+    most: usize,
+    names: &Names,
+    tokens: &mut Tokens<'_>,
+) -> Result<Vec<Acts>, ReadError>
+    ensures { ReadsText (λ v. patterns_with names.now v.items) (spec.timed_part most names.now tokens.old) result tokens.new }
+{
+    let timing = timing_block(alloc, names, tokens)?;
+    vectors(alloc, most, names, &timing, tokens)
+}
+
+// The vectors behind the signals and groups, which are read into no names so far.
+fn named_part(
+    alloc: Global,
+    most: usize,
+    names: &mut Names,
+    tokens: &mut Tokens<'_>,
+) -> Result<Vec<Acts>, ReadError>
+    requires { names.old ≡ no_names }
+    ensures { ReadsText (λ v. patterns_with names.new v.items) (spec.named_part most tokens.old) result tokens.new }
+{
+    signals_block(alloc, names, tokens)?;
+    group_blocks(alloc, names, tokens)?;
+    timed_part(alloc, most, names, tokens)
+}
+
+// The signals and groups, and all behind them.
+fn named_patterns(
+    alloc: Global,
+    most: usize,
+    tokens: &mut Tokens<'_>,
+) -> Result<PatternSet, ReadError>
+    ensures { ReadsText (λ set. set) (spec.named_part most tokens.old) result tokens.new }
+{
+    let mut names = Names::new(alloc);
+    let vectors = named_part(alloc, most, &mut names, tokens)?;
+    Ok(PatternSet::new(alloc, names.into_signals(), vectors))
 }
 
 #[tactic(auto, unfolding(dft_stil_text::specs::PatternText::pattern_text))]
@@ -281,8 +332,5 @@ pub fn pattern_text(
     version(tokens)?;
     tokens.expect(TokenKind::Semicolon)?;
     header_if_any(tokens)?;
-    let mut names = signals_block(alloc, tokens)?;
-    group_blocks(alloc, &mut names, tokens)?;
-    let timing = timing_block(alloc, &names, tokens)?;
-    pattern_part(alloc, most, names, &timing, tokens)
+    named_patterns(alloc, most, tokens)
 }

@@ -69,6 +69,34 @@ fn assignments(
     Err(tokens.no_token())
 }
 
+// The assignments of a vector behind this pattern.
+fn assigned(
+    alloc: Global,
+    names: &Names,
+    tables: &Tables,
+    pattern: &Pattern,
+    tokens: &mut Tokens<'_>,
+) -> Result<Vector, ReadError>
+    requires acts { length pattern.now.acts ≡ length names.now.signals }
+    requires wide { AreWide (length names.now.signals) tables.now }
+    ensures read { ReadsText vector_as (spec.assignments_from (left tokens.old) names.now (spec.shapes_at tables.now pattern.now.table) (spec.begun pattern.now.acts) tokens.old) result tokens.new }
+    ensures acts { IfOk result (λ v. length v.acts ≡ length names.now.signals) }
+{
+    let begun = begun(alloc, pattern.acts.as_slice())?;
+    let shapes = shapes_at(tables, pattern.table);
+    assignments(alloc, names, shapes, begun, tokens)
+}
+
+// Adds a vector with these acts.
+fn add_acts(alloc: Global, pattern: &mut Pattern, acts: Acts) -> Result<(), AllocError>
+    ensures added { OnOk result (pattern_as pattern.new ≡ spec.with_acts acts (pattern_as pattern.old)) }
+    ensures acts { OnOk result (pattern.new.acts ≡ acts) }
+{
+    pattern.vectors.push(Acts::copied(alloc, acts.as_slice())?)?;
+    pattern.acts = acts;
+    Ok(())
+}
+
 #[tactic(auto, unfolding(dft_stil_text::specs::Statements::vector))]
 // `V` and its assignments. There may be so many vectors at most.
 fn vector(
@@ -90,13 +118,8 @@ fn vector(
         return Err(fault_at(Cause::Count, place));
     }
     tokens.expect(TokenKind::OpenBrace)?;
-    let begun = begun(alloc, pattern.acts.as_slice())?;
-    let shapes = shapes_at(tables, pattern.table);
-    let vector = assignments(alloc, names, shapes, begun, tokens)?;
-    pattern
-        .vectors
-        .push(Acts::copied(alloc, vector.acts.as_slice())?)?;
-    pattern.acts = vector.acts;
+    let vector = assigned(alloc, names, tables, pattern, tokens)?;
+    add_acts(alloc, pattern, vector.acts)?;
     Ok(())
 }
 

@@ -213,8 +213,42 @@ fn waves(
     Err(tokens.no_token())
 }
 
+// The last brace of a table with this period, whose times must fit.
+fn fitting(table: Table, period: u64, tokens: &mut Tokens<'_>) -> Result<ShapeTable, ReadError>
+    ensures read { ReadsText (λ s. s) (spec.fitting period (table_as table) tokens.old) result tokens.new }
+    ensures same { IfOk result (λ s. s ≡ table.shapes) }
+{
+    let place = tokens.left();
+    tokens.expect(TokenKind::CloseBrace)?;
+    if table.times.fit(period) {
+        Ok(table.shapes)
+    } else {
+        Err(fault_at(Cause::Times, place))
+    }
+}
+
+// The waves of a table with this period.
+fn waveforms(
+    alloc: Global,
+    names: &Names,
+    period: u64,
+    tokens: &mut Tokens<'_>,
+) -> Result<ShapeTable, ReadError>
+    ensures read { ReadsText (λ s. s) (spec.waveforms names.now period tokens.old) result tokens.new }
+    ensures wide { IfOk result (λ s. IsWide (length names.now.signals) s) }
+{
+    tokens.keyword(b"Waveforms")?;
+    tokens.expect(TokenKind::OpenBrace)?;
+    let mut table = Table {
+        shapes: ShapeTable::new(alloc, names.count())?,
+        times: Times::none(),
+    };
+    waves(alloc, names, &mut table, tokens)?;
+    fitting(table, period, tokens)
+}
+
 #[tactic(auto, unfolding(dft_stil_text::specs::Timings::table_body))]
-// What stands in a table. At its last brace its times must fit.
+// What stands in a table: a period, and waves.
 fn table_body(
     alloc: Global,
     names: &Names,
@@ -227,20 +261,7 @@ fn table_body(
     tokens.keyword(b"Period")?;
     let period = time(tokens)?;
     tokens.expect(TokenKind::Semicolon)?;
-    tokens.keyword(b"Waveforms")?;
-    tokens.expect(TokenKind::OpenBrace)?;
-    let mut table = Table {
-        shapes: ShapeTable::new(alloc, names.count())?,
-        times: Times::none(),
-    };
-    waves(alloc, names, &mut table, tokens)?;
-    let place = tokens.left();
-    tokens.expect(TokenKind::CloseBrace)?;
-    if table.times.fit(period) {
-        Ok(table.shapes)
-    } else {
-        Err(fault_at(Cause::Times, place))
-    }
+    waveforms(alloc, names, period, tokens)
 }
 
 #[tactic(auto, using(crate::proofs::TableLemmas::wide_tables), unfolding(dft_stil_text::specs::Timings::table))]

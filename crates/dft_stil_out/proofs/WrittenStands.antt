@@ -21,7 +21,7 @@ use Rattle.dft_stil_tokens.specs.Steps.{Outcome, kind_of, bytes, left, next, see
 use Rattle.dft_stil_text.specs.Namings.{Names, signals_block, group_blocks, name_if_any}
 use Rattle.dft_stil_text.specs.Timings.{Timing, Table, timing}
 use Rattle.dft_stil_text.specs.Statements.{Pattern, table_used, statement, statements_from}
-use Rattle.dft_stil_text.specs.PatternText.{version, header_if_any, Burst, burst, known_name, used_timing, exec, executed, pattern, pattern_part, pattern_text, steady_or, tested, patterns_of}
+use Rattle.dft_stil_text.specs.PatternText.{version, header_if_any, Burst, listed_pattern, burst, known_name, used_timing, exec, executed, pattern, pattern_part, pattern_text, steady_or, tested, patterns_of}
 use Rattle.dft_stil_out.specs.Writable.{IsWritable}
 use Rattle.dft_stil_out.specs.Written.{declaration, input_waves, output_waves, middle, head, noted_lines, noted}
 use Rattle.dft_stil_out.specs.Written as form
@@ -41,7 +41,7 @@ abbrev the_burst : Burst
 the_burst = record { name = codes "b"; pattern = codes "p" }
 
 burst-at : (rest : Text) (us : List Token) → burst (token kind.Word (codes "PatternBurst") (ahead 34 rest) ∷ token kind.Word (codes "b") (ahead 21 rest) ∷ token kind.OpenBrace (codes "{") (ahead 19 rest) ∷ token kind.Word (codes "PatList") (ahead 17 rest) ∷ token kind.OpenBrace (codes "{") (ahead 9 rest) ∷ token kind.Word (codes "p") (ahead 7 rest) ∷ token kind.Semicolon (codes ";") (ahead 6 rest) ∷ token kind.CloseBrace (codes "}") (ahead 4 rest) ∷ token kind.CloseBrace (codes "}") (ahead 2 rest) ∷ us) ≡ Ok (the_burst, us)
-unfolding burst keyword sees_word sees kind_of bytes next name sees_name expect
+unfolding burst listed_pattern keyword sees_word sees kind_of bytes next name sees_name expect
 burst-at rest us = refl
 
 exec-at : (table : Table) (rest : Text) (us : List Token) → exec (record { name = None; tables = one_table table.shapes }) the_burst (token kind.Word (codes "PatternExec") (ahead 32 rest) ∷ token kind.OpenBrace (codes "{") (ahead 20 rest) ∷ token kind.Word (codes "PatternBurst") (ahead 18 rest) ∷ token kind.Word (codes "b") (ahead 5 rest) ∷ token kind.Semicolon (codes ";") (ahead 4 rest) ∷ token kind.CloseBrace (codes "}") (ahead 2 rest) ∷ us) ≡ Ok (true, us)

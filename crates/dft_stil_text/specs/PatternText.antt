@@ -68,16 +68,23 @@ pub record Burst : Type 0 where
   pub name : Text
   pub pattern : Text
 
+-- the one pattern that a burst lists
+unfoldable pub listed_pattern : Rule Text
+listed_pattern = do
+  keyword (codes "PatList")
+  expect kind.OpenBrace
+  word ← name
+  expect kind.Semicolon
+  expect kind.CloseBrace
+  pure word
+
+-- the burst
 unfoldable pub burst : Rule Burst
 burst = do
   keyword (codes "PatternBurst")
   word ← name
   expect kind.OpenBrace
-  keyword (codes "PatList")
-  expect kind.OpenBrace
-  pattern ← name
-  expect kind.Semicolon
-  expect kind.CloseBrace
+  pattern ← listed_pattern
   expect kind.CloseBrace
   pure (record { name = word; pattern = pattern })
 
@@ -144,6 +151,19 @@ pattern_part most names t = do
   expect kind.End
   pure (record { signals = names.signals; vectors = p.vectors; notes = [] })
 
+-- the tables, and all behind them
+abbrev pub timed_part : (most : ℕ) → Names → Rule Patterns
+timed_part most names = do
+  t ← timing names
+  pattern_part most names t
+
+-- the signals and groups, and all behind them
+abbrev pub named_part : (most : ℕ) → Rule Patterns
+named_part most = do
+  signals ← signals_block
+  names ← group_blocks signals
+  timed_part most names
+
 -- the whole text
 unfoldable pub pattern_text : (most : ℕ) → Rule Patterns
 pattern_text most = do
@@ -151,10 +171,7 @@ pattern_text most = do
   version
   expect kind.Semicolon
   header_if_any
-  signals ← signals_block
-  names ← group_blocks signals
-  t ← timing names
-  pattern_part most names t
+  named_part most
 
 -- ---- what a reader gives
 

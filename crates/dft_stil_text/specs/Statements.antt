@@ -124,6 +124,10 @@ assignments_from (suc n) names t v = do
     more ← assignment names t v
     assignments_from n names t more)
 
+-- a vector more, with these acts
+abbrev pub with_acts : List Act → Pattern → Pattern
+with_acts acts p = record p { acts = acts; vectors = p.vectors ++ acts ∷ [] }
+
 -- `V` and its assignments. There may be so many vectors at most.
 unfoldable pub vector : (most : ℕ) → Names → Tables → Pattern → Rule Pattern
 vector most names tables p = λ ts. (do
@@ -131,7 +135,7 @@ vector most names tables p = λ ts. (do
   needed cause.Count (left ts) (nat_lt (length p.vectors) most) (do
     expect kind.OpenBrace
     v ← λ us. assignments_from (left us) names (shapes_at tables p.table) (begun p.acts) us
-    pure (record p { acts = v.acts; vectors = p.vectors ++ v.acts ∷ [] }))) ts
+    pure (with_acts v.acts p))) ts
 
 -- ---- statements
 

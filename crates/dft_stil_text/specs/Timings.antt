@@ -135,17 +135,26 @@ waves_from (suc n) names t = do
     more ← wave names t
     waves_from n names more)
 
--- what stands in a table: a period, and waves. At its last brace its times must fit.
+-- the last brace of a table with this period, whose times must fit
+abbrev pub fitting : ℕ → Table → Rule Shapes
+fitting period t = λ ts. (expect kind.CloseBrace >> needed cause.Times (left ts) (times_fit period t.times) (pure t.shapes)) ts
+
+-- the waves of a table with this period
+abbrev pub waveforms : Names → ℕ → Rule Shapes
+waveforms names period = do
+  keyword (codes "Waveforms")
+  expect kind.OpenBrace
+  t ← λ ts. waves_from (left ts) names (empty_table (length names.signals)) ts
+  fitting period t
+
+-- what stands in a table: a period, and waves
 unfoldable pub table_body : Names → Rule Shapes
 table_body names = do
   expect kind.OpenBrace
   keyword (codes "Period")
   period ← time
   expect kind.Semicolon
-  keyword (codes "Waveforms")
-  expect kind.OpenBrace
-  t ← λ ts. waves_from (left ts) names (empty_table (length names.signals)) ts
-  λ ts. (expect kind.CloseBrace >> needed cause.Times (left ts) (times_fit period t.times) (pure t.shapes)) ts
+  waveforms names period
 
 -- the tables so far, by name
 pub record Tables : Type 0 where

@@ -25,7 +25,7 @@ verdict_at-requires-clause-signals c =
     let p : Patterns = c.args.patterns.now in
     let live : AreNets (length n.nets) c.deref.result.now = subst (AreNets (length n.nets)) (sym c.deref.ensures.value) c.in_ok-nets.ensures.live in
     let are : numbers_of c.deref.result.now ≡ nets_of n p.signals = ap numbers_of c.deref.ensures.value ∙ c.in_ok-nets.ensures.nets ∙ ap (nets_of n) c.signals.ensures in
-    few_signals n c.deref.result.now c.module.ensures.sound (signals_are n p.signals c.deref.result.now c.requires.distinct are live).differ live
+    few_signals n c.deref.result.now c.soundness.ensures.netlist (signals_are n p.signals c.deref.result.now c.requires.distinct are live).differ live
 
 pub verdict_at-requires-clause-acts : goal.verdict_at-requires-clause-acts
 verdict_at-requires-clause-acts c =
@@ -43,7 +43,7 @@ returns c =
     record {
       fit = sym (ap (λ (signals : _). first_misfit n signals) c.signals.ensures) ∙ c.in_ok-nets.ensures.fit;
       verdict = verdict;
-      runs = verdict_holds n (numbers_of c.order.result.now) p c.in_ok-verdict.verdict c.module.ensures.sound c.order.ensures verdict;
+      runs = verdict_holds n c.soundness.ensures.ordered.order p c.in_ok-verdict.verdict c.soundness.ensures.netlist c.soundness.ensures.ordered.is verdict;
       placed = subst (λ (vectors : List (List Act)). IsPlaced (length vectors) (length p.signals) c.in_ok-verdict.verdict) c.vectors.ensures
           (subst (λ (count : ℕ). IsPlaced (length c.vectors.result.now) count c.in_ok-verdict.verdict) (signal_count n p.signals c.deref.result.now are) c.in_ok-verdict.ensures.placed);
       misfit = tt;
