@@ -32,6 +32,7 @@ impl Gap {
         requires { IsInRange config.now }
         ensures { result ≡ spec.gap_of design.now (length (added_ports Plain config.now)) }
     {
+        design.soundness();
         Gap {
             before: count_port_nets(design) as u32,
             width: 1 + 2 * u32::from(config.chains),

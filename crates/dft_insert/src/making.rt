@@ -24,12 +24,7 @@ pub(crate) fn add_scan_ports(
     ensures { OnOk result (builder.new ≡ with_things builder.old (port_things (ports_from (length builder.old.nets) (added_ports Plain config.now)))) }
 {
     let names = &config.names;
-    add_port(
-        builder,
-        names.scan_enable.copy(alloc)?,
-        Dir::Input,
-        None,
-    )?;
+    add_port(builder, names.scan_enable.copy(alloc)?, Dir::Input, None)?;
     add_numbered(alloc, builder, &names.scan_in, Dir::Input, config.chains)?;
     add_numbered(alloc, builder, &names.scan_out, Dir::Output, config.chains)
 }

@@ -11,8 +11,8 @@ pub(crate) fn own_output(design: &Design, cell: InstanceId) -> Option<NetId>
     ensures net { option_map (λ net. net.0) result ≡ spec.own_output design.now cell }
     ensures live { IfSome result (λ net. net.0 < length design.now.nets) }
 {
-    match design.signal(cell, Role::Output) {
-        Some(Signal::Net(net)) => Some(net),
-        Some(Signal::Constant(_) | Signal::Unconnected) | None => None,
+    match design.signal(cell, Role::Output)? {
+        Signal::Net(net) => Some(net),
+        Signal::Constant(_) | Signal::Unconnected => None,
     }
 }

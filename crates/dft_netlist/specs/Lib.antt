@@ -18,7 +18,6 @@ pub mod Finding
 pub mod Connections
 pub mod Roots
 pub mod NameTables
-pub mod Hashes
 pub mod NameStoreShown
 pub mod NameTableShown
 pub mod BuilderShown

@@ -10,6 +10,7 @@ mod drivers;
 mod error;
 mod ids;
 mod instance;
+mod key;
 mod laws;
 mod limits;
 mod look_ups;

@@ -22,10 +22,11 @@ use Rattle.dft_rules.proofs.FindLemmas.{find_same}
 use Rattle.dft_rules.proofs.RootLemmas.{shown_in}
 use Rattle.dft_rules.specs.declared.findings.Findings.{Findings}
 use Rattle.dft_rules.specs.declared.judged.Judged.{Judged}
-use Rattle.dft_rules.specs.Findings.{AreNets, AreFindings, AreUsed, place_among, signal_of, joined_to, domain_at, is_held_at, are_held_by, is_marked_clock}
+use Rattle.dft_netlist.specs.Connections.{input_net, joined_to, signal_of}
+use Rattle.dft_rules.specs.Findings.{AreNets, AreFindings, AreUsed, place_among, domain_at, is_held_at, are_held_by, is_marked_clock}
 use Rattle.dft_rules.specs.Refusals.{is_clock_as_data}
 use Rattle.dft_rules.specs.Roots.{AreRoots, root_in}
-use Rattle.dft_rules.specs.Rules.{input_net, is_net, may_be_scanned, place_of_root, place_of_source, is_held, are_held, scan_cell_in, judged, judged_by}
+use Rattle.dft_rules.specs.Rules.{is_net, may_be_scanned, place_of_root, place_of_source, is_held, are_held, scan_cell_in, judged, judged_by}
 
 -- ---- places of nets
 

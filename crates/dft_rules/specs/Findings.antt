@@ -1,8 +1,7 @@
 -- What is looked up once, before flip-flops are judged.
-use Rattle.std.specs.Prelude.{ℕ, ◌≡◌, ◌==◌, ◌<◌, ◌≤◌, Bool, true, false, ◌&&◌, List, length, map, find, Option, None, Some, is_some, option_map, option_and_then, position, slice_index_or}
+use Rattle.std.specs.Prelude.{ℕ, ◌≡◌, ◌==◌, ◌<◌, ◌≤◌, Bool, true, false, ◌&&◌, List, length, map, Option, None, Some, is_some, option_and_then, position, slice_index_or}
 use Rattle.std.specs.List.{list_any}
 use Rattle.dft_base.specs.Lexing.{Text}
-use Rattle.dft_cells.specs.declared.kind.Role.{Role}
 use Rattle.dft_cells.specs.declared.cell.Cell.{Cell}
 use Rattle.dft_netlist.specs.declared.ids.NetId.{NetId}
 use Rattle.dft_netlist.specs.declared.instance.Signal.{Signal}
@@ -11,12 +10,11 @@ use Rattle.dft_netlist.specs.declared.limits.TheConstants.{MAX_INSTANCES}
 use Rattle.dft_netlist.specs.declared.root.Root.{Root}
 use Rattle.dft_netlist.specs.declared.root.Root.TheVariants.{Port, Constant, Other}
 use Rattle.dft_netlist.specs.Netlist.{Netlist}
-use Rattle.dft_netlist.specs.Drivers.{Connection}
-use Rattle.dft_netlist.specs.Logic.{same_role}
 use Rattle.dft_config.specs.declared.config.Config.{Config}
 use Rattle.dft_rules.specs.declared.findings.Findings.{Findings}
 use Rattle.dft_rules.specs.Refusals.{is_data_of}
-use Rattle.dft_rules.specs.Rules.{input_net, is_kept}
+use Rattle.dft_netlist.specs.Connections.{input_net}
+use Rattle.dft_rules.specs.Rules.{is_kept}
 use Rattle.dft_rules.specs.Roots.{AreRoots, root_in}
 
 -- these are the nets that the names stand for
@@ -49,13 +47,6 @@ pub record AreFindings (n : Netlist) (config : Config) (f : Findings) : Type 0 w
   pub roots : AreRoots n f.roots.items
 
 -- ---- what the rules ask, by what is at hand
-
-abbrev pub joined_to : Connection → Signal
-joined_to c = c.to
-
--- what the first pin of a role is joined to
-abbrev pub signal_of : Role → List Connection → Option Signal
-signal_of role pins = option_map joined_to (find (λ c. same_role role c.role) pins)
 
 -- the domain of a clock pin
 abbrev pub domain_at : List NetId → List Root → Option Signal → Option ℕ

@@ -18,7 +18,8 @@ use Rattle.dft_rules.specs.declared.error.RuleError.{RuleError}
 use Rattle.dft_rules.specs.declared.error.RuleError.TheVariants.{ClockAsData, ScanCellPresent, TooFewCells, UnknownName, LockupPresent, PortName, Memory}
 use Rattle.dft_rules.specs.declared.judged.Judged.{Judged}
 use Rattle.dft_rules.specs.declared.judged.Judged.TheVariants.{Scanned, Unscanned}
-use Rattle.dft_rules.specs.Rules.{input_net, flip_flop_named, place_of_source, judgements}
+use Rattle.dft_netlist.specs.Connections.{input_net}
+use Rattle.dft_rules.specs.Rules.{flip_flop_named, place_of_source, judgements}
 
 -- ---- names that are not there
 

@@ -12,10 +12,10 @@ use Rattle.dft_netlist.specs.declared.ids.InstanceId.{InstanceId}
 use Rattle.dft_netlist.specs.declared.instance.CellRef.{CellRef}
 use Rattle.dft_netlist.specs.declared.instance.CellRef.TheVariants as cell_ref
 use Rattle.dft_netlist.specs.Netlist.{Netlist}
-use Rattle.dft_netlist.specs.Drivers.{Source, Driver, Input, Gate, Joined, Flop, Free, driver, pins_of, kind_at}
-use Rattle.dft_netlist.specs.Drivers as drivers
+use Rattle.dft_netlist.specs.Drivers.{Source, pins_of, kind_at}
 use Rattle.dft_netlist.specs.Logic.{pin_of}
-use Rattle.dft_netlist.specs.Names.{find_net, find_instance}
+use Rattle.dft_netlist.specs.Connections.{input_net}
+use Rattle.dft_netlist.specs.Names.{find_instance}
 use Rattle.dft_netlist.specs.Traces.{Root, Port, Constant, Other, root_of}
 use Rattle.dft_config.specs.declared.config.Config.{Config}
 use Rattle.dft_base.specs.declared.rule.Rule.{Rule}
@@ -24,18 +24,6 @@ use Rattle.dft_rules.specs.declared.judged.Judged.{Judged}
 use Rattle.dft_rules.specs.declared.judged.Judged.TheVariants.{Scanned, Unscanned}
 
 -- ---- configured names
-
-abbrev pub is_input : Driver → Bool
-is_input Input = true
-is_input (Gate kind inputs) = false
-is_input (Joined source) = false
-is_input (Flop instance inverted) = false
-is_input (drivers.Lockup instance) = false
-is_input Free = false
-
--- the bit of an input port with this name
-abbrev pub input_net : Netlist → (name : Text) → Option NetId
-input_net n name = option_and_then (λ net. if is_input (driver n net.0) then Some net else None) (find_net n name)
 
 -- the flip-flops that are judged
 abbrev pub may_be_scanned : Kind → Bool

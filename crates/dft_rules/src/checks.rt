@@ -4,13 +4,12 @@ ghost use Rattle.std.specs.Prelude.{◌≡◌, ◌≤◌, None, OnOk, IfErr, len
 ghost use Rattle.dft_rules.specs.Refusals as spec;
 ghost use Rattle.dft_rules.specs.Refusals.{IsRefusal};
 
-use crate::cells::kind_of;
 use crate::error::RuleError;
 use crate::judged::Judged;
 use crate::verdicts::Verdicts;
 use dft_base::Name;
 use dft_cells::{Cell, Kind};
-use dft_netlist::{Instance, Port};
+use dft_netlist::{Instance, Port, kind_of};
 use std::alloc::Global;
 
 /// Tests that no instance is a scan cell or a lock-up.

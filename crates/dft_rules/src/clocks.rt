@@ -8,12 +8,12 @@ ghost use Rattle.dft_rules.specs.Findings.{AreNets, AreUsed, is_marked_clock};
 ghost use Rattle.dft_rules.specs.Refusals.{IsRefusal, clock_as_data, is_data_of, is_joined_to, takes};
 ghost use Rattle.dft_rules.specs.Roots.{AreRoots};
 
-use crate::cells::{kind_of, takes_data, uses_data};
+use crate::cells::{takes_data, uses_data};
 use crate::error::RuleError;
 use crate::findings::place_of;
 use dft_base::Name;
 use dft_cells::Cell;
-use dft_netlist::{Design, Instance, NetId, Root, Signal};
+use dft_netlist::{Design, Instance, NetId, Root, Signal, kind_of};
 use std::alloc::{AllocError, Global};
 
 /// Tests that no instance takes as data a net that traces to one of these nets, which are the configured domains'.

@@ -6,11 +6,11 @@ ghost use Rattle.dft_rules.specs.Findings.{AreKept, AreNets, place_among};
 ghost use Rattle.dft_rules.specs.Refusals.{IsRefusal, unknown_cell, unknown_port};
 ghost use Rattle.dft_rules.specs.Rules as spec;
 
-use crate::cells::{kind_of, may_be_scanned};
+use crate::cells::may_be_scanned;
 use crate::error::RuleError;
 use crate::roots::root_at;
 use dft_base::Name;
-use dft_netlist::{Design, InstanceId, NetDriver, NetId, Root, Signal};
+use dft_netlist::{Design, InstanceId, NetId, Root, Signal};
 use std::alloc::{AllocError, Global};
 
 /// What is looked up once, before flip-flops are judged.
@@ -38,23 +38,12 @@ pub(crate) fn input_nets(
 {
     let mut nets = Vec::new(alloc);
     for name in names {
-        match input_net(design, name.as_slice()) {
+        match design.input(name.as_slice()) {
             Some(net) => nets.push(net)?,
             None => return Err(unknown(alloc, name)?),
         }
     }
     Ok(nets)
-}
-
-/// The bit of an input port with this name.
-fn input_net(design: &Design, name: &[u8]) -> Option<NetId>
-    ensures { result ≡ spec.input_net design.now name.now }
-{
-    let net = design.find(name)?;
-    match design.driver(net) {
-        NetDriver::Input => Some(net),
-        _ => None,
-    }
 }
 
 /// Marks the flip-flops with these names.
@@ -82,8 +71,7 @@ fn flip_flop_named(design: &Design, name: &[u8]) -> Option<InstanceId>
     ensures { result ≡ spec.flip_flop_named design.now name.now }
 {
     let id = design.find_instance(name)?;
-    let instance = &design.instances()[id.0 as usize];
-    if may_be_scanned(kind_of(design.library().cells(), instance.cell)) {
+    if may_be_scanned(design.kind(id)) {
         Some(id)
     } else {
         None

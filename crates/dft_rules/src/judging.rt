@@ -7,7 +7,7 @@ ghost use Rattle.dft_rules.specs.Findings.{AreFindings, IsFor};
 ghost use Rattle.dft_rules.specs.Refusals.{IsLeftToCount, IsRefusal, refusal};
 ghost use Rattle.dft_rules.specs.Rules.{judged, judged_by, judgements};
 
-use crate::cells::{has_scan_cell, kind_of, may_be_scanned, signal_of};
+use crate::cells::{has_scan_cell, may_be_scanned};
 use crate::checks::{check_absent, check_count, check_ports};
 use crate::clocks::check_clocks;
 use crate::error::RuleError;
@@ -18,7 +18,7 @@ use crate::verdicts::Verdicts;
 use dft_base::Rule;
 use dft_cells::Role;
 use dft_config::Config;
-use dft_netlist::Design;
+use dft_netlist::{Design, kind_of, signal_of};
 use std::alloc::{AllocError, Global};
 
 /// Judges each flip-flop of kind dff, dffr or dffs by the first scan rule that fails. The design is refused by the first

@@ -8,9 +8,8 @@ ghost use Rattle.dft_netlist.specs.Traces as traces;
 ghost use Rattle.dft_netlist.specs.declared.net_driver.NetDriver.TheVariants.{Pin};
 ghost use Rattle.dft_rules.specs.Roots.{AreRoots, root_among, root_in};
 
-use crate::cells::kind_of;
 use dft_cells::Kind;
-use dft_netlist::{Design, InstanceId, NetDriver, NetId, Root, Signal};
+use dft_netlist::{Design, InstanceId, NetDriver, NetId, Root, Signal, kind_of};
 use std::alloc::{AllocError, Global};
 
 /// The root that each net traces to. A net comes after those that its driver reads, so one step back is enough.

@@ -2,13 +2,13 @@
 
 ghost use Rattle.std.specs.Prelude.{◌≡◌, Some, IfOk, slice_get};
 ghost use Rattle.dft_scan.specs.Reports as spec;
-ghost use Rattle.dft_stitch.specs.Chains as stitch;
 
 use dft_base::Name;
 use dft_config::Config;
 use dft_netlist::{Design, Instance, InstanceId};
 use dft_report::{ScannedLine, UnscannedLine};
 use dft_rules::{Judged, Rule, Verdicts};
+use dft_stitch::domain_of;
 use std::alloc::{AllocError, Global};
 
 /// The line of the cell at a place of a chain.
@@ -86,16 +86,6 @@ fn name_at(alloc: Global, names: &[Name], place: u8) -> Result<Option<Name>, All
     match names.get(usize::from(place)) {
         Some(name) => Ok(Some(name.copy(alloc)?)),
         None => Ok(None),
-    }
-}
-
-/// The domain of a cell, where it is scanned.
-fn domain_of(verdicts: &Verdicts, cell: InstanceId) -> Option<u8>
-    ensures { result ≡ stitch.domain_of verdicts.now cell }
-{
-    match verdicts.of(cell) {
-        Some(Judged::Scanned { domain }) => Some(domain),
-        _ => None,
     }
 }
 

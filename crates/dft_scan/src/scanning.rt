@@ -53,7 +53,5 @@ pub fn scan(alloc: Global, design: &Design, config: &Config) -> Result<ScanTexts
 fn ready(design: &Design)
     ensures { (config : Config) → IsInRange config → rules.refusal design.now config ≡ None → IsReady design.now config }
 {
-    let _name = design.module();
-    let _order = design.order();
-    let _cells = design.library().cells();
+    design.soundness();
 }

@@ -20,7 +20,8 @@ use Rattle.dft_netlist.proofs.Places.{get_left}
 use Rattle.dft_config.specs.declared.config.Config.{Config}
 use Rattle.dft_rules.specs.declared.judged.Judged.{Judged}
 use Rattle.dft_rules.specs.declared.judged.Judged.TheVariants.{Scanned, Unscanned}
-use Rattle.dft_rules.specs.Rules.{judged, judged_by, judgements, place_of_root, place_of_source, may_be_scanned, is_net, input_net, domain_of as clock_domain, are_held_at, scan_cell_of, is_kept}
+use Rattle.dft_netlist.specs.Connections.{input_net}
+use Rattle.dft_rules.specs.Rules.{judged, judged_by, judgements, place_of_root, place_of_source, may_be_scanned, is_net, domain_of as clock_domain, are_held_at, scan_cell_of, is_kept}
 use Rattle.dft_stitch.specs.Chains.{cell_in, cells_in, cells_of, chains_of, domain_of, domain_in, if_domain}
 use Rattle.dft_stitch.specs.Laws.{CellsAreScanned, CellsStandOnce}
 use Rattle.dft_stitch.specs.Plans.{cell_at}

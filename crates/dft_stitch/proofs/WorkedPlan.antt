@@ -1,5 +1,5 @@
 -- The chains of a netlist with two clocks, worked by hand.
-use Rattle.std.proofs.Common.{◌≡◌, ℕ, List, [], ◌∷◌, codes, None, refl}
+use Rattle.std.proofs.Common.{◌≡◌, ℕ, [], ◌∷◌, None, refl}
 use Rattle.dft_netlist.specs.declared.ids.InstanceId.{InstanceId}
 use Rattle.dft_rules.proofs.WorkedRules.{example, example_config, two_clocks}
 use Rattle.dft_stitch.specs.Chains.{plan_of}

@@ -41,12 +41,12 @@ fn add_cells(
     Ok(())
 }
 
-/// Adds a cell, if there is one.
-fn add(cells: &mut Vec<InstanceId>, cell: Option<InstanceId>) -> Result<(), AllocError>
-    ensures { OnOk result (cells.new.items ≡ cells.old.items ++ spec.listed cell) }
+/// Adds an item, if there is one.
+pub(crate) fn add<T: Drop>(items: &mut Vec<T>, item: Option<T>) -> Result<(), AllocError>
+    ensures { OnOk result (items.new.items ≡ items.old.items ++ spec.listed item) }
 {
-    if let Some(cell) = cell {
-        cells.push(cell)?;
+    if let Some(item) = item {
+        items.push(item)?;
     }
     Ok(())
 }
@@ -63,7 +63,7 @@ fn cell_in(verdicts: &Verdicts, domain: u8, cell: InstanceId) -> Option<Instance
 }
 
 /// The domain of a cell, where it is scanned.
-pub(crate) fn domain_of(verdicts: &Verdicts, cell: InstanceId) -> Option<u8>
+pub fn domain_of(verdicts: &Verdicts, cell: InstanceId) -> Option<u8>
     ensures { result ≡ spec.domain_of verdicts.now cell }
 {
     match verdicts.of(cell) {

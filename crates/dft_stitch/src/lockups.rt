@@ -5,7 +5,7 @@ ghost use Rattle.std.specs.List.{All, filter_map, range_with_len};
 ghost use Rattle.dft_stitch.specs.Chains as spec;
 
 use crate::cells::Cells;
-use crate::cutting::domain_of;
+use crate::cutting::{add, domain_of};
 use crate::places::LockupPlace;
 use dft_netlist::InstanceId;
 use dft_rules::Verdicts;
@@ -39,16 +39,6 @@ fn add_lockups(
 {
     for place in 0..cells.len() {
         add(lockups, lockup_after(verdicts, chain, cells, place))?;
-    }
-    Ok(())
-}
-
-/// Adds a lock-up, if there is one.
-fn add(lockups: &mut Vec<LockupPlace>, lockup: Option<LockupPlace>) -> Result<(), AllocError>
-    ensures { OnOk result (lockups.new.items ≡ lockups.old.items ++ spec.listed lockup) }
-{
-    if let Some(lockup) = lockup {
-        lockups.push(lockup)?;
     }
     Ok(())
 }

@@ -10,8 +10,8 @@ use Rattle.dft_insert.proofs.AddingLemmas.{Added, IsLeftOf, after_lockups, after
 use Rattle.dft_insert.proofs.OpenLemmas.{few_chains, short_chains}
 use Rattle.dft_insert.proofs.adding.check_additions.Goals as goal
 
-pub new-requires : goal.new-requires
-new-requires c = omega (arith, c.count_port_nets-port_nets.ensures.within, c.soundness.ensures.netlist.few_nets)
+pub new-tally-requires : goal.new-tally-requires
+new-tally-requires c = omega (arith, c.count_port_nets-port_nets.ensures.within, c.soundness.ensures.netlist.few_nets)
 
 pub count_open-open-requires-clause-few : goal.count_open-open-requires-clause-few
 count_open-open-requires-clause-few c = rw c.requires.planned (few_chains c.args.design.now c.args.config.now c.requires.range)
@@ -23,7 +23,7 @@ count_open-open-requires-clause-short c =
 
 pub returns-in_err-add_ports-clause-refused : goal.returns-in_err-add_ports-clause-refused
 returns-in_err-add_ports-clause-refused c =
-    let p = err_from_is_err_and c.from_residual-in_err-add_ports.result c.from_residual-in_err-add_ports.ensures.1 in
+    let p = err_from_is_err_and c.from_residual.result c.from_residual.ensures.1 in
     let n = c.args.design.now in
     let config = c.args.config.now in
     let plan = c.args.chains.now in

@@ -15,7 +15,7 @@ returns-in-Some-clause-refused c = λ names are.
     let used = subst P (sym c.deref.ensures.value) c.in_ok-used.ensures in
     let first = first_same n names c.args.domains.now c.args.roots.now c.deref.result.now are c.requires.roots used in
     let found : find (is_clock_as_data n names) (range_with_len 0 (length n.nets)) ≡ Some c.in-Some.net.0 = sym first ∙ sym c.first_clock.ensures.first ∙ ap (λ (o : Option NetId). option_map (λ (k : NetId). k.0) o) c.in-Some.is in
-    let name : get_or n.nets c.in-Some.net.0 [] ≡ c.in_ok-from_slice-in-Some.field-0 = get_or_from_slice_get n.nets c.in-Some.net.0 _ [] c.net_name.ensures ∙ sym (c.in_ok-from_slice-in-Some.ensures ∙ c.as_slice.ensures.bytes) in
+    let name : get_or n.nets c.in-Some.net.0 [] ≡ c.in_ok-copy-in-Some.field-0 = get_or_from_slice_get n.nets c.in-Some.net.0 _ [] c.net_name.ensures ∙ sym c.in_ok-copy-in-Some.ensures in
     ap (λ (o : Option ℕ). option_map (λ (net : ℕ). ClockAsData (get_or n.nets net [])) o) found ∙ ap (λ (x : List ℕ). Some (ClockAsData x)) name)
 
 pub returns-clause-ok : goal.returns-clause-ok

@@ -1,5 +1,5 @@
 use Rattle.std.proofs.Common.{◌≡◌, ◌∙◌, sym, None, Some}
-use Rattle.dft_rules.specs.Rules.{input_net}
+use Rattle.dft_netlist.specs.Connections.{input_net}
 use Rattle.dft_rules.proofs.NameLemmas.{looked_on, looked_here, looked_over, nets_on, nets_over}
 use Rattle.dft_rules.proofs.findings.input_nets.Goals as goal
 
@@ -8,7 +8,7 @@ returns-in-None-clause-refused c =
     let n = c.args.design.now in
     let names = c.args.names.now in
     let k = c.loop-name.name-index in
-    let missed : input_net n c.name-item.result ≡ None = sym (rw c.as_slice.ensures.bytes at c.input_net.ensures) ∙ c.in-None.is in
+    let missed : input_net n c.name-item.result ≡ None = sym (rw c.as_slice.ensures.bytes at c.input.ensures.net) ∙ c.in-None.is in
     rw c.in_ok-unknown-in-None.ensures (c.loop-name.invariant.same ∙ looked_here (input_net n) names k c.name-item.result c.loop-name-test.true c.name-item.is missed)
 
 pub loop-name-preserved : goal.loop-name-preserved
@@ -16,7 +16,7 @@ loop-name-preserved c =
     let n = c.args.design.now in
     let names = c.args.names.now in
     let k = c.loop-name.name-index in
-    let found : input_net n c.name-item.result ≡ Some c.in-Some.net = sym (rw c.as_slice.ensures.bytes at c.input_net.ensures) ∙ c.in-Some.is in
+    let found : input_net n c.name-item.result ≡ Some c.in-Some.net = sym (rw c.as_slice.ensures.bytes at c.input.ensures.net) ∙ c.in-Some.is in
     record {
       same = c.loop-name.invariant.same ∙ looked_on (input_net n) names k c.name-item.result c.in-Some.net c.loop-name-test.true c.name-item.is found;
       found = c.loop-name.invariant.found ∙ nets_on (input_net n) names k c.name-item.result c.in-Some.net c.loop-name.nets.items c.push.new.self.items c.loop-name-test.true c.name-item.is found c.in_ok-push-in-Some.ensures.items;

@@ -1,7 +1,7 @@
 -- The rest of the names gives what all of them give.
 use Rattle.std.proofs.Common.{◌≡◌, ◌++◌, Some, map, drop}
 use Rattle.dft_rules.specs.Refusals.{unknown_port}
-use Rattle.dft_rules.specs.Rules.{input_net}
+use Rattle.dft_netlist.specs.Connections.{input_net}
 use Rattle.dft_rules.proofs.findings.input_nets.Given as goal
 
 abbrev pub invariant-loop-name : goal.invariant-loop-name

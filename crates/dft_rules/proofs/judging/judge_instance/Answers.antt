@@ -3,7 +3,8 @@ use Rattle.std.proofs.lemmas.List.{get_or_read}
 use Rattle.dft_netlist.specs.Drivers.{connections_of, shape_of}
 use Rattle.dft_netlist.proofs.NotesLemmas.{item_at}
 use Rattle.dft_cells.specs.declared.kind.Role.TheVariants.{Clock, Reset, Preset}
-use Rattle.dft_rules.specs.Findings.{are_held_by, domain_at, signal_of}
+use Rattle.dft_netlist.specs.Connections.{signal_of}
+use Rattle.dft_rules.specs.Findings.{are_held_by, domain_at}
 use Rattle.dft_rules.specs.Rules.{may_be_scanned, scan_cell_in}
 use Rattle.dft_rules.proofs.JudgeLemmas.{same_judged, judged_no, judged_yes}
 use Rattle.dft_rules.proofs.judging.judge_instance.Goals as goal

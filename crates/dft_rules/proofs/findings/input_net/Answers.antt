@@ -1,6 +1,0 @@
-use Rattle.std.proofs.Common.{◌∙◌, sym}
-use Rattle.dft_rules.proofs.NameLemmas.{net_there}
-use Rattle.dft_rules.proofs.findings.input_net.Goals as goal
-
-pub driver-requires : goal.driver-requires
-driver-requires c = net_there c.args.design.now c.args.name.now c.in_ok-net.net (sym c.find.ensures ∙ c.in_ok-net.was)
