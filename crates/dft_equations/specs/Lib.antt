@@ -1,5 +1,6 @@
 pub use Rattle.dft_base.specs.Solutions
 pub use Rattle.dft_base.specs.Packed
+pub use Rattle.dft_lanes.specs.Rows
 pub use Rattle.dft_config.specs.Range
 pub use Rattle.dft_config.specs.Ring
 pub use Rattle.dft_config.specs.Loads

@@ -3,6 +3,7 @@ ghost use Rattle.dft_base.specs.Solutions.{bit_at};
 ghost use Rattle.dft_base.specs.Packed.{packed_bit};
 ghost use Rattle.std.specs.Int.{bit_at as bit_of_word};
 
+use dft_lanes::put;
 use std::alloc::{AllocError, Global};
 use std::marker::Model;
 
@@ -18,11 +19,11 @@ impl Model for Row {
 
     ghost Value = { List Bool };
 
-    ghost use Rattle.dft_equations.specs.RowShown.{bits_of, IsPacked};
+    ghost use Rattle.dft_equations.specs.RowShown.{row_bits, IsRow};
 
-    ghost view = { bits_of };
+    ghost view = { row_bits };
 
-    ghost invariant = { IsPacked };
+    ghost invariant = { IsRow };
 }
 
 impl Row {
@@ -70,16 +71,6 @@ fn zeros(alloc: Global, count: usize) -> Result<Vec<u64>, AllocError>
     ensures { IfOk result (λ words. words.items ≡ replicate count 0) }
 {
     vec![in alloc; 0; count]
-}
-
-// Makes the bit at a place 1, where it is to be.
-fn put(words: &mut [u64], place: usize, bit: bool)
-    requires { place / 64 < length words.old }
-    ensures { (k : ℕ) → packed_bit words.new k ≡ packed_bit words.old k || ((k == place) && bit) }
-{
-    if bit {
-        words[place / 64] |= 1 << (place % 64);
-    }
 }
 
 // A word of the words, and 0 past the last.

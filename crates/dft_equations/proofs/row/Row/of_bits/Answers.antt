@@ -4,7 +4,7 @@ use Rattle.std.proofs.lemmas.Bool.{cases_lt}
 use Rattle.std.proofs.lemmas.List.{get_or-replicate, get_or_past, length-replicate}
 use Rattle.std.proofs.lemmas.List.FromFn.{fill_by_all}
 use Rattle.dft_base.specs.Packed.{packed_bit}
-use Rattle.dft_equations.proofs.RowLemmas.{packed_bit-zeros}
+use Rattle.dft_lanes.proofs.RowLemmas.{packed_bit-zeros}
 use Rattle.dft_equations.proofs.row.Row.of_bits.Goals as goal
 
 zeros_case : (n i : ℕ) → (i < n) ⊎ (n ≤ i) → get_or {A = ℕ} (replicate n 0) i 0 ≡ 0
