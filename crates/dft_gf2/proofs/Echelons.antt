@@ -4,8 +4,7 @@ use Rattle.std.specs.Prelude.{◌&&◌}
 use Rattle.std.proofs.lemmas.Bool.{cases_lt, and_left, eq-eqb, ne_eqb}
 use Rattle.std.proofs.lemmas.List.{get_or_past}
 use Rattle.dft_base.specs.Solutions.{xor, bit_at, sum_over}
-use Rattle.dft_gf2.specs.Rows.{row_at, place_at, IsLedBy}
-use Rattle.dft_gf2.specs.Inside.{IsEchelon}
+use Rattle.dft_gf2.specs.Rows.{row_at, place_at, IsLedBy, IsEchelon}
 use Rattle.dft_gf2.specs.declared.row.Row.{Row}
 use Rattle.dft_gf2.proofs.Sums.{xor_back, sum_same, sum_last}
 

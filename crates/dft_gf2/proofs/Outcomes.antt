@@ -1,17 +1,19 @@
 -- What an equation is to the kept ones, by the row that is left of it.
-use Rattle.std.proofs.Common.{ℕ, Bool, true, false, List, [], ◌∷◌, ◌++◌, ◌≡◌, ◌+◌, ◌<◌, ◌≤◌, ◌≢◌, ◌↔◌, length, refl, sym, ap, arith, ◌∙◌, ◌⊎◌, inl, inr, subst, Option, Some, None, length-set, get_or-set_same, get_or-set_other}
+use Rattle.std.proofs.Common.{ℕ, zero, suc, take, Bool, true, false, List, [], ◌∷◌, ◌++◌, ◌≡◌, ◌+◌, ◌<◌, ◌≤◌, ◌≢◌, ◌↔◌, length, refl, sym, ap, arith, ◌∙◌, ◌⊎◌, inl, inr, subst, Option, Some, None, length-set, get_or-set_same, get_or-set_other}
 use Rattle.std.specs.Prelude.{◌&&◌, not, is_some, slice_set, cond}
+use Rattle.std.proofs.lemmas.List.{take_all, take-append-le}
 use Rattle.std.proofs.lemmas.List.Sums.{count_by-le-length, sum_by-set}
 use Rattle.std.specs.List.{count_by}
-use Rattle.std.proofs.lemmas.Bool.{cases_eq, and_left}
+use Rattle.std.proofs.lemmas.Bool.{cases_eq, cases_lt, and_left}
 use Rattle.dft_base.specs.Solutions.{xor, bit_at, sum_over, Equation, equation_at, Solves, IsSolvable, odd_at, odd_bits, IsSumOf, IsSum, AllGive, NoneGives}
-use Rattle.dft_gf2.specs.Rows.{row_at, place_at, IsWide, IsStarted, IsLedBy, AreLed, IsZero, IsNew, AreSums, Means, IsReduced, with_own, restored, kept_to}
-use Rattle.dft_gf2.specs.Inside.{IsEchelon}
+use Rattle.dft_lanes.specs.Rows.{bits_of}
+use Rattle.dft_lanes.proofs.RowLemmas.{length-bits_of}
+use Rattle.dft_gf2.specs.Rows.{row_at, place_at, IsWide, IsStarted, IsLedBy, AreLed, IsZero, IsNew, AreSums, Means, IsReduced, with_own, restored, kept_to, IsEchelon}
 use Rattle.dft_gf2.specs.declared.row.Row.{Row}
 use Rattle.dft_gf2.specs.declared.system.Outcome.{Outcome}
 use Rattle.dft_gf2.specs.declared.system.Outcome.TheVariants.{Kept, Implied, Conflict}
 use Rattle.dft_gf2.proofs.Sums.{xor_false, xor_back, sum_same, sum_zero}
-use Rattle.dft_gf2.proofs.Echelons.{IsMet, echelon_solved}
+use Rattle.dft_gf2.proofs.Echelons.{IsMet, echelon_solved, some_below}
 use Rattle.dft_gf2.proofs.Restorations.{odd, odd_same, restored_is, length_kept, kept_same, kept_more, sum_meant, sum_picked, kept_solved, rows_sum}
 
 -- the trial, after the kept rows were added to it, still means its equation and names no place that is not kept
@@ -40,6 +42,13 @@ stands n rows places k set bit id old start trial e wide size started reduced = 
   later = λ j past. reduced.later j (λ c i is. (let below : i < k = (e.led c i is).0 in e.later i j below (omega arith))) (started.sums j);
   id_is = reduced.id_is ∙ started.id_is;
 }
+
+-- the same of packed bits
+pub stands_words : (n : ℕ) (rows : List Row) (places : List (Option ℕ)) (k : ℕ) (words : List ℕ) (bit : Bool) (id : ℕ) (old start trial : Row) →
+    IsEchelon n rows places k → IsWide n old → IsStarted (bits_of (length old.set) words) bit id old start → IsReduced rows places start trial → Stands n rows k (bits_of n words) bit id trial
+stands_words n rows places k words bit id old start trial e wide started reduced =
+    let P : ℕ → Type 0 = λ m. IsStarted (bits_of m words) bit id old start in
+    stands n rows places k (bits_of n words) bit id old start trial e wide (length-bits_of n words) (subst P wide.0 started) reduced
 
 count_set : (places : List (Option ℕ)) (c v : ℕ) → c < length places → place_at places c ≡ None → count_by is_some (slice_set places c (Some v)) ≡ count_by is_some places + 1
 count_set places c v less free =
@@ -220,3 +229,84 @@ kept_after n rows places k c row bit id trial e size stood new =
     let own : restored n (kept_to n rows k) (with_own k trial) ≡ record { row = row; bit = bit; id = id } =
     restored_is n (kept_to n rows k) (with_own k trial) row bit id size (own_means n k (kept_to n rows k) row bit trial (length_kept n rows k) stood.means) stood.id_is in
     kept_more n written k ∙ (λ t. before t ++ restored n (before t) (last t) ∷ []) ∙ ap (λ (e : Equation). kept_to n rows k ++ e ∷ []) own
+
+lead_case : (row : Row) (c d : ℕ) → IsLedBy row c → IsLedBy row d → (c < d) ⊎ (d ≤ c) → (d < c) ⊎ (c ≤ d) → c ≡ d
+lead_case row c d one other (inl less) any = let none = one.1 d less in let some = other.0 in absurd cc
+lead_case row c d one other (inr from) (inl less) = let none = other.1 c less in let some = one.0 in absurd cc
+lead_case row c d one other (inr from) (inr to) = omega arith
+
+-- a row has one last column
+pub one_lead : (row : Row) (c d : ℕ) → IsLedBy row c → IsLedBy row d → c ≡ d
+one_lead row c d one other = lead_case row c d one other (cases_lt c d) (cases_lt d c)
+
+count_free : (places : List (Option ℕ)) (c k : ℕ) → c < length places → place_at places c ≡ Some k → count_by is_some (slice_set places c None) + 1 ≡ count_by is_some places
+count_free places c k less led =
+    let one : Option ℕ → ℕ = λ o. cond (is_some o) 1 0 in
+    let some : one (place_at places c) ≡ 1 = ap one led in
+    let written : count_by is_some (slice_set places c None) + one (place_at places c) ≡ count_by is_some places + 0 = sum_by-set one places c None None less in
+    omega (arith, some, written)
+
+free_place : (places : List (Option ℕ)) (c d i : ℕ) → c < length places → place_at (slice_set places c None) d ≡ Some i → (d ≢ c) × (place_at places d ≡ Some i)
+free_place places c d i less is = at (cases_eq d c) where
+  at : (d ≡ c) ⊎ (d ≡ c → ⊥) → (d ≢ c) × (place_at places d ≡ Some i)
+  at (inl same) =
+      let found : place_at (slice_set places c None) c ≡ None = get_or-set_same places c None None less in
+      let there : place_at (slice_set places c None) d ≡ place_at (slice_set places c None) c = ap (place_at (slice_set places c None)) same in
+      absurd cc
+  at (inr apart) = let found : place_at (slice_set places c None) d ≡ place_at places d = get_or-set_other places c d None None apart in (apart, sym found ∙ is)
+
+below_last : (rows : List Row) (k c d i : ℕ) → i < k + 1 → IsLedBy (row_at rows k) c → IsLedBy (row_at rows i) d → d ≢ c → (i ≡ k) ⊎ (i ≡ k → ⊥) → i < k
+below_last rows k c d i less led other apart (inl same) = absurd (apart (one_lead (row_at rows k) d c (subst (λ (m : ℕ). IsLedBy (row_at rows m) d) same other) led))
+below_last rows k c d i less led other apart (inr different) = omega arith
+
+-- the last row is dropped: its column is free
+pub echelon_less : (n : ℕ) (rows : List Row) (places : List (Option ℕ)) (k c : ℕ) → IsEchelon n rows places (k + 1) → IsLedBy (row_at rows k) c → IsEchelon n rows (slice_set places c None) k
+echelon_less n rows places k c e led =
+    let own = e.leads k (omega arith) in
+    let same : own.0 ≡ c = one_lead (row_at rows k) own.0 c (e.led own.0 k own.1).1 led in
+    let at_c : place_at places c ≡ Some k = ap (place_at places) (sym same) ∙ own.1 in
+    let inside : c < length places = some_below places c k at_c in
+    record {
+      wide = e.wide;
+      columns = length-set places c None ∙ e.columns;
+      count = (let freed = count_free places c k inside at_c in omega (arith, e.count));
+      led = λ d i is.
+          let found = free_place places c d i inside is in
+          let before = e.led d i found.1 in
+          (below_last rows k c d i before.0 led before.1 found.0 (cases_eq i k), before.1);
+      leads = λ i less.
+          let there = e.leads i (omega arith) in (
+            there.0,
+            get_or-set_other places c there.0 None None
+                (λ equal. let other : place_at places c ≡ Some i = ap (place_at places) (sym equal) ∙ there.1 in let both : Some i ≡ Some k = sym other ∙ at_c in let clash : i ≡ k = cc in omega (arith, less))
+                ∙ there.1,
+          );
+      own = λ i less. e.own i (omega arith);
+      later = λ i j less above. e.later i j (omega arith) above;
+    }
+
+-- each kept row has a last column
+pub has_lead : (n : ℕ) (rows : List Row) (places : List (Option ℕ)) (k i : ℕ) → IsEchelon n rows places k → i < k → IsZero (row_at rows i) → ⊥
+has_lead n rows places k i e less zero_row =
+    let own = e.leads i less in
+    let one : bit_at (row_at rows i).set own.0 ≡ true = (e.led own.0 i own.1).1.0 in
+    let none : bit_at (row_at rows i).set own.0 ≡ false = zero_row own.0 in
+    absurd cc
+
+take_case : (n : ℕ) (rows : List Row) (k m : ℕ) → (m < suc k) ⊎ (suc k ≤ m) → m ≤ suc k → (m ≤ k → kept_to n rows m ≡ take m (kept_to n rows k)) → kept_to n rows m ≡ take m (kept_to n rows (suc k))
+unfolding kept_to
+take_case n rows k m (inl less) fits ih =
+    let size = length_kept n rows k in
+    ih (omega arith) ∙ sym (take-append-le m (kept_to n rows k) (restored n (kept_to n rows k) (row_at rows k) ∷ []) (omega (arith, size)))
+take_case n rows k m (inr all) fits ih =
+    let same : m ≡ suc k = omega arith in
+    let size = length_kept n rows (suc k) in
+    ap (kept_to n rows) same ∙ sym (take_all m (kept_to n rows (suc k)) (omega (arith, size)))
+
+-- the first rows began from the first equations
+pub kept_take : (n : ℕ) (rows : List Row) (k m : ℕ) → m ≤ k → kept_to n rows m ≡ take m (kept_to n rows k)
+unfolding kept_to
+kept_take n rows zero m fits = let none : m ≡ 0 = omega arith in λ t. take_none n rows m none t where
+  take_none : (n : ℕ) (rows : List Row) (m : ℕ) → m ≡ 0 → kept_to n rows m ≡ take m []
+  take_none n rows m none = let P : ℕ → Type 0 = λ j. kept_to n rows j ≡ take j [] in subst P (sym none) refl
+kept_take n rows (suc k) m fits = take_case n rows k m (cases_lt m (suc k)) fits (kept_take n rows k m)

@@ -1,8 +1,8 @@
 -- Rows are added to a trial: it means what it meant.
-use Rattle.std.proofs.Common.{ℕ, Bool, true, false, List, ◌≡◌, ◌-◌, ◌<◌, ◌≤◌, length, refl, sym, ap, arith, ◌∙◌, ◌⊎◌, inl, inr, Option, Some}
+use Rattle.std.proofs.Common.{ℕ, Bool, true, false, List, ◌≡◌, ◌+◌, ◌<◌, ◌≤◌, length, refl, sym, ap, subst, arith, ◌∙◌, ◌⊎◌, inl, inr, Option, Some}
 use Rattle.std.proofs.lemmas.Bool.{cases_lt}
 use Rattle.dft_base.specs.Solutions.{xor, bit_at, Equation, equation_at, odd_at, odd_bits}
-use Rattle.dft_gf2.specs.Rows.{row_at, place_at, IsLedBy, IsAdded, IsSumRow, Means, IsReduced, IsCleared}
+use Rattle.dft_gf2.specs.Rows.{row_at, place_at, IsLedBy, IsAdded, IsSumRow, Means, IsReduced, IsCleared, IsNew}
 use Rattle.dft_gf2.specs.declared.row.Row.{Row}
 use Rattle.dft_gf2.proofs.Sums.{sum_add_left}
 use Rattle.dft_gf2.proofs.Restorations.{odd, odd_same}
@@ -69,10 +69,20 @@ cleared_added rows places column i old other new same led here add = (
   λ d above clear. xor_falses (bit_at old.set d) (bit_at other.set d) (bit_at new.set d) (add.set d) clear (ap (λ (r : Row). bit_at r.set d) same ∙ led.1 d above),
 )
 
--- the columns from this one on are clear
-pub cleared_more : (places : List (Option ℕ)) (k : ℕ) (old new : Row) → 0 < k → IsCleared places (k - 1) old new true → ((d : ℕ) → k ≤ d → bit_at old.set d ≡ false) →
-    (d : ℕ) → k - 1 ≤ d → bit_at new.set d ≡ false
-cleared_more places k old new some cleared clear d from = at (cases_lt (k - 1) d) where
-  at : (k - 1 < d) ⊎ (d ≤ k - 1) → bit_at new.set d ≡ false
-  at (inl above) = cleared.1 d above (clear d (omega arith))
-  at (inr here) = let same : d ≡ k - 1 = omega arith in ap (bit_at new.set) same ∙ cleared.0
+-- a turn clears a column more from the end on: the trial's last column is before those that were clear
+pub last_before : (n turn c : ℕ) (row : Row) → ((d : ℕ) → n ≤ d + turn → bit_at row.set d ≡ false) → bit_at row.set c ≡ true → c + turn < n
+last_before n turn c row clear one = at (cases_lt (c + turn) n) where
+  at : (c + turn < n) ⊎ (n ≤ c + turn) → c + turn < n
+  at (inl less) = less
+  at (inr past) = let none = clear c past in absurd cc
+
+pub cleared_more : (places : List (Option ℕ)) (n turn c : ℕ) (old new : Row) → c + turn < n → IsLedBy old c → IsCleared places c old new true →
+    (d : ℕ) → n ≤ d + (turn + 1) → bit_at new.set d ≡ false
+cleared_more places n turn c old new before led cleared d from = at (cases_lt c d) where
+  at : (c < d) ⊎ (d ≤ c) → bit_at new.set d ≡ false
+  at (inl above) = cleared.1 d above (led.1 d above)
+  at (inr here) = let same : d ≡ c = omega arith in ap (bit_at new.set) same ∙ cleared.0
+
+-- a column that leads no row is new
+pub new_of : (places : List (Option ℕ)) (c : ℕ) (old new : Row) → c < length places → IsLedBy old c → IsCleared places c old new false → IsNew places new c
+new_of places c old new inside led cleared = (inside, cleared.1, subst (λ (r : Row). IsLedBy r c) (sym cleared.2) led)

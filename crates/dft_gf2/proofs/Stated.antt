@@ -6,8 +6,7 @@ use Rattle.std.proofs.lemmas.Bool.{cases_lt, cases_Bool, false≢true}
 use Rattle.std.proofs.lemmas.List.{get_or_past, get_or-replicate, length-replicate}
 use Rattle.dft_base.specs.Solutions.{xor, bit_at, Equation, equation_at, Solves, IsSolvable, IsSum, AllGive, Contradicts, StatesFrom, ids_to}
 use Rattle.dft_gf2.specs.Laws.{UnsolvableIsStated}
-use Rattle.dft_gf2.specs.Rows.{row_at, place_at, IsWide, IsStarted, IsZero, IsNew, IsAdded, IsReduced, with_own, bits_to, kept_to}
-use Rattle.dft_gf2.specs.Inside.{IsEchelon}
+use Rattle.dft_gf2.specs.Rows.{row_at, place_at, IsWide, IsStarted, IsZero, IsNew, IsAdded, IsReduced, with_own, bits_to, kept_to, IsEchelon}
 use Rattle.dft_gf2.specs.declared.row.Row.{Row}
 use Rattle.dft_gf2.proofs.Restorations.{length_bits, bits_at, solves_push, solves_front, solves_last}
 use Rattle.dft_gf2.proofs.Reductions.{reduced_none, reduced_both, reduced_added, cleared_added}

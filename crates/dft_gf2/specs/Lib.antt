@@ -1,6 +1,8 @@
+pub mod BitsShown
 pub mod Elimination
 pub mod Inside
 pub mod Laws
 pub mod Like
 pub mod Rows
 pub use Rattle.dft_base.specs.Solutions
+pub use Rattle.dft_lanes.specs.Rows as Packing

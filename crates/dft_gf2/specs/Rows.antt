@@ -1,5 +1,6 @@
 -- Rows of an echelon form: what one sums, which column leads it, and the equations that the rows stand for.
-use Rattle.std.specs.Prelude.{ℕ, zero, suc, Bool, true, false, ◌≡◌, ◌<◌, List, [], ◌∷◌, ◌++◌, Option, Some, None, length, get_or, slice_set}
+use Rattle.std.specs.Prelude.{ℕ, zero, suc, Bool, true, false, ◌≡◌, ◌<◌, List, [], ◌∷◌, ◌++◌, Option, Some, None, length, get_or, slice_set, is_some}
+use Rattle.std.specs.List.{count_by}
 use Rattle.dft_base.specs.Solutions.{xor, bit_at, Equation, odd_at, odd_bits}
 use Rattle.dft_gf2.specs.declared.row.Row.{Row}
 
@@ -99,3 +100,13 @@ restored n kept row = record {
 unfoldable pub kept_to : ℕ → List Row → ℕ → List Equation
 kept_to n rows zero = []
 kept_to n rows (suc k) = kept_to n rows k ++ restored n (kept_to n rows k) (row_at rows k) ∷ []
+
+-- each kept row is led by one column of its own, and sums its own equation and earlier ones
+pub record IsEchelon (n : ℕ) (rows : List Row) (places : List (Option ℕ)) (kept : ℕ) : Type 0 where
+  pub wide : AreWide n rows
+  pub columns : length places ≡ n
+  pub count : count_by is_some places ≡ kept
+  pub led : (c i : ℕ) → place_at places c ≡ Some i → (i < kept) × IsLedBy (row_at rows i) c
+  pub leads : (i : ℕ) → i < kept → (c : ℕ) × (place_at places c ≡ Some i)
+  pub own : (i : ℕ) → i < kept → bit_at (row_at rows i).sums i ≡ true
+  pub later : (i j : ℕ) → i < kept → i < j → bit_at (row_at rows i).sums j ≡ false

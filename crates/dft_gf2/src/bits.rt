@@ -1,13 +1,16 @@
-ghost use Rattle.std.specs.Prelude.{◌≡◌, ℕ, ◌<◌, Bool, false, length, replicate, slice_set, IfOk};
-ghost use Rattle.dft_base.specs.Solutions.{bit_at, xor};
+ghost use Rattle.std.specs.Prelude.{◌≡◌, ℕ, ◌+◌, ◌/◌, ◌<◌, Bool, true, false, if◌then◌else◌, length, replicate, slice_set, IfOk, MatchOption};
+ghost use Rattle.dft_base.specs.Solutions.{bit_at, sum_over, xor};
+ghost use Rattle.dft_lanes.specs.Rows.{bits_of, IsPacked};
 
+use dft_lanes::{has_bit, highest, parity_and, put, xor_into};
 use std::alloc::{AllocError, Global};
 use std::marker::Model;
 
-/// A fixed number of bits, one a place. A clause sees them as their list.
+/// A fixed number of bits, one a place, packed into words. A clause sees them as their list.
 #[derive(Drop)]
 pub struct Bits {
-    bits: Vec<bool>,
+    count: u32,
+    words: Vec<u64>,
 }
 
 impl Model for Bits {
@@ -15,17 +18,20 @@ impl Model for Bits {
 
     ghost Value = { List Bool };
 
-    ghost view = { λ b. b.bits.items };
+    ghost use Rattle.dft_gf2.specs.BitsShown.{listed, AreListed};
+
+    ghost view = { listed };
+
+    ghost invariant = { AreListed };
 }
 
 impl Bits {
     /// So many zeros.
-    pub fn zeros(alloc: Global, count: usize) -> Result<Bits, AllocError>
+    pub fn zeros(alloc: Global, count: u32) -> Result<Bits, AllocError>
         ensures { IfOk result (λ bits. bits ≡ replicate count false) }
     {
-        Ok(Bits {
-            bits: vec![in alloc; false; count]?,
-        })
+        let words = zero_words(alloc, (count as usize + 63) / 64)?;
+        Ok(Bits { count, words })
     }
 
     /// The bit at a place.
@@ -33,23 +39,23 @@ impl Bits {
         requires { place < length self.now }
         ensures { result ≡ bit_at self.now place }
     {
-        self.bits[place]
+        has_bit(&self.words, place)
     }
 
-    /// Writes the bit at a place.
+    /// Makes the bit at a place 1, where it is to be.
     pub fn put(&mut self, place: usize, bit: bool)
         requires { place < length self.old }
-        ensures { self.new ≡ slice_set self.old place bit }
+        ensures { self.new ≡ (if bit then slice_set self.old place true else self.old) }
     {
-        self.bits[place] = bit;
+        put(&mut self.words, place, bit);
     }
 
-    /// Takes over as many bits.
-    pub fn copy_from(&mut self, bits: &[bool])
-        requires { length bits.now ≡ length self.old }
-        ensures { self.new ≡ bits.now }
+    /// Takes over as many packed bits.
+    pub fn copy_from(&mut self, words: &[u64])
+        requires { IsPacked (length self.old) words.now }
+        ensures { self.new ≡ bits_of (length self.old) words.now }
     {
-        self.bits.copy_from_slice(bits);
+        self.words.copy_from_slice(words);
     }
 
     /// Makes every bit 0.
@@ -57,9 +63,7 @@ impl Bits {
         ensures size { length self.new ≡ length self.old }
         ensures zeros { (k : ℕ) → bit_at self.new k ≡ false }
     {
-        for place in 0..self.bits.len() {
-            self.bits[place] = false;
-        }
+        self.words.fill(0);
     }
 
     /// Adds as many bits, place by place.
@@ -68,8 +72,37 @@ impl Bits {
         ensures size { length self.new ≡ length self.old }
         ensures sums { (k : ℕ) → bit_at self.new k ≡ xor (bit_at self.old k) (bit_at other.now k) }
     {
-        for place in 0..self.bits.len() {
-            self.bits[place] ^= other.bits[place];
-        }
+        xor_into(&mut self.words, &other.words);
     }
+
+    /// The last place with bit 1.
+    pub fn last(&self) -> Option<u32>
+        ensures { MatchOption result ((k : ℕ) → bit_at self.now k ≡ false)
+            (λ last. (last < length self.now) × (bit_at self.now last ≡ true) × ((k : ℕ) → last < k → bit_at self.now k ≡ false)) }
+    {
+        highest(&self.words)
+    }
+
+    /// The sum over the places of what they and as many others have in common.
+    pub fn sum_with(&self, other: &Bits) -> bool
+        requires { length other.now ≡ length self.now }
+        ensures { result ≡ sum_over (length self.now) self.now (bit_at other.now) }
+    {
+        parity_and(&self.words, &other.words)
+    }
+
+    /// The words.
+    pub fn into_words(self) -> Vec<u64>
+        ensures packed { IsPacked (length self) result.items }
+        ensures bits { bits_of (length self) result.items ≡ self }
+    {
+        self.words
+    }
+}
+
+// So many words without bits.
+fn zero_words(alloc: Global, count: usize) -> Result<Vec<u64>, AllocError>
+    ensures { IfOk result (λ words. words.items ≡ replicate count 0) }
+{
+    vec![in alloc; 0; count]
 }

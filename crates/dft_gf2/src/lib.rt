@@ -1,12 +1,14 @@
-//! Elimination over GF(2): which equations are kept, why one contradicts them, and the solution nearest to a fill.
+//! Elimination over GF(2) by words: which equations are kept, why one contradicts them, and the solution nearest to a fill.
 #![tactic(auto)]
 
 mod bits;
 mod fill;
 mod laws;
+mod mark;
 mod row;
 mod system;
 
 pub use fill::Fill;
 pub use laws::{certified_is_unsolvable, stated_is_unsolvable, unsolvable_is_stated};
+pub use mark::Mark;
 pub use system::{Outcome, System};

@@ -1,6 +1,7 @@
-ghost use Rattle.std.specs.Prelude.{◌≡◌, ℕ, ◌<◌, ◌≤◌, Bool, false, length, replicate, IfOk};
+ghost use Rattle.std.specs.Prelude.{◌≡◌, ℕ, ◌<◌, Bool, length, IfOk, MatchOption};
 ghost use Rattle.dft_base.specs.Solutions.{bit_at, sum_over, xor};
-ghost use Rattle.dft_gf2.specs.Rows.{IsAdded, IsStarted, IsWide};
+ghost use Rattle.dft_lanes.specs.Rows.{bits_of, IsPacked};
+ghost use Rattle.dft_gf2.specs.Rows.{IsAdded, IsLedBy, IsStarted, IsWide, IsZero};
 
 use crate::bits::Bits;
 use std::alloc::{AllocError, Global};
@@ -16,7 +17,7 @@ pub struct Row {
 
 impl Row {
     /// A row of so many columns that sums nothing.
-    pub fn blank(alloc: Global, columns: usize) -> Result<Row, AllocError>
+    pub fn blank(alloc: Global, columns: u32) -> Result<Row, AllocError>
         ensures { IfOk result (IsWide columns) }
     {
         Ok(Row {
@@ -28,9 +29,9 @@ impl Row {
     }
 
     /// Becomes this equation alone.
-    pub fn start(&mut self, row: &[bool], bit: bool, id: u32)
-        requires { length row.now ≡ length self.old.set }
-        ensures { IsStarted row.now bit id self.old self.new }
+    pub fn start(&mut self, row: &[u64], bit: bool, id: u32)
+        requires { IsPacked (length self.old.set) row.now }
+        ensures { IsStarted (bits_of (length self.old.set) row.now) bit id self.old self.new }
     {
         self.set.copy_from(row);
         self.bit = bit;
@@ -57,15 +58,18 @@ impl Row {
         self.sums.add(&other.sums);
     }
 
-    /// The bit that the row gives the column after these bits, where that is its last column.
-    pub fn forced(&self, bits: &[bool]) -> bool
-        requires { length bits.now ≤ length self.now.set }
+    /// The row's last column.
+    pub fn last(&self) -> Option<u32>
+        ensures { MatchOption result (IsZero self.now) (λ column. (column < length self.now.set) × IsLedBy self.now column) }
+    {
+        self.set.last()
+    }
+
+    /// The bit that the row gives its last column, where that column and those after it are 0 among these bits.
+    pub fn forced(&self, bits: &Bits) -> bool
+        requires { length bits.now ≡ length self.now.set }
         ensures { result ≡ xor self.now.bit (sum_over (length bits.now) self.now.set (bit_at bits.now)) }
     {
-        let mut sum = self.bit;
-        for column in 0..bits.len() {
-            sum ^= self.set.get(column) && bits[column];
-        }
-        sum
+        self.bit ^ self.set.sum_with(bits)
     }
 }

@@ -1,10 +1,13 @@
-ghost use Rattle.std.specs.Prelude.{◌≡◌, ℕ, ◌<◌, ◌≤◌, ◌↔◌, Bool, List, [], ◌∷◌, ◌++◌, Option, Some, None, length, IfOk, IfSome, IsSome, IsTrue, MatchOption, slice_set};
+ghost use Rattle.std.specs.Prelude.{◌≡◌, ℕ, ◌<◌, ◌≤◌, ◌↔◌, Bool, true, List, [], ◌∷◌, ◌++◌, Option, Some, None, length, take, IfOk, IfSome, IsSome, IsTrue, MatchOption, slice_set};
 ghost use Rattle.dft_base.specs.Solutions.{bit_at, Equation, IsSum, AllGive, NoneGives, Certifies, Contradicts, IsChosen, Solves};
+ghost use Rattle.dft_lanes.specs.Rows.{bits_of, IsPacked};
 ghost use Rattle.dft_gf2.specs.Elimination.{Elimination, After};
 ghost use Rattle.dft_gf2.specs.Like.{AnswersLike};
-ghost use Rattle.dft_gf2.specs.Rows.{row_at, AreWide, AreLed, IsCleared, IsZero, IsNew, IsReduced, IsWide, with_own};
+ghost use Rattle.dft_gf2.specs.Rows.{row_at, AreWide, AreLed, IsCleared, IsEchelon, IsZero, IsNew, IsReduced, IsWide, with_own};
 
+use crate::bits::Bits;
 use crate::fill::Fill;
+use crate::mark::Mark;
 use crate::row::Row;
 use std::alloc::{AllocError, Global};
 use std::marker::Model;
@@ -52,9 +55,9 @@ impl System {
         Ok(System {
             columns,
             kept: 0,
-            rows: blank_rows(alloc, columns as usize)?,
+            rows: blank_rows(alloc, columns)?,
             row_of: vec![in alloc; None; columns as usize]?,
-            trial: Row::blank(alloc, columns as usize)?,
+            trial: Row::blank(alloc, columns)?,
             refused: false,
         })
     }
@@ -74,13 +77,14 @@ impl System {
     }
 
     /// Adds the equation that gives a set of columns the sum `bit`, unless the kept ones already tell its sum.
-    /// Takes no memory.
-    pub fn try_add(&mut self, row: &[bool], bit: bool, id: u32) -> Outcome
-        requires { length row.now ≡ self.old.columns }
-        ensures kept { result ≡ Outcome.Kept ↔ (IsSum self.old.columns self.old.kept row.now → ⊥) }
-        ensures implied { result ≡ Outcome.Implied ↔ AllGive self.old.columns self.old.kept row.now bit }
-        ensures conflict { result ≡ Outcome.Conflict ↔ (IsSum self.old.columns self.old.kept row.now × NoneGives self.old.columns self.old.kept row.now bit) }
-        ensures after { self.new ≡ After (record { row = row.now; bit = bit; id = id }) result self.old }
+    /// Column c is bit `c % 64` of word `c / 64`. Takes no memory.
+    pub fn try_add(&mut self, row: &[u64], bit: bool, id: u32) -> Outcome
+        requires { IsPacked self.old.columns row.now }
+        ensures kept { result ≡ Outcome.Kept ↔ (IsSum self.old.columns self.old.kept (bits_of self.old.columns row.now) → ⊥) }
+        ensures implied { result ≡ Outcome.Implied ↔ AllGive self.old.columns self.old.kept (bits_of self.old.columns row.now) bit }
+        ensures conflict { result ≡ Outcome.Conflict
+            ↔ (IsSum self.old.columns self.old.kept (bits_of self.old.columns row.now) × NoneGives self.old.columns self.old.kept (bits_of self.old.columns row.now) bit) }
+        ensures after { self.new ≡ After (record { row = bits_of self.old.columns row.now; bit = bit; id = id }) result self.old }
     {
         self.trial.start(row, bit, id);
         match reduce(&mut self.trial, &self.rows, &self.row_of) {
@@ -123,52 +127,69 @@ impl System {
         Ok(ids)
     }
 
+    /// How many equations are kept now.
+    pub fn mark(&self) -> Mark
+        ensures { result ≡ length self.now.kept }
+    {
+        Mark::at(self.kept)
+    }
+
+    /// Drops the equations that were kept since the mark.
+    pub fn back_to(&mut self, mark: Mark)
+        requires { mark ≤ length self.old.kept }
+        ensures { self.new ≡ record { columns = self.old.columns; kept = take mark self.old.kept; refused = None } }
+    {
+        let first = mark.number();
+        free(&self.rows, &mut self.row_of, first, self.kept);
+        self.kept = first;
+        self.refused = false;
+    }
+
     /// The solution that takes each fill bit that it can, in column order.
     pub fn solve<F: Fn(u32) -> bool>(
         &self,
         alloc: Global,
         fill: &Fill<'_, F>,
-    ) -> Result<Vec<bool>, AllocError>
+    ) -> Result<Vec<u64>, AllocError>
         requires answers { AnswersLike (F.pre fill.now.answer) (F.post fill.now.answer) fill.now.like.now }
         requires columns { length fill.now.like.now ≡ self.now.columns }
-        ensures chosen { IfOk result (λ bits. IsChosen self.now.columns self.now.kept fill.now.like.now bits.items) }
-        ensures solves { IfOk result (λ bits. Solves self.now.columns (bit_at bits.items) self.now.kept) }
+        ensures packed { IfOk result (λ words. IsPacked self.now.columns words.items) }
+        ensures chosen { IfOk result (λ words. IsChosen self.now.columns self.now.kept fill.now.like.now (bits_of self.now.columns words.items)) }
+        ensures solves { IfOk result (λ words. Solves self.now.columns (bit_at (bits_of self.now.columns words.items)) self.now.kept) }
     {
-        let mut bits = Vec::with_capacity(alloc, self.columns as usize)?;
+        let mut bits = Bits::zeros(alloc, self.columns)?;
         for column in 0..self.columns {
             let bit = match self.row_of[column as usize] {
                 Some(place) => self.rows[place].forced(&bits),
                 None => fill.bit(column),
             };
-            bits.push(bit)?;
+            bits.put(column as usize, bit);
         }
-        Ok(bits)
+        Ok(bits.into_words())
     }
 }
 
 // As many blank rows as columns.
-fn blank_rows(alloc: Global, columns: usize) -> Result<Vec<Row>, AllocError>
+fn blank_rows(alloc: Global, columns: u32) -> Result<Vec<Row>, AllocError>
     ensures { IfOk result (λ rows. AreWide columns rows.items) }
 {
-    let mut rows = Vec::with_capacity(alloc, columns)?;
+    let mut rows = Vec::with_capacity(alloc, columns as usize)?;
     for _ in 0..columns {
         rows.push(Row::blank(alloc, columns)?)?;
     }
     Ok(rows)
 }
 
-// Clears the trial's column by the row that it leads, and says whether that could be done.
+// Clears the trial's last column by the row that it leads, and says whether that could be done.
 fn clear(trial: &mut Row, rows: &[Row], row_of: &[Option<usize>], column: usize) -> bool
     requires within { column < length row_of.now }
     requires wide { IsWide (length row_of.now) trial.old }
     requires rows { AreWide (length row_of.now) rows.now }
     requires led { AreLed rows.now row_of.now }
+    requires last { bit_at trial.old.set column ≡ true }
     ensures reduced { IsReduced rows.now row_of.now trial.old trial.new }
     ensures cleared { IsCleared row_of.now column trial.old trial.new result }
 {
-    if !trial.set.get(column) {
-        return true;
-    }
     match row_of[column] {
         Some(place) => {
             trial.add(&rows[place]);
@@ -178,7 +199,7 @@ fn clear(trial: &mut Row, rows: &[Row], row_of: &[Option<usize>], column: usize)
     }
 }
 
-// Clears the trial's columns from the last one on, up to one that leads no row.
+// Clears the trial's last column again and again, up to one that leads no row. Each turn clears a column at least.
 fn reduce(trial: &mut Row, rows: &[Row], row_of: &[Option<usize>]) -> Option<usize>
     requires wide { IsWide (length row_of.now) trial.old }
     requires rows { AreWide (length row_of.now) rows.now }
@@ -186,9 +207,12 @@ fn reduce(trial: &mut Row, rows: &[Row], row_of: &[Option<usize>]) -> Option<usi
     ensures reduced { IsReduced rows.now row_of.now trial.old trial.new }
     ensures end { MatchOption result (IsZero trial.new) (IsNew row_of.now trial.new) }
 {
-    for column in (0..row_of.len()).rev() {
-        if !clear(trial, rows, row_of, column) {
-            return Some(column);
+    for _turn in 0..row_of.len() {
+        let Some(column) = trial.last() else {
+            return None;
+        };
+        if !clear(trial, rows, row_of, column as usize) {
+            return Some(column as usize);
         }
     }
     None
@@ -212,4 +236,17 @@ fn keep(
     trial.sums.put(place, true);
     std::mem::swap(trial, &mut rows[place]);
     row_of[column] = Some(place);
+}
+
+// Frees the columns that the rows from a place on are led by.
+fn free(rows: &[Row], row_of: &mut [Option<usize>], first: usize, kept: usize)
+    requires order { first ≤ kept }
+    requires echelon { IsEchelon (length row_of.old) rows.now row_of.old kept }
+    ensures echelon { IsEchelon (length row_of.old) rows.now row_of.new first }
+{
+    for place in (first..kept).rev() {
+        if let Some(column) = rows[place].last() {
+            row_of[column as usize] = None;
+        }
+    }
 }

@@ -55,7 +55,7 @@ fn top_bit(word: u64) -> u32
 
 /// The place of the row's greatest bit, and None where each word is 0.
 pub fn highest(row: &[u64]) -> Option<u32>
-    requires { length row.now ≤ 65536 }
+    requires { length row.now ≤ 2 ^ 26 }
     ensures { MatchOption result ((place : ℕ) → packed_bit row.now place ≡ false)
         (λ top. (packed_bit row.now top ≡ true) × ((place : ℕ) → top < place → packed_bit row.now place ≡ false)) }
 {

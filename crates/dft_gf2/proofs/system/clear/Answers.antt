@@ -36,4 +36,4 @@ returns-in-Some-clause-cleared c =
     let less : c.in-Some.place < length c.args.rows.now = (c.requires.led _ _ c.in-Some.is).0 in
     let same : c.index-rows-place.result ≡ row_at c.args.rows.now c.in-Some.place = get_or_read c.args.rows.now c.in-Some.place c.index-rows-place.result less c.index-rows-place.is _ in
     cleared_added c.args.rows.now c.args.row_of.now c.args.column c.in-Some.place c.args.trial.now c.index-rows-place.result c.add.new.self same
-    (c.requires.led _ _ c.in-Some.is).1 (sym c.get.ensures ∙ c.if-not-get.false) c.add.ensures
+    (c.requires.led _ _ c.in-Some.is).1 c.requires.last c.add.ensures

@@ -1,18 +1,33 @@
 -- The trial stands for the equation, and the outcome follows from what is left of it.
-use Rattle.std.proofs.Common.{ℕ, List, Option, Some, ◌≡◌, ◌∙◌, ◌+◌, None, ap, sym, length, rules}
+use Rattle.std.proofs.Common.{ℕ, List, Option, Some, ◌≡◌, ◌∙◌, ◌+◌, None, ap, length, rules}
 use Rattle.std.specs.Prelude.{slice_set, if◌then◌else◌}
 use Rattle.std.specs.Vec.{with_items}
 use Rattle.std.proofs.lemmas.List.{with_items_is}
+use Rattle.dft_lanes.specs.Rows.{bits_of}
+use Rattle.dft_lanes.proofs.RowLemmas.{length-bits_of}
 use Rattle.dft_gf2.specs.declared.row.Row.{Row}
-use Rattle.dft_gf2.specs.Rows.{IsNew, IsReduced, IsWide, IsZero, restored, row_at, with_own, kept_to}
-use Rattle.dft_gf2.specs.Inside.{IsEchelon}
-use Rattle.dft_gf2.proofs.Outcomes.{Stands, stands, room, echelon_more, told_kept, told_implied, told_conflict, are_led, kept_after}
+use Rattle.dft_gf2.specs.Rows.{IsNew, IsReduced, IsWide, IsZero, restored, row_at, with_own, kept_to, IsEchelon}
+use Rattle.dft_gf2.proofs.Outcomes.{Stands, stands_words, room, echelon_more, told_kept, told_implied, told_conflict, are_led, kept_after}
 use Rattle.dft_gf2.proofs.Restorations.{restored_is}
 use Rattle.dft_gf2.proofs.system.System.try_add.Goals as goal
 use Rattle.dft_gf2.proofs.system.System.try_add.Goals.{then-self, else-self}
 
 pub reduce-requires-clause-led : goal.reduce-requires-clause-led
 reduce-requires-clause-led c = rw (c.deref.ensures.value, c.deref-2.ensures.value) (are_led _ _ _ _ c.self.invariant.echelon)
+
+pub reduce-requires-clause-wide : goal.reduce-requires-clause-wide
+reduce-requires-clause-wide c =
+    rw (c.deref-2.ensures.value, c.self.invariant.echelon.columns) (
+      ap length c.start.ensures.set ∙ length-bits_of (length c.self.inside.trial.set) c.args.row.now ∙ c.self.invariant.trial.0,
+      c.start.ensures.sums_size ∙ c.self.invariant.trial.1,
+    )
+
+pub invariant_of-self-in-None : goal.invariant_of-self-in-None
+invariant_of-self-in-None c =
+    let reduced : IsReduced c.self.inside.rows.items c.self.inside.row_of.items c.start.new.self c.reduce.new.trial = rw c.deref.ensures.value at (rw c.deref-2.ensures.value at c.in-None.ensures.reduced) in
+    let stood : Stands c.self.inside.columns c.self.inside.rows.items c.self.inside.kept (bits_of c.self.inside.columns c.args.row.now) c.args.bit c.args.id c.reduce.new.trial =
+    stands_words _ _ _ _ c.args.row.now c.args.bit c.args.id _ _ _ c.self.invariant.echelon c.self.invariant.trial c.start.ensures reduced in
+    record { echelon = c.self.invariant.echelon; trial = stood.wide; zero = λ is. (c.in-None.ensures.end, is) }
 
 pub keep-requires-clause-place : goal.keep-requires-clause-place
 keep-requires-clause-place c =
@@ -23,18 +38,18 @@ pub keep-requires-clause-sums : goal.keep-requires-clause-sums
 keep-requires-clause-sums c =
     let new : IsNew c.self.inside.row_of.items c.reduce.new.trial c.in-Some.column = rw c.deref-2.ensures.value at c.in-Some.ensures.end in
     let reduced : IsReduced c.self.inside.rows.items c.self.inside.row_of.items c.start.new.self c.reduce.new.trial = rw c.deref.ensures.value at (rw c.deref-2.ensures.value at c.in-Some.ensures.reduced) in
-    let size : length c.args.row.now ≡ c.self.inside.columns = c.requires ∙ sym (ap (λ s. s.columns) c.self.view_is) in
-    let stood : Stands c.self.inside.columns c.self.inside.rows.items c.self.inside.kept c.args.row.now c.args.bit c.args.id c.reduce.new.trial =
-    stands _ _ _ _ c.args.row.now c.args.bit c.args.id _ _ _ c.self.invariant.echelon c.self.invariant.trial size c.start.ensures reduced in
+    let size : length (bits_of c.self.inside.columns c.args.row.now) ≡ c.self.inside.columns = length-bits_of c.self.inside.columns c.args.row.now in
+    let stood : Stands c.self.inside.columns c.self.inside.rows.items c.self.inside.kept (bits_of c.self.inside.columns c.args.row.now) c.args.bit c.args.id c.reduce.new.trial =
+    stands_words _ _ _ _ c.args.row.now c.args.bit c.args.id _ _ _ c.self.invariant.echelon c.self.invariant.trial c.start.ensures reduced in
     rw stood.wide.1 (room _ _ _ _ _ c.reduce.new.trial c.self.invariant.echelon new)
 
 pub invariant_of-self : goal.invariant_of-self
 invariant_of-self c =
     let new : IsNew c.self.inside.row_of.items c.reduce.new.trial c.in-Some.column = rw c.deref-2.ensures.value at c.in-Some.ensures.end in
     let reduced : IsReduced c.self.inside.rows.items c.self.inside.row_of.items c.start.new.self c.reduce.new.trial = rw c.deref.ensures.value at (rw c.deref-2.ensures.value at c.in-Some.ensures.reduced) in
-    let size : length c.args.row.now ≡ c.self.inside.columns = c.requires ∙ sym (ap (λ s. s.columns) c.self.view_is) in
-    let stood : Stands c.self.inside.columns c.self.inside.rows.items c.self.inside.kept c.args.row.now c.args.bit c.args.id c.reduce.new.trial =
-    stands _ _ _ _ c.args.row.now c.args.bit c.args.id _ _ _ c.self.invariant.echelon c.self.invariant.trial size c.start.ensures reduced in
+    let size : length (bits_of c.self.inside.columns c.args.row.now) ≡ c.self.inside.columns = length-bits_of c.self.inside.columns c.args.row.now in
+    let stood : Stands c.self.inside.columns c.self.inside.rows.items c.self.inside.kept (bits_of c.self.inside.columns c.args.row.now) c.args.bit c.args.id c.reduce.new.trial =
+    stands_words _ _ _ _ c.args.row.now c.args.bit c.args.id _ _ _ c.self.invariant.echelon c.self.invariant.trial c.start.ensures reduced in
     let rows_is : (with_items c.self.inside.rows c.keep.new.rows).items ≡ slice_set c.self.inside.rows.items c.self.inside.kept (with_own c.self.inside.kept c.reduce.new.trial) =
     with_items_is c.self.inside.rows c.keep.new.rows (search rules)
     ∙ c.keep.ensures.rows ∙ ap (λ (rows : List Row). slice_set rows c.self.inside.kept (with_own c.self.inside.kept c.reduce.new.trial)) c.deref_mut.ensures.value in
@@ -56,89 +71,89 @@ pub returns-in-Some-clause-kept : goal.returns-in-Some-clause-kept
 returns-in-Some-clause-kept c =
     let new : IsNew c.self.inside.row_of.items c.reduce.new.trial c.in-Some.column = rw c.deref-2.ensures.value at c.in-Some.ensures.end in
     let reduced : IsReduced c.self.inside.rows.items c.self.inside.row_of.items c.start.new.self c.reduce.new.trial = rw c.deref.ensures.value at (rw c.deref-2.ensures.value at c.in-Some.ensures.reduced) in
-    let size : length c.args.row.now ≡ c.self.inside.columns = c.requires ∙ sym (ap (λ s. s.columns) c.self.view_is) in
-    let stood : Stands c.self.inside.columns c.self.inside.rows.items c.self.inside.kept c.args.row.now c.args.bit c.args.id c.reduce.new.trial =
-    stands _ _ _ _ c.args.row.now c.args.bit c.args.id _ _ _ c.self.invariant.echelon c.self.invariant.trial size c.start.ensures reduced in
-    rw (← c.self.view_is) (told_kept _ _ _ _ _ c.args.row.now c.args.bit c.args.id _ c.self.invariant.echelon stood new).kept_is
+    let size : length (bits_of c.self.inside.columns c.args.row.now) ≡ c.self.inside.columns = length-bits_of c.self.inside.columns c.args.row.now in
+    let stood : Stands c.self.inside.columns c.self.inside.rows.items c.self.inside.kept (bits_of c.self.inside.columns c.args.row.now) c.args.bit c.args.id c.reduce.new.trial =
+    stands_words _ _ _ _ c.args.row.now c.args.bit c.args.id _ _ _ c.self.invariant.echelon c.self.invariant.trial c.start.ensures reduced in
+    rw (← c.self.view_is) (told_kept _ _ _ _ _ (bits_of c.self.inside.columns c.args.row.now) c.args.bit c.args.id _ c.self.invariant.echelon stood new).kept_is
 
 pub returns-in-Some-clause-implied : goal.returns-in-Some-clause-implied
 returns-in-Some-clause-implied c =
     let new : IsNew c.self.inside.row_of.items c.reduce.new.trial c.in-Some.column = rw c.deref-2.ensures.value at c.in-Some.ensures.end in
     let reduced : IsReduced c.self.inside.rows.items c.self.inside.row_of.items c.start.new.self c.reduce.new.trial = rw c.deref.ensures.value at (rw c.deref-2.ensures.value at c.in-Some.ensures.reduced) in
-    let size : length c.args.row.now ≡ c.self.inside.columns = c.requires ∙ sym (ap (λ s. s.columns) c.self.view_is) in
-    let stood : Stands c.self.inside.columns c.self.inside.rows.items c.self.inside.kept c.args.row.now c.args.bit c.args.id c.reduce.new.trial =
-    stands _ _ _ _ c.args.row.now c.args.bit c.args.id _ _ _ c.self.invariant.echelon c.self.invariant.trial size c.start.ensures reduced in
-    rw (← c.self.view_is) (told_kept _ _ _ _ _ c.args.row.now c.args.bit c.args.id _ c.self.invariant.echelon stood new).implied_is
+    let size : length (bits_of c.self.inside.columns c.args.row.now) ≡ c.self.inside.columns = length-bits_of c.self.inside.columns c.args.row.now in
+    let stood : Stands c.self.inside.columns c.self.inside.rows.items c.self.inside.kept (bits_of c.self.inside.columns c.args.row.now) c.args.bit c.args.id c.reduce.new.trial =
+    stands_words _ _ _ _ c.args.row.now c.args.bit c.args.id _ _ _ c.self.invariant.echelon c.self.invariant.trial c.start.ensures reduced in
+    rw (← c.self.view_is) (told_kept _ _ _ _ _ (bits_of c.self.inside.columns c.args.row.now) c.args.bit c.args.id _ c.self.invariant.echelon stood new).implied_is
 
 pub returns-in-Some-clause-conflict : goal.returns-in-Some-clause-conflict
 returns-in-Some-clause-conflict c =
     let new : IsNew c.self.inside.row_of.items c.reduce.new.trial c.in-Some.column = rw c.deref-2.ensures.value at c.in-Some.ensures.end in
     let reduced : IsReduced c.self.inside.rows.items c.self.inside.row_of.items c.start.new.self c.reduce.new.trial = rw c.deref.ensures.value at (rw c.deref-2.ensures.value at c.in-Some.ensures.reduced) in
-    let size : length c.args.row.now ≡ c.self.inside.columns = c.requires ∙ sym (ap (λ s. s.columns) c.self.view_is) in
-    let stood : Stands c.self.inside.columns c.self.inside.rows.items c.self.inside.kept c.args.row.now c.args.bit c.args.id c.reduce.new.trial =
-    stands _ _ _ _ c.args.row.now c.args.bit c.args.id _ _ _ c.self.invariant.echelon c.self.invariant.trial size c.start.ensures reduced in
-    rw (← c.self.view_is) (told_kept _ _ _ _ _ c.args.row.now c.args.bit c.args.id _ c.self.invariant.echelon stood new).conflict_is
+    let size : length (bits_of c.self.inside.columns c.args.row.now) ≡ c.self.inside.columns = length-bits_of c.self.inside.columns c.args.row.now in
+    let stood : Stands c.self.inside.columns c.self.inside.rows.items c.self.inside.kept (bits_of c.self.inside.columns c.args.row.now) c.args.bit c.args.id c.reduce.new.trial =
+    stands_words _ _ _ _ c.args.row.now c.args.bit c.args.id _ _ _ c.self.invariant.echelon c.self.invariant.trial c.start.ensures reduced in
+    rw (← c.self.view_is) (told_kept _ _ _ _ _ (bits_of c.self.inside.columns c.args.row.now) c.args.bit c.args.id _ c.self.invariant.echelon stood new).conflict_is
 
 pub returns-in-Some-clause-after : goal.returns-in-Some-clause-after
 returns-in-Some-clause-after c =
     let new : IsNew c.self.inside.row_of.items c.reduce.new.trial c.in-Some.column = rw c.deref-2.ensures.value at c.in-Some.ensures.end in
     let reduced : IsReduced c.self.inside.rows.items c.self.inside.row_of.items c.start.new.self c.reduce.new.trial = rw c.deref.ensures.value at (rw c.deref-2.ensures.value at c.in-Some.ensures.reduced) in
-    let size : length c.args.row.now ≡ c.self.inside.columns = c.requires ∙ sym (ap (λ s. s.columns) c.self.view_is) in
-    let stood : Stands c.self.inside.columns c.self.inside.rows.items c.self.inside.kept c.args.row.now c.args.bit c.args.id c.reduce.new.trial =
-    stands _ _ _ _ c.args.row.now c.args.bit c.args.id _ _ _ c.self.invariant.echelon c.self.invariant.trial size c.start.ensures reduced in
+    let size : length (bits_of c.self.inside.columns c.args.row.now) ≡ c.self.inside.columns = length-bits_of c.self.inside.columns c.args.row.now in
+    let stood : Stands c.self.inside.columns c.self.inside.rows.items c.self.inside.kept (bits_of c.self.inside.columns c.args.row.now) c.args.bit c.args.id c.reduce.new.trial =
+    stands_words _ _ _ _ c.args.row.now c.args.bit c.args.id _ _ _ c.self.invariant.echelon c.self.invariant.trial c.start.ensures reduced in
     let rows_is : (with_items c.self.inside.rows c.keep.new.rows).items ≡ slice_set c.self.inside.rows.items c.self.inside.kept (with_own c.self.inside.kept c.reduce.new.trial) =
     with_items_is c.self.inside.rows c.keep.new.rows (search rules)
     ∙ c.keep.ensures.rows ∙ ap (λ (rows : List Row). slice_set rows c.self.inside.kept (with_own c.self.inside.kept c.reduce.new.trial)) c.deref_mut.ensures.value in
     rw (← c.self.view_is, rows_is) (λ t. record {
       columns = c.self.inside.columns;
-      kept = kept_after _ _ _ _ _ c.args.row.now c.args.bit c.args.id _ c.self.invariant.echelon size stood new t;
+      kept = kept_after _ _ _ _ _ (bits_of c.self.inside.columns c.args.row.now) c.args.bit c.args.id _ c.self.invariant.echelon size stood new t;
       refused = None;
     })
 
 pub returns-after-self-clause-kept : goal.returns-after-self-clause-kept
 returns-after-self-clause-kept c =
     let reduced : IsReduced c.self.inside.rows.items c.self.inside.row_of.items c.start.new.self c.reduce.new.trial = rw c.deref.ensures.value at (rw c.deref-2.ensures.value at c.in-None.ensures.reduced) in
-    let size : length c.args.row.now ≡ c.self.inside.columns = c.requires ∙ sym (ap (λ s. s.columns) c.self.view_is) in
-    let stood : Stands c.self.inside.columns c.self.inside.rows.items c.self.inside.kept c.args.row.now c.args.bit c.args.id c.reduce.new.trial =
-    stands _ _ _ _ c.args.row.now c.args.bit c.args.id _ _ _ c.self.invariant.echelon c.self.invariant.trial size c.start.ensures reduced in
+    let size : length (bits_of c.self.inside.columns c.args.row.now) ≡ c.self.inside.columns = length-bits_of c.self.inside.columns c.args.row.now in
+    let stood : Stands c.self.inside.columns c.self.inside.rows.items c.self.inside.kept (bits_of c.self.inside.columns c.args.row.now) c.args.bit c.args.id c.reduce.new.trial =
+    stands_words _ _ _ _ c.args.row.now c.args.bit c.args.id _ _ _ c.self.invariant.echelon c.self.invariant.trial c.start.ensures reduced in
     let clear : IsZero c.reduce.new.trial = c.in-None.ensures.end in
     elim c.if-self.branch [
-      | then-self w ↦ rw (← c.self.view_is, w.result-is) (told_conflict _ _ _ _ c.args.row.now c.args.bit c.args.id _ c.self.invariant.echelon stood clear w.if-self.true).kept_is
-      | else-self w ↦ rw (← c.self.view_is, w.result-is) (told_implied _ _ _ _ c.args.row.now c.args.bit c.args.id _ c.self.invariant.echelon stood clear w.if-self.false).kept_is
+      | then-self w ↦ rw (← c.self.view_is, w.result-is) (told_conflict _ _ _ _ (bits_of c.self.inside.columns c.args.row.now) c.args.bit c.args.id _ c.self.invariant.echelon stood clear w.if-self.true).kept_is
+      | else-self w ↦ rw (← c.self.view_is, w.result-is) (told_implied _ _ _ _ (bits_of c.self.inside.columns c.args.row.now) c.args.bit c.args.id _ c.self.invariant.echelon stood clear w.if-self.false).kept_is
     ]
 
 pub returns-after-self-clause-implied : goal.returns-after-self-clause-implied
 returns-after-self-clause-implied c =
     let reduced : IsReduced c.self.inside.rows.items c.self.inside.row_of.items c.start.new.self c.reduce.new.trial = rw c.deref.ensures.value at (rw c.deref-2.ensures.value at c.in-None.ensures.reduced) in
-    let size : length c.args.row.now ≡ c.self.inside.columns = c.requires ∙ sym (ap (λ s. s.columns) c.self.view_is) in
-    let stood : Stands c.self.inside.columns c.self.inside.rows.items c.self.inside.kept c.args.row.now c.args.bit c.args.id c.reduce.new.trial =
-    stands _ _ _ _ c.args.row.now c.args.bit c.args.id _ _ _ c.self.invariant.echelon c.self.invariant.trial size c.start.ensures reduced in
+    let size : length (bits_of c.self.inside.columns c.args.row.now) ≡ c.self.inside.columns = length-bits_of c.self.inside.columns c.args.row.now in
+    let stood : Stands c.self.inside.columns c.self.inside.rows.items c.self.inside.kept (bits_of c.self.inside.columns c.args.row.now) c.args.bit c.args.id c.reduce.new.trial =
+    stands_words _ _ _ _ c.args.row.now c.args.bit c.args.id _ _ _ c.self.invariant.echelon c.self.invariant.trial c.start.ensures reduced in
     let clear : IsZero c.reduce.new.trial = c.in-None.ensures.end in
     elim c.if-self.branch [
-      | then-self w ↦ rw (← c.self.view_is, w.result-is) (told_conflict _ _ _ _ c.args.row.now c.args.bit c.args.id _ c.self.invariant.echelon stood clear w.if-self.true).implied_is
-      | else-self w ↦ rw (← c.self.view_is, w.result-is) (told_implied _ _ _ _ c.args.row.now c.args.bit c.args.id _ c.self.invariant.echelon stood clear w.if-self.false).implied_is
+      | then-self w ↦ rw (← c.self.view_is, w.result-is) (told_conflict _ _ _ _ (bits_of c.self.inside.columns c.args.row.now) c.args.bit c.args.id _ c.self.invariant.echelon stood clear w.if-self.true).implied_is
+      | else-self w ↦ rw (← c.self.view_is, w.result-is) (told_implied _ _ _ _ (bits_of c.self.inside.columns c.args.row.now) c.args.bit c.args.id _ c.self.invariant.echelon stood clear w.if-self.false).implied_is
     ]
 
 pub returns-after-self-clause-conflict : goal.returns-after-self-clause-conflict
 returns-after-self-clause-conflict c =
     let reduced : IsReduced c.self.inside.rows.items c.self.inside.row_of.items c.start.new.self c.reduce.new.trial = rw c.deref.ensures.value at (rw c.deref-2.ensures.value at c.in-None.ensures.reduced) in
-    let size : length c.args.row.now ≡ c.self.inside.columns = c.requires ∙ sym (ap (λ s. s.columns) c.self.view_is) in
-    let stood : Stands c.self.inside.columns c.self.inside.rows.items c.self.inside.kept c.args.row.now c.args.bit c.args.id c.reduce.new.trial =
-    stands _ _ _ _ c.args.row.now c.args.bit c.args.id _ _ _ c.self.invariant.echelon c.self.invariant.trial size c.start.ensures reduced in
+    let size : length (bits_of c.self.inside.columns c.args.row.now) ≡ c.self.inside.columns = length-bits_of c.self.inside.columns c.args.row.now in
+    let stood : Stands c.self.inside.columns c.self.inside.rows.items c.self.inside.kept (bits_of c.self.inside.columns c.args.row.now) c.args.bit c.args.id c.reduce.new.trial =
+    stands_words _ _ _ _ c.args.row.now c.args.bit c.args.id _ _ _ c.self.invariant.echelon c.self.invariant.trial c.start.ensures reduced in
     let clear : IsZero c.reduce.new.trial = c.in-None.ensures.end in
     elim c.if-self.branch [
-      | then-self w ↦ rw (← c.self.view_is, w.result-is) (told_conflict _ _ _ _ c.args.row.now c.args.bit c.args.id _ c.self.invariant.echelon stood clear w.if-self.true).conflict_is
-      | else-self w ↦ rw (← c.self.view_is, w.result-is) (told_implied _ _ _ _ c.args.row.now c.args.bit c.args.id _ c.self.invariant.echelon stood clear w.if-self.false).conflict_is
+      | then-self w ↦ rw (← c.self.view_is, w.result-is) (told_conflict _ _ _ _ (bits_of c.self.inside.columns c.args.row.now) c.args.bit c.args.id _ c.self.invariant.echelon stood clear w.if-self.true).conflict_is
+      | else-self w ↦ rw (← c.self.view_is, w.result-is) (told_implied _ _ _ _ (bits_of c.self.inside.columns c.args.row.now) c.args.bit c.args.id _ c.self.invariant.echelon stood clear w.if-self.false).conflict_is
     ]
 
 pub returns-after-self-clause-after : goal.returns-after-self-clause-after
 returns-after-self-clause-after c =
     let reduced : IsReduced c.self.inside.rows.items c.self.inside.row_of.items c.start.new.self c.reduce.new.trial = rw c.deref.ensures.value at (rw c.deref-2.ensures.value at c.in-None.ensures.reduced) in
-    let size : length c.args.row.now ≡ c.self.inside.columns = c.requires ∙ sym (ap (λ s. s.columns) c.self.view_is) in
-    let stood : Stands c.self.inside.columns c.self.inside.rows.items c.self.inside.kept c.args.row.now c.args.bit c.args.id c.reduce.new.trial =
-    stands _ _ _ _ c.args.row.now c.args.bit c.args.id _ _ _ c.self.invariant.echelon c.self.invariant.trial size c.start.ensures reduced in
-    let own : restored c.self.inside.columns (kept_to c.self.inside.columns c.self.inside.rows.items c.self.inside.kept) c.reduce.new.trial ≡ record { row = c.args.row.now; bit = c.args.bit; id = c.args.id } =
-    restored_is _ _ c.reduce.new.trial c.args.row.now c.args.bit c.args.id size stood.means stood.id_is in
+    let size : length (bits_of c.self.inside.columns c.args.row.now) ≡ c.self.inside.columns = length-bits_of c.self.inside.columns c.args.row.now in
+    let stood : Stands c.self.inside.columns c.self.inside.rows.items c.self.inside.kept (bits_of c.self.inside.columns c.args.row.now) c.args.bit c.args.id c.reduce.new.trial =
+    stands_words _ _ _ _ c.args.row.now c.args.bit c.args.id _ _ _ c.self.invariant.echelon c.self.invariant.trial c.start.ensures reduced in
+    let own : restored c.self.inside.columns (kept_to c.self.inside.columns c.self.inside.rows.items c.self.inside.kept) c.reduce.new.trial ≡ record { row = (bits_of c.self.inside.columns c.args.row.now); bit = c.args.bit; id = c.args.id } =
+    restored_is _ _ c.reduce.new.trial (bits_of c.self.inside.columns c.args.row.now) c.args.bit c.args.id size stood.means stood.id_is in
     elim c.if-self.branch [
       | then-self w ↦ rw (← c.self.view_is, w.result-is) (λ t. record { columns = c.self.inside.columns; kept = kept_to c.self.inside.columns c.self.inside.rows.items c.self.inside.kept; refused = if w.if-self.true t then Some (own t) else None })
       | else-self w ↦ rw (← c.self.view_is, w.result-is) (λ t. record { columns = c.self.inside.columns; kept = kept_to c.self.inside.columns c.self.inside.rows.items c.self.inside.kept; refused = if w.if-self.false t then Some (own t) else None })
