@@ -1,6 +1,7 @@
 ghost use Rattle.std.specs.Prelude.{◌<◌, length};
 
 use dft_gf2::{Fill, Outcome, System};
+use dft_lanes::{has_bit, is_packed, put};
 use std::alloc::{AllocError, Global};
 use std::test::Fail;
 
@@ -15,6 +16,17 @@ fn bits(alloc: Global, text: &str) -> Result<Vec<bool>, AllocError> {
     Ok(bits)
 }
 
+// The words that hold these bits.
+fn packed(alloc: Global, bits: &[bool]) -> Result<Vec<u64>, AllocError> {
+    let mut words = vec![in alloc; 0u64; bits.len().div_ceil(64)]?;
+    for place in 0..bits.len() {
+        if place / 64 < words.len() {
+            put(&mut words, place, bits[place]);
+        }
+    }
+    Ok(words)
+}
+
 // Adds an equation, as `101=0`, and says its outcome by a letter.
 fn added(alloc: Global, system: &mut System, equation: &str, id: u32) -> Result<char, AllocError> {
     let bits = bits(alloc, equation)?;
@@ -22,19 +34,24 @@ fn added(alloc: Global, system: &mut System, equation: &str, id: u32) -> Result<
     if bits.len() != columns + 1 {
         return Ok('?');
     }
-    Ok(match system.try_add(&bits[..columns], bits[columns], id) {
+    let row = packed(alloc, &bits[..columns])?;
+    if !is_packed(&row, system.columns()) {
+        return Ok('!');
+    }
+    Ok(match system.try_add(&row, bits[columns], id) {
         Outcome::Kept => 'K',
         Outcome::Implied => 'I',
         Outcome::Conflict => 'C',
     })
 }
 
-// The solution nearest to the fill that a text writes.
-fn solved(alloc: Global, system: &System, fill: &str) -> Result<Vec<bool>, AllocError> {
+// The solution nearest to the fill that a text writes, as a text.
+fn solved(alloc: Global, system: &System, fill: &str) -> Result<String, AllocError> {
     let like = bits(alloc, fill)?;
     let like = like.as_slice();
+    let mut text = String::new(alloc);
     if like.len() != system.columns() as usize {
-        return Ok(Vec::new(alloc));
+        return Ok(text);
     }
     let fill = Fill::new(
         |column: u32| -> bool
@@ -42,7 +59,12 @@ fn solved(alloc: Global, system: &System, fill: &str) -> Result<Vec<bool>, Alloc
         { like[column as usize] },
         like,
     );
-    system.solve(alloc, &fill)
+    let words = system.solve(alloc, &fill)?;
+    for column in 0..like.len() {
+        let one = column / 64 < words.len() && has_bit(&words, column);
+        text.push(if one { '1' } else { '0' })?;
+    }
+    Ok(text)
 }
 
 // Writes what a system tells: the outcomes, the certificate where the last equation is a conflict, and the solution.
@@ -60,9 +82,7 @@ fn told(alloc: Global, columns: u32, equations: &str, fill: &str) -> Result<Stri
         }
     }
     text.push(' ')?;
-    for bit in solved(alloc, &system, fill)? {
-        text.push(if bit { '1' } else { '0' })?;
-    }
+    text.push_str(&solved(alloc, &system, fill)?)?;
     Ok(text)
 }
 
@@ -113,10 +133,33 @@ fn a_conflict_names_the_rows_that_sum_to_it(rt: HostRuntime) -> Result<(), Fail>
     if system.has_conflict() {
         assert_eq!(rt; system.certificate(alloc)?.as_slice(), &[7u32, 8, 10][..]);
     }
-    assert_eq!(rt;
-        solved(alloc, &system, "111")?.as_slice(),
-        &[true, true, true][..]
-    );
+    assert_eq!(rt; solved(alloc, &system, "111")?.as_str(), "111");
+    Ok(())
+}
+
+#[test]
+fn rows_that_were_kept_since_a_mark_are_dropped(rt: HostRuntime) -> Result<(), Fail> {
+    let alloc = rt.alloc();
+    let mut system = System::new(alloc, 3)?;
+    assert_eq!(rt; added(alloc, &mut system, "101=0", 7)?, 'K');
+    assert_eq!(rt; added(alloc, &mut system, "011=0", 8)?, 'K');
+    let mark = system.mark();
+    let kept = mark.number();
+    assert_eq!(rt; kept, 2);
+    assert_eq!(rt; added(alloc, &mut system, "100=1", 9)?, 'K');
+    assert_eq!(rt; added(alloc, &mut system, "110=1", 10)?, 'C');
+    if kept <= system.mark().number() {
+        system.back_to(mark);
+    }
+    assert!(rt; !system.has_conflict());
+    assert_eq!(rt; system.mark().number(), 2);
+    assert_eq!(rt; added(alloc, &mut system, "110=1", 11)?, 'C');
+    if system.has_conflict() {
+        assert_eq!(rt; system.certificate(alloc)?.as_slice(), &[7u32, 8, 11][..]);
+    }
+    assert_eq!(rt; solved(alloc, &system, "010")?.as_str(), "000");
+    assert_eq!(rt; added(alloc, &mut system, "001=1", 12)?, 'K');
+    assert_eq!(rt; solved(alloc, &system, "010")?.as_str(), "111");
     Ok(())
 }
 

@@ -22,7 +22,7 @@ ids_passed p es m ids so_far free =
     let next : m + 1 ≡ suc m = omega arith in
     so_far ∙ sym (append-nil (ids_to m p es)) ∙ (λ t. ids_to m p es ++ (if sym free t then (equation_at es m).id ∷ [] else [])) ∙ ap (λ (k : ℕ). ids_to k p es) (sym next)
 
-ids_same : (m : ℕ) (p q : ℕ → Bool) (es fs : List Equation) → ((j : ℕ) → j < m → p j ≡ q j) → ((j : ℕ) → j < m → equation_at es j ≡ equation_at fs j) → ids_to m p es ≡ ids_to m q fs
+pub ids_same : (m : ℕ) (p q : ℕ → Bool) (es fs : List Equation) → ((j : ℕ) → j < m → p j ≡ q j) → ((j : ℕ) → j < m → equation_at es j ≡ equation_at fs j) → ids_to m p es ≡ ids_to m q fs
 ids_same zero p q es fs picks same = refl
 ids_same (suc m) p q es fs picks same =
     let ih : ids_to m p es ≡ ids_to m q fs = ids_same m p q es fs (λ j less. picks j (omega arith)) (λ j less. same j (omega arith)) in

@@ -8,3 +8,5 @@ pub mod Certificates
 pub mod Choices
 pub mod Unsolvable
 pub mod Stated
+pub mod OneChosen
+pub mod OneStated

@@ -1,4 +1,4 @@
-ghost use Rattle.dft_gf2.specs.Laws.{CertifiedIsUnsolvable, StatedIsUnsolvable, UnsolvableIsStated};
+ghost use Rattle.dft_gf2.specs.Laws.{CertifiedIsUnsolvable, ChosenIsOne, StatedIsOne, StatedIsUnsolvable, UnsolvableIsStated};
 
 /// Equations with a certificate have no solution.
 pub fn certified_is_unsolvable()
@@ -13,4 +13,14 @@ pub fn stated_is_unsolvable()
 /// Equations without solution have a stated certificate.
 pub fn unsolvable_is_stated()
     ensures { UnsolvableIsStated }
+{}
+
+/// A list of equations has one stated certificate at most.
+pub fn stated_is_one()
+    ensures { StatedIsOne }
+{}
+
+/// A fill chooses one list of bits at most.
+pub fn chosen_is_one()
+    ensures { ChosenIsOne }
 {}

@@ -1,7 +1,8 @@
-ghost use Rattle.std.specs.Prelude.{◌≡◌, ℕ, ◌+◌, ◌<◌, ◌≤◌, ◌^◌, true, false, length, slice_index, IsTrue, MatchOption, bit_and, bit_xor};
+ghost use Rattle.std.specs.Prelude.{◌≡◌, ℕ, ◌+◌, ◌<◌, ◌≤◌, ◌^◌, ◌↔◌, true, false, length, slice_index, IsTrue, MatchOption, bit_and, bit_xor};
 ghost use Rattle.std.specs.Simd.Lanes.{chunk, put_chunk, zip2};
 ghost use Rattle.dft_base.specs.Packed.{packed_bit};
 ghost use Rattle.dft_base.specs.Solutions.{xor};
+ghost use Rattle.dft_lanes.specs.Rows.{IsPacked};
 ghost use Rattle.dft_lanes.specs.Sums.{odd_common};
 
 use std::simd::prelude::*;
@@ -96,4 +97,17 @@ pub fn parity_and(a: &[u64], b: &[u64]) -> bool
         sum ^= a[word] & b[word];
     }
     sum.count_ones() % 2 == 1
+}
+
+/// Whether the row has the words for so many columns, and no bit past them.
+pub fn is_packed(row: &[u64], columns: u32) -> bool
+    ensures { IsTrue result ↔ IsPacked columns row.now }
+{
+    if row.len() != (columns as usize + 63) / 64 {
+        return false;
+    }
+    match highest(row) {
+        Some(top) => top < columns,
+        None => true,
+    }
 }

@@ -1,6 +1,7 @@
 //! Times one equation more at systems of linear equations that are half full of random ones.
 
 use dft_gf2::{Outcome, System};
+use dft_lanes::is_packed;
 use rand_core::utils::NextWord;
 use rand_pcg::Pcg32;
 use std::alloc::Global;
@@ -19,15 +20,15 @@ pub fn time_systems(
 ) -> io::Result<()> {
     let mut random = Pcg32::new(42, 54);
     let mut system = System::new(alloc, columns)?;
-    let mut row = vec![in alloc; false; columns as usize]?;
+    let mut row = vec![in alloc; 0u64; columns.div_ceil(64) as usize]?;
     let mut kept = 0u32;
     for id in 0..columns / 2 {
-        draw(&mut row, &mut random);
+        draw(&mut row, columns, &mut random);
         if added(&mut system, &row, id) {
             kept = kept.wrapping_add(1);
         }
     }
-    draw(&mut row, &mut random);
+    draw(&mut row, columns, &mut random);
     let start = Instant::now(rt)?;
     for id in 0..TIMED {
         added(&mut system, &row, id);
@@ -36,14 +37,17 @@ pub fn time_systems(
     eprintln!(rt; "{columns} columns, {kept} kept: {took} ns for one more")
 }
 
-// Draws each bit of a row.
-fn draw(row: &mut [bool], random: &mut Pcg32) {
-    for bit in row.iter_mut() {
-        *bit = random.next_word() % 2 == 1;
+// Draws each bit of a row of so many columns.
+fn draw(row: &mut [u64], columns: u32, random: &mut Pcg32) {
+    let mut left = columns;
+    for word in row.iter_mut() {
+        let bits = (random.next_word() as u64) << 32 | random.next_word() as u64;
+        *word = if left < 64 { bits & ((1 << left) - 1) } else { bits };
+        left = left.saturating_sub(64);
     }
 }
 
 // Adds the equation that gives the row 0, and says whether it was kept.
-fn added(system: &mut System, row: &[bool], id: u32) -> bool {
-    row.len() == system.columns() as usize && system.try_add(row, false, id) == Outcome::Kept
+fn added(system: &mut System, row: &[u64], id: u32) -> bool {
+    is_packed(row, system.columns()) && system.try_add(row, false, id) == Outcome::Kept
 }
