@@ -1,4 +1,4 @@
-//! Cases worked by hand, as tests of the readers of TOML, the load equations, elimination and the outside.
+//! Cases worked by hand, as tests of the readers of TOML, the load equations, row kernels, elimination and the outside.
 #![tactic(auto)]
 
 #[cfg(test)]
@@ -7,6 +7,8 @@ mod cells;
 mod configurations;
 #[cfg(test)]
 mod keys;
+#[cfg(test)]
+mod lanes;
 #[cfg(test)]
 mod libraries;
 #[cfg(test)]

@@ -13,7 +13,7 @@ xor_into-requires c =
     let size = size_of c.self.inside.count c.self.inside.words.items c.args.self.now c.self.view_is in
     let other = size_of c.other.inside.count c.other.inside.words.items c.args.other.now c.other.view_is in
     let same : c.other.inside.count ≡ c.self.inside.count = omega (arith, c.requires) in
-    omega (arith, c.deref.ensures.value, c.deref_mut.ensures.value, c.self.invariant.packed.size, c.other.invariant.packed.size)
+    omega (arith, c.self.invariant.packed.size, c.other.invariant.packed.size)
 
 pub invariant_of-self : goal.invariant_of-self
 invariant_of-self c =

@@ -6,7 +6,7 @@ use Rattle.dft_gf2.proofs.bits.Bits.get.Goals as goal
 pub has_bit-requires : goal.has_bit-requires
 has_bit-requires c =
     let size = size_of c.self.inside.count c.self.inside.words.items c.args.self.now c.self.view_is in
-    omega (arith, c.deref.ensures.value, c.self.invariant.packed.size, c.requires)
+    omega (arith, c.self.invariant.packed.size, c.requires)
 
 pub returns : goal.returns
 returns c =

@@ -8,7 +8,7 @@ use Rattle.dft_gf2.proofs.bits.Bits.put.Goals as goal
 pub put-requires : goal.put-requires
 put-requires c =
     let size = size_of c.self.inside.count c.self.inside.words.items c.args.self.now c.self.view_is in
-    omega (arith, c.deref_mut.ensures.value, c.self.invariant.packed.size, c.requires)
+    omega (arith, c.self.invariant.packed.size, c.requires)
 
 pub invariant_of-self : goal.invariant_of-self
 invariant_of-self c =
