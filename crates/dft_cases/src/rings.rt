@@ -131,12 +131,7 @@ fn states_of_crossed_taps_are_as_by_hand(rt: HostRuntime) -> Result<(), Fail> {
 #[test]
 fn the_newest_variables_of_a_realistic_ring_fall_by_a_cycle(rt: HostRuntime) -> Result<(), Fail> {
     let alloc = rt.alloc();
-    let rows = told(
-        alloc,
-        REALISTIC_RING,
-        &[5u16, 5, 5, 5, 5, 5, 5, 5],
-        13,
-    )?;
+    let rows = told(alloc, REALISTIC_RING, &[5u16, 5, 5, 5, 5, 5, 5, 5], 13)?;
     assert!(rt;
         newest(alloc, rows.as_str())?
             .as_str()

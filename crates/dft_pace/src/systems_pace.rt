@@ -4,19 +4,15 @@ use dft_gf2::{Outcome, System};
 use rand_core::utils::NextWord;
 use rand_pcg::Pcg32;
 use std::alloc::Global;
+use std::io;
 use std::rt::Clock;
 use std::time::Instant;
-use std::io;
 
 // How many equations are timed.
 const TIMED: u32 = 16;
 
 /// Fills a system with so many columns to the half, and times what an equation more takes.
-pub fn time_systems(
-    rt: &(impl Clock + Eprint),
-    alloc: Global,
-    columns: u32,
-) -> io::Result<()> {
+pub fn time_systems(rt: &(impl Clock + Eprint), alloc: Global, columns: u32) -> io::Result<()> {
     let mut random = Pcg32::new(42, 54);
     let mut system = System::new(alloc, columns)?;
     let mut row = vec![in alloc; false; columns as usize]?;
