@@ -2,7 +2,7 @@
 
 ghost use Rattle.std.specs.Prelude.{◌≤◌, IfErr, IfOk, length};
 ghost use Rattle.dft_config.specs.Range.{IsInRange};
-ghost use Rattle.dft_stil.specs.Patterns.{IsWellFormed};
+ghost use Rattle.dft_patterns.specs.Patterns.{IsWellFormed};
 ghost use Rattle.dft_verilog.specs.Refusals.{IsRefused};
 ghost use Rattle.dft_verilog_out.specs.Named.{GatesAreJoined};
 ghost use Rattle.dft_top.specs.Checks.{ConfigText, IsDesignOf, LibraryText, NetlistText, PatternText};
