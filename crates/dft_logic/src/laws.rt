@@ -1,0 +1,29 @@
+//! The laws of what has to be settled, as contracts of functions that do nothing.
+
+ghost use Rattle.dft_logic.specs.Laws.{LockupIsInput, LockupIsWire, NeededIsView, NeededIsStrobe, NextOfNeeded, LookOfNeeded, StillIsOne, StillHasOneNext, StillIsStrobe, StillNextIsStrobe, ViewIsAboveStrobe, NoTwoBits};
+
+/// In every view a lock-up shows its input in the view of its own clock, pulsing or not. At a strobe it is a wire.
+pub fn lockup_shows_input()
+    ensures view { LockupIsInput }
+    ensures strobe { LockupIsWire }
+{}
+
+/// What is not read need not be settled: an assignment that gives each net of a set closed under reading its
+/// driver's value agrees there with the settled one.
+pub fn needed_is_settled()
+    ensures view { NeededIsView }
+    ensures next { NextOfNeeded }
+    ensures strobe { NeededIsStrobe }
+    ensures look { LookOfNeeded }
+{}
+
+/// What does not move has one pass: where nothing that a flip-flop needs moves, its next value is one whatever the
+/// map, and without another pulsed clock it is that from the strobe.
+pub fn still_has_one_pass()
+    ensures one { StillIsOne }
+    ensures next { StillHasOneNext }
+    ensures strobe { StillIsStrobe }
+    ensures from { StillNextIsStrobe }
+    ensures above { ViewIsAboveStrobe }
+    ensures bits { NoTwoBits }
+{}

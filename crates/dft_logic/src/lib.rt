@@ -1,0 +1,6 @@
+//! What of a design's logic has to be settled: its definitions, and its laws as contracts of functions that do nothing.
+#![tactic(auto)]
+
+mod laws;
+
+pub use laws::{lockup_shows_input, needed_is_settled, still_has_one_pass};
