@@ -1,1 +1,3 @@
 mod Examples
+pub mod LockupLemmas
+pub mod ReadLemmas
