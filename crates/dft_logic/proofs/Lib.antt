@@ -1,3 +1,5 @@
 mod Examples
 pub mod LockupLemmas
 pub mod ReadLemmas
+pub mod NeededLemmas
+pub mod StillLemmas
