@@ -3,3 +3,4 @@ pub mod LockupLemmas
 pub mod ReadLemmas
 pub mod NeededLemmas
 pub mod StillLemmas
+pub mod RiseLemmas

@@ -1,5 +1,5 @@
 -- A lock-up shows its input in the view of its own clock.
-use Rattle.std.proofs.Common.{ℕ, ◌≡◌, ◌∙◌, ap}
+use Rattle.std.proofs.Common.{◌∙◌, ap}
 use Rattle.dft_netlist.specs.Logic.{Meaning}
 use Rattle.dft_netlist.specs.Settled.{value_given}
 use Rattle.dft_abstract.specs.Cycle.{view_sources}

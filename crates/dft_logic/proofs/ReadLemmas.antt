@@ -7,7 +7,7 @@ use Rattle.dft_base.specs.Tri.{known}
 use Rattle.dft_cells.specs.Gates.{tri_of}
 use Rattle.dft_cells.specs.FlipFlops.{tri_forced, tri_chosen}
 use Rattle.dft_netlist.specs.Drivers.{Source, Net, Tied, Loose, nets_of, AreBelow}
-use Rattle.dft_netlist.specs.Logic.{Logic, Cell, Force, Scan, Meaning, Input, Clock, Gate, Joined, Flop, Lockup, Free, reads, IsRanked}
+use Rattle.dft_netlist.specs.Logic.{Logic, Force, Scan, Meaning, Input, Clock, Gate, Joined, Flop, Lockup, Free, reads, IsRanked}
 use Rattle.dft_netlist.specs.Settled.{TriSources, value_from, value_given}
 use Rattle.dft_abstract.specs.Cycle.{Pulse, tri_forced_by, tri_taken_by, next_value}
 use Rattle.dft_logic.specs.Needs.{HasAll, read_in, IsReadClosed, chosen_reads, taken_reads, reads_at, forced_reads, next_reads}
@@ -69,7 +69,7 @@ needed_within l rank t s needs v w ranked closed tv sw ports clocks flops lockup
 needed_within l rank t s needs v w ranked closed tv sw ports clocks flops lockups (suc fuel) d net less need =
     let e : ℕ = read_in d (l.net net) in
     let same : Agree (v e) (w e) (reads (l.net net)) = all_agree rank (rank net) (needs e) (v e) (w e) (reads (l.net net)) (ranked net) (closed d net need)
-        (λ k below has. needed_within l rank t s needs v w ranked closed tv sw ports clocks flops lockups fuel e k (omega arith) has) in
+    (λ k below has. needed_within l rank t s needs v w ranked closed tv sw ports clocks flops lockups fuel e k (omega arith) has) in
     tv d net need ∙ given_agrees (t d) (s d) v w d net (l.net net) (ports d) (clocks d net need) (flops d net need) (lockups d) same ∙ sym (sw d net need)
 
 -- two families of assignments, each settled on a closed set from sources that agree for its nets, agree on it

@@ -1,19 +1,18 @@
 -- What does not move has one pass.
-use Rattle.std.proofs.Common.{ℕ, Bool, true, false, [], ◌∷◌, ◌≡◌, ◌<◌, ◌==◌, zero, suc, refl, sym, ap, arith, ◌∙◌}
+use Rattle.std.proofs.Common.{ℕ, Bool, true, false, ◌≡◌, ◌==◌, refl, sym, ap, ◌∙◌}
 use Rattle.std.specs.Prelude.{if◌then◌else◌}
 use Rattle.dft_base.specs.declared.tri.Tri.{Tri}
-use Rattle.dft_base.specs.declared.tri.Tri.TheVariants.{Zero, One, Unknown}
-use Rattle.dft_base.specs.Tri.{known, AboveTri}
-use Rattle.dft_cells.proofs.Completions.{above_self}
+use Rattle.dft_base.specs.declared.tri.Tri.TheVariants.{Zero, Unknown}
+use Rattle.dft_base.specs.Tri.{AboveTri, join}
+use Rattle.dft_cells.proofs.Completions.{above_self, join_least, join_over_left, join_over_right}
 use Rattle.dft_netlist.specs.Drivers.{nets_of}
-use Rattle.dft_netlist.specs.Logic.{Logic, Meaning, Clock, Flop, IsRanked}
+use Rattle.dft_netlist.specs.Logic.{Logic, Meaning, Clock, Flop}
 use Rattle.dft_netlist.specs.Settled.{value_from}
-use Rattle.dft_netlist.proofs.Meanings.{source_monotone, meaning_monotone, at_nets}
-use Rattle.dft_abstract.specs.Cycle.{Pulse, view_sources, AreViews}
-use Rattle.dft_abstract.proofs.Views.{family}
-use Rattle.dft_logic.specs.Needs.{strobe_from, IsStrobe, next_reads}
-use Rattle.dft_logic.specs.Moves.{is_other, moves, is_other_clock}
-use Rattle.dft_logic.specs.Laws.{StillIsOne, StillHasOneNext, StillIsStrobe, StillNextIsStrobe, ViewIsAboveStrobe, NoTwoBits}
+use Rattle.dft_abstract.specs.Cycle.{Pulse, view_sources, AreViews, next_value, IsClosed, IsLeast}
+use Rattle.dft_abstract.proofs.Views.{views_exist}
+use Rattle.dft_logic.specs.Needs.{strobe_from, next_reads}
+use Rattle.dft_logic.specs.Moves.{moves, is_other_clock}
+use Rattle.dft_logic.specs.Laws.{StillIsOne, StillHasOneNext, StillIsStrobe, StillNextIsStrobe, OnePass}
 use Rattle.dft_logic.proofs.ReadLemmas.{needed_agrees, next_agrees, set_agrees}
 
 -- ---- what moves and what does not
@@ -63,48 +62,45 @@ still_next_is_strobe l rank p poss needs view settled ranked closed still uncloc
     (set_agrees (needs d) settled (view d) (nets_of (next_reads (l.cell c) p.ports (value_from settled))) has
     (λ k need. sym (still_is_strobe l rank p poss needs view settled ranked closed still unclocked views strobe d k need))))
 
--- ---- views stand above the strobe
+-- ---- the map of one pass
 
-over_old : (up own : Bool) (old poss : Tri) → AboveTri poss old → AboveTri (if up then (if own then old else poss) else old) old
-over_old false own old poss h = above_self old
-over_old true true old poss h = above_self old
-over_old true false old poss h = h
+-- the old value, joined with the next one where the domain pulses
+abbrev raised : (up : Bool) (old next : Tri) → Tri
+raised up old next = if up then join old next else old
 
-over_low : (up own : Bool) → AboveTri (if up then (if own then Zero else Unknown) else Zero) Zero
-over_low false own = tt
-over_low true true = tt
-over_low true false = tt
+raised_old : (up : Bool) (old next : Tri) → AboveTri (raised up old next) old
+raised_old true old next = join_over_left old next old (above_self old)
+raised_old false old next = above_self old
 
-above_within : (l : Logic) (rank : ℕ → ℕ) (p : Pulse) (poss : ℕ → Tri) (view : ℕ → ℕ → Tri) (settled : ℕ → Tri) → IsRanked l rank → ((c : ℕ) → AboveTri (poss c) (p.old c)) → AreViews l p poss view →
-    IsStrobe l p.ports p.old settled → (fuel d net : ℕ) → rank net < fuel → AboveTri (view d net) (settled net)
-above_within l rank p poss view settled ranked over views strobe zero d net less = absurd (omega arith)
-above_within l rank p poss view settled ranked over views strobe (suc fuel) d net less =
-    let ih : (e k : ℕ) → rank k < rank net → AboveTri (view e k) (settled k) = λ e k below. above_within l rank p poss view settled ranked over views strobe fuel e k (omega arith) in
-    at_nets _ _ _ _ (views d net) (strobe net)
-    (meaning_monotone rank (view_sources l p poss view d) (strobe_from p.ports p.old settled) (view d) settled net
-    (λ k. above_self (p.ports k)) (λ e. over_low (p.pulsed e) (e == d)) (λ c. over_old (p.pulsed (l.cell c).domain) ((l.cell c).domain == d) (p.old c) (poss c) (over c))
-    (l.net net) (ranked net) (ih d) (λ c e source below. source_monotone rank (rank net) (view e) settled source below (ih e)))
+above_equal : (t u v : Tri) → u ≡ v → AboveTri t u → AboveTri t v
+above_equal t u v is h = rw is at h
 
-pub view_is_above_strobe : ViewIsAboveStrobe
-view_is_above_strobe l rank p poss view settled ranked over views strobe d net = above_within l rank p poss view settled ranked over views strobe (suc (rank net)) d net (omega arith)
+raised_next : (up : Bool) (old next its : Tri) → up ≡ true → its ≡ next → AboveTri (raised up old next) its
+raised_next true old next its is same = rw same (join_over_right old next next (above_self next))
+raised_next false old next its is same = absurd cc
 
--- values that stand above one value and are known are the same
-one_bit : (a b : Bool) (t : Tri) → AboveTri (known a) t → AboveTri (known b) t → a ≡ b
-one_bit false false t h k = refl
-one_bit true true t h k = refl
-one_bit false true Zero h k = absurd k
-one_bit false true One h k = absurd h
-one_bit false true Unknown h k = absurd h
-one_bit true false Zero h k = absurd h
-one_bit true false One h k = absurd k
-one_bit true false Unknown h k = absurd h
+raised_least : (up : Bool) (other old next its : Tri) → AboveTri other old → (up ≡ true → AboveTri other its) → (up ≡ true → its ≡ next) → AboveTri other (raised up old next)
+raised_least true other old next its a b same = join_least other old next a (above_equal other its next (same refl) (b refl))
+raised_least false other old next its a b same = a
 
-known_over : (t u : Tri) (a : Bool) → t ≡ known a → AboveTri t u → AboveTri (known a) u
-known_over t u a is h = rw is at h
+chosen_same : (up : Bool) (next its old : Tri) → (up ≡ true → next ≡ its) → (if up then next else old) ≡ (if up then its else old)
+chosen_same true next its old same = same refl
+chosen_same false next its old same = refl
 
-pub no_two_bits : NoTwoBits
-no_two_bits l rank p poss other view its ranked over above views others d e net a b is was =
-    let found = family l rank (λ d. strobe_from p.ports p.old (λ k. Unknown)) (λ d e. d) ranked in
-    one_bit a b (found.0 0 net)
-    (known_over (view d net) (found.0 0 net) a is (view_is_above_strobe l rank p poss view (found.0 0) ranked over views (found.1 0) d net))
-    (known_over (its e net) (found.0 0 net) b was (view_is_above_strobe l rank p other its (found.0 0) ranked above others (found.1 0) e net))
+pub one_pass : OnePass
+one_pass l rank p needs settled ranked closed still unclocked strobe reads =
+    let next : ℕ → Tri = next_value l p (λ d. settled) in
+    let poss : ℕ → Tri = λ c. raised (p.pulsed (l.cell c).domain) (p.old c) (next c) in
+    let found = views_exist l rank p poss ranked in
+    let same : (other : ℕ → Tri) (its : ℕ → ℕ → Tri) → AreViews l p other its → (c : ℕ) → p.pulsed (l.cell c).domain ≡ true → next_value l p its c ≡ next c =
+    λ other its views c up. still_next_is_strobe l rank p other needs its settled ranked closed still unclocked views strobe c (reads c up) in
+    let is_closed : IsClosed l p poss found.0 = record {
+      views = found.1;
+      old = λ c. raised_old (p.pulsed (l.cell c).domain) (p.old c) (next c);
+      next = λ c up. raised_next (p.pulsed (l.cell c).domain) (p.old c) (next c) (next_value l p found.0 c) up (same poss found.0 found.1 c up);
+    } in
+    let is_least : IsLeast l p poss found.0 = record {
+      closed = is_closed;
+      least = λ other its its_closed c. raised_least (p.pulsed (l.cell c).domain) (other c) (p.old c) (next c) (next_value l p its c) (its_closed.old c) (its_closed.next c) (same other its its_closed.views c);
+    } in
+    (poss, (found.0, (is_least, λ c. chosen_same (p.pulsed (l.cell c).domain) _ _ (p.old c) (same poss found.0 found.1 c))))

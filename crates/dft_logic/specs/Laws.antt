@@ -7,7 +7,7 @@ use Rattle.dft_netlist.specs.Drivers.{Source}
 use Rattle.dft_netlist.specs.Logic.{Logic, Lockup, IsRanked}
 use Rattle.dft_netlist.specs.Settled.{value_from}
 use Rattle.dft_netlist.specs.Orders.{numbers_of}
-use Rattle.dft_abstract.specs.Cycle.{Pulse, AreViews, next_value}
+use Rattle.dft_abstract.specs.Cycle.{Pulse, AreViews, next_value, IsLeast, after_pulse}
 use Rattle.dft_logic.specs.Needs.{HasAll, IsReadClosed, AreViewsOn, IsStrobe, IsStrobeClosed, IsStrobeOn, AreSeen, HasNextReads}
 use Rattle.dft_logic.specs.Moves.{IsStill, IsUnclocked}
 
@@ -78,7 +78,14 @@ StillNextIsStrobe =
     IsStill l p.pulsed needs → IsUnclocked l p.pulsed needs → AreViews l p poss view → IsStrobe l p.ports p.old settled →
     (c : ℕ) → HasNextReads l p needs (λ d. settled) c → next_value l p view c ≡ next_value l p (λ d. settled) c
 
--- ---- views and the strobe
+-- Where that holds of all pulsed flip-flops, the least map is their old values joined with these next values, and after the pulse they have them.
+abbrev pub OnePass : Type 0
+OnePass =
+    (l : Logic) (rank : ℕ → ℕ) (p : Pulse) (needs : (view net : ℕ) → Bool) (settled : ℕ → Tri) → IsRanked l rank → IsReadClosed l needs → IsStill l p.pulsed needs →
+    IsUnclocked l p.pulsed needs → IsStrobe l p.ports p.old settled → ((c : ℕ) → p.pulsed (l.cell c).domain ≡ true → HasNextReads l p needs (λ d. settled) c) →
+    (poss : ℕ → Tri) × ((view : ℕ → ℕ → Tri) × (IsLeast l p poss view × ((c : ℕ) → after_pulse l p view c ≡ after_pulse l p (λ d. settled) c)))
+
+-- ---- views rise from the strobe with the map
 
 -- Each net's value in each view stands above its value at the strobe before the pulse.
 abbrev pub ViewIsAboveStrobe : Type 0
@@ -91,3 +98,15 @@ abbrev pub NoTwoBits : Type 0
 NoTwoBits =
     (l : Logic) (rank : ℕ → ℕ) (p : Pulse) (poss other : ℕ → Tri) (view its : ℕ → ℕ → Tri) → IsRanked l rank → ((c : ℕ) → AboveTri (poss c) (p.old c)) → ((c : ℕ) → AboveTri (other c) (p.old c)) →
     AreViews l p poss view → AreViews l p other its → (d e net : ℕ) (a b : Bool) → view d net ≡ known a → its e net ≡ known b → a ≡ b
+
+-- Where one map stands above another, so do its views.
+abbrev pub ViewsRise : Type 0
+ViewsRise =
+    (l : Logic) (rank : ℕ → ℕ) (p : Pulse) (high low : ℕ → Tri) (view its : ℕ → ℕ → Tri) → IsRanked l rank → ((c : ℕ) → AboveTri (high c) (low c)) → AreViews l p high view → AreViews l p low its →
+    (d net : ℕ) → AboveTri (view d net) (its d net)
+
+-- What a next value is read from at one map it is read from at a higher one: a scan enable may become Unknown.
+abbrev pub ReadsRise : Type 0
+ReadsRise =
+    (l : Logic) (p : Pulse) (needs : (view net : ℕ) → Bool) (view its : ℕ → ℕ → Tri) → ((d net : ℕ) → AboveTri (view d net) (its d net)) →
+    (c : ℕ) → HasNextReads l p needs view c → HasNextReads l p needs its c

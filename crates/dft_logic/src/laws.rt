@@ -1,6 +1,6 @@
 //! The laws of what has to be settled, as contracts of functions that do nothing.
 
-ghost use Rattle.dft_logic.specs.Laws.{LockupIsInput, LockupIsWire, NeededIsView, NeededIsStrobe, NextOfNeeded, LookOfNeeded, StillIsOne, StillHasOneNext, StillIsStrobe, StillNextIsStrobe, ViewIsAboveStrobe, NoTwoBits};
+ghost use Rattle.dft_logic.specs.Laws.{LockupIsInput, LockupIsWire, NeededIsView, NeededIsStrobe, NextOfNeeded, LookOfNeeded, StillIsOne, StillHasOneNext, StillIsStrobe, StillNextIsStrobe, OnePass, ViewIsAboveStrobe, NoTwoBits, ViewsRise, ReadsRise};
 
 /// In every view a lock-up shows its input in the view of its own clock, pulsing or not. At a strobe it is a wire.
 pub fn lockup_shows_input()
@@ -24,6 +24,13 @@ pub fn still_has_one_pass()
     ensures next { StillHasOneNext }
     ensures strobe { StillIsStrobe }
     ensures from { StillNextIsStrobe }
-    ensures above { ViewIsAboveStrobe }
+    ensures pass { OnePass }
+{}
+
+/// Each net's value in each view stands above its value at the strobe, and rises with the map.
+pub fn views_rise()
+    ensures strobe { ViewIsAboveStrobe }
     ensures bits { NoTwoBits }
+    ensures map { ViewsRise }
+    ensures reads { ReadsRise }
 {}

@@ -3,4 +3,4 @@
 
 mod laws;
 
-pub use laws::{lockup_shows_input, needed_is_settled, still_has_one_pass};
+pub use laws::{lockup_shows_input, needed_is_settled, still_has_one_pass, views_rise};
