@@ -8,6 +8,7 @@ use Rattle.dft_netlist.specs.Logic.{Logic, Cell, Meaning, Input, Clock, Flop, Lo
 use Rattle.dft_abstract.specs.Cycle.{Pulse, next_value}
 use Rattle.dft_logic.specs.Needs.{read_in, next_reads}
 use Rattle.dft_logic.specs.Moves.{moves, is_other_clock}
+use Rattle.dft_logic.specs.Shows.{Shown, Nothing, Domain, Several, is_still, with_shown, lockup_shown, shown_given}
 
 -- ---- parts
 
@@ -57,6 +58,10 @@ quiet_still = refl
 
 quiet_at_rest : (d : ℕ) → moves quiet (only 1) d (quiet.net 3) ≡ false
 quiet_at_rest d = refl
+
+-- where ca pulses, what p shows may move in every view
+quiet_shows : (shown : ℕ → Shown) → shown 3 ≡ Domain 0 → shown_given quiet (only 0) shown 4 (quiet.net 4) ≡ Several
+quiet_shows shown is = ap (λ (t : Shown). lockup_shown 1 (with_shown t Nothing)) is
 
 -- an assignment of the needed values alone, and any others: the second flip-flop takes what the first may have
 abbrev ca_pulses : Pulse
@@ -119,3 +124,26 @@ meeting_captures = refl
 
 meeting_moves : moves meeting both 0 (meeting.net 6) ≡ true
 meeting_moves = refl
+
+-- ---- lock-ups of a third clock between its flip-flops and the chains of two domains
+
+-- nets ca, cb, ck, d, r, s, a, b: `DFF 0 (.CK(ck), .D(d), .Q(r)); LOCKUP 1 (.CK(ck), .D(r), .Q(s)); DFF 2 (.CK(ca), .D(s), .Q(a)); DFF 3 (.CK(cb), .D(s), .Q(b));`
+abbrev chains : Logic
+chains = record {
+  net = net_in (Clock ∷ Clock ∷ Clock ∷ Input ∷ Flop 0 false ∷ Lockup 1 2 (Net 4) ∷ Flop 2 false ∷ Flop 3 false ∷ []);
+  cell = cell_in (plain 2 3 ∷ plain 2 3 ∷ plain 0 5 ∷ plain 1 5 ∷ []);
+}
+
+abbrev all_three : ℕ → Bool
+all_three e = true
+
+-- where all three pulse, the lock-up holds, and shows nothing that moves
+chains_flop : (shown : ℕ → Shown) → shown_given chains all_three shown 4 (chains.net 4) ≡ Domain 2
+chains_flop shown = refl
+
+chains_hold : (shown : ℕ → Shown) → shown 4 ≡ Domain 2 → shown_given chains all_three shown 5 (chains.net 5) ≡ Nothing
+chains_hold shown is = ap (λ (t : Shown). lockup_shown 2 (with_shown t Nothing)) is
+
+-- without it the first cell of a chain would read what moves
+chains_race : is_still 0 (Domain 2) ≡ false
+chains_race = refl

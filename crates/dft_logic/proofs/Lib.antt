@@ -3,4 +3,5 @@ pub mod LockupLemmas
 pub mod ReadLemmas
 pub mod NeededLemmas
 pub mod StillLemmas
+pub mod ShownLemmas
 pub mod RiseLemmas

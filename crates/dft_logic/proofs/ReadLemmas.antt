@@ -1,5 +1,5 @@
 -- What a net and a flip-flop take depends on what they read.
-use Rattle.std.proofs.Common.{ℕ, Bool, true, false, List, [], ◌∷◌, ◌≡◌, ◌<◌, zero, suc, refl, sym, ap, arith, ◌∙◌, Option, None, Some, map}
+use Rattle.std.proofs.Common.{ℕ, Bool, true, false, List, [], ◌∷◌, ◌≡◌, ◌<◌, zero, suc, refl, sym, ap, subst, arith, ◌∙◌, Option, None, Some, map}
 use Rattle.std.specs.List.{AllByRecursion}
 use Rattle.dft_base.specs.declared.tri.Tri.{Tri}
 use Rattle.dft_base.specs.declared.tri.Tri.TheVariants.{Zero, One, Unknown}
@@ -7,7 +7,7 @@ use Rattle.dft_base.specs.Tri.{known}
 use Rattle.dft_cells.specs.Gates.{tri_of}
 use Rattle.dft_cells.specs.FlipFlops.{tri_forced, tri_chosen}
 use Rattle.dft_netlist.specs.Drivers.{Source, Net, Tied, Loose, nets_of, AreBelow}
-use Rattle.dft_netlist.specs.Logic.{Logic, Force, Scan, Meaning, Input, Clock, Gate, Joined, Flop, Lockup, Free, reads, IsRanked}
+use Rattle.dft_netlist.specs.Logic.{Logic, Cell, Force, Scan, Meaning, Input, Clock, Gate, Joined, Flop, Lockup, Free, reads, IsRanked}
 use Rattle.dft_netlist.specs.Settled.{TriSources, value_from, value_given}
 use Rattle.dft_abstract.specs.Cycle.{Pulse, tri_forced_by, tri_taken_by, next_value}
 use Rattle.dft_logic.specs.Needs.{HasAll, read_in, IsReadClosed, chosen_reads, taken_reads, reads_at, forced_reads, next_reads}
@@ -167,3 +167,26 @@ next_agrees l p c v w same =
 pub set_agrees : (needs : ℕ → Bool) (v w : ℕ → Tri) (nets : List ℕ) → HasAll needs nets → ((k : ℕ) → needs k ≡ true → v k ≡ w k) → Agree v w nets
 set_agrees needs v w [] all same = tt
 set_agrees needs v w (net ∷ nets) all same = (same net all.0, set_agrees needs v w nets all.1 same)
+
+taken_same : (needs : ℕ → Bool) (scan : Option Scan) (v w : ℕ → Tri) (data_in : Source) → Agree v w (nets_of (taken_reads scan (value_from v) data_in)) →
+    HasAll needs (nets_of (taken_reads scan (value_from v) data_in)) → HasAll needs (nets_of (taken_reads scan (value_from w) data_in))
+taken_same needs None v w d same all = all
+taken_same needs (Some scan) v w d same all =
+    let e : value_from v scan.enable ≡ value_from w scan.enable = source_agrees v w scan.enable (first_agrees v w scan.enable (chosen_reads (value_from v scan.enable) scan.input d) same) in
+    subst (λ (t : Tri). HasAll needs (nets_of (scan.enable ∷ chosen_reads t scan.input d))) e all
+
+pressed_same : (needs : ℕ → Bool) (port : Tri) (v w : ℕ → Tri) (before after : List Source) → Agree v w (nets_of (reads_at port before)) →
+    (Agree v w (nets_of before) → HasAll needs (nets_of before) → HasAll needs (nets_of after)) → HasAll needs (nets_of (reads_at port before)) → HasAll needs (nets_of (reads_at port after))
+pressed_same needs Zero v w before after same taken all = tt
+pressed_same needs One v w before after same taken all = taken same all
+pressed_same needs Unknown v w before after same taken all = taken same all
+
+forced_same : (needs : ℕ → Bool) (force : Option Force) (ports v w : ℕ → Tri) (before after : List Source) → Agree v w (nets_of (forced_reads force ports before)) →
+    (Agree v w (nets_of before) → HasAll needs (nets_of before) → HasAll needs (nets_of after)) → HasAll needs (nets_of (forced_reads force ports before)) → HasAll needs (nets_of (forced_reads force ports after))
+forced_same needs None ports v w before after same taken all = taken same all
+forced_same needs (Some force) ports v w before after same taken all = pressed_same needs (ports force.port) v w before after same taken all
+
+-- assignments that agree on what a next value is read from read it from the same nets
+pub next_reads_same : (needs : ℕ → Bool) (cell : Cell) (ports v w : ℕ → Tri) → Agree v w (nets_of (next_reads cell ports (value_from v))) → HasAll needs (nets_of (next_reads cell ports (value_from v))) →
+    HasAll needs (nets_of (next_reads cell ports (value_from w)))
+next_reads_same needs cell ports v w same all = forced_same needs cell.force ports v w _ _ same (taken_same needs cell.scan v w cell.input) all

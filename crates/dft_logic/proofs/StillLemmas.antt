@@ -83,7 +83,7 @@ raised_least : (up : Bool) (other old next its : Tri) → AboveTri other old →
 raised_least true other old next its a b same = join_least other old next a (above_equal other its next (same refl) (b refl))
 raised_least false other old next its a b same = a
 
-chosen_same : (up : Bool) (next its old : Tri) → (up ≡ true → next ≡ its) → (if up then next else old) ≡ (if up then its else old)
+pub chosen_same : (up : Bool) (next its old : Tri) → (up ≡ true → next ≡ its) → (if up then next else old) ≡ (if up then its else old)
 chosen_same true next its old same = same refl
 chosen_same false next its old same = refl
 

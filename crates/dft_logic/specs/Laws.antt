@@ -10,6 +10,7 @@ use Rattle.dft_netlist.specs.Orders.{numbers_of}
 use Rattle.dft_abstract.specs.Cycle.{Pulse, AreViews, next_value, IsLeast, after_pulse}
 use Rattle.dft_logic.specs.Needs.{HasAll, IsReadClosed, AreViewsOn, IsStrobe, IsStrobeClosed, IsStrobeOn, AreSeen, HasNextReads}
 use Rattle.dft_logic.specs.Moves.{IsStill, IsUnclocked}
+use Rattle.dft_logic.specs.Shows.{Shown, is_still, IsShownOn, HasStillReads}
 
 -- ---- lock-ups
 
@@ -84,6 +85,21 @@ OnePass =
     (l : Logic) (rank : ℕ → ℕ) (p : Pulse) (needs : (view net : ℕ) → Bool) (settled : ℕ → Tri) → IsRanked l rank → IsReadClosed l needs → IsStill l p.pulsed needs →
     IsUnclocked l p.pulsed needs → IsStrobe l p.ports p.old settled → ((c : ℕ) → p.pulsed (l.cell c).domain ≡ true → HasNextReads l p needs (λ d. settled) c) →
     (poss : ℕ → Tri) × ((view : ℕ → ℕ → Tri) × (IsLeast l p poss view × ((c : ℕ) → after_pulse l p view c ≡ after_pulse l p (λ d. settled) c)))
+
+-- ---- all views by one assignment
+
+-- In every view in which what a net of the set shows is still, the net has its value of the strobe.
+abbrev pub ShownIsStrobe : Type 0
+ShownIsStrobe =
+    (l : Logic) (rank : ℕ → ℕ) (p : Pulse) (poss : ℕ → Tri) (needs : (net : ℕ) → Bool) (shown : ℕ → Shown) (values : ℕ → Tri) (view : ℕ → ℕ → Tri) → IsRanked l rank → IsStrobeClosed l needs →
+    IsShownOn l p.pulsed needs shown → IsStrobeOn l p.ports p.old needs values → AreViews l p poss view → (d net : ℕ) → needs net ≡ true → is_still d (shown net) ≡ true → view d net ≡ values net
+
+-- Where the next values of all pulsed flip-flops are read from such nets, they take them from these values, at a least map that is there.
+abbrev pub PassOfShown : Type 0
+PassOfShown =
+    (l : Logic) (rank : ℕ → ℕ) (p : Pulse) (needs : (net : ℕ) → Bool) (shown : ℕ → Shown) (values : ℕ → Tri) → IsRanked l rank → IsStrobeClosed l needs →
+    IsShownOn l p.pulsed needs shown → IsStrobeOn l p.ports p.old needs values → ((c : ℕ) → p.pulsed (l.cell c).domain ≡ true → HasStillReads l p needs shown values c) →
+    (poss : ℕ → Tri) × ((view : ℕ → ℕ → Tri) × (IsLeast l p poss view × ((c : ℕ) → after_pulse l p view c ≡ after_pulse l p (λ d. values) c)))
 
 -- ---- views rise from the strobe with the map
 

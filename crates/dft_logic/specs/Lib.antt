@@ -5,4 +5,5 @@ pub use Rattle.dft_netlist.specs.Settled
 pub use Rattle.dft_abstract.specs.Cycle
 pub mod Needs
 pub mod Moves
+pub mod Shows
 pub mod Laws

@@ -1,6 +1,6 @@
 //! The laws of what has to be settled, as contracts of functions that do nothing.
 
-ghost use Rattle.dft_logic.specs.Laws.{LockupIsInput, LockupIsWire, NeededIsView, NeededIsStrobe, NextOfNeeded, LookOfNeeded, StillIsOne, StillHasOneNext, StillIsStrobe, StillNextIsStrobe, OnePass, ViewIsAboveStrobe, NoTwoBits, ViewsRise, ReadsRise};
+ghost use Rattle.dft_logic.specs.Laws.{LockupIsInput, LockupIsWire, NeededIsView, NeededIsStrobe, NextOfNeeded, LookOfNeeded, StillIsOne, StillHasOneNext, StillIsStrobe, StillNextIsStrobe, OnePass, ShownIsStrobe, PassOfShown, ViewIsAboveStrobe, NoTwoBits, ViewsRise, ReadsRise};
 
 /// In every view a lock-up shows its input in the view of its own clock, pulsing or not. At a strobe it is a wire.
 pub fn lockup_shows_input()
@@ -25,6 +25,13 @@ pub fn still_has_one_pass()
     ensures strobe { StillIsStrobe }
     ensures from { StillNextIsStrobe }
     ensures pass { OnePass }
+{}
+
+/// What nets show of the pulsed domains is found in one pass for all views, and where nothing needed moves one
+/// assignment, at the strobe and of the needed nets alone, gives all next values.
+pub fn one_assignment()
+    ensures view { ShownIsStrobe }
+    ensures pass { PassOfShown }
 {}
 
 /// Each net's value in each view stands above its value at the strobe, and rises with the map.

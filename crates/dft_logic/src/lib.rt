@@ -3,4 +3,6 @@
 
 mod laws;
 
-pub use laws::{lockup_shows_input, needed_is_settled, still_has_one_pass, views_rise};
+pub use laws::{
+    lockup_shows_input, needed_is_settled, one_assignment, still_has_one_pass, views_rise,
+};
