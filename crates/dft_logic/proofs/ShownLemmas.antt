@@ -1,16 +1,15 @@
 -- One assignment gives all views where nothing moves.
 use Rattle.std.proofs.Common.{ℕ, Bool, true, false, List, [], ◌∷◌, ◌≡◌, ◌==◌, refl, sym, ap, ◌∙◌}
-use Rattle.std.specs.Prelude.{◌&&◌, if◌then◌else◌}
+use Rattle.std.specs.Prelude.{if◌then◌else◌}
 use Rattle.std.proofs.lemmas.Bool.{and_from, and_parts, eq-eqb, eqb-true}
 use Rattle.dft_base.specs.declared.tri.Tri.{Tri}
 use Rattle.dft_netlist.specs.Drivers.{nets_of}
 use Rattle.dft_netlist.specs.Logic.{Logic, Meaning, Input, Clock, Gate, Joined, Flop, Lockup, Free, reads, IsRanked}
 use Rattle.dft_netlist.specs.Settled.{value_from}
-use Rattle.dft_abstract.specs.Cycle.{Pulse, next_value, after_pulse}
 use Rattle.dft_abstract.proofs.Views.{family}
-use Rattle.dft_logic.specs.Needs.{HasAll, read_in, IsReadClosed, IsStrobeClosed, IsStrobe, strobe_from, IsStrobeOn, HasNextReads, next_reads}
-use Rattle.dft_logic.specs.Moves.{is_other, moves, is_other_clock, IsStill, IsUnclocked}
-use Rattle.dft_logic.specs.Shows.{Shown, Nothing, Domain, Several, is_still, with_shown, shown_by, domain_shown, lockup_shown, shown_given, IsShownOn, still_needs, HasStillReads}
+use Rattle.dft_logic.specs.Needs.{HasAll, read_in, IsReadClosed, IsStrobeClosed, IsStrobe, strobe_from, next_reads}
+use Rattle.dft_logic.specs.Moves.{moves, is_other_clock, IsStill, IsUnclocked}
+use Rattle.dft_logic.specs.Shows.{Shown, Nothing, Domain, Several, is_still, with_shown, shown_by, shown_given, IsShownOn, still_needs}
 use Rattle.dft_logic.specs.Laws.{ShownIsStrobe, PassOfShown}
 use Rattle.dft_logic.proofs.ReadLemmas.{Agree, next_agrees, next_reads_same, set_agrees}
 use Rattle.dft_logic.proofs.NeededLemmas.{needed_is_strobe}
