@@ -4,4 +4,6 @@ pub mod ReadLemmas
 pub mod NeededLemmas
 pub mod StillLemmas
 pub mod ShownLemmas
+pub mod TakeLemmas
+pub mod ListLemmas
 pub mod RiseLemmas

@@ -84,7 +84,7 @@ needed_agrees l rank t s needs v w ranked closed tv sw ports clocks flops lockup
 -- ---- next values
 
 -- where the scan enable is 0 a scan cell takes D, and where it is 1 SI
-chosen_low : (s d : Tri) → tri_chosen Zero s d ≡ d
+pub chosen_low : (s d : Tri) → tri_chosen Zero s d ≡ d
 chosen_low Zero Zero = refl
 chosen_low Zero One = refl
 chosen_low Zero Unknown = refl
@@ -95,7 +95,7 @@ chosen_low Unknown Zero = refl
 chosen_low Unknown One = refl
 chosen_low Unknown Unknown = refl
 
-chosen_high : (s d : Tri) → tri_chosen One s d ≡ s
+pub chosen_high : (s d : Tri) → tri_chosen One s d ≡ s
 chosen_high Zero Zero = refl
 chosen_high Zero One = refl
 chosen_high Zero Unknown = refl

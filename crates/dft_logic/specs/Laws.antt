@@ -1,15 +1,18 @@
 -- What need not be settled, and what is settled once.
-use Rattle.std.specs.Prelude.{ℕ, Bool, true, ◌≡◌, List, map}
+use Rattle.std.specs.Prelude.{ℕ, Bool, true, ◌≡◌, List, [], map, Option, Some}
 use Rattle.dft_base.specs.declared.tri.Tri.{Tri}
+use Rattle.dft_base.specs.declared.tri.Tri.TheVariants.{Zero}
 use Rattle.dft_base.specs.Tri.{known, AboveTri}
 use Rattle.dft_netlist.specs.declared.ids.NetId.{NetId}
-use Rattle.dft_netlist.specs.Drivers.{Source}
-use Rattle.dft_netlist.specs.Logic.{Logic, Lockup, IsRanked}
+use Rattle.dft_netlist.specs.Drivers.{Source, nets_of}
+use Rattle.dft_netlist.specs.Logic.{Logic, Lockup, Force, IsRanked}
 use Rattle.dft_netlist.specs.Settled.{value_from}
 use Rattle.dft_netlist.specs.Orders.{numbers_of}
 use Rattle.dft_abstract.specs.Cycle.{Pulse, AreViews, next_value, IsLeast, after_pulse}
-use Rattle.dft_logic.specs.Needs.{HasAll, IsReadClosed, AreViewsOn, IsStrobe, IsStrobeClosed, IsStrobeOn, AreSeen, HasNextReads}
+use Rattle.dft_logic.specs.Needs.{HasAll, IsReadClosed, AreViewsOn, IsStrobe, IsStrobeClosed, IsStrobeOn, AreSeen, next_reads, HasNextReads}
 use Rattle.dft_logic.specs.Moves.{IsStill, IsUnclocked}
+use Rattle.dft_logic.specs.Takes.{next_source, AreOrigins}
+use Rattle.dft_logic.specs.Lists.{is_listed, IsListFrom, settled_by}
 use Rattle.dft_logic.specs.Shows.{Shown, is_still, IsShownOn, HasStillReads}
 
 -- ---- lock-ups
@@ -100,6 +103,42 @@ PassOfShown =
     (l : Logic) (rank : ℕ → ℕ) (p : Pulse) (needs : (net : ℕ) → Bool) (shown : ℕ → Shown) (values : ℕ → Tri) → IsRanked l rank → IsStrobeClosed l needs →
     IsShownOn l p.pulsed needs shown → IsStrobeOn l p.ports p.old needs values → ((c : ℕ) → p.pulsed (l.cell c).domain ≡ true → HasStillReads l p needs shown values c) →
     (poss : ℕ → Tri) × ((view : ℕ → ℕ → Tri) × (IsLeast l p poss view × ((c : ℕ) → after_pulse l p view c ≡ after_pulse l p (λ d. values) c)))
+
+-- ---- next values at a strobe
+
+-- A flip-flop whose next value is read from a set that is settled for the strobe has the same next value from it.
+abbrev pub NextOfStrobe : Type 0
+NextOfStrobe =
+    (l : Logic) (rank : ℕ → ℕ) (p : Pulse) (needs : (net : ℕ) → Bool) (values settled : ℕ → Tri) → IsRanked l rank → IsStrobeClosed l needs → IsStrobeOn l p.ports p.old needs values →
+    IsStrobe l p.ports p.old settled → (c : ℕ) → HasAll needs (nets_of (next_reads (l.cell c) p.ports (value_from values))) → next_value l p (λ d. values) c ≡ next_value l p (λ d. settled) c
+
+-- Where it takes one source's value, this is its next value.
+abbrev pub NextOfSource : Type 0
+NextOfSource =
+    (l : Logic) (p : Pulse) (view : ℕ → ℕ → Tri) (c : ℕ) (source : Source) → next_source (l.cell c) p.ports (value_from (view (l.cell c).domain)) ≡ Some source →
+    next_value l p view c ≡ value_from (view (l.cell c).domain) source
+
+-- Where its reset or set acts, that leaves its value.
+abbrev pub NextOfForce : Type 0
+NextOfForce =
+    (l : Logic) (p : Pulse) (view : ℕ → ℕ → Tri) (c : ℕ) (force : Force) → (l.cell c).force ≡ Some force → p.ports force.port ≡ Zero → next_value l p view c ≡ known force.value
+
+-- A net that shows a flip-flop through joins and lock-ups has its value at a strobe.
+abbrev pub OriginIsShown : Type 0
+OriginIsShown =
+    (l : Logic) (rank : ℕ → ℕ) (origin : ℕ → Option ℕ) (ports flops settled : ℕ → Tri) → IsRanked l rank → AreOrigins l origin → IsStrobe l ports flops settled →
+    (net c : ℕ) → origin net ≡ Some c → settled net ≡ flops c
+
+-- ---- lists
+
+-- A list in which each net comes after those that it is settled from is closed under reading.
+abbrev pub ListIsClosed : Type 0
+ListIsClosed = (l : Logic) (nets : List ℕ) → IsListFrom l [] nets → IsStrobeClosed l (is_listed nets)
+
+-- Settling its nets one after the other gives each its driver's value, whatever the values before.
+abbrev pub ListIsSettled : Type 0
+ListIsSettled =
+    (l : Logic) (ports flops : ℕ → Tri) (nets : List ℕ) (values : ℕ → Tri) → IsListFrom l [] nets → IsStrobeOn l ports flops (is_listed nets) (settled_by l ports flops nets values)
 
 -- ---- views rise from the strobe with the map
 

@@ -6,4 +6,6 @@ pub use Rattle.dft_abstract.specs.Cycle
 pub mod Needs
 pub mod Moves
 pub mod Shows
+pub mod Takes
+pub mod Lists
 pub mod Laws

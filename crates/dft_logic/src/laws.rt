@@ -1,6 +1,6 @@
 //! The laws of what has to be settled, as contracts of functions that do nothing.
 
-ghost use Rattle.dft_logic.specs.Laws.{LockupIsInput, LockupIsWire, NeededIsView, NeededIsStrobe, NextOfNeeded, LookOfNeeded, StillIsOne, StillHasOneNext, StillIsStrobe, StillNextIsStrobe, OnePass, ShownIsStrobe, PassOfShown, ViewIsAboveStrobe, NoTwoBits, ViewsRise, ReadsRise};
+ghost use Rattle.dft_logic.specs.Laws.{LockupIsInput, LockupIsWire, NeededIsView, NeededIsStrobe, NextOfNeeded, LookOfNeeded, StillIsOne, StillHasOneNext, StillIsStrobe, StillNextIsStrobe, OnePass, ShownIsStrobe, PassOfShown, NextOfStrobe, NextOfSource, NextOfForce, OriginIsShown, ListIsClosed, ListIsSettled, ViewIsAboveStrobe, NoTwoBits, ViewsRise, ReadsRise};
 
 /// In every view a lock-up shows its input in the view of its own clock, pulsing or not. At a strobe it is a wire.
 pub fn lockup_shows_input()
@@ -32,6 +32,21 @@ pub fn still_has_one_pass()
 pub fn one_assignment()
     ensures view { ShownIsStrobe }
     ensures pass { PassOfShown }
+{}
+
+/// What a next value at a strobe takes: what it is read from, one source, a reset or set that acts; and which
+/// flip-flop a net shows through joins and lock-ups.
+pub fn next_at_strobe()
+    ensures read { NextOfStrobe }
+    ensures source { NextOfSource }
+    ensures force { NextOfForce }
+    ensures origin { OriginIsShown }
+{}
+
+/// A list in which each net comes after those that it is settled from settles in its order.
+pub fn lists_settle()
+    ensures closed { ListIsClosed }
+    ensures settled { ListIsSettled }
 {}
 
 /// Each net's value in each view stands above its value at the strobe, and rises with the map.

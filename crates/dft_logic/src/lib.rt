@@ -4,5 +4,6 @@
 mod laws;
 
 pub use laws::{
-    lockup_shows_input, needed_is_settled, one_assignment, still_has_one_pass, views_rise,
+    lists_settle, lockup_shows_input, needed_is_settled, next_at_strobe, one_assignment,
+    still_has_one_pass, views_rise,
 };
