@@ -1,12 +1,12 @@
 #!/bin/sh
 # Times the built dft: replays made netlists at three sizes and prints gates times vectors per second and the peak
 # memory, then with 1, 16 and 256 clocks; and times the readers alone: of netlists (the patterns are then a file that is
-# not there), and of patterns (on a netlist without their ports). crates/stil_pace times patterns with 50 signals, also
+# not there), and of patterns (on a netlist without their ports). dft_pace times patterns with 50 signals, also
 # their writing. Build the program first (./dft does). It promises nothing.
 . "$(dirname "$0")/common.sh"
 replay() {
     python3 "$here/make.py" "$1" "$2" "$3" "$work"
-    set -- "$1" "$2" "$3" $(timed "$dft" replay --netlist "$work/bench.v" --patterns "$work/bench.stil")
+    set -- "$1" "$2" "$3" $(timed 0 "$dft" replay --netlist "$work/bench.v" --patterns "$work/bench.stil")
     echo "replay: $1 gates, $2 vectors, $3 clocks: $4 s, $5 MB, $(python3 -c "print(f'{$1 * $2 / $4:.3g}')") gates times vectors a second"
 }
 for gates in 1000 5000 25000; do replay "$gates" 2000 1; done
@@ -14,12 +14,12 @@ for clocks in 16 256; do replay 5000 2000 "$clocks"; done
 for gates in 20000 100000; do
     python3 "$here/make.py" "$gates" 0 1 "$work"
     size=$(wc -c < "$work/bench.v")
-    set -- $(timed "$dft" replay --netlist "$work/bench.v" --patterns "$work/none")
+    set -- $(timed 4 "$dft" replay --netlist "$work/bench.v" --patterns "$work/none")
     echo "read: $size bytes of netlist: $1 s, $2 MB, $(python3 -c "print(f'{$size / $1 / 1e6:.1f}')") MB/s"
 done
 for vectors in 22000 220000; do
     python3 "$here/make.py" 100 "$vectors" 1 "$work"
     size=$(wc -c < "$work/bench.stil")
-    set -- $(timed "$dft" replay --netlist "$here/../examples/first/m.v" --patterns "$work/bench.stil")
+    set -- $(timed 3 "$dft" replay --netlist "$here/../crates/dft_examples/data/first/m.v" --patterns "$work/bench.stil")
     echo "read: $size bytes of patterns: $1 s, $2 MB, $(python3 -c "print(f'{$size / $1 / 1e6:.1f}')") MB/s"
 done

@@ -5,7 +5,7 @@
 scan() {
     instances=$1 clocks=$2 gates=$(($1 * 5 / 6))
     python3 "$here/make.py" "$gates" 0 "$clocks" "$work"
-    set -- $(timed "$dft" scan --netlist "$work/bench.v" --config "$work/bench.toml" --out "$work/scanned.v" --report "$work/report.txt")
+    set -- $(timed 0 "$dft" scan --netlist "$work/bench.v" --config "$work/bench.toml" --out "$work/scanned.v" --report "$work/report.txt")
     echo "scan: $instances instances, $clocks clocks: $1 s, $2 MB, $(python3 -c "print(f'{$instances / $1:.3g}')") instances a second"
 }
 for instances in 10000 50000 200000; do scan "$instances" 1; done

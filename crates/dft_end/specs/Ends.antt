@@ -16,9 +16,9 @@ status_number WriteFault = 5
 status_number OutOfMemory = 6
 
 -- The exit status is the number of the status that a run of these words answers, and the run promises what every run does.
-pub record IsStatusOfRun (words : List (List ℕ)) (before after : Seen) (number : ℕ) : Type 0 where
+pub record IsStatusOfRun (words : List (List ℕ)) (before after : Seen) (status : ℕ) : Type 0 where
   pub answer : Answer
-  pub number : number ≡ status_number answer.status
+  pub number : status ≡ status_number answer.status
   pub ends : Ends words before after answer
   pub kept : KeepsFiles words before.held after.held before.write_faults after.write_faults answer
   pub passes : PassesTold words before.held answer

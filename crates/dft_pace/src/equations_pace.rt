@@ -6,9 +6,9 @@ ghost use Rattle.dft_config.specs.Range.{IsInRange};
 use dft_config::Config;
 use dft_equations::equations;
 use std::alloc::Global;
+use std::io;
 use std::rt::Clock;
 use std::time::Instant;
-use std::io;
 
 // Sixteen chains of three stages each.
 const CONFIGURATION: &str = "version = 1
@@ -29,11 +29,7 @@ mask_inputs = 1
 ";
 
 /// Reads the configuration and times the equations of chains of so many cells, at most 4,096.
-pub fn time_equations(
-    rt: &(impl Clock + Eprint),
-    alloc: Global,
-    cells: u32,
-) -> io::Result<()> {
+pub fn time_equations(rt: &(impl Clock + Eprint), alloc: Global, cells: u32) -> io::Result<()> {
     let cells = cells.min(4096) as u16;
     match Config::read(alloc, CONFIGURATION.as_bytes()) {
         Ok(config) if config.chains == 16 && config.ring.channels == 4 => {

@@ -46,12 +46,7 @@ fn main(rt: HostRuntime) -> io::Result<()> {
     Ok(())
 }
 
-fn time(
-    rt: &(impl Clock + Eprint),
-    alloc: Global,
-    timed: Timed,
-    size: u32,
-) -> io::Result<()> {
+fn time(rt: &(impl Clock + Eprint), alloc: Global, timed: Timed, size: u32) -> io::Result<()> {
     match timed {
         Timed::Equations => time_equations(rt, alloc, size),
         Timed::Systems => time_systems(rt, alloc, size),

@@ -6,19 +6,15 @@ use dft_toml::name_of;
 use rand_core::utils::NextWord;
 use rand_pcg::Pcg32;
 use std::alloc::{AllocError, Global};
+use std::io;
 use std::rt::Clock;
 use std::time::Instant;
-use std::io;
 
 // How many signals there are; the first half are inputs.
 const SIGNALS: u32 = 50;
 
 /// Writes a set of so many random vectors and reads it back, and says what each took.
-pub fn time_patterns(
-    rt: &(impl Clock + Eprint),
-    alloc: Global,
-    vectors: u32,
-) -> io::Result<()> {
+pub fn time_patterns(rt: &(impl Clock + Eprint), alloc: Global, vectors: u32) -> io::Result<()> {
     let set = PatternSet::new(alloc, signals(alloc)?, drawn(alloc, vectors)?);
     let start = Instant::now(rt)?;
     let text = match write(alloc, &set) {

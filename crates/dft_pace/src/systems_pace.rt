@@ -5,19 +5,15 @@ use dft_lanes::is_packed;
 use rand_core::utils::NextWord;
 use rand_pcg::Pcg32;
 use std::alloc::Global;
+use std::io;
 use std::rt::Clock;
 use std::time::Instant;
-use std::io;
 
 // How many equations are timed.
 const TIMED: u32 = 16;
 
 /// Fills a system with so many columns to the half, and times what an equation more takes.
-pub fn time_systems(
-    rt: &(impl Clock + Eprint),
-    alloc: Global,
-    columns: u32,
-) -> io::Result<()> {
+pub fn time_systems(rt: &(impl Clock + Eprint), alloc: Global, columns: u32) -> io::Result<()> {
     let mut random = Pcg32::new(42, 54);
     let mut system = System::new(alloc, columns)?;
     let mut row = vec![in alloc; 0u64; columns.div_ceil(64) as usize]?;

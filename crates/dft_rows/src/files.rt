@@ -9,13 +9,13 @@ pub const NETLIST: &str =
     "module m (c, d, q); input c, d; output q; DFF f (.CK(c), .D(d), .Q(q)); endmodule";
 
 /// Two vectors for it that pass.
-pub const VECTORS: &str = "P1 X 00 H";
+pub static VECTORS: &str = "P1 X 00 H";
 
 /// A library with one flip-flop and one lock-up.
 pub const LIBRARY: &str =
     "[cells.FF]\nkind = 'dff'\nclock = 'C'\ndin = 'D'\noutput = 'Q'\n[cells.L]\nkind = 'lockup'\nclock = 'C'\ndin = 'D'\noutput = 'Q'\n";
 
-const MIDDLE: &str =
+static MIDDLE: &str =
     "}\nTiming {\nWaveformTable w {\nPeriod '100ns';\nWaveforms {\nins { 0 { '0ns' D; } 1 { '0ns' U; } P { '0ns' D; '50ns' U; '80ns' D; } }\nouts { L { '0ns' X; '40ns' L; } H { '0ns' X; '40ns' H; } X { '0ns' X; } }\n}\n}\n}\nPatternBurst b { PatList { p; } }\nPatternExec { PatternBurst b; }\nPattern p {\nW w;\n";
 
 /// How a run ended, and what it printed.

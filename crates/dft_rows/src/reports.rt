@@ -12,7 +12,7 @@ use std::alloc::{AllocError, Global};
 use std::test::Fail;
 
 // Two chains of one cell each, a flip-flop for each rule, and cubes of all kinds.
-const WRITTEN: &str =
+static WRITTEN: &str =
     "edt report 1\ncells 2 chains 2 cycles 13 variables 26\nchain 0 length 1\nchain 1 length 1\nscanned f0 ca chain 0 place 0\nscanned u/f[1] cb chain 1 place 0\nunscanned f2 S1\nunscanned f3 S2\nunscanned f4 S3\nunscanned f5 S4\ncube a encoded 10\ncube b unsolvable 2\nsum f0 1 -\nsum u/f[1] 0 0.2 1.10\ncube c skipped f5\n";
 
 fn name(alloc: Global, text: &str) -> Result<Name, AllocError> {

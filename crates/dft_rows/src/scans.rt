@@ -31,11 +31,14 @@ const WRITTEN: &str =
     "module s (ca, cb, d, q, scan_enable, scan_in0, scan_out0);\ninput ca;\ninput cb;\ninput d;\noutput q;\ninput scan_enable;\ninput scan_in0;\noutput scan_out0;\nwire n0;\nwire n1;\nwire n2;\nwire dft_n0;\nSDFF f0 (.CK(ca), .D(d), .SI(scan_in0), .SE(scan_enable), .Q(n0));\nSDFF f1 (.CK(cb), .D(n0), .SI(dft_n0), .SE(scan_enable), .Q(n1));\nSDFF f2 (.CK(ca), .D(n1), .SI(n0), .SE(scan_enable), .Q(n2));\nSDFF f3 (.CK(cb), .D(n2), .SI(n1), .SE(scan_enable), .Q(q));\nLOCKUP dft_i0 (.CK(ca), .D(n2), .Q(dft_n0));\nbuf dft_i1 (scan_out0, q);\nendmodule\n";
 
 // The same with its lock-up taken out.
-const CUT: &str =
+static CUT: &str =
     "module s (ca, cb, d, q, scan_enable, scan_in0, scan_out0);\ninput ca;\ninput cb;\ninput d;\noutput q;\ninput scan_enable;\ninput scan_in0;\noutput scan_out0;\nwire n0;\nwire n1;\nwire n2;\nSDFF f0 (.CK(ca), .D(d), .SI(scan_in0), .SE(scan_enable), .Q(n0));\nSDFF f1 (.CK(cb), .D(n0), .SI(n2), .SE(scan_enable), .Q(n1));\nSDFF f2 (.CK(ca), .D(n1), .SI(n0), .SE(scan_enable), .Q(n2));\nSDFF f3 (.CK(cb), .D(n2), .SI(n1), .SE(scan_enable), .Q(q));\nbuf dft_i1 (scan_out0, q);\nendmodule\n";
 
 const REPORT: &str =
     "edt report 1\ncells 4 chains 1\nchain 0 length 4\nscanned f0 ca chain 0 place 0\nscanned f2 ca chain 0 place 1\nscanned f1 cb chain 0 place 2\nscanned f3 cb chain 0 place 3\n";
+
+// The first netlist, the two parts of its configuration, and how it is saved.
+static FIRST: (&str, &str, &str, &str) = (ROW, ON_BOTH, ONE_CHAIN, WRITTEN);
 
 // A netlist, the configuration in two parts, the printed line, and the report where one is saved.
 static SCANS: [(&str, &str, &str, &str, &str); 19] = [
@@ -145,7 +148,7 @@ fn scans_are_told_by_a_line_and_a_report(rt: HostRuntime) -> Result<(), Fail> {
 }
 
 // Five vectors: four shifts on both clocks, and one that compares the end of the chain.
-const SHIFTS: &str = "PP011 XX PP010 XX PP011 XX PP010 XX 00010 XH";
+static SHIFTS: &str = "PP011 XX PP010 XX PP011 XX PP010 XX 00010 XH";
 
 #[test]
 fn a_saved_netlist_shifts_past_its_lockup(rt: HostRuntime) -> Result<(), Fail> {
@@ -155,13 +158,14 @@ fn a_saved_netlist_shifts_past_its_lockup(rt: HostRuntime) -> Result<(), Fail> {
         "q scan_out0",
         SHIFTS,
     )?;
-    let mut config = String::from_str(rt.alloc(), ON_BOTH)?;
-    config.push_str(ONE_CHAIN)?;
-    let texts = ("", ROW, config.as_str(), text.as_str());
+    let (netlist, head, rest, written) = FIRST;
+    let mut config = String::from_str(rt.alloc(), head)?;
+    config.push_str(rest)?;
+    let texts = ("", netlist, config.as_str(), text.as_str());
     let mut files = shelf(rt.alloc(), texts, Vec::new(rt.alloc()))?;
     let scan = ran(rt.alloc(), &SCAN, &mut files, None)?;
     assert_eq!(rt; scan.status, Status::Done);
-    assert_eq!(rt; text_of(&files, "o"), WRITTEN.as_bytes());
+    assert_eq!(rt; text_of(&files, "o"), written.as_bytes());
     let end = ran(rt.alloc(), &SAVED, &mut files, None)?;
     assert_eq!(rt;
         end.line.as_slice(),
@@ -193,15 +197,16 @@ static FAULTS: [(u32, u32, u32, Status, &str, &str); 9] = [
 
 #[test]
 fn faults_leave_whole_files_and_a_prefix(rt: HostRuntime) -> Result<(), Fail> {
-    let mut config = String::from_str(rt.alloc(), ON_BOTH)?;
-    config.push_str(ONE_CHAIN)?;
+    let (design, head, rest, _) = FIRST;
+    let mut config = String::from_str(rt.alloc(), head)?;
+    config.push_str(rest)?;
     for (call, kept, put, status, netlist, report) in &FAULTS {
         let mut failing = Vec::new(rt.alloc());
         failing.push(Failing {
             call: *call,
             kept: *kept,
         })?;
-        let mut files = shelf(rt.alloc(), ("", ROW, config.as_str(), ""), failing)?;
+        let mut files = shelf(rt.alloc(), ("", design, config.as_str(), ""), failing)?;
         let end = ran(rt.alloc(), &SCAN, &mut files, Some(*put))?;
         assert_eq!(rt; end.status, *status, "at call {call} and put {put}");
         assert!(rt; end.line.is_empty(), "at call {call} and put {put}");
@@ -215,7 +220,7 @@ fn faults_leave_whole_files_and_a_prefix(rt: HostRuntime) -> Result<(), Fail> {
             report.as_bytes(),
             "at call {call} and put {put}"
         );
-        assert_eq!(rt; text_of(&files, "n"), ROW.as_bytes());
+        assert_eq!(rt; text_of(&files, "n"), design.as_bytes());
         assert_eq!(rt; text_of(&files, "c"), config.as_bytes());
     }
     Ok(())
@@ -224,7 +229,7 @@ fn faults_leave_whole_files_and_a_prefix(rt: HostRuntime) -> Result<(), Fail> {
 const USAGE: &str =
     "usage: dft replay, scan, compile, certify or generate, each option once as --name value\n";
 
-const OWN_CELL: &str =
+static OWN_CELL: &str =
     "module m (c, d, q); input c, d; output q; FF f (.C(c), .D(d), .Q(q)); endmodule";
 
 // Words divided by bars, and what is printed. The library's flip-flop names no scan cell.

@@ -4,7 +4,7 @@ use crate::files::{LIBRARY, NETLIST, VECTORS, patterns, replayed};
 use dft_top::Status;
 use std::test::Fail;
 
-const USAGE: &str =
+static USAGE: &str =
     "usage: dft replay, scan, compile, certify or generate, each option once as --name value\n";
 
 const PASS: &str = "pass 2 vectors 1 compared\n";

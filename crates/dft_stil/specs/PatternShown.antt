@@ -1,7 +1,7 @@
 -- A pattern so far, as the definitions have it.
 use Rattle.std.specs.Prelude.{List, []}
 use Rattle.dft_stil.specs.declared.statements.Pattern.{Pattern}
-use Rattle.dft_stil.specs.declared.pattern_text.Burst.{Burst}
+use Rattle.dft_stil.specs.declared.execution.Burst.{Burst}
 use Rattle.dft_patterns.specs.declared.act.Act.{Act}
 use Rattle.dft_patterns.specs.Patterns.{Patterns}
 use Rattle.dft_stil_text.specs.Namings.{Names}

@@ -3,7 +3,7 @@ use Rattle.dft_stil.specs.declared.tables.Tables.TheInside.{Inside}
 use Rattle.std.specs.Prelude.{ℕ, All, option_map}
 use Rattle.dft_stil.specs.ShapeTableShown.{IsWide}
 use Rattle.dft_stil.specs.declared.timings.Table.{Table}
-use Rattle.dft_stil.specs.declared.timings.Timing.{Timing}
+use Rattle.dft_stil.specs.declared.table_block.Timing.{Timing}
 use Rattle.dft_stil_text.specs.Timings as spec
 
 abbrev pub tables_of : Inside → spec.Tables

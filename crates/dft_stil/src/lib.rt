@@ -4,6 +4,7 @@
 
 mod characters;
 mod error;
+mod execution;
 mod known_names;
 mod members;
 mod names;
@@ -12,6 +13,7 @@ mod pattern_text;
 mod reader;
 mod shape_table;
 mod statements;
+mod table_block;
 mod tables;
 mod timings;
 mod vector;

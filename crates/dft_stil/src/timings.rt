@@ -1,20 +1,18 @@
 //! The tables of waveforms of a pattern text (IEEE 1450-1999 `Timing`).
 
-ghost use Rattle.std.specs.Prelude.{◌≡◌, ◌<◌, ◌^◌, length, IfOk, OnOk, option_map};
+ghost use Rattle.std.specs.Prelude.{◌≡◌, length, IfOk, OnOk};
 ghost use Rattle.dft_base.specs.Name.{IsName};
 ghost use Rattle.dft_patterns.specs.Drawings as drawn;
 ghost use Rattle.dft_stil_text.specs.Timings as spec;
 ghost use Rattle.dft_stil_tokens.specs.Steps.{left, bytes};
 ghost use Rattle.dft_stil.specs.MembersShown.{AreBelow};
 ghost use Rattle.dft_stil.specs.ShapeTableShown.{IsWide};
-ghost use Rattle.dft_stil.specs.TablesShown.{table_as, timing_as, AreWide};
+ghost use Rattle.dft_stil.specs.TablesShown.{table_as};
 ghost use Rattle.dft_patterns.specs.declared.shapes.Drawing.TheVariants as drawings;
 ghost use Rattle.dft_stil_tokens.specs.Reading.{ReadsText};
 
 use crate::names::Names;
-use crate::namings::name_if_any;
 use crate::shape_table::ShapeTable;
-use crate::tables::Tables;
 use dft_patterns::{Drawing, Event, Times, act_drawn, act_of_events, begins_shape, extended};
 use dft_stil_tokens::{
     Cause, ReadError, TokenKind, Tokens, fault_at, taken, unknown, unsupported_at,
@@ -248,8 +246,8 @@ fn waveforms(
 }
 
 #[tactic(auto, unfolding(dft_stil_text::specs::Timings::table_body))]
-// What stands in a table: a period, and waves.
-fn table_body(
+/// What stands in a table: a period, and waves.
+pub fn table_body(
     alloc: Global,
     names: &Names,
     tokens: &mut Tokens<'_>,
@@ -262,67 +260,4 @@ fn table_body(
     let period = time(tokens)?;
     tokens.expect(TokenKind::Semicolon)?;
     waveforms(alloc, names, period, tokens)
-}
-
-#[tactic(auto, unfolding(dft_stil_text::specs::Timings::table))]
-// A table, whose name no other may have so far.
-fn one_table(
-    alloc: Global,
-    names: &Names,
-    tables: &mut Tables,
-    tokens: &mut Tokens<'_>,
-) -> Result<(), ReadError>
-    requires { AreWide (length names.now.signals) tables.old }
-    ensures read { ReadsText (λ _. tables.new) (spec.table names.now tables.old tokens.old) result tokens.new }
-    ensures wide { OnOk result (AreWide (length names.now.signals) tables.new) }
-{
-    tokens.keyword(b"WaveformTable")?;
-    let place = tokens.left();
-    let word = tokens.name()?;
-    if tables.number(word).is_some() {
-        return Err(taken(alloc, word, place));
-    }
-    let shapes = table_body(alloc, names, tokens)?;
-    tables.add(alloc, word, shapes)?;
-    Ok(())
-}
-
-#[tactic(auto, using(crate::proofs::TableLemmas::wide_tables))]
-// The tables of the block, and its brace.
-fn all_tables(alloc: Global, names: &Names, tokens: &mut Tokens<'_>) -> Result<Tables, ReadError>
-    ensures read { ReadsText (λ t. t) (spec.tables_from (left tokens.old) names.now spec.no_tables tokens.old) result tokens.new }
-    ensures wide { IfOk result (λ t. AreWide (length names.now.signals) t) }
-{
-    let mut tables = Tables::new(alloc);
-    'turns: for _turn in 0..tokens.left() {
-        if tokens.eat(TokenKind::CloseBrace) {
-            return Ok(tables);
-        }
-        one_table(alloc, names, &mut tables, tokens)?;
-    }
-    Err(tokens.no_token())
-}
-
-/// The block of tables: its name, if it has one, and the tables.
-#[derive(Debug, Drop)]
-pub struct Timing<'a> {
-    pub name: Option<&'a [u8]>,
-    pub tables: Tables,
-}
-
-#[tactic(auto, unfolding(dft_stil_text::specs::Timings::timing))]
-/// The block of tables.
-pub fn timing_block<'a>(
-    alloc: Global,
-    names: &Names,
-    tokens: &mut Tokens<'a>,
-) -> Result<Timing<'a>, ReadError>
-    ensures read { ReadsText timing_as (spec.timing names.now tokens.old) result tokens.new }
-    ensures wide { IfOk result (λ t. AreWide (length names.now.signals) t.tables) }
-{
-    tokens.keyword(b"Timing")?;
-    let name = name_if_any(tokens)?;
-    tokens.expect(TokenKind::OpenBrace)?;
-    let tables = all_tables(alloc, names, tokens)?;
-    Ok(Timing { name, tables })
 }

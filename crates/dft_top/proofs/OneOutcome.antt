@@ -5,7 +5,7 @@ use Rattle.dft_config.specs.declared.config.Config.{Config}
 use Rattle.dft_netlist.specs.Drivers.{IsOrdered}
 use Rattle.dft_netlist.specs.Netlist.{Netlist}
 use Rattle.dft_netlist.proofs.RankLemmas.{order_ranks}
-use Rattle.dft_stil.specs.Patterns.{Patterns}
+use Rattle.dft_patterns.specs.Patterns.{Patterns}
 use Rattle.dft_replay.specs.Fits.{first_misfit}
 use Rattle.dft_replay.proofs.Uniqueness.{verdict_one}
 use Rattle.dft_scan.specs.declared.error.ScanError.{ScanError}

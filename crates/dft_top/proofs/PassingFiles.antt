@@ -1,10 +1,10 @@
 -- Files that pass all checks are never refused.
-use Rattle.std.proofs.Common.{ℕ, ◌≡◌, List, codes, Option, None, Some, Ok, subst}
+use Rattle.std.proofs.Common.{◌≡◌, List, codes, Option, None, Some, Ok, subst}
 use Rattle.dft_files.specs.Outside.{Held, file_at}
 use Rattle.dft_cells.specs.declared.cell.Cell.{Cell}
 use Rattle.dft_config.specs.declared.config.Config.{Config}
 use Rattle.dft_netlist.specs.Netlist.{Netlist}
-use Rattle.dft_stil.specs.Patterns.{Patterns}
+use Rattle.dft_patterns.specs.Patterns.{Patterns}
 use Rattle.dft_replay.specs.Fits.{first_misfit}
 use Rattle.dft_scan.specs.declared.error.ScanError.{ScanError}
 use Rattle.dft_scan.specs.Refusals.{refusal}
@@ -15,7 +15,7 @@ use Rattle.dft_top.specs.declared.outcome.Outcome.{Outcome}
 use Rattle.dft_top.specs.declared.outcome.Outcome.TheVariants.{Scanned}
 use Rattle.dft_top.specs.declared.limits.TheConstants.{MAX_CONFIG_BYTES, MAX_NETLIST_BYTES, MAX_PATTERN_BYTES}
 use Rattle.dft_top.specs.Checks.{ConfigGives, ConfigText, LibraryGives, NetlistGives, NetlistText, PatternText, PatternsGive}
-use Rattle.dft_top.specs.Outcomes.{IsOutcome, IsOutcomeFor, IsOutcomeOfReplay, IsOutcomeOfScan, IsOutcomeOfScanOf, IsOutcomeOn}
+use Rattle.dft_top.specs.Outcomes.{IsOutcomeFor, IsOutcomeOfReplay, IsOutcomeOfScan, IsOutcomeOfScanOf, IsOutcomeOn}
 use Rattle.dft_top.specs.Laws.{PassingIsReplayed, PassingIsScanned}
 use Rattle.dft_top.proofs.Readings.{config_text_one, file_one, given_next, library_gives_one, netlist_text_one, pattern_text_one}
 use Rattle.dft_top.proofs.Steps.{ReplayOn, ReplayOver, ScanOn, ScanOver}

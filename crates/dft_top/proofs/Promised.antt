@@ -11,7 +11,7 @@ use Rattle.dft_insert.specs.Statements.{scanned}
 use Rattle.dft_netlist.specs.Netlist.{Netlist}
 use Rattle.dft_netlist_text.specs.NetlistText.{StandsFor}
 use Rattle.dft_netlist.proofs.RankLemmas.{order_ranks}
-use Rattle.dft_stil.specs.Patterns.{Patterns}
+use Rattle.dft_patterns.specs.Patterns.{Patterns}
 use Rattle.dft_replay.specs.declared.verdict.Verdict.{Verdict}
 use Rattle.dft_replay.specs.declared.verdict.Verdict.TheVariants as verdict
 use Rattle.dft_replay.specs.Fits.{first_misfit}

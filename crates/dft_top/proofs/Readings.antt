@@ -26,12 +26,12 @@ use Rattle.dft_verilog.specs.Refusals.{IsFirstFault, IsUnfinished, IsRefused, to
 use Rattle.dft_base.specs.Lexing.{place_of}
 use Rattle.dft_stil.specs.declared.error.StilError.{StilError}
 use Rattle.dft_stil.specs.declared.error.StilError.TheVariants as stil
-use Rattle.dft_stil.specs.Patterns.{Patterns}
-use Rattle.dft_stil.specs.PatternText.{patterns_of}
-use Rattle.dft_stil.specs.PatternText as PatternText
+use Rattle.dft_patterns.specs.Patterns.{Patterns}
+use Rattle.dft_stil_text.specs.PatternText.{patterns_of}
+use Rattle.dft_stil_text.specs.PatternText as PatternText
 use Rattle.dft_stil.specs.Refusals as StilRefusals
 use Rattle.dft_stil.specs.Refusals.{IsFirstRefusal}
-use Rattle.dft_stil.specs.declared.reader.TheConstants.{MAX_VECTORS}
+use Rattle.dft_stil_text.specs.declared.limits.TheConstants.{MAX_VECTORS}
 use Rattle.dft_top.specs.declared.answer.Refusal.{Refusal}
 use Rattle.dft_top.specs.declared.outcome.Outcome.{Outcome}
 use Rattle.dft_top.specs.declared.outcome.Outcome.TheVariants.{Refused}

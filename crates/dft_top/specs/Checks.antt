@@ -17,8 +17,8 @@ use Rattle.dft_netlist.specs.Sound.{IsNetlist}
 use Rattle.dft_verilog.specs.declared.error.VerilogError.{VerilogError}
 use Rattle.dft_verilog.specs.Refusals as verilog
 use Rattle.dft_stil.specs.declared.error.StilError.{StilError}
-use Rattle.dft_stil.specs.Patterns.{Patterns, IsWellFormed}
-use Rattle.dft_stil.specs.PatternText as pattern
+use Rattle.dft_patterns.specs.Patterns.{Patterns, IsWellFormed}
+use Rattle.dft_stil_text.specs.PatternText as pattern
 use Rattle.dft_stil.specs.Refusals as stil
 use Rattle.dft_top.specs.declared.answer.Code.TheVariants.{F1}
 use Rattle.dft_top.specs.declared.answer.Refusal.{Refusal}

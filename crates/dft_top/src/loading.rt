@@ -4,7 +4,7 @@ ghost use Rattle.std.specs.Prelude.{◌≡◌, ◌≤◌, ◌<◌, IfOk, IsSomeA
 ghost use Rattle.dft_base.specs.Name.{IsName};
 ghost use Rattle.dft_files.specs.Outside.{Told, file_at};
 ghost use Rattle.dft_config.specs.Range.{IsInRange};
-ghost use Rattle.dft_stil.specs.Patterns.{IsWellFormed};
+ghost use Rattle.dft_patterns.specs.Patterns.{IsWellFormed};
 ghost use Rattle.dft_verilog_out.specs.Named.{GatesAreJoined};
 ghost use Rattle.dft_top.specs.Checks.{too_long, LibraryGives, ConfigGives, NetlistGives, PatternsGive};
 ghost use Rattle.dft_top.specs.Stops.{IsGivenTold, LoadFails, OnRefused};

@@ -2,7 +2,7 @@
 
 ghost use Rattle.std.specs.Prelude.{◌≤◌, IfErr, IfOk, length};
 ghost use Rattle.dft_config.specs.Range.{IsInRange};
-ghost use Rattle.dft_stil.specs.Patterns.{IsWellFormed};
+ghost use Rattle.dft_patterns.specs.Patterns.{IsWellFormed};
 ghost use Rattle.dft_verilog.specs.Refusals.{IsRefused};
 ghost use Rattle.dft_verilog_out.specs.Named.{GatesAreJoined};
 ghost use Rattle.dft_top.specs.Checks.{ConfigText, IsDesignOf, LibraryText, NetlistText, PatternText};
@@ -53,7 +53,7 @@ pub fn design_in(alloc: Global, text: &[u8], library: Library) -> Result<Design,
     }
 }
 
-/// The design of a netlist text, of which its calls say that it is sound and has an order.
+/// The design of a netlist text, which is sound and has an order.
 fn design_of(alloc: Global, text: &[u8], library: Library) -> Result<Design, VerilogError>
     requires { length text.now ≤ MAX_NETLIST_BYTES }
     ensures design { IfOk result (IsDesignOf library text.now) }
@@ -61,8 +61,7 @@ fn design_of(alloc: Global, text: &[u8], library: Library) -> Result<Design, Ver
     ensures refused { IfErr result (IsRefused library text.now) }
 {
     let design = dft_verilog::read(alloc, text, library)?;
-    let _name = design.module();
-    let _order = design.order();
+    design.soundness();
     Ok(design)
 }
 

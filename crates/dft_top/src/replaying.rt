@@ -4,7 +4,7 @@ ghost use Rattle.std.specs.Prelude.{◌≡◌, ◌<◌, ◌^◌, IfOk, Err, leng
 ghost use Rattle.dft_files.specs.Outside.{Rose, Told};
 ghost use Rattle.dft_replay.specs.Fits.{first_misfit};
 ghost use Rattle.dft_replay.specs.Verdicts.{IsPlaced};
-ghost use Rattle.dft_stil.specs.Patterns.{IsWellFormed};
+ghost use Rattle.dft_patterns.specs.Patterns.{IsWellFormed};
 ghost use Rattle.dft_words.specs.Named.{replay_files_of};
 ghost use Rattle.dft_words.specs.Words as words;
 ghost use Rattle.dft_top.specs.Outcomes as spec;

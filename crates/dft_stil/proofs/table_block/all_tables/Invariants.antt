@@ -3,7 +3,7 @@ use Rattle.dft_stil_tokens.specs.Steps.{left}
 use Rattle.dft_stil_text.specs.Timings as spec
 use Rattle.std.proofs.Common.{length}
 use Rattle.dft_stil.specs.TablesShown.{AreWide}
-use Rattle.dft_stil.proofs.timings.all_tables.Given as goal
+use Rattle.dft_stil.proofs.table_block.all_tables.Given as goal
 
 -- each turn reads one
 abbrev pub invariant-turns : goal.invariant-turns

@@ -1,0 +1,167 @@
+-- What need not be settled, and what is settled once.
+use Rattle.std.specs.Prelude.{ℕ, Bool, true, ◌≡◌, List, [], map, Option, Some}
+use Rattle.dft_base.specs.declared.tri.Tri.{Tri}
+use Rattle.dft_base.specs.declared.tri.Tri.TheVariants.{Zero}
+use Rattle.dft_base.specs.Tri.{known, AboveTri}
+use Rattle.dft_netlist.specs.declared.ids.NetId.{NetId}
+use Rattle.dft_netlist.specs.Drivers.{Source, nets_of}
+use Rattle.dft_netlist.specs.Logic.{Logic, Lockup, Force, IsRanked}
+use Rattle.dft_netlist.specs.Settled.{value_from}
+use Rattle.dft_netlist.specs.Orders.{numbers_of}
+use Rattle.dft_abstract.specs.Cycle.{Pulse, AreViews, next_value, IsLeast, after_pulse}
+use Rattle.dft_logic.specs.Needs.{HasAll, IsReadClosed, AreViewsOn, IsStrobe, IsStrobeClosed, IsStrobeOn, AreSeen, next_reads, HasNextReads}
+use Rattle.dft_logic.specs.Moves.{IsStill, IsUnclocked}
+use Rattle.dft_logic.specs.Takes.{next_source, AreOrigins}
+use Rattle.dft_logic.specs.Lists.{is_listed, IsListFrom, settled_by}
+use Rattle.dft_logic.specs.Shows.{Shown, is_still, IsShownOn, HasStillReads}
+
+-- ---- lock-ups
+
+-- In every view a lock-up's value is its input's value in the view of its own clock, also of one that does not pulse.
+abbrev pub LockupIsInput : Type 0
+LockupIsInput =
+    (l : Logic) (p : Pulse) (poss : ℕ → Tri) (view : ℕ → ℕ → Tri) → AreViews l p poss view → (d net c e : ℕ) (source : Source) → l.net net ≡ Lockup c e source →
+    view d net ≡ value_from (view e) source
+
+-- At a strobe it is a wire.
+abbrev pub LockupIsWire : Type 0
+LockupIsWire =
+    (l : Logic) (ports flops values : ℕ → Tri) → IsStrobe l ports flops values → (net c e : ℕ) (source : Source) → l.net net ≡ Lockup c e source →
+    values net ≡ value_from values source
+
+-- ---- what is not read need not be settled
+
+-- Where the set is closed under reading, an assignment that gives each of its nets the driver's value agrees there with the views.
+abbrev pub NeededIsView : Type 0
+NeededIsView =
+    (l : Logic) (rank : ℕ → ℕ) (p : Pulse) (poss : ℕ → Tri) (needs : (view net : ℕ) → Bool) (values view : ℕ → ℕ → Tri) → IsRanked l rank → IsReadClosed l needs →
+    AreViewsOn l p poss needs values → AreViews l p poss view → (d net : ℕ) → needs d net ≡ true → values d net ≡ view d net
+
+-- A flip-flop whose next value is read from the set, by that assignment's scan enable, has the same next value from it.
+abbrev pub NextOfNeeded : Type 0
+NextOfNeeded =
+    (l : Logic) (rank : ℕ → ℕ) (p : Pulse) (poss : ℕ → Tri) (needs : (view net : ℕ) → Bool) (values view : ℕ → ℕ → Tri) → IsRanked l rank → IsReadClosed l needs →
+    AreViewsOn l p poss needs values → AreViews l p poss view → (c : ℕ) → HasNextReads l p needs values c → next_value l p values c ≡ next_value l p view c
+
+-- The same at a strobe, where the set is one of nets.
+abbrev pub NeededIsStrobe : Type 0
+NeededIsStrobe =
+    (l : Logic) (rank : ℕ → ℕ) (ports flops : ℕ → Tri) (needs : (net : ℕ) → Bool) (values settled : ℕ → Tri) → IsRanked l rank → IsStrobeClosed l needs →
+    IsStrobeOn l ports flops needs values → IsStrobe l ports flops settled → (net : ℕ) → needs net ≡ true → values net ≡ settled net
+
+-- So the values of nets at a strobe are had from a set that has them.
+abbrev pub LookOfNeeded : Type 0
+LookOfNeeded =
+    (l : Logic) (rank : ℕ → ℕ) (ports flops : ℕ → Tri) (needs : (net : ℕ) → Bool) (values : ℕ → Tri) (nets : List NetId) → IsRanked l rank → IsStrobeClosed l needs →
+    IsStrobeOn l ports flops needs values → HasAll needs (numbers_of nets) → AreSeen l ports flops nets (map (λ net. values net.0) nets)
+
+-- ---- what does not move has one pass
+
+-- Where nothing moves in a set that is closed under reading, its nets have the same values at any two maps.
+abbrev pub StillIsOne : Type 0
+StillIsOne =
+    (l : Logic) (rank : ℕ → ℕ) (p : Pulse) (poss other : ℕ → Tri) (needs : (view net : ℕ) → Bool) (view its : ℕ → ℕ → Tri) → IsRanked l rank → IsReadClosed l needs →
+    IsStill l p.pulsed needs → AreViews l p poss view → AreViews l p other its → (d net : ℕ) → needs d net ≡ true → view d net ≡ its d net
+
+-- A flip-flop whose next value is read from it at one map has the same next value at any other.
+abbrev pub StillHasOneNext : Type 0
+StillHasOneNext =
+    (l : Logic) (rank : ℕ → ℕ) (p : Pulse) (poss other : ℕ → Tri) (needs : (view net : ℕ) → Bool) (view its : ℕ → ℕ → Tri) → IsRanked l rank → IsReadClosed l needs →
+    IsStill l p.pulsed needs → AreViews l p poss view → AreViews l p other its → (c : ℕ) → HasNextReads l p needs view c → next_value l p view c ≡ next_value l p its c
+
+-- Where besides none of the nets is the clock of another pulsed domain, they have the values of the strobe before the pulse in all views.
+abbrev pub StillIsStrobe : Type 0
+StillIsStrobe =
+    (l : Logic) (rank : ℕ → ℕ) (p : Pulse) (poss : ℕ → Tri) (needs : (view net : ℕ) → Bool) (view : ℕ → ℕ → Tri) (settled : ℕ → Tri) → IsRanked l rank → IsReadClosed l needs →
+    IsStill l p.pulsed needs → IsUnclocked l p.pulsed needs → AreViews l p poss view → IsStrobe l p.ports p.old settled → (d net : ℕ) → needs d net ≡ true → view d net ≡ settled net
+
+-- A flip-flop whose next value is read from it, by the strobe's scan enable, has the next value from the strobe's values.
+abbrev pub StillNextIsStrobe : Type 0
+StillNextIsStrobe =
+    (l : Logic) (rank : ℕ → ℕ) (p : Pulse) (poss : ℕ → Tri) (needs : (view net : ℕ) → Bool) (view : ℕ → ℕ → Tri) (settled : ℕ → Tri) → IsRanked l rank → IsReadClosed l needs →
+    IsStill l p.pulsed needs → IsUnclocked l p.pulsed needs → AreViews l p poss view → IsStrobe l p.ports p.old settled →
+    (c : ℕ) → HasNextReads l p needs (λ d. settled) c → next_value l p view c ≡ next_value l p (λ d. settled) c
+
+-- Where that holds of all pulsed flip-flops, the least map is their old values joined with these next values, and after the pulse they have them.
+abbrev pub OnePass : Type 0
+OnePass =
+    (l : Logic) (rank : ℕ → ℕ) (p : Pulse) (needs : (view net : ℕ) → Bool) (settled : ℕ → Tri) → IsRanked l rank → IsReadClosed l needs → IsStill l p.pulsed needs →
+    IsUnclocked l p.pulsed needs → IsStrobe l p.ports p.old settled → ((c : ℕ) → p.pulsed (l.cell c).domain ≡ true → HasNextReads l p needs (λ d. settled) c) →
+    (poss : ℕ → Tri) × ((view : ℕ → ℕ → Tri) × (IsLeast l p poss view × ((c : ℕ) → after_pulse l p view c ≡ after_pulse l p (λ d. settled) c)))
+
+-- ---- all views by one assignment
+
+-- In every view in which what a net of the set shows is still, the net has its value of the strobe.
+abbrev pub ShownIsStrobe : Type 0
+ShownIsStrobe =
+    (l : Logic) (rank : ℕ → ℕ) (p : Pulse) (poss : ℕ → Tri) (needs : (net : ℕ) → Bool) (shown : ℕ → Shown) (values : ℕ → Tri) (view : ℕ → ℕ → Tri) → IsRanked l rank → IsStrobeClosed l needs →
+    IsShownOn l p.pulsed needs shown → IsStrobeOn l p.ports p.old needs values → AreViews l p poss view → (d net : ℕ) → needs net ≡ true → is_still d (shown net) ≡ true → view d net ≡ values net
+
+-- Where the next values of all pulsed flip-flops are read from such nets, they take them from these values, at a least map that is there.
+abbrev pub PassOfShown : Type 0
+PassOfShown =
+    (l : Logic) (rank : ℕ → ℕ) (p : Pulse) (needs : (net : ℕ) → Bool) (shown : ℕ → Shown) (values : ℕ → Tri) → IsRanked l rank → IsStrobeClosed l needs →
+    IsShownOn l p.pulsed needs shown → IsStrobeOn l p.ports p.old needs values → ((c : ℕ) → p.pulsed (l.cell c).domain ≡ true → HasStillReads l p needs shown values c) →
+    (poss : ℕ → Tri) × ((view : ℕ → ℕ → Tri) × (IsLeast l p poss view × ((c : ℕ) → after_pulse l p view c ≡ after_pulse l p (λ d. values) c)))
+
+-- ---- next values at a strobe
+
+-- A flip-flop whose next value is read from a set that is settled for the strobe has the same next value from it.
+abbrev pub NextOfStrobe : Type 0
+NextOfStrobe =
+    (l : Logic) (rank : ℕ → ℕ) (p : Pulse) (needs : (net : ℕ) → Bool) (values settled : ℕ → Tri) → IsRanked l rank → IsStrobeClosed l needs → IsStrobeOn l p.ports p.old needs values →
+    IsStrobe l p.ports p.old settled → (c : ℕ) → HasAll needs (nets_of (next_reads (l.cell c) p.ports (value_from values))) → next_value l p (λ d. values) c ≡ next_value l p (λ d. settled) c
+
+-- Where it takes one source's value, this is its next value.
+abbrev pub NextOfSource : Type 0
+NextOfSource =
+    (l : Logic) (p : Pulse) (view : ℕ → ℕ → Tri) (c : ℕ) (source : Source) → next_source (l.cell c) p.ports (value_from (view (l.cell c).domain)) ≡ Some source →
+    next_value l p view c ≡ value_from (view (l.cell c).domain) source
+
+-- Where its reset or set acts, that leaves its value.
+abbrev pub NextOfForce : Type 0
+NextOfForce =
+    (l : Logic) (p : Pulse) (view : ℕ → ℕ → Tri) (c : ℕ) (force : Force) → (l.cell c).force ≡ Some force → p.ports force.port ≡ Zero → next_value l p view c ≡ known force.value
+
+-- A net that shows a flip-flop through joins and lock-ups has its value at a strobe.
+abbrev pub OriginIsShown : Type 0
+OriginIsShown =
+    (l : Logic) (rank : ℕ → ℕ) (origin : ℕ → Option ℕ) (ports flops settled : ℕ → Tri) → IsRanked l rank → AreOrigins l origin → IsStrobe l ports flops settled →
+    (net c : ℕ) → origin net ≡ Some c → settled net ≡ flops c
+
+-- ---- lists
+
+-- A list in which each net comes after those that it is settled from is closed under reading.
+abbrev pub ListIsClosed : Type 0
+ListIsClosed = (l : Logic) (nets : List ℕ) → IsListFrom l [] nets → IsStrobeClosed l (is_listed nets)
+
+-- Settling its nets one after the other gives each its driver's value, whatever the values before.
+abbrev pub ListIsSettled : Type 0
+ListIsSettled =
+    (l : Logic) (ports flops : ℕ → Tri) (nets : List ℕ) (values : ℕ → Tri) → IsListFrom l [] nets → IsStrobeOn l ports flops (is_listed nets) (settled_by l ports flops nets values)
+
+-- ---- views rise from the strobe with the map
+
+-- Each net's value in each view stands above its value at the strobe before the pulse.
+abbrev pub ViewIsAboveStrobe : Type 0
+ViewIsAboveStrobe =
+    (l : Logic) (rank : ℕ → ℕ) (p : Pulse) (poss : ℕ → Tri) (view : ℕ → ℕ → Tri) (settled : ℕ → Tri) → IsRanked l rank → ((c : ℕ) → AboveTri (poss c) (p.old c)) → AreViews l p poss view →
+    IsStrobe l p.ports p.old settled → (d net : ℕ) → AboveTri (view d net) (settled net)
+
+-- So no net is 1 in one view and 0 in another, nor in views of two maps.
+abbrev pub NoTwoBits : Type 0
+NoTwoBits =
+    (l : Logic) (rank : ℕ → ℕ) (p : Pulse) (poss other : ℕ → Tri) (view its : ℕ → ℕ → Tri) → IsRanked l rank → ((c : ℕ) → AboveTri (poss c) (p.old c)) → ((c : ℕ) → AboveTri (other c) (p.old c)) →
+    AreViews l p poss view → AreViews l p other its → (d e net : ℕ) (a b : Bool) → view d net ≡ known a → its e net ≡ known b → a ≡ b
+
+-- Where one map stands above another, so do its views.
+abbrev pub ViewsRise : Type 0
+ViewsRise =
+    (l : Logic) (rank : ℕ → ℕ) (p : Pulse) (high low : ℕ → Tri) (view its : ℕ → ℕ → Tri) → IsRanked l rank → ((c : ℕ) → AboveTri (high c) (low c)) → AreViews l p high view → AreViews l p low its →
+    (d net : ℕ) → AboveTri (view d net) (its d net)
+
+-- What a next value is read from at one map it is read from at a higher one: a scan enable may become Unknown.
+abbrev pub ReadsRise : Type 0
+ReadsRise =
+    (l : Logic) (p : Pulse) (needs : (view net : ℕ) → Bool) (view its : ℕ → ℕ → Tri) → ((d net : ℕ) → AboveTri (view d net) (its d net)) →
+    (c : ℕ) → HasNextReads l p needs view c → HasNextReads l p needs its c
