@@ -1,6 +1,6 @@
 ghost use Rattle.std.specs.Prelude.{◌<◌, length};
 
-use dft_gf2::{Fill, Outcome, System};
+use dft_gf2::{Fill, Mark, Outcome, System};
 use dft_lanes::{has_bit, is_packed, put};
 use std::alloc::{AllocError, Global};
 use std::test::Fail;
@@ -67,13 +67,37 @@ fn solved(alloc: Global, system: &System, fill: &str) -> Result<String, AllocErr
     Ok(text)
 }
 
+// Adds an equation, takes a mark at `(`, or goes back to it at `)`, and says what came of it by a letter.
+fn stepped(
+    alloc: Global,
+    system: &mut System,
+    mark: &mut Option<Mark>,
+    word: &str,
+    id: u32,
+) -> Result<char, AllocError> {
+    if word == "(" {
+        *mark = Some(system.mark());
+        return Ok('(');
+    }
+    if word != ")" {
+        return added(alloc, system, word, id);
+    }
+    if let Some(mark) = *mark {
+        if mark.number() <= system.mark().number() {
+            system.back_to(mark);
+        }
+    }
+    Ok(')')
+}
+
 // Writes what a system tells: the outcomes, the certificate where the last equation is a conflict, and the solution.
 fn told(alloc: Global, columns: u32, equations: &str, fill: &str) -> Result<String, AllocError> {
     let mut system = System::new(alloc, columns)?;
+    let mut mark = None;
     let mut text = String::new(alloc);
     let mut id = 0u32;
     for equation in equations.split_whitespace() {
-        text.push(added(alloc, &mut system, equation, id)?)?;
+        text.push(stepped(alloc, &mut system, &mut mark, equation, id)?)?;
         id = id.wrapping_add(1);
     }
     if system.has_conflict() {
@@ -86,8 +110,8 @@ fn told(alloc: Global, columns: u32, equations: &str, fill: &str) -> Result<Stri
     Ok(text)
 }
 
-// Columns, equations, a fill, and what all solutions tell, worked out by hand.
-const CASES: [(u32, &str, &str, &str); 12] = [
+// Columns, equations and marks, a fill, and what all solutions tell, worked out by hand.
+const CASES: [(u32, &str, &str, &str); 13] = [
     (0, "=0 =1", "", "IC 1 "),
     (1, "0=0 0=1", "1", "IC 1 1"),
     (2, "11=1 11=1 11=0", "00", "KIC 0 2 01"),
@@ -95,6 +119,12 @@ const CASES: [(u32, &str, &str, &str); 12] = [
     (3, "111=1", "000", "K 001"),
     (3, "111=1", "110", "K 111"),
     (3, "110=0 110=1 011=1 101=1", "010", "KCKI 001"),
+    (
+        3,
+        "101=0 011=0 ( 100=1 110=1 ) 110=1",
+        "010",
+        "KK(KC)C 0 1 6 000",
+    ),
     (
         4,
         "1100=1 0110=1 0011=1 1001=1 1001=0",
@@ -134,32 +164,6 @@ fn a_conflict_names_the_rows_that_sum_to_it(rt: HostRuntime) -> Result<(), Fail>
         assert_eq!(rt; system.certificate(alloc)?.as_slice(), &[7u32, 8, 10][..]);
     }
     assert_eq!(rt; solved(alloc, &system, "111")?.as_str(), "111");
-    Ok(())
-}
-
-#[test]
-fn rows_that_were_kept_since_a_mark_are_dropped(rt: HostRuntime) -> Result<(), Fail> {
-    let alloc = rt.alloc();
-    let mut system = System::new(alloc, 3)?;
-    assert_eq!(rt; added(alloc, &mut system, "101=0", 7)?, 'K');
-    assert_eq!(rt; added(alloc, &mut system, "011=0", 8)?, 'K');
-    let mark = system.mark();
-    let kept = mark.number();
-    assert_eq!(rt; kept, 2);
-    assert_eq!(rt; added(alloc, &mut system, "100=1", 9)?, 'K');
-    assert_eq!(rt; added(alloc, &mut system, "110=1", 10)?, 'C');
-    if kept <= system.mark().number() {
-        system.back_to(mark);
-    }
-    assert!(rt; !system.has_conflict());
-    assert_eq!(rt; system.mark().number(), 2);
-    assert_eq!(rt; added(alloc, &mut system, "110=1", 11)?, 'C');
-    if system.has_conflict() {
-        assert_eq!(rt; system.certificate(alloc)?.as_slice(), &[7u32, 8, 11][..]);
-    }
-    assert_eq!(rt; solved(alloc, &system, "010")?.as_str(), "000");
-    assert_eq!(rt; added(alloc, &mut system, "001=1", 12)?, 'K');
-    assert_eq!(rt; solved(alloc, &system, "010")?.as_str(), "111");
     Ok(())
 }
 
