@@ -1,9 +1,9 @@
 -- The stated certificate is one: kept sets are independent, so a set is the sum of kept sets in one way.
-use Rattle.std.proofs.Common.{ℕ, zero, suc, Bool, true, false, List, [], ◌∷◌, ◌++◌, ◌≡◌, ◌+◌, ◌<◌, ◌≤◌, length, take, get_or, refl, sym, ap, subst, arith, ◌∙◌, ◌⊎◌, inl, inr}
+use Rattle.std.proofs.Common.{ℕ, zero, suc, Bool, true, false, List, [], ◌∷◌, ◌++◌, ◌≡◌, ◌<◌, ◌≤◌, length, take, refl, sym, ap, subst, arith, ◌∙◌, ◌⊎◌, inl, inr}
 use Rattle.std.specs.Prelude.{◌&&◌}
 use Rattle.std.proofs.lemmas.Bool.{cases_lt}
 use Rattle.std.proofs.lemmas.List.{length_push, get_or_push, length-take-le, get_or-take, take-append-le, take_at}
-use Rattle.dft_base.specs.Solutions.{xor, sum_to, bit_at, Equation, equation_at, odd_at, IsSumOf, IsSum, IsSolvable, Contradicts, StatesFrom, ids_to}
+use Rattle.dft_base.specs.Solutions.{xor, sum_to, bit_at, Equation, equation_at, odd_at, IsSumOf, IsSum, IsSolvable, Contradicts, StatesFrom}
 use Rattle.dft_gf2.specs.Laws.{StatedIsOne}
 use Rattle.dft_gf2.proofs.Sums.{xor_self, sum_same, sum_add_left}
 use Rattle.dft_gf2.proofs.Restorations.{push_at, solves_front, solves_last}
@@ -32,9 +32,12 @@ xor_rest = grind arith
 pick_case : (n : ℕ) (kept : List Equation) (m : ℕ) (p : ℕ → Bool) (b : Bool) → p m ≡ b → IsIndependent n kept → m < length kept → ((c : ℕ) → c < n → odd_to (suc m) p kept c ≡ false) →
     (p m ≡ false) × ((c : ℕ) → c < n → odd_to m p kept c ≡ false)
 pick_case n kept m p true is independent less zeros =
-    absurd (independent m less (p, λ c under.
-    xor_none (bit_at (equation_at kept m).row c) (odd_to m p kept c) (ap (λ (b : Bool). xor (b && bit_at (equation_at kept m).row c) (odd_to m p kept c)) (sym is) ∙ zeros c under)
-    ∙ sym (odd_take m p kept c (omega arith))))
+    absurd (independent m less (
+      p,
+      λ c under.
+          xor_none (bit_at (equation_at kept m).row c) (odd_to m p kept c) (ap (λ (b : Bool). xor (b && bit_at (equation_at kept m).row c) (odd_to m p kept c)) (sym is) ∙ zeros c under)
+          ∙ sym (odd_take m p kept c (omega arith)),
+    ))
 pick_case n kept m p false is independent less zeros =
     (is, λ c under. xor_rest (bit_at (equation_at kept m).row c) (odd_to m p kept c) (ap (λ (b : Bool). xor (b && bit_at (equation_at kept m).row c) (odd_to m p kept c)) (sym is) ∙ zeros c under))
 

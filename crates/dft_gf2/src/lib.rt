@@ -9,6 +9,9 @@ mod row;
 mod system;
 
 pub use fill::Fill;
-pub use laws::{certified_is_unsolvable, chosen_is_one, stated_is_one, stated_is_unsolvable, unsolvable_is_stated};
+pub use laws::{
+    certified_is_unsolvable, chosen_is_one, stated_is_one, stated_is_unsolvable,
+    unsolvable_is_stated,
+};
 pub use mark::Mark;
 pub use system::{Outcome, System};
