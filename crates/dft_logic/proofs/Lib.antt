@@ -6,4 +6,5 @@ pub mod StillLemmas
 pub mod ShownLemmas
 pub mod TakeLemmas
 pub mod ListLemmas
+pub mod EntryLemmas
 pub mod RiseLemmas

@@ -34,12 +34,12 @@ taken_is None v d source is = same_source v d source is
 taken_is (Some scan) v d source is = chosen_is (value_from v scan.enable) v scan.input d source is
 
 -- a reset or set whose port is 1 lets all through, and one whose port is 0 leaves its value
-forced_high : (value : Bool) (t : Tri) → tri_forced value One t ≡ t
+pub forced_high : (value : Bool) (t : Tri) → tri_forced value One t ≡ t
 forced_high value Zero = refl
 forced_high value One = refl
 forced_high value Unknown = refl
 
-forced_known : (value : Bool) (t : Tri) → tri_forced value Zero t ≡ known value
+pub forced_known : (value : Bool) (t : Tri) → tri_forced value Zero t ≡ known value
 forced_known false Zero = refl
 forced_known false One = refl
 forced_known false Unknown = refl

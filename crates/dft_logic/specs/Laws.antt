@@ -5,7 +5,7 @@ use Rattle.dft_base.specs.declared.tri.Tri.TheVariants.{Zero}
 use Rattle.dft_base.specs.Tri.{known, AboveTri}
 use Rattle.dft_netlist.specs.declared.ids.NetId.{NetId}
 use Rattle.dft_netlist.specs.Drivers.{Source, nets_of}
-use Rattle.dft_netlist.specs.Logic.{Logic, Lockup, Force, IsRanked}
+use Rattle.dft_netlist.specs.Logic.{Logic, Lockup, Force, Scan, IsRanked}
 use Rattle.dft_netlist.specs.Settled.{value_from}
 use Rattle.dft_netlist.specs.Orders.{numbers_of}
 use Rattle.dft_abstract.specs.Cycle.{Pulse, AreViews, next_value, IsLeast, after_pulse}
@@ -14,6 +14,7 @@ use Rattle.dft_logic.specs.Moves.{IsStill, IsUnclocked}
 use Rattle.dft_logic.specs.Takes.{next_source, AreOrigins}
 use Rattle.dft_logic.specs.Lists.{is_listed, IsListFrom, settled_by}
 use Rattle.dft_logic.specs.Shows.{Shown, is_still, IsShownOn, HasStillReads}
+use Rattle.dft_logic.specs.Entries.{Entry, entry_value, entry_given}
 
 -- ---- lock-ups
 
@@ -128,6 +129,29 @@ abbrev pub OriginIsShown : Type 0
 OriginIsShown =
     (l : Logic) (rank : ℕ → ℕ) (origin : ℕ → Option ℕ) (ports flops settled : ℕ → Tri) → IsRanked l rank → AreOrigins l origin → IsStrobe l ports flops settled →
     (net c : ℕ) → origin net ≡ Some c → settled net ≡ flops c
+
+-- ---- entries
+
+-- A flip-flop that has an entry has its value after the pulse, from the strobe's values.
+abbrev pub EntryIsNext : Type 0
+EntryIsNext =
+    (l : Logic) (rank : ℕ → ℕ) (p : Pulse) (origin : ℕ → Option ℕ) (shown : ℕ → Shown) (settled : ℕ → Tri) → IsRanked l rank → AreOrigins l origin → IsStrobe l p.ports p.old settled →
+    (c : ℕ) (entry : Entry) → entry_given l p origin shown settled c ≡ Some entry →
+    after_pulse l p (λ d. settled) c ≡ entry_value p.old settled (next_value l p (λ d. settled) c) c entry
+
+-- Where all flip-flops have entries, these give the values after the pulse at a least map that is there.
+abbrev pub PassOfEntries : Type 0
+PassOfEntries =
+    (l : Logic) (rank : ℕ → ℕ) (p : Pulse) (origin : ℕ → Option ℕ) (shown : ℕ → Shown) (settled : ℕ → Tri) (entries : ℕ → Entry) → IsRanked l rank → AreOrigins l origin →
+    IsShownOn l p.pulsed (λ net. true) shown → IsStrobe l p.ports p.old settled → ((c : ℕ) → entry_given l p origin shown settled c ≡ Some (entries c)) →
+    (poss : ℕ → Tri) × ((view : ℕ → ℕ → Tri) × (IsLeast l p poss view × ((c : ℕ) → after_pulse l p view c ≡ entry_value p.old settled (next_value l p (λ d. settled) c) c (entries c))))
+
+-- Where the same clocks pulse, and a flip-flop's reset or set port and its scan enable have the same values, it has the same entry.
+abbrev pub EntryStays : Type 0
+EntryStays =
+    (l : Logic) (p q : Pulse) (origin : ℕ → Option ℕ) (shown : ℕ → Shown) (settled other : ℕ → Tri) (c : ℕ) → p.pulsed (l.cell c).domain ≡ q.pulsed (l.cell c).domain →
+    ((force : Force) → (l.cell c).force ≡ Some force → p.ports force.port ≡ q.ports force.port) → ((scan : Scan) → (l.cell c).scan ≡ Some scan → value_from settled scan.enable ≡ value_from other scan.enable) →
+    entry_given l p origin shown settled c ≡ entry_given l q origin shown other c
 
 -- ---- lists
 

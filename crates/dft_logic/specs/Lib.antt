@@ -8,4 +8,5 @@ pub mod Moves
 pub mod Shows
 pub mod Takes
 pub mod Lists
+pub mod Entries
 pub mod Laws

@@ -4,6 +4,6 @@
 mod laws;
 
 pub use laws::{
-    lists_settle, lockup_shows_input, needed_is_settled, next_at_strobe, one_assignment,
-    still_has_one_pass, views_rise,
+    entries_tell, lists_settle, lockup_shows_input, needed_is_settled, next_at_strobe,
+    one_assignment, still_has_one_pass, views_rise,
 };
