@@ -38,7 +38,11 @@ fn draw(row: &mut [u64], columns: u32, random: &mut Pcg32) {
     let mut left = columns;
     for word in row.iter_mut() {
         let bits = (random.next_word() as u64) << 32 | random.next_word() as u64;
-        *word = if left < 64 { bits & ((1 << left) - 1) } else { bits };
+        *word = if left < 64 {
+            bits & ((1 << left) - 1)
+        } else {
+            bits
+        };
         left = left.saturating_sub(64);
     }
 }
