@@ -1,5 +1,12 @@
 pub mod Settlings
 pub mod Sweepings
+pub mod NeedLemmas
+pub mod Fillings
+pub mod ShownLemmas
+pub mod OriginLemmas
+pub mod EntryLemmas
+pub mod PlanLemmas
+pub mod ListLemmas
 pub mod CircuitRanks
 pub mod Writings
 pub mod TableLemmas

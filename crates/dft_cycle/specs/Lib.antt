@@ -8,6 +8,8 @@ pub mod Machine
 pub mod Tables
 pub mod Circuit
 pub mod Views
+pub mod ShownTables
+pub mod EntryTables
 pub mod MachineShown
 pub mod Compiling
 pub mod MachineLaws

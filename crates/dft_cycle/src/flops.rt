@@ -62,7 +62,7 @@ impl FlipFlop {
     }
 
     /// Its next value in the view with these values.
-    fn next(&self, ports: &[Tri], values: &[Tri]) -> Tri
+    pub(crate) fn next(&self, ports: &[Tri], values: &[Tri]) -> Tri
         ensures { result ≡ next_at (circuits.cell_of self.now) (spec.value_at ports.now) (spec.value_at values.now) }
     {
         forced_by(self.force, ports, self.taken(values))

@@ -4,11 +4,17 @@
 mod building;
 mod circuit;
 mod compiling;
+mod entries;
 mod flops;
 mod laws;
+mod lists;
 mod machine;
+mod marks;
+mod needs;
+mod origins;
 mod rounds;
 mod settling;
+mod shown;
 mod sweeping;
 mod tables;
 mod wires;
