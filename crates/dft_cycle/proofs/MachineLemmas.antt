@@ -11,16 +11,16 @@ use Rattle.dft_netlist.specs.declared.ids.NetId.{NetId}
 use Rattle.dft_netlist.specs.Drivers.{Source}
 use Rattle.dft_netlist.specs.Logic.{Logic, Cell}
 use Rattle.dft_netlist.specs.Settled.{TriSources, value_from, IsTriSettled}
-use Rattle.dft_cycle.specs.declared.circuit.FlipFlop.{FlipFlop}
-use Rattle.dft_cycle.specs.declared.circuit.Circuit.{Circuit}
+use Rattle.dft_logic.specs.declared.circuit.FlipFlop.{FlipFlop}
+use Rattle.dft_logic.specs.declared.circuit.Circuit.{Circuit}
 use Rattle.dft_abstract.specs.Cycle.{Pulse, AreViews, next_value, after_pulse, IsLeast}
 use Rattle.dft_cycle.specs.Machine.{Machine, value_at, is_one_of, ports_of, logic, acted, IsSet, at_strobe, IsStrobed, pulses, pulse_from, IsPulsed}
-use Rattle.dft_cycle.specs.Circuit.{IsReady, logic_at, cell_of, cell_at, flag_at, IsCircuit}
+use Rattle.dft_logic.specs.Circuit.{IsReady, logic_at, cell_of, cell_at, flag_at, IsCircuit}
 use Rattle.dft_cycle.specs.Views.{rank_of, Among, AreNext}
-use Rattle.dft_cycle.specs.Compiling.{ports_by}
+use Rattle.dft_logic.specs.Compiling.{ports_by}
 use Rattle.dft_abstract.proofs.Views.{views_exist}
-use Rattle.dft_cycle.proofs.CircuitRanks.{circuit_ranked}
-use Rattle.dft_cycle.proofs.Writings.{cell_past}
+use Rattle.dft_logic.proofs.CircuitRanks.{circuit_ranked}
+use Rattle.dft_logic.proofs.Writings.{cell_past}
 
 -- ---- the elements of a vector that was filled anew
 

@@ -3,16 +3,14 @@
 ghost use Rattle.std.specs.Prelude.{◌≡◌, ℕ, ◌<◌, length, map, replicate, true, false, Some, None, slice_get, IfOk, if◌then◌else◌};
 ghost use Rattle.dft_cycle.specs.Machine.{logic, AreNets, is_one_of, IsStart, IsSet, IsStrobed, IsPulsed, pulses, acted};
 ghost use Rattle.dft_cycle.specs.Machine as spec;
-ghost use Rattle.dft_cycle.specs.Circuit.{cell_of, cell_at, force_at, IsCircuit, flag_at as is_up};
+ghost use Rattle.dft_logic.specs.Circuit.{cell_of, cell_at, force_at, IsCircuit, flag_at as is_up};
 
-use crate::building::compile;
-use crate::circuit::{Acting, Circuit, FlipFlop};
-use crate::flops::forced;
 use crate::rounds::find_least;
-use crate::settling::{Pulse, View, flag_at, settle, value_at};
 use crate::sweeping::settle_again;
-use crate::tables::list_of;
 use dft_base::Tri;
+use dft_logic::{
+    Acting, Circuit, FlipFlop, Pulse, compile, flag_at, forced, list_of, settle, strobe_view, value_at,
+};
 use dft_netlist::{Design, NetId};
 use std::alloc::{AllocError, Global};
 use std::marker::Model;
@@ -165,18 +163,6 @@ impl<'a> AbstractMachine<'a> {
             &self.next,
             &mut self.cells,
         );
-    }
-}
-
-/// The view of a strobe: lock-ups are wires.
-fn strobe_view(pulse: Pulse<'_>) -> View<'_, '_, '_>
-    ensures { result ≡ record { pulse = pulse.entry; domain = record { 0 = 0 }; poss = pulse.entry.old; held = None } }
-{
-    View {
-        pulse,
-        domain: NetId(0),
-        poss: pulse.old,
-        held: None,
     }
 }
 

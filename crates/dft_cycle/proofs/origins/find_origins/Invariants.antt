@@ -1,9 +1,0 @@
--- The nets before this one are told.
-use Rattle.std.proofs.Common.{None}
-use Rattle.dft_cycle.specs.EntryTables.{number_of}
-use Rattle.dft_cycle.proofs.Fillings.{Filling}
-use Rattle.dft_cycle.proofs.OriginLemmas.{given}
-use Rattle.dft_cycle.proofs.origins.find_origins.Given as goal
-
-abbrev pub invariant-loop-net : goal.invariant-loop-net
-invariant-loop-net l = Filling number_of None given l.circuit.ops.items l.circuit.order.items l.origins l.net-index
