@@ -1,5 +1,5 @@
 -- How the views of a pulse are found: lock-ups by rounds, then next values.
-use Rattle.std.specs.Prelude.{ℕ, suc, Bool, true, false, ◌≡◌, ◌<◌, ◌==◌, List, [], ◌∷◌, Option, None, Some, length, slice_index_or, if◌then◌else◌}
+use Rattle.std.specs.Prelude.{ℕ, Bool, true, false, ◌≡◌, ◌<◌, ◌==◌, List, Option, None, Some, length, slice_index_or, if◌then◌else◌}
 use Rattle.dft_base.specs.declared.tri.Tri.{Tri}
 use Rattle.dft_base.specs.declared.tri.Tri.TheVariants.{Zero, One, Unknown}
 use Rattle.dft_base.specs.Tri.{join, AboveTri}
@@ -7,7 +7,6 @@ use Rattle.dft_netlist.specs.declared.ids.NetId.{NetId}
 use Rattle.dft_netlist.specs.Drivers.{Source}
 use Rattle.dft_netlist.specs.Logic.{Logic, Lockup, Cell}
 use Rattle.dft_netlist.specs.Settled.{value_from}
-use Rattle.dft_netlist.specs.Orders.{numbers_of}
 use Rattle.dft_logic.specs.declared.circuit.Circuit.{Circuit}
 use Rattle.dft_abstract.specs.Cycle.{tri_forced_by, tri_taken_by, next_value, IsClosed}
 use Rattle.dft_abstract.specs.Cycle as Cycle

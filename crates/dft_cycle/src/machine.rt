@@ -3,13 +3,15 @@
 ghost use Rattle.std.specs.Prelude.{◌≡◌, ℕ, ◌<◌, length, map, replicate, true, false, Some, None, slice_get, IfOk, if◌then◌else◌};
 ghost use Rattle.dft_cycle.specs.Machine.{logic, AreNets, is_one_of, IsStart, IsSet, IsStrobed, IsPulsed, pulses, acted};
 ghost use Rattle.dft_cycle.specs.Machine as spec;
+ghost use Rattle.dft_logic.specs.Needs.{AreSeen};
 ghost use Rattle.dft_logic.specs.Circuit.{cell_of, cell_at, force_at, IsCircuit, flag_at as is_up};
 
 use crate::rounds::find_least;
 use crate::sweeping::settle_again;
 use dft_base::Tri;
 use dft_logic::{
-    Acting, Circuit, FlipFlop, Pulse, compile, flag_at, forced, list_of, settle, strobe_view, value_at,
+    Acting, Circuit, FlipFlop, Pulse, compile, flag_at, forced, list_of, read_list, settle,
+    strobe_view, value_at,
 };
 use dft_netlist::{Design, NetId};
 use std::alloc::{AllocError, Global};
@@ -132,6 +134,26 @@ impl<'a> AbstractMachine<'a> {
         ensures { result ≡ spec.value_at self.now.shown net.0 }
     {
         value_at(&self.shown, net.0)
+    }
+
+    /// The values of nets at a strobe of the machine as it stands, which is seen unchanged.
+    pub fn look(&mut self, nets: &[NetId], values: &mut [Tri])
+        requires { length values.old ≡ length nets.now }
+        ensures same { self.new ≡ self.old }
+        ensures seen { AreSeen (logic self.old) (spec.value_at self.old.inputs) (spec.value_at self.old.cells) nets.now values.new }
+    {
+        let pulse = Pulse {
+            ports: &self.inputs,
+            pulsed: &[],
+            old: &self.cells,
+        };
+        settle_again(
+            &self.circuit,
+            &strobe_view(pulse),
+            &mut self.values,
+            &mut self.marked,
+        );
+        read_list(nets, &self.values, values);
     }
 
     /// Pulses some clocks, with an entry for each in their order: the flip-flops of their domains take what they may

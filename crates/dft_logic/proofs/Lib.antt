@@ -25,3 +25,4 @@ pub mod OriginLemmas
 pub mod EntryTableLemmas
 pub mod TakingLemmas
 pub mod PlanLemmas
+pub mod LookLemmas

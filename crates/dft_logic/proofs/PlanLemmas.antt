@@ -107,7 +107,7 @@ or_only : (b c : Bool) → c ≡ false → (b || c) ≡ true → b ≡ true
 or_only true c down is = refl
 or_only false c down is = absurd (true≢false (sym is ∙ down))
 
-has_needs : (count : ℕ) (marked : List Bool) (nets : List ℕ) → ((k : ℕ) → k < count → Has nets k → flag_at marked k ≡ true) → HasAll (needs_of count marked) nets
+pub has_needs : (count : ℕ) (marked : List Bool) (nets : List ℕ) → ((k : ℕ) → k < count → Has nets k → flag_at marked k ≡ true) → HasAll (needs_of count marked) nets
 has_needs count marked [] each = tt
 has_needs count marked (n ∷ ns) each = (
   elim (leb_tells count n) [ inl out ↦ or_second (flag_at marked n) (leb count n) out.0 | inr live ↦ or_first (flag_at marked n) (leb count n) (each n live.1 (inl refl)) ],
@@ -118,14 +118,14 @@ all_needs : (count : ℕ) (marked : List Bool) (nets : List ℕ) → HasAll (fla
 all_needs count marked [] all = tt
 all_needs count marked (n ∷ ns) all = (or_first (flag_at marked n) (leb count n) all.0, all_needs count marked ns all.1)
 
-needs_closed : (x : Circuit) (marked : List Bool) → IsStrobeClosed (logic_at x) (flag_at marked) → IsStrobeClosed (logic_at x) (needs_of (length x.ops.items) marked)
+pub needs_closed : (x : Circuit) (marked : List Bool) → IsStrobeClosed (logic_at x) (flag_at marked) → IsStrobeClosed (logic_at x) (needs_of (length x.ops.items) marked)
 unfolding logic_at
 needs_closed x marked closed k need = elim (leb_tells (length x.ops.items) k) [
   | inl out ↦ (let P : Op → Type 0 = λ o. HasAll (needs_of (length x.ops.items) marked) (reads (meaning o)) in subst P (sym (get_or_past x.ops.items k Free out.1)) tt)
   | inr live ↦ all_needs (length x.ops.items) marked (reads (meaning (op_at x.ops.items k))) (closed k (or_only (flag_at marked k) (leb (length x.ops.items) k) live.0 need))
 ]
 
-needs_on : (x : Circuit) (ports flops : ℕ → Tri) (marked : List Bool) (values : List Tri) → length values ≡ length x.ops.items → IsStrobeOn (logic_at x) ports flops (flag_at marked) (value_at values) →
+pub needs_on : (x : Circuit) (ports flops : ℕ → Tri) (marked : List Bool) (values : List Tri) → length values ≡ length x.ops.items → IsStrobeOn (logic_at x) ports flops (flag_at marked) (value_at values) →
     IsStrobeOn (logic_at x) ports flops (needs_of (length x.ops.items) marked) (value_at values)
 unfolding logic_at
 needs_on x ports flops marked values len on k need = elim (leb_tells (length x.ops.items) k) [
