@@ -14,7 +14,7 @@ use Rattle.dft_netlist.specs.Orders.{Has, numbers_of}
 use Rattle.dft_abstract.specs.Cycle.{Pulse}
 use Rattle.dft_logic.specs.declared.circuit.Circuit.{Circuit}
 use Rattle.dft_logic.specs.declared.takings.Taking.{Taking}
-use Rattle.dft_logic.specs.Needs.{strobe_from}
+use Rattle.dft_logic.specs.Needs.{strobe_from, AreSeen}
 use Rattle.dft_logic.specs.Shows.{Shown, IsShownOn}
 use Rattle.dft_logic.specs.Takes.{AreOrigins}
 use Rattle.dft_logic.specs.Entries.{Entry, Keeps, entry_value}
@@ -28,7 +28,10 @@ use Rattle.dft_cycle.specs.declared.plans.Pins.{Pins}
 use Rattle.dft_cycle.specs.declared.plans.Plan.{Plan}
 use Rattle.dft_cycle.specs.declared.plans.Stage.{Stage}
 use Rattle.dft_cycle.specs.declared.plans.Stage.TheVariants.{Noted, Made, Barred}
+use Rattle.dft_cycle.specs.declared.looks.Look.{Look}
 use Rattle.dft_cycle.specs.Views.{Among, PulsesAmong}
+use Rattle.dft_cycle.specs.Looks.{IsListed}
+use Rattle.dft_logic.proofs.LookLemmas.{look_of_marked}
 use Rattle.dft_cycle.specs.Plans.{row_of, flags_of, IsNeedList, IsPins, IsKey, IsMade, IsPlan, IsNoted, IsFilled, IsPassed}
 
 -- ---- the same key is the same at each pin
@@ -165,3 +168,29 @@ pub plan_barred : (x : Circuit) (clocks : List NetId) (pins : Pins) (old new : P
 plan_barred x clocks pins old new was is =
     let P : Plan → Type 0 = λ plan. IsPlan x clocks pins plan in
     subst P (sym is) (record { pulsed = was.pulsed; ports = was.ports; enables = was.enables; list = was.list; count = was.count; room = was.room; made = λ made. absurd cc })
+
+pub plan_noted : (x : Circuit) (clocks : List NetId) (pins : Pins) (p : Pulse) (values : ℕ → Tri) (old new : Plan) → IsPlan x clocks pins old → IsNoted clocks pins p values Noted old new → IsPlan x clocks pins new
+plan_noted x clocks pins p values old new was n =
+    let lists : length new.list.items ≡ length old.list.items = ap (λ (v : Vec NetId). length v.items) n.list in
+    let taken : vec_capacity new.takings ≡ vec_capacity old.takings = ap (λ (v : Vec Taking). vec_capacity v) n.takings in
+    let fits : old.count ≤ length old.list.items = was.count in
+    let room : length x.flops.items ≤ vec_capacity old.takings = was.room in
+    record {
+      pulsed = ap length n.pulsed ∙ length-map clocks _;
+      ports = ap length n.ports ∙ length-map pins.ports.items _;
+      enables = ap length n.enables ∙ length-map pins.enables.items _;
+      list = lists ∙ was.list;
+      count = omega (arith, n.count, lists, fits);
+      room = omega (arith, taken, room);
+      made = λ is. (let none : Noted ≡ Made = sym n.stage ∙ is in absurd cc);
+    }
+
+-- ---- looks
+
+pub look_read : (x : Circuit) (look : Look) (ports flops : ℕ → Tri) (values row : List Tri) → IsCircuit x → IsListed x look → length values ≡ length x.ops.items →
+    ((k : ℕ) → Has (numbers_of (take look.count look.list.items)) k → value_at values k ≡ value_given (strobe_from ports flops (value_at values)) (value_at values) k (meaning (op_at x.ops.items k))) →
+    row ≡ map (λ net. value_at values net.0) look.nets.items → AreSeen (logic_at x) ports flops look.nets.items row
+unfolding logic_at
+look_read x look ports flops values row is listed len settled read =
+    let R : List Tri → Type 0 = λ r. AreSeen (logic_at x) ports flops look.nets.items r in
+    subst R (sym read) (look_of_marked x ports flops listed.marked values look.nets.items is len listed.list.closed (λ k up. settled k (listed.list.listed k up)) listed.all)
