@@ -19,7 +19,7 @@ use Rattle.dft_cycle.specs.declared.plans.Pins.{Pins}
 use Rattle.dft_cycle.specs.declared.plans.Plan.{Plan}
 use Rattle.dft_cycle.specs.declared.plans.Stage.{Stage}
 use Rattle.dft_cycle.specs.declared.plans.Stage.TheVariants.{Made}
-use Rattle.dft_cycle.specs.declared.plans.Plans.{Plans}
+use Rattle.dft_cycle.specs.declared.planning.Plans.{Plans}
 use Rattle.dft_cycle.specs.Views.{Among}
 
 -- the values of nets, in their order

@@ -1,13 +1,13 @@
 //! Looks: nets whose values are asked for, and what they are settled from, kept for when they are asked for again.
 
-ghost use Rattle.std.specs.Prelude.{◌≡◌, ℕ, ◌<◌, ◌≤◌, All, [], length, take, true, false, IfSome};
+ghost use Rattle.std.specs.Prelude.{◌≡◌, ℕ, ◌<◌, ◌≤◌, length, take, true, false, IfSome};
 ghost use Rattle.std.specs.Vec.{vec_capacity};
 ghost use Rattle.dft_netlist.specs.Orders.{Has, numbers_of};
 ghost use Rattle.dft_logic.specs.Values as spec;
 ghost use Rattle.dft_logic.specs.Circuit.{IsCircuit, logic_at, flag_at as is_up};
 ghost use Rattle.dft_logic.specs.Needs.{AreSeen};
 ghost use Rattle.dft_cycle.specs.Plans.{IsNeedList};
-ghost use Rattle.dft_cycle.specs.Looks.{IsLook, IsListed};
+ghost use Rattle.dft_cycle.specs.Looks.{IsLook, IsListed, IsAt};
 
 use dft_base::Tri;
 use dft_logic::{
@@ -53,7 +53,7 @@ fn copy_nets(nets: &[NetId], list: &mut Vec<NetId>)
 
 /// The place of the look at these nets.
 pub(crate) fn find_look(looks: &[Look], nets: &[NetId]) -> Option<usize>
-    ensures { IfSome result (λ place. place < length looks.now) }
+    ensures { IfSome result (λ place. IsAt looks.now place nets.now) }
 {
     for (place, look) in looks.iter().enumerate() {
         if same_nets(&look.nets, nets) {
@@ -127,5 +127,31 @@ impl Look {
     {
         settle_strobe(circuit, ports, cells, &self.list[..self.count], values);
         read_list(&self.nets, values, row);
+    }
+
+    /// Reads the values of its nets at a strobe; what they are settled from is listed first, if it is not.
+    pub(crate) fn see(
+        &mut self,
+        circuit: &Circuit,
+        ports: &[Tri],
+        cells: &[Tri],
+        values: &mut [Tri],
+        marked: &mut [bool],
+        row: &mut [Tri],
+    )
+        requires circuit { IsCircuit circuit.now }
+        requires look { IsLook circuit.now self.old }
+        requires values { length values.old ≡ length circuit.now.ops.items }
+        requires marked { length marked.old ≡ length circuit.now.ops.items }
+        requires clear { (k : ℕ) → is_up marked.old k ≡ false }
+        requires row { length row.old ≡ length self.old.nets.items }
+        ensures look { IsLook circuit.now self.new }
+        ensures clear { (k : ℕ) → is_up marked.new k ≡ false }
+        ensures seen { AreSeen (logic_at circuit.now) (spec.value_at ports.now) (spec.value_at cells.now) self.old.nets.items row.new }
+    {
+        if !self.made {
+            self.make(circuit, marked);
+        }
+        self.read(circuit, ports, cells, values, row);
     }
 }

@@ -11,7 +11,7 @@ ghost use Rattle.dft_logic.specs.ShownTables.{shown_at};
 ghost use Rattle.dft_logic.specs.EntryTables.{origin_at, entry_for, entry_needs, entry_at};
 ghost use Rattle.dft_cycle.specs.declared.plans.Stage.TheVariants.{Noted, Made};
 ghost use Rattle.dft_cycle.specs.Views.{PulsesAmong};
-ghost use Rattle.dft_cycle.specs.Plans.{row_of, flags_of, IsPins, IsNeedList, IsPlan, IsNoted, IsFilled, IsPassed, ArePlans};
+ghost use Rattle.dft_cycle.specs.Plans.{row_of, flags_of, IsPins, IsNeedList, IsPlan, IsNoted, IsFilled, IsPassed};
 
 use dft_base::Tri;
 use dft_logic::{
@@ -54,20 +54,6 @@ pub(crate) struct Plan {
     pub takings: Vec<Taking>,
 }
 
-/// The plans of the last pulses that came again, and what they are made from: the pins, the flip-flop that each net
-/// shows, and room for what nets show and for entries. Then the places of the plan that was noted last and of the one
-/// that was taken last.
-#[derive(Drop)]
-pub(crate) struct Plans {
-    pub pins: Pins,
-    pub origins: Vec<Option<InstanceId>>,
-    pub plans: Vec<Plan>,
-    pub shown: Vec<Shown>,
-    pub entries: Vec<Entry>,
-    pub noted: usize,
-    pub taken: usize,
-}
-
 /// Whether nets have the flags of a row, in their order, and it has no more.
 fn has_flags(nets: &[NetId], row: &[bool], flags: &[bool]) -> bool
     ensures { result ≡ true → row.now ≡ flags_of (is_up flags.now) nets.now }
@@ -95,7 +81,7 @@ fn read_flags(nets: &[NetId], flags: &[bool], row: &mut [bool])
 
 impl Plan {
     /// Whether it is for this pulse, where nets have these values.
-    fn fits(&self, clocks: &[NetId], pins: &Pins, pulse: Pulse<'_>, values: &[Tri]) -> bool
+    pub(crate) fn fits(&self, clocks: &[NetId], pins: &Pins, pulse: Pulse<'_>, values: &[Tri]) -> bool
         ensures pulsed { result ≡ true → self.now.pulsed.items ≡ flags_of (pulse_at pulse.entry).pulsed clocks.now }
         ensures ports { result ≡ true → self.now.ports.items ≡ row_of (pulse_at pulse.entry).ports pins.now.ports.items }
         ensures enables { result ≡ true → self.now.enables.items ≡ row_of (spec.value_at values.now) pins.now.enables.items }
@@ -120,7 +106,7 @@ impl Plan {
     }
 
     /// Whether it has a key and no more.
-    fn is_noted(&self) -> bool
+    pub(crate) fn is_noted(&self) -> bool
         ensures { result ≡ true → self.now.stage ≡ Noted }
     {
         match self.stage {
@@ -128,24 +114,6 @@ impl Plan {
             _ => false,
         }
     }
-}
-
-/// The place of the plan for a pulse, where nets have these values.
-fn find_plan(
-    plans: &[Plan],
-    clocks: &[NetId],
-    pins: &Pins,
-    pulse: Pulse<'_>,
-    values: &[Tri],
-) -> Option<usize>
-    ensures { IfSome result (λ place. place < length plans.now) }
-{
-    for (place, plan) in plans.iter().enumerate() {
-        if plan.fits(clocks, pins, pulse, values) {
-            return Some(place);
-        }
-    }
-    None
 }
 
 /// Settles all nets for the strobe of a pulse, and finds what flip-flops take. Whether all take what is still.
@@ -192,7 +160,7 @@ fn list_needs(
 
 impl Plan {
     /// Notes for which pulse it is.
-    fn note(
+    pub(crate) fn note(
         &mut self,
         clocks: &[NetId],
         pins: &Pins,
@@ -227,7 +195,7 @@ impl Plan {
     }
 
     /// Makes it for a pulse, if all flip-flops take what is still.
-    fn make(
+    pub(crate) fn make(
         &mut self,
         circuit: &Circuit,
         clocks: &[NetId],
@@ -261,7 +229,7 @@ impl Plan {
     }
 
     /// Takes a pulse by it, if it is made and the pulse is the one that it is for. Whether it was taken.
-    fn take(
+    pub(crate) fn take(
         &self,
         circuit: &Circuit,
         clocks: &[NetId],
@@ -298,149 +266,5 @@ impl Plan {
         take_all(&circuit.flops, &self.takings, pulse, values, next);
         put_all(&self.takings, next, cells);
         true
-    }
-}
-
-/// The place that is noted next: the one after the last, but not the one that was taken last.
-pub(crate) fn next_place(noted: usize, taken: usize, count: usize) -> usize
-    requires { 0 < count }
-    ensures { result < count }
-{
-    let place = place_after(noted, count);
-    if place == taken {
-        place_after(place, count)
-    } else {
-        place
-    }
-}
-
-/// The place after one, round about.
-fn place_after(place: usize, count: usize) -> usize
-    requires { 0 < count }
-    ensures { result < count }
-{
-    if place < count - 1 { place + 1 } else { 0 }
-}
-
-impl Plans {
-    /// Notes a plan for a pulse, in place of another.
-    fn note(&mut self, circuit: &Circuit, clocks: &[NetId], pulse: Pulse<'_>, values: &[Tri])
-        requires plans { ArePlans circuit.now clocks.now self.old }
-        ensures { ArePlans circuit.now clocks.now self.new }
-    {
-        let place = next_place(self.noted, self.taken, self.plans.len());
-        self.plans[place].note(clocks, &self.pins, pulse, values, Stage::Noted);
-        self.noted = place;
-    }
-
-    /// Makes the plan at a place for a pulse.
-    fn make(
-        &mut self,
-        circuit: &Circuit,
-        clocks: &[NetId],
-        pulse: Pulse<'_>,
-        place: usize,
-        values: &mut [Tri],
-        marked: &mut [bool],
-    )
-        requires circuit { IsCircuit circuit.now }
-        requires plans { ArePlans circuit.now clocks.now self.old }
-        requires live { place < length self.old.plans.items }
-        requires among { PulsesAmong pulse.pulsed.now clocks.now }
-        requires ports { length pulse.ports.now ≡ length circuit.now.ops.items }
-        requires values { length values.old ≡ length circuit.now.ops.items }
-        requires marked { length marked.old ≡ length circuit.now.ops.items }
-        requires clear { (k : ℕ) → is_up marked.old k ≡ false }
-        ensures plans { ArePlans circuit.now clocks.now self.new }
-        ensures count { length self.new.plans.items ≡ length self.old.plans.items }
-        ensures clear { (k : ℕ) → is_up marked.new k ≡ false }
-    {
-        self.plans[place].make(
-            circuit,
-            clocks,
-            &self.pins,
-            pulse,
-            &self.origins,
-            values,
-            &mut self.shown,
-            &mut self.entries,
-            marked,
-        );
-    }
-
-    /// The place of the plan for a pulse, which is made if the pulse came before. Where there is none, one is noted.
-    fn choose(
-        &mut self,
-        circuit: &Circuit,
-        clocks: &[NetId],
-        pulse: Pulse<'_>,
-        values: &mut [Tri],
-        marked: &mut [bool],
-    ) -> Option<usize>
-        requires circuit { IsCircuit circuit.now }
-        requires plans { ArePlans circuit.now clocks.now self.old }
-        requires among { PulsesAmong pulse.pulsed.now clocks.now }
-        requires ports { length pulse.ports.now ≡ length circuit.now.ops.items }
-        requires values { length values.old ≡ length circuit.now.ops.items }
-        requires marked { length marked.old ≡ length circuit.now.ops.items }
-        requires clear { (k : ℕ) → is_up marked.old k ≡ false }
-        ensures plans { ArePlans circuit.now clocks.now self.new }
-        ensures live { IfSome result (λ place. place < length self.new.plans.items) }
-        ensures clear { (k : ℕ) → is_up marked.new k ≡ false }
-    {
-        let nets = &self.pins.list[..self.pins.count];
-        settle_strobe(circuit, pulse.ports, pulse.old, nets, values);
-        match find_plan(&self.plans, clocks, &self.pins, pulse, values) {
-            Some(place) => {
-                self.taken = place;
-                if self.plans[place].is_noted() {
-                    self.make(circuit, clocks, pulse, place, values, marked);
-                }
-                Some(place)
-            }
-            None => {
-                self.note(circuit, clocks, pulse, values);
-                None
-            }
-        }
-    }
-
-    /// Takes a pulse by a plan, if there is one for it. Whether it was taken.
-    pub(crate) fn take(
-        &mut self,
-        circuit: &Circuit,
-        clocks: &[NetId],
-        ports: &[Tri],
-        pulsed: &[bool],
-        values: &mut [Tri],
-        marked: &mut [bool],
-        next: &mut [Tri],
-        cells: &mut [Tri],
-    ) -> bool
-        requires circuit { IsCircuit circuit.now }
-        requires plans { ArePlans circuit.now clocks.now self.old }
-        requires among { PulsesAmong pulsed.now clocks.now }
-        requires ports { length ports.now ≡ length circuit.now.ops.items }
-        requires values { length values.old ≡ length circuit.now.ops.items }
-        requires marked { length marked.old ≡ length circuit.now.ops.items }
-        requires clear { (k : ℕ) → is_up marked.old k ≡ false }
-        requires next { length next.old ≡ length circuit.now.flops.items }
-        requires cells { length cells.old ≡ length circuit.now.flops.items }
-        ensures plans { ArePlans circuit.now clocks.now self.new }
-        ensures clear { (k : ℕ) → is_up marked.new k ≡ false }
-        ensures passed { result ≡ true → IsPassed circuit.now (record { ports = spec.value_at ports.now; pulsed = is_up pulsed.now; old = spec.value_at cells.old }) cells.new }
-        ensures same { result ≡ false → cells.new ≡ cells.old }
-    {
-        let pulse = Pulse {
-            ports,
-            pulsed,
-            old: cells,
-        };
-        match self.choose(circuit, clocks, pulse, values, marked) {
-            Some(place) => self.plans[place].take(
-                circuit, clocks, &self.pins, ports, pulsed, values, next, cells,
-            ),
-            None => false,
-        }
     }
 }

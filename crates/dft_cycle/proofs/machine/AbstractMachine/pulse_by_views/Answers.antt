@@ -8,8 +8,8 @@ use Rattle.dft_cycle.specs.Machine.{Machine, logic, value_at, pulses, IsPulsed}
 use Rattle.dft_logic.specs.Circuit.{flag_at, logic_at}
 use Rattle.dft_cycle.specs.Views.{Among}
 use Rattle.dft_cycle.specs.MachineShown.{machine_of}
-use Rattle.dft_cycle.proofs.MachineLemmas.{refilled, filled, clear_kept, ready_kept, pulse_done, taken_read, pulses_among}
-use Rattle.dft_cycle.proofs.machine.AbstractMachine.pulse.Goals as goal
+use Rattle.dft_cycle.proofs.MachineLemmas.{refilled, filled, clear_kept, ready_kept, pulse_done, taken_read, pulses_among, flags_one}
+use Rattle.dft_cycle.proofs.machine.AbstractMachine.pulse_by_views.Goals as goal
 
 pub find_least-requires-clause-pulsing : goal.find_least-requires-clause-pulsing
 find_least-requires-clause-pulsing c = λ e up.
@@ -46,6 +46,10 @@ invariant_of-self c =
       marked = refilled d.marked c.find_least.new.marked ∙ i.marked;
       clear = clear_kept d.marked c.find_least.new.marked c.deref_mut-5.result.now c.find_least.auto.marked c.deref_mut-5.ensures.value c.find_least.ensures.clear;
       ready = ready_kept d.circuit d.values c.find_least.new.values c.deref_mut-4.result.now c.find_least.auto.values c.deref_mut-4.ensures.value c.find_least.ensures.ready;
+      quick = i.quick;
+      plans = i.plans;
+      looks = i.looks;
+      flags = flags_one d.clocks.items c.args.pulsed.now d.pulsed c.mark.new.flags c.deref.result.now c.deref_mut.result.now c.mark.auto.flags c.deref_mut.ensures.value c.deref.ensures.value c.mark.ensures;
     }
 
 pub returns : goal.returns

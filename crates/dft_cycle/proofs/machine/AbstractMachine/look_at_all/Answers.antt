@@ -9,7 +9,7 @@ use Rattle.dft_logic.specs.declared.settling.View.{View}
 use Rattle.dft_logic.specs.Circuit.{logic_at, IsGivenIn}
 use Rattle.dft_cycle.proofs.DomainLemmas.{ready_view}
 use Rattle.dft_cycle.proofs.MachineLemmas.{refilled, filled, looked, clear_kept, ready_kept}
-use Rattle.dft_cycle.proofs.machine.AbstractMachine.look.Goals as goal
+use Rattle.dft_cycle.proofs.machine.AbstractMachine.look_at_all.Goals as goal
 
 pub invariant_of-self : goal.invariant_of-self
 unfolding logic
@@ -34,6 +34,10 @@ invariant_of-self c =
       clear = clear_kept d.marked c.settle_again.new.marked c.deref_mut-2.result.now c.settle_again.auto.marked c.deref_mut-2.ensures.value c.settle_again.ensures.clear;
       ready = ready_kept d.circuit d.values c.settle_again.new.values c.deref_mut.result.now c.settle_again.auto.values c.deref_mut.ensures.value
           (ready_view d.circuit c.strobe_view.result c.settle_again.new.values c.settle_again.ensures.given);
+      quick = i.quick;
+      plans = i.plans;
+      looks = i.looks;
+      flags = i.flags;
     }
 
 pub returns-clause-seen : goal.returns-clause-seen
