@@ -306,9 +306,9 @@ unfolding logic_at
 after_past x p view c out old =
     let F : Cell → Tri = λ cell. if p.pulsed cell.domain then tri_forced_by cell.force p.ports (tri_taken_by cell.scan (value_from (view cell.domain)) (value_from (view cell.domain) cell.input)) else p.old c in
     ap F (cell_past x.flops.items c out) ∙ go (p.pulsed 0) where
-  go : (up : Bool) → (if up then Unknown else p.old c) ≡ Unknown
-  go true = refl
-  go false = old
+      go : (up : Bool) → (if up then Unknown else p.old c) ≡ Unknown
+      go true = refl
+      go false = old
 
 pub pulse_passed : (m after : Machine) (x : Circuit) (pulsed : List Bool) (p : Pulse) (new : List Tri) → logic m ≡ logic_at x → after.netlist ≡ m.netlist → after.clocks ≡ m.clocks → after.inputs ≡ m.inputs → after.shown ≡ m.shown →
     after.cells ≡ new → ((k : ℕ) → p.ports k ≡ value_at m.inputs k) → ((e : ℕ) → p.pulsed e ≡ pulses m.clocks pulsed e) → ((c : ℕ) → p.old c ≡ value_at m.cells c) →

@@ -1,5 +1,5 @@
 -- A plan that is made passes every pulse that has its key.
-use Rattle.std.proofs.Common.{ℕ, zero, suc, Bool, true, false, List, [], ◌∷◌, ◌≡◌, ◌<◌, ◌≤◌, ◌⊎◌, inl, inr, Option, None, Some, length, map, take, drop, refl, sym, ap, ◌∙◌, subst, get_or, arith}
+use Rattle.std.proofs.Common.{ℕ, zero, suc, Bool, true, false, List, [], ◌∷◌, ◌≡◌, ◌<◌, ◌≤◌, inl, inr, Option, None, Some, length, map, take, drop, refl, sym, ap, ◌∙◌, subst, get_or, arith}
 use Rattle.std.specs.Vec.{vec_capacity}
 use Rattle.std.specs.Global.{Vec}
 use Rattle.std.proofs.lemmas.Bool.Decides.{leb_tells}
@@ -17,22 +17,21 @@ use Rattle.dft_logic.specs.declared.takings.Taking.{Taking}
 use Rattle.dft_logic.specs.Needs.{strobe_from, AreSeen}
 use Rattle.dft_logic.specs.Shows.{Shown, IsShownOn}
 use Rattle.dft_logic.specs.Takes.{AreOrigins}
-use Rattle.dft_logic.specs.Entries.{Entry, Keeps, entry_value}
+use Rattle.dft_logic.specs.Entries.{Entry, entry_value}
 use Rattle.dft_logic.specs.Values.{value_at}
-use Rattle.dft_logic.specs.Circuit.{meaning, op_at, logic_at, cell_of, cell_at, flag_at, force_nets, next_at, IsCircuit}
-use Rattle.dft_logic.specs.EntryTables.{scan_needs, entry_for, entry_of}
+use Rattle.dft_logic.specs.Circuit.{meaning, op_at, logic_at, cell_of, cell_at, force_nets, next_at, IsCircuit}
+use Rattle.dft_logic.specs.EntryTables.{scan_needs, entry_for}
 use Rattle.dft_logic.specs.Takings.{taking_at, taken_by, ArePut, AreTakings}
 use Rattle.dft_logic.proofs.EntryLemmas.{entry_stays}
 use Rattle.dft_logic.proofs.PlanLemmas.{planned}
 use Rattle.dft_cycle.specs.declared.plans.Pins.{Pins}
 use Rattle.dft_cycle.specs.declared.plans.Plan.{Plan}
-use Rattle.dft_cycle.specs.declared.plans.Stage.{Stage}
 use Rattle.dft_cycle.specs.declared.plans.Stage.TheVariants.{Noted, Made, Barred}
 use Rattle.dft_cycle.specs.declared.looks.Look.{Look}
-use Rattle.dft_cycle.specs.Views.{Among, PulsesAmong}
+use Rattle.dft_cycle.specs.Views.{Among}
 use Rattle.dft_cycle.specs.Looks.{IsListed}
 use Rattle.dft_logic.proofs.LookLemmas.{look_of_marked}
-use Rattle.dft_cycle.specs.Plans.{row_of, flags_of, IsNeedList, IsPins, IsKey, IsMade, IsPlan, IsNoted, IsFilled, IsPassed}
+use Rattle.dft_cycle.specs.Plans.{row_of, flags_of, IsNeedList, IsPins, IsMade, IsPlan, IsNoted, IsFilled, IsPassed}
 
 -- ---- the same key is the same at each pin
 
@@ -92,9 +91,9 @@ by_takings cells q v table count takings next old new are same takes put c live 
           (let t : Taking = taking_at takings w.0 in
           w.1.1.1 ∙ takes w.0 w.1.0 ∙ ap (entry_value q.old v (next_at (cells t.place) q.ports v) t.place) (sym (are.each w.0 w.1.0)) ∙ ap G w.1.1.0)
       | inr none ↦ elim (are.all c live) [
-          | inl among ↦ absurd (none.0 among)
-          | inr keeps ↦ none.1 ∙ sym (same c) ∙ ap (entry_value q.old v (next_at (cells c) q.ports v) c) (sym keeps)
-        ]
+        | inl among ↦ absurd (none.0 among)
+        | inr keeps ↦ none.1 ∙ sym (same c) ∙ ap (entry_value q.old v (next_at (cells c) q.ports v) c) (sym keeps)
+      ]
     ]
 
 pub passed : (x : Circuit) (clocks : List NetId) (pins : Pins) (plan : Plan) (q : Pulse) (values next old new : List Tri) → IsCircuit x → IsPins x pins → IsMade x clocks pins plan →
@@ -117,7 +116,7 @@ passed x clocks pins plan q values next old new is pinned m among past olds len 
     λ c force live at. at_nets m.pulse.ports q.ports pins.ports.items count force.port (sym m.key.ports ∙ ports) m.past past (λ less. pinned.ports c force.port live less (force_here (cells c).force force at)) in
     let enable : (c : ℕ) (scan : Scan) → c < length x.flops.items → (cells c).scan ≡ Some scan → value_from w scan.enable ≡ value_from v scan.enable =
     λ c scan live at. source_same w v scan.enable
-        (λ k net. at_nets w v pins.enables.items count k (sym m.key.enables ∙ enables) (beyond m.values m.size) (beyond values len) (λ less. pinned.enables c k live less (scan_here (cells c).scan scan k at net))) in
+    (λ k net. at_nets w v pins.enables.items count k (sym m.key.enables ∙ enables) (beyond m.values m.size) (beyond values len) (λ less. pinned.enables c k live less (scan_here (cells c).scan scan k at net))) in
     let entries : (c : ℕ) → c < length x.flops.items → entry_for (cells c) q m.origin m.shown v ≡ Some (m.table c) =
     λ c live. sym (entry_stays (record { net = λ net. Free; cell = λ k. cells c }) m.pulse q m.origin m.shown w v 0 (same (cells c).domain) (λ force at. port c force live at) (λ scan at. enable c scan live at)) ∙ m.entries c live in
     let pass = planned x q m.origin m.shown m.table m.marked values new is len m.origins (subst S whole m.shows) m.list.closed (λ k up. settled k (m.list.listed k up)) entries m.needed

@@ -10,9 +10,7 @@ ghost use Rattle.dft_cycle.specs.Plans.{IsNeedList};
 ghost use Rattle.dft_cycle.specs.Looks.{IsLook, IsListed, IsAt};
 
 use dft_base::Tri;
-use dft_logic::{
-    Circuit, list_marked, lower, mark_needed, mark_nets, read_list, settle_strobe,
-};
+use dft_logic::{Circuit, list_marked, lower, mark_needed, mark_nets, read_list, settle_strobe};
 use dft_netlist::NetId;
 
 /// The nets that are asked for; and once they were asked for again, what they are settled from, at the front of a list.
@@ -64,12 +62,7 @@ pub(crate) fn find_look(looks: &[Look], nets: &[NetId]) -> Option<usize>
 }
 
 /// Lists what nets are settled from, at the front of a list: how many.
-fn list_sources(
-    circuit: &Circuit,
-    nets: &[NetId],
-    marked: &mut [bool],
-    list: &mut [NetId],
-) -> usize
+fn list_sources(circuit: &Circuit, nets: &[NetId], marked: &mut [bool], list: &mut [NetId]) -> usize
     requires circuit { IsCircuit circuit.now }
     requires marked { length marked.old ≡ length circuit.now.ops.items }
     requires list { length list.old ≡ length circuit.now.ops.items }

@@ -15,9 +15,9 @@ ghost use Rattle.dft_cycle.specs.Plans.{row_of, flags_of, IsPins, IsNeedList, Is
 
 use dft_base::Tri;
 use dft_logic::{
-    Circuit, Entry, Pulse, Shown, Sights, Taking, find_entries, flag_at, has_row, list_marked, list_takings,
-    lower, mark_entries, mark_needed, put_all, read_list, settle, settle_strobe, show_all,
-    strobe_view, take_all,
+    Circuit, Entry, Pulse, Shown, Sights, Taking, find_entries, flag_at, has_row, list_marked,
+    list_takings, lower, mark_entries, mark_needed, put_all, read_list, settle, settle_strobe,
+    show_all, strobe_view, take_all,
 };
 use dft_netlist::{InstanceId, NetId};
 
@@ -81,7 +81,13 @@ fn read_flags(nets: &[NetId], flags: &[bool], row: &mut [bool])
 
 impl Plan {
     /// Whether it is for this pulse, where nets have these values.
-    pub(crate) fn fits(&self, clocks: &[NetId], pins: &Pins, pulse: Pulse<'_>, values: &[Tri]) -> bool
+    pub(crate) fn fits(
+        &self,
+        clocks: &[NetId],
+        pins: &Pins,
+        pulse: Pulse<'_>,
+        values: &[Tri],
+    ) -> bool
         ensures pulsed { result ≡ true → self.now.pulsed.items ≡ flags_of (pulse_at pulse.entry).pulsed clocks.now }
         ensures ports { result ≡ true → self.now.ports.items ≡ row_of (pulse_at pulse.entry).ports pins.now.ports.items }
         ensures enables { result ≡ true → self.now.enables.items ≡ row_of (spec.value_at values.now) pins.now.enables.items }

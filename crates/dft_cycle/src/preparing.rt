@@ -90,12 +90,7 @@ fn pins(
 }
 
 /// A plan for no clock.
-fn plan(
-    alloc: Global,
-    circuit: &Circuit,
-    clocks: &[NetId],
-    pins: &Pins,
-) -> Result<Plan, AllocError>
+fn plan(alloc: Global, circuit: &Circuit, clocks: &[NetId], pins: &Pins) -> Result<Plan, AllocError>
     ensures { IfOk result (IsPlan circuit.now clocks.now pins.now) }
 {
     let pulsed = vec![in alloc; false; clocks.len()]?;

@@ -1,5 +1,5 @@
 -- The nets that are asked for are marked.
-use Rattle.std.proofs.Common.{◌<◌, length, arith}
+use Rattle.std.proofs.Common.{arith}
 use Rattle.dft_cycle.proofs.looks.list_sources.Goals as goal
 
 pub returns-clause-all : goal.returns-clause-all

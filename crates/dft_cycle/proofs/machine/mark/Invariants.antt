@@ -1,5 +1,5 @@
 -- The flags of the entries so far are up.
-use Rattle.std.proofs.Common.{ℕ, ◌≡◌, ◌<◌, ◌||◌, false, drop}
+use Rattle.std.proofs.Common.{ℕ, ◌≡◌, ◌||◌, drop}
 use Rattle.dft_cycle.specs.Machine.{pulses}
 use Rattle.dft_logic.specs.Circuit.{flag_at}
 use Rattle.dft_cycle.proofs.machine.mark.Given as goal

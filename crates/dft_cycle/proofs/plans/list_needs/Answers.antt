@@ -1,5 +1,5 @@
 -- What the entries need is marked.
-use Rattle.std.proofs.Common.{◌<◌, length, arith}
+use Rattle.std.proofs.Common.{arith}
 use Rattle.dft_cycle.proofs.plans.list_needs.Goals as goal
 
 pub returns-clause-needed : goal.returns-clause-needed

@@ -1,5 +1,5 @@
 -- The scan enables are marked, and what is marked is listed.
-use Rattle.std.proofs.Common.{ℕ, ◌<◌, length, map, subst, sym, arith}
+use Rattle.std.proofs.Common.{map, subst, sym, arith}
 use Rattle.dft_netlist.specs.Orders.{Has}
 use Rattle.dft_logic.specs.Entries.{Entry}
 use Rattle.dft_logic.specs.Circuit.{cell_of, cell_at}

@@ -1,5 +1,5 @@
 -- The ports are marked, and what is marked is listed.
-use Rattle.std.proofs.Common.{◌<◌, length, arith}
+use Rattle.std.proofs.Common.{arith}
 use Rattle.dft_cycle.proofs.preparing.list_forces.Goals as goal
 
 pub returns-clause-all : goal.returns-clause-all

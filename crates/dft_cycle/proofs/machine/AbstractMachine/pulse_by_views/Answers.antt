@@ -1,5 +1,5 @@
 -- The flip-flops of the pulsed domains have their next values at the least map.
-use Rattle.std.proofs.Common.{Bool, ◌≡◌, ◌∙◌, refl, ap, sym, subst, length, List, arith}
+use Rattle.std.proofs.Common.{Bool, Some, slice_get, ◌≡◌, ◌∙◌, refl, ap, sym, subst, length, List, arith}
 use Rattle.std.specs.Vec.{with_items}
 use Rattle.dft_base.specs.declared.tri.Tri.{Tri}
 use Rattle.dft_netlist.specs.declared.ids.NetId.{NetId}
@@ -10,6 +10,23 @@ use Rattle.dft_cycle.specs.Views.{Among}
 use Rattle.dft_cycle.specs.MachineShown.{machine_of}
 use Rattle.dft_cycle.proofs.MachineLemmas.{refilled, filled, clear_kept, ready_kept, pulse_done, taken_read, pulses_among, flags_one}
 use Rattle.dft_cycle.proofs.machine.AbstractMachine.pulse_by_views.Goals as goal
+
+pub mark-requires-clause-live : goal.mark-requires-clause-live
+mark-requires-clause-live c = λ place clock at.
+    (let S : List NetId → Type 0 = λ l. slice_get l place ≡ Some clock in
+    let less = c.self.invariant.live place clock (subst S c.deref.ensures.value at) in
+    omega (arith, ap length c.deref_mut.ensures.value, less))
+
+pub find_least-requires-clause-owned : goal.find_least-requires-clause-owned
+find_least-requires-clause-owned c = λ k e source at.
+    (let Q : List NetId → Type 0 = λ l. Among l (length l) e in
+    subst Q (sym c.deref-6.ensures.value) (c.self.invariant.owned k e source at))
+
+pub find_least-requires-clause-live : goal.find_least-requires-clause-live
+find_least-requires-clause-live c = λ place net at.
+    (let S : List NetId → Type 0 = λ l. slice_get l place ≡ Some net in
+    let less = c.self.invariant.live place net (subst S c.deref-6.ensures.value at) in
+    omega (arith, c.self.invariant.pulsed, less))
 
 pub find_least-requires-clause-pulsing : goal.find_least-requires-clause-pulsing
 find_least-requires-clause-pulsing c = λ e up.

@@ -1,5 +1,5 @@
 -- The pulse has the plan's key.
-use Rattle.std.proofs.Common.{◌∙◌, refl, length, arith}
+use Rattle.std.proofs.Common.{◌∙◌, refl, arith}
 use Rattle.std.proofs.lemmas.List.{get_or_past}
 use Rattle.dft_base.specs.declared.tri.Tri.TheVariants.{Unknown}
 use Rattle.dft_cycle.proofs.PassLemmas.{passed}
