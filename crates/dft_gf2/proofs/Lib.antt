@@ -2,6 +2,7 @@ pub mod Echelons
 pub mod Restorations
 pub mod Sums
 pub mod BitsLemmas
+pub mod Firsts
 pub mod Reductions
 pub mod Outcomes
 pub mod Certificates

@@ -1,5 +1,6 @@
 pub mod BitsShown
 pub mod Elimination
+pub mod Ends
 pub mod Inside
 pub mod Laws
 pub mod Like

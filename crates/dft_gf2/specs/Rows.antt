@@ -2,6 +2,7 @@
 use Rattle.std.specs.Prelude.{ℕ, zero, suc, Bool, true, false, ◌≡◌, ◌<◌, List, [], ◌∷◌, ◌++◌, Option, Some, None, length, get_or, slice_set, is_some}
 use Rattle.std.specs.List.{count_by}
 use Rattle.dft_base.specs.Solutions.{xor, bit_at, Equation, odd_at, odd_bits}
+use Rattle.dft_gf2.specs.Ends.{EndsAt}
 use Rattle.dft_gf2.specs.declared.row.Row.{Row}
 
 -- the row at a place
@@ -44,6 +45,10 @@ IsLedBy row c = (bit_at row.set c ≡ true) × ((d : ℕ) → c < d → bit_at r
 -- each column that has a row leads it
 abbrev pub AreLed : List Row → List (Option ℕ) → Type 0
 AreLed rows places = (c i : ℕ) → place_at places c ≡ Some i → (i < length rows) × IsLedBy (row_at rows i) c
+
+-- each row that a column leads sums none but the equation at its own place and earlier ones
+abbrev pub NameEarlier : List Row → List (Option ℕ) → Type 0
+NameEarlier rows places = (c i : ℕ) → place_at places c ≡ Some i → EndsAt (row_at rows i).sums i
 
 -- the row holds no column
 abbrev pub IsZero : Row → Type 0

@@ -1,6 +1,7 @@
 ghost use Rattle.std.specs.Prelude.{◌≡◌, ℕ, ◌<◌, Bool, length, IfOk, MatchOption};
 ghost use Rattle.dft_base.specs.Solutions.{bit_at, sum_over, xor};
 ghost use Rattle.dft_lanes.specs.Rows.{bits_of, IsPacked};
+ghost use Rattle.dft_gf2.specs.Ends.{EndsAt};
 ghost use Rattle.dft_gf2.specs.Rows.{IsAdded, IsLedBy, IsStarted, IsWide, IsZero};
 
 use crate::bits::Bits;
@@ -47,15 +48,17 @@ impl Row {
         self.sums.get(place)
     }
 
-    /// Adds another row.
-    pub fn add(&mut self, other: &Row)
+    /// Adds another row, whose last column is `column` and which sums no equation past `place`.
+    pub fn add(&mut self, other: &Row, column: usize, place: usize)
         requires set { length other.now.set ≡ length self.old.set }
         requires sums { length other.now.sums ≡ length self.old.sums }
+        requires column { (column < length self.old.set) × EndsAt other.now.set column }
+        requires place { (place < length self.old.sums) × EndsAt other.now.sums place }
         ensures { IsAdded self.old other.now self.new }
     {
-        self.set.add(&other.set);
+        self.set.add(&other.set, column);
         self.bit ^= other.bit;
-        self.sums.add(&other.sums);
+        self.sums.add(&other.sums, place);
     }
 
     /// The row's last column.

@@ -3,7 +3,7 @@ ghost use Rattle.dft_base.specs.Solutions.{bit_at, Equation, IsSum, AllGive, Non
 ghost use Rattle.dft_lanes.specs.Rows.{bits_of, IsPacked};
 ghost use Rattle.dft_gf2.specs.Elimination.{Elimination, After};
 ghost use Rattle.dft_gf2.specs.Like.{AnswersLike};
-ghost use Rattle.dft_gf2.specs.Rows.{row_at, AreWide, AreLed, IsCleared, IsEchelon, IsZero, IsNew, IsReduced, IsWide, with_own};
+ghost use Rattle.dft_gf2.specs.Rows.{row_at, AreWide, AreLed, IsCleared, IsEchelon, IsZero, IsNew, IsReduced, IsWide, NameEarlier, with_own};
 
 use crate::bits::Bits;
 use crate::fill::Fill;
@@ -186,13 +186,14 @@ fn clear(trial: &mut Row, rows: &[Row], row_of: &[Option<usize>], column: usize)
     requires wide { IsWide (length row_of.now) trial.old }
     requires rows { AreWide (length row_of.now) rows.now }
     requires led { AreLed rows.now row_of.now }
+    requires named { NameEarlier rows.now row_of.now }
     requires last { bit_at trial.old.set column ≡ true }
     ensures reduced { IsReduced rows.now row_of.now trial.old trial.new }
     ensures cleared { IsCleared row_of.now column trial.old trial.new result }
 {
     match row_of[column] {
         Some(place) => {
-            trial.add(&rows[place]);
+            trial.add(&rows[place], column, place);
             true
         }
         None => false,
@@ -204,6 +205,7 @@ fn reduce(trial: &mut Row, rows: &[Row], row_of: &[Option<usize>]) -> Option<usi
     requires wide { IsWide (length row_of.now) trial.old }
     requires rows { AreWide (length row_of.now) rows.now }
     requires led { AreLed rows.now row_of.now }
+    requires named { NameEarlier rows.now row_of.now }
     ensures reduced { IsReduced rows.now row_of.now trial.old trial.new }
     ensures end { MatchOption result (IsZero trial.new) (IsNew row_of.now trial.new) }
 {

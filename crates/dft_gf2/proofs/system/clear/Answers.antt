@@ -1,5 +1,5 @@
 -- The row that the column leads is added.
-use Rattle.std.proofs.Common.{rules, ◌<◌, ◌≡◌, ◌∙◌, length, sym}
+use Rattle.std.proofs.Common.{arith, rules, ◌<◌, ◌≡◌, ◌∙◌, length, sym}
 use Rattle.std.proofs.lemmas.List.{get_or_read}
 use Rattle.dft_gf2.specs.Rows.{row_at, IsWide}
 use Rattle.dft_gf2.proofs.Reductions.{reduced_added, cleared_added}
@@ -24,6 +24,18 @@ add-requires-clause-sums c =
     let same : c.index-rows-place.result ≡ row_at c.args.rows.now c.in-Some.place = get_or_read c.args.rows.now c.in-Some.place c.index-rows-place.result less c.index-rows-place.is _ in
     let wide : IsWide (length c.args.row_of.now) (row_at c.args.rows.now c.in-Some.place) = c.requires.rows.1 c.in-Some.place (rw (← c.requires.rows.0) less) in
     rw same (wide.1 ∙ sym c.requires.wide.1)
+
+pub add-requires-clause-column : goal.add-requires-clause-column
+add-requires-clause-column c =
+    let less : c.in-Some.place < length c.args.rows.now = (c.requires.led _ _ c.in-Some.is).0 in
+    let same : c.index-rows-place.result ≡ row_at c.args.rows.now c.in-Some.place = get_or_read c.args.rows.now c.in-Some.place c.index-rows-place.result less c.index-rows-place.is _ in
+    (omega (arith, c.requires.wide.0, c.requires.within), rw same (c.requires.led _ _ c.in-Some.is).1.1)
+
+pub add-requires-clause-place : goal.add-requires-clause-place
+add-requires-clause-place c =
+    let less : c.in-Some.place < length c.args.rows.now = (c.requires.led _ _ c.in-Some.is).0 in
+    let same : c.index-rows-place.result ≡ row_at c.args.rows.now c.in-Some.place = get_or_read c.args.rows.now c.in-Some.place c.index-rows-place.result less c.index-rows-place.is _ in
+    (omega (arith, c.requires.wide.1, c.requires.rows.0), rw same (c.requires.named _ _ c.in-Some.is))
 
 pub returns-in-Some-clause-reduced : goal.returns-in-Some-clause-reduced
 returns-in-Some-clause-reduced c =

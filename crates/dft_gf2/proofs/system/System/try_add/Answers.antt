@@ -7,13 +7,16 @@ use Rattle.dft_lanes.specs.Rows.{bits_of}
 use Rattle.dft_lanes.proofs.RowLemmas.{length-bits_of}
 use Rattle.dft_gf2.specs.declared.row.Row.{Row}
 use Rattle.dft_gf2.specs.Rows.{IsNew, IsReduced, IsWide, IsZero, restored, row_at, with_own, kept_to, IsEchelon}
-use Rattle.dft_gf2.proofs.Outcomes.{Stands, stands_words, room, echelon_more, told_kept, told_implied, told_conflict, are_led, kept_after}
+use Rattle.dft_gf2.proofs.Outcomes.{Stands, stands_words, room, echelon_more, told_kept, told_implied, told_conflict, are_led, name_earlier, kept_after}
 use Rattle.dft_gf2.proofs.Restorations.{restored_is}
 use Rattle.dft_gf2.proofs.system.System.try_add.Goals as goal
 use Rattle.dft_gf2.proofs.system.System.try_add.Goals.{then-self, else-self}
 
 pub reduce-requires-clause-led : goal.reduce-requires-clause-led
 reduce-requires-clause-led c = rw (c.deref.ensures.value, c.deref-2.ensures.value) (are_led _ _ _ _ c.self.invariant.echelon)
+
+pub reduce-requires-clause-named : goal.reduce-requires-clause-named
+reduce-requires-clause-named c = rw (c.deref.ensures.value, c.deref-2.ensures.value) (name_earlier _ _ _ _ c.self.invariant.echelon)
 
 pub reduce-requires-clause-wide : goal.reduce-requires-clause-wide
 reduce-requires-clause-wide c =
