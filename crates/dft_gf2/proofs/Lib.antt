@@ -9,5 +9,6 @@ pub mod Certificates
 pub mod Choices
 pub mod Unsolvable
 pub mod Stated
+pub mod StoredRows
 pub mod OneChosen
 pub mod OneStated

@@ -79,6 +79,9 @@ room n rows places k c trial e new =
     let size = length-set places c (Some k) in
     omega (arith, e.count, e.columns)
 
+pub own_wide : (n k : ℕ) (trial : Row) → IsWide n trial → IsWide n (with_own k trial)
+own_wide n k trial wide = (wide.0, length-set trial.sums k true ∙ wide.1)
+
 -- the trial is one row more
 pub echelon_more : (n : ℕ) (rows : List Row) (places : List (Option ℕ)) (k c : ℕ) (trial : Row) → IsEchelon n rows places k → IsWide n trial → ((j : ℕ) → k ≤ j → bit_at trial.sums j ≡ false) →
     IsNew places trial c → IsEchelon n (slice_set rows k (with_own k trial)) (slice_set places c (Some k)) (k + 1)
@@ -89,7 +92,7 @@ echelon_more n rows places k c trial e wide later new =
     record {
       wide = (
         length-set rows k (with_own k trial) ∙ e.wide.0,
-        λ i less. at_set (IsWide n) rows k i (with_own k trial) inside (λ same. (wide.0, length-set trial.sums k true ∙ wide.1)) (λ apart. e.wide.1 i less),
+        λ i less. at_set (IsWide n) rows k i (with_own k trial) inside (λ same. own_wide n k trial wide) (λ apart. e.wide.1 i less),
       );
       columns = length-set places c (Some k) ∙ e.columns;
       count = count_set places c k new.0 new.1 ∙ ap (λ (m : ℕ). m + 1) e.count;

@@ -60,6 +60,17 @@ impl Bits {
         self.words.copy_from_slice(words);
     }
 
+    /// Takes over the first bits of as many or more, of which the others are 0.
+    pub fn copy_first(&mut self, other: &Bits)
+        requires few { length self.old ≤ length other.now }
+        requires end { (k : ℕ) → length self.old ≤ k → bit_at other.now k ≡ false }
+        ensures size { length self.new ≡ length self.old }
+        ensures bits { (k : ℕ) → bit_at self.new k ≡ bit_at other.now k }
+    {
+        let count = self.words.len();
+        self.words.copy_from_slice(&other.words[..count]);
+    }
+
     /// Makes every bit 0.
     pub fn clear(&mut self)
         ensures size { length self.new ≡ length self.old }
@@ -70,8 +81,8 @@ impl Bits {
 
     /// Adds as many bits, place by place, of which none past `last` is 1.
     pub fn add(&mut self, other: &Bits, last: usize)
-        requires size { length other.now ≡ length self.old }
         requires within { last < length self.old }
+        requires other { last < length other.now }
         requires end { EndsAt other.now last }
         ensures size { length self.new ≡ length self.old }
         ensures sums { (k : ℕ) → bit_at self.new k ≡ xor (bit_at self.old k) (bit_at other.now k) }
@@ -113,8 +124,8 @@ fn zero_words(alloc: Global, count: usize) -> Result<Vec<u64>, AllocError>
 
 // Adds as many bits, of which each with the value 1 is in so many words.
 fn add_first(words: &mut [u64], others: &[u64], count: usize)
-    requires size { length others.now ≡ length words.old }
     requires within { count ≤ length words.old }
+    requires others { count ≤ length others.now }
     requires end { (k : ℕ) → count ≤ k / 64 → packed_bit others.now k ≡ false }
     ensures size { length words.new ≡ length words.old }
     ensures sums { (k : ℕ) → packed_bit words.new k ≡ xor (packed_bit words.old k) (packed_bit others.now k) }
