@@ -1,0 +1,2 @@
+pub mod Shiftings
+pub mod ScanOffLemmas
