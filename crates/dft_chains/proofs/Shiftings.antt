@@ -23,10 +23,10 @@ use Rattle.dft_chains.specs.Shifts.{IsShift, LinkLaw, EntryLaw, IsShifted, Shift
 -- ---- values
 
 -- a net has the value that its meaning gives it
-value_at : (l : Logic) (s : TriSources) (w : ℕ → Tri) (net : ℕ) (m : Meaning) → IsTriSettled l s w → l.net net ≡ m → w net ≡ value_given s w net m
+pub value_at : (l : Logic) (s : TriSources) (w : ℕ → Tri) (net : ℕ) (m : Meaning) → IsTriSettled l s w → l.net net ≡ m → w net ≡ value_given s w net m
 value_at l s w net m settled is = settled net ∙ ap (value_given s w net) is
 
-own_choice : (a b : Bool) (x y : Tri) → b ≡ true → (if a then (if b then x else y) else x) ≡ x
+pub own_choice : (a b : Bool) (x y : Tri) → b ≡ true → (if a then (if b then x else y) else x) ≡ x
 own_choice true true x y h = refl
 own_choice true false x y h = absurd cc
 own_choice false b x y h = refl
@@ -45,9 +45,13 @@ lead_value l p poss view cell next _ views (ByLockup {net = net} {lockup = i} {o
     value_at l (view_sources l p poss view (l.cell next).domain) (view (l.cell next).domain) net (Lockup i (l.cell cell).domain (Net q)) (views (l.cell next).domain) at
     ∙ own_net l p poss view (l.cell cell).domain cell q views from refl
 
+-- an input port has its value in every view
+pub port_value : (l : Logic) (p : Pulse) (poss : ℕ → Tri) (view : ℕ → ℕ → Tri) (d net : ℕ) → AreViews l p poss view → l.net net ≡ Input → view d net ≡ p.ports net
+port_value l p poss view d net views is = value_at l (view_sources l p poss view d) (view d) net Input (views d) is
+
 -- ---- a scan cell in a shift vector
 
-forced_at_one : (value : Bool) (v : Tri) → tri_forced value One v ≡ v
+pub forced_at_one : (value : Bool) (v : Tri) → tri_forced value One v ≡ v
 forced_at_one value Zero = refl
 forced_at_one value One = refl
 forced_at_one value Unknown = refl
@@ -64,7 +68,7 @@ chosen_in Unknown One = refl
 chosen_in Unknown Unknown = refl
 
 -- resets are 1, so they leave the value
-not_forced : (ports : Ports) (e : ℕ) (x : Vector) (f : Option Force) (v : Tri) → ActsByPort ports f → IsShift ports e x → tri_forced_by f x.ports v ≡ v
+pub not_forced : (ports : Ports) (e : ℕ) (x : Vector) (f : Option Force) (v : Tri) → ActsByPort ports f → IsShift ports e x → tri_forced_by f x.ports v ≡ v
 not_forced ports e x None v acts shift = refl
 not_forced ports e x (Some force) v acts shift = ap (λ p. tri_forced force.value p v) (shift.resets force.port acts) ∙ forced_at_one force.value v
 
@@ -77,29 +81,29 @@ pick_true true x y h = refl
 pick_true false x y h = absurd cc
 
 -- after the vector a scan cell has the value of its source in the view of its domain
-takes_source : (l : Logic) (ports : Ports) (chains : List (List InstanceId)) (k : ChainNets) (x : Vector) (old poss : ℕ → Tri) (view : ℕ → ℕ → Tri) (source : Source) (cell : ℕ) →
-    HasChains l ports chains k → IsShift ports k.enable x → AreViews l (pulse_of l x old) poss view → IsScanCell l ports k.enable source cell →
+pub takes_source : (l : Logic) (ports : Ports) (chains : List (List InstanceId)) (w : ChainNets) (x : Vector) (old poss : ℕ → Tri) (view : ℕ → ℕ → Tri) (source : Source) (cell : ℕ) →
+    HasChains l ports chains w → IsShift ports w.enable x → AreViews l (pulse_of l x old) poss view → IsScanCell l ports w.enable source cell →
     after_pulse l (pulse_of l x old) view cell ≡ value_from (view (l.cell cell).domain) source
-takes_source l ports chains k x old poss view source cell has shift views is =
+takes_source l ports chains w x old poss view source cell has shift views is =
     let d : ℕ = (l.cell cell).domain in
     let at : Source → Tri = value_from (view d) in
     pick_true (x.pulsed d) (next_value l (pulse_of l x old) view cell) ((pulse_of l x old).old cell) (shift.domains d is.domain)
-    ∙ not_forced ports k.enable x (l.cell cell).force (tri_taken_by (l.cell cell).scan at (at (l.cell cell).input)) is.force shift
-    ∙ taken_in (l.cell cell).scan k.enable source at (at (l.cell cell).input) is.scan
-    (value_at l (view_sources l (pulse_of l x old) poss view d) (view d) k.enable Input (views d) has.enable ∙ shift.enabled)
+    ∙ not_forced ports w.enable x (l.cell cell).force (tri_taken_by (l.cell cell).scan at (at (l.cell cell).input)) is.force shift
+    ∙ taken_in (l.cell cell).scan w.enable source at (at (l.cell cell).input) is.scan
+    (port_value l (pulse_of l x old) poss view d w.enable views has.enable ∙ shift.enabled)
 
 pub link_law : LinkLaw
-link_law l ports chains k x old poss view has shift views chain place cell next stands follows =
-    takes_source l ports chains k x old poss view (k.into chain (suc place)) next.0 has shift views (has.cells chain (suc place) next follows)
-    ∙ lead_value l (pulse_of l x old) poss view cell.0 next.0 (k.into chain (suc place)) views (has.links chain place cell next stands follows)
-    ∙ not_forced ports k.enable x (l.cell cell.0).force (old cell.0) (has.cells chain place cell stands).force shift
+link_law l ports chains w x old poss view has shift views chain place cell next stands follows =
+    takes_source l ports chains w x old poss view (w.into chain (suc place)) next.0 has shift views (has.cells chain (suc place) next follows)
+    ∙ lead_value l (pulse_of l x old) poss view cell.0 next.0 (w.into chain (suc place)) views (has.links chain place cell next stands follows)
+    ∙ not_forced ports w.enable x (l.cell cell.0).force (old cell.0) (has.cells chain place cell stands).force shift
 
 pub entry_law : EntryLaw
 entry_law l ports chains w x old poss view has shift views chain cell stands enters =
     let d : ℕ = (l.cell cell.0).domain in
     takes_source l ports chains w.nets x old poss view (w.nets.into chain zero) cell.0 has shift views (has.cells chain zero cell stands)
     ∙ ap (value_from (view d)) enters.first
-    ∙ value_at l (view_sources l (pulse_of l x old) poss view d) (view d) (w.scan_in chain) Input (views d) enters.port
+    ∙ port_value l (pulse_of l x old) poss view d (w.scan_in chain) views enters.port
 
 -- ---- every run
 

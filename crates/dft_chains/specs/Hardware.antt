@@ -35,10 +35,10 @@ pub data Leads (l : Logic) (cell next : ℕ) : Source → Type 0 where
   ByLockup : {net lockup output : ℕ} → l.net net ≡ Lockup lockup (l.cell cell).domain (Net output) → l.net output ≡ Flop cell false → Leads l cell next (Net net)
 
 -- the cells of these chains are scan cells, and each leads to the next
-pub record HasChains (l : Logic) (ports : Ports) (chains : List (List InstanceId)) (k : ChainNets) : Type 0 where
-  pub enable : l.net k.enable ≡ Input
-  pub cells : (chain place : ℕ) (cell : InstanceId) → cell_at chains chain place ≡ Some cell → IsScanCell l ports k.enable (k.into chain place) cell.0
-  pub links : (chain place : ℕ) (cell next : InstanceId) → cell_at chains chain place ≡ Some cell → cell_at chains chain (suc place) ≡ Some next → Leads l cell.0 next.0 (k.into chain (suc place))
+pub record HasChains (l : Logic) (ports : Ports) (chains : List (List InstanceId)) (w : ChainNets) : Type 0 where
+  pub enable : l.net w.enable ≡ Input
+  pub cells : (chain place : ℕ) (cell : InstanceId) → cell_at chains chain place ≡ Some cell → IsScanCell l ports w.enable (w.into chain place) cell.0
+  pub links : (chain place : ℕ) (cell next : InstanceId) → cell_at chains chain place ≡ Some cell → cell_at chains chain (suc place) ≡ Some next → Leads l cell.0 next.0 (w.into chain (suc place))
 
 -- a chain enters by its scan input port
 pub record Enters (l : Logic) (w : ScanNets) (chain : ℕ) : Type 0 where

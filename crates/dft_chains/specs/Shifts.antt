@@ -23,8 +23,8 @@ pub record IsShift (ports : Ports) (enable : ℕ) (x : Vector) : Type 0 where
 -- each cell behind another one takes the value that this one had
 abbrev pub LinkLaw : Type 0
 LinkLaw =
-    (l : Logic) (ports : Ports) (chains : List (List InstanceId)) (k : ChainNets) (x : Vector) (old poss : ℕ → Tri) (view : ℕ → ℕ → Tri) →
-    HasChains l ports chains k → IsShift ports k.enable x → AreViews l (pulse_of l x old) poss view →
+    (l : Logic) (ports : Ports) (chains : List (List InstanceId)) (w : ChainNets) (x : Vector) (old poss : ℕ → Tri) (view : ℕ → ℕ → Tri) →
+    HasChains l ports chains w → IsShift ports w.enable x → AreViews l (pulse_of l x old) poss view →
     (chain place : ℕ) (cell next : InstanceId) → cell_at chains chain place ≡ Some cell → cell_at chains chain (suc place) ≡ Some next →
     after_pulse l (pulse_of l x old) view next.0 ≡ old cell.0
 
