@@ -4,6 +4,7 @@ use Rattle.dft_cells.specs.declared.kind.Kind.TheVariants.{Buf}
 use Rattle.dft_netlist.specs.declared.ids.InstanceId.{InstanceId}
 use Rattle.dft_netlist.specs.Drivers.{Source, Net}
 use Rattle.dft_netlist.specs.Logic.{Logic, Ports, Force, Input, Gate, Flop, Lockup}
+use Rattle.dft_runs.specs.WiderPorts.{MeansMore}
 use Rattle.dft_stitch.specs.Plans.{cell_at}
 
 -- the net of the port that enables shifting, and what the scan input of each cell is joined to, by chain and place
@@ -56,3 +57,9 @@ pub record IsPlain (l : Logic) (ports : Ports) (chains : List (List InstanceId))
   pub has : HasChains l ports chains w.nets
   pub entries : (chain : ℕ) (cell : InstanceId) → cell_at chains chain zero ≡ Some cell → Enters l w chain
   pub ends : (chain place : ℕ) (cell : InstanceId) → cell_at chains chain place ≡ Some cell → cell_at chains chain (suc place) ≡ None → Shows l cell.0 (w.scan_out chain)
+
+-- ---- under wider ports
+
+-- The chains of a logic stand in every logic that means as much or more.
+abbrev pub ChainsStay : Type 0
+ChainsStay = (l m : Logic) (ports : Ports) (chains : List (List InstanceId)) (w : ChainNets) → MeansMore l m → HasChains l ports chains w → HasChains m ports chains w

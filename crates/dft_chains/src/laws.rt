@@ -1,5 +1,6 @@
 //! The laws, as contracts of functions that do nothing.
 
+ghost use Rattle.dft_chains.specs.Hardware.{ChainsStay};
 ghost use Rattle.dft_chains.specs.ScanOff.{ScanOff};
 ghost use Rattle.dft_chains.specs.Shifts.{EndsShow, EndsShowBefore, EntryLaw, LinkLaw, ShiftExperiment, ShiftInRuns};
 
@@ -17,4 +18,9 @@ pub fn chains_shift()
 /// While scan is off, a design that contains another behaves as it.
 pub fn scan_off_agrees()
     ensures { ScanOff }
+{}
+
+/// The chains stand under every wider set of ports, as those of a pattern set are.
+pub fn chains_stay()
+    ensures { ChainsStay }
 {}

@@ -178,8 +178,8 @@ known_one false true h = absurd cc
 pub load_in_runs : LoadInRuns
 load_in_runs l rank ports config chains w hw table before clear load start ts a us ranked has range clearing carry run turn turns chain place cell stands less =
     let begun : Now = after_turns l start before ts in
-    let low = (turns_pass l rank start before ts ranked run.low run.turns).1.1 in
+    let low = (turns_pass l rank start before ts ranked run.low run.turns).2 in
     let next : Now = after_turn l clear begun a in
     let both = turns_pass l rank next load us ranked (low_after_turn l rank clear begun a ranked low turn) turns in
-    known_one _ _ (sym (ap (λ (f : ℕ → Tri). f cell.0) both.1.0)
+    known_one _ _ (sym (ap (λ (f : ℕ → Tri). f cell.0) both.1)
     ∙ load_passes l ports config chains w hw table clear load (bits begun.state) (pass_of_turn l clear begun a) (passes_of_turns l next load us) has range clearing carry (turn_passes l rank clear begun a ranked low turn) both.0 chain place cell stands less)

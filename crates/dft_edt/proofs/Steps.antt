@@ -231,13 +231,13 @@ flop_rests l x old view clock flop output input rests is =
 pub rest_law : RestLaw
 rest_law l ports config chains w hw x old view ring has range rests = (
   λ i less. (let h : HasStage l config.ring hw i = ring.stages i less in flop_rests l x old view hw.clock (hw.stage i) (hw.stage_net i) h.kept rests h.flop),
-  (λ chain less. (
+  λ chain less. (
       let at : Standing config chain = standing config chain range less in
       subst (λ (c : ℕ). after_pulse l (pulse_of l x old) view (hw.mask c) ≡ old (hw.mask c)) at.there
       (flop_rests l x old view hw.clock (hw.mask (chain_in config at.segment at.place)) (hw.mask_net (chain_in config at.segment at.place)) (before_in config hw.mask_port hw.mask_net at.segment at.place) rests
       (has.masks at.segment at.place at.in_segments at.in_segment))
       ),
-  λ chain less. (let h : HasHold l hw chain = has.holds chain less in flop_rests l x old view hw.clock (hw.hold chain) (hw.hold_net chain) h.next rests h.flop)),
+  λ chain less. (let h : HasHold l hw chain = has.holds chain less in flop_rests l x old view hw.clock (hw.hold chain) (hw.hold_net chain) h.next rests h.flop),
 )
 
 -- ---- the outputs at a strobe

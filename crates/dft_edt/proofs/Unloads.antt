@@ -212,14 +212,14 @@ unload_in_runs l rank ports config chains w hw table masks before load clear unl
     let loaded : Now = after_turns l begun load us in
     let next : Now = after_turn l clear loaded a in
     let end : Now = after_turns l next unload vs in
-    let low_begun = (turns_pass l rank start before ts ranked run.low run.turns).1.1 in
+    let low_begun = (turns_pass l rank start before ts ranked run.low run.turns).2 in
     let load_both = turns_pass l rank begun load us ranked low_begun loading in
-    let low_loaded = load_both.1.1 in
+    let low_loaded = load_both.2 in
     let low_next = low_after_turn l rank clear loaded a ranked low_loaded turn in
     let unload_both = turns_pass l rank next unload vs ranked low_next unloading in
     let held = masks_pass l ports config chains w hw masks load clear (bits begun.state) (passes_of_turns l begun load us) (pass_of_turn l clear loaded a) has range sends fits clearing load_both.0
-    (subst (λ (f : ℕ → Tri). Passes l clear f (pass_of_turn l clear loaded a)) (sym load_both.1.0) (turn_passes l rank clear loaded a ranked low_loaded turn)) in
+    (subst (λ (f : ℕ → Tri). Passes l clear f (pass_of_turn l clear loaded a)) (sym load_both.1) (turn_passes l rank clear loaded a ranked low_loaded turn)) in
     known_one _ _ (unload_passes l ports config chains w hw table masks unload x (bits next.state) (passes_of_turns l next unload vs) (pass_of_turn l x end b)
     (end_bit config.ring chains table next.state.flops (length unload)) has range carry shift unload_both.0
-    (subst (λ (f : ℕ → Tri). Passes l x f (pass_of_turn l x end b)) (sym unload_both.1.0) (turn_passes l rank x end b ranked unload_both.1.1 strobe)) held.1 held.0
+    (subst (λ (f : ℕ → Tri). Passes l x f (pass_of_turn l x end b)) (sym unload_both.1) (turn_passes l rank x end b ranked unload_both.2 strobe)) held.1 held.0
     (λ chain inside free. end_of_bits (nat_lt (length unload) (length (get_or chains chain []))) _ _) j less)

@@ -8,6 +8,7 @@ use Rattle.dft_config.specs.declared.config.RingConfig.{RingConfig}
 use Rattle.dft_config.specs.declared.config.Config.{Config}
 use Rattle.dft_config.specs.Cycles.{part_length}
 use Rattle.dft_config.specs.Ring.{phase_of}
+use Rattle.dft_runs.specs.WiderPorts.{MeansMore}
 use Rattle.dft_stitch.specs.Plans.{cell_at}
 use Rattle.dft_chains.specs.Hardware.{ChainNets, HasChains}
 use Rattle.dft_edt.specs.Feeds.{at_feed, feeds}
@@ -136,3 +137,11 @@ pub record HasCompactor (l : Logic) (config : Config) (chains : List (List Insta
 pub record IsEdt (l : Logic) (ports : Ports) (config : Config) (chains : List (List InstanceId)) (w : ChainNets) (hw : EdtNets) : Type 0 where
   pub ring : HasRing l ports config chains w hw
   pub compactor : HasCompactor l config chains hw
+
+-- ---- under wider ports
+
+-- The hardware of a logic stands in every logic that means as much or more.
+abbrev pub HardwareStays : Type 0
+HardwareStays =
+    (l m : Logic) (ports : Ports) (config : Config) (chains : List (List InstanceId)) (w : ChainNets) (hw : EdtNets) → MeansMore l m →
+    (HasRing l ports config chains w hw → HasRing m ports config chains w hw) × (HasCompactor l config chains hw → HasCompactor m config chains hw)

@@ -6,6 +6,7 @@ ghost use Rattle.dft_edt.specs.Vectors.{
 };
 ghost use Rattle.dft_edt.specs.Captures.{CaptureLaw, ContainingCovers, StrobeLaw};
 ghost use Rattle.dft_edt.specs.Examples.{SmallHas};
+ghost use Rattle.dft_edt.specs.Hardware.{HardwareStays};
 ghost use Rattle.dft_edt.specs.Loads.{LoadInRounds, LoadInRuns, LoadPasses};
 ghost use Rattle.dft_edt.specs.Unloads.{MasksPass, UnloadInRounds, UnloadInRuns, UnloadPasses};
 
@@ -66,4 +67,9 @@ pub fn captures_stand_over()
 /// There is a design that has the hardware.
 pub fn small_has()
     ensures { SmallHas }
+{}
+
+/// The hardware stands under every wider set of ports, as those of a pattern set are.
+pub fn hardware_stays()
+    ensures { HardwareStays }
 {}

@@ -1,6 +1,6 @@
 -- There is an order: the pulsed clocks by their numbers.
-use Rattle.std.proofs.Common.{ℕ, zero, suc, Bool, true, false, ◌+◌, ◌<◌, ◌==◌, List, [], ◌∷◌, ◌≡◌, refl, sym, ap, arith, ◌∙◌}
-use Rattle.std.specs.Prelude.{◌⊎◌, inl, inr, ◌≤◌, if◌then◌else◌}
+use Rattle.std.proofs.Common.{ℕ, zero, suc, Bool, true, false, ◌+◌, ◌<◌, ◌==◌, List, [], ◌∷◌, ◌≡◌, inl, inr, refl, sym, ap, arith, ◌∙◌}
+use Rattle.std.specs.Prelude.{◌≤◌, if◌then◌else◌}
 use Rattle.dft_netlist.proofs.LiveLemmas.{le_or_lt}
 use Rattle.dft_netlist.specs.Runs.{Moment, Vector, Edge, Turn, times, IsOrder}
 use Rattle.dft_runs.specs.Choices.{AreOrders, PulseBelow, OrdersExist, RunsExist}
@@ -27,16 +27,12 @@ more_apart = grind arith
 same_here : (n : ℕ) → (n == n) ≡ true
 same_here = grind arith
 
-times_if : (t : Bool) (d n : ℕ) (es : List Edge) → times d (if t then edge_of n ∷ es else es) ≡ (if t then (if d == n then 1 else 0) else 0) + times d es
-times_if true d n es = refl
-times_if false d n es = refl
-
 other_times : (t : Bool) (d n : ℕ) (es : List Edge) → (d == n) ≡ false → times d (if t then edge_of n ∷ es else es) ≡ times d es
-other_times true d n es apart = ap (λ (s : Bool). (if s then 1 else 0) + times d es) apart
+other_times true d n es apart = ap (λ (s : Bool). (if s then 1 else 0) + times d es) apart ∙ omega arith
 other_times false d n es apart = refl
 
 here_times : (t : Bool) (n : ℕ) (es : List Edge) → times n es ≡ 0 → times n (if t then edge_of n ∷ es else es) ≡ (if t then 1 else 0)
-here_times true n es none = ap (λ (s : Bool). (if s then 1 else 0) + times n es) (same_here n) ∙ ap (λ (k : ℕ). 1 + k) none
+here_times true n es none = ap (λ (s : Bool). (if s then 1 else 0) + times n es) (same_here n) ∙ omega (arith, none)
 here_times false n es none = none
 
 none_past : (pulsed : ℕ → Bool) (n d : ℕ) → n ≤ d → times d (edges_below pulsed n) ≡ 0
@@ -50,7 +46,7 @@ one_below pulsed (suc n) d less = elim (le_or_lt n d) [
   | inl past ↦ let same : d ≡ n = omega arith in ap (λ (k : ℕ). times k (edges_below pulsed (suc n))) same ∙ here_times (pulsed n) n (edges_below pulsed n) (none_past pulsed n n (omega arith)) ∙ ap (λ (k : ℕ). if pulsed k then 1 else 0) (sym same)
 ]
 
-not_past : (t : Bool) (bound d : ℕ) → bound ≤ d → (t ≡ true → d < bound) → (if t then 1 else 0) ≡ 0
+not_past : (t : Bool) (bound d : ℕ) → bound ≤ d → (t ≡ true → d < bound) → ◌≡◌ {A = ℕ} (if t then 1 else 0) 0
 not_past true bound d past below = absurd (let less = below refl in omega (arith, less))
 not_past false bound d past below = refl
 

@@ -29,9 +29,9 @@ rounds_pass l old (x ∷ xs) (r ∷ rs) are =
     ((round_passes l x old r are.0, rest.0), rest.1)
 
 pub turns_pass : TurnsPass
-turns_pass l rank now [] [] ranked low are = (tt, (refl, low))
+turns_pass l rank now [] [] ranked low are = (tt, refl, low)
 turns_pass l rank now [] (t ∷ ts) ranked low are = absurd are
 turns_pass l rank now (x ∷ xs) [] ranked low are = absurd are
 turns_pass l rank now (x ∷ xs) (t ∷ ts) ranked low are =
     let rest = turns_pass l rank (after_turn l x now t) xs ts ranked (low_after_turn l rank x now t ranked low are.0) are.1 in
-    ((turn_passes l rank x now t ranked low are.0, rest.0), rest.1)
+    ((turn_passes l rank x now t ranked low are.0, rest.0), rest.1, rest.2)

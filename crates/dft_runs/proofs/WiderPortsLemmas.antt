@@ -8,7 +8,7 @@ use Rattle.dft_netlist.specs.Netlist.{Netlist}
 use Rattle.dft_netlist.specs.Drivers.{Source, Connection, Driver, pins_of, kind_at, driver}
 use Rattle.dft_netlist.specs.Drivers as drivers
 use Rattle.dft_netlist.specs.Traces.{Root, Port, Constant, Other, root_of}
-use Rattle.dft_netlist.specs.Logic.{Ports, Cell, Scan, Force, Meaning, Free, Clock, Input, domain_of, domain_at, force_of, forcing, modelled, modelled_of, flip_flop, flop_meaning, lockup_meaning, meaning_of, pin_of, or_loose, scan_of, logic_of}
+use Rattle.dft_netlist.specs.Logic.{Ports, Cell, Scan, Force, Meaning, Free, Clock, Input, domain_of, domain_at, force_of, forcing, modelled, modelled_of, flip_flop, flop_meaning, lockup_meaning, meaning_of, pin_of, or_loose, scan_of, no_cell, cell_or_none}
 use Rattle.dft_runs.specs.WiderPorts.{Suits, PortsWiden}
 
 same_domain : (a b : Ports) → Suits a b → (r : Root) → domain_of b r ≡ domain_of a r
@@ -71,8 +71,11 @@ net_kept n a b suits net (drivers.Lockup i) =
     inr (ap (λ d. lockup_meaning i d (or_loose i (pin_of role.Din i (pins_of n i)))) (same_domain_at n a b suits (pin_of role.Clock i (pins_of n i))))
 net_kept n a b suits net drivers.Free = inl refl
 
+cell_kept : (n : Netlist) (a b : Ports) → Suits a b → (i : ℕ) → (cell_or_none i (flip_flop n a i) ≡ no_cell i) ⊎ (cell_or_none i (flip_flop n b i) ≡ cell_or_none i (flip_flop n a i))
+cell_kept n a b suits i = elim (flop_kept n a b suits i) [ inl none ↦ inl (ap (cell_or_none i) none) | inr same ↦ inr (ap (cell_or_none i) same) ]
+
 pub ports_widen : PortsWiden
 ports_widen n a b suits = record {
-  cells = λ i cell is. elim (flop_kept n a b suits i) [ inl none ↦ absurd (none-some cell (sym none ∙ is)) | inr same ↦ same ∙ is ];
-  nets = λ net. net_kept n a b suits net (driver n net);
+  flops = λ i cell is. elim (flop_kept n a b suits i) [ inl none ↦ absurd (none-some cell (sym none ∙ is)) | inr same ↦ same ∙ is ];
+  logic = record { nets = λ net. net_kept n a b suits net (driver n net); cells = cell_kept n a b suits };
 }
