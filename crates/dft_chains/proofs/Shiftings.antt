@@ -192,4 +192,4 @@ bit_not_forced ports e x s m (Some force) b same acts shift = rw (same, shift.re
 pub ends_show_before : EndsShowBefore
 ends_show_before l ports chains w x now t plain shift turn chain place cell stands last =
     ends_show l ports chains w x now t plain turn chain place cell stands last
-    ∙ bit_not_forced ports e x (at_strobe l x now t) t.strobe (l.cell cell.0).force (now.state.flops cell.0) refl (plain.has.cells chain place cell stands).force shift
+    ∙ bit_not_forced ports w.nets.enable x (at_strobe l x now t) t.strobe (l.cell cell.0).force (now.state.flops cell.0) refl (plain.has.cells chain place cell stands).force shift

@@ -1,5 +1,5 @@
 -- What a logic has stands in every logic that means as much or more.
-use Rattle.std.proofs.Common.{ℕ, suc, ◌≡◌, false, Option, None, Some, inl, inr, refl, sym, ap, ◌∙◌}
+use Rattle.std.proofs.Common.{ℕ, suc, ◌≡◌, false, Option, None, Some, inl, inr, refl, sym, subst, ap, ◌∙◌}
 use Rattle.std.proofs.lemmas.Option.{none-some}
 use Rattle.dft_netlist.specs.Drivers.{Source, Net}
 use Rattle.dft_netlist.specs.Logic.{Logic, Ports, Meaning, Cell, Scan, Input, Gate, Flop, Lockup, Free, no_cell}

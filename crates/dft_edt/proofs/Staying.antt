@@ -1,5 +1,5 @@
 -- The hardware stands in every logic that means as much or more.
-use Rattle.std.proofs.Common.{ℕ, zero, ◌≡◌, ◌<◌, false, List, [], ◌∷◌, Option, None, Some, inl, inr, refl, sym, ap, length, ◌∙◌}
+use Rattle.std.proofs.Common.{ℕ, zero, ◌≡◌, ◌<◌, false, List, [], ◌∷◌, Option, None, Some, inl, inr, refl, sym, subst, ap, length, ◌∙◌}
 use Rattle.dft_cells.specs.declared.kind.Kind.TheVariants.{Buf, Inv, And, Or, Xor}
 use Rattle.dft_netlist.specs.declared.ids.InstanceId.{InstanceId}
 use Rattle.dft_netlist.specs.Drivers.{Source, Net, Loose}
