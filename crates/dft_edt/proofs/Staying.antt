@@ -8,6 +8,7 @@ use Rattle.dft_config.specs.declared.config.RingConfig.{RingConfig}
 use Rattle.dft_config.specs.declared.config.Config.{Config}
 use Rattle.dft_runs.specs.WiderPorts.{MeansMore}
 use Rattle.dft_stitch.specs.Plans.{cell_at}
+use Rattle.dft_chains.specs.Hardware.{ChainNets}
 use Rattle.dft_chains.proofs.Staying.{net_stays, chains_stay}
 use Rattle.dft_edt.specs.Hardware.{EdtNets, IsSum, Term, Joined, plain_cell, IsFlop, HasStage, HasPhase, HasRing, HasHold, HasEnd, HasOutput, HasCompactor, before_in, chain_in, HardwareStays}
 

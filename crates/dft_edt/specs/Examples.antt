@@ -61,7 +61,7 @@ abbrev pub small_chains : List (List InstanceId)
 small_chains = (record { 0 = 3 } ∷ record { 0 = 5 } ∷ []) ∷ []
 
 abbrev pub small_scan : ChainNets
-small_scan = record { enable = 0; scan_in = λ chain. 0; scan_out = λ chain. 0; into = λ chain place. Net (get_or (14 ∷ 16 ∷ []) place 0) }
+small_scan = record { enable = 0; into = λ chain place. Net (get_or (14 ∷ 16 ∷ []) place 0) }
 
 abbrev pub small_edt : EdtNets
 small_edt = record {
