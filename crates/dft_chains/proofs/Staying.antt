@@ -1,10 +1,10 @@
 -- What a logic has stands in every logic that means as much or more.
-use Rattle.std.proofs.Common.{ℕ, suc, ◌≡◌, false, Option, None, Some, inl, inr, refl, sym, subst, ap, ◌∙◌}
+use Rattle.std.proofs.Common.{ℕ, suc, ◌≡◌, false, Some, inl, inr, sym, subst, ap, ◌∙◌}
 use Rattle.std.proofs.lemmas.Option.{none-some}
 use Rattle.dft_netlist.specs.Drivers.{Source, Net}
-use Rattle.dft_netlist.specs.Logic.{Logic, Ports, Meaning, Cell, Scan, Input, Gate, Flop, Lockup, Free, no_cell}
+use Rattle.dft_netlist.specs.Logic.{Logic, Ports, Meaning, Cell, Scan, Input, Flop, Lockup, Free}
 use Rattle.dft_runs.specs.WiderPorts.{MeansMore}
-use Rattle.dft_chains.specs.Hardware.{ActsByPort, IsScanCell, Leads, Directly, ByLockup, HasChains, ChainsStay}
+use Rattle.dft_chains.specs.Hardware.{ActsByPort, IsScanCell, Leads, Directly, ByLockup, ChainsStay}
 
 abbrev IsFree : Meaning → Type 0
 IsFree Free = Unit {0}

@@ -1,16 +1,15 @@
 -- The hardware stands in every logic that means as much or more.
-use Rattle.std.proofs.Common.{ℕ, zero, ◌≡◌, ◌<◌, false, List, [], ◌∷◌, Option, None, Some, inl, inr, refl, sym, subst, ap, length, ◌∙◌}
+use Rattle.std.proofs.Common.{ℕ, zero, false, List, [], ◌∷◌, inl, inr, sym, subst, ap, ◌∙◌}
 use Rattle.dft_cells.specs.declared.kind.Kind.TheVariants.{Buf, Inv, And, Or, Xor}
 use Rattle.dft_netlist.specs.declared.ids.InstanceId.{InstanceId}
-use Rattle.dft_netlist.specs.Drivers.{Source, Net, Loose}
-use Rattle.dft_netlist.specs.Logic.{Logic, Ports, Cell, Input, Gate, Flop, Lockup, no_cell}
+use Rattle.dft_netlist.specs.Drivers.{Source, Net}
+use Rattle.dft_netlist.specs.Logic.{Logic, Ports, Cell, Input, Gate, Flop, Lockup}
 use Rattle.dft_config.specs.declared.config.RingConfig.{RingConfig}
 use Rattle.dft_config.specs.declared.config.Config.{Config}
 use Rattle.dft_runs.specs.WiderPorts.{MeansMore}
-use Rattle.dft_stitch.specs.Plans.{cell_at}
 use Rattle.dft_chains.specs.Hardware.{ChainNets}
 use Rattle.dft_chains.proofs.Staying.{net_stays, chains_stay}
-use Rattle.dft_edt.specs.Hardware.{EdtNets, IsSum, Term, Joined, plain_cell, IsFlop, HasStage, HasPhase, HasRing, HasHold, HasEnd, HasOutput, HasCompactor, before_in, chain_in, HardwareStays}
+use Rattle.dft_edt.specs.Hardware.{EdtNets, IsSum, Term, Joined, IsFlop, HasStage, HasPhase, HasRing, HasHold, HasEnd, HasOutput, HasCompactor, before_in, chain_in, HardwareStays}
 
 sum_stays : (l m : Logic) (net : ℕ) (terms : List ℕ) → MeansMore l m → IsSum l net terms → IsSum m net terms
 sum_stays l m net _ more Term = Term

@@ -1,19 +1,17 @@
 -- One vector on the hardware, in the views of its domains.
-use Rattle.std.proofs.Common.{ℕ, zero, suc, ◌+◌, ◌-◌, ◌*◌, ◌/◌, ◌%◌, min, Bool, true, false, List, [], ◌∷◌, ◌++◌, ◌≡◌, ◌==◌, ◌<◌, ◌≤◌, refl, sym, subst, ap, arith, map, length, ◌∙◌, Option, None, Some, get_or, inl, inr}
+use Rattle.std.proofs.Common.{ℕ, zero, suc, ◌+◌, ◌-◌, ◌*◌, ◌/◌, ◌%◌, min, Bool, true, false, List, [], ◌∷◌, ◌++◌, ◌≡◌, ◌==◌, ◌<◌, ◌≤◌, refl, sym, subst, ap, arith, map, length, ◌∙◌, Some, get_or, inl, inr}
 use Rattle.std.specs.Prelude.{if◌then◌else◌, nat_lt, not, ◌&&◌}
 use Rattle.std.specs.List.{All}
 use Rattle.std.proofs.lemmas.Bool.{eq-eqb, cases_lt}
 use Rattle.std.proofs.lemmas.Bool.Decides.{nat_tests}
 use Rattle.dft_base.specs.declared.tri.Tri.{Tri}
-use Rattle.dft_base.specs.declared.tri.Tri.TheVariants.{Zero, One, Unknown}
 use Rattle.dft_base.specs.Tri.{known}
-use Rattle.dft_cells.specs.FlipFlops.{tri_forced, tri_chosen}
 use Rattle.dft_netlist.specs.declared.ids.InstanceId.{InstanceId}
-use Rattle.dft_netlist.specs.Drivers.{Source, Net}
-use Rattle.dft_netlist.specs.Logic.{Logic, Ports, Cell, Force, Scan, Input, Flop, Lockup}
+use Rattle.dft_netlist.specs.Drivers.{Net}
+use Rattle.dft_netlist.specs.Logic.{Logic, Ports, Cell, Flop, Lockup}
 use Rattle.dft_netlist.specs.Settled.{Sources, TriSources, value_from, IsTriSettled}
 use Rattle.dft_netlist.specs.Runs.{Now, Vector, next_now, set_step, set_ports, sources_of, port_bits, forced_by}
-use Rattle.dft_abstract.specs.Cycle.{Pulse, tri_forced_by, tri_taken_by, view_sources, AreViews, next_value, after_pulse, pulse_of, strobe_sources}
+use Rattle.dft_abstract.specs.Cycle.{Pulse, tri_forced_by, tri_taken_by, view_sources, AreViews, after_pulse, pulse_of, strobe_sources}
 use Rattle.dft_config.specs.declared.config.Tap.{Tap}
 use Rattle.dft_config.specs.declared.config.Injector.{Injector}
 use Rattle.dft_config.specs.declared.config.RingConfig.{RingConfig}
@@ -21,8 +19,7 @@ use Rattle.dft_config.specs.declared.config.Config.{Config}
 use Rattle.dft_config.specs.Range.{IsInRange}
 use Rattle.dft_config.specs.Ring.{sum_of, phase_of}
 use Rattle.dft_stitch.specs.Plans.{cell_at}
-use Rattle.dft_chains.specs.Hardware.{ChainNets, ActsByPort, IsScanCell}
-use Rattle.dft_chains.specs.Shifts.{IsShift}
+use Rattle.dft_chains.specs.Hardware.{ChainNets}
 use Rattle.dft_chains.proofs.Shiftings.{value_at, own_choice, port_value, not_forced, takes_source, link_law}
 use Rattle.dft_edt.specs.Feeds.{Feed, Stage, Channel, at_feed, tap_feeds, injector_feeds, feeds, tri_sum}
 use Rattle.dft_edt.specs.Hardware.{EdtNets, HasStage, HasRing, HasHold, HasEnd, HasCompactor, IsFlop, segment_length, segment_start, chain_in, before_in, group_of}

@@ -13,7 +13,7 @@ use Rattle.dft_cells.specs.declared.kind.Kind.TheVariants.{Xor}
 use Rattle.dft_cells.specs.Gates.{tri_of}
 use Rattle.dft_netlist.specs.Drivers.{Net}
 use Rattle.dft_netlist.specs.Logic.{Logic, Meaning, Gate}
-use Rattle.dft_netlist.specs.Settled.{Sources, bit_given, IsSettled, TriSources, value_given, IsTriSettled}
+use Rattle.dft_netlist.specs.Settled.{Sources, bit_given, IsSettled, TriSources, IsTriSettled}
 use Rattle.dft_config.specs.declared.config.Tap.{Tap}
 use Rattle.dft_config.specs.declared.config.Injector.{Injector}
 use Rattle.dft_config.specs.declared.config.RingConfig.{RingConfig}

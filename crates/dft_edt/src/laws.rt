@@ -2,7 +2,17 @@
 
 ghost use Rattle.dft_edt.specs.Parts.{HoldBits, HoldValues, OutputBits, OutputValues, PhaseBits, PhaseValues, StageBits, StageValues};
 ghost use Rattle.dft_edt.specs.Vectors.{
-    ClearInRuns, ClearLaw, HoldLaw, HoldsInRuns, MaskLaw, MasksInRuns, OutputInRuns, OutputLaw, RestLaw, ShiftInRuns, ShiftLaw,
+  ClearInRuns,
+  ClearLaw,
+  HoldLaw,
+  HoldsInRuns,
+  MaskLaw,
+  MasksInRuns,
+  OutputInRuns,
+  OutputLaw,
+  RestLaw,
+  ShiftInRuns,
+  ShiftLaw,
 };
 ghost use Rattle.dft_edt.specs.Captures.{CaptureLaw, ContainingCovers, StrobeLaw};
 ghost use Rattle.dft_edt.specs.Examples.{SmallHas};

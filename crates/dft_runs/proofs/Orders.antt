@@ -3,7 +3,7 @@ use Rattle.std.proofs.Common.{ℕ, zero, suc, Bool, true, false, ◌+◌, ◌<�
 use Rattle.std.specs.Prelude.{◌≤◌, if◌then◌else◌}
 use Rattle.dft_netlist.proofs.LiveLemmas.{le_or_lt}
 use Rattle.dft_netlist.specs.Runs.{Moment, Vector, Edge, Turn, times, IsOrder}
-use Rattle.dft_runs.specs.Choices.{AreOrders, PulseBelow, OrdersExist, RunsExist}
+use Rattle.dft_runs.specs.Choices.{OrdersExist, RunsExist}
 use Rattle.dft_runs.proofs.Existence.{choices_run}
 
 -- a moment whose free bits are 0

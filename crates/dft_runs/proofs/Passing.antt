@@ -1,12 +1,10 @@
 -- Rounds and turns pass on what is known, one and many.
-use Rattle.std.proofs.Common.{ℕ, List, [], ◌∷◌, ◌≡◌, refl, sym, ap, ◌∙◌}
-use Rattle.dft_base.specs.declared.tri.Tri.{Tri}
+use Rattle.std.proofs.Common.{[], ◌∷◌, refl, ap}
 use Rattle.dft_base.specs.Tri.{known}
-use Rattle.dft_netlist.specs.Logic.{Logic, IsRanked}
-use Rattle.dft_netlist.specs.Runs.{Now, Vector, Turn, after_turn, AreTurns, AreLow}
-use Rattle.dft_abstract.specs.Cycle.{Round, after_round}
+use Rattle.dft_netlist.specs.Runs.{after_turn}
+use Rattle.dft_abstract.specs.Cycle.{after_round}
 use Rattle.dft_abstract.proofs.Lifts.{known_after_turn, known_at_strobe, low_after_turn}
-use Rattle.dft_runs.specs.Passes.{RoundPasses, TurnPasses, RoundsPass, TurnsPass, AreRounds}
+use Rattle.dft_runs.specs.Passes.{RoundPasses, TurnPasses, RoundsPass, TurnsPass}
 
 pub round_passes : RoundPasses
 round_passes l x old r is = record {

@@ -1,5 +1,5 @@
 -- What a run is free to choose: its start, the orders of the edges, and the free bits of every moment; every choice is that of a run.
-use Rattle.std.specs.Prelude.{ℕ, Bool, true, ◌<◌, ◌≡◌, List, [], ◌∷◌}
+use Rattle.std.specs.Prelude.{ℕ, true, ◌<◌, ◌≡◌, List, [], ◌∷◌}
 use Rattle.dft_netlist.specs.Logic.{Logic, IsRanked}
 use Rattle.dft_netlist.specs.Runs.{Moment, Now, Vector, Edge, Turn, IsOrder, AreLow, IsRun}
 

@@ -1,5 +1,5 @@
 -- One netlist under two sets of ports: a pattern set makes every input that does not pulse a reset, a configuration only its resets.
-use Rattle.std.specs.Prelude.{ℕ, true, ◌≡◌, ◌⊎◌, Option, Some}
+use Rattle.std.specs.Prelude.{ℕ, true, ◌≡◌, ◌⊎◌, Some}
 use Rattle.dft_netlist.specs.Netlist.{Netlist}
 use Rattle.dft_netlist.specs.Logic.{Logic, Ports, Cell, Free, flip_flop, no_cell, logic_of}
 
