@@ -15,17 +15,18 @@ use Rattle.dft_netlist.specs.Runs.{Now, Moment, State, next_now, set_step, sourc
 use Rattle.dft_abstract.specs.Cycle.{Pulse, tri_forced_by, tri_taken_by, view_sources, AreViews, next_value, after_pulse, pulse_of}
 use Rattle.dft_abstract.specs.Laws.{bits}
 use Rattle.dft_abstract.proofs.Lifts.{known_after_turn, low_after_turn}
+use Rattle.dft_runs.specs.Passes.{after_turns}
 use Rattle.dft_stitch.specs.Plans.{cell_at}
-use Rattle.dft_insert.specs.Hardware.{ScanNets, ActsByPort, IsScanCell, Leads, Directly, ByLockup, HasChains, Shows, IsPlain}
-use Rattle.dft_insert.specs.Shifts.{IsShift, LinkLaw, EntryLaw, IsShifted, ShiftInRuns, after_turns, AreShifts, AreShifted, ShiftExperiment, at_strobe, EndsShow, EndsShowBefore}
+use Rattle.dft_chains.specs.Hardware.{ChainNets, ScanNets, ActsByPort, IsScanCell, Leads, Directly, ByLockup, HasChains, Shows, IsPlain}
+use Rattle.dft_chains.specs.Shifts.{IsShift, LinkLaw, EntryLaw, IsShifted, ShiftInRuns, AreShifts, AreShifted, ShiftExperiment, at_strobe, EndsShow, EndsShowBefore}
 
 -- ---- values
 
 -- a net has the value that its meaning gives it
-value_at : (l : Logic) (s : TriSources) (w : ℕ → Tri) (net : ℕ) (m : Meaning) → IsTriSettled l s w → l.net net ≡ m → w net ≡ value_given s w net m
+pub value_at : (l : Logic) (s : TriSources) (w : ℕ → Tri) (net : ℕ) (m : Meaning) → IsTriSettled l s w → l.net net ≡ m → w net ≡ value_given s w net m
 value_at l s w net m settled is = settled net ∙ ap (value_given s w net) is
 
-own_choice : (a b : Bool) (x y : Tri) → b ≡ true → (if a then (if b then x else y) else x) ≡ x
+pub own_choice : (a b : Bool) (x y : Tri) → b ≡ true → (if a then (if b then x else y) else x) ≡ x
 own_choice true true x y h = refl
 own_choice true false x y h = absurd cc
 own_choice false b x y h = refl
@@ -44,9 +45,13 @@ lead_value l p poss view cell next _ views (ByLockup {net = net} {lockup = i} {o
     value_at l (view_sources l p poss view (l.cell next).domain) (view (l.cell next).domain) net (Lockup i (l.cell cell).domain (Net q)) (views (l.cell next).domain) at
     ∙ own_net l p poss view (l.cell cell).domain cell q views from refl
 
+-- an input port has its value in every view
+pub port_value : (l : Logic) (p : Pulse) (poss : ℕ → Tri) (view : ℕ → ℕ → Tri) (d net : ℕ) → AreViews l p poss view → l.net net ≡ Input → view d net ≡ p.ports net
+port_value l p poss view d net views is = value_at l (view_sources l p poss view d) (view d) net Input (views d) is
+
 -- ---- a scan cell in a shift vector
 
-forced_at_one : (value : Bool) (v : Tri) → tri_forced value One v ≡ v
+pub forced_at_one : (value : Bool) (v : Tri) → tri_forced value One v ≡ v
 forced_at_one value Zero = refl
 forced_at_one value One = refl
 forced_at_one value Unknown = refl
@@ -63,9 +68,9 @@ chosen_in Unknown One = refl
 chosen_in Unknown Unknown = refl
 
 -- resets are 1, so they leave the value
-not_forced : (ports : Ports) (w : ScanNets) (x : Vector) (f : Option Force) (v : Tri) → ActsByPort ports f → IsShift ports w x → tri_forced_by f x.ports v ≡ v
-not_forced ports w x None v acts shift = refl
-not_forced ports w x (Some force) v acts shift = ap (λ p. tri_forced force.value p v) (shift.resets force.port acts) ∙ forced_at_one force.value v
+pub not_forced : (ports : Ports) (e : ℕ) (x : Vector) (f : Option Force) (v : Tri) → ActsByPort ports f → IsShift ports e x → tri_forced_by f x.ports v ≡ v
+not_forced ports e x None v acts shift = refl
+not_forced ports e x (Some force) v acts shift = ap (λ p. tri_forced force.value p v) (shift.resets force.port acts) ∙ forced_at_one force.value v
 
 -- the scan input is taken
 taken_in : (scan : Option Scan) (enable : ℕ) (source : Source) (at : Source → Tri) (d : Tri) → scan ≡ Some (record { enable = Net enable; input = source }) → at (Net enable) ≡ One → tri_taken_by scan at d ≡ at source
@@ -76,29 +81,29 @@ pick_true true x y h = refl
 pick_true false x y h = absurd cc
 
 -- after the vector a scan cell has the value of its source in the view of its domain
-takes_source : (l : Logic) (ports : Ports) (chains : List (List InstanceId)) (w : ScanNets) (x : Vector) (old poss : ℕ → Tri) (view : ℕ → ℕ → Tri) (source : Source) (cell : ℕ) →
-    HasChains l ports chains w → IsShift ports w x → AreViews l (pulse_of l x old) poss view → IsScanCell l ports w.enable source cell →
+pub takes_source : (l : Logic) (ports : Ports) (chains : List (List InstanceId)) (w : ChainNets) (x : Vector) (old poss : ℕ → Tri) (view : ℕ → ℕ → Tri) (source : Source) (cell : ℕ) →
+    HasChains l ports chains w → IsShift ports w.enable x → AreViews l (pulse_of l x old) poss view → IsScanCell l ports w.enable source cell →
     after_pulse l (pulse_of l x old) view cell ≡ value_from (view (l.cell cell).domain) source
 takes_source l ports chains w x old poss view source cell has shift views is =
     let d : ℕ = (l.cell cell).domain in
     let at : Source → Tri = value_from (view d) in
     pick_true (x.pulsed d) (next_value l (pulse_of l x old) view cell) ((pulse_of l x old).old cell) (shift.domains d is.domain)
-    ∙ not_forced ports w x (l.cell cell).force (tri_taken_by (l.cell cell).scan at (at (l.cell cell).input)) is.force shift
+    ∙ not_forced ports w.enable x (l.cell cell).force (tri_taken_by (l.cell cell).scan at (at (l.cell cell).input)) is.force shift
     ∙ taken_in (l.cell cell).scan w.enable source at (at (l.cell cell).input) is.scan
-    (value_at l (view_sources l (pulse_of l x old) poss view d) (view d) w.enable Input (views d) has.enable ∙ shift.enable)
+    (port_value l (pulse_of l x old) poss view d w.enable views has.enable ∙ shift.enabled)
 
 pub link_law : LinkLaw
 link_law l ports chains w x old poss view has shift views chain place cell next stands follows =
     takes_source l ports chains w x old poss view (w.into chain (suc place)) next.0 has shift views (has.cells chain (suc place) next follows)
     ∙ lead_value l (pulse_of l x old) poss view cell.0 next.0 (w.into chain (suc place)) views (has.links chain place cell next stands follows)
-    ∙ not_forced ports w x (l.cell cell.0).force (old cell.0) (has.cells chain place cell stands).force shift
+    ∙ not_forced ports w.enable x (l.cell cell.0).force (old cell.0) (has.cells chain place cell stands).force shift
 
 pub entry_law : EntryLaw
 entry_law l ports chains w x old poss view has shift views chain cell stands enters =
     let d : ℕ = (l.cell cell.0).domain in
-    takes_source l ports chains w x old poss view (w.into chain zero) cell.0 has shift views (has.cells chain zero cell stands)
+    takes_source l ports chains w.nets x old poss view (w.nets.into chain zero) cell.0 has shift views (has.cells chain zero cell stands)
     ∙ ap (value_from (view d)) enters.first
-    ∙ value_at l (view_sources l (pulse_of l x old) poss view d) (view d) (w.scan_in chain) Input (views d) enters.port
+    ∙ port_value l (pulse_of l x old) poss view d (w.scan_in chain) views enters.port
 
 -- ---- every run
 
@@ -113,7 +118,7 @@ shift_in_runs l rank ports chains w x now t ranked plain shift low turn = record
       (λ a is. known_after_turn l rank x now t ranked low turn cell.0 a
       (λ poss view views. entry_law l ports chains w x (bits now.state) poss view plain.has shift views chain cell stands (plain.entries chain cell stands) ∙ is));
   links = λ chain place cell next stands follows. known_after_turn l rank x now t ranked low turn next.0 (now.state.flops cell.0)
-      (λ poss view views. link_law l ports chains w x (bits now.state) poss view plain.has shift views chain place cell next stands follows);
+      (λ poss view views. link_law l ports chains w.nets x (bits now.state) poss view plain.has shift views chain place cell next stands follows);
 }
 
 -- a chain that has a place has every place before it
@@ -151,7 +156,7 @@ shifted_none chains w old = record {
       ap (λ (c : InstanceId). old c.0) (same_Some cell other (sym stands ∙ ap (λ k. cell_at chains chain k) (omega (arith, is)) ∙ other_stands));
 }
 
-shifted : (l : Logic) (rank : ℕ → ℕ) (ports : Ports) (chains : List (List InstanceId)) (w : ScanNets) (xs : List Vector) (now : Now) (ts : List Turn) → IsRanked l rank → IsPlain l ports chains w → AreShifts ports w xs →
+shifted : (l : Logic) (rank : ℕ → ℕ) (ports : Ports) (chains : List (List InstanceId)) (w : ScanNets) (xs : List Vector) (now : Now) (ts : List Turn) → IsRanked l rank → IsPlain l ports chains w → AreShifts ports w.nets.enable xs →
     AreLow now.state → AreTurns l now xs ts → AreShifted chains w xs now.state.flops (after_turns l now xs ts).state.flops
 shifted l rank ports chains w [] now [] ranked plain shifts low turns = shifted_none chains w now.state.flops
 shifted l rank ports chains w [] now (t ∷ ts) ranked plain shifts low turns = absurd turns
@@ -180,11 +185,11 @@ ends_show l ports chains w x now t plain turn chain place cell stands last =
     turn.steps.0 (w.scan_out chain) ∙ ap (bit_given (sources_of at) t.strobe.seen (w.scan_out chain)) shows.buffer
     ∙ turn.steps.0 shows.output ∙ ap (bit_given (sources_of at) t.strobe.seen shows.output) shows.flop
 
-bit_not_forced : (ports : Ports) (w : ScanNets) (x : Vector) (s : State) (m : Moment) (f : Option Force) (b : Bool) → s.ports ≡ x.ports → ActsByPort ports f → IsShift ports w x → forced_by f (port_bits s m) b ≡ b
-bit_not_forced ports w x s m None b same acts shift = refl
-bit_not_forced ports w x s m (Some force) b same acts shift = rw (same, shift.resets force.port acts) refl
+bit_not_forced : (ports : Ports) (e : ℕ) (x : Vector) (s : State) (m : Moment) (f : Option Force) (b : Bool) → s.ports ≡ x.ports → ActsByPort ports f → IsShift ports e x → forced_by f (port_bits s m) b ≡ b
+bit_not_forced ports e x s m None b same acts shift = refl
+bit_not_forced ports e x s m (Some force) b same acts shift = rw (same, shift.resets force.port acts) refl
 
 pub ends_show_before : EndsShowBefore
 ends_show_before l ports chains w x now t plain shift turn chain place cell stands last =
     ends_show l ports chains w x now t plain turn chain place cell stands last
-    ∙ bit_not_forced ports w x (at_strobe l x now t) t.strobe (l.cell cell.0).force (now.state.flops cell.0) refl (plain.has.cells chain place cell stands).force shift
+    ∙ bit_not_forced ports w.nets.enable x (at_strobe l x now t) t.strobe (l.cell cell.0).force (now.state.flops cell.0) refl (plain.has.cells chain place cell stands).force shift

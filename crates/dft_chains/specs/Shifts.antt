@@ -8,12 +8,13 @@ use Rattle.dft_netlist.specs.Logic.{Logic, Ports, IsRanked}
 use Rattle.dft_netlist.specs.Runs.{State, Now, next_now, set_step, Vector, Turn, IsTurn, after_turn, AreTurns, AreLow, IsRun}
 use Rattle.dft_abstract.specs.Cycle.{AreViews, after_pulse, pulse_of}
 use Rattle.dft_abstract.specs.Laws.{shown}
+use Rattle.dft_runs.specs.Passes.{after_turns}
 use Rattle.dft_stitch.specs.Plans.{cell_at}
-use Rattle.dft_insert.specs.Hardware.{ScanNets, HasChains, Enters, IsPlain}
+use Rattle.dft_chains.specs.Hardware.{ChainNets, ScanNets, HasChains, Enters, IsPlain}
 
--- a shift vector: scan_enable and all resets are 1, and every domain pulses; other inputs are anything
-pub record IsShift (ports : Ports) (w : ScanNets) (x : Vector) : Type 0 where
-  pub enable : x.ports w.enable ≡ One
+-- a shift vector: the port that enables shifting and all resets are 1, and every domain pulses; other inputs are anything
+pub record IsShift (ports : Ports) (enable : ℕ) (x : Vector) : Type 0 where
+  pub enabled : x.ports enable ≡ One
   pub resets : (net : ℕ) → ports.is_reset net ≡ true → x.ports net ≡ One
   pub domains : (net : ℕ) → ports.is_clock net ≡ true → x.pulsed net ≡ true
 
@@ -22,8 +23,8 @@ pub record IsShift (ports : Ports) (w : ScanNets) (x : Vector) : Type 0 where
 -- each cell behind another one takes the value that this one had
 abbrev pub LinkLaw : Type 0
 LinkLaw =
-    (l : Logic) (ports : Ports) (chains : List (List InstanceId)) (w : ScanNets) (x : Vector) (old poss : ℕ → Tri) (view : ℕ → ℕ → Tri) →
-    HasChains l ports chains w → IsShift ports w x → AreViews l (pulse_of l x old) poss view →
+    (l : Logic) (ports : Ports) (chains : List (List InstanceId)) (w : ChainNets) (x : Vector) (old poss : ℕ → Tri) (view : ℕ → ℕ → Tri) →
+    HasChains l ports chains w → IsShift ports w.enable x → AreViews l (pulse_of l x old) poss view →
     (chain place : ℕ) (cell next : InstanceId) → cell_at chains chain place ≡ Some cell → cell_at chains chain (suc place) ≡ Some next →
     after_pulse l (pulse_of l x old) view next.0 ≡ old cell.0
 
@@ -31,7 +32,7 @@ LinkLaw =
 abbrev pub EntryLaw : Type 0
 EntryLaw =
     (l : Logic) (ports : Ports) (chains : List (List InstanceId)) (w : ScanNets) (x : Vector) (old poss : ℕ → Tri) (view : ℕ → ℕ → Tri) →
-    HasChains l ports chains w → IsShift ports w x → AreViews l (pulse_of l x old) poss view →
+    HasChains l ports chains w.nets → IsShift ports w.nets.enable x → AreViews l (pulse_of l x old) poss view →
     (chain : ℕ) (cell : InstanceId) → cell_at chains chain zero ≡ Some cell → Enters l w chain → after_pulse l (pulse_of l x old) view cell.0 ≡ x.ports (w.scan_in chain)
 
 -- ---- in every run
@@ -45,18 +46,12 @@ pub record IsShifted (chains : List (List InstanceId)) (w : ScanNets) (x : Vecto
 abbrev pub ShiftInRuns : Type 0
 ShiftInRuns =
     (l : Logic) (rank : ℕ → ℕ) (ports : Ports) (chains : List (List InstanceId)) (w : ScanNets) (x : Vector) (now : Now) (t : Turn) →
-    IsRanked l rank → IsPlain l ports chains w → IsShift ports w x → AreLow now.state → IsTurn l x now t →
+    IsRanked l rank → IsPlain l ports chains w → IsShift ports w.nets.enable x → AreLow now.state → IsTurn l x now t →
     IsShifted chains w x now.state.flops (after_turn l x now t).state.flops
 
--- what is there after these turns
-abbrev pub after_turns : Logic → Now → List Vector → List Turn → Now
-after_turns l now [] ts = now
-after_turns l now (x ∷ xs) [] = now
-after_turns l now (x ∷ xs) (t ∷ ts) = after_turns l (after_turn l x now t) xs ts
-
-abbrev pub AreShifts : Ports → ScanNets → List Vector → Type 0
-AreShifts ports w [] = Unit {0}
-AreShifts ports w (x ∷ xs) = IsShift ports w x × AreShifts ports w xs
+abbrev pub AreShifts : Ports → (enable : ℕ) → List Vector → Type 0
+AreShifts ports enable [] = Unit {0}
+AreShifts ports enable (x ∷ xs) = IsShift ports enable x × AreShifts ports enable xs
 
 -- what shift vectors leave in the cells
 pub record AreShifted (chains : List (List InstanceId)) (w : ScanNets) (xs : List Vector) (old new : ℕ → Bool) : Type 0 where
@@ -71,7 +66,7 @@ pub record AreShifted (chains : List (List InstanceId)) (w : ScanNets) (xs : Lis
 abbrev pub ShiftExperiment : Type 0
 ShiftExperiment =
     (l : Logic) (rank : ℕ → ℕ) (ports : Ports) (chains : List (List InstanceId)) (w : ScanNets) (before shifts : List Vector) (start : Now) (ts us : List Turn) →
-    IsRanked l rank → IsPlain l ports chains w → IsRun l before start ts → AreShifts ports w shifts → AreTurns l (after_turns l start before ts) shifts us →
+    IsRanked l rank → IsPlain l ports chains w → IsRun l before start ts → AreShifts ports w.nets.enable shifts → AreTurns l (after_turns l start before ts) shifts us →
     AreShifted chains w shifts (after_turns l start before ts).state.flops (after_turns l (after_turns l start before ts) shifts us).state.flops
 
 -- ---- what the scan outputs show
@@ -90,6 +85,6 @@ EndsShow =
 -- in a shift vector that is the bit that it held before
 abbrev pub EndsShowBefore : Type 0
 EndsShowBefore =
-    (l : Logic) (ports : Ports) (chains : List (List InstanceId)) (w : ScanNets) (x : Vector) (now : Now) (t : Turn) → IsPlain l ports chains w → IsShift ports w x → IsTurn l x now t →
+    (l : Logic) (ports : Ports) (chains : List (List InstanceId)) (w : ScanNets) (x : Vector) (now : Now) (t : Turn) → IsPlain l ports chains w → IsShift ports w.nets.enable x → IsTurn l x now t →
     (chain place : ℕ) (cell : InstanceId) → cell_at chains chain place ≡ Some cell → cell_at chains chain (suc place) ≡ None →
     shown t (w.scan_out chain) ≡ now.state.flops cell.0

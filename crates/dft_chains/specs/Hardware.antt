@@ -4,14 +4,19 @@ use Rattle.dft_cells.specs.declared.kind.Kind.TheVariants.{Buf}
 use Rattle.dft_netlist.specs.declared.ids.InstanceId.{InstanceId}
 use Rattle.dft_netlist.specs.Drivers.{Source, Net}
 use Rattle.dft_netlist.specs.Logic.{Logic, Ports, Force, Input, Gate, Flop, Lockup}
+use Rattle.dft_runs.specs.WiderPorts.{MeansMore}
 use Rattle.dft_stitch.specs.Plans.{cell_at}
 
--- the nets of the ports of the chains, and what each scan input is joined to, by chain and place
-pub record ScanNets : Type 0 where
+-- the net of the port that enables shifting, and what the scan input of each cell is joined to, by chain and place
+pub record ChainNets : Type 0 where
   pub enable : ℕ
+  pub into : (chain place : ℕ) → Source
+
+-- and the nets of the ports at both ends of each chain
+pub record ScanNets : Type 0 where
+  pub nets : ChainNets
   pub scan_in : (chain : ℕ) → ℕ
   pub scan_out : (chain : ℕ) → ℕ
-  pub into : (chain place : ℕ) → Source
 
 -- a reset or set, if there is one, acts by a reset port
 abbrev pub ActsByPort : Ports → Option Force → Type 0
@@ -31,14 +36,14 @@ pub data Leads (l : Logic) (cell next : ℕ) : Source → Type 0 where
   ByLockup : {net lockup output : ℕ} → l.net net ≡ Lockup lockup (l.cell cell).domain (Net output) → l.net output ≡ Flop cell false → Leads l cell next (Net net)
 
 -- the cells of these chains are scan cells, and each leads to the next
-pub record HasChains (l : Logic) (ports : Ports) (chains : List (List InstanceId)) (w : ScanNets) : Type 0 where
+pub record HasChains (l : Logic) (ports : Ports) (chains : List (List InstanceId)) (w : ChainNets) : Type 0 where
   pub enable : l.net w.enable ≡ Input
   pub cells : (chain place : ℕ) (cell : InstanceId) → cell_at chains chain place ≡ Some cell → IsScanCell l ports w.enable (w.into chain place) cell.0
   pub links : (chain place : ℕ) (cell next : InstanceId) → cell_at chains chain place ≡ Some cell → cell_at chains chain (suc place) ≡ Some next → Leads l cell.0 next.0 (w.into chain (suc place))
 
 -- a chain enters by its scan input port
 pub record Enters (l : Logic) (w : ScanNets) (chain : ℕ) : Type 0 where
-  pub first : w.into chain zero ≡ Net (w.scan_in chain)
+  pub first : w.nets.into chain zero ≡ Net (w.scan_in chain)
   pub port : l.net (w.scan_in chain) ≡ Input
 
 -- a buffer shows the output of a cell at a net
@@ -49,6 +54,12 @@ pub record Shows (l : Logic) (cell net : ℕ) : Type 0 where
 
 -- style Plain: each chain stands between ports of its own
 pub record IsPlain (l : Logic) (ports : Ports) (chains : List (List InstanceId)) (w : ScanNets) : Type 0 where
-  pub has : HasChains l ports chains w
+  pub has : HasChains l ports chains w.nets
   pub entries : (chain : ℕ) (cell : InstanceId) → cell_at chains chain zero ≡ Some cell → Enters l w chain
   pub ends : (chain place : ℕ) (cell : InstanceId) → cell_at chains chain place ≡ Some cell → cell_at chains chain (suc place) ≡ None → Shows l cell.0 (w.scan_out chain)
+
+-- ---- under wider ports
+
+-- The chains of a logic stand in every logic that means as much or more.
+abbrev pub ChainsStay : Type 0
+ChainsStay = (l m : Logic) (ports : Ports) (chains : List (List InstanceId)) (w : ChainNets) → MeansMore l m → HasChains l ports chains w → HasChains m ports chains w
