@@ -1,0 +1,6 @@
+pub mod NameBytes
+pub mod Growing
+pub mod Outcomes
+pub mod Standing
+pub mod Stores
+pub mod Trees

@@ -1,0 +1,11 @@
+pub use Rattle.dft_netlist.specs.Building
+pub mod MadeNames
+pub mod Parts
+pub mod Cells
+pub mod Recipes
+pub mod Sums
+pub mod Growth
+pub mod Single
+pub mod Standing
+pub mod SumTrees
+pub mod Shown

@@ -1,0 +1,12 @@
+//! Nets and instances that are made beside a design, one part after another: recipes, their builder, and laws of growing.
+#![tactic(auto)]
+
+mod laws;
+mod made;
+mod made_names;
+mod parts_builder;
+
+pub use laws::{made_parts_drive, parts_grow, sums_add_up};
+pub use made::Made;
+pub use made_names::{made_instance, made_net, numbered};
+pub use parts_builder::PartsBuilder;
