@@ -4,3 +4,6 @@ pub mod Outcomes
 pub mod Standing
 pub mod Stores
 pub mod Trees
+pub mod Joining
+pub mod FirstCells
+pub mod Fitting

@@ -1,19 +1,23 @@
 -- What comes of recipes that follow one another.
-use Rattle.std.proofs.Common.{ℕ, zero, suc, ◌+◌, ◌≡◌, ◌≤◌, List, [], ◌∷◌, ◌++◌, length, map, Option, None, Some, Result, Ok, Err, refl, sym, subst, ap, arith, ◌∙◌, length-append}
+use Rattle.std.proofs.Common.{ℕ, zero, suc, ◌+◌, ◌≡◌, ◌≤◌, Bool, List, [], ◌∷◌, ◌++◌, length, map, Option, None, Some, Result, Ok, Err, refl, sym, subst, ap, arith, ◌∙◌, length-append}
 use Rattle.std.specs.List.{range_with_len}
 use Rattle.std.proofs.lemmas.List.FromFn.{length-map-range_with_len}
 use Rattle.dft_base.specs.Lexing.{Text}
+use Rattle.dft_cells.specs.declared.kind.Kind.{Kind}
+use Rattle.dft_cells.specs.declared.cell.CellId.{CellId}
 use Rattle.dft_netlist.specs.declared.ids.NetId.{NetId}
 use Rattle.dft_netlist.specs.declared.ids.InstanceId.{InstanceId}
 use Rattle.dft_netlist.specs.declared.instance.CellRef.{CellRef}
+use Rattle.dft_netlist.specs.declared.instance.CellRef.TheVariants.{Library}
 use Rattle.dft_netlist.specs.declared.instance.Signal.{Signal}
 use Rattle.dft_netlist.specs.declared.error.NetlistError.{NetlistError}
 use Rattle.dft_netlist.specs.declared.error.NetlistError.TheVariants.{MultipleDrivers, Loop, DuplicateName, TooMany, Memory}
 use Rattle.dft_netlist.specs.Building.{WithNet, WithInstance, net_refusal, instance_refusal, Answers}
 use Rattle.dft_netlist.specs.Netlist.{Netlist}
 use Rattle.dft_parts.specs.MadeNames.{made_net, made_instance}
+use Rattle.dft_parts.specs.Cells.{first_cell, pins_between}
 use Rattle.dft_parts.specs.Parts.{Part, ANet, AnInstance, APin, Making, next_instance, with_part, with_parts, part_refusal, parts_refusal, or_else}
-use Rattle.dft_parts.specs.Recipes.{Start, Given, Recipe, nets_in, behind, followed_by, ◌>>=◌, pure, a_net, an_instance, start_of, unless_refused, outcome, IsRefusal}
+use Rattle.dft_parts.specs.Recipes.{Start, Given, Recipe, nets_in, behind, followed_by, ◌>>=◌, pure, a_net, an_instance, a_store, start_of, unless_refused, outcome, IsRefusal, Makes}
 use Rattle.dft_parts.proofs.Growing.{parts_grow}
 
 -- ---- lists of parts
@@ -147,3 +151,13 @@ unfolding outcome
 instance_refused s name cell pins e named h =
     as_refusal InstanceId (instance_refusal s.netlist (Some name)) (outcome (an_instance cell pins) s) e
     (λ x is. one_refused s (AnInstance cell pins) tt x (ap (λ (n : Text). instance_refusal s.netlist (Some n)) (sym named) ∙ is)) h
+
+-- what makes a recipe makes another of the same outcome
+pub same_makes : {X A : Type 0} (view : X → A) (r q : Recipe A) (s t : Making) (result : Result X NetlistError) (new : Making) → outcome r s ≡ outcome q t → Makes view q t result new → Makes view r s result new
+same_makes view r q s t (Ok x) new same h = same ∙ h
+same_makes view r q s t (Err e) new same h = subst (λ o. IsRefusal o e) (sym same) h
+
+pub store_is : (test : Kind → Bool) (clock input output : NetId) (s : Making) (cell : CellId) → cell ≡ first_cell test s.netlist.library →
+    outcome (a_store test clock input output) s ≡ outcome (an_instance (Library cell) (pins_between s.netlist.library cell clock input output)) s
+unfolding outcome
+store_is test clock input output s cell is = ap (λ (id : CellId). outcome (an_instance (Library id) (pins_between s.netlist.library id clock input output)) s) (sym is)

@@ -1,5 +1,6 @@
 -- Recipes: lists of parts that name the nets that they make, and what it is to make one.
-use Rattle.std.specs.Prelude.{ℕ, suc, ◌+◌, ◌≡◌, Bool, List, [], ◌∷◌, ◌++◌, length, map, Option, None, Some, Result, Ok, Err}
+use Rattle.std.specs.Prelude.{ℕ, suc, ◌+◌, ◌<◌, ◌≡◌, Bool, List, [], ◌∷◌, ◌++◌, length, map, Option, None, Some, Result, Ok, Err}
+use Rattle.std.specs.List.{All}
 use Rattle.dft_cells.specs.declared.kind.Kind.{Kind}
 use Rattle.dft_cells.specs.declared.cell.Cell.{Cell}
 use Rattle.dft_netlist.specs.declared.ids.NetId.{NetId}
@@ -10,6 +11,7 @@ use Rattle.dft_netlist.specs.declared.instance.Signal.{Signal}
 use Rattle.dft_netlist.specs.declared.instance.Signal.TheVariants.{Net}
 use Rattle.dft_netlist.specs.declared.error.NetlistError.{NetlistError}
 use Rattle.dft_netlist.specs.declared.error.NetlistError.TheVariants.{MultipleDrivers, Loop, DuplicateName, TooMany, Memory}
+use Rattle.dft_netlist.specs.Netlist.{Netlist}
 use Rattle.dft_parts.specs.Parts.{Part, ANet, AnInstance, APin, Making, with_parts, parts_refusal}
 use Rattle.dft_parts.specs.Cells.{is_dff, is_lockup, first_cell, pins_between}
 
@@ -87,6 +89,10 @@ abbrev pub a_pin : InstanceId → (pin : ℕ) → NetId → Recipe (Unit {0})
 a_pin instance pin net = λ at. record { parts = APin instance pin net ∷ []; value = tt }
 
 -- ---- making
+
+-- each of these nets is there
+abbrev pub AreThere : Netlist → List NetId → Type 0
+AreThere n nets = All (λ net. net.0 < length n.nets) nets
 
 -- the next recipe begins behind a netlist
 abbrev pub start_of : Making → Start

@@ -1,10 +1,12 @@
 //! Nets and instances that are made beside a design, one part after another: recipes, their builder, and laws of growing.
 #![tactic(auto)]
 
+mod gates;
 mod laws;
 mod made;
 mod made_names;
 mod parts_builder;
+mod pins;
 
 pub use laws::{made_parts_drive, parts_grow, sums_add_up};
 pub use made::Made;

@@ -1,4 +1,4 @@
-ghost use Rattle.std.specs.Prelude.{◌≡◌, ◌<◌, ◌≤◌, [], Some, length};
+ghost use Rattle.std.specs.Prelude.{◌≡◌, ◌<◌, ◌≤◌, [], Some, IfOk, OnOk, length};
 ghost use Rattle.std.specs.List.{All};
 ghost use Rattle.dft_cells.specs.WellFormed.{TakesInputs};
 ghost use Rattle.dft_netlist.specs.Building.{IsUnconnected};
@@ -54,6 +54,11 @@ impl PartsBuilder {
         &self.builder
     }
 
+    /// Where its memory comes from.
+    pub fn alloc(&self) -> Global {
+        self.alloc
+    }
+
     /// How many made names were given.
     pub fn made(&self) -> Made
         ensures { result ≡ self.now.made }
@@ -70,7 +75,9 @@ impl PartsBuilder {
 
     /// Makes a net.
     pub fn net(&mut self) -> Result<NetId, NetlistError>
-        ensures { Makes (λ net. net) a_net self.old result self.new }
+        ensures makes { Makes (λ net. net) a_net self.old result self.new }
+        ensures there { IfOk result (λ net. net.0 < length self.new.netlist.nets) }
+        ensures nets { OnOk result (length self.old.netlist.nets ≤ length self.new.netlist.nets) }
     {
         let name = made_net(self.alloc, self.made.nets as usize)?;
         let net = self.builder.net(name)?;
@@ -81,7 +88,8 @@ impl PartsBuilder {
     /// Makes an instance.
     pub(crate) fn instance(&mut self, cell: CellRef, pins: &[Signal]) -> Result<(), NetlistError>
         requires { IsInstanceOf self.old.netlist (Some []) cell pins.now }
-        ensures { Makes (λ _. tt) (an_instance cell pins.now) self.old result self.new }
+        ensures makes { Makes (λ _. tt) (an_instance cell pins.now) self.old result self.new }
+        ensures nets { OnOk result (length self.old.netlist.nets ≤ length self.new.netlist.nets) }
     {
         let name = made_instance(self.alloc, self.made.instances as usize)?;
         self.builder.instance(Some(name), cell, pins)?;
