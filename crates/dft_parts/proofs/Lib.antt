@@ -7,3 +7,5 @@ pub mod Trees
 pub mod Joining
 pub mod FirstCells
 pub mod Fitting
+pub mod Loops
+pub mod Levels

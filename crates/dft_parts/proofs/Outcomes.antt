@@ -48,13 +48,12 @@ start_behind s parts = λ i. record { library = (parts_grow s parts).library i; 
 
 -- ---- one recipe behind another
 
-pub and_then : {A B : Type 0} → Result (A × Making) NetlistError → (A → Making → Result (B × Making) NetlistError) → Result (B × Making) NetlistError
+abbrev pub and_then : {A B : Type 0} → Result (A × Making) NetlistError → (A → Making → Result (B × Making) NetlistError) → Result (B × Making) NetlistError
 and_then (Ok p) f = f p.0 p.1
 and_then (Err e) f = Err e
 
 joined : {A B : Type 0} (p q : Option NetlistError) (a : A) (t : Making) (b : B) (u : Making) (f : A → Making → Result (B × Making) NetlistError) → unless_refused q b u ≡ f a t →
     unless_refused (or_else p q) b u ≡ and_then (unless_refused p a t) f
-unfolding and_then
 joined None q a t b u f h = h
 joined (Some e) q a t b u f h = refl
 
@@ -71,12 +70,10 @@ outcome-bind r f s =
 
 -- a recipe whose first one was made goes on with the next
 pub then_ok : {A B : Type 0} (r : Recipe A) (f : A → Recipe B) (s t : Making) (a : A) → outcome r s ≡ Ok (a, t) → outcome (r >>= f) s ≡ outcome (f a) t
-unfolding and_then
 then_ok r f s t a h = outcome-bind r f s ∙ ap (λ o. and_then o (λ b u. outcome (f b) u)) h
 
 -- it is refused as its first one is
 then_err : {A B : Type 0} (r : Recipe A) (f : A → Recipe B) (s : Making) (e : NetlistError) → outcome r s ≡ Err e → outcome (r >>= f) s ≡ Err e
-unfolding and_then
 then_err r f s e h = outcome-bind r f s ∙ ap (λ o. and_then o (λ b u. outcome (f b) u)) h
 
 pub then_refused : {A B : Type 0} (r : Recipe A) (f : A → Recipe B) (s : Making) (e : NetlistError) → IsRefusal (outcome r s) e → IsRefusal (outcome (r >>= f) s) e
@@ -102,6 +99,19 @@ made_by : {A : Type 0} (o : Option NetlistError) (a b : A) (s t : Making) → un
 unfolding state_in
 made_by None a b s t h = ap (state_in s) (sym h)
 made_by (Some e) a b s t h = absurd cc
+
+value_by : {A : Type 0} → A → Result (A × Making) NetlistError → A
+value_by a (Ok p) = p.0
+value_by a (Err e) = a
+
+value_at : {A : Type 0} (o : Option NetlistError) (a b : A) (s t : Making) → unless_refused o a s ≡ Ok (b, t) → b ≡ a
+unfolding value_by
+value_at None a b s t h = ap (value_by a) (sym h)
+value_at (Some e) a b s t h = absurd cc
+
+pub made_value : {A : Type 0} (r : Recipe A) (s t : Making) (a : A) → outcome r s ≡ Ok (a, t) → a ≡ (r (start_of s)).value
+unfolding outcome
+made_value r s t a h = let g = r (start_of s) in value_at (parts_refusal s g.parts) g.value a (with_parts s g.parts) t h
 
 pub made_parts : {A : Type 0} (r : Recipe A) (s t : Making) (a : A) → outcome r s ≡ Ok (a, t) → t ≡ with_parts s (r (start_of s)).parts
 unfolding outcome

@@ -76,7 +76,7 @@ levels_sum n ports i at (suc count) nets terms single has sums =
 -- ---- one net is left
 
 -- a level leaves about half of the nets
-half_left : (at : Start) (nets : List NetId) (k : ℕ) → length nets ≤ suc (suc k) → length (pairs nets at).value ≤ suc k
+pub half_left : (at : Start) (nets : List NetId) (k : ℕ) → length nets ≤ suc (suc k) → length (pairs nets at).value ≤ suc k
 unfolding pairs
 half_left at [] k h = omega arith
 half_left at (a ∷ []) k h = omega arith
@@ -86,7 +86,7 @@ half_left at (a ∷ b ∷ c ∷ nets) (suc k) h =
     let gate = a_driving_gate Xor (a ∷ b ∷ []) at in
     let e = half_left (behind at gate.parts) (c ∷ nets) k (omega arith) in omega (arith, e)
 
-some_left : (at : Start) (nets : List NetId) → 0 < length nets → 0 < length (pairs nets at).value
+pub some_left : (at : Start) (nets : List NetId) → 0 < length nets → 0 < length (pairs nets at).value
 unfolding pairs
 some_left at [] h = h
 some_left at (a ∷ []) h = omega arith

@@ -56,6 +56,21 @@ r >> q = r >>= (λ _. q)
 abbrev pub pure : {A : Type 0} → A → Recipe A
 pure a = λ at. record { parts = []; value = a }
 
+-- a recipe for each of these, one after another
+unfoldable pub each : {X : Type 0} → (X → Recipe (Unit {0})) → List X → Recipe (Unit {0})
+each f [] = pure tt
+each f (x ∷ xs) = do
+  f x
+  each f xs
+
+-- the same, with what they give
+unfoldable pub collect : {X A : Type 0} → (X → Recipe A) → List X → Recipe (List A)
+collect f [] = pure []
+collect f (x ∷ xs) = do
+  first ← f x
+  more ← collect f xs
+  pure (first ∷ more)
+
 -- ---- single parts
 
 -- a net

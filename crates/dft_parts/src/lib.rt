@@ -3,12 +3,15 @@
 
 mod gates;
 mod laws;
+mod lists;
 mod made;
 mod made_names;
 mod parts_builder;
 mod pins;
+mod sums;
 
 pub use laws::{made_parts_drive, parts_grow, sums_add_up};
+pub use lists::push_net;
 pub use made::Made;
 pub use made_names::{made_instance, made_net, numbered};
 pub use parts_builder::PartsBuilder;
