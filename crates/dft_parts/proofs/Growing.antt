@@ -1,5 +1,5 @@
 -- What stays while parts are made, and where the parts stand.
-use Rattle.std.proofs.Common.{ℕ, zero, suc, ◌+◌, ◌≡◌, List, [], ◌∷◌, ◌++◌, length, map, Option, None, Some, slice_get, refl, sym, subst, ap, arith, ◌∙◌, append_assoc}
+use Rattle.std.proofs.Common.{ℕ, zero, suc, ◌+◌, ◌≡◌, List, [], ◌∷◌, ◌++◌, length, map, Option, Some, slice_get, refl, sym, subst, ap, arith, ◌∙◌, append_assoc}
 use Rattle.std.specs.List.{range_with_len}
 use Rattle.std.proofs.lemmas.List.{append-nil, map-append}
 use Rattle.std.proofs.lemmas.Option.{none-some, same_Some}
@@ -10,12 +10,11 @@ use Rattle.dft_netlist.specs.declared.instance.Signal.{Signal}
 use Rattle.dft_netlist.specs.declared.instance.Signal.TheVariants.{Net, Constant, Unconnected}
 use Rattle.dft_netlist.specs.declared.instance.Instance.{Instance}
 use Rattle.dft_netlist.specs.Names.{instance_name}
-use Rattle.dft_netlist.specs.Netlist.{Netlist}
 use Rattle.dft_netlist.proofs.Places.{get_left, get_push}
 use Rattle.dft_parts.specs.MadeNames.{made_net, made_instance}
 use Rattle.dft_parts.specs.Parts.{Part, ANet, AnInstance, APin, Making, next_instance, joined_to, pin_joined, instance_joined, with_part, with_parts}
 use Rattle.dft_parts.specs.Recipes.{nets_in}
-use Rattle.dft_parts.specs.Growth.{IsKept, AreKept, Stands, HasParts, instances_in, names_of, made_names, IsGrown, PartsGrow, PartsStay}
+use Rattle.dft_parts.specs.Growth.{IsKept, AreKept, Stands, HasParts, instances_in, names_of, made_names, PartsGrow, PartsStay}
 
 -- ---- pins
 
@@ -164,8 +163,8 @@ parts_grow s (AnInstance cell pins ∷ parts) =
       made_instances = omega (arith, h.made_instances);
       stay = λ number other more k. stands_on s (AnInstance cell pins ∷ parts) number other more k;
       there = (
-          instance_there s parts cell pins,
-          subst (λ (k : ℕ). HasParts (with_parts (with_part s (AnInstance cell pins)) parts).netlist k parts) (one_more s.netlist.instances (next_instance s.made cell pins)) h.there,
+        instance_there s parts cell pins,
+        subst (λ (k : ℕ). HasParts (with_parts (with_part s (AnInstance cell pins)) parts).netlist k parts) (one_more s.netlist.instances (next_instance s.made cell pins)) h.there,
       );
     }
 parts_grow s (APin instance pin net ∷ parts) =

@@ -1,6 +1,5 @@
 -- Pairs and levels as they are made.
-use Rattle.std.proofs.Common.{ℕ, zero, suc, ◌+◌, ◌<◌, ◌≤◌, ◌≡◌, List, [], ◌∷◌, ◌++◌, length, drop, Result, Ok, Err, refl, sym, subst, ap, arith, ◌∙◌}
-use Rattle.std.specs.List.{All}
+use Rattle.std.proofs.Common.{ℕ, zero, suc, ◌+◌, ◌<◌, ◌≤◌, ◌≡◌, List, [], ◌∷◌, ◌++◌, length, drop, Ok, refl, sym, subst, ap, arith, ◌∙◌}
 use Rattle.std.specs.Prelude.{slice_index_or}
 use Rattle.std.proofs.lemmas.List.Elements.{All-append}
 use Rattle.dft_cells.specs.declared.kind.Kind.TheVariants.{Xor}
@@ -8,10 +7,10 @@ use Rattle.dft_netlist.specs.declared.ids.NetId.{NetId}
 use Rattle.dft_netlist.specs.declared.error.NetlistError.{NetlistError}
 use Rattle.dft_netlist.specs.Netlist.{Netlist}
 use Rattle.dft_parts.specs.Parts.{Making}
-use Rattle.dft_parts.specs.Recipes.{Recipe, AreThere, pure, ◌>>=◌, start_of, outcome, IsRefusal}
+use Rattle.dft_parts.specs.Recipes.{AreThere, pure, start_of, outcome, IsRefusal}
 use Rattle.dft_parts.specs.Sums.{a_driving_gate, pairs, levels, first_net, a_sum}
 use Rattle.dft_parts.proofs.Outcomes.{then_ok, then_refused, pure_made, made_value}
-use Rattle.dft_parts.proofs.Loops.{goes_on, goes_start, goes_step, goes_refused, goes_end, goes_last, before_rest}
+use Rattle.dft_parts.proofs.Loops.{goes_on, goes_start, goes_step, goes_refused, goes_end, goes_last}
 use Rattle.dft_parts.proofs.Fitting.{there_on}
 use Rattle.dft_parts.proofs.Trees.{half_left, some_left}
 

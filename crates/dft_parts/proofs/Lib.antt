@@ -9,3 +9,6 @@ pub mod FirstCells
 pub mod Fitting
 pub mod Loops
 pub mod Levels
+pub mod Singles
+pub mod Live
+pub mod Ordering

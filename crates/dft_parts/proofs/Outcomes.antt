@@ -1,5 +1,5 @@
 -- What comes of recipes that follow one another.
-use Rattle.std.proofs.Common.{ℕ, zero, suc, ◌+◌, ◌≡◌, ◌≤◌, Bool, List, [], ◌∷◌, ◌++◌, length, map, Option, None, Some, Result, Ok, Err, refl, sym, subst, ap, arith, ◌∙◌, length-append}
+use Rattle.std.proofs.Common.{ℕ, ◌+◌, ◌≡◌, ◌≤◌, Bool, List, [], ◌∷◌, ◌++◌, length, map, Option, None, Some, Result, Ok, Err, refl, sym, subst, ap, arith, ◌∙◌, length-append}
 use Rattle.std.specs.List.{range_with_len}
 use Rattle.std.proofs.lemmas.List.FromFn.{length-map-range_with_len}
 use Rattle.dft_base.specs.Lexing.{Text}
@@ -16,8 +16,8 @@ use Rattle.dft_netlist.specs.Building.{WithNet, WithInstance, net_refusal, insta
 use Rattle.dft_netlist.specs.Netlist.{Netlist}
 use Rattle.dft_parts.specs.MadeNames.{made_net, made_instance}
 use Rattle.dft_parts.specs.Cells.{first_cell, pins_between}
-use Rattle.dft_parts.specs.Parts.{Part, ANet, AnInstance, APin, Making, next_instance, with_part, with_parts, part_refusal, parts_refusal, or_else}
-use Rattle.dft_parts.specs.Recipes.{Start, Given, Recipe, nets_in, behind, followed_by, ◌>>=◌, pure, a_net, an_instance, a_store, start_of, unless_refused, outcome, IsRefusal, Makes}
+use Rattle.dft_parts.specs.Parts.{Part, ANet, AnInstance, Making, next_instance, with_part, with_parts, part_refusal, parts_refusal, or_else}
+use Rattle.dft_parts.specs.Recipes.{Start, Recipe, nets_in, behind, ◌>>=◌, pure, a_net, an_instance, a_store, start_of, unless_refused, outcome, IsRefusal, Makes}
 use Rattle.dft_parts.proofs.Growing.{parts_grow}
 
 -- ---- lists of parts
@@ -82,7 +82,6 @@ then_refused r f s (Loop name) h = then_err r f s (Loop name) h
 then_refused r f s (DuplicateName name) h = then_err r f s (DuplicateName name) h
 then_refused r f s (TooMany what limit) h = then_err r f s (TooMany what limit) h
 then_refused r f s (Memory error) h = tt
-
 
 pub pure_made : {A : Type 0} (a : A) (s : Making) → outcome (pure a) s ≡ Ok (a, s)
 unfolding outcome

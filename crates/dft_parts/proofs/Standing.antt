@@ -1,5 +1,5 @@
 -- What made gates do in a finished netlist.
-use Rattle.std.proofs.Common.{ℕ, zero, suc, ◌+◌, ◌≡◌, Bool, true, false, List, [], ◌∷◌, ◌++◌, length, map, Option, None, Some, slice_get, refl, sym, subst, ap, arith, ◌∙◌}
+use Rattle.std.proofs.Common.{ℕ, zero, suc, ◌+◌, ◌≡◌, false, List, [], ◌∷◌, ◌++◌, length, Some, slice_get, refl, sym, ap, arith, ◌∙◌}
 use Rattle.std.specs.Prelude.{IsTrue}
 use Rattle.std.proofs.lemmas.Option.{none-some, same_Some}
 use Rattle.dft_cells.specs.declared.kind.Kind.{Kind}
@@ -7,19 +7,18 @@ use Rattle.dft_cells.specs.declared.kind.Kind.TheVariants as kind
 use Rattle.dft_cells.specs.declared.cell.Cell.{Cell}
 use Rattle.dft_netlist.specs.declared.ids.NetId.{NetId}
 use Rattle.dft_netlist.specs.declared.instance.Signal.{Signal}
-use Rattle.dft_netlist.specs.declared.instance.Signal.TheVariants.{Net as AtNet, Constant, Unconnected}
+use Rattle.dft_netlist.specs.declared.instance.Signal.TheVariants.{Net as AtNet}
 use Rattle.dft_netlist.specs.declared.instance.CellRef.TheVariants as cell_ref
 use Rattle.dft_netlist.specs.declared.instance.Instance.{Instance}
 use Rattle.dft_netlist.specs.Netlist.{Netlist}
 use Rattle.dft_netlist.specs.NetDrivers.{IsSingle}
 use Rattle.dft_netlist.specs.Sound.{is_primitive}
-use Rattle.dft_netlist.specs.Drivers.{Shape, Source, Net, Driver, Driven, Gate, gate_roles, connections_from, connections_of, inputs_of, driver_of_kind, driven_by, driven_by_pins, driven_by_instances, driven_by_ports, driven_by_joins, driver, shape_of}
-use Rattle.dft_netlist.specs.Logic as logic
-use Rattle.dft_netlist.specs.Logic.{Ports, logic_of, meaning_of}
+use Rattle.dft_netlist.specs.Drivers.{Shape, Source, Net, Driver, Driven, Gate, gate_roles, connections_from, inputs_of, driver_of_kind, driven_by, driven_by_pins, driven_by_instances, driven_by_ports, driven_by_joins, driver, shape_of}
+use Rattle.dft_netlist.specs.Logic.{meaning_of}
 use Rattle.dft_netlist.proofs.DriverLaws.{listed_drives}
 use Rattle.dft_netlist.proofs.Places.{get_left}
 use Rattle.dft_parts.specs.Recipes.{at_nets}
-use Rattle.dft_parts.specs.Growth.{IsKept, AreKept, Stands}
+use Rattle.dft_parts.specs.Growth.{AreKept}
 use Rattle.dft_parts.specs.Standing.{sources_at, GateStands}
 
 -- ---- an instance drives what it lists

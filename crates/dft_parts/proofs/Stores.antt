@@ -1,6 +1,6 @@
 -- What made flip-flops and lock-ups do in a finished netlist.
-use Rattle.std.proofs.Common.{ℕ, zero, suc, ◌+◌, ◌≡◌, ◌⊎◌, inl, inr, Bool, true, false, List, [], ◌∷◌, ◌++◌, length, map, Option, None, Some, slice_get, refl, sym, subst, ap, arith, ◌∙◌}
-use Rattle.std.specs.Prelude.{IsTrue, if◌then◌else◌}
+use Rattle.std.proofs.Common.{ℕ, zero, suc, ◌+◌, ◌≡◌, ◌⊎◌, inl, inr, Bool, true, false, List, [], ◌∷◌, length, map, Option, None, Some, slice_get, refl, sym, subst, ap, arith, ◌∙◌}
+use Rattle.std.specs.Prelude.{if◌then◌else◌}
 use Rattle.std.proofs.lemmas.Option.{none-some, same_Some}
 use Rattle.dft_cells.specs.declared.kind.Kind.{Kind}
 use Rattle.dft_cells.specs.declared.kind.Kind.TheVariants as kind
@@ -8,7 +8,7 @@ use Rattle.dft_cells.specs.declared.kind.Role.{Role}
 use Rattle.dft_cells.specs.declared.kind.Role.TheVariants.{Clock as AClock, Din, Output, Inverted}
 use Rattle.dft_cells.specs.declared.cell.Cell.{Cell}
 use Rattle.dft_cells.specs.declared.cell.CellId.{CellId}
-use Rattle.dft_cells.specs.WellFormed.{IsWellFormed, IsCell, HasKind, HasRoles, FlipFlopRoles, role_of}
+use Rattle.dft_cells.specs.WellFormed.{IsWellFormed, HasRoles, role_of}
 use Rattle.dft_cells.specs.FlipFlops.{is_flip_flop}
 use Rattle.dft_netlist.specs.declared.ids.NetId.{NetId}
 use Rattle.dft_netlist.specs.declared.instance.Signal.{Signal}
@@ -18,8 +18,8 @@ use Rattle.dft_netlist.specs.declared.instance.CellRef.TheVariants.{Library}
 use Rattle.dft_netlist.specs.declared.instance.Instance.{Instance}
 use Rattle.dft_netlist.specs.Netlist.{Netlist}
 use Rattle.dft_netlist.specs.NetDrivers.{IsSingle}
-use Rattle.dft_netlist.specs.Drivers.{Shape, Source, Net, Connection, Driver, Driven, Input, Flop, Lockup, connections_from, connections_of, pins_at, pins_of, kind_of, kind_at, inputs_of, driven_by, driven_by_pins, driver, shape_of, shape_of_cell}
-use Rattle.dft_netlist.specs.Traces.{Root, Port, root_of, root_within, root_of_driver}
+use Rattle.dft_netlist.specs.Drivers.{Shape, Net, Connection, Driven, Input, Flop, Lockup, connections_from, pins_at, kind_of, inputs_of, driven_by_pins, driver, shape_of, shape_of_cell}
+use Rattle.dft_netlist.specs.Traces.{Port, root_of, root_within, root_of_driver}
 use Rattle.dft_netlist.specs.Logic as logic
 use Rattle.dft_netlist.specs.Logic.{Ports, domain_of, domain_at, modelled, modelled_of, flip_flop, cell_or_none, flop_meaning, lockup_meaning, logic_of, meaning_of, or_loose, pin_of}
 use Rattle.dft_parts.specs.Cells.{is_dff, is_lockup, first_from, numbered_cell, first_cell, pin_between, pins_between}
@@ -188,15 +188,15 @@ flop_as n ports i clock input output more id single shape plain h =
     let front = front_of clock input output (map (pin_between clock input output) more) x.pins kept in
     let pins = AtNet clock ∷ AtNet input ∷ AtNet output ∷ front.rest in
     let drives : driver n output.0 ≡ Flop i false = instance_drives n i 0 x (output.0, Flop i false) single h.at
-        (ap (λ c. slice_get (driven_as (shape_of n.library c) i x.pins) 0) h.cell_is
-        ∙ ap (λ (v : Shape). slice_get (driven_as v i x.pins) 0) shape
-        ∙ ap (λ (ps : List Signal). slice_get (driven_as s i ps) 0) front.are) in
+    (ap (λ c. slice_get (driven_as (shape_of n.library c) i x.pins) 0) h.cell_is
+    ∙ ap (λ (v : Shape). slice_get (driven_as v i x.pins) 0) shape
+    ∙ ap (λ (ps : List Signal). slice_get (driven_as s i ps) 0) front.are) in
     let is : flip_flop n ports i ≡ Some (plain_cell clock.0 input.0) =
-        ap (cell_by n ports i) h.at
-        ∙ ap (λ (c : CellRef). cell_as n ports i (shape_of n.library c) x.pins) h.cell_is
-        ∙ ap (λ (v : Shape). cell_as n ports i v x.pins) shape
-        ∙ ap (cell_as n ports i s) front.are
-        ∙ plain front.rest in
+    ap (cell_by n ports i) h.at
+    ∙ ap (λ (c : CellRef). cell_as n ports i (shape_of n.library c) x.pins) h.cell_is
+    ∙ ap (λ (v : Shape). cell_as n ports i v x.pins) shape
+    ∙ ap (cell_as n ports i s) front.are
+    ∙ plain front.rest in
     record {
       takes = ap (cell_or_none i) is;
       shows = ap (meaning_of n ports output.0) drives ∙ ap (flop_meaning i false) is;
@@ -224,9 +224,9 @@ lockup_stands n ports i clock input output single well is h =
     let kept = subst (λ (v : Shape). AreKept (map (pin_between clock input output) v.roles) x.pins) shape h.kept in
     let front = front_of clock input output [] x.pins kept in
     let drives : driver n output.0 ≡ Lockup i = instance_drives n i 0 x (output.0, Lockup i) single h.at
-        (ap (λ c. slice_get (driven_as (shape_of n.library c) i x.pins) 0) h.cell_is
-        ∙ ap (λ (v : Shape). slice_get (driven_as v i x.pins) 0) shape
-        ∙ ap (λ (ps : List Signal). slice_get (driven_as s i ps) 0) front.are) in
+    (ap (λ c. slice_get (driven_as (shape_of n.library c) i x.pins) 0) h.cell_is
+    ∙ ap (λ (v : Shape). slice_get (driven_as v i x.pins) 0) shape
+    ∙ ap (λ (ps : List Signal). slice_get (driven_as s i ps) 0) front.are) in
     ap (meaning_of n ports output.0) drives
     ∙ ap (λ (o : Option Instance). lockup_with n ports i (pins_at n.library o)) h.at
     ∙ ap (λ (c : CellRef). lockup_with n ports i (connections_from 0 (shape_of n.library c).roles x.pins)) h.cell_is

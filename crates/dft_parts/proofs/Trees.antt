@@ -1,5 +1,5 @@
 -- The parts of a sum's recipe make a tree; what a tree has in settled assignments.
-use Rattle.std.proofs.Common.{ℕ, zero, suc, ◌+◌, ◌<◌, ◌≤◌, ◌≡◌, Bool, true, false, List, [], ◌∷◌, ◌++◌, length, map, Some, slice_get, refl, sym, subst, ap, arith, ◌∙◌, append_assoc}
+use Rattle.std.proofs.Common.{ℕ, zero, suc, ◌+◌, ◌<◌, ◌≤◌, ◌≡◌, Bool, true, false, List, [], ◌∷◌, ◌++◌, length, map, refl, sym, subst, ap, arith, ◌∙◌, append_assoc}
 use Rattle.std.specs.Prelude.{not, if◌then◌else◌}
 use Rattle.std.proofs.lemmas.List.{append-nil, map-append}
 use Rattle.dft_base.specs.declared.tri.Tri.{Tri}
@@ -17,7 +17,7 @@ use Rattle.dft_netlist.specs.Orders.{numbers_of}
 use Rattle.dft_netlist.specs.Settled.{Sources, bit_given, IsSettled, TriSources, value_given, IsTriSettled}
 use Rattle.dft_parts.specs.Growth.{HasParts, instances_in}
 use Rattle.dft_parts.specs.Parts.{Part, ANet, AnInstance, APin}
-use Rattle.dft_parts.specs.Recipes.{Start, Given, Recipe, behind, pure, ◌>>=◌}
+use Rattle.dft_parts.specs.Recipes.{Start, behind}
 use Rattle.dft_parts.specs.Sums.{a_driving_gate, pairs, levels, first_net, a_sum}
 use Rattle.dft_parts.specs.SumTrees.{IsSum, Term, Joined, sum_bits, tri_xor, tri_sum, SumStands, SumBit, SumValue}
 use Rattle.dft_parts.proofs.Standing.{gate_stands}

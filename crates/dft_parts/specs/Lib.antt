@@ -6,6 +6,7 @@ pub mod Recipes
 pub mod Sums
 pub mod Growth
 pub mod Single
+pub mod Order
 pub mod Standing
 pub mod SumTrees
 pub mod Shown

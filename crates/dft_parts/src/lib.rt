@@ -10,7 +10,7 @@ mod parts_builder;
 mod pins;
 mod sums;
 
-pub use laws::{made_parts_drive, parts_grow, sums_add_up};
+pub use laws::{made_parts_drive, order_stays, parts_grow, parts_stay_single, sums_add_up};
 pub use lists::push_net;
 pub use made::Made;
 pub use made_names::{made_instance, made_net, numbered};

@@ -1,8 +1,6 @@
-use Rattle.std.proofs.Common.{◌≡◌, ◌++◌, ◌∷◌, [], Some, length, subst, sym, ◌∙◌}
-use Rattle.dft_netlist.specs.declared.instance.Signal.TheVariants.{Net}
+use Rattle.std.proofs.Common.{[], Some, length, subst, sym, ◌∙◌}
 use Rattle.dft_netlist.specs.declared.instance.CellRef.TheVariants.{Gate}
 use Rattle.dft_netlist.specs.Sound.{IsInstance}
-use Rattle.dft_parts.specs.Recipes.{at_nets}
 use Rattle.dft_parts.proofs.Fitting.{gate_fits}
 use Rattle.dft_parts.proofs.parts_builder.PartsBuilder.gate.Goals as goal
 

@@ -1,6 +1,6 @@
 use Rattle.std.proofs.Common.{ap, ◌∙◌}
 use Rattle.std.proofs.lemmas.Result.{err_from_is_err_and}
-use Rattle.dft_parts.proofs.Levels.{Paired, pairing_start, pairing_on, pairing_refused, paired_none, paired_last}
+use Rattle.dft_parts.proofs.Levels.{pairing_start, pairing_on, pairing_refused, paired_none, paired_last}
 use Rattle.dft_parts.proofs.parts_builder.PartsBuilder.pairs.Goals.{then-place-nets+in_ok-push_net-2, else-place-nets}
 use Rattle.dft_parts.proofs.parts_builder.PartsBuilder.pairs.Goals as goal
 

@@ -1,5 +1,4 @@
-use Rattle.std.proofs.Common.{◌≡◌, Some, [], length, map, subst, sym, ap, ◌∙◌}
-use Rattle.dft_cells.specs.declared.kind.Role.{Role}
+use Rattle.std.proofs.Common.{Some, [], length, map, subst, sym, ap, ◌∙◌}
 use Rattle.dft_netlist.specs.declared.instance.CellRef.TheVariants.{Library}
 use Rattle.dft_netlist.specs.Drivers.{shape_of}
 use Rattle.dft_netlist.specs.Netlist.{Netlist}
