@@ -11,13 +11,13 @@ use Rattle.dft_base.specs.Tri.{AboveTri}
 use Rattle.dft_netlist.specs.declared.ids.NetId.{NetId}
 use Rattle.dft_netlist.specs.Logic.{Logic, IsRanked}
 use Rattle.dft_netlist.specs.Settled.{value_from}
-use Rattle.dft_cycle.specs.declared.circuit.Circuit.{Circuit}
+use Rattle.dft_logic.specs.declared.circuit.Circuit.{Circuit}
 use Rattle.dft_abstract.specs.Cycle.{Pulse, tri_forced_by, tri_taken_by, view_sources, AreViews, next_value}
 use Rattle.dft_cycle.specs.Machine.{value_at}
-use Rattle.dft_cycle.specs.Circuit.{logic_at, flag_at, IsCircuit}
+use Rattle.dft_logic.specs.Circuit.{logic_at, flag_at, IsCircuit}
 use Rattle.dft_cycle.specs.Views.{raised_by, rank_of, Among, PulsesAmong, HasNext, AreNext, IsAlone}
 use Rattle.dft_abstract.proofs.Views.{views_exist, settled_same}
-use Rattle.dft_cycle.proofs.CircuitRanks.{circuit_ranked}
+use Rattle.dft_logic.proofs.CircuitRanks.{circuit_ranked}
 use Rattle.dft_cycle.proofs.RoundLemmas.{no_latch}
 use Rattle.dft_cycle.proofs.Risings.{IsRaised, past_next}
 

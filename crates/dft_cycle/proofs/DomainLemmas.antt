@@ -10,19 +10,20 @@ use Rattle.dft_cells.specs.FlipFlops.{tri_forced}
 use Rattle.dft_netlist.specs.Logic.{Cell, Force, Meaning, Input, Clock, Gate, Joined, Flop, Lockup, Free}
 use Rattle.dft_netlist.specs.Settled.{TriSources, value_given, inverse}
 use Rattle.dft_netlist.specs.Orders.{Has}
-use Rattle.dft_cycle.specs.declared.circuit.Op.{Op}
-use Rattle.dft_cycle.specs.declared.circuit.Op.TheVariants as op
-use Rattle.dft_cycle.specs.declared.circuit.Circuit.{Circuit}
-use Rattle.dft_cycle.specs.declared.settling.View.{View}
+use Rattle.dft_logic.specs.declared.circuit.Op.{Op}
+use Rattle.dft_logic.specs.declared.circuit.Op.TheVariants as op
+use Rattle.dft_logic.specs.declared.circuit.Circuit.{Circuit}
+use Rattle.dft_logic.specs.declared.settling.View.{View}
 use Rattle.dft_abstract.specs.Cycle.{Pulse}
 use Rattle.dft_cycle.specs.Machine.{value_at, acted}
-use Rattle.dft_cycle.specs.Circuit.{base_of, pulse_at, held_in, IsGivenIn, GivenIn, IsReady, source_places, flag_at, meaning, op_at, cell_of, cell_at, latch_at, latch_domains, force_nets, leaf_domains, leaves_from, IsCircuit}
-use Rattle.dft_cycle.specs.Tables.{list_at}
+use Rattle.dft_logic.specs.Circuit.{base_of, pulse_at, held_in, IsGivenIn, GivenIn, IsReady, source_places, flag_at, meaning, op_at, cell_of, cell_at, latch_at, latch_domains, force_nets, leaf_domains, leaves_from, IsCircuit}
+use Rattle.dft_logic.specs.Tables.{list_at}
 use Rattle.dft_cycle.specs.Views.{next_at, next_by, held_by}
 use Rattle.dft_cycle.proofs.MachineRounds.{forced_twice}
 use Rattle.dft_cycle.proofs.NextLemmas.{by_hit, by_miss}
-use Rattle.dft_cycle.proofs.RoundLemmas.{latch_hits, latch_misses, latch_live}
-use Rattle.dft_cycle.proofs.Settlings.{IsGiven}
+use Rattle.dft_cycle.proofs.RoundLemmas.{latch_hits, latch_misses}
+use Rattle.dft_logic.proofs.Compiled.{latch_live}
+use Rattle.dft_logic.proofs.Settlings.{IsGiven}
 use Rattle.dft_cycle.proofs.Sweepings.{has_front}
 
 -- ---- writing by a list

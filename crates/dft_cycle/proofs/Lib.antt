@@ -1,17 +1,8 @@
-pub mod Settlings
 pub mod Sweepings
-pub mod CircuitRanks
-pub mod Writings
-pub mod TableLemmas
 pub mod RoundLemmas
 pub mod NextLemmas
 pub mod Risings
 pub mod MachineLemmas
-pub mod WireLemmas
 pub mod MachineRounds
-pub mod OpLemmas
-pub mod BuildLemmas
-pub mod Compiled
-pub mod Pasts
 pub mod AloneLemmas
 pub mod DomainLemmas

@@ -11,16 +11,18 @@ use Rattle.dft_netlist.specs.declared.ids.NetId.{NetId}
 use Rattle.dft_netlist.specs.Drivers.{Source}
 use Rattle.dft_netlist.specs.Logic.{Logic, Cell}
 use Rattle.dft_netlist.specs.Settled.{TriSources, value_from, IsTriSettled}
-use Rattle.dft_cycle.specs.declared.circuit.FlipFlop.{FlipFlop}
-use Rattle.dft_cycle.specs.declared.circuit.Circuit.{Circuit}
+use Rattle.dft_logic.specs.declared.circuit.FlipFlop.{FlipFlop}
+use Rattle.dft_logic.specs.declared.circuit.Circuit.{Circuit}
 use Rattle.dft_abstract.specs.Cycle.{Pulse, AreViews, next_value, after_pulse, IsLeast}
 use Rattle.dft_cycle.specs.Machine.{Machine, value_at, is_one_of, ports_of, logic, acted, IsSet, at_strobe, IsStrobed, pulses, pulse_from, IsPulsed}
-use Rattle.dft_cycle.specs.Circuit.{IsReady, logic_at, cell_of, cell_at, flag_at, IsCircuit}
+use Rattle.dft_logic.specs.Circuit.{IsReady, logic_at, cell_of, cell_at, flag_at, IsCircuit}
 use Rattle.dft_cycle.specs.Views.{rank_of, Among, AreNext}
-use Rattle.dft_cycle.specs.Compiling.{ports_by}
+use Rattle.dft_logic.specs.Compiling.{ports_by}
+use Rattle.dft_logic.specs.Needs.{AreSeen}
+use Rattle.dft_logic.proofs.LookLemmas.{look_of_all}
 use Rattle.dft_abstract.proofs.Views.{views_exist}
-use Rattle.dft_cycle.proofs.CircuitRanks.{circuit_ranked}
-use Rattle.dft_cycle.proofs.Writings.{cell_past}
+use Rattle.dft_logic.proofs.CircuitRanks.{circuit_ranked}
+use Rattle.dft_logic.proofs.Writings.{cell_past}
 
 -- ---- the elements of a vector that was filled anew
 
@@ -47,6 +49,16 @@ strobed m after x t values compiled n k i c ports clocks flops lockups settled s
     let Q : Logic → Type 0 = λ l. IsTriSettled l (at_strobe m (value_at values)) (value_at values) in
     let R : List Tri → Type 0 = λ v. IsTriSettled (logic m) (at_strobe m (value_at v)) (value_at v) in
     record { netlist = n; clocks = k; inputs = i; cells = c; settled = subst R (sym shown) (subst Q (sym compiled) (subst P same settled)) }
+
+pub looked : (m : Machine) (x : Circuit) (t : TriSources) (values row : List Tri) (nets : List NetId) → IsCircuit x → logic m ≡ logic_at x →
+    ((k : ℕ) → t.ports k ≡ value_at m.inputs k) → ((e : ℕ) → t.clocks e ≡ Zero) → ((c : ℕ) → t.flops c ≡ value_at m.cells c) → ((c e : ℕ) (source : Source) → t.lockups c e source ≡ value_from (value_at values) source) →
+    IsTriSettled (logic_at x) t (value_at values) → row ≡ map (λ net. value_at values net.0) nets → AreSeen (logic m) (value_at m.inputs) (value_at m.cells) nets row
+looked m x t values row nets is compiled ports clocks flops lockups settled read =
+    let same : t ≡ at_strobe m (value_at values) = λ s. record { ports = λ p. ports p s; clocks = λ e. clocks e s; flops = λ f. flops f s; lockups = λ a b source. lockups a b source s } in
+    let P : TriSources → Type 0 = λ u. IsTriSettled (logic_at x) u (value_at values) in
+    let Q : Logic → Type 0 = λ l. AreSeen l (value_at m.inputs) (value_at m.cells) nets row in
+    let R : List Tri → Type 0 = λ r. AreSeen (logic_at x) (value_at m.inputs) (value_at m.cells) nets r in
+    subst Q (sym compiled) (subst R (sym read) (look_of_all x (value_at m.inputs) (value_at m.cells) values nets is (subst P same settled)))
 
 -- ---- an input
 

@@ -9,15 +9,15 @@ use Rattle.dft_base.specs.Tri.{AboveTri, join}
 use Rattle.dft_cells.proofs.Completions.{above_self, trans}
 use Rattle.dft_netlist.specs.declared.ids.NetId.{NetId}
 use Rattle.dft_netlist.specs.Logic.{Logic, Cell}
-use Rattle.dft_cycle.specs.declared.circuit.Circuit.{Circuit}
+use Rattle.dft_logic.specs.declared.circuit.Circuit.{Circuit}
 use Rattle.dft_abstract.specs.Cycle.{Pulse, AreViews, next_value, IsClosed, IsLeast}
 use Rattle.dft_cycle.specs.Machine.{value_at}
-use Rattle.dft_cycle.specs.Circuit.{logic_at, IsCircuit}
+use Rattle.dft_logic.specs.Circuit.{logic_at, IsCircuit}
 use Rattle.dft_cycle.specs.Views.{is_known, raised_by, rank_of, Among, HasNext, StaysBelow, AreNext}
 use Rattle.dft_abstract.proofs.Views.{views_exist}
 use Rattle.dft_abstract.proofs.Least.{step_below}
-use Rattle.dft_cycle.proofs.CircuitRanks.{circuit_ranked}
-use Rattle.dft_cycle.proofs.Writings.{write_same, cell_past}
+use Rattle.dft_logic.proofs.CircuitRanks.{circuit_ranked}
+use Rattle.dft_logic.proofs.Writings.{write_same, cell_past}
 
 -- ---- known values are lost
 

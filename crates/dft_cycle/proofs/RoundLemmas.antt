@@ -2,22 +2,22 @@
 use Rattle.std.proofs.Common.{ℕ, zero, suc, Bool, true, false, List, [], ◌∷◌, ◌≡◌, ◌<◌, ◌≤◌, ◌+◌, ◌==◌, Option, None, Some, inl, inr, length, refl, sym, ap, ◌∙◌, subst, get_or, true≢false, arith}
 use Rattle.std.specs.Prelude.{if◌then◌else◌, is_some}
 use Rattle.std.specs.List.{list_any}
-use Rattle.std.proofs.lemmas.Bool.Decides.{eqb_tells, leb_tells}
-use Rattle.std.proofs.lemmas.List.{get_or_past}
+use Rattle.std.proofs.lemmas.Bool.Decides.{eqb_tells}
 use Rattle.dft_base.specs.declared.tri.Tri.{Tri}
 use Rattle.dft_netlist.specs.declared.ids.NetId.{NetId}
 use Rattle.dft_netlist.specs.Drivers.{Source, nets_of, AreBelow}
 use Rattle.dft_netlist.specs.Logic.{Meaning, Lockup, reads}
 use Rattle.dft_netlist.specs.Settled.{TriSources, value_from, IsTriSettled}
 use Rattle.dft_netlist.proofs.Meanings.{source_same}
-use Rattle.dft_cycle.specs.declared.circuit.Latch.{Latch}
-use Rattle.dft_cycle.specs.declared.circuit.Circuit.{Circuit}
+use Rattle.dft_logic.specs.declared.circuit.Latch.{Latch}
+use Rattle.dft_logic.specs.declared.circuit.Circuit.{Circuit}
 use Rattle.dft_abstract.specs.Cycle.{Pulse, view_sources, AreViews}
 use Rattle.dft_cycle.specs.Machine.{value_at}
-use Rattle.dft_cycle.specs.Circuit.{logic_at, latch_of, latch_at, IsCircuit}
+use Rattle.dft_logic.specs.Circuit.{logic_at, latch_at, IsCircuit}
 use Rattle.dft_cycle.specs.Views.{held_by, Among, rank_of, IsHeld, OwnsLatches}
 use Rattle.dft_abstract.proofs.Views.{given_same}
-use Rattle.dft_cycle.proofs.CircuitRanks.{circuit_ranked}
+use Rattle.dft_logic.proofs.CircuitRanks.{circuit_ranked}
+use Rattle.dft_logic.proofs.Compiled.{latch_live}
 
 -- sources of a view whose lock-ups show held values
 pub record IsHeldView (x : Circuit) (p : Pulse) (poss : ℕ → Tri) (view : ℕ → ℕ → Tri) (d : ℕ) (held : List Tri) (t : TriSources) : Type 0 where
@@ -44,12 +44,6 @@ latch_hits latch d e source values old is hit = ap (λ (l : Option (ℕ × Sourc
 
 pub latch_misses : (latch : Option (ℕ × Source)) (d e : ℕ) (source : Source) (values : ℕ → Tri) (old : Tri) → latch ≡ Some (e, source) → (e == d) ≡ false → held_by latch d values old ≡ old
 latch_misses latch d e source values old is miss = ap (λ (l : Option (ℕ × Source)). held_by l d values old) is ∙ ap (λ (b : Bool). if b then value_from values source else old) miss
-
-pub latch_live : (latches : List (Option Latch)) (c : ℕ) (found : ℕ × Source) → latch_at latches c ≡ Some found → c < length latches
-latch_live latches c found is = elim (leb_tells (length latches) c) [
-  | inl out ↦ (let e = ap latch_of (get_or_past latches c None out.1) in let q : latch_of None ≡ Some found = sym e ∙ is in absurd (cc))
-  | inr live ↦ live.1
-]
 
 -- where there is no lock-up, nothing is held
 latch_found : (latches : List (Option Latch)) (c : ℕ) (found : ℕ × Source) → latch_at latches c ≡ Some found → list_any (λ latch. is_some latch) latches ≡ true

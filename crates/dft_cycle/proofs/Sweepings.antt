@@ -9,13 +9,13 @@ use Rattle.dft_netlist.specs.declared.ids.NetId.{NetId}
 use Rattle.dft_netlist.specs.Logic.{reads}
 use Rattle.dft_netlist.specs.Settled.{TriSources, value_given}
 use Rattle.dft_netlist.specs.Orders.{Has, numbers_of}
-use Rattle.dft_cycle.specs.declared.circuit.Op.{Op}
-use Rattle.dft_cycle.specs.declared.circuit.Op.TheVariants.{Free}
-use Rattle.dft_cycle.specs.declared.circuit.Circuit.{Circuit}
+use Rattle.dft_logic.specs.declared.circuit.Op.{Op}
+use Rattle.dft_logic.specs.declared.circuit.Op.TheVariants.{Free}
+use Rattle.dft_logic.specs.declared.circuit.Circuit.{Circuit}
 use Rattle.dft_cycle.specs.Machine.{value_at}
-use Rattle.dft_cycle.specs.Circuit.{meaning, op_at, leaves_from, AreOrdered, IsCircuit, flag_at}
-use Rattle.dft_cycle.specs.Tables.{list_at}
-use Rattle.dft_cycle.proofs.Settlings.{IsGiven, given_agree, all_more}
+use Rattle.dft_logic.specs.Circuit.{meaning, op_at, leaves_from, AreOrdered, IsCircuit, flag_at}
+use Rattle.dft_logic.specs.Tables.{list_at}
+use Rattle.dft_logic.proofs.Settlings.{IsGiven, given_agree, all_more, all_has}
 
 -- ---- marks
 
@@ -59,10 +59,6 @@ marking_ends nets start marked j k past m down = (let was = m.lowered k down in 
 all_other : (net : ℕ) (xs : List ℕ) → (Has xs net → ⊥) → AllByRecursion (λ m. m ≢ net) xs
 all_other net [] none = tt
 all_other net (x ∷ xs) none = (λ e. none (inl (sym e)), all_other net xs (λ h. none (inr h)))
-
-pub all_has : (P : ℕ → Type 0) (xs : List ℕ) (k : ℕ) → AllByRecursion P xs → Has xs k → P k
-all_has P [] k all h = absurd h
-all_has P (x ∷ xs) k all h = elim h [ inl e ↦ subst P (sym e) all.0 | inr more ↦ all_has P xs k all.1 more ]
 
 -- nets that do not read it keep their drivers' values
 pub written : (ops : List Op) (base : TriSources) (held : Option (List Tri)) (values : List Tri) (net k : ℕ) (t : Tri) → net < length values →

@@ -5,9 +5,6 @@ pub use Rattle.dft_netlist.specs.Settled
 pub use Rattle.dft_netlist.specs.Runs
 pub use Rattle.dft_abstract.specs.Cycle
 pub mod Machine
-pub mod Tables
-pub mod Circuit
 pub mod Views
 pub mod MachineShown
-pub mod Compiling
 pub mod MachineLaws

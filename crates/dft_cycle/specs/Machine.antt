@@ -1,5 +1,5 @@
 -- The abstract machine of replay: what it keeps, and what each call does to it.
-use Rattle.std.specs.Prelude.{ℕ, Bool, false, not, ◌≡◌, ◌<◌, ◌==◌, ◌&&◌, ◌||◌, List, [], ◌∷◌, Option, None, Some, slice_get, slice_index_or, if◌then◌else◌}
+use Rattle.std.specs.Prelude.{ℕ, Bool, false, not, ◌≡◌, ◌<◌, ◌==◌, ◌&&◌, ◌||◌, List, [], ◌∷◌, Option, None, Some, slice_get, if◌then◌else◌}
 use Rattle.dft_base.specs.declared.tri.Tri.{Tri}
 use Rattle.dft_base.specs.declared.tri.Tri.TheVariants.{Zero, Unknown}
 use Rattle.dft_cells.specs.FlipFlops.{tri_forced}
@@ -8,6 +8,7 @@ use Rattle.dft_netlist.specs.Netlist.{Netlist}
 use Rattle.dft_netlist.specs.Logic.{Ports, Logic, Force, logic_of}
 use Rattle.dft_netlist.specs.Settled.{TriSources, value_from, IsTriSettled}
 use Rattle.dft_abstract.specs.Cycle.{Pulse, IsLeast, after_pulse}
+pub use Rattle.dft_logic.specs.Values.{value_at}
 
 pub record Machine : Type 0 where
   pub netlist : Netlist
@@ -19,10 +20,6 @@ pub record Machine : Type 0 where
   pub cells : List Tri
   -- the value of each net at the last strobe
   pub shown : List Tri
-
--- the value at a place of a list, and Unknown past its end
-abbrev pub value_at : List Tri → ℕ → Tri
-value_at values place = slice_index_or values place Unknown
 
 -- whether a net is one of the clocks
 abbrev pub is_one_of : List NetId → ℕ → Bool

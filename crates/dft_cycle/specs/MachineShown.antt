@@ -3,7 +3,7 @@ use Rattle.std.specs.Prelude.{ℕ, false, ◌≡◌, ◌<◌, Some, length, slic
 use Rattle.dft_netlist.specs.declared.ids.NetId.{NetId}
 use Rattle.dft_cycle.specs.declared.machine.AbstractMachine.TheInside.{Inside}
 use Rattle.dft_cycle.specs.Machine.{Machine, logic}
-use Rattle.dft_cycle.specs.Circuit.{logic_at, flag_at, IsCircuit, IsReady}
+use Rattle.dft_logic.specs.Circuit.{logic_at, flag_at, IsCircuit, IsReady}
 use Rattle.dft_cycle.specs.Views.{OwnsLatches}
 
 abbrev pub machine_of : Inside → Machine

@@ -1,5 +1,5 @@
 -- How the views of a pulse are found: lock-ups by rounds, then next values.
-use Rattle.std.specs.Prelude.{ℕ, suc, Bool, true, false, ◌≡◌, ◌<◌, ◌==◌, List, [], ◌∷◌, Option, None, Some, length, slice_index_or, if◌then◌else◌}
+use Rattle.std.specs.Prelude.{ℕ, Bool, true, false, ◌≡◌, ◌<◌, ◌==◌, List, Option, None, Some, length, slice_index_or, if◌then◌else◌}
 use Rattle.dft_base.specs.declared.tri.Tri.{Tri}
 use Rattle.dft_base.specs.declared.tri.Tri.TheVariants.{Zero, One, Unknown}
 use Rattle.dft_base.specs.Tri.{join, AboveTri}
@@ -7,22 +7,15 @@ use Rattle.dft_netlist.specs.declared.ids.NetId.{NetId}
 use Rattle.dft_netlist.specs.Drivers.{Source}
 use Rattle.dft_netlist.specs.Logic.{Logic, Lockup, Cell}
 use Rattle.dft_netlist.specs.Settled.{value_from}
-use Rattle.dft_netlist.specs.Orders.{numbers_of}
-use Rattle.dft_cycle.specs.declared.circuit.Circuit.{Circuit}
+use Rattle.dft_logic.specs.declared.circuit.Circuit.{Circuit}
 use Rattle.dft_abstract.specs.Cycle.{tri_forced_by, tri_taken_by, next_value, IsClosed}
 use Rattle.dft_abstract.specs.Cycle as Cycle
-use Rattle.dft_cycle.specs.Machine.{value_at}
-use Rattle.dft_cycle.specs.Circuit.{logic_at, latch_at, flag_at}
+use Rattle.dft_logic.specs.Values.{value_at}
+pub use Rattle.dft_logic.specs.Ranks.{rank_from, rank_of}
+pub use Rattle.dft_logic.specs.Circuit.{taken_at, next_at}
+use Rattle.dft_logic.specs.Circuit.{logic_at, latch_at, flag_at}
 
 -- ---- a flip-flop and a lock-up, from the values of a view
-
--- what a flip-flop takes
-abbrev pub taken_at : Cell → (values : ℕ → Tri) → Tri
-taken_at cell values = tri_taken_by cell.scan (value_from values) (value_from values cell.input)
-
--- its next value
-abbrev pub next_at : Cell → (ports values : ℕ → Tri) → Tri
-next_at cell ports values = tri_forced_by cell.force ports (taken_at cell values)
 
 -- its value after the view of a domain: its next value where the domain is its own
 abbrev pub next_by : Cell → (domain : ℕ) → (ports values : ℕ → Tri) → (old : Tri) → Tri
@@ -40,14 +33,6 @@ pub record Among (clocks : List NetId) (count net : ℕ) : Type 0 where
   pub place : ℕ
   pub before : place < count
   pub here : (slice_index_or clocks place (record { 0 = 0 })).0 ≡ net
-
--- the place of each net in an order
-abbrev pub rank_from : (next : ℕ) → (rank : ℕ → ℕ) → List ℕ → ℕ → ℕ
-rank_from next rank [] = rank
-rank_from next rank (net ∷ nets) = rank_from (suc next) (λ k. if k == net then next else rank k) nets
-
-unfoldable pub rank_of : Circuit → ℕ → ℕ
-rank_of x = rank_from 0 (λ k. 0) (numbers_of x.order.items)
 
 -- lock-ups whose nets have lower ranks are held at their inputs in the views of their domains
 abbrev pub IsHeld : Circuit → (view : ℕ → ℕ → Tri) → (held : List Tri) → (rank : ℕ) → Type 0

@@ -6,68 +6,13 @@ ghost use Rattle.dft_cells.specs.FlipFlops.{tri_forced, tri_chosen};
 ghost use Rattle.dft_netlist.specs.Settled.{value_from};
 ghost use Rattle.dft_abstract.specs.Cycle.{tri_forced_by};
 ghost use Rattle.dft_cycle.specs.Machine as spec;
-ghost use Rattle.dft_cycle.specs.Circuit as circuits;
-ghost use Rattle.dft_cycle.specs.Circuit.{cell_of, cell_at, latch_at, IsCircuit};
+ghost use Rattle.dft_logic.specs.Circuit as circuits;
+ghost use Rattle.dft_logic.specs.Circuit.{cell_of, cell_at, latch_at, IsCircuit};
 ghost use Rattle.dft_cycle.specs.Views.{taken_at, next_at, next_by, held_by};
 
-use crate::circuit::{Acting, Circuit, FlipFlop, Latch};
-use crate::settling::value_at;
-use crate::tables::list_of;
 use dft_base::Tri;
+use dft_logic::{Circuit, Latch, differ, list_of, value_at};
 use dft_netlist::NetId;
-
-/// What a reset (value 0) or a set (value 1) leaves of a value, where its pin has this one.
-pub(crate) fn forced(value: bool, pin: Tri, bit: Tri) -> Tri
-    ensures { result ≡ tri_forced value pin bit }
-{
-    let forcing = if value { Tri::One } else { Tri::Zero };
-    match pin {
-        Tri::Zero => forcing,
-        Tri::One => bit,
-        Tri::Unknown => forcing.join(bit),
-    }
-}
-
-/// What a flip-flop takes: its scan input where its scan enable is 1, else its data input.
-fn chosen(enable: Tri, scan_in: Tri, data_in: Tri) -> Tri
-    ensures { result ≡ tri_chosen enable scan_in data_in }
-{
-    match enable {
-        Tri::Zero => data_in,
-        Tri::One => scan_in,
-        Tri::Unknown => data_in.join(scan_in),
-    }
-}
-
-/// What a reset or set leaves of a value, if there is one.
-fn forced_by(force: Option<Acting>, ports: &[Tri], bit: Tri) -> Tri
-    ensures { result ≡ tri_forced_by (circuits.force_at force) (spec.value_at ports.now) bit }
-{
-    match force {
-        Some(acting) => forced(acting.value, value_at(ports, acting.port.0), bit),
-        None => bit,
-    }
-}
-
-impl FlipFlop {
-    /// What it takes in the view with these values.
-    fn taken(&self, values: &[Tri]) -> Tri
-        ensures { result ≡ taken_at (circuits.cell_of self.now) (spec.value_at values.now) }
-    {
-        let data_in = self.input.value(values);
-        match self.scan {
-            Some(pins) => chosen(pins.enable.value(values), pins.input.value(values), data_in),
-            None => data_in,
-        }
-    }
-
-    /// Its next value in the view with these values.
-    fn next(&self, ports: &[Tri], values: &[Tri]) -> Tri
-        ensures { result ≡ next_at (circuits.cell_of self.now) (spec.value_at ports.now) (spec.value_at values.now) }
-    {
-        forced_by(self.force, ports, self.taken(values))
-    }
-}
 
 /// Each flip-flop of a domain takes its next value in the domain's view.
 pub(crate) fn take_next(
@@ -99,17 +44,6 @@ fn held_value(latch: Option<Latch>, domain: NetId, values: &[Tri], old: Tri) -> 
             old
         },
         None => old,
-    }
-}
-
-/// Whether two values differ.
-pub(crate) fn differ(one: Tri, other: Tri) -> bool
-    ensures same { result ≡ false → one ≡ other }
-    ensures other { result ≡ true → one ≡ other → ⊥ }
-{
-    match (one, other) {
-        (Tri::Zero, Tri::Zero) | (Tri::One, Tri::One) | (Tri::Unknown, Tri::Unknown) => false,
-        _ => true,
     }
 }
 

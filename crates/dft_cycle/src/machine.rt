@@ -3,16 +3,16 @@
 ghost use Rattle.std.specs.Prelude.{◌≡◌, ℕ, ◌<◌, length, map, replicate, true, false, Some, None, slice_get, IfOk, if◌then◌else◌};
 ghost use Rattle.dft_cycle.specs.Machine.{logic, AreNets, is_one_of, IsStart, IsSet, IsStrobed, IsPulsed, pulses, acted};
 ghost use Rattle.dft_cycle.specs.Machine as spec;
-ghost use Rattle.dft_cycle.specs.Circuit.{cell_of, cell_at, force_at, IsCircuit, flag_at as is_up};
+ghost use Rattle.dft_logic.specs.Needs.{AreSeen};
+ghost use Rattle.dft_logic.specs.Circuit.{cell_of, cell_at, force_at, IsCircuit, flag_at as is_up};
 
-use crate::building::compile;
-use crate::circuit::{Acting, Circuit, FlipFlop};
-use crate::flops::forced;
 use crate::rounds::find_least;
-use crate::settling::{Pulse, View, flag_at, settle, value_at};
 use crate::sweeping::settle_again;
-use crate::tables::list_of;
 use dft_base::Tri;
+use dft_logic::{
+    Acting, Circuit, FlipFlop, Pulse, compile, flag_at, forced, list_of, read_list, settle,
+    strobe_view, value_at,
+};
 use dft_netlist::{Design, NetId};
 use std::alloc::{AllocError, Global};
 use std::marker::Model;
@@ -136,6 +136,26 @@ impl<'a> AbstractMachine<'a> {
         value_at(&self.shown, net.0)
     }
 
+    /// The values of nets at a strobe of the machine as it stands, which is seen unchanged.
+    pub fn look(&mut self, nets: &[NetId], values: &mut [Tri])
+        requires { length values.old ≡ length nets.now }
+        ensures same { self.new ≡ self.old }
+        ensures seen { AreSeen (logic self.old) (spec.value_at self.old.inputs) (spec.value_at self.old.cells) nets.now values.new }
+    {
+        let pulse = Pulse {
+            ports: &self.inputs,
+            pulsed: &[],
+            old: &self.cells,
+        };
+        settle_again(
+            &self.circuit,
+            &strobe_view(pulse),
+            &mut self.values,
+            &mut self.marked,
+        );
+        read_list(nets, &self.values, values);
+    }
+
     /// Pulses some clocks, with an entry for each in their order: the flip-flops of their domains take what they may
     /// take in any order of the edges.
     pub fn pulse(&mut self, pulsed: &[bool])
@@ -165,18 +185,6 @@ impl<'a> AbstractMachine<'a> {
             &self.next,
             &mut self.cells,
         );
-    }
-}
-
-/// The view of a strobe: lock-ups are wires.
-fn strobe_view(pulse: Pulse<'_>) -> View<'_, '_, '_>
-    ensures { result ≡ record { pulse = pulse.entry; domain = record { 0 = 0 }; poss = pulse.entry.old; held = None } }
-{
-    View {
-        pulse,
-        domain: NetId(0),
-        poss: pulse.old,
-        held: None,
     }
 }
 

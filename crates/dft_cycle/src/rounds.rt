@@ -6,14 +6,13 @@ ghost use Rattle.dft_base.specs.Tri.{AboveTri};
 ghost use Rattle.dft_abstract.specs.Cycle.{AreViews, IsLeast};
 ghost use Rattle.dft_cycle.specs.Machine.{AreNets};
 ghost use Rattle.dft_cycle.specs.Machine as spec;
-ghost use Rattle.dft_cycle.specs.Circuit.{IsCircuit, IsReady, logic_at, cell_of, cell_at, flag_at as is_up, pulse_at};
+ghost use Rattle.dft_logic.specs.Circuit.{IsCircuit, IsReady, logic_at, cell_of, cell_at, flag_at as is_up, pulse_at};
 ghost use Rattle.dft_cycle.specs.Views.{IsHeld, OwnsLatches, PulsesAmong, HasNext, raised_by, is_known, StaysBelow, AreNext, IsAlone};
 
-use crate::circuit::{Circuit, FlipFlop, Latch};
-use crate::flops::{differ, hold, take_next};
-use crate::settling::{Pulse, View, flag_at};
+use crate::flops::{hold, take_next};
 use crate::sweeping::{change_view, enter, settle_again};
 use dft_base::Tri;
+use dft_logic::{Circuit, FlipFlop, Latch, Pulse, View, differ, flag_at};
 use dft_netlist::NetId;
 
 /// The first clock.

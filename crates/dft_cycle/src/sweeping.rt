@@ -3,14 +3,11 @@
 ghost use Rattle.std.specs.Prelude.{◌≡◌, ◌⊎◌, ℕ, List, ◌<◌, length, true, false};
 ghost use Rattle.dft_netlist.specs.Logic.{reads};
 ghost use Rattle.dft_netlist.specs.Orders.{Has};
-ghost use Rattle.dft_cycle.specs.Circuit.{meaning, op_at, IsCircuit, IsGivenIn, IsGiven, IsReady, flag_at as is_up};
-ghost use Rattle.dft_cycle.specs.Tables.{list_at};
+ghost use Rattle.dft_logic.specs.Circuit.{meaning, op_at, IsCircuit, IsGivenIn, IsGiven, IsReady, flag_at as is_up};
+ghost use Rattle.dft_logic.specs.Tables.{list_at};
 
-use crate::circuit::Circuit;
-use crate::flops::differ;
-use crate::settling::{View, op_value};
-use crate::tables::list_of;
 use dft_base::Tri;
+use dft_logic::{Circuit, View, differ, list_of, op_value};
 use dft_netlist::NetId;
 
 /// Marks these nets.

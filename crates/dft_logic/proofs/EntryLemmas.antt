@@ -12,11 +12,12 @@ use Rattle.dft_netlist.specs.Settled.{value_from}
 use Rattle.dft_abstract.specs.Cycle.{Pulse, tri_forced_by, tri_taken_by, next_value}
 use Rattle.dft_logic.specs.Needs.{HasAll, chosen_reads, taken_reads, reads_at, forced_reads}
 use Rattle.dft_logic.specs.Shows.{Shown, still_needs, HasStillReads}
-use Rattle.dft_logic.specs.Entries.{Entry, Keeps, Takes, Computes, entry_value, net_entry, source_entry, is_still_source, entry_if, chosen_entry, taken_entry, computed, entry_at, forced_entry, entry_given}
-use Rattle.dft_logic.specs.Laws.{EntryIsNext, PassOfEntries, EntryStays}
-use Rattle.dft_logic.proofs.ReadLemmas.{chosen_low, chosen_high}
-use Rattle.dft_logic.proofs.TakeLemmas.{forced_high, forced_known, origin_is_shown}
-use Rattle.dft_logic.proofs.ShownLemmas.{pass_of_shown}
+use Rattle.dft_logic.specs.Entries.{Entry, Keeps, Takes, Follows, Reads, Computes, entry_value, net_entry, source_entry, is_still_source, entry_if, chosen_entry, taken_entry, computed, entry_at, forced_entry, entry_given}
+use Rattle.dft_logic.specs.Laws.{EntryIsNext, PassOfEntries, PassOfNeeded, EntryStays}
+use Rattle.dft_logic.proofs.ReadLemmas.{chosen_low, chosen_high, source_agrees, set_agrees}
+use Rattle.dft_logic.proofs.NeededLemmas.{needed_is_strobe}
+use Rattle.dft_logic.proofs.TakeLemmas.{forced_high, forced_known, origin_is_shown, next_of_strobe}
+use Rattle.dft_logic.proofs.ShownLemmas.{strobe_there, pass_of_shown}
 
 -- ---- an entry that is there
 
@@ -173,3 +174,36 @@ entry_stays l p q origin shown settled other c up ports enable =
     let d : ℕ = (l.cell c).domain in
     up_stays (p.pulsed d) (q.pulsed d) _ _ up
     (forced_stays (l.cell c).force p.ports q.ports _ _ ports (taken_stays (is_still_source d shown) origin (l.cell c).scan (value_from settled) (value_from other) (l.cell c).input enable))
+
+-- ---- from the needed nets alone
+
+-- an entry has the same value from assignments that agree on what it reads
+entry_agrees : (old settled values : ℕ → Tri) (next also : Tri) (c : ℕ) (entry : Entry) → ((net : ℕ) → entry ≡ Reads net → settled net ≡ values net) → (entry ≡ Computes → next ≡ also) →
+    entry_value old settled next c entry ≡ entry_value old values also c entry
+entry_agrees old settled values next also c Keeps reading computing = refl
+entry_agrees old settled values next also c (Takes value) reading computing = refl
+entry_agrees old settled values next also c (Follows cell) reading computing = refl
+entry_agrees old settled values next also c (Reads net) reading computing = reading net refl
+entry_agrees old settled values next also c Computes reading computing = computing refl
+
+pub pass_of_needed : PassOfNeeded
+pass_of_needed l rank p origin shown needs values entries ranked origins on closed given has enables reading computing =
+    let found = strobe_there l rank p.ports p.old ranked in
+    let settled : ℕ → Tri = found.0 in
+    let same : (net : ℕ) → needs net ≡ true → values net ≡ settled net = needed_is_strobe l rank p.ports p.old needs values settled ranked closed given found.1 in
+    let enable : (c : ℕ) (scan : Scan) → (l.cell c).scan ≡ Some scan → value_from values scan.enable ≡ value_from settled scan.enable = λ c scan is.
+    source_agrees values settled scan.enable (set_agrees needs values settled (nets_of (scan.enable ∷ [])) (enables c scan is) same) in
+    let stays : (c : ℕ) → entry_given l p origin shown values c ≡ entry_given l p origin shown settled c = λ c.
+    entry_stays l p p origin shown values settled c refl (λ force is. refl) (enable c) in
+    let pass = pass_of_entries l rank p origin shown settled entries ranked origins on found.1 (λ c. sym (stays c) ∙ has c) in (
+      pass.0,
+      (
+        pass.1.0,
+        (
+          pass.1.1.0,
+          λ c. pass.1.1.1 c
+              ∙ entry_agrees p.old settled values (next_value l p (λ d. settled) c) (next_value l p (λ d. values) c) c (entries c) (λ net is. sym (same net (reading c net is)))
+              (λ is. sym (next_of_strobe l rank p needs values settled ranked closed given found.1 c (computing c is))),
+        ),
+      ),
+    )

@@ -93,7 +93,7 @@ unclocked_views : (l : Logic) (pulsed needs : ℕ → Bool) (shown : ℕ → Sho
 unclocked_views l pulsed needs shown on d net is = no_clock l pulsed shown d net (l.net net) (by_driver l pulsed needs shown on d net is).1
 
 -- a pulse has a strobe before it
-strobe_there : (l : Logic) (rank : ℕ → ℕ) (ports flops : ℕ → Tri) → IsRanked l rank → (settled : ℕ → Tri) × IsStrobe l ports flops settled
+pub strobe_there : (l : Logic) (rank : ℕ → ℕ) (ports flops : ℕ → Tri) → IsRanked l rank → (settled : ℕ → Tri) × IsStrobe l ports flops settled
 strobe_there l rank ports flops ranked =
     let found = family l rank (λ d. strobe_from ports flops flops) (λ d e. d) ranked in
     (found.0 0, found.1 0)

@@ -1,5 +1,5 @@
 -- What need not be settled, and what is settled once.
-use Rattle.std.specs.Prelude.{ℕ, Bool, true, ◌≡◌, List, [], map, Option, Some}
+use Rattle.std.specs.Prelude.{ℕ, Bool, true, ◌≡◌, List, [], ◌∷◌, map, Option, Some}
 use Rattle.dft_base.specs.declared.tri.Tri.{Tri}
 use Rattle.dft_base.specs.declared.tri.Tri.TheVariants.{Zero}
 use Rattle.dft_base.specs.Tri.{known, AboveTri}
@@ -14,7 +14,7 @@ use Rattle.dft_logic.specs.Moves.{IsStill, IsUnclocked}
 use Rattle.dft_logic.specs.Takes.{next_source, AreOrigins}
 use Rattle.dft_logic.specs.Lists.{is_listed, IsListFrom, settled_by}
 use Rattle.dft_logic.specs.Shows.{Shown, is_still, IsShownOn, HasStillReads}
-use Rattle.dft_logic.specs.Entries.{Entry, entry_value, entry_given}
+use Rattle.dft_logic.specs.Entries.{Entry, Reads, Computes, entry_value, entry_given}
 
 -- ---- lock-ups
 
@@ -145,6 +145,15 @@ PassOfEntries =
     (l : Logic) (rank : ℕ → ℕ) (p : Pulse) (origin : ℕ → Option ℕ) (shown : ℕ → Shown) (settled : ℕ → Tri) (entries : ℕ → Entry) → IsRanked l rank → AreOrigins l origin →
     IsShownOn l p.pulsed (λ net. true) shown → IsStrobe l p.ports p.old settled → ((c : ℕ) → entry_given l p origin shown settled c ≡ Some (entries c)) →
     (poss : ℕ → Tri) × ((view : ℕ → ℕ → Tri) × (IsLeast l p poss view × ((c : ℕ) → after_pulse l p view c ≡ entry_value p.old settled (next_value l p (λ d. settled) c) c (entries c))))
+
+-- The same from a set of nets that is settled for the strobe, and has the scan enables and what the entries read.
+abbrev pub PassOfNeeded : Type 0
+PassOfNeeded =
+    (l : Logic) (rank : ℕ → ℕ) (p : Pulse) (origin : ℕ → Option ℕ) (shown : ℕ → Shown) (needs : (net : ℕ) → Bool) (values : ℕ → Tri) (entries : ℕ → Entry) → IsRanked l rank → AreOrigins l origin →
+    IsShownOn l p.pulsed (λ net. true) shown → IsStrobeClosed l needs → IsStrobeOn l p.ports p.old needs values → ((c : ℕ) → entry_given l p origin shown values c ≡ Some (entries c)) →
+    ((c : ℕ) (scan : Scan) → (l.cell c).scan ≡ Some scan → HasAll needs (nets_of (scan.enable ∷ []))) → ((c net : ℕ) → entries c ≡ Reads net → needs net ≡ true) →
+    ((c : ℕ) → entries c ≡ Computes → HasAll needs (nets_of (next_reads (l.cell c) p.ports (value_from values)))) →
+    (poss : ℕ → Tri) × ((view : ℕ → ℕ → Tri) × (IsLeast l p poss view × ((c : ℕ) → after_pulse l p view c ≡ entry_value p.old values (next_value l p (λ d. values) c) c (entries c))))
 
 -- Where the same clocks pulse, and a flip-flop's reset or set port and its scan enable have the same values, it has the same entry.
 abbrev pub EntryStays : Type 0

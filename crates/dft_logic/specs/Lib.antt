@@ -10,3 +10,11 @@ pub mod Takes
 pub mod Lists
 pub mod Entries
 pub mod Laws
+pub mod Values
+pub mod Circuit
+pub mod Tables
+pub mod Compiling
+pub mod Ranks
+pub mod ShownTables
+pub mod EntryTables
+pub mod Takings

@@ -1,6 +1,6 @@
 //! The laws of what has to be settled, as contracts of functions that do nothing.
 
-ghost use Rattle.dft_logic.specs.Laws.{LockupIsInput, LockupIsWire, NeededIsView, NeededIsStrobe, NextOfNeeded, LookOfNeeded, StillIsOne, StillHasOneNext, StillIsStrobe, StillNextIsStrobe, OnePass, ShownIsStrobe, PassOfShown, NextOfStrobe, NextOfSource, NextOfForce, OriginIsShown, EntryIsNext, PassOfEntries, EntryStays, ListIsClosed, ListIsSettled, ViewIsAboveStrobe, NoTwoBits, ViewsRise, ReadsRise};
+ghost use Rattle.dft_logic.specs.Laws.{LockupIsInput, LockupIsWire, NeededIsView, NeededIsStrobe, NextOfNeeded, LookOfNeeded, StillIsOne, StillHasOneNext, StillIsStrobe, StillNextIsStrobe, OnePass, ShownIsStrobe, PassOfShown, NextOfStrobe, NextOfSource, NextOfForce, OriginIsShown, EntryIsNext, PassOfEntries, PassOfNeeded, EntryStays, ListIsClosed, ListIsSettled, ViewIsAboveStrobe, NoTwoBits, ViewsRise, ReadsRise};
 
 /// In every view a lock-up shows its input in the view of its own clock, pulsing or not. At a strobe it is a wire.
 pub fn lockup_shows_input()
@@ -48,6 +48,7 @@ pub fn next_at_strobe()
 pub fn entries_tell()
     ensures next { EntryIsNext }
     ensures pass { PassOfEntries }
+    ensures needed { PassOfNeeded }
     ensures stay { EntryStays }
 {}
 

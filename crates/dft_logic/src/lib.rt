@@ -1,9 +1,35 @@
-//! What of a design's logic has to be settled: its definitions, and its laws as contracts of functions that do nothing.
+//! A design's circuit and settling it, with the laws of what has to be settled.
 #![tactic(auto)]
 
+mod building;
+mod circuit;
+mod compiling;
+mod entries;
+mod flipflops;
 mod laws;
+mod lists;
+mod marks;
+mod needs;
+mod origins;
+mod settling;
+mod shown;
+mod tables;
+mod takings;
+mod wires;
 
+pub use building::compile;
+pub use circuit::{Acting, Circuit, FlipFlop, Latch, Numbers, Op, Operand, Operands, ScanPins};
+pub use entries::{Entry, Sights, find_entries};
+pub use flipflops::forced;
 pub use laws::{
     entries_tell, lists_settle, lockup_shows_input, needed_is_settled, next_at_strobe,
     one_assignment, still_has_one_pass, views_rise,
 };
+pub use lists::{has_row, read_list, settle_list, settle_strobe};
+pub use marks::{lower, mark_entries, mark_forces, mark_nets};
+pub use needs::{list_marked, mark_needed};
+pub use origins::find_origins;
+pub use settling::{Pulse, View, differ, flag_at, op_value, settle, strobe_view, value_at};
+pub use shown::{Shown, show_all};
+pub use tables::list_of;
+pub use takings::{Taking, list_takings, put_all, take_all};

@@ -1,7 +1,7 @@
 -- The lock-ups before this one have their values.
 use Rattle.std.proofs.Common.{◌≡◌, false, length, drop}
 use Rattle.dft_cycle.specs.Machine.{value_at}
-use Rattle.dft_cycle.specs.Circuit.{latch_at}
+use Rattle.dft_logic.specs.Circuit.{latch_at}
 use Rattle.dft_cycle.specs.Views.{held_by}
 use Rattle.dft_cycle.proofs.DomainLemmas.{Listed}
 use Rattle.dft_cycle.proofs.flops.hold.Given as goal

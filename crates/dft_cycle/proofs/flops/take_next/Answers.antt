@@ -3,12 +3,12 @@ use Rattle.std.proofs.Common.{ℕ, List, ◌≡◌, ◌<◌, ◌∙◌, refl, ap
 use Rattle.std.proofs.lemmas.List.{get_or_read}
 use Rattle.dft_base.specs.declared.tri.Tri.{Tri}
 use Rattle.dft_netlist.specs.Logic.{Cell}
-use Rattle.dft_cycle.specs.declared.circuit.FlipFlop.{FlipFlop}
+use Rattle.dft_logic.specs.declared.circuit.FlipFlop.{FlipFlop}
 use Rattle.dft_cycle.specs.Machine.{value_at}
-use Rattle.dft_cycle.specs.Circuit.{cell_of, cell_at}
+use Rattle.dft_logic.specs.Circuit.{cell_of, cell_at}
 use Rattle.dft_cycle.specs.Views.{next_at, next_by}
-use Rattle.dft_cycle.specs.Tables.{list_at}
-use Rattle.dft_cycle.proofs.Writings.{cell_read}
+use Rattle.dft_logic.specs.Tables.{list_at}
+use Rattle.dft_logic.proofs.Writings.{cell_read}
 use Rattle.dft_cycle.proofs.Sweepings.{has_item}
 use Rattle.dft_cycle.proofs.DomainLemmas.{listed_more, cell_listed, next_listed}
 use Rattle.dft_cycle.proofs.flops.take_next.Goals as goal

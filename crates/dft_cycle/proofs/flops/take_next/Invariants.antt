@@ -1,7 +1,7 @@
 -- The flip-flops before this one have their values.
 use Rattle.std.proofs.Common.{length, map, drop}
 use Rattle.dft_cycle.specs.Machine.{value_at}
-use Rattle.dft_cycle.specs.Circuit.{cell_of, cell_at}
+use Rattle.dft_logic.specs.Circuit.{cell_of, cell_at}
 use Rattle.dft_cycle.specs.Views.{next_by}
 use Rattle.dft_cycle.proofs.DomainLemmas.{Listed}
 use Rattle.dft_cycle.proofs.flops.take_next.Given as goal

@@ -1,7 +1,7 @@
 -- The flip-flops before this one were acted on.
 use Rattle.std.proofs.Common.{length, map, drop}
 use Rattle.dft_cycle.specs.Machine.{acted}
-use Rattle.dft_cycle.specs.Circuit.{cell_of, cell_at}
+use Rattle.dft_logic.specs.Circuit.{cell_of, cell_at}
 use Rattle.dft_cycle.proofs.DomainLemmas.{Listed}
 use Rattle.dft_cycle.proofs.machine.act.Given as goal
 

@@ -2,7 +2,7 @@
 use Rattle.std.proofs.Common.{ℕ, ◌<◌, ◌||◌, ◌∙◌, Bool, List, ap, length, get_or, arith}
 use Rattle.std.proofs.lemmas.Option.{slice_get-get_or}
 use Rattle.dft_cycle.specs.Machine.{is_one_of}
-use Rattle.dft_cycle.specs.Circuit.{flag_at}
+use Rattle.dft_logic.specs.Circuit.{flag_at}
 use Rattle.dft_cycle.proofs.MachineLemmas.{down_all, flag_more, flag_end}
 use Rattle.dft_cycle.proofs.machine.flag_clocks.Goals as goal
 

@@ -1,7 +1,7 @@
 -- The clocks so far are flagged.
 use Rattle.std.proofs.Common.{ℕ, ◌≡◌, ◌||◌, drop}
 use Rattle.dft_cycle.specs.Machine.{is_one_of}
-use Rattle.dft_cycle.specs.Circuit.{flag_at}
+use Rattle.dft_logic.specs.Circuit.{flag_at}
 use Rattle.dft_cycle.proofs.machine.flag_clocks.Given as goal
 
 abbrev pub invariant-loop-clock : goal.invariant-loop-clock

@@ -1,7 +1,7 @@
 -- No flag is up; then those of the entries so far.
 use Rattle.std.proofs.Common.{ℕ, ◌≡◌, ◌<◌, ◌||◌, false, drop}
 use Rattle.dft_cycle.specs.Machine.{pulses}
-use Rattle.dft_cycle.specs.Circuit.{flag_at}
+use Rattle.dft_logic.specs.Circuit.{flag_at}
 use Rattle.dft_cycle.proofs.machine.mark.Given as goal
 
 abbrev pub invariant-loop-flag : goal.invariant-loop-flag

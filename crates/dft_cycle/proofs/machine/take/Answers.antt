@@ -6,8 +6,8 @@ use Rattle.dft_base.specs.declared.tri.Tri.{Tri}
 use Rattle.dft_base.specs.declared.tri.Tri.TheVariants.{Zero, Unknown}
 use Rattle.dft_netlist.specs.Logic.{Cell}
 use Rattle.dft_cycle.specs.Machine.{value_at}
-use Rattle.dft_cycle.specs.Circuit.{cell_of, cell_at, flag_at}
-use Rattle.dft_cycle.proofs.Writings.{write_read, cell_read}
+use Rattle.dft_logic.specs.Circuit.{cell_of, cell_at, flag_at}
+use Rattle.dft_logic.proofs.Writings.{write_read, cell_read}
 use Rattle.dft_cycle.proofs.machine.take.Goals as goal
 
 pub loop-place-preserved : goal.loop-place-preserved

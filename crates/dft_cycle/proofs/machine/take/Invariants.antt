@@ -2,8 +2,8 @@
 use Rattle.std.proofs.Common.{map}
 use Rattle.std.specs.Prelude.{if◌then◌else◌}
 use Rattle.dft_cycle.specs.Machine.{value_at}
-use Rattle.dft_cycle.specs.Circuit.{cell_of, cell_at, flag_at}
-use Rattle.dft_cycle.proofs.Writings.{Written}
+use Rattle.dft_logic.specs.Circuit.{cell_of, cell_at, flag_at}
+use Rattle.dft_logic.proofs.Writings.{Written}
 use Rattle.dft_cycle.proofs.machine.take.Given as goal
 
 abbrev pub invariant-loop-place : goal.invariant-loop-place

@@ -3,7 +3,7 @@ use Rattle.std.proofs.lemmas.Bool.{ltb-true}
 use Rattle.std.proofs.Common.{◌<◌, ◌∙◌, sym, ap, List, Option, arith}
 use Rattle.std.specs.Prelude.{is_some}
 use Rattle.std.specs.List.{list_any}
-use Rattle.dft_cycle.specs.declared.circuit.Latch.{Latch}
+use Rattle.dft_logic.specs.declared.circuit.Latch.{Latch}
 use Rattle.dft_cycle.proofs.AloneLemmas.{alone_of}
 use Rattle.dft_cycle.proofs.rounds.is_alone.Goals as goal
 

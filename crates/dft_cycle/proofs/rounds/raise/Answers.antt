@@ -5,9 +5,9 @@ use Rattle.dft_base.specs.declared.tri.Tri.{Tri}
 use Rattle.dft_base.specs.declared.tri.Tri.TheVariants.{Zero, Unknown}
 use Rattle.dft_netlist.specs.Logic.{Cell}
 use Rattle.dft_cycle.specs.Machine.{value_at}
-use Rattle.dft_cycle.specs.Circuit.{cell_of, cell_at, flag_at}
+use Rattle.dft_logic.specs.Circuit.{cell_of, cell_at, flag_at}
 use Rattle.dft_cycle.specs.Views.{raised_by}
-use Rattle.dft_cycle.proofs.Writings.{write_read, cell_read}
+use Rattle.dft_logic.proofs.Writings.{write_read, cell_read}
 use Rattle.dft_cycle.proofs.Risings.{Raised, raise_step, or_true, or_false}
 use Rattle.dft_cycle.proofs.rounds.raise.Goals as goal
 use Rattle.dft_cycle.proofs.rounds.raise.Goals.{then-changed, else-changed}

@@ -1,9 +1,9 @@
 -- The flip-flops before this one are joined.
 use Rattle.std.proofs.Common.{map}
 use Rattle.dft_cycle.specs.Machine.{value_at}
-use Rattle.dft_cycle.specs.Circuit.{cell_of, cell_at, flag_at}
+use Rattle.dft_logic.specs.Circuit.{cell_of, cell_at, flag_at}
 use Rattle.dft_cycle.specs.Views.{raised_by}
-use Rattle.dft_cycle.proofs.Writings.{Written}
+use Rattle.dft_logic.proofs.Writings.{Written}
 use Rattle.dft_cycle.proofs.Risings.{Raised}
 use Rattle.dft_cycle.proofs.rounds.raise.Given as goal
 

@@ -3,7 +3,7 @@ use Rattle.std.proofs.Common.{List, ◌≡◌, ◌∙◌, inl, inr, subst}
 use Rattle.dft_base.specs.declared.tri.Tri.{Tri}
 use Rattle.dft_abstract.specs.Cycle.{AreViews}
 use Rattle.dft_cycle.specs.Machine.{value_at}
-use Rattle.dft_cycle.specs.Circuit.{logic_at, pulse_at}
+use Rattle.dft_logic.specs.Circuit.{logic_at, pulse_at}
 use Rattle.dft_cycle.proofs.AloneLemmas.{turn_alone}
 use Rattle.dft_cycle.proofs.Risings.{turn_above, turn_below, turn_done}
 use Rattle.dft_cycle.proofs.rounds.turn.Goals as goal

@@ -1,7 +1,7 @@
 -- Each net that is not marked has its driver's value.
 use Rattle.std.proofs.Common.{ℕ, List, ◌∙◌, ap}
-use Rattle.dft_cycle.specs.Circuit.{IsGiven}
-use Rattle.dft_cycle.specs.Tables.{list_at}
+use Rattle.dft_logic.specs.Circuit.{IsGiven}
+use Rattle.dft_logic.specs.Tables.{list_at}
 use Rattle.dft_cycle.proofs.Sweepings.{both_refreshed}
 use Rattle.dft_cycle.proofs.sweeping.change_view.Goals as goal
 

@@ -2,12 +2,12 @@
 use Rattle.std.proofs.Common.{ℕ, List, Option, map, ◌≡◌, ◌<◌, ◌∙◌, ap, length, arith}
 use Rattle.std.proofs.lemmas.List.{get_or_read}
 use Rattle.dft_base.specs.declared.tri.Tri.{Tri}
-use Rattle.dft_cycle.specs.declared.circuit.Op.{Op}
-use Rattle.dft_cycle.specs.declared.circuit.Op.TheVariants.{Free}
+use Rattle.dft_logic.specs.declared.circuit.Op.{Op}
+use Rattle.dft_logic.specs.declared.circuit.Op.TheVariants.{Free}
 use Rattle.dft_netlist.specs.Settled.{TriSources, value_given}
 use Rattle.dft_cycle.specs.Machine.{value_at}
-use Rattle.dft_cycle.specs.Circuit.{cell_of, meaning, leaves_from, view_base, held_in}
-use Rattle.dft_cycle.specs.Tables.{list_at}
+use Rattle.dft_logic.specs.Circuit.{cell_of, meaning, leaves_from, view_base, held_in}
+use Rattle.dft_logic.specs.Tables.{list_at}
 use Rattle.dft_cycle.proofs.Sweepings.{written, blind}
 use Rattle.dft_cycle.proofs.sweeping.renew.Goals as goal
 

@@ -1,7 +1,7 @@
 -- Each net that is not marked has its driver's value.
 use Rattle.std.proofs.Common.{ℕ, List, map, ◌∙◌, ap}
-use Rattle.dft_cycle.specs.Circuit.{base_of, cell_of, pulse_at, held_in}
-use Rattle.dft_cycle.specs.Tables.{list_at}
+use Rattle.dft_logic.specs.Circuit.{base_of, cell_of, pulse_at, held_in}
+use Rattle.dft_logic.specs.Tables.{list_at}
 use Rattle.dft_cycle.proofs.DomainLemmas.{ready_refreshed}
 use Rattle.dft_cycle.proofs.sweeping.settle_again.Goals as goal
 

@@ -5,7 +5,7 @@ use Rattle.dft_base.specs.declared.tri.Tri.{Tri}
 use Rattle.dft_netlist.specs.declared.ids.NetId.{NetId}
 use Rattle.dft_abstract.specs.Cycle.{Pulse}
 use Rattle.dft_cycle.specs.Machine.{Machine, logic, value_at, pulses, IsPulsed}
-use Rattle.dft_cycle.specs.Circuit.{flag_at, logic_at}
+use Rattle.dft_logic.specs.Circuit.{flag_at, logic_at}
 use Rattle.dft_cycle.specs.Views.{Among}
 use Rattle.dft_cycle.specs.MachineShown.{machine_of}
 use Rattle.dft_cycle.proofs.MachineLemmas.{refilled, filled, clear_kept, ready_kept, pulse_done, taken_read, pulses_among}

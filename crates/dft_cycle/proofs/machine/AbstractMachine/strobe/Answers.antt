@@ -4,8 +4,8 @@ use Rattle.std.specs.Vec.{with_items}
 use Rattle.dft_base.specs.declared.tri.Tri.{Tri}
 use Rattle.dft_cycle.specs.Machine.{Machine, logic, value_at, IsStrobed}
 use Rattle.dft_cycle.specs.MachineShown.{machine_of}
-use Rattle.dft_cycle.specs.declared.settling.View.{View}
-use Rattle.dft_cycle.specs.Circuit.{logic_at, IsGivenIn}
+use Rattle.dft_logic.specs.declared.settling.View.{View}
+use Rattle.dft_logic.specs.Circuit.{logic_at, IsGivenIn}
 use Rattle.dft_cycle.proofs.DomainLemmas.{ready_view}
 use Rattle.dft_cycle.proofs.MachineLemmas.{refilled, filled, strobed, clear_kept, ready_kept}
 use Rattle.dft_cycle.proofs.machine.AbstractMachine.strobe.Goals as goal

@@ -1,6 +1,0 @@
--- The instances before this one.
-use Rattle.dft_cycle.specs.Compiling.{ports_by, AreFlops}
-use Rattle.dft_cycle.proofs.building.flops.Given as goal
-
-abbrev pub invariant-loop-number : goal.invariant-loop-number
-invariant-loop-number l = AreFlops l.design (ports_by l.flags) l.number l.flops.items

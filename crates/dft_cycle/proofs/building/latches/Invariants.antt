@@ -1,6 +1,0 @@
--- The instances before this one.
-use Rattle.dft_cycle.specs.Compiling.{ports_by, AreLatches}
-use Rattle.dft_cycle.proofs.building.latches.Given as goal
-
-abbrev pub invariant-loop-number : goal.invariant-loop-number
-invariant-loop-number l = AreLatches l.design (ports_by l.flags) l.number l.latches.items

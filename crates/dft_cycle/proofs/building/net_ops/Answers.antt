@@ -1,8 +1,0 @@
--- One net more has its op.
-use Rattle.dft_cycle.specs.Compiling.{ports_by}
-use Rattle.dft_cycle.proofs.BuildLemmas.{op_pushed}
-use Rattle.dft_cycle.proofs.building.net_ops.Goals as goal
-
-pub loop-net-preserved : goal.loop-net-preserved
-loop-net-preserved c =
-    op_pushed c.args.design.now (ports_by c.args.flags.now) c.loop-net.ops.items c.push.new.self.items c.in_ok-net_op.field-0 c.loop-net.net c.loop-net.invariant.count c.in_ok-push.ensures.items c.loop-net.invariant.each c.in_ok-net_op.ensures

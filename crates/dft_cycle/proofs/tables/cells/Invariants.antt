@@ -1,8 +1,0 @@
--- The flip-flops before this one are listed.
-use Rattle.std.proofs.Common.{map, [], ◌∷◌}
-use Rattle.dft_cycle.specs.Circuit.{cell_of, cell_at}
-use Rattle.dft_cycle.specs.Tables.{IsTable}
-use Rattle.dft_cycle.proofs.tables.cells.Given as goal
-
-abbrev pub invariant-loop-place : goal.invariant-loop-place
-invariant-loop-place l = IsTable l.nets l.place (λ c. (cell_at (map cell_of l.flops) c).domain ∷ []) l.table.items

@@ -1,0 +1,192 @@
+-- A circuit whose nets and instances are those of a design means what the design does.
+use Rattle.std.proofs.Common.{ℕ, zero, suc, Bool, true, false, List, [], ◌∷◌, ◌≡◌, ◌<◌, ◌≤◌, Option, None, Some, inl, inr, length, map, refl, sym, ap, ◌∙◌, subst, slice_get, arith}
+use Rattle.std.specs.Prelude.{if◌then◌else◌}
+use Rattle.std.specs.List.{AllByRecursion}
+use Rattle.std.proofs.lemmas.Bool.Decides.{leb_tells}
+use Rattle.std.proofs.lemmas.List.{get_or_past, length-map}
+use Rattle.dft_cells.specs.declared.kind.Kind.{Kind}
+use Rattle.dft_cells.specs.declared.kind.Kind.TheVariants as kind
+use Rattle.dft_cells.specs.declared.kind.Role.{Role}
+use Rattle.dft_cells.specs.declared.kind.Role.TheVariants.{Input, Clock, Din, Reset, Preset, ScanIn, ScanEnable, Output, Inverted}
+use Rattle.dft_cells.specs.FlipFlops.{is_flip_flop}
+use Rattle.dft_netlist.specs.declared.ids.NetId.{NetId}
+use Rattle.dft_netlist.specs.declared.instance.Instance.{Instance}
+use Rattle.dft_netlist.specs.Netlist.{Netlist}
+use Rattle.dft_netlist.specs.Sound.{IsNetlist}
+use Rattle.dft_netlist.specs.Traces.{Root, Port, Constant, Other, root_of}
+use Rattle.dft_netlist.specs.Drivers.{Source, Net, Tied, Loose, Driver, Connection, source_of, kind_of, kind_at, pins_of, driver, nets_of, nets_read, is_lockup_input, lockup_inputs}
+use Rattle.dft_netlist.specs.Drivers as drivers
+use Rattle.dft_netlist.specs.Logic.{Ports, Cell, Meaning, same_role, pin_of, or_loose, domain_of, domain_at, flip_flop, modelled_of, no_cell, cell_or_none, flop_meaning, lockup_meaning, meaning_of, logic_of, reads}
+use Rattle.dft_netlist.specs.Logic as meanings
+use Rattle.dft_netlist.specs.Orders.{Has, IsOrderFrom, IsOrder, numbers_of}
+use Rattle.dft_logic.specs.declared.circuit.Op.{Op}
+use Rattle.dft_logic.specs.declared.circuit.Op.TheVariants.{Free}
+use Rattle.dft_logic.specs.declared.circuit.Latch.{Latch}
+use Rattle.dft_logic.specs.declared.circuit.Circuit.{Circuit}
+use Rattle.dft_logic.specs.Circuit.{AreTables, meaning, Fits, op_at, cell_of, cell_at, latch_of, latch_at, logic_at, AreOrdered}
+use Rattle.dft_logic.specs.Compiling.{found_in, wired_by, with_source, latch_in, latch_kept, kept_latch, IsOpOf, AreFlops, AreLatches, IsCircuitOf}
+use Rattle.dft_logic.proofs.Writings.{cell_read, cell_past}
+use Rattle.dft_logic.proofs.Pasts.{past_free}
+
+-- ---- lock-ups by instance
+
+pub latch_live : (latches : List (Option Latch)) (c : ℕ) (found : ℕ × Source) → latch_at latches c ≡ Some found → c < length latches
+latch_live latches c found is = elim (leb_tells (length latches) c) [
+  | inl out ↦ (let e = ap latch_of (get_or_past latches c None out.1) in let q : latch_of None ≡ Some found = sym e ∙ is in absurd (cc))
+  | inr live ↦ live.1
+]
+
+-- ---- what a meaning reads, its driver reads
+
+first_all : (P : ℕ → Type 0) (source : Source) (sources : List Source) → AllByRecursion P (nets_of (source ∷ sources)) → AllByRecursion P (nets_of (source ∷ []))
+first_all P (Net net) sources all = (all.0, tt)
+first_all P (Tied bit) sources all = tt
+first_all P (Loose i pin) sources all = tt
+
+rest_all : (P : ℕ → Type 0) (source : Source) (sources : List Source) → AllByRecursion P (nets_of (source ∷ sources)) → AllByRecursion P (nets_of sources)
+rest_all P (Net net) sources all = all.1
+rest_all P (Tied bit) sources all = all
+rest_all P (Loose i pin) sources all = all
+
+data_step : (P : ℕ → Type 0) (i : ℕ) (role : Role) (source : Source) (rest : List Source) (found : Option Source) →
+    (AllByRecursion P (nets_of rest) → AllByRecursion P (nets_of (or_loose i found ∷ []))) →
+    AllByRecursion P (nets_of (if is_lockup_input role then source ∷ rest else rest)) → AllByRecursion P (nets_of (or_loose i (if same_role Din role then Some source else found) ∷ []))
+data_step P i Din source rest found ih all = first_all P source rest all
+data_step P i Clock source rest found ih all = ih (rest_all P source rest all)
+data_step P i Input source rest found ih all = ih all
+data_step P i Reset source rest found ih all = ih all
+data_step P i Preset source rest found ih all = ih all
+data_step P i ScanIn source rest found ih all = ih all
+data_step P i ScanEnable source rest found ih all = ih all
+data_step P i Output source rest found ih all = ih all
+data_step P i Inverted source rest found ih all = ih all
+
+data_all : (P : ℕ → Type 0) (i : ℕ) (pins : List Connection) → AllByRecursion P (nets_of (lockup_inputs i pins)) → AllByRecursion P (nets_of (or_loose i (pin_of Din i pins) ∷ []))
+data_all P i [] all = tt
+data_all P i (c ∷ pins) all = data_step P i c.role (source_of i c.pin c.to) (lockup_inputs i pins) (pin_of Din i pins) (data_all P i pins) all
+
+lockup_all : (P : ℕ → Type 0) (i : ℕ) (domain : Option ℕ) (source : Source) → AllByRecursion P (nets_of (source ∷ [])) → AllByRecursion P (reads (lockup_meaning i domain source))
+lockup_all P i None source all = tt
+lockup_all P i (Some domain) source all = all
+
+flop_all : (P : ℕ → Type 0) (i : ℕ) (inverted : Bool) (cell : Option Cell) → AllByRecursion P (reads (flop_meaning i inverted cell))
+flop_all P i inverted None = tt
+flop_all P i inverted (Some cell) = tt
+
+input_all : (P : ℕ → Type 0) (is_clock : Bool) → AllByRecursion P (reads (if is_clock then meanings.Clock else meanings.Input))
+input_all P true = tt
+input_all P false = tt
+
+meaning_all : (n : Netlist) (ports : Ports) (P : ℕ → Type 0) (net : ℕ) (d : Driver) → AllByRecursion P (nets_read n d) → AllByRecursion P (reads (meaning_of n ports net d))
+meaning_all n ports P net drivers.Input all = input_all P (ports.is_clock net)
+meaning_all n ports P net (drivers.Gate k inputs) all = all
+meaning_all n ports P net (drivers.Joined source) all = all
+meaning_all n ports P net (drivers.Flop i inverted) all = flop_all P i inverted (flip_flop n ports i)
+meaning_all n ports P net (drivers.Lockup i) all = lockup_all P i (domain_at n ports (pin_of Clock i (pins_of n i))) (or_loose i (pin_of Din i (pins_of n i))) (data_all P i (pins_of n i) all)
+meaning_all n ports P net drivers.Free all = tt
+
+ordered_from : (n : Netlist) (ports : Ports) (ops : List Op) → length ops ≡ length n.nets → ((k : ℕ) → meaning (op_at ops k) ≡ (logic_of n ports).net k) → (nets before : List ℕ) → IsOrderFrom n before nets → AreOrdered ops before nets
+ordered_from n ports ops size means [] before ordered = tt
+ordered_from n ports ops size means (net ∷ nets) before ordered =
+    let R : Meaning → Type 0 = λ m. AllByRecursion (Has before) (reads m) in
+    let live : net < length ops = (let l : net < length n.nets = ordered.1 in omega arith) in
+    (ordered.0, live, subst R (sym (means net)) (meaning_all n ports (Has before) net (driver n net) ordered.2), ordered_from n ports ops size means nets (net ∷ before) ordered.3)
+
+-- ---- past the end
+
+none_at : {X : Type 0} (xs : List X) (i : ℕ) → length xs ≤ i → slice_get xs i ≡ None
+none_at [] i far = refl
+none_at (x ∷ xs) zero far = absurd (omega arith)
+none_at (x ∷ xs) (suc i) far = none_at xs i (omega arith)
+
+past_cell : (n : Netlist) (ports : Ports) (i : ℕ) → length n.instances ≤ i → (logic_of n ports).cell i ≡ no_cell i
+past_cell n ports i far =
+    let P : Option Instance → Cell = λ o. cell_or_none i (if is_flip_flop (kind_of n.library o) then modelled_of n ports i (pins_of n i) else None) in
+    ap P (none_at n.instances i far)
+
+-- ---- a lock-up's domain is a clock
+
+kept_is : (k : Kind) (latch : Option (ℕ × Source)) (found : ℕ × Source) → latch_kept k latch ≡ Some found → latch ≡ Some found
+kept_is kind.Lockup latch found h = h
+kept_is kind.Opaque latch found h = absurd cc
+kept_is kind.Dff latch found h = absurd cc
+kept_is kind.Dffr latch found h = absurd cc
+kept_is kind.Dffs latch found h = absurd cc
+kept_is kind.Sdff latch found h = absurd cc
+kept_is kind.Sdffr latch found h = absurd cc
+kept_is kind.Sdffs latch found h = absurd cc
+kept_is kind.Buf latch found h = absurd cc
+kept_is kind.Inv latch found h = absurd cc
+kept_is kind.And latch found h = absurd cc
+kept_is kind.Nand latch found h = absurd cc
+kept_is kind.Or latch found h = absurd cc
+kept_is kind.Nor latch found h = absurd cc
+kept_is kind.Xor latch found h = absurd cc
+kept_is kind.Xnor latch found h = absurd cc
+kept_is kind.Mux2 latch found h = absurd cc
+kept_is (kind.Table number) latch found h = absurd cc
+kept_is kind.Tie0 latch found h = absurd cc
+kept_is kind.Tie1 latch found h = absurd cc
+
+pair_same : (p q : ℕ × Source) → Some p ≡ Some q → p ≡ q
+pair_same p q h = cc
+
+sourced : (s : Source) (domain : Option ℕ) (e : ℕ) (source : Source) → with_source s domain ≡ Some (e, source) → domain ≡ Some e
+sourced s None e source h = absurd cc
+sourced s (Some d) e source h = ap (λ (p : ℕ × Source). Some p.0) (pair_same (d, s) (e, source) h)
+
+port_clock : (ports : Ports) (net e : ℕ) (b : Bool) → ports.is_clock net ≡ b → (if b then Some net else None) ≡ Some e → ports.is_clock e ≡ true
+port_clock ports net e true is h = (let q : net ≡ e = cc in sym (ap ports.is_clock q) ∙ is)
+port_clock ports net e false is h = absurd cc
+
+root_clock : (ports : Ports) (root : Root) (e : ℕ) → domain_of ports root ≡ Some e → ports.is_clock e ≡ true
+root_clock ports (Port net) e h = port_clock ports net e (ports.is_clock net) refl h
+root_clock ports (Constant bit) e h = absurd cc
+root_clock ports Other e h = absurd cc
+
+domain_clock : (n : Netlist) (ports : Ports) (source : Option Source) (e : ℕ) → domain_at n ports source ≡ Some e → ports.is_clock e ≡ true
+domain_clock n ports None e h = absurd cc
+domain_clock n ports (Some source) e h = root_clock ports (root_of n source) e h
+
+-- ---- the circuit
+
+pub circuit_of : (n : Netlist) (ports : Ports) (x : Circuit) → IsNetlist n → IsOrder n (numbers_of x.order.items) → length x.ops.items ≡ length n.nets →
+    ((net : ℕ) → net < length n.nets → IsOpOf n ports net (op_at x.ops.items net)) → AreFlops n ports (length n.instances) x.flops.items → AreLatches n ports (length n.instances) x.latches.items →
+    AreTables x → IsCircuitOf n ports x
+unfolding logic_at
+circuit_of n ports x sound order size each flops latches tables =
+    let means : (k : ℕ) → meaning (op_at x.ops.items k) ≡ (logic_of n ports).net k = λ k. elim (leb_tells (length n.nets) k) [
+      | inl out ↦ (let far : length x.ops.items ≤ k = omega (arith, out.1) in ap meaning (get_or_past x.ops.items k Free far) ∙ sym (ap (meaning_of n ports k) (past_free n k sound out.1)))
+      | inr live ↦ (each k live.1).means
+    ] in
+    let cells : (c : ℕ) → cell_at (map cell_of x.flops.items) c ≡ (logic_of n ports).cell c = λ c. elim (leb_tells (length n.instances) c) [
+      | inl out ↦ (let s = flops.size in let far : length x.flops.items ≤ c = omega (arith, out.1) in cell_past x.flops.items c far ∙ sym (past_cell n ports c out.1))
+      | inr live ↦ (let s = flops.size in let here : c < length x.flops.items = omega (arith, live.1) in sym (cell_read x.flops.items c _ here) ∙ flops.each c live.1)
+    ] in
+    record {
+      circuit = record {
+        fits = λ k. elim (leb_tells (length n.nets) k) [
+          | inl out ↦ (let far : length x.ops.items ≤ k = omega (arith, out.1) in subst Fits (sym (get_or_past x.ops.items k Free far)) tt)
+          | inr live ↦ (each k live.1).fits
+        ];
+        whole = λ k live. order.whole k (omega arith);
+        after = ordered_from n ports x.ops.items size means (numbers_of x.order.items) [] order.after;
+        count = sym (length-map x.order.items (λ (net : NetId). net.0)) ∙ order.count ∙ sym size;
+        latched = λ k c e source h. elim (leb_tells (length n.nets) k) [
+          | inl out ↦ (let far : length x.ops.items ≤ k = omega (arith, out.1) in let f = ap meaning (get_or_past x.ops.items k Free far) in let g : meaning Free ≡ meanings.Lockup c e source = sym f ∙ h in absurd cc)
+          | inr live ↦ (let found = (each k live.1).latch c e source h in latches.each c found.0 ∙ found.1)
+        ];
+        instances = latches.size ∙ sym flops.size;
+        tables = tables;
+      };
+      compiled = λ i. record { net = λ k. sym (means k) i; cell = λ c. sym (cells c) i };
+      clocked = λ c e source h.
+          (let less = latch_live x.latches.items c (e, source) h in
+          let s = latches.size in
+          let live : c < length n.instances = omega arith in
+          let kept : kept_latch n ports c ≡ Some (e, source) = sym (latches.each c live) ∙ h in
+          let is = kept_is (kind_at n c) (latch_in n ports c (map (wired_by c) (pins_of n c))) (e, source) kept in
+          domain_clock n ports (found_in Clock (map (wired_by c) (pins_of n c))) e (sourced _ (domain_at n ports (found_in Clock (map (wired_by c) (pins_of n c)))) e source is));
+      nets = size;
+      instances = flops.size;
+    }

@@ -1,0 +1,294 @@
+-- What a net is that is joined to an output pin, from the pins of the instance.
+use Rattle.std.proofs.Common.{ℕ, zero, suc, Bool, true, false, List, [], ◌∷◌, ◌≡◌, ◌<◌, ◌++◌, Option, None, Some, length, map, refl, sym, ap, ◌∙◌, subst, slice_get, arith}
+use Rattle.std.specs.Prelude.{if◌then◌else◌, replicate, IsTrue}
+use Rattle.std.proofs.lemmas.List.{length-map}
+use Rattle.std.proofs.lemmas.Option.{slice_get_within}
+use Rattle.dft_cells.specs.declared.kind.Kind.{Kind}
+use Rattle.dft_cells.specs.declared.kind.Kind.TheVariants as kind
+use Rattle.dft_cells.specs.declared.kind.Role.{Role}
+use Rattle.dft_cells.specs.declared.kind.Role.TheVariants as role
+use Rattle.dft_cells.specs.FlipFlops.{is_flip_flop}
+use Rattle.dft_cells.specs.WellFormed.{TakesInputs, GateRoles, HasRoles, IsWellFormed, role_of}
+use Rattle.dft_netlist.specs.declared.instance.Signal.{Signal}
+use Rattle.dft_cells.specs.declared.cell.Cell.{Cell as ACell}
+use Rattle.dft_netlist.specs.declared.instance.Instance.{Instance}
+use Rattle.dft_netlist.specs.declared.instance.CellRef.{CellRef}
+use Rattle.dft_netlist.specs.declared.instance.CellRef.TheVariants as cell_ref
+use Rattle.dft_base.specs.Lexing.{Text}
+use Rattle.dft_netlist.specs.Sound.{IsNetlist, IsCellOf, is_primitive}
+use Rattle.dft_netlist.specs.Netlist.{Netlist}
+use Rattle.dft_netlist.specs.Drivers.{Source, Connection, source_of, is_input, inputs_of, gate_roles, shape_of_cell, shape_of, connections_from, driver_of_kind, driver, kind_of, kind_at, pins_at, pins_of}
+use Rattle.dft_netlist.specs.Logic.{Ports, Cell, Meaning, Gate, Lockup, Free, Input, Clock, Joined, Flop, same_role, pin_of, or_loose, domain_at, forcing, scan_of, modelled, modelled_of, flip_flop, lockup_meaning, flop_meaning, meaning_of}
+use Rattle.dft_logic.specs.declared.circuit.Op.{Op}
+use Rattle.dft_logic.specs.declared.circuit.Op.TheVariants as op
+use Rattle.dft_logic.specs.Circuit.{source_at, meaning, Fits}
+use Rattle.dft_logic.specs.Compiling.{Wired, wired_by, inputs_in, found_in, modelled_in, latch_in, with_source, meaning_in, latch_kept, kept_latch, IsOpOf}
+
+-- ---- pins as wires
+
+found_step : (t : Bool) (s : Source) (a b : Option Source) → a ≡ b → (if t then Some s else a) ≡ (if t then Some s else b)
+found_step true s a b e = refl
+found_step false s a b e = e
+
+pub found_same : (r : Role) (i : ℕ) (pins : List Connection) → found_in r (map (wired_by i) pins) ≡ pin_of r i pins
+found_same r i [] = refl
+found_same r i (c ∷ pins) = found_step (same_role r c.role) (source_of i c.pin c.to) _ _ (found_same r i pins)
+
+inputs_step : (t : Bool) (s : Source) (a b : List Source) → a ≡ b → (if t then s ∷ a else a) ≡ (if t then s ∷ b else b)
+inputs_step true s a b e = ap (λ (l : List Source). s ∷ l) e
+inputs_step false s a b e = e
+
+pub inputs_same : (i : ℕ) (pins : List Connection) → inputs_in (map (wired_by i) pins) ≡ inputs_of i pins
+inputs_same i [] = refl
+inputs_same i (c ∷ pins) = inputs_step (is_input c.role) (source_of i c.pin c.to) _ _ (inputs_same i pins)
+
+pub modelled_same : (n : Netlist) (ports : Ports) (i : ℕ) (pins : List Connection) → modelled_in n ports i (map (wired_by i) pins) ≡ modelled_of n ports i pins
+modelled_same n ports i pins = λ t.
+    modelled (domain_at n ports (found_same role.Clock i pins t)) (forcing n ports (found_same role.Reset i pins t) (found_same role.Preset i pins t))
+    (or_loose i (found_same role.Din i pins t)) (scan_of (found_same role.ScanEnable i pins t) (found_same role.ScanIn i pins t))
+
+flop_same : (n : Netlist) (ports : Ports) (i : ℕ) (inverted : Bool) (k : Kind) → is_flip_flop k ≡ true → k ≡ kind_at n i →
+    flop_meaning i inverted (modelled_in n ports i (map (wired_by i) (pins_of n i))) ≡ flop_meaning i inverted (flip_flop n ports i)
+flop_same n ports i inverted k clocked e =
+    ap (flop_meaning i inverted) (modelled_same n ports i (pins_of n i)
+    ∙ sym (ap (λ (b : Bool). if b then modelled_of n ports i (pins_of n i) else None) (sym (ap is_flip_flop e) ∙ clocked)))
+
+lockup_same : (n : Netlist) (ports : Ports) (i : ℕ) (pins : List Connection) →
+    lockup_meaning i (domain_at n ports (found_in role.Clock (map (wired_by i) pins))) (or_loose i (found_in role.Din (map (wired_by i) pins)))
+    ≡ lockup_meaning i (domain_at n ports (pin_of role.Clock i pins)) (or_loose i (pin_of role.Din i pins))
+lockup_same n ports i pins = λ t. lockup_meaning i (domain_at n ports (found_same role.Clock i pins t)) (or_loose i (found_same role.Din i pins t))
+
+gate_same : (k : Kind) (i : ℕ) (pins : List Connection) → Gate k (inputs_in (map (wired_by i) pins)) ≡ Gate k (inputs_of i pins)
+gate_same k i pins = ap (Gate k) (inputs_same i pins)
+
+pub meaning_same : (n : Netlist) (ports : Ports) (net i : ℕ) (inverted : Bool) (k : Kind) → k ≡ kind_at n i →
+    meaning_in n ports i k inverted (map (wired_by i) (pins_of n i)) ≡ meaning_of n ports net (driver_of_kind k i inverted (inputs_of i (pins_of n i)))
+meaning_same n ports net i inverted kind.Opaque e = refl
+meaning_same n ports net i inverted kind.Lockup e = lockup_same n ports i (pins_of n i)
+meaning_same n ports net i inverted kind.Dff e = flop_same n ports i inverted kind.Dff refl e
+meaning_same n ports net i inverted kind.Dffr e = flop_same n ports i inverted kind.Dffr refl e
+meaning_same n ports net i inverted kind.Dffs e = flop_same n ports i inverted kind.Dffs refl e
+meaning_same n ports net i inverted kind.Sdff e = flop_same n ports i inverted kind.Sdff refl e
+meaning_same n ports net i inverted kind.Sdffr e = flop_same n ports i inverted kind.Sdffr refl e
+meaning_same n ports net i inverted kind.Sdffs e = flop_same n ports i inverted kind.Sdffs refl e
+meaning_same n ports net i inverted kind.Buf e = gate_same kind.Buf i (pins_of n i)
+meaning_same n ports net i inverted kind.Inv e = gate_same kind.Inv i (pins_of n i)
+meaning_same n ports net i inverted kind.And e = gate_same kind.And i (pins_of n i)
+meaning_same n ports net i inverted kind.Nand e = gate_same kind.Nand i (pins_of n i)
+meaning_same n ports net i inverted kind.Or e = gate_same kind.Or i (pins_of n i)
+meaning_same n ports net i inverted kind.Nor e = gate_same kind.Nor i (pins_of n i)
+meaning_same n ports net i inverted kind.Xor e = gate_same kind.Xor i (pins_of n i)
+meaning_same n ports net i inverted kind.Xnor e = gate_same kind.Xnor i (pins_of n i)
+meaning_same n ports net i inverted kind.Mux2 e = gate_same kind.Mux2 i (pins_of n i)
+meaning_same n ports net i inverted (kind.Table number) e = gate_same (kind.Table number) i (pins_of n i)
+meaning_same n ports net i inverted kind.Tie0 e = gate_same kind.Tie0 i (pins_of n i)
+meaning_same n ports net i inverted kind.Tie1 e = gate_same kind.Tie1 i (pins_of n i)
+
+-- ---- a lock-up is that of its instance
+
+lockup_is : (i : ℕ) (domain : Option ℕ) (src : Source) (c e : ℕ) (source : Source) → lockup_meaning i domain src ≡ Lockup c e source → (i ≡ c) × (with_source src domain ≡ Some (e, source))
+lockup_is i None src c e source h = absurd cc
+lockup_is i (Some d) src c e source h = (let a : i ≡ c = cc in a, let b : d ≡ e = cc in let s : src ≡ source = cc in λ t. Some (b t, s t))
+
+no_flop : (i : ℕ) (inverted : Bool) (cell : Option Cell) (c e : ℕ) (source : Source) → flop_meaning i inverted cell ≡ Lockup c e source → ⊥
+no_flop i inverted None c e source h = cc
+no_flop i inverted (Some cell) c e source h = cc
+
+no_gate : (k : Kind) (inputs : List Source) (c e : ℕ) (source : Source) → Gate k inputs ≡ Lockup c e source → ⊥
+no_gate k inputs c e source h = cc
+
+pub latch_is : (n : Netlist) (ports : Ports) (i : ℕ) (inverted : Bool) (k : Kind) (ws : List Wired) (c e : ℕ) (source : Source) → meaning_in n ports i k inverted ws ≡ Lockup c e source →
+    (i ≡ c) × (latch_kept k (latch_in n ports i ws) ≡ Some (e, source))
+latch_is n ports i inverted kind.Opaque ws c e source h = absurd cc
+latch_is n ports i inverted kind.Lockup ws c e source h = lockup_is i (domain_at n ports (found_in role.Clock ws)) (or_loose i (found_in role.Din ws)) c e source h
+latch_is n ports i inverted kind.Dff ws c e source h = absurd (no_flop i inverted _ c e source h)
+latch_is n ports i inverted kind.Dffr ws c e source h = absurd (no_flop i inverted _ c e source h)
+latch_is n ports i inverted kind.Dffs ws c e source h = absurd (no_flop i inverted _ c e source h)
+latch_is n ports i inverted kind.Sdff ws c e source h = absurd (no_flop i inverted _ c e source h)
+latch_is n ports i inverted kind.Sdffr ws c e source h = absurd (no_flop i inverted _ c e source h)
+latch_is n ports i inverted kind.Sdffs ws c e source h = absurd (no_flop i inverted _ c e source h)
+latch_is n ports i inverted kind.Buf ws c e source h = absurd (no_gate kind.Buf _ c e source h)
+latch_is n ports i inverted kind.Inv ws c e source h = absurd (no_gate kind.Inv _ c e source h)
+latch_is n ports i inverted kind.And ws c e source h = absurd (no_gate kind.And _ c e source h)
+latch_is n ports i inverted kind.Nand ws c e source h = absurd (no_gate kind.Nand _ c e source h)
+latch_is n ports i inverted kind.Or ws c e source h = absurd (no_gate kind.Or _ c e source h)
+latch_is n ports i inverted kind.Nor ws c e source h = absurd (no_gate kind.Nor _ c e source h)
+latch_is n ports i inverted kind.Xor ws c e source h = absurd (no_gate kind.Xor _ c e source h)
+latch_is n ports i inverted kind.Xnor ws c e source h = absurd (no_gate kind.Xnor _ c e source h)
+latch_is n ports i inverted kind.Mux2 ws c e source h = absurd (no_gate kind.Mux2 _ c e source h)
+latch_is n ports i inverted (kind.Table number) ws c e source h = absurd (no_gate (kind.Table number) _ c e source h)
+latch_is n ports i inverted kind.Tie0 ws c e source h = absurd (no_gate kind.Tie0 _ c e source h)
+latch_is n ports i inverted kind.Tie1 ws c e source h = absurd (no_gate kind.Tie1 _ c e source h)
+
+-- ---- a gate has as many inputs as it takes
+
+abbrev pub FitsMeaning : Meaning → Type 0
+FitsMeaning (Gate k inputs) = TakesInputs k (length inputs)
+FitsMeaning Input = Unit {0}
+FitsMeaning Clock = Unit {0}
+FitsMeaning (Joined source) = Unit {0}
+FitsMeaning (Flop i inverted) = Unit {0}
+FitsMeaning (Lockup i e source) = Unit {0}
+FitsMeaning Free = Unit {0}
+
+pub fits_by : (o : Op) (m : Meaning) → meaning o ≡ m → FitsMeaning m → Fits o
+fits_by (op.Gate k inputs) m e f = (let T : ℕ → Type 0 = TakesInputs k in subst T (length-map inputs source_at) (subst FitsMeaning (sym e) f))
+fits_by op.Input m e f = tt
+fits_by op.Clock m e f = tt
+fits_by (op.Joined source) m e f = tt
+fits_by (op.Flop i inverted) m e f = tt
+fits_by (op.Lockup i d source) m e f = tt
+fits_by op.Free m e f = tt
+
+-- what the roles of a gate are
+abbrev pub GateFits : Kind → List Role → Type 0
+GateFits kind.Opaque roles = Unit {0}
+GateFits kind.Lockup roles = Unit {0}
+GateFits kind.Dff roles = Unit {0}
+GateFits kind.Dffr roles = Unit {0}
+GateFits kind.Dffs roles = Unit {0}
+GateFits kind.Sdff roles = Unit {0}
+GateFits kind.Sdffr roles = Unit {0}
+GateFits kind.Sdffs roles = Unit {0}
+GateFits kind.Buf roles = GateRoles (TakesInputs kind.Buf) roles
+GateFits kind.Inv roles = GateRoles (TakesInputs kind.Inv) roles
+GateFits kind.And roles = GateRoles (TakesInputs kind.And) roles
+GateFits kind.Nand roles = GateRoles (TakesInputs kind.Nand) roles
+GateFits kind.Or roles = GateRoles (TakesInputs kind.Or) roles
+GateFits kind.Nor roles = GateRoles (TakesInputs kind.Nor) roles
+GateFits kind.Xor roles = GateRoles (TakesInputs kind.Xor) roles
+GateFits kind.Xnor roles = GateRoles (TakesInputs kind.Xnor) roles
+GateFits kind.Mux2 roles = GateRoles (TakesInputs kind.Mux2) roles
+GateFits (kind.Table number) roles = GateRoles (TakesInputs (kind.Table number)) roles
+GateFits kind.Tie0 roles = GateRoles (TakesInputs kind.Tie0) roles
+GateFits kind.Tie1 roles = GateRoles (TakesInputs kind.Tie1) roles
+
+from_cell : (k : Kind) (roles : List Role) → HasRoles k roles → GateFits k roles
+from_cell kind.Opaque roles h = tt
+from_cell kind.Lockup roles h = tt
+from_cell kind.Dff roles h = tt
+from_cell kind.Dffr roles h = tt
+from_cell kind.Dffs roles h = tt
+from_cell kind.Sdff roles h = tt
+from_cell kind.Sdffr roles h = tt
+from_cell kind.Sdffs roles h = tt
+from_cell kind.Buf roles h = h
+from_cell kind.Inv roles h = h
+from_cell kind.And roles h = h
+from_cell kind.Nand roles h = h
+from_cell kind.Or roles h = h
+from_cell kind.Nor roles h = h
+from_cell kind.Xor roles h = h
+from_cell kind.Xnor roles h = h
+from_cell kind.Mux2 roles h = h
+from_cell (kind.Table number) roles h = h
+from_cell kind.Tie0 roles h = h
+from_cell kind.Tie1 roles h = h
+
+gate_replicates : (inputs : ℕ) → gate_roles inputs ≡ replicate inputs role.Input ++ role.Output ∷ []
+gate_replicates zero = refl
+gate_replicates (suc inputs) = ap (λ (l : List Role). role.Input ∷ l) (gate_replicates inputs)
+
+from_gate : (k : Kind) (inputs : ℕ) → IsTrue (is_primitive k) → TakesInputs k inputs → GateFits k (gate_roles inputs)
+from_gate kind.Buf inputs h t = (inputs, t, gate_replicates inputs)
+from_gate kind.Inv inputs h t = (inputs, t, gate_replicates inputs)
+from_gate kind.And inputs h t = (inputs, t, gate_replicates inputs)
+from_gate kind.Nand inputs h t = (inputs, t, gate_replicates inputs)
+from_gate kind.Or inputs h t = (inputs, t, gate_replicates inputs)
+from_gate kind.Nor inputs h t = (inputs, t, gate_replicates inputs)
+from_gate kind.Xor inputs h t = (inputs, t, gate_replicates inputs)
+from_gate kind.Xnor inputs h t = (inputs, t, gate_replicates inputs)
+from_gate kind.Opaque inputs h t = tt
+from_gate kind.Lockup inputs h t = tt
+from_gate kind.Dff inputs h t = tt
+from_gate kind.Dffr inputs h t = tt
+from_gate kind.Dffs inputs h t = tt
+from_gate kind.Sdff inputs h t = tt
+from_gate kind.Sdffr inputs h t = tt
+from_gate kind.Sdffs inputs h t = tt
+from_gate kind.Mux2 inputs h t = absurd cc
+from_gate (kind.Table number) inputs h t = absurd cc
+from_gate kind.Tie0 inputs h t = absurd cc
+from_gate kind.Tie1 inputs h t = absurd cc
+
+count_inputs : (n p i : ℕ) (signals : List Signal) → length signals ≡ suc n → length (inputs_of i (connections_from p (replicate n role.Input ++ role.Output ∷ []) signals)) ≡ n
+count_inputs zero p i [] e = absurd (omega arith)
+count_inputs zero p i (s ∷ []) e = refl
+count_inputs zero p i (s ∷ t ∷ signals) e = absurd (omega arith)
+count_inputs (suc n) p i [] e = absurd (omega arith)
+count_inputs (suc n) p i (s ∷ signals) e = ap suc (count_inputs n (suc p) i signals (omega arith))
+
+replicated_length : (n : ℕ) → length (replicate n role.Input ++ role.Output ∷ []) ≡ suc n
+replicated_length zero = refl
+replicated_length (suc n) = ap suc (replicated_length n)
+
+gate_takes : (takes : ℕ → Type 0) (roles : List Role) (signals : List Signal) (i : ℕ) → GateRoles takes roles → length signals ≡ length roles → takes (length (inputs_in (map (wired_by i) (connections_from 0 roles signals))))
+gate_takes takes roles signals i g e =
+    let R : List Role → Type 0 = λ l. takes (length (inputs_in (map (wired_by i) (connections_from 0 l signals)))) in
+    let n : ℕ = g.0 in
+    let w : length signals ≡ suc n = e ∙ ap length g.2 ∙ replicated_length n in
+    let c : length (inputs_in (map (wired_by i) (connections_from 0 (replicate n role.Input ++ role.Output ∷ []) signals))) ≡ n =
+    ap length (inputs_same i (connections_from 0 (replicate n role.Input ++ role.Output ∷ []) signals)) ∙ count_inputs n 0 i signals w in
+    subst R (sym g.2) (subst takes (sym c) g.1)
+
+lockup_fits : (i : ℕ) (domain : Option ℕ) (s : Source) → FitsMeaning (lockup_meaning i domain s)
+lockup_fits i None s = tt
+lockup_fits i (Some d) s = tt
+
+flop_fits : (i : ℕ) (inverted : Bool) (cell : Option Cell) → FitsMeaning (flop_meaning i inverted cell)
+flop_fits i inverted None = tt
+flop_fits i inverted (Some cell) = tt
+
+pins_fit : (n : Netlist) (ports : Ports) (i : ℕ) (inverted : Bool) (k : Kind) (roles : List Role) (signals : List Signal) → GateFits k roles → length signals ≡ length roles →
+    FitsMeaning (meaning_in n ports i k inverted (map (wired_by i) (connections_from 0 roles signals)))
+pins_fit n ports i inverted kind.Opaque roles signals g e = tt
+pins_fit n ports i inverted kind.Lockup roles signals g e = lockup_fits i _ _
+pins_fit n ports i inverted kind.Dff roles signals g e = flop_fits i inverted _
+pins_fit n ports i inverted kind.Dffr roles signals g e = flop_fits i inverted _
+pins_fit n ports i inverted kind.Dffs roles signals g e = flop_fits i inverted _
+pins_fit n ports i inverted kind.Sdff roles signals g e = flop_fits i inverted _
+pins_fit n ports i inverted kind.Sdffr roles signals g e = flop_fits i inverted _
+pins_fit n ports i inverted kind.Sdffs roles signals g e = flop_fits i inverted _
+pins_fit n ports i inverted kind.Buf roles signals g e = gate_takes (TakesInputs kind.Buf) roles signals i g e
+pins_fit n ports i inverted kind.Inv roles signals g e = gate_takes (TakesInputs kind.Inv) roles signals i g e
+pins_fit n ports i inverted kind.And roles signals g e = gate_takes (TakesInputs kind.And) roles signals i g e
+pins_fit n ports i inverted kind.Nand roles signals g e = gate_takes (TakesInputs kind.Nand) roles signals i g e
+pins_fit n ports i inverted kind.Or roles signals g e = gate_takes (TakesInputs kind.Or) roles signals i g e
+pins_fit n ports i inverted kind.Nor roles signals g e = gate_takes (TakesInputs kind.Nor) roles signals i g e
+pins_fit n ports i inverted kind.Xor roles signals g e = gate_takes (TakesInputs kind.Xor) roles signals i g e
+pins_fit n ports i inverted kind.Xnor roles signals g e = gate_takes (TakesInputs kind.Xnor) roles signals i g e
+pins_fit n ports i inverted kind.Mux2 roles signals g e = gate_takes (TakesInputs kind.Mux2) roles signals i g e
+pins_fit n ports i inverted (kind.Table number) roles signals g e = gate_takes (TakesInputs (kind.Table number)) roles signals i g e
+pins_fit n ports i inverted kind.Tie0 roles signals g e = gate_takes (TakesInputs kind.Tie0) roles signals i g e
+pins_fit n ports i inverted kind.Tie1 roles signals g e = gate_takes (TakesInputs kind.Tie1) roles signals i g e
+
+cell_fits : (library : List ACell) (name : Option Text) (c : CellRef) → IsWellFormed library → IsCellOf library name c → GateFits (shape_of library c).kind (shape_of library c).roles
+cell_fits library name (cell_ref.Gate k inputs) well fits = from_gate k inputs fits.0 fits.1
+cell_fits library name (cell_ref.Library id) well fits = found (slice_get library id.0) (λ cell at. (well.each id.0 cell at).roles) where
+  found : (o : Option ACell) → ((cell : ACell) → o ≡ Some cell → HasRoles cell.kind (map role_of cell.pins)) → GateFits (shape_of_cell o).kind (shape_of_cell o).roles
+  found None h = tt
+  found (Some cell) h = from_cell cell.kind (map role_of cell.pins) (h cell refl)
+
+pub fits_in : (n : Netlist) (ports : Ports) (i : ℕ) (inverted : Bool) (instance : Instance) → IsNetlist n → IsWellFormed n.library → slice_get n.instances i ≡ Some instance →
+    FitsMeaning (meaning_in n ports i (kind_at n i) inverted (map (wired_by i) (pins_of n i)))
+fits_in n ports i inverted instance sound well at =
+    let is = sound.instances i instance at in
+    let P : Option Instance → Type 0 = λ o. FitsMeaning (meaning_in n ports i (kind_of n.library o) inverted (map (wired_by i) (pins_at n.library o))) in
+    subst P (sym at) (pins_fit n ports i inverted (shape_of n.library instance.cell).kind (shape_of n.library instance.cell).roles instance.pins (cell_fits n.library instance.name instance.cell well is.fits) is.width)
+
+-- ---- the op of a net that is joined to an output pin
+
+pub op_of_pin : (n : Netlist) (ports : Ports) (net i : ℕ) (inverted : Bool) (k : Kind) (ws : List Wired) (o : Op) (instance : Instance) → IsNetlist n → IsWellFormed n.library → slice_get n.instances i ≡ Some instance →
+    driver n net ≡ driver_of_kind (kind_at n i) i inverted (inputs_of i (pins_of n i)) → k ≡ kind_at n i → ws ≡ map (wired_by i) (pins_of n i) → meaning o ≡ meaning_in n ports i k inverted ws → IsOpOf n ports net o
+op_of_pin n ports net i inverted k ws o instance sound well at driven ke we means =
+    let K : Kind → Type 0 = λ j. meaning o ≡ meaning_in n ports i j inverted ws in
+    let W : List Wired → Type 0 = λ l. meaning o ≡ meaning_in n ports i (kind_at n i) inverted l in
+    let here : meaning o ≡ meaning_in n ports i (kind_at n i) inverted (map (wired_by i) (pins_of n i)) = subst W we (subst K ke means) in
+    record {
+      means = here ∙ meaning_same n ports net i inverted (kind_at n i) refl ∙ sym (ap (meaning_of n ports net) driven);
+      fits = fits_by o (meaning_in n ports i (kind_at n i) inverted (map (wired_by i) (pins_of n i))) here (fits_in n ports i inverted instance sound well at);
+      latch = λ c e source h.
+          (let found = latch_is n ports i inverted (kind_at n i) (map (wired_by i) (pins_of n i)) c e source (sym here ∙ h) in
+          let C : ℕ → Type 0 = λ j. (j < length n.instances) × (kept_latch n ports j ≡ Some (e, source)) in
+          subst C found.0 (slice_get_within n.instances i instance at, found.1));
+    }

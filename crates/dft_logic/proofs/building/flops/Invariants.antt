@@ -1,0 +1,6 @@
+-- The instances before this one.
+use Rattle.dft_logic.specs.Compiling.{ports_by, AreFlops}
+use Rattle.dft_logic.proofs.building.flops.Given as goal
+
+abbrev pub invariant-loop-number : goal.invariant-loop-number
+invariant-loop-number l = AreFlops l.design (ports_by l.flags) l.number l.flops.items

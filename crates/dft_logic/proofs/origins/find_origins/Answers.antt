@@ -1,0 +1,18 @@
+-- One net more is told.
+use Rattle.std.proofs.Common.{◌≤◌, ◌∙◌, length, ap, None, arith}
+use Rattle.dft_logic.specs.EntryTables.{number_of}
+use Rattle.dft_logic.proofs.Fillings.{filling_step}
+use Rattle.dft_logic.proofs.OriginLemmas.{given, origin_depends, all_origins}
+use Rattle.dft_logic.proofs.origins.find_origins.Goals as goal
+
+pub loop-net-preserved : goal.loop-net-preserved
+loop-net-preserved c =
+    let x = c.args.circuit.now in
+    filling_step number_of None given origin_depends x.ops.items x.order.items c.deref-net-items.result.now c.loop-net.origins c.loop-net.net-index _ _
+    c.deref-net-items.ensures.value c.loop-net-test.true (c.loop-net.auto.origins ∙ c.requires.origins) c.loop-net.invariant c.index.ensures c.op_origin-origin.ensures
+
+pub returns : goal.returns
+returns c =
+    let x = c.args.circuit.now in
+    let past : length x.order.items ≤ c.loop-net.net-index = omega (arith, ap length c.deref-net-items.ensures.value, c.loop-net-test.false) in
+    all_origins x c.loop-net.origins c.loop-net.net-index c.requires.circuit (c.loop-net.auto.origins ∙ c.requires.origins) past c.loop-net.invariant

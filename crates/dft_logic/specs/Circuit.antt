@@ -1,0 +1,201 @@
+-- A design made ready for settling: what each net takes its value from, and the flip-flop of each instance.
+use Rattle.std.specs.Prelude.{ℕ, Bool, false, ◌≡◌, ◌<◌, List, [], ◌∷◌, map, length, Option, None, Some, slice_index_or, option_map}
+use Rattle.std.specs.List.{AllByRecursion}
+use Rattle.dft_base.specs.declared.tri.Tri.{Tri}
+use Rattle.dft_base.specs.declared.tri.Tri.TheVariants.{Unknown}
+use Rattle.dft_cells.specs.WellFormed.{TakesInputs}
+use Rattle.dft_netlist.specs.Drivers.{Source}
+use Rattle.dft_netlist.specs.Drivers as drivers
+use Rattle.dft_netlist.specs.Logic.{Logic, Meaning, Cell, Scan, Force, reads, no_cell}
+use Rattle.dft_netlist.specs.Logic as meanings
+use Rattle.dft_netlist.specs.Settled.{TriSources, value_from, value_given}
+use Rattle.dft_netlist.specs.Orders.{Has, numbers_of}
+use Rattle.dft_logic.specs.declared.circuit.Operand.{Operand}
+use Rattle.dft_logic.specs.declared.circuit.Operand.TheVariants.{Net, Tied, Loose}
+use Rattle.dft_logic.specs.declared.circuit.Op.{Op}
+use Rattle.dft_logic.specs.declared.circuit.Op.TheVariants.{Input, Clock, Gate, Joined, Flop, Lockup, Free}
+use Rattle.dft_logic.specs.declared.circuit.ScanPins.{ScanPins}
+use Rattle.dft_logic.specs.declared.circuit.Acting.{Acting}
+use Rattle.dft_logic.specs.declared.circuit.FlipFlop.{FlipFlop}
+use Rattle.dft_logic.specs.declared.circuit.Circuit.{Circuit}
+use Rattle.dft_logic.specs.declared.circuit.Latch.{Latch}
+use Rattle.dft_logic.specs.declared.settling.Pulse.{Pulse}
+use Rattle.dft_logic.specs.declared.settling.View.{View}
+use Rattle.dft_abstract.specs.Cycle.{view_sources, tri_forced_by, tri_taken_by}
+use Rattle.dft_abstract.specs.Cycle as Cycle
+use Rattle.dft_logic.specs.Values.{value_at}
+use Rattle.dft_logic.specs.Tables.{IsTable}
+
+-- ---- what the parts stand for
+
+abbrev pub source_at : Operand → Source
+source_at (Net net) = drivers.Net net.0
+source_at (Tied bit) = drivers.Tied bit
+source_at (Loose instance pin) = drivers.Loose instance.0 pin
+
+abbrev pub meaning : Op → Meaning
+meaning Input = meanings.Input
+meaning Clock = meanings.Clock
+meaning (Gate kind inputs) = meanings.Gate kind (map source_at inputs)
+meaning (Joined source) = meanings.Joined (source_at source)
+meaning (Flop instance inverted) = meanings.Flop instance.0 inverted
+meaning (Lockup instance domain source) = meanings.Lockup instance.0 domain.0 (source_at source)
+meaning Free = meanings.Free
+
+abbrev pub scan_at : Option ScanPins → Option Scan
+scan_at None = None
+scan_at (Some pins) = Some (record { enable = source_at pins.enable; input = source_at pins.input })
+
+abbrev pub force_at : Option Acting → Option Force
+force_at None = None
+force_at (Some acting) = Some (record { port = acting.port.0; value = acting.value })
+
+abbrev pub cell_of : FlipFlop → Cell
+cell_of f = record { domain = f.domain.0; input = source_at f.input; scan = scan_at f.scan; force = force_at f.force }
+
+-- ---- the circuit's logic
+
+abbrev pub op_at : List Op → ℕ → Op
+op_at ops net = slice_index_or ops net Free
+
+-- past the end there is no cell
+abbrev pub cell_at : List Cell → ℕ → Cell
+cell_at cells c = slice_index_or cells c (no_cell c)
+
+-- the domain and the input of the lock-up of an instance
+abbrev pub latch_of : Option Latch → Option (ℕ × Source)
+latch_of None = None
+latch_of (Some latch) = Some (latch.domain.0, source_at latch.input)
+
+abbrev pub latch_at : List (Option Latch) → ℕ → Option (ℕ × Source)
+latch_at latches c = latch_of (slice_index_or latches c None)
+
+unfoldable pub logic_at : Circuit → Logic
+logic_at x = record { net = λ net. meaning (op_at x.ops.items net); cell = λ c. cell_at (map cell_of x.flops.items) c }
+
+-- ---- what every circuit keeps
+
+-- a gate has as many inputs as it takes
+abbrev pub Fits : Op → Type 0
+Fits (Gate kind inputs) = TakesInputs kind (length inputs)
+Fits Input = Unit {0}
+Fits Clock = Unit {0}
+Fits (Joined source) = Unit {0}
+Fits (Flop instance inverted) = Unit {0}
+Fits (Lockup instance domain source) = Unit {0}
+Fits Free = Unit {0}
+
+-- each of these nets is new, and comes after the nets that its value is settled from; the others came before
+abbrev pub AreOrdered : List Op → (before nets : List ℕ) → Type 0
+AreOrdered ops before [] = Unit {0}
+AreOrdered ops before (net ∷ nets) =
+    (Has before net → ⊥) × (net < length ops) × AllByRecursion (Has before) (reads (meaning (op_at ops net)))
+    × AreOrdered ops (net ∷ before) nets
+
+-- a net that shows an input, a clock, a flip-flop or a lock-up is listed at place 0
+abbrev pub source_places : Meaning → List ℕ
+source_places meanings.Input = 0 ∷ []
+source_places meanings.Clock = 0 ∷ []
+source_places (meanings.Gate kind inputs) = []
+source_places (meanings.Joined source) = []
+source_places (meanings.Flop c inverted) = 0 ∷ []
+source_places (meanings.Lockup c e source) = 0 ∷ []
+source_places meanings.Free = []
+
+-- the domain whose clock, flip-flop or lock-up a net shows
+abbrev pub leaf_domains : List Cell → (net : ℕ) → Meaning → List ℕ
+leaf_domains cells net meanings.Input = []
+leaf_domains cells net meanings.Clock = net ∷ []
+leaf_domains cells net (meanings.Gate kind inputs) = []
+leaf_domains cells net (meanings.Joined source) = []
+leaf_domains cells net (meanings.Flop c inverted) = (cell_at cells c).domain ∷ []
+leaf_domains cells net (meanings.Lockup c e source) = e ∷ []
+leaf_domains cells net meanings.Free = []
+
+abbrev pub latch_domains : Option (ℕ × Source) → List ℕ
+latch_domains None = []
+latch_domains (Some latch) = latch.0 ∷ []
+
+abbrev pub force_nets : Option Force → List ℕ
+force_nets None = []
+force_nets (Some force) = force.port ∷ []
+
+-- by net, what reads it and what it resets or sets; and for a clock what shows its domain, its flip-flops and its lock-ups
+pub record AreTables (x : Circuit) : Type 0 where
+  pub readers : IsTable (length x.ops.items) (length x.ops.items) (λ net. reads (meaning (op_at x.ops.items net))) x.readers.items
+  pub sources : IsTable 1 (length x.ops.items) (λ net. source_places (meaning (op_at x.ops.items net))) x.sources.items
+  pub leaves : IsTable (length x.ops.items) (length x.ops.items) (λ net. leaf_domains (map cell_of x.flops.items) net (meaning (op_at x.ops.items net))) x.leaves.items
+  pub cells : IsTable (length x.ops.items) (length x.flops.items) (λ c. (cell_at (map cell_of x.flops.items) c).domain ∷ []) x.cells.items
+  pub holders : IsTable (length x.ops.items) (length x.latches.items) (λ c. latch_domains (latch_at x.latches.items c)) x.holders.items
+  pub followers : IsTable (length x.ops.items) (length x.flops.items) (λ c. force_nets (cell_at (map cell_of x.flops.items) c).force) x.followers.items
+
+pub record IsCircuit (x : Circuit) : Type 0 where
+  pub fits : (net : ℕ) → Fits (op_at x.ops.items net)
+  pub whole : (net : ℕ) → net < length x.ops.items → Has (numbers_of x.order.items) net
+  pub after : AreOrdered x.ops.items [] (numbers_of x.order.items)
+  pub count : length x.order.items ≡ length x.ops.items
+  -- a lock-up's instance tells its domain and its input
+  pub latched : (net c e : ℕ) (source : Source) → meaning (op_at x.ops.items net) ≡ meanings.Lockup c e source → latch_at x.latches.items c ≡ Some (e, source)
+  pub instances : length x.latches.items ≡ length x.flops.items
+  pub tables : AreTables x
+
+-- ---- settling
+
+-- what lock-ups show: what they are held at, by instance, or their input where they are wires
+abbrev pub lockup_from : Option (List Tri) → (values : ℕ → Tri) → (cell domain : ℕ) → Source → Tri
+lockup_from None values c e source = value_from values source
+lockup_from (Some held) values c e source = value_at held c
+
+-- the given sources, with these lock-ups
+abbrev pub leaves_from : TriSources → Option (List Tri) → (values : ℕ → Tri) → TriSources
+leaves_from base held values = record { ports = base.ports; clocks = base.clocks; flops = base.flops; lockups = lockup_from held values }
+
+-- a bit at a place of a list, and 0 past its end
+abbrev pub flag_at : List Bool → ℕ → Bool
+flag_at flags place = slice_index_or flags place false
+
+-- a pulse, from values by net and by instance
+abbrev pub pulse_at : Pulse → Cycle.Pulse
+pulse_at p = record { ports = value_at p.ports.now; pulsed = flag_at p.pulsed.now; old = value_at p.old.now }
+
+-- what the view of a domain is settled from, but for its lock-ups
+abbrev pub view_base : (cells : List Cell) → View → TriSources
+view_base cells v = view_sources (record { net = λ net. meanings.Free; cell = cell_at cells }) (pulse_at v.pulse) (value_at v.poss.now) (λ d net. Unknown) v.domain.0
+
+abbrev pub held_in : View → Option (List Tri)
+held_in v = option_map (λ h. h.now) v.held
+
+-- what the view of a domain is settled from, but for its lock-ups
+abbrev pub base_of : List Cell → Cycle.Pulse → (poss : List Tri) → (domain : ℕ) → TriSources
+base_of cells p poss d = view_sources (record { net = λ net. meanings.Free; cell = cell_at cells }) p (value_at poss) (λ e net. Unknown) d
+
+-- the net has its driver's value in the view of a domain
+abbrev pub IsGivenBy : Circuit → Cycle.Pulse → (poss : List Tri) → Option (List Tri) → (domain : ℕ) → (values : List Tri) → ℕ → Type 0
+IsGivenBy x p poss held d values k =
+    value_at values k ≡ value_given (leaves_from (base_of (map cell_of x.flops.items) p poss d) held (value_at values)) (value_at values) k (meaning (op_at x.ops.items k))
+
+abbrev pub GivenIn : Circuit → Cycle.Pulse → (poss held : List Tri) → (domain : ℕ) → (values : List Tri) → ℕ → Type 0
+GivenIn x p poss held d values k = IsGivenBy x p poss (Some held) d values k
+
+-- the same where the view is that of this domain, and in the view itself
+abbrev pub IsGivenIn : Circuit → View → (domain : ℕ) → (values : List Tri) → ℕ → Type 0
+IsGivenIn x v d values k = IsGivenBy x (pulse_at v.pulse) v.poss.now (held_in v) d values k
+
+abbrev pub IsGiven : Circuit → View → (values : List Tri) → ℕ → Type 0
+IsGiven x v values k = IsGivenIn x v v.domain.0 values k
+
+-- all nets have the values that they have from some sources
+pub record IsReady (x : Circuit) (values : List Tri) : Type 0 where
+  pub base : TriSources
+  pub held : Option (List Tri)
+  pub given : (k : ℕ) → value_at values k ≡ value_given (leaves_from base held (value_at values)) (value_at values) k (meaning (op_at x.ops.items k))
+
+-- ---- a flip-flop, from the values of a view
+
+-- what a flip-flop takes
+abbrev pub taken_at : Cell → (values : ℕ → Tri) → Tri
+taken_at cell values = tri_taken_by cell.scan (value_from values) (value_from values cell.input)
+
+-- its next value
+abbrev pub next_at : Cell → (ports values : ℕ → Tri) → Tri
+next_at cell ports values = tri_forced_by cell.force ports (taken_at cell values)

@@ -1,0 +1,126 @@
+-- What each net and each instance of a design becomes in its circuit.
+use Rattle.std.specs.Prelude.{ℕ, Bool, true, not, ◌≡◌, ◌<◌, List, [], ◌∷◌, Option, None, Some, map, length, slice_index_or, if◌then◌else◌}
+use Rattle.dft_cells.specs.declared.kind.Role.{Role}
+use Rattle.dft_cells.specs.declared.kind.Role.TheVariants as role
+use Rattle.dft_netlist.specs.Netlist.{Netlist}
+use Rattle.dft_netlist.specs.Drivers.{Source, Connection, source_of, is_input, kind_at, pins_of}
+use Rattle.dft_cells.specs.declared.kind.Kind.{Kind}
+use Rattle.dft_cells.specs.declared.kind.Kind.TheVariants as kind
+use Rattle.dft_netlist.specs.Logic.{Ports, Cell, Meaning, Gate, Lockup, Free, logic_of, same_role, or_loose, domain_at, forcing, scan_of, modelled, lockup_meaning, flop_meaning}
+use Rattle.dft_logic.specs.declared.circuit.Operand.{Operand}
+use Rattle.dft_logic.specs.declared.circuit.Operand.TheVariants.{Net, Tied, Loose}
+use Rattle.dft_logic.specs.declared.circuit.Op.{Op}
+use Rattle.dft_logic.specs.declared.circuit.FlipFlop.{FlipFlop}
+use Rattle.dft_logic.specs.declared.circuit.Latch.{Latch}
+use Rattle.dft_logic.specs.declared.circuit.Circuit.{Circuit}
+use Rattle.dft_logic.specs.declared.wires.Wire.{Wire}
+use Rattle.dft_logic.specs.Circuit.{source_at, flag_at, meaning, Fits, cell_of, latch_of, latch_at, logic_at, IsCircuit}
+
+-- the flagged nets are clocks, and every other input may be a reset or a set
+abbrev pub ports_by : List Bool → Ports
+ports_by flags = record { is_clock = flag_at flags; is_reset = λ net. not (flag_at flags net) }
+
+-- ---- the pins of an instance
+
+-- what a pin is for, and what it takes its value from
+abbrev pub Wired : Type 0
+Wired = Role × Source
+
+abbrev pub wired_at : Wire → Wired
+wired_at wire = (wire.role, source_at wire.source)
+
+abbrev pub wired_by : (instance : ℕ) → Connection → Wired
+wired_by i c = (c.role, source_of i c.pin c.to)
+
+-- the sources of a gate's inputs
+abbrev pub inputs_in : List Wired → List Source
+inputs_in [] = []
+inputs_in (w ∷ ws) = if is_input w.0 then w.1 ∷ inputs_in ws else inputs_in ws
+
+-- the source of the first pin of a role
+abbrev pub found_in : Role → List Wired → Option Source
+found_in r [] = None
+found_in r (w ∷ ws) = if same_role r w.0 then Some w.1 else found_in r ws
+
+-- the net of an operand is one of the first `count`
+abbrev pub IsLiveOperand : (count : ℕ) → Operand → Type 0
+IsLiveOperand count (Net net) = net.0 < count
+IsLiveOperand count (Tied bit) = Unit {0}
+IsLiveOperand count (Loose instance pin) = Unit {0}
+
+abbrev pub AreLiveWires : (count : ℕ) → List Wire → Type 0
+AreLiveWires count [] = Unit {0}
+AreLiveWires count (wire ∷ wires) = IsLiveOperand count wire.source × AreLiveWires count wires
+
+-- ---- what an instance with these pins is
+
+-- its flip-flop, where it is modelled
+abbrev pub modelled_in : Netlist → Ports → (instance : ℕ) → List Wired → Option Cell
+modelled_in n ports i ws =
+    modelled (domain_at n ports (found_in role.Clock ws)) (forcing n ports (found_in role.Reset ws) (found_in role.Preset ws))
+    (or_loose i (found_in role.Din ws)) (scan_of (found_in role.ScanEnable ws) (found_in role.ScanIn ws))
+
+abbrev pub with_source : Source → Option ℕ → Option (ℕ × Source)
+with_source source None = None
+with_source source (Some domain) = Some (domain, source)
+
+-- the domain and the input of its lock-up
+abbrev pub latch_in : Netlist → Ports → (instance : ℕ) → List Wired → Option (ℕ × Source)
+latch_in n ports i ws = with_source (or_loose i (found_in role.Din ws)) (domain_at n ports (found_in role.Clock ws))
+
+-- what a net has that is joined to its output
+abbrev pub meaning_in : Netlist → Ports → (instance : ℕ) → Kind → (inverted : Bool) → List Wired → Meaning
+meaning_in n ports i kind.Opaque inverted ws = Free
+meaning_in n ports i kind.Lockup inverted ws = lockup_meaning i (domain_at n ports (found_in role.Clock ws)) (or_loose i (found_in role.Din ws))
+meaning_in n ports i kind.Dff inverted ws = flop_meaning i inverted (modelled_in n ports i ws)
+meaning_in n ports i kind.Dffr inverted ws = flop_meaning i inverted (modelled_in n ports i ws)
+meaning_in n ports i kind.Dffs inverted ws = flop_meaning i inverted (modelled_in n ports i ws)
+meaning_in n ports i kind.Sdff inverted ws = flop_meaning i inverted (modelled_in n ports i ws)
+meaning_in n ports i kind.Sdffr inverted ws = flop_meaning i inverted (modelled_in n ports i ws)
+meaning_in n ports i kind.Sdffs inverted ws = flop_meaning i inverted (modelled_in n ports i ws)
+meaning_in n ports i kind inverted ws = Gate kind (inputs_in ws)
+
+-- ---- a net and an instance
+
+abbrev pub flop_in : List FlipFlop → ℕ → FlipFlop
+flop_in flops i = slice_index_or flops i (record { domain = record { 0 = 0 }; input = Net (record { 0 = 0 }); scan = None; force = None })
+
+abbrev pub latch_kept : Kind → Option (ℕ × Source) → Option (ℕ × Source)
+latch_kept kind.Lockup latch = latch
+latch_kept other latch = None
+
+-- the lock-up of the instance with this number
+abbrev pub kept_latch : Netlist → Ports → (instance : ℕ) → Option (ℕ × Source)
+kept_latch n ports i = latch_kept (kind_at n i) (latch_in n ports i (map (wired_by i) (pins_of n i)))
+
+-- what a net takes its value from: it means what the net does, a gate has as many inputs as it takes, and a lock-up is that of its instance
+pub record IsOpOf (n : Netlist) (ports : Ports) (net : ℕ) (op : Op) : Type 0 where
+  pub means : meaning op ≡ (logic_of n ports).net net
+  pub fits : Fits op
+  pub latch : (c e : ℕ) (source : Source) → meaning op ≡ Lockup c e source → (c < length n.instances) × (kept_latch n ports c ≡ Some (e, source))
+
+abbrev pub IsFlopOf : Netlist → Ports → (instance : ℕ) → FlipFlop → Type 0
+IsFlopOf n ports i flop = cell_of flop ≡ (logic_of n ports).cell i
+
+abbrev pub IsLatchOf : Netlist → Ports → (instance : ℕ) → Option Latch → Type 0
+IsLatchOf n ports i latch = latch_of latch ≡ kept_latch n ports i
+
+-- the flip-flops of the first instances, and their lock-ups
+pub record AreFlops (n : Netlist) (ports : Ports) (count : ℕ) (flops : List FlipFlop) : Type 0 where
+  pub size : length flops ≡ count
+  pub each : (i : ℕ) → i < count → IsFlopOf n ports i (flop_in flops i)
+
+pub record AreLatches (n : Netlist) (ports : Ports) (count : ℕ) (latches : List (Option Latch)) : Type 0 where
+  pub size : length latches ≡ count
+  pub each : (i : ℕ) → i < count → IsLatchOf n ports i (slice_index_or latches i None)
+
+-- ---- a design's circuit
+
+pub record IsCircuitOf (n : Netlist) (ports : Ports) (x : Circuit) : Type 0 where
+  pub circuit : IsCircuit x
+  -- it means what the design does
+  pub compiled : logic_of n ports ≡ logic_at x
+  -- its lock-ups' domains are clocks
+  pub clocked : (c e : ℕ) (source : Source) → latch_at x.latches.items c ≡ Some (e, source) → ports.is_clock e ≡ true
+  pub nets : length x.ops.items ≡ length n.nets
+  pub instances : length x.flops.items ≡ length n.instances

@@ -1,0 +1,22 @@
+-- What nets show, as a table.
+use Rattle.std.specs.Prelude.{ℕ, Bool, List, slice_index_or}
+use Rattle.dft_netlist.specs.Logic.{Logic, Cell, Meaning}
+use Rattle.dft_netlist.specs.Logic as meanings
+use Rattle.dft_logic.specs.Shows.{shown_given}
+use Rattle.dft_logic.specs.Shows as shows
+use Rattle.dft_logic.specs.declared.shown.Shown.{Shown}
+use Rattle.dft_logic.specs.declared.shown.Shown.TheVariants.{Nothing, Domain, Several}
+use Rattle.dft_logic.specs.Circuit.{cell_at}
+
+abbrev pub shown_of : Shown → shows.Shown
+shown_of Nothing = shows.Nothing
+shown_of (Domain net) = shows.Domain net.0
+shown_of Several = shows.Several
+
+-- what the net at a place shows, and nothing past the end
+abbrev pub shown_at : List Shown → ℕ → shows.Shown
+shown_at table net = shown_of (slice_index_or table net Nothing)
+
+-- what a net shows by its meaning, where these are the flip-flops
+abbrev pub shown_in : List Cell → (pulsed : ℕ → Bool) → (shown : ℕ → shows.Shown) → (net : ℕ) → Meaning → shows.Shown
+shown_in cells = shown_given (record { net = λ net. meanings.Free; cell = cell_at cells })

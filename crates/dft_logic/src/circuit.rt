@@ -1,0 +1,165 @@
+//! A design made ready for settling.
+
+ghost use Rattle.std.specs.Prelude.{◌≡◌, ◌++◌, ◌∷◌, [], OnOk, OnErr};
+
+use dft_cells::Kind;
+use dft_netlist::{InstanceId, NetId};
+use std::alloc::{AllocError, Global};
+use std::marker::Model;
+
+/// Where an input pin takes its value from.
+#[derive(Clone, Copy)]
+pub enum Operand {
+    Net(NetId),
+    Tied(bool),
+    /// Nothing: the pin of this number of an instance is joined to no net.
+    Loose(InstanceId, usize),
+}
+
+/// Operands in order. A clause sees them as a list.
+#[derive(Drop)]
+pub struct Operands {
+    operands: Vec<Operand>,
+}
+
+impl Model for Operands {
+    ghost use Rattle.std.specs.Prelude.{List};
+    ghost use Rattle.dft_logic.specs.declared.circuit.Operand.{Operand};
+
+    ghost Value = { List Operand };
+
+    ghost view = { λ o. o.operands.items };
+}
+
+impl Operands {
+    /// No operand yet.
+    pub fn new(alloc: Global) -> Operands
+        ensures { result ≡ [] }
+    {
+        Operands {
+            operands: Vec::new(alloc),
+        }
+    }
+
+    /// Adds an operand at the end.
+    pub fn push(&mut self, operand: Operand) -> Result<(), AllocError>
+        ensures ok { OnOk result (self.new ≡ self.old ++ operand ∷ []) }
+        ensures err { OnErr result (self.new ≡ self.old) }
+    {
+        self.operands.push(operand)?;
+        Ok(())
+    }
+
+    /// The operands.
+    pub fn as_slice(&self) -> &[Operand]
+        ensures { result.now ≡ self.now }
+    {
+        &self.operands
+    }
+}
+
+/// Numbers of nets or of instances. A clause sees them as a list.
+#[derive(Drop)]
+pub struct Numbers {
+    numbers: Vec<u32>,
+}
+
+impl Model for Numbers {
+    ghost use Rattle.std.specs.Prelude.{ℕ, List};
+
+    ghost Value = { List ℕ };
+
+    ghost view = { λ n. n.numbers.items };
+}
+
+impl Numbers {
+    /// No number yet.
+    pub fn new(alloc: Global) -> Numbers
+        ensures { result ≡ [] }
+    {
+        Numbers {
+            numbers: Vec::new(alloc),
+        }
+    }
+
+    /// Adds a number at the end.
+    pub fn push(&mut self, number: u32) -> Result<(), AllocError>
+        ensures ok { OnOk result (self.new ≡ self.old ++ number ∷ []) }
+        ensures err { OnErr result (self.new ≡ self.old) }
+    {
+        self.numbers.push(number)?;
+        Ok(())
+    }
+
+    /// The numbers.
+    pub fn as_slice(&self) -> &[u32]
+        ensures { result.now ≡ self.now }
+    {
+        &self.numbers
+    }
+}
+
+/// What a net takes its value from.
+#[derive(Drop)]
+pub enum Op {
+    /// The bit of an input port that is no clock.
+    Input,
+    /// The bit of a clock port.
+    Clock,
+    Gate(Kind, Operands),
+    Joined(Operand),
+    /// A flip-flop, by its instance, or its inverse.
+    Flop(InstanceId, bool),
+    /// A lock-up, by its instance, the net of its clock port, and its input.
+    Lockup(InstanceId, NetId, Operand),
+    /// Nothing that is known.
+    Free,
+}
+
+/// The pins of a scan cell that are there for scan.
+#[derive(Clone, Copy)]
+pub struct ScanPins {
+    pub enable: Operand,
+    pub input: Operand,
+}
+
+/// A reset (value 0) or a set (value 1), by the net of the port that is 0 where it acts.
+#[derive(Clone, Copy)]
+pub struct Acting {
+    pub port: NetId,
+    pub value: bool,
+}
+
+/// A flip-flop: the net of its clock port, and its pins.
+#[derive(Clone, Copy)]
+pub struct FlipFlop {
+    pub domain: NetId,
+    pub input: Operand,
+    pub scan: Option<ScanPins>,
+    pub force: Option<Acting>,
+}
+
+/// A lock-up: the net of its clock port, and its input.
+#[derive(Clone, Copy)]
+pub struct Latch {
+    pub domain: NetId,
+    pub input: Operand,
+}
+
+/// What each net takes its value from, by net, in an order in which each comes after what it reads; and the flip-flop
+/// and the lock-up of each instance, by instance. Then what is found by tables: the sources; by net the nets that read it and the
+/// flip-flops that it resets or sets; and by the net of a clock the nets that show it or its domain's flip-flops and
+/// lock-ups, and these flip-flops and lock-ups.
+#[derive(Drop)]
+pub struct Circuit {
+    pub order: Vec<NetId>,
+    pub ops: Vec<Op>,
+    pub flops: Vec<FlipFlop>,
+    pub latches: Vec<Option<Latch>>,
+    pub readers: Vec<Numbers>,
+    pub sources: Vec<Numbers>,
+    pub leaves: Vec<Numbers>,
+    pub cells: Vec<Numbers>,
+    pub holders: Vec<Numbers>,
+    pub followers: Vec<Numbers>,
+}

@@ -1,0 +1,214 @@
+//! What each instance of a design is in its circuit: a flip-flop, a lock-up or a gate.
+
+ghost use Rattle.std.specs.Prelude.{◌≡◌, ℕ, length, map, option_map, None, IfOk, if◌then◌else◌};
+ghost use Rattle.dft_cells.specs.declared.kind.Role.TheVariants as role;
+ghost use Rattle.dft_cells.specs.FlipFlops.{is_flip_flop as takes_clock};
+ghost use Rattle.dft_netlist.specs.Logic as logics;
+ghost use Rattle.dft_netlist.specs.Roots.{shown_root};
+ghost use Rattle.dft_netlist.specs.Traces as traces;
+ghost use Rattle.dft_logic.specs.Circuit.{source_at, cell_of, scan_at, force_at, latch_of as latched, meaning};
+ghost use Rattle.dft_logic.specs.Compiling.{ports_by, wired_at, found_in, IsLiveOperand, AreLiveWires, modelled_in, latch_in, meaning_in};
+
+use crate::circuit::{Acting, FlipFlop, Latch, Op, Operand, ScanPins};
+use crate::settling::flag_at;
+use crate::wires::{Wire, find, gate_inputs};
+use dft_cells::{Kind, Role};
+use dft_netlist::{Design, InstanceId, NetId, Root};
+use std::alloc::{AllocError, Global};
+
+/// Where a walk back from an operand leads.
+fn root_of(design: &Design, source: Operand) -> Root
+    requires { IsLiveOperand (length design.now.nets) source }
+    ensures { shown_root result ≡ traces.root_of design.now (source_at source) }
+{
+    match source {
+        Operand::Net(net) => design.trace(net),
+        Operand::Tied(bit) => Root::Constant(bit),
+        Operand::Loose(_, _) => Root::Other,
+    }
+}
+
+/// The clock port that a root is, where the clocks are flagged.
+fn clock_port(flags: &[bool], root: Root) -> Option<NetId>
+    ensures { option_map (λ net. net.0) result ≡ logics.domain_of (ports_by flags.now) (shown_root root) }
+{
+    match root {
+        Root::Port(net) => if flag_at(flags, net.0) {
+            Some(net)
+        } else {
+            None
+        },
+        Root::Constant(_) | Root::Other => None,
+    }
+}
+
+/// The domain of an instance with these pins, by the net of its clock port.
+fn domain_of(design: &Design, flags: &[bool], wires: &[Wire]) -> Option<NetId>
+    requires { AreLiveWires (length design.now.nets) wires.now }
+    ensures { option_map (λ net. net.0) result ≡ logics.domain_at design.now (ports_by flags.now) (found_in role.Clock (map wired_at wires.now)) }
+{
+    match find(wires, Role::Clock) {
+        Some(source) => clock_port(flags, root_of(design, source)),
+        None => None,
+    }
+}
+
+/// What a reset or set is, by its root: `None` where it keeps its flip-flop from being modelled, `Some(None)` where it
+/// never acts.
+fn force_of(flags: &[bool], value: bool, root: Root) -> Option<Option<Acting>>
+    ensures { option_map force_at result ≡ logics.force_of (ports_by flags.now) value (shown_root root) }
+{
+    match root {
+        Root::Port(net) => if flag_at(flags, net.0) {
+            None
+        } else {
+            Some(Some(Acting { port: net, value }))
+        },
+        Root::Constant(bit) => if bit { Some(None) } else { None },
+        Root::Other => None,
+    }
+}
+
+/// The reset or set of a flip-flop with these pins.
+fn forcing(design: &Design, flags: &[bool], wires: &[Wire]) -> Option<Option<Acting>>
+    requires { AreLiveWires (length design.now.nets) wires.now }
+    ensures { option_map force_at result ≡ logics.forcing design.now (ports_by flags.now) (found_in role.Reset (map wired_at wires.now)) (found_in role.Preset (map wired_at wires.now)) }
+{
+    match find(wires, Role::Reset) {
+        Some(reset) => force_of(flags, false, root_of(design, reset)),
+        None => match find(wires, Role::Preset) {
+            Some(preset) => force_of(flags, true, root_of(design, preset)),
+            None => Some(None),
+        },
+    }
+}
+
+/// The scan pins of a flip-flop with these pins, if it has them.
+fn scan_of(wires: &[Wire]) -> Option<ScanPins>
+    ensures { scan_at result ≡ logics.scan_of (found_in role.ScanEnable (map wired_at wires.now)) (found_in role.ScanIn (map wired_at wires.now)) }
+{
+    match find(wires, Role::ScanEnable) {
+        Some(enable) => match find(wires, Role::ScanIn) {
+            Some(input) => Some(ScanPins { enable, input }),
+            None => None,
+        },
+        None => None,
+    }
+}
+
+/// The data input of an instance with these pins.
+fn data_in(number: InstanceId, wires: &[Wire]) -> Operand
+    ensures { source_at result ≡ logics.or_loose number.0 (found_in role.Din (map wired_at wires.now)) }
+{
+    match find(wires, Role::Din) {
+        Some(source) => source,
+        None => Operand::Loose(number, 0),
+    }
+}
+
+/// Whether a kind is a flip-flop.
+fn is_flip_flop(kind: Kind) -> bool
+    ensures { result ≡ takes_clock kind }
+{
+    match kind {
+        Kind::Dff | Kind::Dffr | Kind::Dffs | Kind::Sdff | Kind::Sdffr | Kind::Sdffs => true,
+        _ => false,
+    }
+}
+
+/// The flip-flop with these pins, if it is modelled.
+fn modelled(design: &Design, flags: &[bool], number: InstanceId, wires: &[Wire]) -> Option<FlipFlop>
+    requires { AreLiveWires (length design.now.nets) wires.now }
+    ensures { option_map cell_of result ≡ modelled_in design.now (ports_by flags.now) number.0 (map wired_at wires.now) }
+{
+    match domain_of(design, flags, wires) {
+        Some(domain) => match forcing(design, flags, wires) {
+            Some(force) => Some(FlipFlop {
+                domain,
+                input: data_in(number, wires),
+                scan: scan_of(wires),
+                force,
+            }),
+            None => None,
+        },
+        None => None,
+    }
+}
+
+/// The lock-up with these pins, if its clock traces to a clock port.
+pub(crate) fn latch_of(
+    design: &Design,
+    flags: &[bool],
+    number: InstanceId,
+    wires: &[Wire],
+) -> Option<Latch>
+    requires { AreLiveWires (length design.now.nets) wires.now }
+    ensures { latched result ≡ latch_in design.now (ports_by flags.now) number.0 (map wired_at wires.now) }
+{
+    match domain_of(design, flags, wires) {
+        Some(domain) => Some(Latch {
+            domain,
+            input: data_in(number, wires),
+        }),
+        None => None,
+    }
+}
+
+/// The flip-flop of an instance; one that no net shows where the instance is no modelled flip-flop.
+pub(crate) fn flop_at(
+    design: &Design,
+    flags: &[bool],
+    number: InstanceId,
+    kind: Kind,
+    wires: &[Wire],
+) -> FlipFlop
+    requires { AreLiveWires (length design.now.nets) wires.now }
+    ensures { cell_of result ≡ logics.cell_or_none number.0 (if takes_clock kind then modelled_in design.now (ports_by flags.now) number.0 (map wired_at wires.now) else None) }
+{
+    let found = if is_flip_flop(kind) {
+        modelled(design, flags, number, wires)
+    } else {
+        None
+    };
+    match found {
+        Some(flop) => flop,
+        None => FlipFlop {
+            domain: NetId(0),
+            input: Operand::Loose(number, 0),
+            scan: None,
+            force: None,
+        },
+    }
+}
+
+/// What a net takes its value from that is joined to an output pin of an instance with these pins.
+pub(crate) fn pin_op(
+    alloc: Global,
+    design: &Design,
+    flags: &[bool],
+    number: InstanceId,
+    kind: Kind,
+    inverted: bool,
+    wires: &[Wire],
+) -> Result<Op, AllocError>
+    requires { AreLiveWires (length design.now.nets) wires.now }
+    ensures { IfOk result (λ op. meaning op ≡ meaning_in design.now (ports_by flags.now) number.0 kind inverted (map wired_at wires.now)) }
+{
+    match kind {
+        Kind::Opaque => Ok(Op::Free),
+        Kind::Lockup => match latch_of(design, flags, number, wires) {
+            Some(latch) => Ok(Op::Lockup(number, latch.domain, latch.input)),
+            None => Ok(Op::Free),
+        },
+        Kind::Dff | Kind::Dffr | Kind::Dffs | Kind::Sdff | Kind::Sdffr | Kind::Sdffs => {
+            match modelled(design, flags, number, wires) {
+                Some(_) => Ok(Op::Flop(number, inverted)),
+                None => Ok(Op::Free),
+            }
+        }
+        _ => {
+            let inputs = gate_inputs(alloc, wires)?;
+            Ok(Op::Gate(kind, inputs))
+        }
+    }
+}

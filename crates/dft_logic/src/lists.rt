@@ -1,0 +1,76 @@
+//! Lists of nets that are settled in their order.
+
+ghost use Rattle.std.specs.Prelude.{◌≡◌, ℕ, [], length, map, true};
+ghost use Rattle.dft_netlist.specs.Orders.{Has, numbers_of};
+ghost use Rattle.dft_netlist.specs.Settled.{value_given};
+ghost use Rattle.dft_logic.specs.Needs.{strobe_from};
+ghost use Rattle.dft_logic.specs.Values as spec;
+ghost use Rattle.dft_logic.specs.Circuit.{AreOrdered, IsCircuit, IsGiven, meaning, op_at};
+
+use crate::circuit::Circuit;
+use crate::settling::{Pulse, View, differ, op_value, strobe_view, value_at};
+use dft_base::Tri;
+use dft_netlist::NetId;
+
+/// Settles these nets in a view, whatever the values before.
+pub fn settle_list(circuit: &Circuit, view: &View<'_, '_, '_>, nets: &[NetId], values: &mut [Tri])
+    requires circuit { IsCircuit circuit.now }
+    requires values { length values.old ≡ length circuit.now.ops.items }
+    requires ordered { AreOrdered circuit.now.ops.items [] (numbers_of nets.now) }
+    ensures { (k : ℕ) → Has (numbers_of nets.now) k → IsGiven circuit.now view.now values.new k }
+{
+    for net in nets {
+        let value = op_value(
+            &circuit.ops[net.0 as usize],
+            *net,
+            &circuit.flops,
+            view,
+            values,
+        );
+        values[net.0 as usize] = value;
+    }
+}
+
+/// Settles these nets for a strobe, whatever the values before.
+pub fn settle_strobe(
+    circuit: &Circuit,
+    ports: &[Tri],
+    cells: &[Tri],
+    nets: &[NetId],
+    values: &mut [Tri],
+)
+    requires circuit { IsCircuit circuit.now }
+    requires values { length values.old ≡ length circuit.now.ops.items }
+    requires ordered { AreOrdered circuit.now.ops.items [] (numbers_of nets.now) }
+    ensures { (k : ℕ) → Has (numbers_of nets.now) k → spec.value_at values.new k ≡ value_given (strobe_from (spec.value_at ports.now) (spec.value_at cells.now) (spec.value_at values.new)) (spec.value_at values.new) k (meaning (op_at circuit.now.ops.items k)) }
+{
+    let pulse = Pulse {
+        ports,
+        pulsed: &[],
+        old: cells,
+    };
+    settle_list(circuit, &strobe_view(pulse), nets, values);
+}
+
+/// Reads the values of nets, in their order.
+pub fn read_list(nets: &[NetId], values: &[Tri], row: &mut [Tri])
+    requires { length row.old ≡ length nets.now }
+    ensures { row.new ≡ map (λ net. spec.value_at values.now net.0) nets.now }
+{
+    for (place, net) in nets.iter().enumerate() {
+        row[place] = value_at(values, net.0);
+    }
+}
+
+/// Whether nets have the values of a row, in their order.
+pub fn has_row(nets: &[NetId], row: &[Tri], values: &[Tri]) -> bool
+    requires { length row.now ≡ length nets.now }
+    ensures { result ≡ true → row.now ≡ map (λ net. spec.value_at values.now net.0) nets.now }
+{
+    for (place, net) in nets.iter().enumerate() {
+        if differ(row[place], value_at(values, net.0)) {
+            return false;
+        }
+    }
+    true
+}

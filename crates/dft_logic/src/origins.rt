@@ -1,0 +1,58 @@
+//! Which flip-flop a net shows at a strobe through joins and lock-ups.
+
+ghost use Rattle.std.specs.Prelude.{◌≡◌, length};
+ghost use Rattle.dft_logic.specs.Takes.{origin_of, origin_given, AreOrigins};
+ghost use Rattle.dft_logic.specs.Circuit.{meaning, source_at, logic_at, IsCircuit};
+ghost use Rattle.dft_logic.specs.EntryTables as tables;
+ghost use Rattle.dft_logic.specs.EntryTables.{number_of};
+
+use crate::circuit::{Circuit, Op, Operand};
+use dft_netlist::{InstanceId, NetId};
+
+/// The flip-flop that a net shows, if it shows one; past the end none does.
+pub(crate) fn origin_at(origins: &[Option<InstanceId>], net: NetId) -> Option<InstanceId>
+    ensures { number_of result ≡ tables.origin_at origins.now net.0 }
+{
+    match origins.get(net.0 as usize) {
+        Some(origin) => *origin,
+        None => None,
+    }
+}
+
+/// The flip-flop that an operand shows.
+fn operand_origin(operand: &Operand, origins: &[Option<InstanceId>]) -> Option<InstanceId>
+    ensures { number_of result ≡ origin_of (tables.origin_at origins.now) (source_at operand.now) }
+{
+    match operand {
+        Operand::Net(net) => origin_at(origins, *net),
+        Operand::Tied(_) => None,
+        Operand::Loose(_, _) => None,
+    }
+}
+
+/// The flip-flop that a net shows by its driver.
+fn op_origin(op: &Op, origins: &[Option<InstanceId>]) -> Option<InstanceId>
+    ensures { number_of result ≡ origin_given (tables.origin_at origins.now) (meaning op.now) }
+{
+    match op {
+        Op::Joined(source) => operand_origin(source, origins),
+        Op::Flop(instance, inverted) => if *inverted { None } else { Some(*instance) },
+        Op::Lockup(_, _, source) => operand_origin(source, origins),
+        Op::Input => None,
+        Op::Clock => None,
+        Op::Gate(_, _) => None,
+        Op::Free => None,
+    }
+}
+
+/// Finds the flip-flop that each net shows, in the circuit's order.
+pub fn find_origins(circuit: &Circuit, origins: &mut [Option<InstanceId>])
+    requires circuit { IsCircuit circuit.now }
+    requires origins { length origins.old ≡ length circuit.now.ops.items }
+    ensures { AreOrigins (logic_at circuit.now) (tables.origin_at origins.new) }
+{
+    for net in &circuit.order {
+        let origin = op_origin(&circuit.ops[net.0 as usize], origins);
+        origins[net.0 as usize] = origin;
+    }
+}

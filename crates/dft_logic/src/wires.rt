@@ -1,0 +1,88 @@
+//! The pins of an instance: what each is for, and what it takes its value from.
+
+ghost use Rattle.std.specs.Prelude.{◌≡◌, ℕ, length, map, option_map, IfOk};
+ghost use Rattle.std.specs.Option.{ForSome};
+ghost use Rattle.dft_netlist.specs.Drivers.{shape_of, source_of, connections_of, is_input as takes_input};
+ghost use Rattle.dft_netlist.specs.Sound.{AreLive};
+ghost use Rattle.dft_logic.specs.Circuit.{source_at};
+ghost use Rattle.dft_logic.specs.Compiling.{wired_at, wired_by, inputs_in, found_in, IsLiveOperand, AreLiveWires};
+
+use crate::circuit::{Operand, Operands};
+use dft_cells::{Cell, Role};
+use dft_netlist::{Instance, InstanceId, Signal, is_role, role_at};
+use std::alloc::{AllocError, Global};
+
+/// A pin: what it is for, and what it takes its value from.
+#[derive(Clone, Copy)]
+pub(crate) struct Wire {
+    pub role: Role,
+    pub source: Operand,
+}
+
+/// What a pin takes its value from.
+pub(crate) fn operand(instance: InstanceId, pin: usize, signal: Signal) -> Operand
+    ensures { source_at result ≡ source_of instance.0 pin signal }
+{
+    match signal {
+        Signal::Net(net) => Operand::Net(net),
+        Signal::Constant(bit) => Operand::Tied(bit),
+        Signal::Unconnected => Operand::Loose(instance, pin),
+    }
+}
+
+/// The pins of an instance.
+pub(crate) fn wires(
+    alloc: Global,
+    library: &[Cell],
+    number: InstanceId,
+    instance: &Instance,
+) -> Result<Vec<Wire>, AllocError>
+    requires { length instance.now.pins ≡ length (shape_of library.now instance.now.cell).roles }
+    ensures wired { IfOk result (λ wires. map wired_at wires.items ≡ map (wired_by number.0) (connections_of library.now instance.now)) }
+    ensures live { IfOk result (λ wires. (count : ℕ) → AreLive count instance.now.pins → AreLiveWires count wires.items) }
+{
+    let mut wires = Vec::new(alloc);
+    for (pin, signal) in instance.pins.as_slice().iter().enumerate() {
+        if let Some(role) = role_at(library, instance.cell, pin) {
+            let source = operand(number, pin, *signal);
+            wires.push(Wire { role, source })?;
+        }
+    }
+    Ok(wires)
+}
+
+/// What the first pin of a role takes its value from.
+pub(crate) fn find(wires: &[Wire], role: Role) -> Option<Operand>
+    ensures found { option_map source_at result ≡ found_in role (map wired_at wires.now) }
+    ensures live { (count : ℕ) → AreLiveWires count wires.now → ForSome result (IsLiveOperand count) }
+{
+    for wire in wires {
+        if is_role(role, wire.role) {
+            return Some(wire.source);
+        }
+    }
+    None
+}
+
+/// Whether a pin is an input of a gate.
+fn is_input(role: Role) -> bool
+    ensures { result ≡ takes_input role }
+{
+    match role {
+        Role::Input => true,
+        _ => false,
+    }
+}
+
+/// What the inputs of a gate take their values from.
+pub(crate) fn gate_inputs(alloc: Global, wires: &[Wire]) -> Result<Operands, AllocError>
+    ensures { IfOk result (λ inputs. map source_at inputs ≡ inputs_in (map wired_at wires.now)) }
+{
+    let mut inputs = Operands::new(alloc);
+    for wire in wires {
+        if is_input(wire.role) {
+            inputs.push(wire.source)?;
+        }
+    }
+    Ok(inputs)
+}
