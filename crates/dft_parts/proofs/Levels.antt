@@ -52,7 +52,7 @@ one_there n net zero d less few = less
 one_there n net (suc k) d less few = absurd (omega (arith, few))
 
 -- a net more is there
-there_more : (n : Netlist) (nets : List NetId) (net : NetId) → AreThere n nets → net.0 < length n.nets → AreThere n (nets ++ net ∷ [])
+pub there_more : (n : Netlist) (nets : List NetId) (net : NetId) → AreThere n nets → net.0 < length n.nets → AreThere n (nets ++ net ∷ [])
 there_more n nets net h less = All-append (λ (k : NetId). k.0 < length n.nets) nets (net ∷ []) h (λ k d few. one_there n net k d less few)
 
 -- the pairs up to a place were joined

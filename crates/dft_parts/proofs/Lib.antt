@@ -12,3 +12,4 @@ pub mod Levels
 pub mod Singles
 pub mod Live
 pub mod Ordering
+pub mod Runs

@@ -180,7 +180,7 @@ plain_four n ports i clock input output is [] = ap (plain_by input.0) (clock_dom
 plain_four n ports i clock input output is (y ∷ rest) = ap (plain_by input.0) (clock_domain n ports clock.0 is)
 
 flop_as : (n : Netlist) (ports : Ports) (i : ℕ) (clock input output : NetId) (more : List Role) (id : CellId) → IsSingle n → shape_of n.library (Library id) ≡ shape_as kind.Dff (AClock ∷ Din ∷ Output ∷ more) →
-    IsPlainShape n ports i clock input output more → Stands n i (Library id) (pins_between n.library id clock input output) → IsFlop (logic_of n ports) i clock.0 input.0 output.0
+    IsPlainShape n ports i clock input output more → Stands n i (Library id) (pins_between n.library id clock input output) → IsFlop (logic_of n ports) clock.0 i output.0 input.0
 flop_as n ports i clock input output more id single shape plain h =
     let x : Instance = h.instance in
     let s : Shape = shape_as kind.Dff (AClock ∷ Din ∷ Output ∷ more) in
@@ -198,8 +198,8 @@ flop_as n ports i clock input output more id single shape plain h =
     ∙ ap (cell_as n ports i s) front.are
     ∙ plain front.rest in
     record {
-      takes = ap (cell_or_none i) is;
-      shows = ap (meaning_of n ports output.0) drives ∙ ap (flop_meaning i false) is;
+      cell = ap (cell_or_none i) is;
+      net = ap (meaning_of n ports output.0) drives ∙ ap (flop_meaning i false) is;
     }
 
 pub flop_stands : FlopStands

@@ -1,6 +1,6 @@
 -- Recipes: lists of parts that name the nets that they make, and what it is to make one.
-use Rattle.std.specs.Prelude.{ℕ, suc, ◌+◌, ◌<◌, ◌≡◌, Bool, List, [], ◌∷◌, ◌++◌, length, map, Option, None, Some, Result, Ok, Err}
-use Rattle.std.specs.List.{All}
+use Rattle.std.specs.Prelude.{ℕ, suc, ◌+◌, ◌<◌, ◌≡◌, Bool, List, [], ◌∷◌, ◌++◌, length, map, Option, None, Some, Result, Ok, Err, slice_index_or}
+use Rattle.std.specs.List.{All, range_with_len}
 use Rattle.dft_cells.specs.declared.kind.Kind.{Kind}
 use Rattle.dft_cells.specs.declared.cell.Cell.{Cell}
 use Rattle.dft_netlist.specs.declared.ids.NetId.{NetId}
@@ -71,11 +71,19 @@ collect f (x ∷ xs) = do
   more ← collect f xs
   pure (first ∷ more)
 
+-- the net at a place of a list
+abbrev pub net_at : List NetId → (place : ℕ) → NetId
+net_at nets place = slice_index_or nets place (record { 0 = 0 })
+
 -- ---- single parts
 
 -- a net
 abbrev pub a_net : Recipe NetId
 a_net = λ at. record { parts = ANet ∷ []; value = record { 0 = at.next } }
+
+-- so many nets
+abbrev pub nets_made : (count : ℕ) → Recipe (List NetId)
+nets_made count = collect (λ _. a_net) (range_with_len 0 count)
 
 abbrev pub an_instance : CellRef → List Signal → Recipe (Unit {0})
 an_instance cell pins = λ at. record { parts = AnInstance cell pins ∷ []; value = tt }

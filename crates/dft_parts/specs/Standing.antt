@@ -27,10 +27,10 @@ pub record IsClockNet (n : Netlist) (ports : Ports) (net : ℕ) : Type 0 where
 abbrev pub plain_cell : (clock input : ℕ) → Cell
 plain_cell clock input = record { domain = clock; input = Net input; scan = None; force = None }
 
--- a flip-flop shows its bit at a net, and takes the bit of another
-pub record IsFlop (l : Logic) (cell clock input output : ℕ) : Type 0 where
-  pub takes : l.cell cell ≡ plain_cell clock input
-  pub shows : l.net output ≡ Flop cell false
+-- a flip-flop shows its bit at one net, and takes the bit of another
+pub record IsFlop (l : Logic) (clock flop output input : ℕ) : Type 0 where
+  pub cell : l.cell flop ≡ plain_cell clock input
+  pub net : l.net output ≡ Flop flop false
 
 -- A made gate drives its net from its inputs.
 abbrev pub GateStands : Type 0
@@ -42,7 +42,7 @@ GateStands =
 abbrev pub FlopStands : Type 0
 FlopStands =
     (n : Netlist) (ports : Ports) (number : ℕ) (clock input output : NetId) → IsSingle n → IsWellFormed n.library → IsClockNet n ports clock.0 →
-    Stands n number (Library (first_cell is_dff n.library)) (pins_between n.library (first_cell is_dff n.library) clock input output) → IsFlop (logic_of n ports) number clock.0 input.0 output.0
+    Stands n number (Library (first_cell is_dff n.library)) (pins_between n.library (first_cell is_dff n.library) clock input output) → IsFlop (logic_of n ports) clock.0 number output.0 input.0
 
 -- A made lock-up on a clock port holds its input.
 abbrev pub LockupStands : Type 0
