@@ -1,8 +1,0 @@
-//! The ring generator and the phase shifter behind it, made of gates and flip-flops (Rajski and others, 2004).
-#![tactic(auto)]
-
-mod phases;
-mod ring;
-mod stages;
-
-pub use ring::{Ring, build_ring};
