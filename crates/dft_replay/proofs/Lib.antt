@@ -5,6 +5,8 @@ pub mod ExampleLemmas
 pub mod Existence
 pub mod TestLemmas
 pub mod FitLemmas
+pub mod LookLemmas
+pub mod PlayedLemmas
 pub mod VectorLemmas
 pub mod SignalLemmas
 pub mod ReplayLemmas

@@ -13,7 +13,7 @@ use Rattle.dft_patterns.specs.declared.act.Act.{Act}
 use Rattle.dft_patterns.specs.declared.act.Act.TheVariants.{Unset, Low, High, Pulse, ExpectLow, ExpectHigh, Ignore}
 use Rattle.dft_replay.specs.declared.verdict.Verdict.{Verdict}
 use Rattle.dft_replay.specs.Rows.{Row, is_pulse}
-use Rattle.dft_replay.specs.Verdicts.{decided_by, decided}
+use Rattle.dft_replay.specs.Verdicts.{decided}
 
 -- ---- ports
 
@@ -39,15 +39,15 @@ is_compared High = false
 is_compared Pulse = false
 is_compared Ignore = false
 
--- what an act at a signal with this value decides
-abbrev pub judged : (vector signal : ℕ) → Tri → Act → Option Verdict
-judged v i value ExpectLow = decided_by v i value false None
-judged v i value ExpectHigh = decided_by v i value true None
-judged v i value Unset = None
-judged v i value Low = None
-judged v i value High = None
-judged v i value Pulse = None
-judged v i value Ignore = None
+-- the bit that an act compares
+abbrev pub printed : Act → Option Bool
+printed ExpectLow = Some false
+printed ExpectHigh = Some true
+printed Unset = None
+printed Low = None
+printed High = None
+printed Pulse = None
+printed Ignore = None
 
 -- ---- clocks
 
