@@ -4,6 +4,7 @@
 mod flops;
 mod laws;
 mod machine;
+mod plans;
 mod rounds;
 mod sweeping;
 
