@@ -2,7 +2,6 @@ pub mod Soundness
 pub mod Uniqueness
 pub mod PlainLemmas
 pub mod ExampleLemmas
-pub mod Existence
 pub mod TestLemmas
 pub mod FitLemmas
 pub mod LookLemmas

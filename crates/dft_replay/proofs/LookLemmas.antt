@@ -1,6 +1,5 @@
 -- What a vector compares, by place in a list: what is asked, and what the values decide.
-use Rattle.std.proofs.Common.{ℕ, zero, suc, ◌+◌, ◌<◌, ◌≤◌, Bool, true, false, List, [], ◌∷◌, ◌++◌, ◌≡◌, Option, None, Some, length, map, drop, refl, sym, ap, ◌∙◌, get_or, arith}
-use Rattle.std.specs.Prelude.{All}
+use Rattle.std.proofs.Common.{ℕ, suc, ◌+◌, ◌<◌, ◌≤◌, Bool, true, false, List, [], ◌∷◌, ◌++◌, ◌≡◌, Option, None, Some, length, map, drop, refl, sym, ap, ◌∙◌, get_or, arith}
 use Rattle.std.proofs.Math.Seq.{drop-cons}
 use Rattle.std.proofs.lemmas.List.{length-map, length_push, append-nil, append_assoc, drop_all}
 use Rattle.std.proofs.lemmas.List.Elements.{All-cons}

@@ -1,5 +1,5 @@
 -- A vector on the machine: which inputs are told, which clocks pulse, and what its compared bits decide.
-use Rattle.std.proofs.Common.{ℕ, zero, suc, ◌+◌, ◌<◌, ◌≤◌, ◌≢◌, ◌==◌, Bool, true, false, ◌&&◌, List, [], ◌∷◌, ◌++◌, ◌≡◌, ◌⊎◌, inl, inr, Option, Some, length, map, drop, refl, sym, ap, ◌∙◌, slice_get, get_or, below_more, arith}
+use Rattle.std.proofs.Common.{ℕ, zero, suc, ◌+◌, ◌<◌, ◌≤◌, ◌≢◌, ◌==◌, Bool, true, false, ◌&&◌, List, [], ◌∷◌, ◌++◌, ◌≡◌, ◌⊎◌, inl, inr, Some, length, map, refl, sym, ap, ◌∙◌, slice_get, get_or, below_more, arith}
 use Rattle.std.specs.Prelude.{if◌then◌else◌, filter, All, AllPairs, count_by}
 use Rattle.std.specs.List.{range_with_len}
 use Rattle.std.proofs.lemmas.Bool.Decides.{eqb_tells}
@@ -11,16 +11,14 @@ use Rattle.std.proofs.lemmas.Option.{slice_get-get_or}
 use Rattle.dft_base.specs.declared.tri.Tri.{Tri}
 use Rattle.dft_netlist.specs.declared.ids.NetId.{NetId}
 use Rattle.dft_netlist.specs.Orders.{Has, numbers_of}
-use Rattle.dft_cycle.specs.Machine.{Machine, value_at, logic, is_one_of, pulses, IsSet, IsStrobed, IsPulsed}
+use Rattle.dft_cycle.specs.Machine.{Machine, value_at, logic, is_one_of, pulses, IsSet}
 use Rattle.dft_cycle.specs.MachineLaws.{IsForced, StandsSince}
-use Rattle.dft_cycle.proofs.MachineRounds.{set_stands, calls_round}
+use Rattle.dft_cycle.proofs.MachineRounds.{set_stands}
 use Rattle.dft_patterns.specs.declared.act.Act.{Act}
 use Rattle.dft_patterns.specs.declared.act.Act.TheVariants.{Unset, Low, High, Pulse, ExpectLow, ExpectHigh, Ignore}
-use Rattle.dft_replay.specs.declared.verdict.Verdict.{Verdict}
 use Rattle.dft_replay.specs.Rows.{Compared, Row, act_on, set_by, is_pulse, compared_at, compared_from, row_of}
 use Rattle.dft_replay.specs.Rows as rows
-use Rattle.dft_replay.specs.Vectors.{act_at, net_at, is_compared, pulses_at, clocks_of, AreClocks, IsPlayed}
-use Rattle.dft_replay.specs.Verdicts.{decided}
+use Rattle.dft_replay.specs.Vectors.{act_at, net_at, is_compared, pulses_at, clocks_of, AreClocks}
 use Rattle.dft_replay.proofs.TestLemmas.{or_cases, or_left, or_right, and_parts, and_both}
 
 -- ---- the act at a net

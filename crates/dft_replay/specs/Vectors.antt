@@ -1,7 +1,6 @@
 -- How the machine plays vectors: nets by signal, clocks by signal, and what a vector comes to.
 use Rattle.std.specs.Prelude.{ℕ, ◌≡◌, ◌<◌, ◌≢◌, Bool, true, false, List, [], ◌∷◌, ◌++◌, length, map, filter, AllPairs, Option, None, Some, get_or, slice_get}
 use Rattle.std.specs.List.{list_any, range_with_len}
-use Rattle.dft_base.specs.declared.tri.Tri.{Tri}
 use Rattle.dft_netlist.specs.declared.ids.NetId.{NetId}
 use Rattle.dft_base.specs.declared.dir.Dir.{Dir}
 use Rattle.dft_netlist.specs.declared.port.Port.{Port}

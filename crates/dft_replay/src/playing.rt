@@ -82,13 +82,7 @@ pub(crate) fn play(
 {
     set_inputs(machine, nets, acts);
     list_compared(nets, acts, &mut room.wanted, &mut room.asked);
-    let decision = compare(
-        machine,
-        vector,
-        &room.wanted,
-        &room.asked,
-        &mut room.seen,
-    );
+    let decision = compare(machine, vector, &room.wanted, &room.asked, &mut room.seen);
     mark(clocks, acts, &mut room.pulsed);
     machine.pulse(&room.pulsed);
     decision

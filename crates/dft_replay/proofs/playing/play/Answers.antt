@@ -1,12 +1,9 @@
 -- The calls for a vector come to its round.
-use Rattle.std.proofs.Common.{◌≡◌, ◌∙◌, ◌≤◌, ℕ, Bool, List, Option, length, map, sym, ap, subst, arith, rules}
+use Rattle.std.proofs.Common.{◌≡◌, ◌∙◌, Bool, List, length, map, sym, ap, subst, arith, rules}
 use Rattle.std.proofs.lemmas.List.{length-map, with_items_is}
-use Rattle.dft_base.specs.declared.tri.Tri.{Tri}
 use Rattle.dft_netlist.specs.declared.ids.NetId.{NetId}
 use Rattle.dft_netlist.specs.Orders.{numbers_of}
-use Rattle.dft_logic.specs.Needs.{IsStrobe}
-use Rattle.dft_cycle.specs.Machine.{Machine, value_at, logic, IsPulsed}
-use Rattle.dft_replay.specs.declared.comparing.Asked.{Asked}
+use Rattle.dft_cycle.specs.Machine.{Machine, logic, IsPulsed}
 use Rattle.dft_replay.specs.Looks.{asked_of, decided_seen, AreBefore}
 use Rattle.dft_replay.specs.Rows.{Compared, compared_from}
 use Rattle.dft_replay.proofs.LookLemmas.{compared_before, compared_few}
