@@ -1,6 +1,6 @@
 //! The phase shifter.
 
-ghost use Rattle.std.specs.Prelude.{◌≡◌, ◌<◌, ◌≤◌, IfOk, OnOk, length, map};
+ghost use Rattle.std.specs.Prelude.{ℕ, ◌≡◌, ◌<◌, ◌≤◌, IfOk, OnOk, length, map};
 ghost use Rattle.std.specs.List.{All, range_with_len};
 ghost use Rattle.dft_config.specs.Range.{IsRingInRange};
 ghost use Rattle.dft_parts.specs.Recipes.{AreThere, Makes, collect, net_at};
@@ -57,7 +57,8 @@ fn make_phase(
 /// The nets of these stages.
 fn phase_terms(alloc: Global, stages: &[NetId], set: &[u8]) -> Result<Vec<NetId>, AllocError>
     requires { All (λ stage. stage < length stages.now) set.now }
-    ensures { IfOk result (λ terms. terms.items ≡ map (net_at stages.now) set.now) }
+    ensures nets { IfOk result (λ terms. terms.items ≡ map (net_at stages.now) set.now) }
+    ensures below { IfOk result (λ terms. (bound : ℕ) → All (λ net. net.0 < bound) stages.now → All (λ net. net.0 < bound) terms.items) }
 {
     let mut terms = Vec::new(alloc);
     for stage in set {

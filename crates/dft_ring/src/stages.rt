@@ -1,6 +1,6 @@
 //! The stages of the ring.
 
-ghost use Rattle.std.specs.Prelude.{◌≡◌, ◌<◌, ◌≤◌, ◌++◌, IfOk, OnOk, length};
+ghost use Rattle.std.specs.Prelude.{ℕ, ◌≡◌, ◌<◌, ◌≤◌, ◌++◌, IfOk, OnOk, length};
 ghost use Rattle.std.specs.List.{All, range_with_len};
 ghost use Rattle.dft_config.specs.Range.{IsRingInRange};
 ghost use Rattle.dft_parts.specs.Recipes.{AreThere, Makes, each, nets_made};
@@ -21,7 +21,8 @@ pub(crate) fn make_nets(parts: &mut PartsBuilder, count: u8) -> Result<Vec<NetId
     ensures nets { OnOk result (length parts.old.netlist.nets ≤ length parts.new.netlist.nets) }
 {
     let mut nets = Vec::new(parts.alloc());
-    for _number in 0..count {
+    for number in 0..count {
+        let _ = number;
         let net = parts.net()?;
         push_net(&mut nets, net)?;
     }
@@ -90,7 +91,8 @@ fn stage_terms(
     requires channels { length channels.now ≡ ring.now.channels }
     requires stages { length stages.now ≡ ring.now.stages }
     requires stage { stage < ring.now.stages }
-    ensures { IfOk result (λ terms. terms.items ≡ spec.stage_terms ring.now channels.now stages.now stage) }
+    ensures nets { IfOk result (λ terms. terms.items ≡ spec.stage_terms ring.now channels.now stages.now stage) }
+    ensures below { IfOk result (λ terms. (bound : ℕ) → All (λ net. net.0 < bound) stages.now → All (λ net. net.0 < bound) channels.now → All (λ net. net.0 < bound) terms.items) }
 {
     let next = (stage as usize + 1) % stages.len();
     let mut terms = Vec::new(alloc);

@@ -4,5 +4,5 @@ use Rattle.dft_parts.specs.Recipes.{a_net}
 use Rattle.dft_parts.proofs.Runs.{Collects}
 use Rattle.dft_ring.proofs.stages.make_nets.Given as goal
 
-abbrev pub invariant-loop-_number : goal.invariant-loop-_number
-invariant-loop-_number l = Collects (λ _. a_net) (range_with_len 0 l.count) (range_with_len l._number (l.count - l._number)) l.fn.parts l.parts l.nets.items
+abbrev pub invariant-loop-number : goal.invariant-loop-number
+invariant-loop-number l = Collects (λ _. a_net) (range_with_len 0 l.count) (range_with_len l.number (l.count - l.number)) l.fn.parts l.parts l.nets.items
