@@ -1,5 +1,5 @@
 -- The ring as it is made.
-use Rattle.std.proofs.Common.{ℕ, ◌≡◌, List, [], ◌∷◌, Result, Ok, refl, sym, subst, ap, ◌∙◌}
+use Rattle.std.proofs.Common.{ℕ, ◌≡◌, List, [], ◌∷◌, Result, Ok, sym, subst, ◌∙◌}
 use Rattle.std.specs.List.{range_with_len}
 use Rattle.dft_cells.specs.declared.kind.Kind.TheVariants.{And, Inv}
 use Rattle.dft_netlist.specs.declared.ids.NetId.{NetId}
@@ -8,7 +8,7 @@ use Rattle.dft_config.specs.declared.config.Config.{Config}
 use Rattle.dft_config.specs.declared.config.RingConfig.{RingConfig}
 use Rattle.dft_parts.specs.declared.edt_ports.EdtPorts.{EdtPorts}
 use Rattle.dft_parts.specs.Parts.{Making}
-use Rattle.dft_parts.specs.Recipes.{Recipe, pure, ◌>>=◌, ◌>>◌, each, collect, net_at, nets_made, a_flop, outcome, IsRefusal, Makes}
+use Rattle.dft_parts.specs.Recipes.{Recipe, pure, ◌>>=◌, each, collect, net_at, nets_made, a_flop, outcome, IsRefusal, Makes}
 use Rattle.dft_parts.specs.Sums.{a_driving_gate, a_sum}
 use Rattle.dft_parts.proofs.Outcomes.{then_ok, then_refused, pure_made, same_makes}
 use Rattle.dft_ring.specs.declared.ring.Ring.{Ring}

@@ -1,26 +1,25 @@
 -- The parts of the ring are its hardware.
-use Rattle.std.proofs.Common.{ℕ, zero, suc, ◌+◌, ◌-◌, ◌<◌, ◌≡◌, List, [], ◌∷◌, ◌++◌, length, map, refl, sym, subst, ap, arith, ◌∙◌}
-use Rattle.std.specs.List.{All, range_with_len}
+use Rattle.std.proofs.Common.{ℕ, zero, suc, ◌+◌, ◌-◌, ◌<◌, ◌≡◌, List, [], ◌∷◌, ◌++◌, length, map, refl, subst, ap, arith, ◌∙◌}
+use Rattle.std.specs.List.{range_with_len}
 use Rattle.std.proofs.lemmas.List.{length-map}
 use Rattle.dft_cells.specs.declared.kind.Kind.TheVariants.{And, Inv}
 use Rattle.dft_cells.specs.declared.cell.Cell.{Cell}
 use Rattle.dft_cells.specs.WellFormed.{IsWellFormed}
 use Rattle.dft_netlist.specs.declared.ids.NetId.{NetId}
 use Rattle.dft_netlist.specs.declared.instance.CellRef.TheVariants.{Library}
-use Rattle.dft_netlist.specs.Drivers.{Net}
-use Rattle.dft_netlist.specs.Logic.{Logic, Ports, Gate, logic_of}
+use Rattle.dft_netlist.specs.Logic.{Ports, logic_of}
 use Rattle.dft_netlist.specs.Netlist.{Netlist}
 use Rattle.dft_netlist.specs.NetDrivers.{IsSingle}
 use Rattle.dft_netlist.specs.Orders.{numbers_of}
 use Rattle.dft_config.specs.declared.config.Config.{Config}
 use Rattle.dft_config.specs.declared.config.RingConfig.{RingConfig}
-use Rattle.dft_config.specs.Range.{IsInRange, IsSet}
+use Rattle.dft_config.specs.Range.{IsInRange}
 use Rattle.dft_config.specs.Ring.{phase_of}
 use Rattle.dft_parts.specs.declared.edt_ports.EdtPorts.{EdtPorts}
 use Rattle.dft_parts.specs.Cells.{is_dff, first_cell, pins_between}
 use Rattle.dft_parts.specs.Growth.{Stands, HasParts, instances_in}
-use Rattle.dft_parts.specs.Parts.{Part, ANet}
-use Rattle.dft_parts.specs.Recipes.{Start, Recipe, behind, each, collect, net_at, nets_made, a_net, a_flop}
+use Rattle.dft_parts.specs.Parts.{ANet}
+use Rattle.dft_parts.specs.Recipes.{Start, behind, each, collect, net_at, nets_made, a_net, a_flop}
 use Rattle.dft_parts.specs.Standing.{IsClockNet, IsFlop}
 use Rattle.dft_parts.specs.Sums.{a_driving_gate, a_sum}
 use Rattle.dft_parts.specs.SumTrees.{IsSum}
@@ -30,7 +29,7 @@ use Rattle.dft_parts.proofs.Trees.{front, back, sum_stands}
 use Rattle.dft_edt.specs.Feeds.{Feed, Stage, Channel, at_feed, feeds}
 use Rattle.dft_edt.specs.Hardware.{EdtNets, HasStage}
 use Rattle.dft_ring.specs.RingRecipe.{stage_terms, a_stage, a_phase, a_ring}
-use Rattle.dft_ring.specs.RingStands.{run_parts, stage_nets, stages_start, first_stages, stage_flop, with_ring, HasRingParts, RingStands}
+use Rattle.dft_ring.specs.RingStands.{run_parts, stage_flop, RingStands}
 use Rattle.dft_ring.proofs.PartLists.{instances_in-append, each_there, each_more, collect_there, range_at, range_last, both_at}
 
 -- ---- nets by their numbers

@@ -1,6 +1,6 @@
 -- The ring in every settled assignment.
-use Rattle.std.proofs.Common.{ℕ, Bool, true, false, List, [], ◌∷◌, ◌≡◌, ◌<◌, refl, ap, map, ◌∙◌}
-use Rattle.std.specs.Prelude.{not, ◌&&◌}
+use Rattle.std.proofs.Common.{Bool, true, false, [], ◌∷◌, ◌≡◌, refl, ap, map, ◌∙◌}
+use Rattle.std.specs.Prelude.{◌&&◌}
 use Rattle.dft_base.specs.declared.tri.Tri.{Tri}
 use Rattle.dft_base.specs.declared.tri.Tri.TheVariants.{Zero, One, Unknown}
 use Rattle.dft_cells.specs.declared.kind.Kind.TheVariants.{Inv, And}

@@ -73,7 +73,13 @@ fn make_stage(
     ensures makes { Makes (λ _. tt) (a_stage ring.now ports.now run stages.now stage) parts.old result parts.new }
     ensures nets { OnOk result (length parts.old.netlist.nets ≤ length parts.new.netlist.nets) }
 {
-    let terms = stage_terms(parts.alloc(), ring, ports.channels.as_slice(), stages, stage)?;
+    let terms = stage_terms(
+        parts.alloc(),
+        ring,
+        ports.channels.as_slice(),
+        stages,
+        stage,
+    )?;
     let sum = parts.sum(&terms)?;
     let kept = parts.driving_gate(Kind::And, &[sum, run])?;
     parts.flop(ports.edt_clock, kept, stages[stage as usize])

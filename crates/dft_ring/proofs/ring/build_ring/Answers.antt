@@ -2,7 +2,6 @@ use Rattle.std.proofs.Common.{◌≡◌, List, Ok, sym, subst, ◌∙◌}
 use Rattle.std.proofs.lemmas.Result.{err_from_is_err_and}
 use Rattle.dft_netlist.specs.declared.ids.NetId.{NetId}
 use Rattle.dft_parts.specs.Recipes.{outcome, IsRefusal}
-use Rattle.dft_ring.specs.declared.ring.Ring.{Ring}
 use Rattle.dft_ring.proofs.Made.{stages_of, phases_of, to_end, run_refused, nets_refused, stages_refused, phases_refused}
 use Rattle.dft_ring.proofs.ring.build_ring.Goals as goal
 

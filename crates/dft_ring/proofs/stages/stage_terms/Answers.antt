@@ -1,4 +1,4 @@
-use Rattle.std.proofs.Common.{◌<◌, ◌+◌, ◌%◌, ℕ, sym, subst, ap, arith, length, ◌≡◌}
+use Rattle.std.proofs.Common.{◌<◌, ◌+◌, ◌%◌, ℕ, sym, subst, ap, arith, length}
 use Rattle.std.specs.List.{All}
 use Rattle.std.specs.Prelude.{slice_index_or}
 use Rattle.std.proofs.lemmas.Nat.{mod_below}
