@@ -10,7 +10,6 @@ use Rattle.dft_lanes.proofs.RowLemmas.{sum_short}
 use Rattle.dft_gf2.proofs.Sums.{xor_cancel, and_false}
 use Rattle.dft_gf2.proofs.Echelons.{IsMet, AreSolvedTo, sum_led, sums_agree, solved_more, leads_of, all_met}
 use Rattle.dft_gf2.proofs.Restorations.{kept_solved, rows_met}
-use Rattle.dft_gf2.proofs.Outcomes.{are_led}
 
 -- the bit of column k: the one that its row forces, and the fill bit where it leads none
 pub record IsNext (rows : List Row) (places : List (Option ℕ)) (fill bits : List Bool) (k : ℕ) (bit : Bool) : Type 0 where
@@ -106,20 +105,17 @@ fills_choose n rows places kept fill bits e all = record {
 pub place_read : (n : ℕ) (rows : List Row) (places : List (Option ℕ)) (kept k : ℕ) (found : Option ℕ) → IsEchelon n rows places kept → k < n → found ≡ get_or places k found → found ≡ place_at places k
 place_read n rows places kept k found e less is = get_or_read places k found (rw e.columns less) is None
 
-pub row_read : (n : ℕ) (rows : List Row) (places : List (Option ℕ)) (kept k i : ℕ) (row : Row) → IsEchelon n rows places kept → place_at places k ≡ Some i → row ≡ get_or rows i row → row ≡ row_at rows i
-row_read n rows places kept k i row e leads is = get_or_read rows i row (are_led n rows places kept e k i leads).0 is _
-
 -- the bits from column k on add nothing
 sum_before : (n k : ℕ) (set bits : List Bool) → k ≤ n → ((c : ℕ) → k ≤ c → bit_at bits c ≡ false) → sum_over n set (bit_at bits) ≡ sum_over k set (bit_at bits)
 sum_before n k set bits fits rest =
     sum_short k n (λ c. bit_at set c && bit_at bits c) fits (λ c past. ap (λ (b : Bool). bit_at set c && b) (rest c past) ∙ and_false (bit_at set c))
 
-pub next_forced : (n : ℕ) (rows : List Row) (places : List (Option ℕ)) (kept : ℕ) (fill bits : List Bool) (k i : ℕ) (row : Row) (bit : Bool) → IsEchelon n rows places kept → k < n →
-    place_at places k ≡ Some i → row ≡ get_or rows i row → Fills n rows places fill bits k → bit ≡ xor row.bit (sum_over (length bits) row.set (bit_at bits)) → IsNext rows places fill bits k bit
-next_forced n rows places kept fill bits k i row bit e inside leads read before is = record {
+pub next_forced : (n : ℕ) (rows : List Row) (places : List (Option ℕ)) (kept : ℕ) (fill bits : List Bool) (k i : ℕ) (bit : Bool) → IsEchelon n rows places kept → k < n →
+    place_at places k ≡ Some i → Fills n rows places fill bits k → bit ≡ xor (row_at rows i).bit (sum_over (length bits) (row_at rows i).set (bit_at bits)) → IsNext rows places fill bits k bit
+next_forced n rows places kept fill bits k i bit e inside leads before is = record {
   forced = λ j other.
       let same : i ≡ j = cc in
-      let row_is : row ≡ row_at rows j = row_read n rows places kept k i row e leads read ∙ ap (row_at rows) same in
+      let row_is : row_at rows i ≡ row_at rows j = ap (row_at rows) same in
       is ∙ (λ t. xor (row_is t).bit (sum_over (before.size t) (row_is t).set (bit_at bits)))
       ∙ ap (xor (row_at rows j).bit) (sum_before n k (row_at rows j).set bits (omega arith) before.rest);
   filled = λ free. absurd cc;

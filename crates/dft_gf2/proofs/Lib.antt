@@ -2,11 +2,13 @@ pub mod Echelons
 pub mod Restorations
 pub mod Sums
 pub mod BitsLemmas
+pub mod Firsts
 pub mod Reductions
 pub mod Outcomes
 pub mod Certificates
 pub mod Choices
 pub mod Unsolvable
 pub mod Stated
+pub mod StoredRows
 pub mod OneChosen
 pub mod OneStated

@@ -8,7 +8,7 @@ use Rattle.std.proofs.lemmas.Bool.{cases_eq, cases_lt, and_left}
 use Rattle.dft_base.specs.Solutions.{xor, bit_at, sum_over, Equation, equation_at, Solves, IsSolvable, odd_at, odd_bits, IsSumOf, IsSum, AllGive, NoneGives}
 use Rattle.dft_lanes.specs.Rows.{bits_of}
 use Rattle.dft_lanes.proofs.RowLemmas.{length-bits_of}
-use Rattle.dft_gf2.specs.Rows.{row_at, place_at, IsWide, IsStarted, IsLedBy, AreLed, IsZero, IsNew, AreSums, Means, IsReduced, with_own, restored, kept_to, IsEchelon}
+use Rattle.dft_gf2.specs.Rows.{row_at, place_at, IsWide, IsStarted, IsLedBy, AreLed, NameEarlier, IsZero, IsNew, AreSums, Means, IsReduced, with_own, restored, kept_to, IsEchelon}
 use Rattle.dft_gf2.specs.declared.row.Row.{Row}
 use Rattle.dft_gf2.specs.declared.system.Outcome.{Outcome}
 use Rattle.dft_gf2.specs.declared.system.Outcome.TheVariants.{Kept, Implied, Conflict}
@@ -79,6 +79,9 @@ room n rows places k c trial e new =
     let size = length-set places c (Some k) in
     omega (arith, e.count, e.columns)
 
+pub own_wide : (n k : ℕ) (trial : Row) → IsWide n trial → IsWide n (with_own k trial)
+own_wide n k trial wide = (wide.0, length-set trial.sums k true ∙ wide.1)
+
 -- the trial is one row more
 pub echelon_more : (n : ℕ) (rows : List Row) (places : List (Option ℕ)) (k c : ℕ) (trial : Row) → IsEchelon n rows places k → IsWide n trial → ((j : ℕ) → k ≤ j → bit_at trial.sums j ≡ false) →
     IsNew places trial c → IsEchelon n (slice_set rows k (with_own k trial)) (slice_set places c (Some k)) (k + 1)
@@ -89,7 +92,7 @@ echelon_more n rows places k c trial e wide later new =
     record {
       wide = (
         length-set rows k (with_own k trial) ∙ e.wide.0,
-        λ i less. at_set (IsWide n) rows k i (with_own k trial) inside (λ same. (wide.0, length-set trial.sums k true ∙ wide.1)) (λ apart. e.wide.1 i less),
+        λ i less. at_set (IsWide n) rows k i (with_own k trial) inside (λ same. own_wide n k trial wide) (λ apart. e.wide.1 i less),
       );
       columns = length-set places c (Some k) ∙ e.columns;
       count = count_set places c k new.0 new.1 ∙ ap (λ (m : ℕ). m + 1) e.count;
@@ -208,6 +211,9 @@ kept_fits n rows places k e = let fits = count_by-le-length is_some places in om
 
 pub are_led : (n : ℕ) (rows : List Row) (places : List (Option ℕ)) (k : ℕ) → IsEchelon n rows places k → AreLed rows places
 are_led n rows places k e c i is = (let fits = kept_fits n rows places k e in let below : i < k = (e.led c i is).0 in omega (arith, e.wide.0), (e.led c i is).1)
+
+pub name_earlier : (n : ℕ) (rows : List Row) (places : List (Option ℕ)) (k : ℕ) → IsEchelon n rows places k → NameEarlier rows places
+name_earlier n rows places k e c i is = λ j above. e.later i j (e.led c i is).0 above
 
 -- the trial's own place is none of those that its meaning reads
 own_means : (n k : ℕ) (kept : List Equation) (row : List Bool) (bit : Bool) (trial : Row) → length kept ≡ k → Means n kept trial row bit → Means n kept (with_own k trial) row bit

@@ -6,7 +6,7 @@ use Rattle.std.proofs.lemmas.Bool.{cases_lt, cases_Bool, false≢true}
 use Rattle.std.proofs.lemmas.List.{get_or_past, get_or-replicate, length-replicate}
 use Rattle.dft_base.specs.Solutions.{xor, bit_at, Equation, equation_at, Solves, IsSolvable, IsSum, AllGive, Contradicts, StatesFrom, ids_to}
 use Rattle.dft_gf2.specs.Laws.{UnsolvableIsStated}
-use Rattle.dft_gf2.specs.Rows.{row_at, place_at, IsWide, IsStarted, IsZero, IsNew, IsAdded, IsReduced, with_own, bits_to, kept_to, IsEchelon}
+use Rattle.dft_gf2.specs.Rows.{row_at, place_at, AreWide, IsWide, IsStarted, IsZero, IsNew, IsAdded, IsReduced, with_own, bits_to, kept_to, IsEchelon}
 use Rattle.dft_gf2.specs.declared.row.Row.{Row}
 use Rattle.dft_gf2.proofs.Restorations.{length_bits, bits_at, solves_push, solves_front, solves_last}
 use Rattle.dft_gf2.proofs.Reductions.{reduced_none, reduced_both, reduced_added, cleared_added}
@@ -178,10 +178,10 @@ states_from n kept (e ∷ es) has wide none =
     states_more n kept e es has none (told_any n kept e has (wide 0 (omega arith)))
     (λ more never. states_from n (kept ++ e ∷ []) es more rest never) (λ never. states_from n kept es has rest never)
 
-no_place : (n c : ℕ) → place_at (replicate n None) c ≡ None
+pub no_place : (n c : ℕ) → place_at (replicate n None) c ≡ None
 no_place n c = elim (cases_lt c n) [ inl less ↦ get_or-replicate n c None None less | inr past ↦ get_or_past (replicate n None) c None (let nones : List (Option ℕ) = replicate n None in let size : length nones ≡ n = length-replicate n None in omega arith) ]
 
-none_counted : (n : ℕ) → count_by (is_some {T = ℕ}) (replicate n None) ≡ 0
+pub none_counted : (n : ℕ) → count_by (is_some {T = ℕ}) (replicate n None) ≡ 0
 none_counted zero = refl
 none_counted (suc n) = let ih = none_counted n in omega arith
 
@@ -192,6 +192,18 @@ blank_wide : (n : ℕ) → IsWide n (blank n)
 unfolding blank
 blank_wide n = (length_bits n (λ c. false), length_bits n (λ j. false))
 
+-- no row is kept
+pub empty_echelon : (n : ℕ) (rows : List Row) → AreWide n rows → IsEchelon n rows (replicate n None) 0
+empty_echelon n rows wide = record {
+  wide = wide;
+  columns = length-replicate n None;
+  count = none_counted n;
+  led = λ c i is. absurd (let none = no_place n c in cc);
+  leads = λ i less. absurd (omega arith);
+  own = λ i less. absurd (omega arith);
+  later = λ i j less above. absurd (omega arith);
+}
+
 nothing_kept : (n : ℕ) → HasEchelon n []
 unfolding HasEchelon kept_to
 nothing_kept n = (
@@ -201,15 +213,8 @@ nothing_kept n = (
     (
       0,
       (
-        record {
-          wide = (length-replicate n (blank n), λ i less. let found : row_at (replicate n (blank n)) i ≡ blank n = get_or-replicate n i (blank n) _ less in rw found (blank_wide n));
-          columns = length-replicate n None;
-          count = none_counted n;
-          led = λ c i is. absurd (let none = no_place n c in cc);
-          leads = λ i less. absurd (omega arith);
-          own = λ i less. absurd (omega arith);
-          later = λ i j less above. absurd (omega arith);
-        },
+        empty_echelon n (replicate n (blank n))
+            (length-replicate n (blank n), λ i less. let found : row_at (replicate n (blank n)) i ≡ blank n = get_or-replicate n i (blank n) _ less in rw found (blank_wide n)),
         refl,
       ),
     ),

@@ -1,8 +1,10 @@
 pub mod BitsShown
 pub mod Elimination
+pub mod Ends
 pub mod Inside
 pub mod Laws
 pub mod Like
 pub mod Rows
+pub mod RowsShown
 pub use Rattle.dft_base.specs.Solutions
 pub use Rattle.dft_lanes.specs.Rows as Packing

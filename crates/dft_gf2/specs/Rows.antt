@@ -1,7 +1,8 @@
 -- Rows of an echelon form: what one sums, which column leads it, and the equations that the rows stand for.
-use Rattle.std.specs.Prelude.{ℕ, zero, suc, Bool, true, false, ◌≡◌, ◌<◌, List, [], ◌∷◌, ◌++◌, Option, Some, None, length, get_or, slice_set, is_some}
+use Rattle.std.specs.Prelude.{ℕ, zero, suc, Bool, true, false, ◌≡◌, ◌+◌, ◌<◌, List, [], ◌∷◌, ◌++◌, Option, Some, None, length, get_or, slice_set, is_some}
 use Rattle.std.specs.List.{count_by}
 use Rattle.dft_base.specs.Solutions.{xor, bit_at, Equation, odd_at, odd_bits}
+use Rattle.dft_gf2.specs.Ends.{EndsAt}
 use Rattle.dft_gf2.specs.declared.row.Row.{Row}
 
 -- the row at a place
@@ -20,6 +21,10 @@ IsWide n row = (length row.set ≡ n) × (length row.sums ≡ n)
 abbrev pub AreWide : ℕ → List Row → Type 0
 AreWide n rows = (length rows ≡ n) × ((i : ℕ) → i < n → IsWide n (row_at rows i))
 
+-- n rows of n columns, each of which can sum the equation at its own place and earlier ones
+abbrev pub AreFitted : ℕ → List Row → Type 0
+AreFitted n rows = (length rows ≡ n) × ((i : ℕ) → i < n → (length (row_at rows i).set ≡ n) × (length (row_at rows i).sums ≡ i + 1))
+
 -- the row is the equation alone, and as wide as before
 pub record IsStarted (row : List Bool) (bit : Bool) (id : ℕ) (old new : Row) : Type 0 where
   pub set : new.set ≡ row
@@ -27,6 +32,15 @@ pub record IsStarted (row : List Bool) (bit : Bool) (id : ℕ) (old new : Row) :
   pub sums : (j : ℕ) → bit_at new.sums j ≡ false
   pub sums_size : length new.sums ≡ length old.sums
   pub id_is : new.id ≡ id
+
+-- the row is another one
+pub record IsCopied (old other new : Row) : Type 0 where
+  pub set : (c : ℕ) → bit_at new.set c ≡ bit_at other.set c
+  pub bit_is : new.bit ≡ other.bit
+  pub sums : (j : ℕ) → bit_at new.sums j ≡ bit_at other.sums j
+  pub set_size : length new.set ≡ length old.set
+  pub sums_size : length new.sums ≡ length old.sums
+  pub id_is : new.id ≡ other.id
 
 -- the other row is added
 pub record IsAdded (old other new : Row) : Type 0 where
@@ -44,6 +58,10 @@ IsLedBy row c = (bit_at row.set c ≡ true) × ((d : ℕ) → c < d → bit_at r
 -- each column that has a row leads it
 abbrev pub AreLed : List Row → List (Option ℕ) → Type 0
 AreLed rows places = (c i : ℕ) → place_at places c ≡ Some i → (i < length rows) × IsLedBy (row_at rows i) c
+
+-- each row that a column leads sums none but the equation at its own place and earlier ones
+abbrev pub NameEarlier : List Row → List (Option ℕ) → Type 0
+NameEarlier rows places = (c i : ℕ) → place_at places c ≡ Some i → EndsAt (row_at rows i).sums i
 
 -- the row holds no column
 abbrev pub IsZero : Row → Type 0

@@ -1,6 +1,8 @@
-ghost use Rattle.std.specs.Prelude.{◌≡◌, ℕ, ◌+◌, ◌/◌, ◌<◌, Bool, true, false, if◌then◌else◌, length, replicate, slice_set, IfOk, MatchOption};
+ghost use Rattle.std.specs.Prelude.{◌≡◌, ℕ, ◌+◌, ◌/◌, ◌<◌, ◌≤◌, Bool, true, false, if◌then◌else◌, length, replicate, slice_set, IfOk, MatchOption};
+ghost use Rattle.dft_base.specs.Packed.{packed_bit};
 ghost use Rattle.dft_base.specs.Solutions.{bit_at, sum_over, xor};
 ghost use Rattle.dft_lanes.specs.Rows.{bits_of, IsPacked};
+ghost use Rattle.dft_gf2.specs.Ends.{EndsAt};
 
 use dft_lanes::{has_bit, highest, parity_and, put, xor_into};
 use std::alloc::{AllocError, Global};
@@ -58,6 +60,17 @@ impl Bits {
         self.words.copy_from_slice(words);
     }
 
+    /// Takes over the first bits of as many or more, of which the others are 0.
+    pub fn copy_first(&mut self, other: &Bits)
+        requires few { length self.old ≤ length other.now }
+        requires end { (k : ℕ) → length self.old ≤ k → bit_at other.now k ≡ false }
+        ensures size { length self.new ≡ length self.old }
+        ensures bits { (k : ℕ) → bit_at self.new k ≡ bit_at other.now k }
+    {
+        let count = self.words.len();
+        self.words.copy_from_slice(&other.words[..count]);
+    }
+
     /// Makes every bit 0.
     pub fn clear(&mut self)
         ensures size { length self.new ≡ length self.old }
@@ -66,13 +79,15 @@ impl Bits {
         self.words.fill(0);
     }
 
-    /// Adds as many bits, place by place.
-    pub fn add(&mut self, other: &Bits)
-        requires { length other.now ≡ length self.old }
+    /// Adds as many bits, place by place, of which none past `last` is 1.
+    pub fn add(&mut self, other: &Bits, last: usize)
+        requires within { last < length self.old }
+        requires other { last < length other.now }
+        requires end { EndsAt other.now last }
         ensures size { length self.new ≡ length self.old }
         ensures sums { (k : ℕ) → bit_at self.new k ≡ xor (bit_at self.old k) (bit_at other.now k) }
     {
-        xor_into(&mut self.words, &other.words);
+        add_first(&mut self.words, &other.words, last / 64 + 1);
     }
 
     /// The last place with bit 1.
@@ -105,4 +120,15 @@ fn zero_words(alloc: Global, count: usize) -> Result<Vec<u64>, AllocError>
     ensures { IfOk result (λ words. words.items ≡ replicate count 0) }
 {
     vec![in alloc; 0; count]
+}
+
+// Adds as many bits, of which each with the value 1 is in so many words.
+fn add_first(words: &mut [u64], others: &[u64], count: usize)
+    requires within { count ≤ length words.old }
+    requires others { count ≤ length others.now }
+    requires end { (k : ℕ) → count ≤ k / 64 → packed_bit others.now k ≡ false }
+    ensures size { length words.new ≡ length words.old }
+    ensures sums { (k : ℕ) → packed_bit words.new k ≡ xor (packed_bit words.old k) (packed_bit others.now k) }
+{
+    xor_into(&mut words[..count], &others[..count]);
 }

@@ -6,6 +6,7 @@ mod fill;
 mod laws;
 mod mark;
 mod row;
+mod rows;
 mod system;
 
 pub use fill::Fill;

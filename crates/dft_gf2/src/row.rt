@@ -1,7 +1,8 @@
-ghost use Rattle.std.specs.Prelude.{◌≡◌, ℕ, ◌<◌, Bool, length, IfOk, MatchOption};
+ghost use Rattle.std.specs.Prelude.{◌≡◌, ℕ, ◌<◌, ◌≤◌, Bool, false, length, IfOk, MatchOption};
 ghost use Rattle.dft_base.specs.Solutions.{bit_at, sum_over, xor};
 ghost use Rattle.dft_lanes.specs.Rows.{bits_of, IsPacked};
-ghost use Rattle.dft_gf2.specs.Rows.{IsAdded, IsLedBy, IsStarted, IsWide, IsZero};
+ghost use Rattle.dft_gf2.specs.Ends.{EndsAt};
+ghost use Rattle.dft_gf2.specs.Rows.{IsAdded, IsCopied, IsLedBy, IsStarted, IsZero};
 
 use crate::bits::Bits;
 use std::alloc::{AllocError, Global};
@@ -16,14 +17,14 @@ pub struct Row {
 }
 
 impl Row {
-    /// A row of so many columns that sums nothing.
-    pub fn blank(alloc: Global, columns: u32) -> Result<Row, AllocError>
-        ensures { IfOk result (IsWide columns) }
+    /// A row of so many columns that sums nothing, and can sum so many equations.
+    pub fn blank(alloc: Global, columns: u32, equations: u32) -> Result<Row, AllocError>
+        ensures { IfOk result (λ row. (length row.set ≡ columns) × (length row.sums ≡ equations)) }
     {
         Ok(Row {
             set: Bits::zeros(alloc, columns)?,
             bit: false,
-            sums: Bits::zeros(alloc, columns)?,
+            sums: Bits::zeros(alloc, equations)?,
             id: 0,
         })
     }
@@ -47,15 +48,28 @@ impl Row {
         self.sums.get(place)
     }
 
-    /// Adds another row.
-    pub fn add(&mut self, other: &Row)
-        requires set { length other.now.set ≡ length self.old.set }
-        requires sums { length other.now.sums ≡ length self.old.sums }
+    /// Becomes another row, which sums nothing that this one cannot.
+    pub fn copy_from(&mut self, other: &Row)
+        requires set { length self.old.set ≡ length other.now.set }
+        requires sums { length self.old.sums ≤ length other.now.sums }
+        requires end { (j : ℕ) → length self.old.sums ≤ j → bit_at other.now.sums j ≡ false }
+        ensures { IsCopied self.old other.now self.new }
+    {
+        self.set.copy_first(&other.set);
+        self.bit = other.bit;
+        self.sums.copy_first(&other.sums);
+        self.id = other.id;
+    }
+
+    /// Adds another row, whose last column is `column` and which sums no equation past `place`.
+    pub fn add(&mut self, other: &Row, column: usize, place: usize)
+        requires set { (column < length self.old.set) × (column < length other.now.set) × EndsAt other.now.set column }
+        requires sums { (place < length self.old.sums) × (place < length other.now.sums) × EndsAt other.now.sums place }
         ensures { IsAdded self.old other.now self.new }
     {
-        self.set.add(&other.set);
+        self.set.add(&other.set, column);
         self.bit ^= other.bit;
-        self.sums.add(&other.sums);
+        self.sums.add(&other.sums, place);
     }
 
     /// The row's last column.

@@ -2,13 +2,15 @@ ghost use Rattle.std.specs.Prelude.{◌≡◌, ℕ, ◌<◌, ◌≤◌, ◌↔�
 ghost use Rattle.dft_base.specs.Solutions.{bit_at, Equation, IsSum, AllGive, NoneGives, Certifies, Contradicts, IsChosen, Solves};
 ghost use Rattle.dft_lanes.specs.Rows.{bits_of, IsPacked};
 ghost use Rattle.dft_gf2.specs.Elimination.{Elimination, After};
+ghost use Rattle.dft_gf2.specs.Ends.{EndsAt};
 ghost use Rattle.dft_gf2.specs.Like.{AnswersLike};
-ghost use Rattle.dft_gf2.specs.Rows.{row_at, AreWide, AreLed, IsCleared, IsEchelon, IsZero, IsNew, IsReduced, IsWide, with_own};
+ghost use Rattle.dft_gf2.specs.Rows.{row_at, AreWide, AreLed, IsCleared, IsEchelon, IsZero, IsNew, IsReduced, IsWide, NameEarlier, with_own};
 
 use crate::bits::Bits;
 use crate::fill::Fill;
 use crate::mark::Mark;
 use crate::row::Row;
+use crate::rows::Rows;
 use std::alloc::{AllocError, Global};
 use std::marker::Model;
 
@@ -29,7 +31,7 @@ pub enum Outcome {
 pub struct System {
     columns: u32,
     kept: usize,
-    rows: Vec<Row>,
+    rows: Rows,
     row_of: Vec<Option<usize>>,
     trial: Row,
     refused: bool,
@@ -55,9 +57,9 @@ impl System {
         Ok(System {
             columns,
             kept: 0,
-            rows: blank_rows(alloc, columns)?,
+            rows: Rows::blank(alloc, columns)?,
             row_of: vec![in alloc; None; columns as usize]?,
-            trial: Row::blank(alloc, columns)?,
+            trial: Row::blank(alloc, columns, columns)?,
             refused: false,
         })
     }
@@ -120,7 +122,7 @@ impl System {
         let mut ids = Vec::new(alloc);
         for place in 0..self.kept {
             if self.trial.names(place) {
-                ids.push(self.rows[place].id)?;
+                ids.push(self.rows.id(place))?;
             }
         }
         ids.push(self.trial.id)?;
@@ -160,7 +162,7 @@ impl System {
         let mut bits = Bits::zeros(alloc, self.columns)?;
         for column in 0..self.columns {
             let bit = match self.row_of[column as usize] {
-                Some(place) => self.rows[place].forced(&bits),
+                Some(place) => self.rows.forced(place, &bits),
                 None => fill.bit(column),
             };
             bits.put(column as usize, bit);
@@ -169,30 +171,20 @@ impl System {
     }
 }
 
-// As many blank rows as columns.
-fn blank_rows(alloc: Global, columns: u32) -> Result<Vec<Row>, AllocError>
-    ensures { IfOk result (λ rows. AreWide columns rows.items) }
-{
-    let mut rows = Vec::with_capacity(alloc, columns as usize)?;
-    for _ in 0..columns {
-        rows.push(Row::blank(alloc, columns)?)?;
-    }
-    Ok(rows)
-}
-
 // Clears the trial's last column by the row that it leads, and says whether that could be done.
-fn clear(trial: &mut Row, rows: &[Row], row_of: &[Option<usize>], column: usize) -> bool
+fn clear(trial: &mut Row, rows: &Rows, row_of: &[Option<usize>], column: usize) -> bool
     requires within { column < length row_of.now }
     requires wide { IsWide (length row_of.now) trial.old }
     requires rows { AreWide (length row_of.now) rows.now }
     requires led { AreLed rows.now row_of.now }
+    requires named { NameEarlier rows.now row_of.now }
     requires last { bit_at trial.old.set column ≡ true }
     ensures reduced { IsReduced rows.now row_of.now trial.old trial.new }
     ensures cleared { IsCleared row_of.now column trial.old trial.new result }
 {
     match row_of[column] {
         Some(place) => {
-            trial.add(&rows[place]);
+            rows.add_to(trial, place, column);
             true
         }
         None => false,
@@ -200,10 +192,11 @@ fn clear(trial: &mut Row, rows: &[Row], row_of: &[Option<usize>], column: usize)
 }
 
 // Clears the trial's last column again and again, up to one that leads no row. Each turn clears a column at least.
-fn reduce(trial: &mut Row, rows: &[Row], row_of: &[Option<usize>]) -> Option<usize>
+fn reduce(trial: &mut Row, rows: &Rows, row_of: &[Option<usize>]) -> Option<usize>
     requires wide { IsWide (length row_of.now) trial.old }
     requires rows { AreWide (length row_of.now) rows.now }
     requires led { AreLed rows.now row_of.now }
+    requires named { NameEarlier rows.now row_of.now }
     ensures reduced { IsReduced rows.now row_of.now trial.old trial.new }
     ensures end { MatchOption result (IsZero trial.new) (IsNew row_of.now trial.new) }
 {
@@ -219,33 +212,28 @@ fn reduce(trial: &mut Row, rows: &[Row], row_of: &[Option<usize>]) -> Option<usi
 }
 
 // Puts the trial at a place of the rows, as the one that the column leads.
-fn keep(
-    trial: &mut Row,
-    rows: &mut [Row],
-    row_of: &mut [Option<usize>],
-    place: usize,
-    column: usize,
-)
+fn keep(trial: &mut Row, rows: &mut Rows, row_of: &mut [Option<usize>], place: usize, column: usize)
     requires place { place < length rows.old }
     requires column { column < length row_of.old }
-    requires sums { place < length trial.old.sums }
+    requires wide { IsWide (length rows.old) trial.old }
+    requires sums { EndsAt trial.old.sums place }
     ensures rows { rows.new ≡ slice_set rows.old place (with_own place trial.old) }
     ensures row_of { row_of.new ≡ slice_set row_of.old column (Some place) }
-    ensures trial { trial.new ≡ row_at rows.old place }
+    ensures trial { trial.new ≡ with_own place trial.old }
 {
     trial.sums.put(place, true);
-    std::mem::swap(trial, &mut rows[place]);
+    rows.put(place, trial);
     row_of[column] = Some(place);
 }
 
 // Frees the columns that the rows from a place on are led by.
-fn free(rows: &[Row], row_of: &mut [Option<usize>], first: usize, kept: usize)
+fn free(rows: &Rows, row_of: &mut [Option<usize>], first: usize, kept: usize)
     requires order { first ≤ kept }
     requires echelon { IsEchelon (length row_of.old) rows.now row_of.old kept }
     ensures echelon { IsEchelon (length row_of.old) rows.now row_of.new first }
 {
     for place in (first..kept).rev() {
-        if let Some(column) = rows[place].last() {
+        if let Some(column) = rows.last(place) {
             row_of[column as usize] = None;
         }
     }

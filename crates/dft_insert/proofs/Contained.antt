@@ -12,7 +12,7 @@ use Rattle.dft_netlist.specs.Drivers.{Source, Connection, connections_from, sour
 use Rattle.dft_netlist.specs.Traces.{Root, Port, Constant, Other, root_of}
 use Rattle.dft_netlist.specs.Logic.{Ports, Force, Scan, Cell, same_role, pin_of, or_loose, domain_of, domain_at, force_of, forcing, scan_of, modelled, modelled_of}
 use Rattle.dft_insert.specs.Moves.{Gap, moved, moved_signal}
-use Rattle.dft_insert.specs.ScanOff.{moved_source, moved_force, IsWithin, IsForceWithin, IsEnabledBy, Places, KeepsFlop}
+use Rattle.dft_chains.specs.ScanOff.{moved_source, moved_force, IsWithin, IsForceWithin, IsEnabledBy, Places, KeepsFlop}
 use Rattle.dft_insert.proofs.MovedRoots.{moved_root}
 use Rattle.dft_insert.proofs.Mergings as mergings
 

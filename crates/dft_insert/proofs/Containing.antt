@@ -41,7 +41,7 @@ use Rattle.dft_insert.specs.AddedPorts.{enable_net, scan_in_net}
 use Rattle.dft_insert.specs.Stitching.{Layout, scan_input, output_net}
 use Rattle.dft_insert.specs.Written as written
 use Rattle.dft_insert.specs.Written.{map_from, as_scan_cell, place_in, written_at, written_instance, plain_instances}
-use Rattle.dft_insert.specs.ScanOff.{moved_source, moved_meaning, IsEnabledBy, Places, KeepsFlop}
+use Rattle.dft_chains.specs.ScanOff.{moved_source, moved_meaning, IsEnabledBy, Places, KeepsFlop}
 use Rattle.dft_insert.specs.Statements.{IsReady, config_ports, scanned, places_in, ContainsDesign, AgreesWhileOff}
 use Rattle.dft_insert.proofs.Mergings.{moved_driver, added_driver, moved_connection, moved_connections}
 use Rattle.dft_insert.proofs.ScanPairs.{ScanPair, KeepsPins, scan_pins, stitched_connections}
@@ -51,7 +51,7 @@ use Rattle.dft_insert.proofs.Standing.{can_stitch}
 use Rattle.dft_insert.proofs.Whole.{layout, moved_front, moved_apart, all_opened, made_instances, all_added_drivers, whole_merges}
 use Rattle.dft_insert.proofs.Fine.{is_plain, FineBy, instance_plain, driver_fine}
 use Rattle.dft_insert.proofs.Kept.{ports_count, original_driver, reads_inside, root_kept, root_stays, design_ports_few}
-use Rattle.dft_insert.proofs.ScanOffLemmas.{scan_off}
+use Rattle.dft_chains.proofs.ScanOffLemmas.{scan_off}
 use Rattle.dft_insert.proofs.Contained.{RootsKept, SamePins, AreMatched, modelled_kept, pin_inside, pin_moved}
 
 -- ---- a flip-flop before scan has no scan pin

@@ -23,7 +23,7 @@ use Rattle.dft_insert.specs.Moves.{moved}
 use Rattle.dft_insert.specs.AddedPorts.{port_name, new_port, numbered, numbered_ports, added_ports, ports_from, scan_out_net}
 use Rattle.dft_insert.specs.Stitching.{Layout, open_places}
 use Rattle.dft_insert.specs.Written.{map_from, lockup_instance, buffer_instance, made_nets}
-use Rattle.dft_insert.specs.ScanOff.{moved_source, IsWithin}
+use Rattle.dft_chains.specs.ScanOff.{moved_source, IsWithin}
 use Rattle.dft_insert.specs.Statements.{IsReady, scanned}
 use Rattle.dft_insert.proofs.Mergings.{moved_driver}
 use Rattle.dft_insert.proofs.Whole.{layout, made_instances, all_opened, all_added_drivers, driver_kept, moved_front, instances_append}

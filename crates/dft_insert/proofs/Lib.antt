@@ -1,5 +1,3 @@
-pub mod Shiftings
-pub mod ScanOffLemmas
 pub mod Mergings
 pub mod ScanPairs
 pub mod Pairs

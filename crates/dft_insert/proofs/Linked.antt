@@ -35,8 +35,8 @@ use Rattle.dft_insert.specs.Moves.{moved}
 use Rattle.dft_insert.specs.AddedPorts.{scan_in_net, scan_out_net}
 use Rattle.dft_insert.specs.Stitching.{number_of, stands_after, Layout, made_or, moved_or_none, output_net}
 use Rattle.dft_insert.specs.Written.{domain_net, lockup_instance}
-use Rattle.dft_insert.specs.Hardware as hardware
-use Rattle.dft_insert.specs.Hardware.{ScanNets, IsScanCell, Leads, Directly, ByLockup, HasChains, Enters, Shows, IsPlain}
+use Rattle.dft_chains.specs.Hardware as hardware
+use Rattle.dft_chains.specs.Hardware.{ScanNets, IsScanCell, Leads, Directly, ByLockup, HasChains, Enters, Shows, IsPlain}
 use Rattle.dft_insert.specs.Statements.{IsReady, config_ports, scanned, plain_nets, HasHardware}
 use Rattle.dft_insert.proofs.Mergings as mergings
 use Rattle.dft_insert.proofs.Whole.{layout}
@@ -284,7 +284,7 @@ link_by n config chain place cell next (Some net) ready stands follows is =
     (output_means n config chain place cell ready stands a)
 
 scan_cell : (n : Netlist) (config : Config) (chain place : ℕ) (cell : InstanceId) → IsReady n config → cell_at (plan_of n config).chains chain place ≡ Some cell →
-    IsScanCell (logic_of (scanned Plain n config) (config_ports n config)) (config_ports n config) (plain_nets (layout n config) config).enable ((plain_nets (layout n config) config).into chain place) cell.0
+    IsScanCell (logic_of (scanned Plain n config) (config_ports n config)) (config_ports n config) (plain_nets (layout n config) config).nets.enable ((plain_nets (layout n config) config).nets.into chain place) cell.0
 scan_cell n config chain place cell ready stands =
     let s : IsStitched n config chain place cell = stitched n config chain place cell ready stands in
     let same : (logic_of (scanned Plain n config) (config_ports n config)).cell cell.0 ≡ s.flop = flop_is n config chain place cell s in

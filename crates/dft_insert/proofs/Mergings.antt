@@ -15,7 +15,7 @@ use Rattle.dft_netlist.specs.declared.instance.Join.{Join}
 use Rattle.dft_netlist.specs.declared.port.Port.{Port}
 use Rattle.dft_netlist.specs.Drivers.{Source, Driver, Input, Gate, Joined, Flop, Lockup, Free, Driven, Connection, connections_from, connections_of, source_of, is_input, inputs_of, driver_of_kind, at_role, driven_by_pins, driven_by, driven_by_bits, driven_by_ports, driven_by_joins, driver_in, shape_of}
 use Rattle.dft_insert.specs.Moves.{Gap, moved, moved_signal, moved_instance, moved_join}
-use Rattle.dft_insert.specs.ScanOff.{moved_source}
+use Rattle.dft_chains.specs.ScanOff.{moved_source}
 
 -- ---- merges
 

@@ -29,8 +29,8 @@ use Rattle.dft_insert.specs.Moves.{moved}
 use Rattle.dft_insert.specs.AddedPorts.{enable_net, scan_in_net}
 use Rattle.dft_insert.specs.Stitching.{Layout, output_net, scan_input}
 use Rattle.dft_insert.specs.Written.{place_in}
-use Rattle.dft_insert.specs.ScanOff.{moved_force, Places, KeepsFlop}
-use Rattle.dft_insert.specs.Hardware.{ActsByPort}
+use Rattle.dft_chains.specs.ScanOff.{moved_force, Places, KeepsFlop}
+use Rattle.dft_chains.specs.Hardware.{ActsByPort}
 use Rattle.dft_insert.specs.Statements.{IsReady, config_ports, scanned, places_in}
 use Rattle.dft_insert.proofs.ScanPairs.{KeepsPins, scan_pins, stitched_connections}
 use Rattle.dft_insert.proofs.Carried.{HasPair}

@@ -5,7 +5,7 @@ use Rattle.dft_cells.specs.declared.kind.Kind.TheVariants as kind
 use Rattle.dft_netlist.specs.Netlist.{Netlist}
 use Rattle.dft_netlist.specs.Drivers.{Source, Net, Tied, Loose, Driver, Input, Gate, Joined, Flop, Lockup, Free, driver, nets_of, nets_read, AreBelow, IsOrdered}
 use Rattle.dft_netlist.specs.Traces.{Root, Port, Constant, Other, passed_by_buffer, passed_by_gate, root_of_passed, root_of_driver, root_within, root_of}
-use Rattle.dft_insert.specs.ScanOff.{moved_source, IsWithin}
+use Rattle.dft_chains.specs.ScanOff.{moved_source, IsWithin}
 use Rattle.dft_insert.proofs.Mergings.{moved_driver}
 
 abbrev pub moved_root : (f : ℕ → ℕ) → Root → Root

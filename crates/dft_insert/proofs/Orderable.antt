@@ -30,7 +30,7 @@ use Rattle.dft_insert.specs.Moves.{moved}
 use Rattle.dft_insert.specs.AddedPorts.{NewPort, added_ports, ports_from, scan_out_net}
 use Rattle.dft_insert.specs.Stitching.{number_of, is_place, net_of, own_output, output_at, open_places, Layout, made_or, moved_or_none, output_net}
 use Rattle.dft_insert.specs.Written.{map_from, place_in, domain_net, lockup_instance, buffer_instance}
-use Rattle.dft_insert.specs.ScanOff.{moved_source}
+use Rattle.dft_chains.specs.ScanOff.{moved_source}
 use Rattle.dft_insert.specs.Statements.{IsReady, scanned, CanBeFinished}
 use Rattle.dft_insert.proofs.Mergings.{moved_driver, Merges, Nothing, Kept, Added}
 use Rattle.dft_insert.proofs.ScanPairs.{signal_at, opened}

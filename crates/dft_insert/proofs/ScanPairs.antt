@@ -11,7 +11,7 @@ use Rattle.dft_netlist.specs.Drivers.{Source, Driver, Flop, Driven, Connection, 
 use Rattle.std.specs.Prelude.{if◌then◌else◌}
 use Rattle.dft_netlist.specs.Logic.{same_role, pin_of}
 use Rattle.dft_insert.specs.Moves.{Gap, moved, moved_signal}
-use Rattle.dft_insert.specs.ScanOff.{moved_source}
+use Rattle.dft_chains.specs.ScanOff.{moved_source}
 use Rattle.dft_insert.specs.Written.{at_net, stitched_pins}
 use Rattle.dft_insert.proofs.Mergings.{Merges, Nothing, Kept, Added, moved_source_of}
 

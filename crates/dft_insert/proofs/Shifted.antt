@@ -3,7 +3,7 @@ use Rattle.dft_netlist.specs.Logic.{logic_of}
 use Rattle.dft_stitch.specs.Chains.{plan_of}
 use Rattle.dft_insert.specs.declared.style.Style.TheVariants.{Plain}
 use Rattle.dft_insert.specs.Statements.{config_ports, scanned, plain_nets, ScannedShifts, ScannedShows}
-use Rattle.dft_insert.proofs.Shiftings.{shift_experiment, ends_show}
+use Rattle.dft_chains.proofs.Shiftings.{shift_experiment, ends_show}
 use Rattle.dft_insert.proofs.Whole.{layout}
 use Rattle.dft_insert.proofs.Linked.{has_hardware}
 use Rattle.dft_insert.proofs.Orderable.{scanned_orderable}

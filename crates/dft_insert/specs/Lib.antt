@@ -7,9 +7,6 @@ pub mod Growing
 pub mod Pieces
 pub mod Refusals
 pub mod Keeping
-pub mod Hardware
-pub mod Shifts
-pub mod ScanOff
 pub mod Statements
 pub mod Tallies
 pub mod NameSetShown

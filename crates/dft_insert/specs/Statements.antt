@@ -28,9 +28,10 @@ use Rattle.dft_insert.specs.AddedPorts.{added_ports, enable_net, scan_in_net, sc
 use Rattle.dft_insert.specs.Stitching.{Layout, scan_input}
 use Rattle.dft_insert.specs.Written.{plain_layout, scanned_netlist}
 use Rattle.dft_insert.specs.Keeping.{Keeps}
-use Rattle.dft_insert.specs.Hardware.{ScanNets, IsPlain}
-use Rattle.dft_insert.specs.Shifts.{after_turns, AreShifts, AreShifted, at_strobe}
-use Rattle.dft_insert.specs.ScanOff.{Places, Contains, AreFreeAlike, AreSameSteps, AllAgree, set_to}
+use Rattle.dft_chains.specs.Hardware.{ScanNets, IsPlain}
+use Rattle.dft_runs.specs.Passes.{after_turns}
+use Rattle.dft_chains.specs.Shifts.{AreShifts, AreShifted, at_strobe}
+use Rattle.dft_chains.specs.ScanOff.{Places, Contains, AreFreeAlike, AreSameSteps, AllAgree, set_to}
 
 -- a finished design that the scan rules pass
 pub record IsReady (n : Netlist) (config : Config) : Type 0 where
@@ -76,10 +77,9 @@ CanBeFinished = (style : Style) (n : Netlist) (config : Config) → IsReady n co
 -- the nets of the chains of style Plain
 abbrev pub plain_nets : Layout → Config → ScanNets
 plain_nets y config = record {
-  enable = enable_net y.gap;
+  nets = record { enable = enable_net y.gap; into = λ chain place. Net (scan_input y (scan_in_net y.gap) chain place) };
   scan_in = scan_in_net y.gap;
   scan_out = scan_out_net y.gap config.chains;
-  into = λ chain place. Net (scan_input y (scan_in_net y.gap) chain place);
 }
 
 -- In style Plain it has the chains between ports of their own.
@@ -127,7 +127,7 @@ ChainsShift n config =
     (before shifts : List Vector) (start : Now) (ts us : List Turn) →
     let l = logic_of (scanned Plain n config) (config_ports n config) in
     let w = plain_nets (plain_layout n config (plan_of n config)) config in
-    IsRun l before start ts → AreShifts (config_ports n config) w shifts → AreTurns l (after_turns l start before ts) shifts us →
+    IsRun l before start ts → AreShifts (config_ports n config) w.nets.enable shifts → AreTurns l (after_turns l start before ts) shifts us →
     AreShifted (plan_of n config).chains w shifts (after_turns l start before ts).state.flops (after_turns l (after_turns l start before ts) shifts us).state.flops
 
 -- In style Plain its chains shift.

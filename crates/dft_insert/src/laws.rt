@@ -1,24 +1,6 @@
 //! Laws about scanned netlists, as contracts of functions that do nothing.
 
-ghost use Rattle.dft_insert.specs.Shifts.{EndsShow, EndsShowBefore, LinkLaw, EntryLaw, ShiftInRuns, ShiftExperiment};
-ghost use Rattle.dft_insert.specs.ScanOff.{ScanOff};
 ghost use Rattle.dft_insert.specs.Statements.{AgreesWhileOff, CanBeFinished, ContainsDesign, HasHardware, KeepsDesign, ScannedShifts, ScannedShows};
-
-/// What shift vectors do to the chains, on the abstract cycle and in every run: whatever the order of the edges and the
-/// free bits, each cell takes the bit of the one before it.
-pub fn chains_shift()
-    ensures links { LinkLaw }
-    ensures entries { EntryLaw }
-    ensures runs { ShiftInRuns }
-    ensures experiment { ShiftExperiment }
-    ensures ends { EndsShow }
-    ensures ends_before { EndsShowBefore }
-{}
-
-/// While scan is off, a design that contains another behaves as it.
-pub fn scan_off_agrees()
-    ensures { ScanOff }
-{}
 
 /// A scanned netlist contains its design, and behaves as it while scan is off.
 pub fn scanned_agrees()

@@ -23,10 +23,9 @@ mod stitching;
 mod style;
 mod tally;
 
+pub use dft_chains::{chains_shift, scan_off_agrees};
 pub use error::InsertError;
 pub use insertion::insert;
-pub use laws::{
-    chains_shift, scan_off_agrees, scanned_agrees, scanned_finishes, scanned_keeps, scanned_shifts,
-};
+pub use laws::{scanned_agrees, scanned_finishes, scanned_keeps, scanned_shifts};
 pub use scanned::Scanned;
 pub use style::Style;

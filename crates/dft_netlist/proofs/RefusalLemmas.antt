@@ -43,7 +43,31 @@ net_full n q h full = rw (h, le_false (length n.nets + 1) MAX_NETS (omega arith)
 pub net_open : (n : Netlist) (q : Text) → is_taken n q ≡ false → length n.nets < MAX_NETS → net_refusal n q ≡ None
 net_open n q h few = rw (h, le_true (length n.nets + 1) MAX_NETS (omega arith)) refl
 
+free_and_room : (t r : Bool) (x y : NetlistError) → cond t (Some x) (cond r None (Some y)) ≡ None → (t ≡ false) × (r ≡ true)
+free_and_room true r x y h = absurd (let f : ⊥ = cc in f)
+free_and_room false true x y h = (refl, refl)
+free_and_room false false x y h = absurd (let f : ⊥ = cc in f)
+
+-- a net that nothing refuses is free and has room
+pub net_fits : (n : Netlist) (q : Text) → net_refusal n q ≡ None → (is_taken n q ≡ false) × (length n.nets < MAX_NETS)
+net_fits n q h =
+    let tests = free_and_room (is_taken n q) (nat_le (length n.nets + 1) MAX_NETS) _ _ h in
+    let room = le_of (length n.nets + 1) MAX_NETS tests.1 in
+    (tests.0, omega (arith, room))
+
 -- ---- instances
+
+none_and_room : (x : Option Text) (r : Bool) (y : NetlistError) → taken_or x (cond r None (Some y)) ≡ None → (x ≡ None) × (r ≡ true)
+none_and_room (Some q) r y h = absurd (let f : ⊥ = cc in f)
+none_and_room None true y h = (refl, refl)
+none_and_room None false y h = absurd (let f : ⊥ = cc in f)
+
+-- an instance that nothing refuses is free and has room
+pub instance_fits : (n : Netlist) (name : Option Text) → instance_refusal n name ≡ None → (first_taken n (own_names name) ≡ None) × (length n.instances < MAX_INSTANCES)
+instance_fits n name h =
+    let tests = none_and_room (first_taken n (own_names name)) (nat_le (length n.instances + 1) MAX_INSTANCES) _ h in
+    let room = le_of (length n.instances + 1) MAX_INSTANCES tests.1 in
+    (tests.0, omega (arith, room))
 
 pub instance_taken : (n : Netlist) (name : Option Text) (q : Text) → name ≡ Some q → is_taken n q ≡ true → instance_refusal n name ≡ Some (DuplicateName q)
 instance_taken n None q is h = absurd (let f : ⊥ = cc in f)

@@ -25,13 +25,13 @@ use std::marker::Model;
 /// the netlist so far. A call that is refused leaves it as it was.
 #[derive(Debug, Drop)]
 pub struct DesignBuilder {
-    alloc: Global,
-    name: Name,
-    library: Library,
-    ports: Vec<Port>,
-    instances: Vec<Instance>,
-    joins: Vec<Join>,
-    table: NameTable,
+    pub(crate) alloc: Global,
+    pub(crate) name: Name,
+    pub(crate) library: Library,
+    pub(crate) ports: Vec<Port>,
+    pub(crate) instances: Vec<Instance>,
+    pub(crate) joins: Vec<Join>,
+    pub(crate) table: NameTable,
 }
 
 impl Model for DesignBuilder {
@@ -106,13 +106,10 @@ impl DesignBuilder {
         if self.table.get(name.as_slice()).is_some() {
             return Err(NetlistError::DuplicateName { name });
         }
-        let count = self.table.net_count();
-        if count >= MAX_NETS {
+        if self.table.net_count() >= MAX_NETS {
             return Err(too_many(Counted::Nets, MAX_NETS));
         }
-        self.table.reserve(1)?;
-        self.table.insert_net(name);
-        Ok(NetId(count as u32))
+        Ok(self.add_net(name)?)
     }
 
     /// Adds an instance of a cell or a gate. Its pins follow the order of its cell's pins; a gate's are its inputs, then
@@ -129,18 +126,11 @@ impl DesignBuilder {
         ensures err { OnErr result (self.new ≡ self.old) }
     {
         let name = self.untaken(name)?;
-        let count = self.instances.len();
-        if count >= MAX_INSTANCES {
+        if self.instances.len() >= MAX_INSTANCES {
             return Err(too_many(Counted::Instances, MAX_INSTANCES));
         }
-        let id = InstanceId(count as u32);
         let pins = PinSignals::from_slice(self.alloc, pins)?;
-        let key = key_of(self.alloc, &name)?;
-        self.instances.reserve(1)?;
-        self.table.reserve(1)?;
-        self.table.insert_own(key, Named::Instance(id));
-        self.instances.push_reserved(Instance { name, cell, pins });
-        Ok(id)
+        Ok(self.add_instance(Instance { name, cell, pins })?)
     }
 
     /// Adds a join: the target has the source's bit (IEEE 1364 `assign` of one bit).
@@ -313,15 +303,5 @@ fn too_many(what: Counted, limit: usize) -> NetlistError
     NetlistError::TooMany {
         what,
         limit: limit as i64,
-    }
-}
-
-/// The bytes of a name, if there is one.
-fn key_of(alloc: Global, name: &Option<Name>) -> Result<Option<Name>, AllocError>
-    ensures { IfOk result (λ key. key ≡ name.now) }
-{
-    match name {
-        Some(name) => Ok(Some(name.copy(alloc)?)),
-        None => Ok(None),
     }
 }

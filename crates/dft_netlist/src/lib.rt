@@ -11,6 +11,7 @@ mod error;
 mod ids;
 mod instance;
 mod key;
+mod known;
 mod laws;
 mod limits;
 mod look_ups;

@@ -6,4 +6,4 @@ use Rattle.dft_gf2.proofs.system.System.certificate.Given as goal
 
 abbrev pub invariant-loop-place : goal.invariant-loop-place
 invariant-loop-place l =
-    l.ids.items ≡ ids_to l.place (bit_at l.self-inside.trial.sums) (kept_to l.self-inside.columns l.self-inside.rows.items l.self-inside.kept)
+    l.ids.items ≡ ids_to l.place (bit_at l.self-inside.trial.sums) (kept_to l.self-inside.columns l.self-inside.rows l.self-inside.kept)

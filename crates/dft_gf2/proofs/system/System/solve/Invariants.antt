@@ -3,4 +3,4 @@ use Rattle.dft_gf2.proofs.Choices.{Fills}
 use Rattle.dft_gf2.proofs.system.System.solve.Given as goal
 
 abbrev pub invariant-loop-column : goal.invariant-loop-column
-invariant-loop-column g l = Fills l.self-inside.columns l.self-inside.rows.items l.self-inside.row_of.items l.fill.like.now l.bits l.column
+invariant-loop-column g l = Fills l.self-inside.columns l.self-inside.rows l.self-inside.row_of.items l.fill.like.now l.bits l.column

@@ -1,0 +1,3 @@
+pub mod Shiftings
+pub mod ScanOffLemmas
+pub mod Staying

@@ -1,0 +1,167 @@
+-- With scan off the nets of the original have the same bits.
+use Rattle.std.proofs.Common.{ℕ, zero, suc, Bool, true, false, List, [], ◌∷◌, ◌≡◌, ◌==◌, ◌<◌, refl, sym, ap, arith, map, ◌∙◌, Option, None, Some}
+use Rattle.std.specs.Prelude.{if◌then◌else◌, not}
+use Rattle.dft_base.specs.declared.tri.Tri.TheVariants.{Zero}
+use Rattle.dft_base.specs.Tri.{completed}
+use Rattle.dft_cells.specs.Gates.{bit_of}
+use Rattle.dft_cells.specs.FlipFlops.{forced, chosen}
+use Rattle.dft_netlist.specs.Drivers.{Source, Net, Tied, Loose, nets_of, AreBelow}
+use Rattle.dft_netlist.specs.Logic.{Logic, Meaning, Input, Clock, Gate, Joined, Flop, Lockup, Free, Force, Scan, Cell, reads, IsRanked}
+use Rattle.dft_netlist.specs.Settled.{Sources, bit_from, bit_given}
+use Rattle.dft_netlist.specs.Runs.{State, Moment, Now, port_bits, sources_of, IsNow, forced_by, taken_by, next_bit, Event, Set, after_event, at_moment, Step, next_now, AreSteps}
+use Rattle.dft_chains.specs.ScanOff.{moved_source, moved_force, moved_meaning, Places, IsWithin, IsForceWithin, IsEnabledBy, KeepsFlop, Contains, IsSameEvent, SameSet, SameRise, SameFall, AddedRise, AddedFall, AreFreeAlike, AreSameSteps, AllAgree, set_to, ScanOff}
+
+-- what both have in common at a moment, but for free bits
+record AreAlike (p : Places) (s its : State) : Type 0 where
+  pub ports : (net : ℕ) → net < p.size → s.ports (p.moved net) ≡ its.ports net
+  pub off : s.ports p.enable ≡ Zero
+  pub flops : (cell : ℕ) → p.is_flop cell ≡ true → s.flops cell ≡ its.flops cell
+  pub high : (domain : ℕ) → s.high (p.moved domain) ≡ its.high domain
+
+-- ---- settled bits
+
+inputs_same : (rank : ℕ → ℕ) (r : ℕ) (p : Places) (s t : Sources) (a b : ℕ → Bool) → ((i pin : ℕ) → s.loose i pin ≡ t.loose i pin) → ((net : ℕ) → net < p.size → rank net < r → a (p.moved net) ≡ b net) →
+    (inputs : List Source) → AreBelow (λ k. k) p.size (nets_of inputs) → AreBelow rank r (nets_of inputs) → map (bit_from s a) (map (moved_source p.moved) inputs) ≡ map (bit_from t b) inputs
+inputs_same rank r p s t a b pins ih [] inside below = refl
+inputs_same rank r p s t a b pins ih (Net net ∷ inputs) inside below = λ i. ih net inside.0 below.0 i ∷ inputs_same rank r p s t a b pins ih inputs inside.1 below.1 i
+inputs_same rank r p s t a b pins ih (Tied bit ∷ inputs) inside below = λ i. bit ∷ inputs_same rank r p s t a b pins ih inputs inside below i
+inputs_same rank r p s t a b pins ih (Loose c pin ∷ inputs) inside below = λ i. pins c pin i ∷ inputs_same rank r p s t a b pins ih inputs inside below i
+
+joined_same : (rank : ℕ → ℕ) (r : ℕ) (p : Places) (s t : Sources) (a b : ℕ → Bool) → ((i pin : ℕ) → s.loose i pin ≡ t.loose i pin) → ((net : ℕ) → net < p.size → rank net < r → a (p.moved net) ≡ b net) →
+    (source : Source) → AreBelow (λ k. k) p.size (nets_of (source ∷ [])) → AreBelow rank r (nets_of (source ∷ [])) → bit_from s a (moved_source p.moved source) ≡ bit_from t b source
+joined_same rank r p s t a b pins ih (Net net) inside below = ih net inside.0 below.0
+joined_same rank r p s t a b pins ih (Tied bit) inside below = refl
+joined_same rank r p s t a b pins ih (Loose c pin) inside below = pins c pin
+
+given_same : (rank : ℕ → ℕ) (p : Places) (s t : Sources) (a b : ℕ → Bool) (net : ℕ) →
+    s.ports (p.moved net) ≡ t.ports net → ((domain : ℕ) → s.high (p.moved domain) ≡ t.high domain) → ((cell : ℕ) → p.is_flop cell ≡ true → s.flops cell ≡ t.flops cell) →
+    s.free (p.moved net) ≡ t.free net → ((i pin : ℕ) → s.loose i pin ≡ t.loose i pin) → ((k : ℕ) → k < p.size → rank k < rank net → a (p.moved k) ≡ b k) →
+    (m : Meaning) → AreBelow (λ k. k) p.size (reads m) → AreBelow rank (rank net) (reads m) → ((cell : ℕ) (inverted : Bool) → m ≡ Flop cell inverted → p.is_flop cell ≡ true) →
+    ((cell domain : ℕ) (source : Source) → m ≡ Lockup cell domain source → ⊥) → bit_given s a (p.moved net) (moved_meaning p.moved m) ≡ bit_given t b net m
+given_same rank p s t a b net ports high flops free pins ih Input inside below shown no_lockup = ports
+given_same rank p s t a b net ports high flops free pins ih Clock inside below shown no_lockup = high net
+given_same rank p s t a b net ports high flops free pins ih (Gate kind inputs) inside below shown no_lockup = ap (bit_of kind) (inputs_same rank (rank net) p s t a b pins ih inputs inside below)
+given_same rank p s t a b net ports high flops free pins ih (Joined source) inside below shown no_lockup = joined_same rank (rank net) p s t a b pins ih source inside below
+given_same rank p s t a b net ports high flops free pins ih (Flop cell inverted) inside below shown no_lockup = ap (λ (bit : Bool). if inverted then not bit else bit) (flops cell (shown cell inverted refl))
+given_same rank p s t a b net ports high flops free pins ih (Lockup cell domain source) inside below shown no_lockup = absurd (no_lockup cell domain source refl)
+given_same rank p s t a b net ports high flops free pins ih Free inside below shown no_lockup = free
+
+port_same : (p : Places) (now its : Now) → AreAlike p now.state its.state → AreFreeAlike p now.moment its.moment → (net : ℕ) → net < p.size → port_bits now.state now.moment (p.moved net) ≡ port_bits its.state its.moment net
+port_same p now its alike free net inside = ap (λ t. completed t (now.moment.free (p.moved net))) (alike.ports net inside) ∙ ap (completed (its.state.ports net)) (free.nets net inside)
+
+seen_by : (original written : Logic) (rank : ℕ → ℕ) (p : Places) (now its : Now) → IsRanked original rank → Contains original written p → AreAlike p now.state its.state → AreFreeAlike p now.moment its.moment →
+    IsNow written now → IsNow original its → (fuel net : ℕ) → rank net < fuel → net < p.size → now.moment.seen (p.moved net) ≡ its.moment.seen net
+seen_by original written rank p now its ranked has alike free settled its_settled zero net less inside = absurd (omega (arith, less))
+seen_by original written rank p now its ranked has alike free settled its_settled (suc fuel) net less inside =
+    settled (p.moved net) ∙ ap (bit_given (sources_of now) now.moment.seen (p.moved net)) (has.nets net inside)
+    ∙ given_same rank p (sources_of now) (sources_of its) now.moment.seen its.moment.seen net (port_same p now its alike free net inside) alike.high alike.flops (free.nets net inside) free.pins
+    (λ k k_inside below. seen_by original written rank p now its ranked has alike free settled its_settled fuel k (omega (arith, less, below)) k_inside)
+    (original.net net) (has.closed net inside) (ranked net) (λ cell inverted is. has.shown net cell inverted inside is) (λ cell domain source is. has.no_lockup net cell domain source inside is)
+    ∙ sym (its_settled net)
+
+seen_same : (original written : Logic) (rank : ℕ → ℕ) (p : Places) (now its : Now) → IsRanked original rank → Contains original written p → AreAlike p now.state its.state → AreFreeAlike p now.moment its.moment →
+    IsNow written now → IsNow original its → (net : ℕ) → net < p.size → now.moment.seen (p.moved net) ≡ its.moment.seen net
+seen_same original written rank p now its ranked has alike free settled its_settled net inside = seen_by original written rank p now its ranked has alike free settled its_settled (suc (rank net)) net (omega arith) inside
+
+-- ---- flip-flops
+
+forced_same : (p : Places) (f : Option Force) (a b : ℕ → Bool) (x y : Bool) → IsForceWithin p.size f → ((net : ℕ) → net < p.size → a (p.moved net) ≡ b net) → x ≡ y → forced_by (moved_force p.moved f) a x ≡ forced_by f b y
+forced_same p None a b x y inside same is = is
+forced_same p (Some force) a b x y inside same is = ap (λ bit. forced force.value bit x) (same force.port inside) ∙ ap (forced force.value (b force.port)) is
+
+input_same : (p : Places) (now its : Now) → ((i pin : ℕ) → now.moment.loose i pin ≡ its.moment.loose i pin) → ((net : ℕ) → net < p.size → now.moment.seen (p.moved net) ≡ its.moment.seen net) → (source : Source) → IsWithin p.size source →
+    bit_from (sources_of now) now.moment.seen (moved_source p.moved source) ≡ bit_from (sources_of its) its.moment.seen source
+input_same p now its pins same (Net net) inside = same net inside
+input_same p now its pins same (Tied bit) inside = refl
+input_same p now its pins same (Loose i pin) inside = pins i pin
+
+-- a scan enable that is 0 leaves D
+taken_off : (port : ℕ) (scan : Option Scan) (at : Source → Bool) (bit : Bool) → IsEnabledBy port scan → at (Net port) ≡ false → taken_by scan at bit ≡ bit
+taken_off port None at bit enabled off = refl
+taken_off port (Some scan) at bit enabled off = ap (λ e. chosen (at e) (at scan.input) bit) enabled ∙ ap (λ e. chosen e (at scan.input) bit) off
+
+enable_low : (original written : Logic) (p : Places) (now : Now) → Contains original written p → now.state.ports p.enable ≡ Zero → IsNow written now → now.moment.seen p.enable ≡ false
+enable_low original written p now has off settled =
+    settled p.enable ∙ ap (bit_given (sources_of now) now.moment.seen p.enable) has.enable ∙ ap (λ t. completed t (now.moment.free p.enable)) off
+
+next_same : (original written : Logic) (p : Places) (now its : Now) (old new : Cell) → Contains original written p → AreAlike p now.state its.state → AreFreeAlike p now.moment its.moment → now.moment.seen p.enable ≡ false →
+    ((net : ℕ) → net < p.size → now.moment.seen (p.moved net) ≡ its.moment.seen net) → KeepsFlop p old new → next_bit new now ≡ next_bit old its
+next_same original written p now its old new has alike free low same kept =
+    let at : Source → Bool = bit_from (sources_of now) now.moment.seen in
+    let there : Source → Bool = bit_from (sources_of its) its.moment.seen in
+    ap (λ (f : Option Force). forced_by f (port_bits now.state now.moment) (taken_by new.scan at (at new.input))) kept.force
+    ∙ forced_same p old.force (port_bits now.state now.moment) (port_bits its.state its.moment) (taken_by new.scan at (at new.input)) (taken_by old.scan there (there old.input)) kept.force_within
+    (λ net inside. port_same p now its alike free net inside)
+    (taken_off p.enable new.scan at (at new.input) kept.scan low ∙ ap at kept.input ∙ input_same p now its free.pins same old.input kept.input_within
+    ∙ sym (ap (λ (s : Option Scan). taken_by s there (there old.input)) kept.plain))
+
+pick : (a b : Bool) (x y z t : Bool) → a ≡ b → x ≡ z → y ≡ t → (if a then x else y) ≡ (if b then z else t)
+pick a b x y z t e f g = rw (e, f, g) refl
+
+not_picked : (a : Bool) (x y z : Bool) → a ≡ false → y ≡ z → (if a then x else y) ≡ z
+not_picked a x y z e f = rw e f
+
+-- ---- events
+
+after_alike : (original written : Logic) (p : Places) (now its : Now) (event other : Event) → Contains original written p → AreAlike p now.state its.state → AreFreeAlike p now.moment its.moment → now.moment.seen p.enable ≡ false →
+    ((net : ℕ) → net < p.size → now.moment.seen (p.moved net) ≡ its.moment.seen net) → IsSameEvent p its.state.ports event other → AreAlike p (after_event written now event) (after_event original its other)
+after_alike original written p now its _ _ has alike free low same (SameSet {given = given} {its = ports} off are) = record { ports = are; off = off; flops = alike.flops; high = alike.high }
+after_alike original written p now its _ _ has alike free low same (SameRise {domain = d}) = record {
+  ports = alike.ports;
+  off = alike.off;
+  flops = λ c is. pick ((written.cell c).domain == p.moved d) ((original.cell c).domain == d) (next_bit (written.cell c) now) (now.state.flops c) (next_bit (original.cell c) its) (its.state.flops c)
+      (ap (λ e. e == p.moved d) (has.flops c is).domain ∙ has.apart (original.cell c).domain d)
+      (next_same original written p now its (original.cell c) (written.cell c) has alike free low same (has.flops c is)) (alike.flops c is);
+  high = λ e. pick (p.moved e == p.moved d) (e == d) true (now.state.high (p.moved e)) true (its.state.high e) (has.apart e d) refl (alike.high e);
+}
+after_alike original written p now its _ _ has alike free low same (SameFall {domain = d}) = record {
+  ports = alike.ports;
+  off = alike.off;
+  flops = alike.flops;
+  high = λ e. pick (p.moved e == p.moved d) (e == d) false (now.state.high (p.moved e)) false (its.state.high e) (has.apart e d) refl (alike.high e);
+}
+after_alike original written p now its _ _ has alike free low same (AddedRise {clock = k} added) = record {
+  ports = alike.ports;
+  off = alike.off;
+  flops = λ c is. not_picked ((written.cell c).domain == k) (next_bit (written.cell c) now) (now.state.flops c) (its.state.flops c) (ap (λ e. e == k) (has.flops c is).domain ∙ added (original.cell c).domain) (alike.flops c is);
+  high = λ e. not_picked (p.moved e == k) true (now.state.high (p.moved e)) (its.state.high e) (added e) (alike.high e);
+}
+after_alike original written p now its _ _ has alike free low same (AddedFall {clock = k} added) = record {
+  ports = alike.ports;
+  off = alike.off;
+  flops = alike.flops;
+  high = λ e. not_picked (p.moved e == k) false (now.state.high (p.moved e)) (its.state.high e) (added e) (alike.high e);
+}
+
+-- resets and sets act alike
+moment_alike : (original written : Logic) (p : Places) (s its : State) (m o : Moment) → Contains original written p → AreAlike p s its → AreFreeAlike p m o → AreAlike p (at_moment written m s) (at_moment original o its)
+moment_alike original written p s its m o has alike free = record {
+  ports = alike.ports;
+  off = alike.off;
+  flops = λ c is. ap (λ (f : Option Force). forced_by f (port_bits s m) (s.flops c)) (has.flops c is).force
+      ∙ forced_same p (original.cell c).force (port_bits s m) (port_bits its o) (s.flops c) (its.flops c) (has.flops c is).force_within
+      (λ net inside. port_same p (record { state = s; moment = m }) (record { state = its; moment = o }) alike free net inside) (alike.flops c is);
+  high = alike.high;
+}
+
+-- ---- lists of events
+
+agree : (original written : Logic) (rank : ℕ → ℕ) (p : Places) (now its : Now) (steps others : List Step) → IsRanked original rank → Contains original written p → AreAlike p now.state its.state → AreFreeAlike p now.moment its.moment →
+    IsNow written now → IsNow original its → AreSameSteps original p its steps others → AreSteps written now steps → AreSteps original its others → AllAgree p steps others
+agree original written rank p now its [] others ranked has alike free settled its_settled same are its_are = tt
+agree original written rank p now its (step ∷ steps) [] ranked has alike free settled its_settled same are its_are = absurd same
+agree original written rank p now its (step ∷ steps) (other ∷ others) ranked has alike free settled its_settled same are its_are =
+    let next : Now = next_now written now step in
+    let there : Now = next_now original its other in
+    let on : AreAlike p next.state there.state = moment_alike original written p (after_event written now step.event) (after_event original its other.event) step.moment other.moment has
+    (after_alike original written p now its step.event other.event has alike free (enable_low original written p now has alike.off settled)
+    (seen_same original written rank p now its ranked has alike free settled its_settled) same.0) same.1 in
+    (seen_same original written rank p next there ranked has on same.1 are.0 its_are.0, agree original written rank p next there steps others ranked has on same.1 are.0 its_are.0 same.2 are.1 its_are.1)
+
+pub scan_off : ScanOff
+scan_off original written rank p now its given ports m o steps others ranked has low its_low flops off set free same are its_are =
+    let next : Now = next_now written now (set_to given m) in
+    let there : Now = next_now original its (set_to ports o) in
+    let on : AreAlike p next.state there.state = moment_alike original written p (after_event written now (Set given)) (after_event original its (Set ports)) m o has
+    (record { ports = set; off = off; flops = flops; high = λ domain. low (p.moved domain) ∙ sym (its_low domain) }) free in
+    (seen_same original written rank p next there ranked has on free are.0 its_are.0, agree original written rank p next there steps others ranked has on free are.0 its_are.0 same are.1 its_are.1)

@@ -1,0 +1,195 @@
+-- What shift vectors do to scan chains: one vector in the views of its domains, then by induction over the vectors.
+use Rattle.std.proofs.Common.{ℕ, zero, suc, ◌+◌, ◌≡◌, ◌==◌, ◌≤◌, Bool, true, false, List, [], ◌∷◌, length, get_or, slice_get, option_and_then, Option, None, Some, refl, sym, subst, ap, arith, ◌∙◌}
+use Rattle.std.specs.Prelude.{if◌then◌else◌}
+use Rattle.std.proofs.lemmas.Bool.{eq-eqb}
+use Rattle.std.proofs.lemmas.Option.{none-some, same_Some, slice_get_within, slice_get-get_or}
+use Rattle.dft_base.specs.declared.tri.Tri.{Tri}
+use Rattle.dft_base.specs.declared.tri.Tri.TheVariants.{Zero, One, Unknown}
+use Rattle.dft_base.specs.Tri.{known, Above}
+use Rattle.dft_cells.specs.FlipFlops.{tri_forced, tri_chosen}
+use Rattle.dft_netlist.specs.declared.ids.InstanceId.{InstanceId}
+use Rattle.dft_netlist.specs.Drivers.{Source, Net}
+use Rattle.dft_netlist.specs.Logic.{Logic, Ports, Meaning, Force, Scan, Input, Flop, Lockup, IsRanked}
+use Rattle.dft_netlist.specs.Settled.{TriSources, value_from, value_given, IsTriSettled, bit_given}
+use Rattle.dft_netlist.specs.Runs.{Now, Moment, State, next_now, set_step, sources_of, port_bits, forced_by, Vector, Turn, after_turn, AreTurns, AreLow}
+use Rattle.dft_abstract.specs.Cycle.{Pulse, tri_forced_by, tri_taken_by, view_sources, AreViews, next_value, after_pulse, pulse_of}
+use Rattle.dft_abstract.specs.Laws.{bits}
+use Rattle.dft_abstract.proofs.Lifts.{known_after_turn, low_after_turn}
+use Rattle.dft_runs.specs.Passes.{after_turns}
+use Rattle.dft_stitch.specs.Plans.{cell_at}
+use Rattle.dft_chains.specs.Hardware.{ChainNets, ScanNets, ActsByPort, IsScanCell, Leads, Directly, ByLockup, HasChains, Shows, IsPlain}
+use Rattle.dft_chains.specs.Shifts.{IsShift, LinkLaw, EntryLaw, IsShifted, ShiftInRuns, AreShifts, AreShifted, ShiftExperiment, at_strobe, EndsShow, EndsShowBefore}
+
+-- ---- values
+
+-- a net has the value that its meaning gives it
+pub value_at : (l : Logic) (s : TriSources) (w : ℕ → Tri) (net : ℕ) (m : Meaning) → IsTriSettled l s w → l.net net ≡ m → w net ≡ value_given s w net m
+value_at l s w net m settled is = settled net ∙ ap (value_given s w net) is
+
+pub own_choice : (a b : Bool) (x y : Tri) → b ≡ true → (if a then (if b then x else y) else x) ≡ x
+own_choice true true x y h = refl
+own_choice true false x y h = absurd cc
+own_choice false b x y h = refl
+
+-- a flip-flop has its old value in the view of its domain
+own_net : (l : Logic) (p : Pulse) (poss : ℕ → Tri) (view : ℕ → ℕ → Tri) (d cell net : ℕ) → AreViews l p poss view → l.net net ≡ Flop cell false → (l.cell cell).domain ≡ d → view d net ≡ p.old cell
+own_net l p poss view d cell net views at is =
+    value_at l (view_sources l p poss view d) (view d) net (Flop cell false) (views d) at
+    ∙ own_choice (p.pulsed (l.cell cell).domain) ((l.cell cell).domain == d) (p.old cell) (poss cell) (eq-eqb (l.cell cell).domain d is)
+
+-- what leads to a cell has the old value of the one before it, in the view of the cell's domain
+lead_value : (l : Logic) (p : Pulse) (poss : ℕ → Tri) (view : ℕ → ℕ → Tri) (cell next : ℕ) (source : Source) → AreViews l p poss view → Leads l cell next source →
+    value_from (view (l.cell next).domain) source ≡ p.old cell
+lead_value l p poss view cell next _ views (Directly {net = net} at same) = own_net l p poss view (l.cell next).domain cell net views at same
+lead_value l p poss view cell next _ views (ByLockup {net = net} {lockup = i} {output = q} at from) =
+    value_at l (view_sources l p poss view (l.cell next).domain) (view (l.cell next).domain) net (Lockup i (l.cell cell).domain (Net q)) (views (l.cell next).domain) at
+    ∙ own_net l p poss view (l.cell cell).domain cell q views from refl
+
+-- an input port has its value in every view
+pub port_value : (l : Logic) (p : Pulse) (poss : ℕ → Tri) (view : ℕ → ℕ → Tri) (d net : ℕ) → AreViews l p poss view → l.net net ≡ Input → view d net ≡ p.ports net
+port_value l p poss view d net views is = value_at l (view_sources l p poss view d) (view d) net Input (views d) is
+
+-- ---- a scan cell in a shift vector
+
+pub forced_at_one : (value : Bool) (v : Tri) → tri_forced value One v ≡ v
+forced_at_one value Zero = refl
+forced_at_one value One = refl
+forced_at_one value Unknown = refl
+
+chosen_in : (s d : Tri) → tri_chosen One s d ≡ s
+chosen_in Zero Zero = refl
+chosen_in Zero One = refl
+chosen_in Zero Unknown = refl
+chosen_in One Zero = refl
+chosen_in One One = refl
+chosen_in One Unknown = refl
+chosen_in Unknown Zero = refl
+chosen_in Unknown One = refl
+chosen_in Unknown Unknown = refl
+
+-- resets are 1, so they leave the value
+pub not_forced : (ports : Ports) (e : ℕ) (x : Vector) (f : Option Force) (v : Tri) → ActsByPort ports f → IsShift ports e x → tri_forced_by f x.ports v ≡ v
+not_forced ports e x None v acts shift = refl
+not_forced ports e x (Some force) v acts shift = ap (λ p. tri_forced force.value p v) (shift.resets force.port acts) ∙ forced_at_one force.value v
+
+-- the scan input is taken
+taken_in : (scan : Option Scan) (enable : ℕ) (source : Source) (at : Source → Tri) (d : Tri) → scan ≡ Some (record { enable = Net enable; input = source }) → at (Net enable) ≡ One → tri_taken_by scan at d ≡ at source
+taken_in scan enable source at d is one = ap (λ (s : Option Scan). tri_taken_by s at d) is ∙ ap (λ e. tri_chosen e (at source) d) one ∙ chosen_in (at source) d
+
+pick_true : (b : Bool) (x y : Tri) → b ≡ true → (if b then x else y) ≡ x
+pick_true true x y h = refl
+pick_true false x y h = absurd cc
+
+-- after the vector a scan cell has the value of its source in the view of its domain
+pub takes_source : (l : Logic) (ports : Ports) (chains : List (List InstanceId)) (w : ChainNets) (x : Vector) (old poss : ℕ → Tri) (view : ℕ → ℕ → Tri) (source : Source) (cell : ℕ) →
+    HasChains l ports chains w → IsShift ports w.enable x → AreViews l (pulse_of l x old) poss view → IsScanCell l ports w.enable source cell →
+    after_pulse l (pulse_of l x old) view cell ≡ value_from (view (l.cell cell).domain) source
+takes_source l ports chains w x old poss view source cell has shift views is =
+    let d : ℕ = (l.cell cell).domain in
+    let at : Source → Tri = value_from (view d) in
+    pick_true (x.pulsed d) (next_value l (pulse_of l x old) view cell) ((pulse_of l x old).old cell) (shift.domains d is.domain)
+    ∙ not_forced ports w.enable x (l.cell cell).force (tri_taken_by (l.cell cell).scan at (at (l.cell cell).input)) is.force shift
+    ∙ taken_in (l.cell cell).scan w.enable source at (at (l.cell cell).input) is.scan
+    (port_value l (pulse_of l x old) poss view d w.enable views has.enable ∙ shift.enabled)
+
+pub link_law : LinkLaw
+link_law l ports chains w x old poss view has shift views chain place cell next stands follows =
+    takes_source l ports chains w x old poss view (w.into chain (suc place)) next.0 has shift views (has.cells chain (suc place) next follows)
+    ∙ lead_value l (pulse_of l x old) poss view cell.0 next.0 (w.into chain (suc place)) views (has.links chain place cell next stands follows)
+    ∙ not_forced ports w.enable x (l.cell cell.0).force (old cell.0) (has.cells chain place cell stands).force shift
+
+pub entry_law : EntryLaw
+entry_law l ports chains w x old poss view has shift views chain cell stands enters =
+    let d : ℕ = (l.cell cell.0).domain in
+    takes_source l ports chains w.nets x old poss view (w.nets.into chain zero) cell.0 has shift views (has.cells chain zero cell stands)
+    ∙ ap (value_from (view d)) enters.first
+    ∙ port_value l (pulse_of l x old) poss view d (w.scan_in chain) views enters.port
+
+-- ---- every run
+
+above_by : (t : Tri) (b : Bool) → ((a : Bool) → t ≡ known a → b ≡ a) → Above t b
+above_by Unknown b h = tt
+above_by Zero b h = subst (Above Zero) (sym (h false refl)) tt
+above_by One b h = subst (Above One) (sym (h true refl)) tt
+
+pub shift_in_runs : ShiftInRuns
+shift_in_runs l rank ports chains w x now t ranked plain shift low turn = record {
+  entries = λ chain cell stands. above_by (x.ports (w.scan_in chain)) ((after_turn l x now t).state.flops cell.0)
+      (λ a is. known_after_turn l rank x now t ranked low turn cell.0 a
+      (λ poss view views. entry_law l ports chains w x (bits now.state) poss view plain.has shift views chain cell stands (plain.entries chain cell stands) ∙ is));
+  links = λ chain place cell next stands follows. known_after_turn l rank x now t ranked low turn next.0 (now.state.flops cell.0)
+      (λ poss view views. link_law l ports chains w.nets x (bits now.state) poss view plain.has shift views chain place cell next stands follows);
+}
+
+-- a chain that has a place has every place before it
+earlier_in : (o : Option (List InstanceId)) (before place : ℕ) (cell : InstanceId) → option_and_then (λ cells. slice_get cells place) o ≡ Some cell → before ≤ place →
+    (other : InstanceId) × (option_and_then (λ cells. slice_get cells before) o ≡ Some other)
+earlier_in None before place cell is le = absurd (none-some cell is)
+earlier_in (Some cells) before place cell is le = (get_or cells before cell, slice_get-get_or cells before cell (omega (arith, slice_get_within cells place cell is)))
+
+earlier : (chains : List (List InstanceId)) (chain before place : ℕ) (cell : InstanceId) → cell_at chains chain place ≡ Some cell → before ≤ place → (other : InstanceId) × (cell_at chains chain before ≡ Some other)
+earlier chains chain before place cell is le = earlier_in (slice_get chains chain) before place cell is le
+
+-- the first vector of a list, and then the others
+entered_more : (chains : List (List InstanceId)) (w : ScanNets) (x : Vector) (xs : List Vector) (old mid new : ℕ → Bool) → IsShifted chains w x old mid → AreShifted chains w xs mid new →
+    (chain place number : ℕ) (cell : InstanceId) (y : Vector) → suc (place + number) ≡ suc (length xs) → slice_get (x ∷ xs) number ≡ Some y → cell_at chains chain place ≡ Some cell →
+    Above (y.ports (w.scan_in chain)) (new cell.0)
+entered_more chains w x xs old mid new first rest chain place zero cell y is at stands =
+    let other = earlier chains chain zero place cell stands (omega arith) in
+    subst (λ (v : Vector). Above (v.ports (w.scan_in chain)) (new cell.0)) (same_Some x y at)
+    (subst (Above (x.ports (w.scan_in chain))) (sym (rest.passed chain zero place other.0 cell (omega (arith, is)) other.1 stands)) (first.entries chain other.0 other.1))
+entered_more chains w x xs old mid new first rest chain place (suc number) cell y is at stands = rest.entered chain place number cell y (omega (arith, is)) at stands
+
+shifted_more : (chains : List (List InstanceId)) (w : ScanNets) (x : Vector) (xs : List Vector) (old mid new : ℕ → Bool) → IsShifted chains w x old mid → AreShifted chains w xs mid new → AreShifted chains w (x ∷ xs) old new
+shifted_more chains w x xs old mid new first rest = record {
+  entered = λ chain place number cell y is at stands. entered_more chains w x xs old mid new first rest chain place number cell y is at stands;
+  passed = λ chain before place other cell is other_stands stands. (
+      let between = earlier chains chain (suc before) place cell stands (omega (arith, is)) in
+      rest.passed chain (suc before) place between.0 cell (omega (arith, is)) between.1 stands ∙ first.links chain before other between.0 other_stands between.1
+      );
+}
+
+shifted_none : (chains : List (List InstanceId)) (w : ScanNets) (old : ℕ → Bool) → AreShifted chains w [] old old
+shifted_none chains w old = record {
+  entered = λ chain place number cell x is at stands. absurd (none-some x at);
+  passed = λ chain before place other cell is other_stands stands.
+      ap (λ (c : InstanceId). old c.0) (same_Some cell other (sym stands ∙ ap (λ k. cell_at chains chain k) (omega (arith, is)) ∙ other_stands));
+}
+
+shifted : (l : Logic) (rank : ℕ → ℕ) (ports : Ports) (chains : List (List InstanceId)) (w : ScanNets) (xs : List Vector) (now : Now) (ts : List Turn) → IsRanked l rank → IsPlain l ports chains w → AreShifts ports w.nets.enable xs →
+    AreLow now.state → AreTurns l now xs ts → AreShifted chains w xs now.state.flops (after_turns l now xs ts).state.flops
+shifted l rank ports chains w [] now [] ranked plain shifts low turns = shifted_none chains w now.state.flops
+shifted l rank ports chains w [] now (t ∷ ts) ranked plain shifts low turns = absurd turns
+shifted l rank ports chains w (x ∷ xs) now [] ranked plain shifts low turns = absurd turns
+shifted l rank ports chains w (x ∷ xs) now (t ∷ ts) ranked plain shifts low turns =
+    let next : Now = after_turn l x now t in
+    shifted_more chains w x xs now.state.flops next.state.flops (after_turns l next xs ts).state.flops (shift_in_runs l rank ports chains w x now t ranked plain shifts.0 low turns.0)
+    (shifted l rank ports chains w xs next ts ranked plain shifts.1 (low_after_turn l rank x now t ranked low turns.0) turns.1)
+
+-- all clocks are low after any turns
+low_after_turns : (l : Logic) (rank : ℕ → ℕ) (xs : List Vector) (now : Now) (ts : List Turn) → IsRanked l rank → AreLow now.state → AreTurns l now xs ts → AreLow (after_turns l now xs ts).state
+low_after_turns l rank [] now ts ranked low turns = low
+low_after_turns l rank (x ∷ xs) now [] ranked low turns = absurd turns
+low_after_turns l rank (x ∷ xs) now (t ∷ ts) ranked low turns = low_after_turns l rank xs (after_turn l x now t) ts ranked (low_after_turn l rank x now t ranked low turns.0) turns.1
+
+pub shift_experiment : ShiftExperiment
+shift_experiment l rank ports chains w before shifts start ts us ranked plain run are turns =
+    shifted l rank ports chains w shifts (after_turns l start before ts) us ranked plain are (low_after_turns l rank before start ts ranked run.low run.turns) turns
+
+-- ---- the scan outputs
+
+pub ends_show : EndsShow
+ends_show l ports chains w x now t plain turn chain place cell stands last =
+    let at : Now = next_now l now (set_step x t) in
+    let shows : Shows l cell.0 (w.scan_out chain) = plain.ends chain place cell stands last in
+    turn.steps.0 (w.scan_out chain) ∙ ap (bit_given (sources_of at) t.strobe.seen (w.scan_out chain)) shows.buffer
+    ∙ turn.steps.0 shows.output ∙ ap (bit_given (sources_of at) t.strobe.seen shows.output) shows.flop
+
+bit_not_forced : (ports : Ports) (e : ℕ) (x : Vector) (s : State) (m : Moment) (f : Option Force) (b : Bool) → s.ports ≡ x.ports → ActsByPort ports f → IsShift ports e x → forced_by f (port_bits s m) b ≡ b
+bit_not_forced ports e x s m None b same acts shift = refl
+bit_not_forced ports e x s m (Some force) b same acts shift = rw (same, shift.resets force.port acts) refl
+
+pub ends_show_before : EndsShowBefore
+ends_show_before l ports chains w x now t plain shift turn chain place cell stands last =
+    ends_show l ports chains w x now t plain turn chain place cell stands last
+    ∙ bit_not_forced ports w.nets.enable x (at_strobe l x now t) t.strobe (l.cell cell.0).force (now.state.flops cell.0) refl (plain.has.cells chain place cell stands).force shift

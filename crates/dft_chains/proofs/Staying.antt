@@ -1,0 +1,52 @@
+-- What a logic has stands in every logic that means as much or more.
+use Rattle.std.proofs.Common.{ℕ, suc, ◌≡◌, false, Some, inl, inr, sym, subst, ap, ◌∙◌}
+use Rattle.std.proofs.lemmas.Option.{none-some}
+use Rattle.dft_netlist.specs.Drivers.{Source, Net}
+use Rattle.dft_netlist.specs.Logic.{Logic, Ports, Meaning, Cell, Scan, Input, Flop, Lockup, Free}
+use Rattle.dft_runs.specs.WiderPorts.{MeansMore}
+use Rattle.dft_chains.specs.Hardware.{ActsByPort, IsScanCell, Leads, Directly, ByLockup, ChainsStay}
+
+abbrev IsFree : Meaning → Type 0
+IsFree Free = Unit {0}
+IsFree _ = ⊥
+
+-- a net that is not free
+pub net_stays : (l m : Logic) (net : ℕ) (is : Meaning) → MeansMore l m → l.net net ≡ is → (IsFree is → ⊥) → m.net net ≡ is
+net_stays l m net is more here driven = elim (more.nets net) [
+  | inl free ↦ absurd (driven (subst IsFree (sym free ∙ here) tt))
+  | inr same ↦ same ∙ here
+]
+
+-- a flip-flop with scan pins
+pub cell_stays : (l m : Logic) (i : ℕ) (scan : Scan) → MeansMore l m → (l.cell i).scan ≡ Some scan → m.cell i ≡ l.cell i
+cell_stays l m i scan more is = elim (more.cells i) [
+  | inl none ↦ absurd (none-some scan (sym (ap (λ (c : Cell). c.scan) none) ∙ is))
+  | inr same ↦ same
+]
+
+scan_cell_stays : (l m : Logic) (ports : Ports) (enable : ℕ) (source : Source) (cell : ℕ) → MeansMore l m → IsScanCell l ports enable source cell → IsScanCell m ports enable source cell
+scan_cell_stays l m ports enable source cell more is =
+    let same = cell_stays l m cell (record { enable = Net enable; input = source }) more is.scan in
+    record {
+      scan = ap (λ (c : Cell). c.scan) same ∙ is.scan;
+      domain = ap (λ (c : Cell). ports.is_clock c.domain) same ∙ is.domain;
+      force = subst (λ (c : Cell). ActsByPort ports c.force) (sym same) is.force;
+    }
+
+leads_stays : (l m : Logic) (cell next : ℕ) (source : Source) → MeansMore l m → m.cell cell ≡ l.cell cell → m.cell next ≡ l.cell next → Leads l cell next source → Leads m cell next source
+leads_stays l m cell next _ more same same_next (Directly {net = net} at alike) =
+    Directly {net = net} (net_stays l m net (Flop cell false) more at (λ free. free)) (ap (λ (c : Cell). c.domain) same ∙ alike ∙ sym (ap (λ (c : Cell). c.domain) same_next))
+leads_stays l m cell next _ more same same_next (ByLockup {net = net} {lockup = i} {output = q} at from) =
+    ByLockup {net = net} {lockup = i} {output = q}
+    (net_stays l m net (Lockup i (l.cell cell).domain (Net q)) more at (λ free. free) ∙ ap (λ (c : Cell). Lockup i c.domain (Net q)) (sym same))
+    (net_stays l m q (Flop cell false) more from (λ free. free))
+
+pub chains_stay : ChainsStay
+chains_stay l m ports chains w more has = record {
+  enable = net_stays l m w.enable Input more has.enable (λ free. free);
+  cells = λ chain place cell stands. scan_cell_stays l m ports w.enable (w.into chain place) cell.0 more (has.cells chain place cell stands);
+  links = λ chain place cell next stands follows. leads_stays l m cell.0 next.0 (w.into chain (suc place)) more
+      (cell_stays l m cell.0 (record { enable = Net w.enable; input = w.into chain place }) more (has.cells chain place cell stands).scan)
+      (cell_stays l m next.0 (record { enable = Net w.enable; input = w.into chain (suc place) }) more (has.cells chain (suc place) next follows).scan)
+      (has.links chain place cell next stands follows);
+}

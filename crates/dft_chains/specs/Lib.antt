@@ -1,0 +1,3 @@
+pub mod Hardware
+pub mod Shifts
+pub mod ScanOff

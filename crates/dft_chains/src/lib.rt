@@ -1,0 +1,7 @@
+//! What a design with scan chains does in every run: facts about its scan cells and what leads into them, and the laws
+//! of shifting and of scan off that follow from them alone.
+#![tactic(auto)]
+
+mod laws;
+
+pub use laws::{chains_shift, chains_stay, scan_off_agrees};

@@ -1,0 +1,170 @@
+-- The small design has the hardware.
+use Rattle.std.proofs.Common.{ℕ, zero, suc, ◌≡◌, ◌<◌, Some, [], ◌∷◌, refl, subst, arith}
+use Rattle.std.proofs.lemmas.Option.{none-some, same_Some}
+use Rattle.dft_netlist.specs.declared.ids.InstanceId.{InstanceId}
+use Rattle.std.specs.Prelude.{◌&&◌, not, IsTrue, List}
+use Rattle.std.specs.List.{All, list_any}
+use Rattle.dft_base.specs.Words.{is_simple_name, is_later_reserved, reserved_words, later_reserved_words}
+use Rattle.dft_config.specs.declared.config.Injector.{Injector}
+use Rattle.dft_config.specs.Range.{has, same_number, names_of, IsSet, IsInRange}
+use Rattle.dft_netlist.specs.Logic.{IsRanked}
+use Rattle.dft_stitch.specs.Plans.{cell_at}
+use Rattle.dft_chains.specs.Hardware.{IsScanCell, Leads, ByLockup}
+use Rattle.dft_edt.specs.Hardware.{HasStage, HasPhase, HasRing, HasEnd, HasOutput, HasCompactor, before_in, segment_length}
+use Rattle.dft_parts.specs.SumTrees.{Term, Joined}
+use Rattle.dft_parts.specs.Standing.{IsFlop}
+use Rattle.dft_edt.specs.Examples.{small, small_ports, small_config, small_chains, small_scan, small_edt, SmallHas}
+
+one : (P : ℕ → Type 0) → P 0 → (i : ℕ) → i < 1 → P i
+one P a zero h = a
+one P a (suc i) h = absurd (omega arith)
+
+two : (P : ℕ → Type 0) → P 0 → P 1 → (i : ℕ) → i < 2 → P i
+two P a b zero h = a
+two P a b (suc zero) h = b
+two P a b (suc (suc i)) h = absurd (omega arith)
+
+-- each net reads nets before it
+ranked : IsRanked small (λ net. net)
+ranked zero = tt
+ranked (suc zero) = tt
+ranked (suc (suc zero)) = tt
+ranked (suc (suc (suc zero))) = tt
+ranked (suc (suc (suc (suc zero)))) = tt
+ranked (suc (suc (suc (suc (suc zero))))) = tt
+ranked (suc (suc (suc (suc (suc (suc zero)))))) = tt
+ranked (suc (suc (suc (suc (suc (suc (suc zero))))))) = (omega arith, tt)
+ranked (suc (suc (suc (suc (suc (suc (suc (suc zero)))))))) = tt
+ranked (suc (suc (suc (suc (suc (suc (suc (suc (suc zero))))))))) = tt
+ranked (suc (suc (suc (suc (suc (suc (suc (suc (suc (suc zero)))))))))) = (omega arith, (omega arith, tt))
+ranked (suc (suc (suc (suc (suc (suc (suc (suc (suc (suc (suc zero))))))))))) = (omega arith, (omega arith, tt))
+ranked (suc (suc (suc (suc (suc (suc (suc (suc (suc (suc (suc (suc zero)))))))))))) = (omega arith, (omega arith, tt))
+ranked (suc (suc (suc (suc (suc (suc (suc (suc (suc (suc (suc (suc (suc zero))))))))))))) = (omega arith, (omega arith, tt))
+ranked (suc (suc (suc (suc (suc (suc (suc (suc (suc (suc (suc (suc (suc (suc zero)))))))))))))) = (omega arith, tt)
+ranked (suc (suc (suc (suc (suc (suc (suc (suc (suc (suc (suc (suc (suc (suc (suc zero))))))))))))))) = tt
+ranked (suc (suc (suc (suc (suc (suc (suc (suc (suc (suc (suc (suc (suc (suc (suc (suc zero)))))))))))))))) = (omega arith, tt)
+ranked (suc (suc (suc (suc (suc (suc (suc (suc (suc (suc (suc (suc (suc (suc (suc (suc (suc zero))))))))))))))))) = tt
+ranked (suc (suc (suc (suc (suc (suc (suc (suc (suc (suc (suc (suc (suc (suc (suc (suc (suc (suc zero)))))))))))))))))) = tt
+ranked (suc (suc (suc (suc (suc (suc (suc (suc (suc (suc (suc (suc (suc (suc (suc (suc (suc (suc (suc zero))))))))))))))))))) = tt
+ranked (suc (suc (suc (suc (suc (suc (suc (suc (suc (suc (suc (suc (suc (suc (suc (suc (suc (suc (suc (suc zero)))))))))))))))))))) = (omega arith, (omega arith, tt))
+ranked (suc (suc (suc (suc (suc (suc (suc (suc (suc (suc (suc (suc (suc (suc (suc (suc (suc (suc (suc (suc (suc zero))))))))))))))))))))) = (omega arith, (omega arith, tt))
+ranked (suc (suc (suc (suc (suc (suc (suc (suc (suc (suc (suc (suc (suc (suc (suc (suc (suc (suc (suc (suc (suc (suc zero)))))))))))))))))))))) = (omega arith, (omega arith, tt))
+ranked (suc (suc (suc (suc (suc (suc (suc (suc (suc (suc (suc (suc (suc (suc (suc (suc (suc (suc (suc (suc (suc (suc (suc zero))))))))))))))))))))))) = (omega arith, tt)
+ranked (suc (suc (suc (suc (suc (suc (suc (suc (suc (suc (suc (suc (suc (suc (suc (suc (suc (suc (suc (suc (suc (suc (suc (suc zero)))))))))))))))))))))))) = (omega arith, (omega arith, tt))
+ranked (suc (suc (suc (suc (suc (suc (suc (suc (suc (suc (suc (suc (suc (suc (suc (suc (suc (suc (suc (suc (suc (suc (suc (suc (suc zero))))))))))))))))))))))))) = (omega arith, tt)
+ranked (suc (suc (suc (suc (suc (suc (suc (suc (suc (suc (suc (suc (suc (suc (suc (suc (suc (suc (suc (suc (suc (suc (suc (suc (suc (suc k)))))))))))))))))))))))))) = tt
+
+scan_cell : (chain place : ℕ) (cell : InstanceId) → cell_at small_chains chain place ≡ Some cell → IsScanCell small small_ports 0 (small_scan.into chain place) cell.0
+scan_cell zero zero cell is = subst (λ (c : InstanceId). IsScanCell small small_ports 0 (small_scan.into 0 0) c.0) (same_Some (record { 0 = 3 }) cell is) (record { scan = refl; domain = refl; force = tt })
+scan_cell zero (suc zero) cell is = subst (λ (c : InstanceId). IsScanCell small small_ports 0 (small_scan.into 0 1) c.0) (same_Some (record { 0 = 5 }) cell is) (record { scan = refl; domain = refl; force = tt })
+scan_cell zero (suc (suc place)) cell is = absurd (none-some cell is)
+scan_cell (suc chain) place cell is = absurd (none-some cell is)
+
+link : (chain place : ℕ) (cell next : InstanceId) → cell_at small_chains chain place ≡ Some cell → cell_at small_chains chain (suc place) ≡ Some next → Leads small cell.0 next.0 (small_scan.into chain (suc place))
+link zero zero cell next is follows =
+    subst (λ (c : InstanceId). Leads small c.0 next.0 (small_scan.into 0 1)) (same_Some (record { 0 = 3 }) cell is)
+    (subst (λ (c : InstanceId). Leads small 3 c.0 (small_scan.into 0 1)) (same_Some (record { 0 = 5 }) next follows) (ByLockup {net = 16} {lockup = 4} {output = 15} refl refl))
+link zero (suc place) cell next is follows = absurd (none-some next follows)
+link (suc chain) place cell next is follows = absurd (none-some next follows)
+
+phase : (chain : ℕ) (cell : InstanceId) → cell_at small_chains chain zero ≡ Some cell → HasPhase small small_config.ring small_edt (small_scan.into chain zero) chain
+phase zero cell is = record { sum = 13; lockup = 2; entry = 14; sums = Joined {left = 8 ∷ []} refl Term Term; latch = refl; leads = refl }
+phase (suc chain) cell is = absurd (none-some cell is)
+
+ring : HasRing small small_ports small_config small_chains small_scan small_edt
+ring = record {
+  count = refl;
+  chained = record { enable = refl; cells = scan_cell; links = link };
+  update = refl;
+  channels = λ j less. refl;
+  run = refl;
+  stages = two (HasStage small small_config.ring small_edt)
+      (record { sum = 9; kept = 10; sums = Term; gate = refl; flop = record { cell = refl; net = refl } })
+      (record { sum = 11; kept = 12; sums = Joined {left = 8 ∷ []} refl Term Term; gate = refl; flop = record { cell = refl; net = refl } });
+  phases = phase;
+}
+
+mask : (m k : ℕ) → m < 1 → k < segment_length small_config m → IsFlop small 3 6 18 (before_in small_config small_edt.mask_port small_edt.mask_net m k)
+mask zero zero m_less k_less = record { cell = refl; net = refl }
+mask zero (suc k) m_less k_less = absurd (let short : segment_length small_config 0 ≡ 1 = refl in omega (arith, k_less, short))
+mask (suc m) k m_less k_less = absurd (omega (arith, m_less))
+
+compactor : HasCompactor small small_config small_chains small_edt
+compactor = record {
+  ports = λ m less. refl;
+  masks = mask;
+  holds = λ chain less. record { taken = 20; kept = 21; next = 22; take = refl; keep = refl; either = refl; flop = record { cell = refl; net = refl } };
+  ends = one (HasEnd small small_chains small_edt) (record { place = 1; cell = record { 0 = 5 }; here = refl; last = refl; shown = 23; end = refl; show = refl; gate = refl });
+  outputs = one (HasOutput small small_config small_edt) (record { sum = 24; sums = Term; buffer = refl });
+}
+
+-- its configuration is in range
+injector : All (λ (i : Injector). (i.channel < 1) × (i.stage < 2)) small_config.ring.injectors
+injector zero d less = (omega arith, omega arith)
+injector (suc k) d less = absurd (omega (arith, less))
+
+below_two : All (λ (n : ℕ). n < 2) (0 ∷ 1 ∷ [])
+below_two zero d less = omega arith
+below_two (suc zero) d less = omega arith
+below_two (suc (suc k)) d less = absurd (omega (arith, less))
+
+below_one : All (λ (n : ℕ). n < 1) (0 ∷ [])
+below_one zero d less = omega arith
+below_one (suc k) d less = absurd (omega (arith, less))
+
+phase_set : All (IsSet 2) small_config.ring.phase
+phase_set zero d less = record { some = omega arith; below = below_two; differ = refl }
+phase_set (suc k) d less = absurd (omega (arith, less))
+
+group_set : All (IsSet 1) small_config.compactor.groups
+group_set zero d less = record { some = omega arith; below = below_one; differ = refl }
+group_set (suc k) d less = absurd (omega (arith, less))
+
+simple : All (λ (name : List ℕ). IsTrue (is_simple_name name && not (is_later_reserved name))) (names_of small_config.names)
+unfolding reserved_words later_reserved_words
+simple zero d less = refl
+simple (suc zero) d less = refl
+simple (suc (suc zero)) d less = refl
+simple (suc (suc (suc zero))) d less = refl
+simple (suc (suc (suc (suc zero)))) d less = refl
+simple (suc (suc (suc (suc (suc zero))))) d less = refl
+simple (suc (suc (suc (suc (suc (suc zero)))))) d less = refl
+simple (suc (suc (suc (suc (suc (suc (suc zero))))))) d less = refl
+simple (suc (suc (suc (suc (suc (suc (suc (suc k)))))))) d less = absurd (omega (arith, less))
+
+in_range : IsInRange small_config
+in_range = record {
+  domains = (omega arith, omega arith);
+  domains_differ = refl;
+  resets = omega arith;
+  resets_differ = refl;
+  apart = λ k d less. absurd (omega (arith, less));
+  keep_differ = refl;
+  chains = (omega arith, omega arith);
+  warm = omega arith;
+  window = (omega arith, omega arith);
+  seed = tt;
+  always_masked = λ k d less. absurd (omega (arith, less));
+  always_masked_differ = refl;
+  ring = record {
+    stages = (omega arith, omega arith);
+    channels = (omega arith, omega arith);
+    taps = λ k d less. absurd (omega (arith, less));
+    taps_differ = refl;
+    injectors = injector;
+    injectors_differ = refl;
+    phases = refl;
+    phase = phase_set;
+  };
+  compactor = record {
+    outputs = (omega arith, omega arith);
+    groups = group_set;
+    reached = one (λ chain. IsTrue (list_any (λ group. has same_number group chain) small_config.compactor.groups)) refl;
+    mask_inputs = (omega arith, omega arith, omega arith);
+  };
+  names = simple;
+  names_differ = refl;
+}
+
+pub small_has : SmallHas
+small_has = (record { ring = ring; compactor = compactor }, in_range, ranked)

@@ -1,0 +1,61 @@
+-- What the original's strobe and capture know stands above the abstract cycle of a design that contains it.
+use Rattle.std.specs.Prelude.{ℕ, ◌<◌, ◌≡◌, ◌==◌, ◌⊎◌, Bool, true, false}
+use Rattle.dft_base.specs.declared.tri.Tri.{Tri}
+use Rattle.dft_base.specs.declared.tri.Tri.TheVariants.{Zero}
+use Rattle.dft_base.specs.Tri.{AboveTri}
+use Rattle.dft_netlist.specs.Drivers.{Source, AreBelow}
+use Rattle.dft_netlist.specs.Logic.{Logic, Input, Flop, Lockup, Free, reads, IsRanked}
+use Rattle.dft_netlist.specs.Settled.{IsTriSettled}
+use Rattle.dft_netlist.specs.Runs.{Vector}
+use Rattle.dft_abstract.specs.Cycle.{AreViews, after_pulse, pulse_of, strobe_sources}
+use Rattle.dft_abstract.specs.Laws.{next_from}
+use Rattle.dft_runs.specs.WiderPorts.{MeansMore}
+use Rattle.dft_chains.specs.ScanOff.{moved_meaning, Places, KeepsFlop, Contains}
+
+-- The written design has each net of the original with the same meaning, or the net is free in the original, as the output of a
+-- flip-flop that is modelled only where more ports count as resets; and it has each modelled flip-flop of the original.
+pub record Covers (original written : Logic) (p : Places) : Type 0 where
+  pub enable : written.net p.enable ≡ Input
+  pub nets : (net : ℕ) → net < p.size → (original.net net ≡ Free) ⊎ (written.net (p.moved net) ≡ moved_meaning p.moved (original.net net))
+  pub closed : (net : ℕ) → net < p.size → AreBelow (λ k. k) p.size (reads (original.net net))
+  pub shown : (net cell : ℕ) (inverted : Bool) → net < p.size → original.net net ≡ Flop cell inverted → p.is_flop cell ≡ true
+  pub flops : (cell : ℕ) → p.is_flop cell ≡ true → KeepsFlop p (original.cell cell) (written.cell cell)
+  pub no_lockup : (net cell domain : ℕ) (source : Source) → net < p.size → original.net net ≡ Lockup cell domain source → ⊥
+
+-- a design that contains another covers it
+abbrev pub ContainingCovers : Type 0
+ContainingCovers = (original written : Logic) (p : Places) → Contains original written p → Covers original written p
+
+-- so does one that means more, as under wider ports, where the flip-flops of the original are the same
+abbrev pub WideningCovers : Type 0
+WideningCovers =
+    (original written wide : Logic) (p : Places) → Contains original written p → MeansMore written wide → ((cell : ℕ) → p.is_flop cell ≡ true → wide.cell cell ≡ written.cell cell) →
+    Covers original wide p
+
+-- what a vector of the written design is for the original: the ports' values and the flip-flops' stand above those of the design
+pub record StandsOver (p : Places) (y x : Vector) (its old : ℕ → Tri) : Type 0 where
+  pub ports : (net : ℕ) → net < p.size → AboveTri (y.ports net) (x.ports (p.moved net))
+  pub flops : (cell : ℕ) → p.is_flop cell ≡ true → AboveTri (its cell) (old cell)
+
+-- At the strobe of any vector.
+abbrev pub StrobeLaw : Type 0
+StrobeLaw =
+    (original written : Logic) (rank : ℕ → ℕ) (p : Places) (y x : Vector) (its old values shows : ℕ → Tri) →
+    IsRanked original rank → Covers original written p → StandsOver p y x its old → IsTriSettled original (strobe_sources original y its values) values → IsTriSettled written (strobe_sources written x old shows) shows →
+    (net : ℕ) → net < p.size → AboveTri (values net) (shows (p.moved net))
+
+-- a capture vector: of the original's clocks this one pulses alone, and scan_enable is 0
+pub record IsCapture (p : Places) (d : ℕ) (x : Vector) : Type 0 where
+  pub pulsed : x.pulsed (p.moved d) ≡ true
+  pub alone : (e : ℕ) → x.pulsed (p.moved e) ≡ true → e ≡ d
+  pub off : x.ports p.enable ≡ Zero
+
+-- A flip-flop of the capture domain takes no more than the original's next value from the values of its strobe; another one keeps
+-- what it had.
+abbrev pub CaptureLaw : Type 0
+CaptureLaw =
+    (original written : Logic) (rank : ℕ → ℕ) (p : Places) (d : ℕ) (y x : Vector) (its old poss : ℕ → Tri) (view : ℕ → ℕ → Tri) (values : ℕ → Tri) →
+    IsRanked original rank → Covers original written p → IsCapture p d x → StandsOver p y x its old → IsTriSettled original (strobe_sources original y its values) values →
+    AreViews written (pulse_of written x old) poss view → (cell : ℕ) → p.is_flop cell ≡ true →
+    ((original.cell cell).domain ≡ d → AboveTri (next_from original y values cell) (after_pulse written (pulse_of written x old) view cell))
+    × (((original.cell cell).domain == d) ≡ false → AboveTri ((pulse_of original y its).old cell) (after_pulse written (pulse_of written x old) view cell))

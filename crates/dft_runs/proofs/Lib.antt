@@ -1,0 +1,4 @@
+pub mod Existence
+pub mod Orders
+pub mod Passing
+pub mod WiderPortsLemmas

@@ -1,0 +1,81 @@
+-- Ports with more resets model more flip-flops, and leave the others and each net that is not free.
+use Rattle.std.proofs.Common.{ℕ, Bool, true, false, ◌≡◌, ◌⊎◌, inl, inr, Option, None, Some, refl, sym, ap, ◌∙◌}
+use Rattle.std.specs.Prelude.{if◌then◌else◌}
+use Rattle.std.proofs.lemmas.Option.{none-some}
+use Rattle.dft_cells.specs.declared.kind.Role.TheVariants as role
+use Rattle.dft_cells.specs.FlipFlops.{is_flip_flop}
+use Rattle.dft_netlist.specs.Netlist.{Netlist}
+use Rattle.dft_netlist.specs.Drivers.{Source, Connection, Driver, pins_of, kind_at, driver}
+use Rattle.dft_netlist.specs.Drivers as drivers
+use Rattle.dft_netlist.specs.Traces.{Root, Port, Constant, Other, root_of}
+use Rattle.dft_netlist.specs.Logic.{Ports, Cell, Scan, Force, Free, Clock, Input, domain_of, domain_at, force_of, forcing, modelled, modelled_of, flip_flop, flop_meaning, lockup_meaning, meaning_of, pin_of, or_loose, scan_of, no_cell, cell_or_none}
+use Rattle.dft_runs.specs.WiderPorts.{Suits, PortsWiden}
+
+same_domain : (a b : Ports) → Suits a b → (r : Root) → domain_of b r ≡ domain_of a r
+same_domain a b suits (Port net) = ap (λ c. if c then Some net else None) (suits.clocks net)
+same_domain a b suits (Constant bit) = refl
+same_domain a b suits Other = refl
+
+same_domain_at : (n : Netlist) (a b : Ports) → Suits a b → (o : Option Source) → domain_at n b o ≡ domain_at n a o
+same_domain_at n a b suits None = refl
+same_domain_at n a b suits (Some source) = same_domain a b suits (root_of n source)
+
+reset_kept : (x y : Bool) (f : Option Force) (o : Option (Option Force)) → (x ≡ true → y ≡ true) → (if x then Some f else None) ≡ o → (o ≡ None) ⊎ ((if y then Some f else None) ≡ o)
+reset_kept false y f o more is = inl (sym is)
+reset_kept true true f o more is = inr is
+reset_kept true false f o more is = absurd (let h = more refl in cc)
+
+force_kept : (a b : Ports) → Suits a b → (value : Bool) (r : Root) → (force_of a value r ≡ None) ⊎ (force_of b value r ≡ force_of a value r)
+force_kept a b suits value (Port net) = reset_kept (a.is_reset net) (b.is_reset net) (Some (record { port = net; value = value })) (force_of a value (Port net)) (suits.resets net) refl
+force_kept a b suits value (Constant true) = inr refl
+force_kept a b suits value (Constant false) = inr refl
+force_kept a b suits value Other = inr refl
+
+forcing_kept : (n : Netlist) (a b : Ports) → Suits a b → (reset preset : Option Source) → (forcing n a reset preset ≡ None) ⊎ (forcing n b reset preset ≡ forcing n a reset preset)
+forcing_kept n a b suits (Some reset) preset = force_kept a b suits false (root_of n reset)
+forcing_kept n a b suits None (Some preset) = force_kept a b suits true (root_of n preset)
+forcing_kept n a b suits None None = inr refl
+
+no_force : (domain : Option ℕ) (f : Option (Option Force)) (input : Source) (scan : Option Scan) → f ≡ None → modelled domain f input scan ≡ None
+no_force None f input scan h = refl
+no_force (Some domain) None input scan h = refl
+no_force (Some domain) (Some force) input scan h = absurd cc
+
+modelled_kept : (n : Netlist) (a b : Ports) → Suits a b → (i : ℕ) → (modelled_of n a i (pins_of n i) ≡ None) ⊎ (modelled_of n b i (pins_of n i) ≡ modelled_of n a i (pins_of n i))
+modelled_kept n a b suits i =
+    let pins = pins_of n i in
+    let input = or_loose i (pin_of role.Din i pins) in
+    let scan = scan_of (pin_of role.ScanEnable i pins) (pin_of role.ScanIn i pins) in
+    let domain = domain_at n a (pin_of role.Clock i pins) in
+    elim (forcing_kept n a b suits (pin_of role.Reset i pins) (pin_of role.Preset i pins)) [
+      | inl none ↦ inl (no_force domain (forcing n a (pin_of role.Reset i pins) (pin_of role.Preset i pins)) input scan none)
+      | inr same ↦ inr (ap (λ d. modelled d (forcing n b (pin_of role.Reset i pins) (pin_of role.Preset i pins)) input scan) (same_domain_at n a b suits (pin_of role.Clock i pins)) ∙ ap (λ f. modelled domain f input scan) same)
+    ]
+
+if_kept : (t : Bool) (x y : Option Cell) → (x ≡ None) ⊎ (y ≡ x) → ((if t then x else None) ≡ None) ⊎ ((if t then y else None) ≡ (if t then x else None))
+if_kept true x y h = h
+if_kept false x y h = inl refl
+
+flop_kept : (n : Netlist) (a b : Ports) → Suits a b → (i : ℕ) → (flip_flop n a i ≡ None) ⊎ (flip_flop n b i ≡ flip_flop n a i)
+flop_kept n a b suits i = if_kept (is_flip_flop (kind_at n i)) (modelled_of n a i (pins_of n i)) (modelled_of n b i (pins_of n i)) (modelled_kept n a b suits i)
+
+net_kept : (n : Netlist) (a b : Ports) → Suits a b → (net : ℕ) (d : Driver) → (meaning_of n a net d ≡ Free) ⊎ (meaning_of n b net d ≡ meaning_of n a net d)
+net_kept n a b suits net drivers.Input = inr (ap (λ c. if c then Clock else Input) (suits.clocks net))
+net_kept n a b suits net (drivers.Gate kind inputs) = inr refl
+net_kept n a b suits net (drivers.Joined source) = inr refl
+net_kept n a b suits net (drivers.Flop i inverted) = elim (flop_kept n a b suits i) [
+  | inl none ↦ inl (ap (flop_meaning i inverted) none)
+  | inr same ↦ inr (ap (flop_meaning i inverted) same)
+]
+net_kept n a b suits net (drivers.Lockup i) =
+    inr (ap (λ d. lockup_meaning i d (or_loose i (pin_of role.Din i (pins_of n i)))) (same_domain_at n a b suits (pin_of role.Clock i (pins_of n i))))
+net_kept n a b suits net drivers.Free = inl refl
+
+cell_kept : (n : Netlist) (a b : Ports) → Suits a b → (i : ℕ) → (cell_or_none i (flip_flop n a i) ≡ no_cell i) ⊎ (cell_or_none i (flip_flop n b i) ≡ cell_or_none i (flip_flop n a i))
+cell_kept n a b suits i = elim (flop_kept n a b suits i) [ inl none ↦ inl (ap (cell_or_none i) none) | inr same ↦ inr (ap (cell_or_none i) same) ]
+
+pub ports_widen : PortsWiden
+ports_widen n a b suits = record {
+  flops = λ i cell is. elim (flop_kept n a b suits i) [ inl none ↦ absurd (none-some cell (sym none ∙ is)) | inr same ↦ same ∙ is ];
+  logic = record { nets = λ net. net_kept n a b suits net (driver n net); cells = cell_kept n a b suits };
+}
