@@ -1,8 +1,9 @@
 -- From vector to vector: what is left of the verdict after one.
-use Rattle.std.proofs.Common.{ℕ, suc, ◌+◌, ◌*◌, ◌<◌, ◌≤◌, not, List, [], ◌∷◌, ◌≡◌, Option, None, Some, length, map, drop, refl, sym, ap, ◌∙◌, subst, get_or, arith}
+use Rattle.std.proofs.Common.{Fits, w64, ℕ, suc, ◌+◌, ◌*◌, ◌^◌, ◌<◌, ◌≤◌, not, List, [], ◌∷◌, ◌≡◌, Option, None, Some, length, map, drop, refl, sym, ap, ◌∙◌, subst, get_or, arith}
 use Rattle.std.specs.Prelude.{All, count_by}
 use Rattle.std.proofs.Math.Seq.{drop-cons}
-use Rattle.std.proofs.lemmas.List.{get_or_default}
+use Rattle.std.proofs.lemmas.List.{drop_all, get_or_default}
+use Rattle.std.proofs.lemmas.Nat.{mul-le}
 use Rattle.std.proofs.lemmas.List.Sums.{count_by-le-length}
 use Rattle.dft_base.specs.declared.tri.Tri.{Tri}
 use Rattle.dft_netlist.specs.declared.ids.NetId.{NetId}
@@ -13,6 +14,7 @@ use Rattle.dft_abstract.specs.Cycle.{Round, IsRound, after_round, all_unknown}
 use Rattle.dft_cycle.specs.Machine.{Machine, value_at, logic, is_one_of, IsStart}
 use Rattle.dft_patterns.specs.declared.act.Act.{Act}
 use Rattle.dft_replay.specs.declared.verdict.Verdict.{Verdict}
+use Rattle.dft_replay.specs.declared.verdict.Verdict.TheVariants.{Pass}
 use Rattle.dft_replay.specs.Rows.{Row, row_of, rows_from, ports_in, pulses}
 use Rattle.dft_replay.specs.Vectors.{net_at, clocks_of, is_compared, IsPlayed}
 use Rattle.dft_replay.specs.Verdicts.{decided, Stops, HasVerdictFrom}
@@ -26,6 +28,21 @@ few_more compared v signals count few less = grind arith
 
 pub few_counted : (compared v signals count : ℕ) (acts : List Act) → compared ≤ v * signals → count ≡ count_by is_compared acts → length acts ≡ signals → compared + count ≤ (v + 1) * signals
 few_counted compared v signals count acts few counted same = (let most : count_by is_compared acts ≤ length acts = count_by-le-length is_compared acts in few_more compared v signals count few (omega arith))
+
+-- as many compared bits as vectors times signals fit in 64 bits
+product_fits : (a b : ℕ) → a ≤ 2 ^ 32 → b ≤ 2 ^ 31 → a * b ≤ 2 ^ 32 * 2 ^ 31
+product_fits a b few short = mul-le a b (2 ^ 32) (2 ^ 31) few short
+
+pub count_fits : (compared v vectors signals count : ℕ) (acts : List Act) → compared ≤ v * signals → count ≡ count_by is_compared acts → length acts ≡ signals → v < vectors → vectors < 2 ^ 32 → signals < 2 ^ 31 → Fits w64 (compared + count)
+count_fits compared v vectors signals count acts few counted same less short narrow =
+    let all = few_counted compared v signals count acts few counted same in
+    let most = product_fits (v + 1) signals (omega (arith, less, short)) (omega (arith, narrow)) in
+    omega (arith, all, most)
+
+-- no vector is left
+pub none_left : (l : Logic) (old inputs : ℕ → Tri) (v compared : ℕ) (nets : List ℕ) (vectors : List (List Act)) → length vectors ≤ v → HasVerdictFrom l old v compared (rows_from nets inputs (drop v vectors)) (Pass compared)
+none_left l old inputs v compared nets vectors end =
+    subst (λ (left : List (List Act)). HasVerdictFrom l old v compared (rows_from nets inputs left) (Pass compared)) (sym (drop_all v vectors end)) refl
 
 -- ---- the vector with a number
 

@@ -8,11 +8,13 @@ use Rattle.dft_netlist.specs.Orders.{numbers_of}
 use Rattle.dft_cycle.specs.Machine.{Machine, AreNets, logic}
 use Rattle.dft_cycle.proofs.MachineRounds.{start_forced}
 use Rattle.dft_patterns.specs.declared.act.Act.{Act}
+use Rattle.dft_replay.specs.declared.verdict.Verdict.TheVariants.{Pass}
+use Rattle.dft_cycle.specs.Machine.{value_at}
 use Rattle.dft_replay.specs.Rows.{ports_in}
 use Rattle.std.specs.Prelude.{count_by}
 use Rattle.dft_replay.specs.Vectors.{is_compared, net_at, clocks_of, AreClocks}
 use Rattle.dft_replay.proofs.VectorLemmas.{clock_live, clock_nets_live, are_clocks}
-use Rattle.dft_replay.proofs.ReplayLemmas.{few_counted, read_at, long_at, machine_means, ends, goes_on, starts}
+use Rattle.dft_replay.proofs.ReplayLemmas.{count_fits, few_counted, none_left, read_at, long_at, machine_means, ends, goes_on, starts}
 use Rattle.dft_replay.proofs.replayer.verdict_at.Goals as goal
 
 pub prepare-requires : goal.prepare-requires
@@ -87,3 +89,24 @@ loop-vector-preserved c =
           (goes_on (logic_of n (ports_in (numbers_of nets) vectors)) (numbers_of nets) vectors v c.loop-vector.compared c.len-in-loop-vector.result acts m c.play-decision.new.machine c.play-decision.result verdict means less here (same ∙ sym (length-map nets (λ (k : NetId). k.0))) counted played c.in_default.is later);
       few = few_counted c.loop-vector.compared v (length nets) c.len-in-loop-vector.result acts c.loop-vector.invariant.few counted same;
     }
+
+pub overflow_add-compared : goal.overflow_add-compared
+overflow_add-compared c =
+    let nets : List NetId = c.args.nets.now in
+    let vectors : List (List Act) = c.args.vectors.now in
+    let v : ℕ = c.loop-vector.vector in
+    let acts : List Act = c.as_slice-acts.result.now in
+    let less : v < length vectors = c.loop-vector-test.true in
+    let here : get_or vectors v [] ≡ acts = read_at vectors v c.index-vectors-vector.result acts less c.index-vectors-vector.is c.as_slice-acts.ensures in
+    let same : length acts ≡ length nets = long_at vectors v (length nets) acts c.requires.acts less here in
+    let counted : c.len-in-loop-vector.result ≡ count_by is_compared acts = (let size = c.play-decision.ensures.counted in omega arith) in
+    count_fits c.loop-vector.compared v (length vectors) (length nets) c.len-in-loop-vector.result acts c.loop-vector.invariant.few counted same less c.requires.vectors c.requires.signals
+
+pub returns-clause-verdict : goal.returns-clause-verdict
+returns-clause-verdict c =
+    let n : Netlist = c.args.design.now in
+    let nets : List NetId = c.args.nets.now in
+    let vectors : List (List Act) = c.args.vectors.now in
+    let m : Machine = c.loop-vector.machine in
+    c.loop-vector.invariant.rest (Pass c.loop-vector.compared)
+    (none_left (logic_of n (ports_in (numbers_of nets) vectors)) (value_at m.cells) (value_at m.inputs) c.loop-vector.vector c.loop-vector.compared (numbers_of nets) vectors c.loop-vector-test.false)
