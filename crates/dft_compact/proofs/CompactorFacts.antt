@@ -25,7 +25,7 @@ use Rattle.dft_ring.proofs.PartLists.{each_there, collect_there, range_at, both_
 use Rattle.dft_ring.proofs.RingFacts.{nets_at}
 use Rattle.dft_compact.specs.declared.mask_nets.MaskNets.{MaskNets}
 use Rattle.dft_compact.specs.CompactorRecipe.{segments, masks_at, a_gated, an_output, a_compactor}
-use Rattle.dft_compact.specs.CompactorStands.{with_compactor, mask_nets, HasGated, HasCompactorParts, CompactorStands}
+use Rattle.dft_compact.specs.CompactorStands.{with_compactor, mask_nets, CompactorStands}
 use Rattle.dft_compact.proofs.MaskFacts.{MaskAt, before_place, cut_stands}
 
 -- ---- masks by segment and place
@@ -135,8 +135,8 @@ compactor_stands n ports config edt run ends at number hw single well library cl
       holds = λ chain less. hold_here n ports config edt run ends number at hw single well library clock masked chain (standing config chain range less);
       gated_ends = λ chain less.
           (let own : GatedAt l masks.value ends chain (net_at gated.value chain) =
-              both_at (GatedAt l masks.value ends) config.chains chain gated.value less
-              (collect_there f n (GatedAt l masks.value ends) j1 t1 (range_with_len 0 config.chains) (λ x k a same there. gated_stands n ports masks.value ends x k a single there) ended) in
+          both_at (GatedAt l masks.value ends) config.chains chain gated.value less
+          (collect_there f n (GatedAt l masks.value ends) j1 t1 (range_with_len 0 config.chains) (λ x k a same there. gated_stands n ports masks.value ends x k a single there) ended) in
           record { shown = own.shown; show = own.show; gate = own.gate });
       outputs = λ j less.
           (let before = (each g (range_with_len 0 j) t2).parts in

@@ -1,5 +1,5 @@
 -- Masks and compactor in every settled assignment.
-use Rattle.std.proofs.Common.{ℕ, suc, Bool, true, false, List, [], ◌∷◌, ◌≡◌, ◌<◌, refl, ap, arith, map, length, ◌∙◌}
+use Rattle.std.proofs.Common.{ℕ, suc, Bool, true, false, List, [], ◌∷◌, ◌≡◌, ◌<◌, refl, ap, arith, map, ◌∙◌}
 use Rattle.std.specs.Prelude.{not, ◌&&◌, if◌then◌else◌}
 use Rattle.std.specs.List.{All}
 use Rattle.dft_base.specs.declared.tri.Tri.{Tri}
@@ -10,16 +10,14 @@ use Rattle.dft_cells.specs.Gates.{bit_of, tri_of}
 use Rattle.dft_netlist.specs.Drivers.{Net}
 use Rattle.dft_netlist.specs.Logic.{Logic, Cell, Gate}
 use Rattle.dft_netlist.specs.Settled.{Sources, bit_from, IsSettled, TriSources, value_from, IsTriSettled}
-use Rattle.dft_config.specs.declared.config.Config.{Config}
-use Rattle.dft_config.specs.Range.{IsInRange}
 use Rattle.dft_config.specs.Ring.{sum_of}
 use Rattle.dft_parts.specs.SumTrees.{sum_bits, tri_sum}
 use Rattle.dft_parts.proofs.Trees.{value_at, bit_at, sum_value, sum_bit}
-use Rattle.dft_edt.specs.Hardware.{EdtNets, HasHold, HasOutput, chain_in, group_of}
+use Rattle.dft_edt.specs.Hardware.{EdtNets, HasHold, HasOutput, group_of}
 use Rattle.dft_edt.specs.Parts.{shown_by}
 use Rattle.dft_edt.proofs.Parts.{group_below}
 use Rattle.dft_edt.proofs.Sums.{at_nets, sum_of_bits, same_sum}
-use Rattle.dft_compact.specs.CompactorStands.{HasGated, HasCompactorParts, CompactorBits, CompactorValues}
+use Rattle.dft_compact.specs.CompactorStands.{HasGated, CompactorBits, CompactorValues}
 
 -- ---- bits
 

@@ -1,11 +1,11 @@
 -- Recipes of lists that are made part by part.
-use Rattle.std.proofs.Common.{ℕ, ◌≡◌, List, [], ◌∷◌, ◌++◌, Result, Ok, Err, refl, sym, subst, ap, ◌∙◌, append_assoc}
+use Rattle.std.proofs.Common.{◌≡◌, List, [], ◌++◌, Result, Ok, Err, refl, sym, ap, ◌∙◌, append_assoc}
 use Rattle.std.proofs.lemmas.List.{append-nil}
 use Rattle.dft_netlist.specs.declared.error.NetlistError.{NetlistError}
 use Rattle.dft_netlist.specs.declared.error.NetlistError.TheVariants.{MultipleDrivers, Loop, DuplicateName, TooMany, Memory}
 use Rattle.dft_parts.specs.Parts.{Making}
 use Rattle.dft_parts.specs.Recipes.{Recipe, pure, ◌>>=◌, outcome, IsRefusal}
-use Rattle.dft_parts.proofs.Outcomes.{and_then, outcome-bind, then_ok, then_refused, pure_made}
+use Rattle.dft_parts.proofs.Outcomes.{and_then, outcome-bind, then_ok, then_refused}
 
 -- what comes of the recipe of a list, behind what was made so far
 abbrev pub behind_list : {A : Type 0} → (so_far : List A) → Result (List A × Making) NetlistError → Result (List A × Making) NetlistError

@@ -1,5 +1,5 @@
 -- The compactor as it is made.
-use Rattle.std.proofs.Common.{ℕ, ◌<◌, ◌≤◌, ◌≡◌, List, [], ◌∷◌, ◌++◌, length, map, drop, Result, Ok, refl, sym, subst, ap, arith, ◌∙◌}
+use Rattle.std.proofs.Common.{ℕ, ◌≡◌, List, [], ◌∷◌, length, map, Result, Ok, sym, subst, ◌∙◌}
 use Rattle.std.specs.List.{range_with_len}
 use Rattle.dft_cells.specs.declared.kind.Kind.TheVariants.{And, Buf, Inv}
 use Rattle.dft_netlist.specs.declared.ids.NetId.{NetId}
@@ -7,7 +7,7 @@ use Rattle.dft_netlist.specs.declared.error.NetlistError.{NetlistError}
 use Rattle.dft_config.specs.declared.config.Config.{Config}
 use Rattle.dft_parts.specs.declared.edt_ports.EdtPorts.{EdtPorts}
 use Rattle.dft_parts.specs.Parts.{Making}
-use Rattle.dft_parts.specs.Recipes.{Recipe, pure, ◌>>=◌, each, collect, net_at, a_gate, outcome, IsRefusal, Makes}
+use Rattle.dft_parts.specs.Recipes.{Recipe, ◌>>=◌, each, collect, net_at, a_gate, outcome, IsRefusal, Makes}
 use Rattle.dft_parts.specs.Sums.{a_driving_gate, a_sum}
 use Rattle.dft_parts.proofs.Outcomes.{then_ok, then_refused, same_makes}
 use Rattle.dft_edt.specs.Hardware.{group_of}

@@ -1,5 +1,5 @@
 -- The parts of the masks are their hardware.
-use Rattle.std.proofs.Common.{ℕ, zero, suc, ◌+◌, ◌*◌, ◌-◌, ◌<◌, ◌≤◌, ◌≡◌, ◌⊎◌, inl, inr, List, [], ◌∷◌, ◌++◌, length, refl, sym, subst, ap, arith, ◌∙◌, length-append}
+use Rattle.std.proofs.Common.{ℕ, zero, suc, ◌+◌, ◌*◌, ◌-◌, ◌<◌, ◌≤◌, ◌≡◌, List, [], ◌∷◌, ◌++◌, length, refl, sym, subst, ap, arith, ◌∙◌, length-append}
 use Rattle.dft_cells.specs.declared.kind.Kind.TheVariants.{And, Or}
 use Rattle.dft_cells.specs.WellFormed.{IsWellFormed}
 use Rattle.dft_netlist.specs.declared.ids.NetId.{NetId}
@@ -10,7 +10,7 @@ use Rattle.dft_netlist.specs.NetDrivers.{IsSingle}
 use Rattle.dft_config.specs.declared.config.Config.{Config}
 use Rattle.dft_parts.specs.declared.edt_ports.EdtPorts.{EdtPorts}
 use Rattle.dft_parts.specs.Growth.{HasParts, instances_in}
-use Rattle.dft_parts.specs.Parts.{Part, ANet}
+use Rattle.dft_parts.specs.Parts.{ANet}
 use Rattle.dft_parts.specs.Recipes.{Start, behind, net_at, a_flop}
 use Rattle.dft_parts.specs.Standing.{IsClockNet, IsFlop}
 use Rattle.dft_parts.specs.Sums.{a_driving_gate}
@@ -196,9 +196,9 @@ cut_stands n ports config edt run segment (suc count) i at single well library c
     let at_k : 0 + k ≡ k = omega arith in
     let all = first.value ++ rest.value in
     let moved : MaskAt l edt run (i + 5 * (0 + k)) (before_place all 0 port k) (masks_at all (0 + k)) =
-        subst (λ (x : ℕ). MaskAt l edt run (i + 5 * x) (before_place all 0 port k) (masks_at all x)) (sym at_k)
-        (subst (λ (v : MaskNets). MaskAt l edt run (i + 5 * k) (before_place all 0 port k) v) (sym (at_front first.value rest.value k within))
-        (subst (λ (b : NetId). MaskAt l edt run (i + 5 * k) b (masks_at first.value k)) (front_before first.value rest.value port k within) own)) in
+    subst (λ (x : ℕ). MaskAt l edt run (i + 5 * x) (before_place all 0 port k) (masks_at all x)) (sym at_k)
+    (subst (λ (v : MaskNets). MaskAt l edt run (i + 5 * k) (before_place all 0 port k) v) (sym (at_front first.value rest.value k within))
+    (subst (λ (b : NetId). MaskAt l edt run (i + 5 * k) b (masks_at first.value k)) (front_before first.value rest.value port k within) own)) in
     subst (λ (m : ℕ). MaskAt l edt run (i + 5 * (chains + k)) (before_place all chains (net_at edt.masks m) k) (masks_at all (chains + k))) (sym same)
     (subst (λ (q : ℕ). MaskAt l edt run (i + 5 * (q + k)) (before_place all q port k) (masks_at all (q + k))) (sym none) moved)
 cut_stands n ports config edt run segment (suc count) i at single well library clock h (suc j) k chains less inside is =
@@ -225,7 +225,7 @@ cut_stands n ports config edt run segment (suc count) i at single well library c
     let place : chains + k ≡ length first.value + (rel + k) = omega (arith, rel_is) in
     let value : masks_at rest.value (rel + k) ≡ masks_at all (chains + k) = sym (ap (masks_at all) place ∙ at_back first.value rest.value (rel + k)) in
     let before : before_place rest.value rel p k ≡ before_place all chains (net_at edt.masks (segment + suc j)) k =
-        back_before first.value rest.value rel p k ∙ ap (λ (q : ℕ). before_place all q p k) (sym rel_is) ∙ ap (λ (m : ℕ). before_place all chains (net_at edt.masks m) k) same in
+    back_before first.value rest.value rel p k ∙ ap (λ (q : ℕ). before_place all q p k) (sym rel_is) ∙ ap (λ (m : ℕ). before_place all chains (net_at edt.masks m) k) same in
     subst (λ (x : ℕ). MaskAt l edt run x (before_place all chains (net_at edt.masks (segment + suc j)) k) (masks_at all (chains + k))) number
     (subst (λ (v : MaskNets). MaskAt l edt run (i + instances_in first.parts + 5 * (rel + k)) (before_place all chains (net_at edt.masks (segment + suc j)) k) v) value
     (subst (λ (b : NetId). MaskAt l edt run (i + instances_in first.parts + 5 * (rel + k)) b (masks_at rest.value (rel + k))) before own))

@@ -39,11 +39,7 @@ pub(crate) fn make_gated(
 }
 
 /// Makes what the compactor takes of a chain: its end, where the hold bit is 0.
-fn gate_end(
-    parts: &mut PartsBuilder,
-    hold: NetId,
-    end: NetId,
-) -> Result<NetId, NetlistError>
+fn gate_end(parts: &mut PartsBuilder, hold: NetId, end: NetId) -> Result<NetId, NetlistError>
     requires hold { hold.0 < length parts.old.netlist.nets }
     requires end { end.0 < length parts.old.netlist.nets }
     ensures makes { Makes (λ net. net) (a_gated hold end) parts.old result parts.new }

@@ -1,5 +1,4 @@
-use Rattle.std.proofs.Common.{◌≡◌, ◌+◌, ◌++◌, ◌<◌, ℕ, List, Ok, length, sym, subst, ap, arith, ◌∙◌}
-use Rattle.std.specs.Prelude.{slice_index_or}
+use Rattle.std.proofs.Common.{◌≡◌, ◌++◌, ◌<◌, ℕ, List, Ok, length, sym, subst, ap, arith, ◌∙◌}
 use Rattle.std.proofs.lemmas.Result.{err_from_is_err_and}
 use Rattle.dft_netlist.specs.declared.ids.NetId.{NetId}
 use Rattle.dft_parts.specs.Recipes.{net_at, outcome, IsRefusal}
@@ -36,7 +35,7 @@ loop-segment-preserved c =
     let ports = c.args.ports.now in
     let chains = c.in_ok-chains.chains.items in
     let made = subst (λ (n : ℕ). outcome (a_segment ports c.args.run (net_at ports.masks c.loop-segment.segment) n) c.loop-segment.parts ≡ Ok (chains, c.make_segment.new.parts)) c.segment_length-count.ensures
-        (subst (λ (ms : List NetId). outcome (a_segment ports c.args.run (net_at ms c.loop-segment.segment) c.segment_length-count.result) c.loop-segment.parts ≡ Ok (chains, c.make_segment.new.parts)) c.as_slice.ensures c.in_ok-chains.ensures.makes) in
+    (subst (λ (ms : List NetId). outcome (a_segment ports c.args.run (net_at ms c.loop-segment.segment) c.segment_length-count.result) c.loop-segment.parts ≡ Ok (chains, c.make_segment.new.parts)) c.as_slice.ensures c.in_ok-chains.ensures.makes) in
     cut_goes c.args.config.now ports c.args.run c.args.config.now.compactor.mask_inputs c.args.parts.now c.loop-segment.parts c.make_segment.new.parts c.loop-segment.segment c.loop-segment.masks.items c.extend_from_slice.new.self.items chains
     c.loop-segment.invariant c.loop-segment-test.true made c.in_ok-chains.ensures.there (c.in_ok-chains.ensures.count ∙ c.segment_length-count.ensures) c.in_ok-chains.ensures.nets
     (c.in_ok-extend_from_slice.ensures.items ∙ ap (λ xs. c.loop-segment.masks.items ++ xs) c.deref.ensures.value)

@@ -1,4 +1,3 @@
-use Rattle.std.proofs.Common.{arith}
 use Rattle.std.proofs.lemmas.Result.{err_from_is_err_and}
 use Rattle.dft_compact.proofs.Masking.{ports_on, segment_starts, segment_goes, segment_stops, segment_ends}
 use Rattle.dft_compact.proofs.masks.make_segment.Goals as goal
