@@ -13,10 +13,11 @@ use Rattle.dft_netlist.specs.Logic.{Logic, Cell}
 use Rattle.dft_netlist.specs.Settled.{TriSources, value_from, IsTriSettled}
 use Rattle.dft_logic.specs.declared.circuit.FlipFlop.{FlipFlop}
 use Rattle.dft_logic.specs.declared.circuit.Circuit.{Circuit}
-use Rattle.dft_abstract.specs.Cycle.{Pulse, AreViews, next_value, after_pulse, IsLeast}
+use Rattle.dft_abstract.specs.Cycle.{Pulse, tri_forced_by, tri_taken_by, AreViews, next_value, after_pulse, IsLeast}
 use Rattle.dft_cycle.specs.Machine.{Machine, value_at, is_one_of, ports_of, logic, acted, IsSet, at_strobe, IsStrobed, pulses, pulse_from, IsPulsed}
 use Rattle.dft_logic.specs.Circuit.{IsReady, logic_at, cell_of, cell_at, flag_at, IsCircuit}
 use Rattle.dft_cycle.specs.Views.{rank_of, Among, AreNext}
+use Rattle.dft_cycle.specs.Plans.{IsPassed}
 use Rattle.dft_logic.specs.Compiling.{ports_by}
 use Rattle.dft_logic.specs.Needs.{AreSeen}
 use Rattle.dft_logic.proofs.LookLemmas.{look_of_all}
@@ -257,3 +258,80 @@ one_among (clock ∷ clocks) e h = elim (eqb_tells clock.0 e) [
 -- the flagged nets are the clocks
 pub same_ports : (flags : List Bool) (clocks : List NetId) → ((e : ℕ) → flag_at flags e ≡ is_one_of clocks e) → ports_by flags ≡ ports_of clocks
 same_ports flags clocks same = λ i. record { is_clock = λ e. same e i; is_reset = λ e. not (same e i) }
+
+-- ---- no net but clocks is flagged
+
+skip_true : (b c : Bool) → b ≡ false → (b || c) ≡ true → c ≡ true
+skip_true false c is up = up
+skip_true true c is up = absurd cc
+
+pulses_one : (clocks : List NetId) (pulsed : List Bool) (e : ℕ) → pulses clocks pulsed e ≡ true → is_one_of clocks e ≡ true
+pulses_one [] pulsed e up = absurd cc
+pulses_one (clock ∷ clocks) [] e up = absurd cc
+pulses_one (clock ∷ clocks) (b ∷ pulsed) e up = go b (clock.0 == e) (pulses clocks pulsed e) (is_one_of clocks e) up (pulses_one clocks pulsed e) where
+  go : (b t r s : Bool) → ((b && t) || r) ≡ true → (r ≡ true → s ≡ true) → (t || s) ≡ true
+  go b true r s up rest = refl
+  go true false r s up rest = rest up
+  go false false r s up rest = rest up
+
+pub flags_one : (clocks : List NetId) (pulsed : List Bool) (v : Vec Bool) (ws : List Bool) (cs : List NetId) (rs : List Bool) → length ws ≡ length rs → rs ≡ v.items → cs ≡ clocks →
+    ((e : ℕ) → flag_at ws e ≡ pulses cs pulsed e) → (e : ℕ) → flag_at (with_items v ws).items e ≡ true → is_one_of clocks e ≡ true
+flags_one clocks pulsed v ws cs rs a b named marks e up =
+    pulses_one clocks pulsed e (sym (ap (λ (l : List NetId). pulses l pulsed e) named) ∙ sym (marks e) ∙ sym (ap (λ (l : List Bool). flag_at l e) (filled v ws rs a b)) ∙ up)
+
+-- flags are lowered one after another
+pub lower_more : (nets : List NetId) (flags : List Bool) (j : ℕ) (d : NetId) → j < length nets → (get_or nets j d).0 < length flags → ((e : ℕ) → flag_at flags e ≡ true → is_one_of (drop j nets) e ≡ true) →
+    (e : ℕ) → flag_at (slice_set flags (get_or nets j d).0 false) e ≡ true → is_one_of (drop (j + 1) nets) e ≡ true
+lower_more nets flags j d less live old e up =
+    let net : NetId = get_or nets j d in
+    let front : drop j nets ≡ net ∷ drop (j + 1) nets = rw (add-one) (drop-cons nets j d less) in
+    elim (eqb_tells net.0 e) [
+      | inl q ↦ (let down : flag_at (slice_set flags net.0 false) e ≡ false = ap (λ (k : ℕ). flag_at (slice_set flags net.0 false) k) (sym q.1) ∙ get_or-set_same flags net.0 false false live in
+          let none : true ≡ false = sym up ∙ down in absurd cc)
+      | inr q ↦ (let ne : e ≢ net.0 = λ is. q.1 (sym is) in
+          skip_true (net.0 == e) (is_one_of (drop (j + 1) nets) e) q.0
+          (sym (ap (λ (l : List NetId). is_one_of l e) front) ∙ old e (sym (get_or-set_other flags net.0 e false false ne) ∙ up)))
+    ]
+
+pub lower_all : (nets : List NetId) (flags : List Bool) (j e : ℕ) → length nets ≤ j → ((e : ℕ) → flag_at flags e ≡ true → is_one_of (drop j nets) e ≡ true) → flag_at flags e ≡ false
+lower_all nets flags j e past old = go (flag_at flags e) (λ up. sym (ap (λ (l : List NetId). is_one_of l e) (drop_all j nets past)) ∙ old e up) where
+  go : (b : Bool) → (b ≡ true → false ≡ true) → b ≡ false
+  go true f = absurd (let none = f refl in cc)
+  go false f = refl
+
+-- ---- a pulse by a plan
+
+after_past : (x : Circuit) (p : Pulse) (view : ℕ → ℕ → Tri) (c : ℕ) → length x.flops.items ≤ c → p.old c ≡ Unknown → after_pulse (logic_at x) p view c ≡ Unknown
+unfolding logic_at
+after_past x p view c out old =
+    let F : Cell → Tri = λ cell. if p.pulsed cell.domain then tri_forced_by cell.force p.ports (tri_taken_by cell.scan (value_from (view cell.domain)) (value_from (view cell.domain) cell.input)) else p.old c in
+    ap F (cell_past x.flops.items c out) ∙ go (p.pulsed 0) where
+      go : (up : Bool) → (if up then Unknown else p.old c) ≡ Unknown
+      go true = refl
+      go false = old
+
+pub pulse_passed : (m after : Machine) (x : Circuit) (pulsed : List Bool) (p : Pulse) (new : List Tri) → logic m ≡ logic_at x → after.netlist ≡ m.netlist → after.clocks ≡ m.clocks → after.inputs ≡ m.inputs → after.shown ≡ m.shown →
+    after.cells ≡ new → ((k : ℕ) → p.ports k ≡ value_at m.inputs k) → ((e : ℕ) → p.pulsed e ≡ pulses m.clocks pulsed e) → ((c : ℕ) → p.old c ≡ value_at m.cells c) →
+    length m.cells ≡ length x.flops.items → length new ≡ length m.cells → IsPassed x p new → IsPulsed (logic m) m pulsed after
+pulse_passed m after x pulsed p new compiled n k i s cells ports ups old a b passed =
+    let same : p ≡ pulse_from m pulsed = λ t. record { ports = λ q. ports q t; pulsed = λ e. ups e t; old = λ c. old c t } in
+    let P : Pulse → Type 0 = λ q. IsLeast (logic_at x) q passed.poss passed.view in
+    let Q : Logic → Type 0 = λ l. IsLeast l (pulse_from m pulsed) passed.poss passed.view in
+    record {
+      netlist = n;
+      clocks = k;
+      inputs = i;
+      shown = s;
+      poss = passed.poss;
+      view = passed.view;
+      least = subst Q (sym compiled) (subst P same passed.least);
+      cells = λ c.
+          (let R : Pulse → Type 0 = λ q. value_at new c ≡ after_pulse (logic_at x) q passed.view c in
+          let S : Logic → Type 0 = λ l. value_at new c ≡ after_pulse l (pulse_from m pulsed) passed.view c in
+          let taken : value_at new c ≡ after_pulse (logic_at x) p passed.view c = elim (leb_tells (length x.flops.items) c) [
+            | inl out ↦ (let f : length new ≤ c = omega (arith, out.1) in let g : length m.cells ≤ c = omega (arith, out.1) in
+                get_or_past new c Unknown f ∙ sym (after_past x p passed.view c out.1 (old c ∙ get_or_past m.cells c Unknown g)))
+            | inr live ↦ passed.each c live.1
+          ] in
+          ap (λ (l : List Tri). value_at l c) cells ∙ subst S (sym compiled) (subst R same taken));
+    }

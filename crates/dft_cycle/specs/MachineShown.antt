@@ -1,10 +1,12 @@
 -- What an `AbstractMachine` shows, and what holds of it.
-use Rattle.std.specs.Prelude.{ℕ, false, ◌≡◌, ◌<◌, Some, length, slice_get}
+use Rattle.std.specs.Prelude.{ℕ, true, false, ◌≡◌, ◌<◌, Some, length, slice_get}
 use Rattle.dft_netlist.specs.declared.ids.NetId.{NetId}
 use Rattle.dft_cycle.specs.declared.machine.AbstractMachine.TheInside.{Inside}
-use Rattle.dft_cycle.specs.Machine.{Machine, logic}
+use Rattle.dft_cycle.specs.Machine.{Machine, logic, is_one_of}
 use Rattle.dft_logic.specs.Circuit.{logic_at, flag_at, IsCircuit, IsReady}
 use Rattle.dft_cycle.specs.Views.{OwnsLatches}
+use Rattle.dft_cycle.specs.Plans.{ArePlans}
+use Rattle.dft_cycle.specs.Looks.{AreLooks}
 
 abbrev pub machine_of : Inside → Machine
 machine_of d = record { netlist = d.design.now; clocks = d.clocks.items; inputs = d.inputs.items; cells = d.cells.items; shown = d.shown.items }
@@ -27,3 +29,8 @@ pub record IsMachine (d : Inside) : Type 0 where
   pub marked : length d.marked.items ≡ length d.circuit.ops.items
   pub clear : (k : ℕ) → flag_at d.marked.items k ≡ false
   pub ready : IsReady d.circuit d.values.items
+  pub quick : length d.quick.items ≡ length d.circuit.ops.items
+  pub plans : ArePlans d.circuit d.clocks.items d.plans
+  pub looks : AreLooks d.circuit d.looks
+  -- no net but clocks is flagged
+  pub flags : (e : ℕ) → flag_at d.pulsed.items e ≡ true → is_one_of d.clocks.items e ≡ true

@@ -3,7 +3,12 @@
 
 mod flops;
 mod laws;
+mod looking;
+mod looks;
 mod machine;
+mod planning;
+mod plans;
+mod preparing;
 mod rounds;
 mod sweeping;
 

@@ -6,6 +6,8 @@ ghost use Rattle.dft_cycle.specs.Machine as spec;
 ghost use Rattle.dft_logic.specs.Needs.{AreSeen};
 ghost use Rattle.dft_logic.specs.Circuit.{cell_of, cell_at, force_at, IsCircuit, flag_at as is_up};
 
+use crate::looking::Looks;
+use crate::planning::Plans;
 use crate::rounds::find_least;
 use crate::sweeping::settle_again;
 use dft_base::Tri;
@@ -33,6 +35,9 @@ pub struct AbstractMachine<'a> {
     next: Vec<Tri>,
     held: Vec<Tri>,
     marked: Vec<bool>,
+    quick: Vec<Tri>,
+    plans: Plans,
+    looks: Looks,
 }
 
 impl<'a> Model for AbstractMachine<'a> {
@@ -71,7 +76,10 @@ impl<'a> AbstractMachine<'a> {
         let poss = unknown(alloc, cells)?;
         let next = unknown(alloc, cells)?;
         let held = unknown(alloc, cells)?;
-        let marked = lowered(alloc, nets)?;
+        let mut marked = lowered(alloc, nets)?;
+        let quick = unknown(alloc, nets)?;
+        let looks = Looks::prepare(alloc, &circuit)?;
+        let plans = Plans::prepare(alloc, &circuit, &clocks, &mut marked)?;
         let pulse = Pulse {
             ports: &inputs,
             pulsed: &[],
@@ -91,6 +99,9 @@ impl<'a> AbstractMachine<'a> {
             next,
             held,
             marked,
+            quick,
+            plans,
+            looks,
         })
     }
 
@@ -142,6 +153,26 @@ impl<'a> AbstractMachine<'a> {
         ensures same { self.new ≡ self.old }
         ensures seen { AreSeen (logic self.old) (spec.value_at self.old.inputs) (spec.value_at self.old.cells) nets.now values.new }
     {
+        let read = self.looks.read(
+            &self.circuit,
+            &self.inputs,
+            &self.cells,
+            nets,
+            &mut self.quick,
+            &mut self.marked,
+            values,
+        );
+        if !read {
+            self.look_at_all(nets, values);
+        }
+    }
+
+    /// The same where all nets are settled.
+    fn look_at_all(&mut self, nets: &[NetId], values: &mut [Tri])
+        requires { length values.old ≡ length nets.now }
+        ensures same { self.new ≡ self.old }
+        ensures seen { AreSeen (logic self.old) (spec.value_at self.old.inputs) (spec.value_at self.old.cells) nets.now values.new }
+    {
         let pulse = Pulse {
             ports: &self.inputs,
             pulsed: &[],
@@ -159,6 +190,27 @@ impl<'a> AbstractMachine<'a> {
     /// Pulses some clocks, with an entry for each in their order: the flip-flops of their domains take what they may
     /// take in any order of the edges.
     pub fn pulse(&mut self, pulsed: &[bool])
+        requires { length pulsed.now ≡ length self.old.clocks }
+        ensures { IsPulsed (logic self.old) self.old pulsed.now self.new }
+    {
+        mark(&self.clocks, pulsed, &mut self.pulsed);
+        let taken = self.plans.take(
+            &self.circuit,
+            &self.clocks,
+            &self.inputs,
+            &self.pulsed,
+            &mut self.quick,
+            &mut self.marked,
+            &mut self.next,
+            &mut self.cells,
+        );
+        if !taken {
+            self.pulse_by_views(pulsed);
+        }
+    }
+
+    /// The same by the views of all domains and the least map.
+    fn pulse_by_views(&mut self, pulsed: &[bool])
         requires { length pulsed.now ≡ length self.old.clocks }
         ensures { IsPulsed (logic self.old) self.old pulsed.now self.new }
     {
@@ -216,15 +268,25 @@ fn act(circuit: &Circuit, net: NetId, value: Tri, cells: &mut [Tri])
     }
 }
 
-/// Flags the clocks that pulse.
+/// Lowers the flags of these nets, where no others are up.
+fn lower_flags(nets: &[NetId], flags: &mut [bool])
+    requires live { (place : ℕ) (net : NetId) → slice_get nets.now place ≡ Some net → net.0 < length flags.old }
+    requires others { (e : ℕ) → is_up flags.old e ≡ true → is_one_of nets.now e ≡ true }
+    ensures { (e : ℕ) → is_up flags.new e ≡ false }
+{
+    for net in nets {
+        flags[net.0 as usize] = false;
+    }
+}
+
+/// Flags the clocks that pulse, where no net but clocks was flagged.
 fn mark(clocks: &[NetId], pulsed: &[bool], flags: &mut [bool])
     requires live { (place : ℕ) (clock : NetId) → slice_get clocks.now place ≡ Some clock → clock.0 < length flags.old }
     requires entries { length pulsed.now ≡ length clocks.now }
+    requires others { (e : ℕ) → is_up flags.old e ≡ true → is_one_of clocks.now e ≡ true }
     ensures { (e : ℕ) → is_up flags.new e ≡ pulses clocks.now pulsed.now e }
 {
-    for flag in flags.iter_mut() {
-        *flag = false;
-    }
+    lower_flags(clocks, flags);
     for (place, up) in pulsed.iter().enumerate() {
         if *up {
             flags[clocks[place].0 as usize] = true;

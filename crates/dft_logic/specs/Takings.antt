@@ -1,5 +1,5 @@
 -- The flip-flops that change in a pulse, as a list, and what they take.
-use Rattle.std.specs.Prelude.{ℕ, ◌≡◌, ◌<◌, ◌⊎◌, List, length, slice_index_or}
+use Rattle.std.specs.Prelude.{ℕ, ◌≡◌, ◌<◌, ◌≤◌, ◌⊎◌, List, length, slice_index_or}
 use Rattle.dft_base.specs.declared.tri.Tri.{Tri}
 use Rattle.dft_netlist.specs.Logic.{Cell}
 use Rattle.dft_abstract.specs.Cycle.{Pulse}
@@ -21,6 +21,7 @@ pub record IsAmong (takings : List Taking) (count c : ℕ) : Type 0 where
 
 -- Each flip-flop of the list takes what the table tells, and all others keep their values.
 pub record AreTakings (table : ℕ → entries.Entry) (count : ℕ) (takings : List Taking) : Type 0 where
+  pub few : length takings ≤ count
   pub live : (j : ℕ) → j < length takings → (taking_at takings j).place < count
   pub each : (j : ℕ) → j < length takings → table (taking_at takings j).place ≡ entry_of (taking_at takings j).entry
   pub all : (c : ℕ) → c < count → IsAmong takings (length takings) c ⊎ (table c ≡ entries.Keeps)

@@ -62,11 +62,13 @@ pub fn read_list(nets: &[NetId], values: &[Tri], row: &mut [Tri])
     }
 }
 
-/// Whether nets have the values of a row, in their order.
+/// Whether nets have the values of a row, in their order, and it has no more.
 pub fn has_row(nets: &[NetId], row: &[Tri], values: &[Tri]) -> bool
-    requires { length row.now ≡ length nets.now }
     ensures { result ≡ true → row.now ≡ map (λ net. spec.value_at values.now net.0) nets.now }
 {
+    if row.len() != nets.len() {
+        return false;
+    }
     for (place, net) in nets.iter().enumerate() {
         if differ(row[place], value_at(values, net.0)) {
             return false;

@@ -6,8 +6,9 @@ use Rattle.dft_base.specs.declared.tri.Tri.{Tri}
 use Rattle.dft_netlist.specs.declared.ids.NetId.{NetId}
 use Rattle.dft_netlist.specs.Logic.{Ports, Logic, logic_of}
 use Rattle.dft_cycle.specs.Machine.{logic, is_one_of, value_at}
+use Rattle.dft_cycle.specs.Plans.{ArePlans}
 use Rattle.dft_logic.specs.Circuit.{flag_at, logic_at}
-use Rattle.dft_cycle.proofs.MachineLemmas.{down_all, ready_kept, unknown_all, refilled, filled, one_among, same_ports}
+use Rattle.dft_cycle.proofs.MachineLemmas.{clear_kept, ready_kept, unknown_all, refilled, filled, one_among, same_ports}
 use Rattle.dft_cycle.proofs.DomainLemmas.{ready_view}
 use Rattle.dft_cycle.proofs.machine.AbstractMachine.prepare.Goals as goal
 
@@ -48,9 +49,13 @@ invariant_of-result c =
       poss = ap length c.in_ok-poss.ensures ∙ length-replicate _ _ ∙ cells;
       next = ap length c.in_ok-next.ensures ∙ length-replicate _ _ ∙ cells;
       held = ap length c.in_ok-held.ensures ∙ length-replicate _ _ ∙ cells;
-      marked = ap length c.in_ok-marked.ensures ∙ length-replicate _ _ ∙ count ∙ sym nets;
-      clear = λ k. ap (λ (l : List Bool). flag_at l k) c.in_ok-marked.ensures ∙ down_all _ k;
-      ready = ready_kept x c.in_ok-values.values c.settle.new.values c.deref_mut-2.result.now c.settle.auto.values c.deref_mut-2.ensures.value (ready_view x c.strobe_view.result c.settle.new.values c.settle.ensures);
+      marked = refilled c.in_ok-marked.marked c.prepare-2.new.marked ∙ ap length c.in_ok-marked.ensures ∙ length-replicate _ _ ∙ count ∙ sym nets;
+      clear = clear_kept c.in_ok-marked.marked c.prepare-2.new.marked c.deref_mut-2.result.now c.prepare-2.auto.marked c.deref_mut-2.ensures.value c.in_ok-plans.ensures.clear;
+      ready = ready_kept x c.in_ok-values.values c.settle.new.values c.deref_mut-3.result.now c.settle.auto.values c.deref_mut-3.ensures.value (ready_view x c.strobe_view.result c.settle.new.values c.settle.ensures);
+      quick = ap length c.in_ok-quick.ensures ∙ length-replicate _ _ ∙ count ∙ sym nets;
+      plans = subst (λ (l : List NetId). ArePlans x l c.in_ok-plans.plans) c.deref-2.ensures.value c.in_ok-plans.ensures.plans;
+      looks = c.in_ok-looks.ensures;
+      flags = λ e up. sym (same e) ∙ ap (λ (l : List Bool). flag_at l e) read ∙ up;
     }
 
 pub returns : goal.returns

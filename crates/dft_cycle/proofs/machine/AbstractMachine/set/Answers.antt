@@ -28,6 +28,10 @@ invariant_of-self c =
       marked = i.marked;
       clear = i.clear;
       ready = i.ready;
+      quick = i.quick;
+      plans = i.plans;
+      looks = i.looks;
+      flags = i.flags;
     }
 
 pub returns : goal.returns

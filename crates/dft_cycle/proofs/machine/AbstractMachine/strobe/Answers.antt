@@ -33,6 +33,10 @@ invariant_of-self c =
       clear = clear_kept d.marked c.settle_again.new.marked c.deref_mut-2.result.now c.settle_again.auto.marked c.deref_mut-2.ensures.value c.settle_again.ensures.clear;
       ready = ready_kept d.circuit d.values c.settle_again.new.values c.deref_mut.result.now c.settle_again.auto.values c.deref_mut.ensures.value
           (ready_view d.circuit c.strobe_view.result c.settle_again.new.values c.settle_again.ensures.given);
+      quick = i.quick;
+      plans = i.plans;
+      looks = i.looks;
+      flags = i.flags;
     }
 
 pub returns : goal.returns

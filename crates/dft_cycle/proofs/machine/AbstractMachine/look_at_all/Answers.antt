@@ -1,0 +1,53 @@
+-- The nets have the values of every settled assignment.
+use Rattle.std.proofs.Common.{ℕ, ◌≡◌, ◌∙◌, refl, ap, map, subst, List}
+use Rattle.dft_base.specs.declared.tri.Tri.{Tri}
+use Rattle.dft_cycle.specs.Machine.{Machine, logic, value_at}
+use Rattle.dft_logic.specs.Needs.{AreSeen}
+use Rattle.dft_netlist.specs.declared.ids.NetId.{NetId}
+use Rattle.dft_cycle.specs.MachineShown.{machine_of}
+use Rattle.dft_logic.specs.declared.settling.View.{View}
+use Rattle.dft_logic.specs.Circuit.{logic_at, IsGivenIn}
+use Rattle.dft_cycle.proofs.DomainLemmas.{ready_view}
+use Rattle.dft_cycle.proofs.MachineLemmas.{refilled, filled, looked, clear_kept, ready_kept}
+use Rattle.dft_cycle.proofs.machine.AbstractMachine.look_at_all.Goals as goal
+
+pub invariant_of-self : goal.invariant_of-self
+unfolding logic
+invariant_of-self c =
+    let i = c.self.invariant in
+    let d = c.self.inside in
+    record {
+      circuit = i.circuit;
+      compiled = i.compiled;
+      owned = i.owned;
+      live = i.live;
+      nets = i.nets;
+      pulsed = i.pulsed;
+      inputs = i.inputs;
+      shown = i.shown;
+      values = refilled d.values c.settle_again.new.values ∙ i.values;
+      cells = i.cells;
+      poss = i.poss;
+      next = i.next;
+      held = i.held;
+      marked = refilled d.marked c.settle_again.new.marked ∙ i.marked;
+      clear = clear_kept d.marked c.settle_again.new.marked c.deref_mut-2.result.now c.settle_again.auto.marked c.deref_mut-2.ensures.value c.settle_again.ensures.clear;
+      ready = ready_kept d.circuit d.values c.settle_again.new.values c.deref_mut.result.now c.settle_again.auto.values c.deref_mut.ensures.value
+          (ready_view d.circuit c.strobe_view.result c.settle_again.new.values c.settle_again.ensures.given);
+      quick = i.quick;
+      plans = i.plans;
+      looks = i.looks;
+      flags = i.flags;
+    }
+
+pub returns-clause-seen : goal.returns-clause-seen
+unfolding logic_at
+returns-clause-seen c =
+    let d = c.self.inside in
+    let V : View → Type 0 = λ v. (k : ℕ) → IsGivenIn d.circuit v v.domain.0 c.settle_again.new.values k in
+    let P : Machine → Type 0 = λ m. AreSeen (logic m) (value_at m.inputs) (value_at m.cells) c.args.nets.now c.read_list.new.row in
+    let read : c.deref-3.result.now ≡ c.settle_again.new.values = c.deref-3.ensures.value ∙ filled d.values c.settle_again.new.values c.deref_mut.result.now c.settle_again.auto.values c.deref_mut.ensures.value in
+    subst P c.self.view_is
+    (looked (machine_of d) d.circuit _ c.settle_again.new.values c.read_list.new.row c.args.nets.now c.self.invariant.circuit c.self.invariant.compiled
+    (λ k. ap (λ (l : List Tri). value_at l k) c.deref.ensures.value) (λ e. refl) (λ k. ap (λ (l : List Tri). value_at l k) c.deref-2.ensures.value) (λ a b source. refl) (subst V c.strobe_view.ensures c.settle_again.ensures.given)
+    (c.read_list.ensures ∙ ap (λ (l : List Tri). map (λ (net : NetId). value_at l net.0) c.args.nets.now) read))

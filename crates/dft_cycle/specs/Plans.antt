@@ -1,0 +1,122 @@
+-- Plans: pulses that are found in one pass, by the nets to settle and by what flip-flops take.
+use Rattle.std.specs.Prelude.{ℕ, Bool, true, ◌≡◌, ◌<◌, ◌≤◌, List, [], All, Option, Some, map, length, take}
+use Rattle.std.specs.Vec.{vec_capacity}
+use Rattle.dft_base.specs.declared.tri.Tri.{Tri}
+use Rattle.dft_base.specs.declared.tri.Tri.TheVariants.{Unknown}
+use Rattle.dft_netlist.specs.declared.ids.NetId.{NetId}
+use Rattle.dft_netlist.specs.Orders.{Has, numbers_of}
+use Rattle.dft_abstract.specs.Cycle.{Pulse, IsLeast, after_pulse}
+use Rattle.dft_logic.specs.declared.circuit.Circuit.{Circuit}
+use Rattle.dft_logic.specs.Needs.{IsStrobeClosed}
+use Rattle.dft_logic.specs.Shows.{Shown, IsShownOn}
+use Rattle.dft_logic.specs.Takes.{AreOrigins}
+use Rattle.dft_logic.specs.Entries.{Entry}
+use Rattle.dft_logic.specs.Values.{value_at}
+use Rattle.dft_logic.specs.Circuit.{logic_at, cell_of, cell_at, flag_at, force_nets, AreOrdered}
+use Rattle.dft_logic.specs.EntryTables.{origin_at, scan_needs, entry_for, entry_needs}
+use Rattle.dft_logic.specs.Takings.{AreTakings}
+use Rattle.dft_cycle.specs.declared.plans.Pins.{Pins}
+use Rattle.dft_cycle.specs.declared.plans.Plan.{Plan}
+use Rattle.dft_cycle.specs.declared.plans.Stage.{Stage}
+use Rattle.dft_cycle.specs.declared.plans.Stage.TheVariants.{Made}
+use Rattle.dft_cycle.specs.declared.planning.Plans.{Plans}
+use Rattle.dft_cycle.specs.Views.{Among}
+
+-- the values of nets, in their order
+abbrev pub row_of : (values : ℕ → Tri) → List NetId → List Tri
+row_of values nets = map (λ net. values net.0) nets
+
+-- the flags of nets, in their order
+abbrev pub flags_of : (flags : ℕ → Bool) → List NetId → List Bool
+flags_of flags nets = map (λ net. flags net.0) nets
+
+-- the nets at the front of a list are in order, and with these marked nets all are there that they are settled from
+pub record IsNeedList (x : Circuit) (marked : List Bool) (nets : List NetId) : Type 0 where
+  pub closed : IsStrobeClosed (logic_at x) (flag_at marked)
+  pub ordered : AreOrdered x.ops.items [] (numbers_of nets)
+  pub listed : (k : ℕ) → flag_at marked k ≡ true → Has (numbers_of nets) k
+
+-- the ports of all resets and sets, and the nets of all scan enables, so far as there are such nets
+pub record IsPins (x : Circuit) (pins : Pins) : Type 0 where
+  pub ports : (c k : ℕ) → c < length x.flops.items → k < length x.ops.items → Has (force_nets (cell_at (map cell_of x.flops.items) c).force) k → Has (numbers_of pins.ports.items) k
+  pub enables : (c k : ℕ) → c < length x.flops.items → k < length x.ops.items → Has (scan_needs true (cell_at (map cell_of x.flops.items) c).scan) k → Has (numbers_of pins.enables.items) k
+  pub count : pins.count ≤ length pins.list.items
+  pub ordered : AreOrdered x.ops.items [] (numbers_of (take pins.count pins.list.items))
+
+-- these are the flags of the clocks, where all clocks that pulse are among them, and the values of the pins' ports and of their scan enables
+pub record IsKey (clocks : List NetId) (pins : Pins) (p : Pulse) (values : ℕ → Tri) (flags : List Bool) (forces scans : List Tri) : Type 0 where
+  pub among : (e : ℕ) → p.pulsed e ≡ true → Among clocks (length clocks) e
+  pub pulsed : flags ≡ flags_of p.pulsed clocks
+  pub ports : forces ≡ row_of p.ports pins.ports.items
+  pub enables : scans ≡ row_of values pins.enables.items
+
+-- A plan that is made was right for some pulse that has its key: each flip-flop has an entry there, what it needs is listed, and what it takes.
+pub record IsMade (x : Circuit) (clocks : List NetId) (pins : Pins) (plan : Plan) : Type 0 where
+  pub pulse : Pulse
+  pub values : List Tri
+  pub origin : ℕ → Option ℕ
+  pub shown : ℕ → Shown
+  pub marked : List Bool
+  pub table : ℕ → Entry
+  pub size : length values ≡ length x.ops.items
+  pub past : (k : ℕ) → length x.ops.items ≤ k → pulse.ports k ≡ Unknown
+  pub key : IsKey clocks pins pulse (value_at values) plan.pulsed.items plan.ports.items plan.enables.items
+  pub origins : AreOrigins (logic_at x) origin
+  pub shows : IsShownOn (logic_at x) pulse.pulsed (λ net. true) shown
+  pub entries : (c : ℕ) → c < length x.flops.items → entry_for (cell_at (map cell_of x.flops.items) c) pulse origin shown (value_at values) ≡ Some (table c)
+  pub needed : (c : ℕ) → c < length x.flops.items → (k : ℕ) → k < length x.ops.items → Has (entry_needs (cell_at (map cell_of x.flops.items) c) (table c)) k → flag_at marked k ≡ true
+  pub list : IsNeedList x marked (take plan.count plan.list.items)
+  pub takings : AreTakings table (length x.flops.items) plan.takings.items
+
+pub record IsPlan (x : Circuit) (clocks : List NetId) (pins : Pins) (plan : Plan) : Type 0 where
+  pub pulsed : length plan.pulsed.items ≡ length clocks
+  pub ports : length plan.ports.items ≡ length pins.ports.items
+  pub enables : length plan.enables.items ≡ length pins.enables.items
+  pub list : length plan.list.items ≡ length x.ops.items
+  pub count : plan.count ≤ length plan.list.items
+  pub room : length x.flops.items ≤ vec_capacity plan.takings
+  pub made : plan.stage ≡ Made → IsMade x clocks pins plan
+
+-- ---- what is written in a plan
+
+-- the plan has this key, and the rest of it is as before
+pub record IsNoted (clocks : List NetId) (pins : Pins) (p : Pulse) (values : ℕ → Tri) (how : Stage) (old new : Plan) : Type 0 where
+  pub stage : new.stage ≡ how
+  pub pulsed : new.pulsed.items ≡ flags_of p.pulsed clocks
+  pub ports : new.ports.items ≡ row_of p.ports pins.ports.items
+  pub enables : new.enables.items ≡ row_of values pins.enables.items
+  pub list : new.list ≡ old.list
+  pub count : new.count ≡ old.count
+  pub takings : new.takings ≡ old.takings
+
+-- the plan lists what flip-flops with these entries need, by marks, and what they take; its key is as before
+pub record IsFilled (x : Circuit) (table : ℕ → Entry) (old new : Plan) : Type 0 where
+  pub marked : List Bool
+  pub stage : new.stage ≡ old.stage
+  pub pulsed : new.pulsed ≡ old.pulsed
+  pub ports : new.ports ≡ old.ports
+  pub enables : new.enables ≡ old.enables
+  pub size : length new.list.items ≡ length old.list.items
+  pub count : new.count ≤ length new.list.items
+  pub list : IsNeedList x marked (take new.count new.list.items)
+  pub needed : (c : ℕ) → c < length x.flops.items → (k : ℕ) → k < length x.ops.items → Has (entry_needs (cell_at (map cell_of x.flops.items) c) (table c)) k → flag_at marked k ≡ true
+  pub takings : AreTakings table (length x.flops.items) new.takings.items
+  pub room : vec_capacity new.takings ≡ vec_capacity old.takings
+
+-- ---- all plans
+
+-- the plans of a circuit with these clocks, and what they are made from
+pub record ArePlans (x : Circuit) (clocks : List NetId) (p : Plans) : Type 0 where
+  pub pins : IsPins x p.pins
+  pub origins : AreOrigins (logic_at x) (origin_at p.origins.items)
+  pub plans : All (IsPlan x clocks p.pins) p.plans.items
+  pub some : 0 < length p.plans.items
+  pub shown : length p.shown.items ≡ length x.ops.items
+  pub entries : length p.entries.items ≡ length x.flops.items
+
+-- a pulse was found by one pass: these are the values of flip-flops after it, at a least map that is there
+pub record IsPassed (x : Circuit) (p : Pulse) (new : List Tri) : Type 0 where
+  pub poss : ℕ → Tri
+  pub view : ℕ → ℕ → Tri
+  pub least : IsLeast (logic_at x) p poss view
+  pub each : (c : ℕ) → c < length x.flops.items → value_at new c ≡ after_pulse (logic_at x) p view c

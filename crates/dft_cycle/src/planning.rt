@@ -1,0 +1,188 @@
+//! All plans: which is for a pulse, and which is noted or made.
+
+ghost use Rattle.std.specs.Prelude.{◌≡◌, ℕ, ◌<◌, length, true, false, IfSome};
+ghost use Rattle.dft_logic.specs.Values as spec;
+ghost use Rattle.dft_logic.specs.Circuit.{IsCircuit, flag_at as is_up};
+ghost use Rattle.dft_cycle.specs.Views.{PulsesAmong};
+ghost use Rattle.dft_cycle.specs.Plans.{ArePlans, IsPassed};
+
+use crate::plans::{Pins, Plan, Stage};
+use dft_base::Tri;
+use dft_logic::{Circuit, Entry, Pulse, Shown, settle_strobe};
+use dft_netlist::{InstanceId, NetId};
+
+/// The plans of the last pulses that came again, and what they are made from: the pins, the flip-flop that each net
+/// shows, and room for what nets show and for entries. Then the places of the plan that was noted last and of the one
+/// that was taken last.
+#[derive(Drop)]
+pub(crate) struct Plans {
+    pub pins: Pins,
+    pub origins: Vec<Option<InstanceId>>,
+    pub plans: Vec<Plan>,
+    pub shown: Vec<Shown>,
+    pub entries: Vec<Entry>,
+    pub noted: usize,
+    pub taken: usize,
+}
+
+/// The place of the plan for a pulse, where nets have these values.
+fn find_plan(
+    plans: &[Plan],
+    clocks: &[NetId],
+    pins: &Pins,
+    pulse: Pulse<'_>,
+    values: &[Tri],
+) -> Option<usize>
+    ensures { IfSome result (λ place. place < length plans.now) }
+{
+    for (place, plan) in plans.iter().enumerate() {
+        if plan.fits(clocks, pins, pulse, values) {
+            return Some(place);
+        }
+    }
+    None
+}
+
+/// The place that is noted next: the one after the last, but not the one that was taken last.
+pub(crate) fn next_place(noted: usize, taken: usize, count: usize) -> usize
+    requires { 0 < count }
+    ensures { result < count }
+{
+    let place = place_after(noted, count);
+    if place == taken {
+        place_after(place, count)
+    } else {
+        place
+    }
+}
+
+/// The place after one, round about.
+fn place_after(place: usize, count: usize) -> usize
+    requires { 0 < count }
+    ensures { result < count }
+{
+    if place < count - 1 { place + 1 } else { 0 }
+}
+
+impl Plans {
+    /// Notes a plan for a pulse, in place of another.
+    fn note(&mut self, circuit: &Circuit, clocks: &[NetId], pulse: Pulse<'_>, values: &[Tri])
+        requires plans { ArePlans circuit.now clocks.now self.old }
+        ensures { ArePlans circuit.now clocks.now self.new }
+    {
+        let place = next_place(self.noted, self.taken, self.plans.len());
+        self.plans[place].note(clocks, &self.pins, pulse, values, Stage::Noted);
+        self.noted = place;
+    }
+
+    /// Makes the plan at a place for a pulse.
+    fn make(
+        &mut self,
+        circuit: &Circuit,
+        clocks: &[NetId],
+        pulse: Pulse<'_>,
+        place: usize,
+        values: &mut [Tri],
+        marked: &mut [bool],
+    )
+        requires circuit { IsCircuit circuit.now }
+        requires plans { ArePlans circuit.now clocks.now self.old }
+        requires live { place < length self.old.plans.items }
+        requires among { PulsesAmong pulse.pulsed.now clocks.now }
+        requires ports { length pulse.ports.now ≡ length circuit.now.ops.items }
+        requires values { length values.old ≡ length circuit.now.ops.items }
+        requires marked { length marked.old ≡ length circuit.now.ops.items }
+        requires clear { (k : ℕ) → is_up marked.old k ≡ false }
+        ensures plans { ArePlans circuit.now clocks.now self.new }
+        ensures count { length self.new.plans.items ≡ length self.old.plans.items }
+        ensures clear { (k : ℕ) → is_up marked.new k ≡ false }
+    {
+        self.plans[place].make(
+            circuit,
+            clocks,
+            &self.pins,
+            pulse,
+            &self.origins,
+            values,
+            &mut self.shown,
+            &mut self.entries,
+            marked,
+        );
+    }
+
+    /// The place of the plan for a pulse, which is made if the pulse came before. Where there is none, one is noted.
+    fn choose(
+        &mut self,
+        circuit: &Circuit,
+        clocks: &[NetId],
+        pulse: Pulse<'_>,
+        values: &mut [Tri],
+        marked: &mut [bool],
+    ) -> Option<usize>
+        requires circuit { IsCircuit circuit.now }
+        requires plans { ArePlans circuit.now clocks.now self.old }
+        requires among { PulsesAmong pulse.pulsed.now clocks.now }
+        requires ports { length pulse.ports.now ≡ length circuit.now.ops.items }
+        requires values { length values.old ≡ length circuit.now.ops.items }
+        requires marked { length marked.old ≡ length circuit.now.ops.items }
+        requires clear { (k : ℕ) → is_up marked.old k ≡ false }
+        ensures plans { ArePlans circuit.now clocks.now self.new }
+        ensures live { IfSome result (λ place. place < length self.new.plans.items) }
+        ensures clear { (k : ℕ) → is_up marked.new k ≡ false }
+    {
+        let nets = &self.pins.list[..self.pins.count];
+        settle_strobe(circuit, pulse.ports, pulse.old, nets, values);
+        match find_plan(&self.plans, clocks, &self.pins, pulse, values) {
+            Some(place) => {
+                self.taken = place;
+                if self.plans[place].is_noted() {
+                    self.make(circuit, clocks, pulse, place, values, marked);
+                }
+                Some(place)
+            }
+            None => {
+                self.note(circuit, clocks, pulse, values);
+                None
+            }
+        }
+    }
+
+    /// Takes a pulse by a plan, if there is one for it. Whether it was taken.
+    pub(crate) fn take(
+        &mut self,
+        circuit: &Circuit,
+        clocks: &[NetId],
+        ports: &[Tri],
+        pulsed: &[bool],
+        values: &mut [Tri],
+        marked: &mut [bool],
+        next: &mut [Tri],
+        cells: &mut [Tri],
+    ) -> bool
+        requires circuit { IsCircuit circuit.now }
+        requires plans { ArePlans circuit.now clocks.now self.old }
+        requires among { PulsesAmong pulsed.now clocks.now }
+        requires ports { length ports.now ≡ length circuit.now.ops.items }
+        requires values { length values.old ≡ length circuit.now.ops.items }
+        requires marked { length marked.old ≡ length circuit.now.ops.items }
+        requires clear { (k : ℕ) → is_up marked.old k ≡ false }
+        requires next { length next.old ≡ length circuit.now.flops.items }
+        requires cells { length cells.old ≡ length circuit.now.flops.items }
+        ensures plans { ArePlans circuit.now clocks.now self.new }
+        ensures clear { (k : ℕ) → is_up marked.new k ≡ false }
+        ensures passed { result ≡ true → IsPassed circuit.now (record { ports = spec.value_at ports.now; pulsed = is_up pulsed.now; old = spec.value_at cells.old }) cells.new }
+        ensures same { result ≡ false → cells.new ≡ cells.old }
+    {
+        let pulse = Pulse {
+            ports,
+            pulsed,
+            old: cells,
+        };
+        match self.choose(circuit, clocks, pulse, values, marked) {
+            Some(place) => self.plans[place].take(
+                circuit, clocks, &self.pins, ports, pulsed, values, next, cells,
+            ),
+            None => false,
+        }
+    }
+}

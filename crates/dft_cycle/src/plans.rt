@@ -1,0 +1,276 @@
+//! Plans: pulses that are found in one pass, kept for when they come again.
+
+ghost use Rattle.std.specs.Prelude.{◌≡◌, ℕ, ◌<◌, ◌≤◌, [], length, map, take, true, false, IfSome};
+ghost use Rattle.std.specs.Vec.{vec_capacity};
+ghost use Rattle.dft_netlist.specs.Orders.{Has, numbers_of};
+ghost use Rattle.dft_logic.specs.Values as spec;
+ghost use Rattle.dft_logic.specs.Circuit.{IsCircuit, logic_at, cell_of, cell_at, flag_at as is_up, pulse_at};
+ghost use Rattle.dft_logic.specs.Shows.{IsShownOn};
+ghost use Rattle.dft_logic.specs.Takes.{AreOrigins};
+ghost use Rattle.dft_logic.specs.ShownTables.{shown_at};
+ghost use Rattle.dft_logic.specs.EntryTables.{origin_at, entry_for, entry_needs, entry_at};
+ghost use Rattle.dft_cycle.specs.declared.plans.Stage.TheVariants.{Noted, Made};
+ghost use Rattle.dft_cycle.specs.Views.{PulsesAmong};
+ghost use Rattle.dft_cycle.specs.Plans.{row_of, flags_of, IsPins, IsNeedList, IsPlan, IsNoted, IsFilled, IsPassed};
+
+use dft_base::Tri;
+use dft_logic::{
+    Circuit, Entry, Pulse, Shown, Sights, Taking, find_entries, flag_at, has_row, list_marked,
+    list_takings, lower, mark_entries, mark_needed, put_all, read_list, settle, settle_strobe,
+    show_all, strobe_view, take_all,
+};
+use dft_netlist::{InstanceId, NetId};
+
+/// How far a plan got.
+#[derive(Clone, Copy)]
+pub(crate) enum Stage {
+    /// It has a key, and is made when its pulse comes again.
+    Noted,
+    Made,
+    /// There is none for its pulse: something that a flip-flop needs may move.
+    Barred,
+}
+
+/// What plans are told apart by, beside the clocks that pulse: the ports of resets and sets and the nets of scan
+/// enables. Then the nets that scan enables are settled from, at the front of a list.
+#[derive(Drop)]
+pub(crate) struct Pins {
+    pub ports: Vec<NetId>,
+    pub enables: Vec<NetId>,
+    pub list: Vec<NetId>,
+    pub count: usize,
+}
+
+/// A pulse that is found in one pass: the clocks that pulse, and the values of ports and of scan enables, in the order
+/// of the pins; then the nets to settle, at the front of a list, and what flip-flops take.
+#[derive(Drop)]
+pub(crate) struct Plan {
+    pub stage: Stage,
+    pub pulsed: Vec<bool>,
+    pub ports: Vec<Tri>,
+    pub enables: Vec<Tri>,
+    pub list: Vec<NetId>,
+    pub count: usize,
+    pub takings: Vec<Taking>,
+}
+
+/// Whether nets have the flags of a row, in their order, and it has no more.
+fn has_flags(nets: &[NetId], row: &[bool], flags: &[bool]) -> bool
+    ensures { result ≡ true → row.now ≡ flags_of (is_up flags.now) nets.now }
+{
+    if row.len() != nets.len() {
+        return false;
+    }
+    for (place, net) in nets.iter().enumerate() {
+        if row[place] != flag_at(flags, net.0) {
+            return false;
+        }
+    }
+    true
+}
+
+/// Reads the flags of nets, in their order.
+fn read_flags(nets: &[NetId], flags: &[bool], row: &mut [bool])
+    requires { length row.old ≡ length nets.now }
+    ensures { row.new ≡ flags_of (is_up flags.now) nets.now }
+{
+    for (place, net) in nets.iter().enumerate() {
+        row[place] = flag_at(flags, net.0);
+    }
+}
+
+impl Plan {
+    /// Whether it is for this pulse, where nets have these values.
+    pub(crate) fn fits(
+        &self,
+        clocks: &[NetId],
+        pins: &Pins,
+        pulse: Pulse<'_>,
+        values: &[Tri],
+    ) -> bool
+        ensures pulsed { result ≡ true → self.now.pulsed.items ≡ flags_of (pulse_at pulse.entry).pulsed clocks.now }
+        ensures ports { result ≡ true → self.now.ports.items ≡ row_of (pulse_at pulse.entry).ports pins.now.ports.items }
+        ensures enables { result ≡ true → self.now.enables.items ≡ row_of (spec.value_at values.now) pins.now.enables.items }
+    {
+        if !has_flags(clocks, &self.pulsed, pulse.pulsed) {
+            return false;
+        }
+        if !has_row(&pins.ports, &self.ports, pulse.ports) {
+            return false;
+        }
+        has_row(&pins.enables, &self.enables, values)
+    }
+
+    /// Whether it is made.
+    fn is_made(&self) -> bool
+        ensures { result ≡ true → self.now.stage ≡ Made }
+    {
+        match self.stage {
+            Stage::Made => true,
+            _ => false,
+        }
+    }
+
+    /// Whether it has a key and no more.
+    pub(crate) fn is_noted(&self) -> bool
+        ensures { result ≡ true → self.now.stage ≡ Noted }
+    {
+        match self.stage {
+            Stage::Noted => true,
+            _ => false,
+        }
+    }
+}
+
+/// Settles all nets for the strobe of a pulse, and finds what flip-flops take. Whether all take what is still.
+fn draw(
+    circuit: &Circuit,
+    pulse: Pulse<'_>,
+    origins: &[Option<InstanceId>],
+    values: &mut [Tri],
+    shown: &mut [Shown],
+    entries: &mut [Entry],
+) -> bool
+    requires circuit { IsCircuit circuit.now }
+    requires values { length values.old ≡ length circuit.now.ops.items }
+    requires shown { length shown.old ≡ length circuit.now.ops.items }
+    requires entries { length entries.old ≡ length circuit.now.flops.items }
+    ensures shows { IsShownOn (logic_at circuit.now) (is_up pulse.entry.pulsed.now) (λ net. true) (shown_at shown.new) }
+    ensures entries { result ≡ true → (c : ℕ) → c < length circuit.now.flops.items → entry_for (cell_at (map cell_of circuit.now.flops.items) c) (pulse_at pulse.entry) (origin_at origins.now) (shown_at shown.new) (spec.value_at values.new) ≡ Some (entry_at entries.new c) }
+{
+    settle(circuit, &strobe_view(pulse), values);
+    show_all(circuit, pulse.pulsed, shown);
+    let sights = Sights { origins, shown };
+    find_entries(&circuit.flops, pulse, &sights, values, entries)
+}
+
+/// Lists the nets that are settled for flip-flops to take what they take, at the front of a list: how many.
+fn list_needs(
+    circuit: &Circuit,
+    entries: &[Entry],
+    marked: &mut [bool],
+    list: &mut [NetId],
+) -> usize
+    requires circuit { IsCircuit circuit.now }
+    requires entries { length entries.now ≡ length circuit.now.flops.items }
+    requires marked { length marked.old ≡ length circuit.now.ops.items }
+    requires list { length list.old ≡ length circuit.now.ops.items }
+    ensures room { result ≤ length list.new }
+    ensures list { IsNeedList circuit.now marked.new (take result list.new) }
+    ensures needed { (c : ℕ) → c < length circuit.now.flops.items → (k : ℕ) → k < length circuit.now.ops.items → Has (entry_needs (cell_at (map cell_of circuit.now.flops.items) c) (entry_at entries.now c)) k → is_up marked.new k ≡ true }
+{
+    mark_entries(&circuit.flops, entries, marked);
+    mark_needed(circuit, marked);
+    list_marked(circuit, marked, list)
+}
+
+impl Plan {
+    /// Notes for which pulse it is.
+    pub(crate) fn note(
+        &mut self,
+        clocks: &[NetId],
+        pins: &Pins,
+        pulse: Pulse<'_>,
+        values: &[Tri],
+        stage: Stage,
+    )
+        requires pulsed { length self.old.pulsed.items ≡ length clocks.now }
+        requires ports { length self.old.ports.items ≡ length pins.now.ports.items }
+        requires enables { length self.old.enables.items ≡ length pins.now.enables.items }
+        ensures { IsNoted clocks.now pins.now (pulse_at pulse.entry) (spec.value_at values.now) stage self.old self.new }
+    {
+        self.stage = stage;
+        read_flags(clocks, pulse.pulsed, &mut self.pulsed);
+        read_list(&pins.ports, pulse.ports, &mut self.ports);
+        read_list(&pins.enables, values, &mut self.enables);
+    }
+
+    /// Lists what is settled and taken where flip-flops have these entries. All marks are lowered after it.
+    fn fill(&mut self, circuit: &Circuit, entries: &[Entry], marked: &mut [bool])
+        requires circuit { IsCircuit circuit.now }
+        requires entries { length entries.now ≡ length circuit.now.flops.items }
+        requires marked { length marked.old ≡ length circuit.now.ops.items }
+        requires list { length self.old.list.items ≡ length circuit.now.ops.items }
+        requires room { length circuit.now.flops.items ≤ vec_capacity self.old.takings }
+        ensures filled { IsFilled circuit.now (entry_at entries.now) self.old self.new }
+        ensures clear { (k : ℕ) → is_up marked.new k ≡ false }
+    {
+        self.count = list_needs(circuit, entries, marked, &mut self.list);
+        list_takings(entries, &mut self.takings);
+        lower(marked);
+    }
+
+    /// Makes it for a pulse, if all flip-flops take what is still.
+    pub(crate) fn make(
+        &mut self,
+        circuit: &Circuit,
+        clocks: &[NetId],
+        pins: &Pins,
+        pulse: Pulse<'_>,
+        origins: &[Option<InstanceId>],
+        values: &mut [Tri],
+        shown: &mut [Shown],
+        entries: &mut [Entry],
+        marked: &mut [bool],
+    )
+        requires circuit { IsCircuit circuit.now }
+        requires among { PulsesAmong pulse.pulsed.now clocks.now }
+        requires ports { length pulse.ports.now ≡ length circuit.now.ops.items }
+        requires origins { AreOrigins (logic_at circuit.now) (origin_at origins.now) }
+        requires values { length values.old ≡ length circuit.now.ops.items }
+        requires shown { length shown.old ≡ length circuit.now.ops.items }
+        requires entries { length entries.old ≡ length circuit.now.flops.items }
+        requires marked { length marked.old ≡ length circuit.now.ops.items }
+        requires clear { (k : ℕ) → is_up marked.old k ≡ false }
+        requires plan { IsPlan circuit.now clocks.now pins.now self.old }
+        ensures plan { IsPlan circuit.now clocks.now pins.now self.new }
+        ensures clear { (k : ℕ) → is_up marked.new k ≡ false }
+    {
+        if draw(circuit, pulse, origins, values, shown, entries) {
+            self.fill(circuit, entries, marked);
+            self.note(clocks, pins, pulse, values, Stage::Made);
+        } else {
+            self.stage = Stage::Barred;
+        }
+    }
+
+    /// Takes a pulse by it, if it is made and the pulse is the one that it is for. Whether it was taken.
+    pub(crate) fn take(
+        &self,
+        circuit: &Circuit,
+        clocks: &[NetId],
+        pins: &Pins,
+        ports: &[Tri],
+        pulsed: &[bool],
+        values: &mut [Tri],
+        next: &mut [Tri],
+        cells: &mut [Tri],
+    ) -> bool
+        requires circuit { IsCircuit circuit.now }
+        requires pins { IsPins circuit.now pins.now }
+        requires plan { IsPlan circuit.now clocks.now pins.now self.now }
+        requires among { PulsesAmong pulsed.now clocks.now }
+        requires ports { length ports.now ≡ length circuit.now.ops.items }
+        requires values { length values.old ≡ length circuit.now.ops.items }
+        requires next { length next.old ≡ length circuit.now.flops.items }
+        requires cells { length cells.old ≡ length circuit.now.flops.items }
+        ensures passed { result ≡ true → IsPassed circuit.now (record { ports = spec.value_at ports.now; pulsed = is_up pulsed.now; old = spec.value_at cells.old }) cells.new }
+        ensures same { result ≡ false → cells.new ≡ cells.old }
+    {
+        if !self.is_made() {
+            return false;
+        }
+        settle_strobe(circuit, ports, cells, &self.list[..self.count], values);
+        let pulse = Pulse {
+            ports,
+            pulsed,
+            old: cells,
+        };
+        if !self.fits(clocks, pins, pulse, values) {
+            return false;
+        }
+        take_all(&circuit.flops, &self.takings, pulse, values, next);
+        put_all(&self.takings, next, cells);
+        true
+    }
+}

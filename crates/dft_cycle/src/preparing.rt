@@ -1,0 +1,190 @@
+//! Room for plans and looks, before any pulse.
+
+ghost use Rattle.std.specs.Prelude.{◌≡◌, ℕ, ◌<◌, ◌≤◌, All, length, map, replicate, take, true, false, IfOk};
+ghost use Rattle.dft_netlist.specs.Orders.{Has, numbers_of};
+ghost use Rattle.dft_logic.specs.Circuit.{IsCircuit, force_nets, cell_of, cell_at, flag_at as is_up};
+ghost use Rattle.dft_logic.specs.EntryTables.{scan_needs, entry_at};
+ghost use Rattle.dft_logic.specs.Entries.{Keeps};
+ghost use Rattle.dft_cycle.specs.Plans.{IsPins, IsPlan, ArePlans};
+ghost use Rattle.dft_cycle.specs.Looks.{IsLook, AreLooks};
+
+use crate::looking::Looks;
+use crate::looks::Look;
+use crate::planning::Plans;
+use crate::plans::{Pins, Plan, Stage};
+use dft_base::Tri;
+use dft_logic::{
+    Circuit, Entry, Shown, find_origins, list_marked, lower, mark_entries, mark_forces, mark_needed,
+};
+use dft_netlist::NetId;
+use std::alloc::{AllocError, Global};
+
+/// How many plans are kept: each has room for every net and every instance.
+const PLANS: usize = 8;
+
+/// How many looks are kept: each has room for every net twice.
+const LOOKS: usize = 4;
+
+/// Lists the ports of resets and sets, at the front of a list: how many. All marks are lowered after it.
+fn list_forces(circuit: &Circuit, marked: &mut [bool], list: &mut [NetId]) -> usize
+    requires circuit { IsCircuit circuit.now }
+    requires marked { length marked.old ≡ length circuit.now.ops.items }
+    requires list { length list.old ≡ length circuit.now.ops.items }
+    ensures room { result ≤ length list.new }
+    ensures all { (c k : ℕ) → c < length circuit.now.flops.items → k < length circuit.now.ops.items → Has (force_nets (cell_at (map cell_of circuit.now.flops.items) c).force) k → Has (numbers_of (take result list.new)) k }
+    ensures clear { (k : ℕ) → is_up marked.new k ≡ false }
+{
+    mark_forces(&circuit.flops, marked);
+    let count = list_marked(circuit, marked, list);
+    lower(marked);
+    count
+}
+
+/// Lists the nets of scan enables, at the front of a list: how many. They stay marked.
+fn list_enables(
+    circuit: &Circuit,
+    entries: &[Entry],
+    marked: &mut [bool],
+    list: &mut [NetId],
+) -> usize
+    requires circuit { IsCircuit circuit.now }
+    requires entries { length entries.now ≡ length circuit.now.flops.items }
+    requires keep { (c : ℕ) → entry_at entries.now c ≡ Keeps }
+    requires marked { length marked.old ≡ length circuit.now.ops.items }
+    requires list { length list.old ≡ length circuit.now.ops.items }
+    ensures room { result ≤ length list.new }
+    ensures all { (c k : ℕ) → c < length circuit.now.flops.items → k < length circuit.now.ops.items → Has (scan_needs true (cell_at (map cell_of circuit.now.flops.items) c).scan) k → Has (numbers_of (take result list.new)) k }
+{
+    mark_entries(&circuit.flops, entries, marked);
+    list_marked(circuit, marked, list)
+}
+
+/// The pins that plans are told apart by, where all entries keep. All marks are lowered after it.
+fn pins(
+    alloc: Global,
+    circuit: &Circuit,
+    entries: &[Entry],
+    marked: &mut [bool],
+) -> Result<Pins, AllocError>
+    requires circuit { IsCircuit circuit.now }
+    requires entries { length entries.now ≡ length circuit.now.flops.items }
+    requires keep { (c : ℕ) → entry_at entries.now c ≡ Keeps }
+    requires marked { length marked.old ≡ length circuit.now.ops.items }
+    ensures pins { IfOk result (IsPins circuit.now) }
+    ensures clear { IfOk result (λ _. (k : ℕ) → is_up marked.new k ≡ false) }
+{
+    let mut list = vec![in alloc; NetId(0); circuit.ops.len()]?;
+    let count = list_forces(circuit, marked, &mut list);
+    let ports = Vec::from_slice(alloc, &list[..count])?;
+    let count = list_enables(circuit, entries, marked, &mut list);
+    let enables = Vec::from_slice(alloc, &list[..count])?;
+    mark_needed(circuit, marked);
+    let count = list_marked(circuit, marked, &mut list);
+    lower(marked);
+    Ok(Pins {
+        ports,
+        enables,
+        list,
+        count,
+    })
+}
+
+/// A plan for no clock.
+fn plan(alloc: Global, circuit: &Circuit, clocks: &[NetId], pins: &Pins) -> Result<Plan, AllocError>
+    ensures { IfOk result (IsPlan circuit.now clocks.now pins.now) }
+{
+    let pulsed = vec![in alloc; false; clocks.len()]?;
+    let ports = vec![in alloc; Tri::Unknown; pins.ports.len()]?;
+    let enables = vec![in alloc; Tri::Unknown; pins.enables.len()]?;
+    let list = vec![in alloc; NetId(0); circuit.ops.len()]?;
+    let takings = Vec::with_capacity(alloc, circuit.flops.len())?;
+    Ok(Plan {
+        stage: Stage::Noted,
+        pulsed,
+        ports,
+        enables,
+        list,
+        count: 0,
+        takings,
+    })
+}
+
+/// So many plans for no clock.
+fn plans(
+    alloc: Global,
+    circuit: &Circuit,
+    clocks: &[NetId],
+    pins: &Pins,
+    count: usize,
+) -> Result<Vec<Plan>, AllocError>
+    ensures all { IfOk result (λ plans. All (IsPlan circuit.now clocks.now pins.now) plans.items) }
+    ensures count { IfOk result (λ plans. length plans.items ≡ count) }
+{
+    let mut plans = Vec::new(alloc);
+    for _place in 0..count {
+        plans.push(plan(alloc, circuit, clocks, pins)?)?;
+    }
+    Ok(plans)
+}
+
+impl Plans {
+    /// Room for plans, and what they are made from. All marks are lowered after it.
+    pub(crate) fn prepare(
+        alloc: Global,
+        circuit: &Circuit,
+        clocks: &[NetId],
+        marked: &mut [bool],
+    ) -> Result<Plans, AllocError>
+        requires circuit { IsCircuit circuit.now }
+        requires marked { length marked.old ≡ length circuit.now.ops.items }
+        ensures plans { IfOk result (ArePlans circuit.now clocks.now) }
+        ensures clear { IfOk result (λ _. (k : ℕ) → is_up marked.new k ≡ false) }
+    {
+        let mut origins = vec![in alloc; None; circuit.ops.len()]?;
+        find_origins(circuit, &mut origins);
+        let shown = vec![in alloc; Shown::Nothing; circuit.ops.len()]?;
+        let entries = vec![in alloc; Entry::Keeps; circuit.flops.len()]?;
+        let pins = pins(alloc, circuit, &entries, marked)?;
+        let plans = plans(alloc, circuit, clocks, &pins, PLANS)?;
+        Ok(Plans {
+            pins,
+            origins,
+            plans,
+            shown,
+            entries,
+            noted: 0,
+            taken: 0,
+        })
+    }
+}
+
+/// A look at no net.
+fn look(alloc: Global, circuit: &Circuit) -> Result<Look, AllocError>
+    ensures { IfOk result (IsLook circuit.now) }
+{
+    let nets = Vec::with_capacity(alloc, circuit.ops.len())?;
+    let list = vec![in alloc; NetId(0); circuit.ops.len()]?;
+    Ok(Look {
+        made: false,
+        nets,
+        list,
+        count: 0,
+    })
+}
+
+impl Looks {
+    /// Room for looks.
+    pub(crate) fn prepare(alloc: Global, circuit: &Circuit) -> Result<Looks, AllocError>
+        ensures { IfOk result (AreLooks circuit.now) }
+    {
+        let mut looks = Vec::new(alloc);
+        for _place in 0..LOOKS {
+            looks.push(look(alloc, circuit)?)?;
+        }
+        Ok(Looks {
+            looks,
+            noted: 0,
+            taken: 0,
+        })
+    }
+}
