@@ -192,7 +192,7 @@ start_is config (suc m) =
     let times : suc m * each ≡ each + m * each = omega arith in
     omega (arith, rest, more, times)
 
-all_segments : (config : Config) → 1 ≤ config.compactor.mask_inputs → segment_start config config.compactor.mask_inputs ≡ config.chains
+pub all_segments : (config : Config) → 1 ≤ config.compactor.mask_inputs → segment_start config config.compactor.mask_inputs ≡ config.chains
 all_segments config some =
     let segments : ℕ = config.compactor.mask_inputs in
     let at = start_is config segments in
