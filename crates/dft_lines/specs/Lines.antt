@@ -1,0 +1,41 @@
+-- Texts of lines of words: lines end at byte 10, words stand between spaces, tabs and returns, and `#` at the beginning of a word begins a comment.
+use Rattle.std.specs.Prelude.{ℕ, ◌==◌, ◌||◌, ◌&&◌, Bool, true, false, List, [], ◌∷◌, if◌then◌else◌, nat_le}
+use Rattle.std.specs.List.{list_all}
+use Rattle.dft_base.specs.Lexing.{Text}
+
+-- a byte before the first of these texts
+abbrev pub onto_first : (byte : ℕ) → List Text → List Text
+onto_first b [] = (b ∷ []) ∷ []
+onto_first b (text ∷ texts) = (b ∷ text) ∷ texts
+
+-- ---- lines
+
+-- the lines of a text; behind a last byte 10 there is one more, which is empty
+unfoldable pub lines_of : Text → List Text
+lines_of [] = [] ∷ []
+lines_of (b ∷ text) = if b == 10 then [] ∷ lines_of text else onto_first b (lines_of text)
+
+-- ---- words
+
+-- tab, return and space
+abbrev pub is_gap : (byte : ℕ) → Bool
+is_gap b = (b == 9) || (b == 13) || (b == 32)
+
+-- the words of what is left of a line: from within a word, whose rest is then the first, or from between words
+unfoldable pub words_from : (within : Bool) → Text → List Text
+words_from true [] = [] ∷ []
+words_from false [] = []
+words_from true (b ∷ text) = if is_gap b then [] ∷ words_from false text else onto_first b (words_from true text)
+words_from false (b ∷ text) = if is_gap b then words_from false text else if b == 35 then [] else onto_first b (words_from true text)
+
+-- the words of a line before its comment
+abbrev pub words_of : Text → List Text
+words_of line = words_from false line
+
+-- a printed byte that is no blank, 33 to 126
+abbrev pub is_printed_byte : (byte : ℕ) → Bool
+is_printed_byte b = nat_le 33 b && nat_le b 126
+
+-- whether all bytes of these words are printed
+abbrev pub are_printed : List Text → Bool
+are_printed words = list_all (list_all is_printed_byte) words

@@ -1,0 +1,2 @@
+//! Texts of lines of words: the lines, and their words.
+#![tactic(auto)]
