@@ -1,7 +1,8 @@
 -- Texts of lines of words: lines end at byte 10, words stand between spaces, tabs and returns, and `#` at the beginning of a word begins a comment.
-use Rattle.std.specs.Prelude.{ℕ, ◌==◌, ◌||◌, ◌&&◌, Bool, true, false, List, [], ◌∷◌, if◌then◌else◌, nat_le}
-use Rattle.std.specs.List.{list_all}
+use Rattle.std.specs.Prelude.{ℕ, ◌==◌, ◌||◌, ◌&&◌, Bool, true, false, List, [], ◌∷◌, ◌++◌, map, ◌-◌, ◌≤◌, ◌<◌, ◌≡◌, Option, None, Some, length, take, drop, if◌then◌else◌, nat_le}
+use Rattle.std.specs.List.{All, list_all}
 use Rattle.dft_base.specs.Lexing.{Text}
+use Rattle.dft_lines.specs.declared.words.Span.{Span}
 
 -- a byte before the first of these texts
 abbrev pub onto_first : (byte : ℕ) → List Text → List Text
@@ -36,6 +37,31 @@ words_of line = words_from false line
 abbrev pub is_printed_byte : (byte : ℕ) → Bool
 is_printed_byte b = nat_le 33 b && nat_le b 126
 
+abbrev pub is_printed : Text → Bool
+is_printed word = list_all is_printed_byte word
+
 -- whether all bytes of these words are printed
 abbrev pub are_printed : List Text → Bool
-are_printed words = list_all (list_all is_printed_byte) words
+are_printed words = list_all is_printed words
+
+-- ---- words by where they stand
+
+-- the bytes of a span
+abbrev pub cut : Text → Span → Text
+cut line span = take (span.end - span.start) (drop span.start line)
+
+-- spans that lie within a line
+abbrev pub AreWithin : Text → List Span → Type 0
+AreWithin line spans = All (λ span. (span.start ≤ span.end) × (span.end ≤ length line)) spans
+
+-- what stands from a place of a line on: no word, or this one, and then what stands behind it
+abbrev pub IsNextWord : Text → (at : ℕ) → Option Span → Type 0
+IsNextWord line at None = words_from false (drop at line) ≡ []
+IsNextWord line at (Some span) =
+    (words_from false (drop at line) ≡ cut line span ∷ words_from false (drop span.end line)) × (at ≤ span.start) × (span.start < span.end) × (span.end ≤ length line)
+
+-- the words before a place of a line
+pub record WordsBefore (line : Text) (at : ℕ) (spans : List Span) : Type 0 where
+  pub inside : at ≤ length line
+  pub words : map (cut line) spans ++ words_from false (drop at line) ≡ words_of line
+  pub within : AreWithin line spans
