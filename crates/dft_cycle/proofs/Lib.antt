@@ -6,3 +6,4 @@ pub mod MachineLemmas
 pub mod MachineRounds
 pub mod AloneLemmas
 pub mod DomainLemmas
+pub mod PassLemmas

@@ -6,6 +6,7 @@ pub use Rattle.dft_netlist.specs.Runs
 pub use Rattle.dft_abstract.specs.Cycle
 pub mod Machine
 pub mod Plans
+pub mod Looks
 pub mod Views
 pub mod MachineShown
 pub mod MachineLaws

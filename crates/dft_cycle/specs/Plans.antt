@@ -1,11 +1,11 @@
 -- Plans: pulses that are found in one pass, by the nets to settle and by what flip-flops take.
-use Rattle.std.specs.Prelude.{ℕ, Bool, true, ◌≡◌, ◌<◌, ◌≤◌, List, [], Option, Some, map, length, take}
+use Rattle.std.specs.Prelude.{ℕ, Bool, true, ◌≡◌, ◌<◌, ◌≤◌, List, [], All, Option, Some, map, length, take}
 use Rattle.std.specs.Vec.{vec_capacity}
 use Rattle.dft_base.specs.declared.tri.Tri.{Tri}
 use Rattle.dft_base.specs.declared.tri.Tri.TheVariants.{Unknown}
 use Rattle.dft_netlist.specs.declared.ids.NetId.{NetId}
 use Rattle.dft_netlist.specs.Orders.{Has, numbers_of}
-use Rattle.dft_abstract.specs.Cycle.{Pulse}
+use Rattle.dft_abstract.specs.Cycle.{Pulse, IsLeast, after_pulse}
 use Rattle.dft_logic.specs.declared.circuit.Circuit.{Circuit}
 use Rattle.dft_logic.specs.Needs.{IsStrobeClosed}
 use Rattle.dft_logic.specs.Shows.{Shown, IsShownOn}
@@ -13,17 +13,22 @@ use Rattle.dft_logic.specs.Takes.{AreOrigins}
 use Rattle.dft_logic.specs.Entries.{Entry}
 use Rattle.dft_logic.specs.Values.{value_at}
 use Rattle.dft_logic.specs.Circuit.{logic_at, cell_of, cell_at, flag_at, force_nets, AreOrdered}
-use Rattle.dft_logic.specs.EntryTables.{scan_needs, entry_for, entry_needs}
+use Rattle.dft_logic.specs.EntryTables.{origin_at, scan_needs, entry_for, entry_needs}
 use Rattle.dft_logic.specs.Takings.{AreTakings}
 use Rattle.dft_cycle.specs.declared.plans.Pins.{Pins}
 use Rattle.dft_cycle.specs.declared.plans.Plan.{Plan}
 use Rattle.dft_cycle.specs.declared.plans.Stage.{Stage}
 use Rattle.dft_cycle.specs.declared.plans.Stage.TheVariants.{Made}
-use Rattle.dft_cycle.specs.Machine.{pulses}
+use Rattle.dft_cycle.specs.declared.plans.Plans.{Plans}
+use Rattle.dft_cycle.specs.Views.{Among}
 
 -- the values of nets, in their order
 abbrev pub row_of : (values : ℕ → Tri) → List NetId → List Tri
 row_of values nets = map (λ net. values net.0) nets
+
+-- the flags of nets, in their order
+abbrev pub flags_of : (flags : ℕ → Bool) → List NetId → List Bool
+flags_of flags nets = map (λ net. flags net.0) nets
 
 -- the nets at the front of a list are in order, and with these marked nets all are there that they are settled from
 pub record IsNeedList (x : Circuit) (marked : List Bool) (nets : List NetId) : Type 0 where
@@ -38,9 +43,10 @@ pub record IsPins (x : Circuit) (pins : Pins) : Type 0 where
   pub count : pins.count ≤ length pins.list.items
   pub ordered : AreOrdered x.ops.items [] (numbers_of (take pins.count pins.list.items))
 
--- these are the pulsed clocks, the values of the pins' ports and those of their scan enables
+-- these are the flags of the clocks, where all clocks that pulse are among them, and the values of the pins' ports and of their scan enables
 pub record IsKey (clocks : List NetId) (pins : Pins) (p : Pulse) (values : ℕ → Tri) (flags : List Bool) (forces scans : List Tri) : Type 0 where
-  pub pulsed : (e : ℕ) → p.pulsed e ≡ pulses clocks flags e
+  pub among : (e : ℕ) → p.pulsed e ≡ true → Among clocks (length clocks) e
+  pub pulsed : flags ≡ flags_of p.pulsed clocks
   pub ports : forces ≡ row_of p.ports pins.ports.items
   pub enables : scans ≡ row_of values pins.enables.items
 
@@ -74,17 +80,18 @@ pub record IsPlan (x : Circuit) (clocks : List NetId) (pins : Pins) (plan : Plan
 -- ---- what is written in a plan
 
 -- the plan has this key, and the rest of it is as before
-pub record IsNoted (pins : Pins) (flags : List Bool) (inputs values : ℕ → Tri) (how : Stage) (old new : Plan) : Type 0 where
+pub record IsNoted (clocks : List NetId) (pins : Pins) (p : Pulse) (values : ℕ → Tri) (how : Stage) (old new : Plan) : Type 0 where
   pub stage : new.stage ≡ how
-  pub pulsed : new.pulsed.items ≡ flags
-  pub ports : new.ports.items ≡ row_of inputs pins.ports.items
+  pub pulsed : new.pulsed.items ≡ flags_of p.pulsed clocks
+  pub ports : new.ports.items ≡ row_of p.ports pins.ports.items
   pub enables : new.enables.items ≡ row_of values pins.enables.items
   pub list : new.list ≡ old.list
   pub count : new.count ≡ old.count
   pub takings : new.takings ≡ old.takings
 
 -- the plan lists what flip-flops with these entries need, by marks, and what they take; its key is as before
-pub record IsFilled (x : Circuit) (table : ℕ → Entry) (marked : List Bool) (old new : Plan) : Type 0 where
+pub record IsFilled (x : Circuit) (table : ℕ → Entry) (old new : Plan) : Type 0 where
+  pub marked : List Bool
   pub stage : new.stage ≡ old.stage
   pub pulsed : new.pulsed ≡ old.pulsed
   pub ports : new.ports ≡ old.ports
@@ -95,3 +102,21 @@ pub record IsFilled (x : Circuit) (table : ℕ → Entry) (marked : List Bool) (
   pub needed : (c : ℕ) → c < length x.flops.items → (k : ℕ) → k < length x.ops.items → Has (entry_needs (cell_at (map cell_of x.flops.items) c) (table c)) k → flag_at marked k ≡ true
   pub takings : AreTakings table (length x.flops.items) new.takings.items
   pub room : vec_capacity new.takings ≡ vec_capacity old.takings
+
+-- ---- all plans
+
+-- the plans of a circuit with these clocks, and what they are made from
+pub record ArePlans (x : Circuit) (clocks : List NetId) (p : Plans) : Type 0 where
+  pub pins : IsPins x p.pins
+  pub origins : AreOrigins (logic_at x) (origin_at p.origins.items)
+  pub plans : All (IsPlan x clocks p.pins) p.plans.items
+  pub some : 0 < length p.plans.items
+  pub shown : length p.shown.items ≡ length x.ops.items
+  pub entries : length p.entries.items ≡ length x.flops.items
+
+-- a pulse was found by one pass: these are the values of flip-flops after it, at a least map that is there
+pub record IsPassed (x : Circuit) (p : Pulse) (new : List Tri) : Type 0 where
+  pub poss : ℕ → Tri
+  pub view : ℕ → ℕ → Tri
+  pub least : IsLeast (logic_at x) p poss view
+  pub each : (c : ℕ) → c < length x.flops.items → value_at new c ≡ after_pulse (logic_at x) p view c

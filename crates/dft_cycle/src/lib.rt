@@ -3,6 +3,7 @@
 
 mod flops;
 mod laws;
+mod looks;
 mod machine;
 mod plans;
 mod rounds;

@@ -1,22 +1,21 @@
 //! Plans: pulses that are found in one pass, kept for when they come again.
 
-ghost use Rattle.std.specs.Prelude.{◌≡◌, ℕ, ◌<◌, ◌≤◌, [], length, map, take, true, IfSome};
+ghost use Rattle.std.specs.Prelude.{◌≡◌, ℕ, ◌<◌, ◌≤◌, [], length, map, take, true, false, IfSome};
 ghost use Rattle.std.specs.Vec.{vec_capacity};
 ghost use Rattle.dft_netlist.specs.Orders.{Has, numbers_of};
-ghost use Rattle.dft_abstract.specs.Cycle.{IsLeast, after_pulse};
 ghost use Rattle.dft_logic.specs.Values as spec;
 ghost use Rattle.dft_logic.specs.Circuit.{IsCircuit, logic_at, cell_of, cell_at, flag_at as is_up, pulse_at};
-ghost use Rattle.dft_logic.specs.Needs.{IsStrobe};
 ghost use Rattle.dft_logic.specs.Shows.{IsShownOn};
 ghost use Rattle.dft_logic.specs.Takes.{AreOrigins};
 ghost use Rattle.dft_logic.specs.ShownTables.{shown_at};
 ghost use Rattle.dft_logic.specs.EntryTables.{origin_at, entry_for, entry_needs, entry_at};
-ghost use Rattle.dft_cycle.specs.Machine.{pulses};
-ghost use Rattle.dft_cycle.specs.Plans.{row_of, IsPins, IsNeedList, IsPlan, IsMade, IsNoted, IsFilled};
+ghost use Rattle.dft_cycle.specs.declared.plans.Stage.TheVariants.{Noted, Made};
+ghost use Rattle.dft_cycle.specs.Views.{PulsesAmong};
+ghost use Rattle.dft_cycle.specs.Plans.{row_of, flags_of, IsPins, IsNeedList, IsPlan, IsNoted, IsFilled, IsPassed, ArePlans};
 
 use dft_base::Tri;
 use dft_logic::{
-    Circuit, Entry, Pulse, Shown, Sights, Taking, find_entries, has_row, list_marked, list_takings,
+    Circuit, Entry, Pulse, Shown, Sights, Taking, find_entries, flag_at, has_row, list_marked, list_takings,
     lower, mark_entries, mark_needed, put_all, read_list, settle, settle_strobe, show_all,
     strobe_view, take_all,
 };
@@ -25,14 +24,11 @@ use dft_netlist::{InstanceId, NetId};
 /// How far a plan got.
 #[derive(Clone, Copy)]
 pub(crate) enum Stage {
-    /// It is for no pulse.
-    Empty,
-    /// Its pulse came once.
-    Met,
-    /// It is made.
+    /// It has a key, and is made when its pulse comes again.
+    Noted,
     Made,
     /// There is none for its pulse: something that a flip-flop needs may move.
-    Moves,
+    Barred,
 }
 
 /// What plans are told apart by, beside the clocks that pulse: the ports of resets and sets and the nets of scan
@@ -58,32 +54,56 @@ pub(crate) struct Plan {
     pub takings: Vec<Taking>,
 }
 
-/// Whether two lists of flags are the same.
-fn same_flags(one: &[bool], other: &[bool]) -> bool
-    ensures { result ≡ true → one.now ≡ other.now }
+/// The plans of the last pulses that came again, and what they are made from: the pins, the flip-flop that each net
+/// shows, and room for what nets show and for entries. Then the places of the plan that was noted last and of the one
+/// that was taken last.
+#[derive(Drop)]
+pub(crate) struct Plans {
+    pub pins: Pins,
+    pub origins: Vec<Option<InstanceId>>,
+    pub plans: Vec<Plan>,
+    pub shown: Vec<Shown>,
+    pub entries: Vec<Entry>,
+    pub noted: usize,
+    pub taken: usize,
+}
+
+/// Whether nets have the flags of a row, in their order, and it has no more.
+fn has_flags(nets: &[NetId], row: &[bool], flags: &[bool]) -> bool
+    ensures { result ≡ true → row.now ≡ flags_of (is_up flags.now) nets.now }
 {
-    if one.len() != other.len() {
+    if row.len() != nets.len() {
         return false;
     }
-    for (place, flag) in one.iter().enumerate() {
-        if *flag != other[place] {
+    for (place, net) in nets.iter().enumerate() {
+        if row[place] != flag_at(flags, net.0) {
             return false;
         }
     }
     true
 }
 
+/// Reads the flags of nets, in their order.
+fn read_flags(nets: &[NetId], flags: &[bool], row: &mut [bool])
+    requires { length row.old ≡ length nets.now }
+    ensures { row.new ≡ flags_of (is_up flags.now) nets.now }
+{
+    for (place, net) in nets.iter().enumerate() {
+        row[place] = flag_at(flags, net.0);
+    }
+}
+
 impl Plan {
-    /// Whether it is for a pulse of these clocks, where ports and nets have these values.
-    fn fits(&self, pins: &Pins, pulsed: &[bool], ports: &[Tri], values: &[Tri]) -> bool
-        ensures pulsed { result ≡ true → self.now.pulsed.items ≡ pulsed.now }
-        ensures ports { result ≡ true → self.now.ports.items ≡ row_of (spec.value_at ports.now) pins.now.ports.items }
+    /// Whether it is for this pulse, where nets have these values.
+    fn fits(&self, clocks: &[NetId], pins: &Pins, pulse: Pulse<'_>, values: &[Tri]) -> bool
+        ensures pulsed { result ≡ true → self.now.pulsed.items ≡ flags_of (pulse_at pulse.entry).pulsed clocks.now }
+        ensures ports { result ≡ true → self.now.ports.items ≡ row_of (pulse_at pulse.entry).ports pins.now.ports.items }
         ensures enables { result ≡ true → self.now.enables.items ≡ row_of (spec.value_at values.now) pins.now.enables.items }
     {
-        if !same_flags(&self.pulsed, pulsed) {
+        if !has_flags(clocks, &self.pulsed, pulse.pulsed) {
             return false;
         }
-        if !has_row(&pins.ports, &self.ports, ports) {
+        if !has_row(&pins.ports, &self.ports, pulse.ports) {
             return false;
         }
         has_row(&pins.enables, &self.enables, values)
@@ -91,27 +111,37 @@ impl Plan {
 
     /// Whether it is made.
     fn is_made(&self) -> bool
-        ensures { result ≡ true → self.now.stage ≡ Stage.Made }
+        ensures { result ≡ true → self.now.stage ≡ Made }
     {
         match self.stage {
             Stage::Made => true,
             _ => false,
         }
     }
+
+    /// Whether it has a key and no more.
+    fn is_noted(&self) -> bool
+        ensures { result ≡ true → self.now.stage ≡ Noted }
+    {
+        match self.stage {
+            Stage::Noted => true,
+            _ => false,
+        }
+    }
 }
 
-/// The place of the plan for a pulse of these clocks, where ports and nets have these values.
-pub(crate) fn find_plan(
+/// The place of the plan for a pulse, where nets have these values.
+fn find_plan(
     plans: &[Plan],
+    clocks: &[NetId],
     pins: &Pins,
-    pulsed: &[bool],
-    ports: &[Tri],
+    pulse: Pulse<'_>,
     values: &[Tri],
 ) -> Option<usize>
     ensures { IfSome result (λ place. place < length plans.now) }
 {
     for (place, plan) in plans.iter().enumerate() {
-        if plan.fits(pins, pulsed, ports, values) {
+        if plan.fits(clocks, pins, pulse, values) {
             return Some(place);
         }
     }
@@ -155,7 +185,6 @@ fn list_needs(
     ensures list { IsNeedList circuit.now marked.new (take result list.new) }
     ensures needed { (c : ℕ) → c < length circuit.now.flops.items → (k : ℕ) → k < length circuit.now.ops.items → Has (entry_needs (cell_at (map cell_of circuit.now.flops.items) c) (entry_at entries.now c)) k → is_up marked.new k ≡ true }
 {
-    lower(marked);
     mark_entries(&circuit.flops, entries, marked);
     mark_needed(circuit, marked);
     list_marked(circuit, marked, list)
@@ -163,28 +192,255 @@ fn list_needs(
 
 impl Plan {
     /// Notes for which pulse it is.
-    fn note(&mut self, pins: &Pins, pulsed: &[bool], ports: &[Tri], values: &[Tri], stage: Stage)
-        requires pulsed { length self.old.pulsed.items ≡ length pulsed.now }
+    fn note(
+        &mut self,
+        clocks: &[NetId],
+        pins: &Pins,
+        pulse: Pulse<'_>,
+        values: &[Tri],
+        stage: Stage,
+    )
+        requires pulsed { length self.old.pulsed.items ≡ length clocks.now }
         requires ports { length self.old.ports.items ≡ length pins.now.ports.items }
         requires enables { length self.old.enables.items ≡ length pins.now.enables.items }
-        ensures { IsNoted pins.now pulsed.now (spec.value_at ports.now) (spec.value_at values.now) stage self.old self.new }
+        ensures { IsNoted clocks.now pins.now (pulse_at pulse.entry) (spec.value_at values.now) stage self.old self.new }
     {
         self.stage = stage;
-        self.pulsed.as_mut_slice().copy_from_slice(pulsed);
-        read_list(&pins.ports, ports, &mut self.ports);
+        read_flags(clocks, pulse.pulsed, &mut self.pulsed);
+        read_list(&pins.ports, pulse.ports, &mut self.ports);
         read_list(&pins.enables, values, &mut self.enables);
     }
 
-    /// Lists what is settled and taken where flip-flops have these entries.
+    /// Lists what is settled and taken where flip-flops have these entries. All marks are lowered after it.
     fn fill(&mut self, circuit: &Circuit, entries: &[Entry], marked: &mut [bool])
         requires circuit { IsCircuit circuit.now }
         requires entries { length entries.now ≡ length circuit.now.flops.items }
         requires marked { length marked.old ≡ length circuit.now.ops.items }
         requires list { length self.old.list.items ≡ length circuit.now.ops.items }
         requires room { length circuit.now.flops.items ≤ vec_capacity self.old.takings }
-        ensures { IsFilled circuit.now (entry_at entries.now) marked.new self.old self.new }
+        ensures filled { IsFilled circuit.now (entry_at entries.now) self.old self.new }
+        ensures clear { (k : ℕ) → is_up marked.new k ≡ false }
     {
         self.count = list_needs(circuit, entries, marked, &mut self.list);
         list_takings(entries, &mut self.takings);
+        lower(marked);
+    }
+
+    /// Makes it for a pulse, if all flip-flops take what is still.
+    fn make(
+        &mut self,
+        circuit: &Circuit,
+        clocks: &[NetId],
+        pins: &Pins,
+        pulse: Pulse<'_>,
+        origins: &[Option<InstanceId>],
+        values: &mut [Tri],
+        shown: &mut [Shown],
+        entries: &mut [Entry],
+        marked: &mut [bool],
+    )
+        requires circuit { IsCircuit circuit.now }
+        requires among { PulsesAmong pulse.pulsed.now clocks.now }
+        requires ports { length pulse.ports.now ≡ length circuit.now.ops.items }
+        requires origins { AreOrigins (logic_at circuit.now) (origin_at origins.now) }
+        requires values { length values.old ≡ length circuit.now.ops.items }
+        requires shown { length shown.old ≡ length circuit.now.ops.items }
+        requires entries { length entries.old ≡ length circuit.now.flops.items }
+        requires marked { length marked.old ≡ length circuit.now.ops.items }
+        requires clear { (k : ℕ) → is_up marked.old k ≡ false }
+        requires plan { IsPlan circuit.now clocks.now pins.now self.old }
+        ensures plan { IsPlan circuit.now clocks.now pins.now self.new }
+        ensures clear { (k : ℕ) → is_up marked.new k ≡ false }
+    {
+        if draw(circuit, pulse, origins, values, shown, entries) {
+            self.fill(circuit, entries, marked);
+            self.note(clocks, pins, pulse, values, Stage::Made);
+        } else {
+            self.stage = Stage::Barred;
+        }
+    }
+
+    /// Takes a pulse by it, if it is made and the pulse is the one that it is for. Whether it was taken.
+    fn take(
+        &self,
+        circuit: &Circuit,
+        clocks: &[NetId],
+        pins: &Pins,
+        ports: &[Tri],
+        pulsed: &[bool],
+        values: &mut [Tri],
+        next: &mut [Tri],
+        cells: &mut [Tri],
+    ) -> bool
+        requires circuit { IsCircuit circuit.now }
+        requires pins { IsPins circuit.now pins.now }
+        requires plan { IsPlan circuit.now clocks.now pins.now self.now }
+        requires among { PulsesAmong pulsed.now clocks.now }
+        requires ports { length ports.now ≡ length circuit.now.ops.items }
+        requires values { length values.old ≡ length circuit.now.ops.items }
+        requires next { length next.old ≡ length circuit.now.flops.items }
+        requires cells { length cells.old ≡ length circuit.now.flops.items }
+        ensures passed { result ≡ true → IsPassed circuit.now (record { ports = spec.value_at ports.now; pulsed = is_up pulsed.now; old = spec.value_at cells.old }) cells.new }
+        ensures same { result ≡ false → cells.new ≡ cells.old }
+    {
+        if !self.is_made() {
+            return false;
+        }
+        settle_strobe(circuit, ports, cells, &self.list[..self.count], values);
+        let pulse = Pulse {
+            ports,
+            pulsed,
+            old: cells,
+        };
+        if !self.fits(clocks, pins, pulse, values) {
+            return false;
+        }
+        take_all(&circuit.flops, &self.takings, pulse, values, next);
+        put_all(&self.takings, next, cells);
+        true
+    }
+}
+
+/// The place that is noted next: the one after the last, but not the one that was taken last.
+pub(crate) fn next_place(noted: usize, taken: usize, count: usize) -> usize
+    requires { 0 < count }
+    ensures { result < count }
+{
+    let place = place_after(noted, count);
+    if place == taken {
+        place_after(place, count)
+    } else {
+        place
+    }
+}
+
+/// The place after one, round about.
+fn place_after(place: usize, count: usize) -> usize
+    requires { 0 < count }
+    ensures { result < count }
+{
+    if place < count - 1 { place + 1 } else { 0 }
+}
+
+impl Plans {
+    /// Notes a plan for a pulse, in place of another.
+    fn note(&mut self, circuit: &Circuit, clocks: &[NetId], pulse: Pulse<'_>, values: &[Tri])
+        requires plans { ArePlans circuit.now clocks.now self.old }
+        ensures { ArePlans circuit.now clocks.now self.new }
+    {
+        let place = next_place(self.noted, self.taken, self.plans.len());
+        self.plans[place].note(clocks, &self.pins, pulse, values, Stage::Noted);
+        self.noted = place;
+    }
+
+    /// Makes the plan at a place for a pulse.
+    fn make(
+        &mut self,
+        circuit: &Circuit,
+        clocks: &[NetId],
+        pulse: Pulse<'_>,
+        place: usize,
+        values: &mut [Tri],
+        marked: &mut [bool],
+    )
+        requires circuit { IsCircuit circuit.now }
+        requires plans { ArePlans circuit.now clocks.now self.old }
+        requires live { place < length self.old.plans.items }
+        requires among { PulsesAmong pulse.pulsed.now clocks.now }
+        requires ports { length pulse.ports.now ≡ length circuit.now.ops.items }
+        requires values { length values.old ≡ length circuit.now.ops.items }
+        requires marked { length marked.old ≡ length circuit.now.ops.items }
+        requires clear { (k : ℕ) → is_up marked.old k ≡ false }
+        ensures plans { ArePlans circuit.now clocks.now self.new }
+        ensures count { length self.new.plans.items ≡ length self.old.plans.items }
+        ensures clear { (k : ℕ) → is_up marked.new k ≡ false }
+    {
+        self.plans[place].make(
+            circuit,
+            clocks,
+            &self.pins,
+            pulse,
+            &self.origins,
+            values,
+            &mut self.shown,
+            &mut self.entries,
+            marked,
+        );
+    }
+
+    /// The place of the plan for a pulse, which is made if the pulse came before. Where there is none, one is noted.
+    fn choose(
+        &mut self,
+        circuit: &Circuit,
+        clocks: &[NetId],
+        pulse: Pulse<'_>,
+        values: &mut [Tri],
+        marked: &mut [bool],
+    ) -> Option<usize>
+        requires circuit { IsCircuit circuit.now }
+        requires plans { ArePlans circuit.now clocks.now self.old }
+        requires among { PulsesAmong pulse.pulsed.now clocks.now }
+        requires ports { length pulse.ports.now ≡ length circuit.now.ops.items }
+        requires values { length values.old ≡ length circuit.now.ops.items }
+        requires marked { length marked.old ≡ length circuit.now.ops.items }
+        requires clear { (k : ℕ) → is_up marked.old k ≡ false }
+        ensures plans { ArePlans circuit.now clocks.now self.new }
+        ensures live { IfSome result (λ place. place < length self.new.plans.items) }
+        ensures clear { (k : ℕ) → is_up marked.new k ≡ false }
+    {
+        let nets = &self.pins.list[..self.pins.count];
+        settle_strobe(circuit, pulse.ports, pulse.old, nets, values);
+        match find_plan(&self.plans, clocks, &self.pins, pulse, values) {
+            Some(place) => {
+                self.taken = place;
+                if self.plans[place].is_noted() {
+                    self.make(circuit, clocks, pulse, place, values, marked);
+                }
+                Some(place)
+            }
+            None => {
+                self.note(circuit, clocks, pulse, values);
+                None
+            }
+        }
+    }
+
+    /// Takes a pulse by a plan, if there is one for it. Whether it was taken.
+    pub(crate) fn take(
+        &mut self,
+        circuit: &Circuit,
+        clocks: &[NetId],
+        ports: &[Tri],
+        pulsed: &[bool],
+        values: &mut [Tri],
+        marked: &mut [bool],
+        next: &mut [Tri],
+        cells: &mut [Tri],
+    ) -> bool
+        requires circuit { IsCircuit circuit.now }
+        requires plans { ArePlans circuit.now clocks.now self.old }
+        requires among { PulsesAmong pulsed.now clocks.now }
+        requires ports { length ports.now ≡ length circuit.now.ops.items }
+        requires values { length values.old ≡ length circuit.now.ops.items }
+        requires marked { length marked.old ≡ length circuit.now.ops.items }
+        requires clear { (k : ℕ) → is_up marked.old k ≡ false }
+        requires next { length next.old ≡ length circuit.now.flops.items }
+        requires cells { length cells.old ≡ length circuit.now.flops.items }
+        ensures plans { ArePlans circuit.now clocks.now self.new }
+        ensures clear { (k : ℕ) → is_up marked.new k ≡ false }
+        ensures passed { result ≡ true → IsPassed circuit.now (record { ports = spec.value_at ports.now; pulsed = is_up pulsed.now; old = spec.value_at cells.old }) cells.new }
+        ensures same { result ≡ false → cells.new ≡ cells.old }
+    {
+        let pulse = Pulse {
+            ports,
+            pulsed,
+            old: cells,
+        };
+        match self.choose(circuit, clocks, pulse, values, marked) {
+            Some(place) => self.plans[place].take(
+                circuit, clocks, &self.pins, ports, pulsed, values, next, cells,
+            ),
+            None => false,
+        }
     }
 }

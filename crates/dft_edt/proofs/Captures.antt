@@ -15,8 +15,9 @@ use Rattle.dft_netlist.specs.Runs.{Vector}
 use Rattle.dft_abstract.specs.Cycle.{Pulse, tri_forced_by, tri_taken_by, view_sources, AreViews, next_value, after_pulse, pulse_of, strobe_sources}
 use Rattle.dft_abstract.specs.Laws.{next_from}
 use Rattle.dft_chains.specs.ScanOff.{moved_source, moved_force, moved_meaning, Places, IsWithin, IsForceWithin, IsEnabledBy, KeepsFlop}
-use Rattle.dft_edt.specs.Captures.{Covers, ContainingCovers, StandsOver, StrobeLaw, IsCapture, CaptureLaw}
+use Rattle.dft_edt.specs.Captures.{Covers, ContainingCovers, WideningCovers, StandsOver, StrobeLaw, IsCapture, CaptureLaw}
 use Rattle.dft_chains.proofs.Shiftings.{value_at}
+use Rattle.dft_chains.proofs.Staying.{net_stays}
 
 -- ---- settled values
 
@@ -203,4 +204,26 @@ containing_covers original written p has = record {
   shown = has.shown;
   flops = has.flops;
   no_lockup = has.no_lockup;
+}
+
+free_before : (moved : ℕ → ℕ) (is : Meaning) → moved_meaning moved is ≡ Free → is ≡ Free
+free_before moved Input h = absurd cc
+free_before moved Clock h = absurd cc
+free_before moved (Gate kind inputs) h = absurd cc
+free_before moved (Joined source) h = absurd cc
+free_before moved (Flop cell inverted) h = absurd cc
+free_before moved (Lockup cell domain source) h = absurd cc
+free_before moved Free h = refl
+
+pub widening_covers : WideningCovers
+widening_covers original written wide p contains more same = record {
+  enable = net_stays written wide p.enable Input more contains.enable (λ free. free);
+  nets = λ net less. elim (more.nets (p.moved net)) [
+    | inl free ↦ inl (free_before p.moved (original.net net) (sym (contains.nets net less) ∙ free))
+    | inr still ↦ inr (still ∙ contains.nets net less)
+  ];
+  closed = contains.closed;
+  shown = contains.shown;
+  flops = λ cell is. subst (KeepsFlop p (original.cell cell)) (sym (same cell is)) (contains.flops cell is);
+  no_lockup = contains.no_lockup;
 }

@@ -10,7 +10,9 @@ use Rattle.dft_config.specs.Range.{has, same_number, names_of, IsSet, IsInRange}
 use Rattle.dft_netlist.specs.Logic.{IsRanked}
 use Rattle.dft_stitch.specs.Plans.{cell_at}
 use Rattle.dft_chains.specs.Hardware.{IsScanCell, Leads, ByLockup}
-use Rattle.dft_edt.specs.Hardware.{Term, Joined, HasStage, HasPhase, HasRing, HasEnd, HasOutput, IsFlop, HasCompactor, before_in, segment_length}
+use Rattle.dft_edt.specs.Hardware.{HasStage, HasPhase, HasRing, HasEnd, HasOutput, HasCompactor, before_in, segment_length}
+use Rattle.dft_parts.specs.SumTrees.{Term, Joined}
+use Rattle.dft_parts.specs.Standing.{IsFlop}
 use Rattle.dft_edt.specs.Examples.{small, small_ports, small_config, small_chains, small_scan, small_edt, SmallHas}
 
 one : (P : ℕ → Type 0) → P 0 → (i : ℕ) → i < 1 → P i
@@ -66,7 +68,7 @@ link zero (suc place) cell next is follows = absurd (none-some next follows)
 link (suc chain) place cell next is follows = absurd (none-some next follows)
 
 phase : (chain : ℕ) (cell : InstanceId) → cell_at small_chains chain zero ≡ Some cell → HasPhase small small_config.ring small_edt (small_scan.into chain zero) chain
-phase zero cell is = record { sum = 13; lockup = 2; entry = 14; sums = Joined {xs = 8 ∷ []} refl Term Term; latch = refl; leads = refl }
+phase zero cell is = record { sum = 13; lockup = 2; entry = 14; sums = Joined {left = 8 ∷ []} refl Term Term; latch = refl; leads = refl }
 phase (suc chain) cell is = absurd (none-some cell is)
 
 ring : HasRing small small_ports small_config small_chains small_scan small_edt
@@ -78,7 +80,7 @@ ring = record {
   run = refl;
   stages = two (HasStage small small_config.ring small_edt)
       (record { sum = 9; kept = 10; sums = Term; gate = refl; flop = record { cell = refl; net = refl } })
-      (record { sum = 11; kept = 12; sums = Joined {xs = 8 ∷ []} refl Term Term; gate = refl; flop = record { cell = refl; net = refl } });
+      (record { sum = 11; kept = 12; sums = Joined {left = 8 ∷ []} refl Term Term; gate = refl; flop = record { cell = refl; net = refl } });
   phases = phase;
 }
 

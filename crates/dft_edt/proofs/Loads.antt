@@ -18,7 +18,8 @@ use Rattle.dft_stitch.specs.Plans.{cell_at}
 use Rattle.dft_chains.specs.Hardware.{ChainNets}
 use Rattle.dft_runs.specs.Passes.{Pass, Passes, ArePasses, end_of, pass_of_round, passes_of_rounds, pass_of_turn, passes_of_turns, after_turns}
 use Rattle.dft_runs.proofs.Passing.{round_passes, rounds_pass, turn_passes, turns_pass}
-use Rattle.dft_edt.specs.Feeds.{at_feed, feeds, tri_sum}
+use Rattle.dft_edt.specs.Feeds.{at_feed, feeds}
+use Rattle.dft_parts.specs.SumTrees.{tri_sum}
 use Rattle.dft_edt.specs.Hardware.{EdtNets, HasRing, chain_in, before_in}
 use Rattle.dft_edt.specs.Vectors.{IsEdtShift, IsClearing, Carries, Clears, ShiftInRuns, ClearInRuns, MasksInRuns, HoldsInRuns}
 use Rattle.dft_edt.specs.Loads.{CarryTable, load_sum, LoadPasses, LoadInRuns, LoadInRounds}

@@ -16,10 +16,13 @@ use Rattle.dft_config.specs.Range.{IsInRange}
 use Rattle.dft_config.specs.Ring.{sum_of, phase_of}
 use Rattle.dft_chains.specs.Hardware.{ChainNets}
 use Rattle.dft_chains.proofs.Shiftings.{value_at}
-use Rattle.dft_edt.specs.Feeds.{at_feed, feeds, tri_sum}
+use Rattle.dft_edt.specs.Feeds.{at_feed, feeds}
+use Rattle.dft_parts.specs.SumTrees.{tri_sum}
 use Rattle.dft_edt.specs.Hardware.{EdtNets, HasStage, HasRing, HasHold, HasEnd, HasOutput, HasCompactor, group_of}
 use Rattle.dft_edt.specs.Parts.{StageBits, PhaseBits, HoldBits, OutputBits, StageValues, PhaseValues, HoldValues, OutputValues, shown_by}
-use Rattle.dft_edt.proofs.Sums.{bit_at, sum_bits, sum_value, sum_bit, at_feeds, at_nets, sum_of_bits, feeds_step, same_sum}
+use Rattle.dft_edt.proofs.Sums.{at_feeds, at_nets, sum_of_bits, feeds_step, same_sum}
+use Rattle.dft_parts.specs.SumTrees.{sum_bits}
+use Rattle.dft_parts.proofs.Trees.{bit_at, sum_value, sum_bit}
 
 -- ---- three-valued bits
 

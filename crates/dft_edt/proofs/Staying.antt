@@ -9,12 +9,14 @@ use Rattle.dft_config.specs.declared.config.Config.{Config}
 use Rattle.dft_runs.specs.WiderPorts.{MeansMore}
 use Rattle.dft_chains.specs.Hardware.{ChainNets}
 use Rattle.dft_chains.proofs.Staying.{net_stays, chains_stay}
-use Rattle.dft_edt.specs.Hardware.{EdtNets, IsSum, Term, Joined, IsFlop, HasStage, HasPhase, HasRing, HasHold, HasEnd, HasOutput, HasCompactor, before_in, chain_in, HardwareStays}
+use Rattle.dft_edt.specs.Hardware.{EdtNets, HasStage, HasPhase, HasRing, HasHold, HasEnd, HasOutput, HasCompactor, before_in, chain_in, HardwareStays}
+use Rattle.dft_parts.specs.SumTrees.{IsSum, Term, Joined}
+use Rattle.dft_parts.specs.Standing.{IsFlop}
 
 sum_stays : (l m : Logic) (net : ℕ) (terms : List ℕ) → MeansMore l m → IsSum l net terms → IsSum m net terms
 sum_stays l m net _ more Term = Term
-sum_stays l m net _ more (Joined {net = at} {a = a} {b = b} {xs = xs} {ys = ys} is first second) =
-    Joined {net = at} {a = a} {b = b} {xs = xs} {ys = ys} (net_stays l m at (Gate Xor (Net a ∷ Net b ∷ [])) more is (λ free. free)) (sum_stays l m a xs more first) (sum_stays l m b ys more second)
+sum_stays l m net _ more (Joined {net = at} {a = a} {b = b} {left = xs} {right = ys} is first second) =
+    Joined {net = at} {a = a} {b = b} {left = xs} {right = ys} (net_stays l m at (Gate Xor (Net a ∷ Net b ∷ [])) more is (λ free. free)) (sum_stays l m a xs more first) (sum_stays l m b ys more second)
 
 abbrev is_net : Source → Type 0
 is_net (Net net) = Unit {0}

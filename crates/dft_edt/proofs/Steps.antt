@@ -21,11 +21,14 @@ use Rattle.dft_config.specs.Ring.{sum_of, phase_of}
 use Rattle.dft_stitch.specs.Plans.{cell_at}
 use Rattle.dft_chains.specs.Hardware.{ChainNets}
 use Rattle.dft_chains.proofs.Shiftings.{value_at, own_choice, port_value, not_forced, takes_source, link_law}
-use Rattle.dft_edt.specs.Feeds.{Feed, Stage, Channel, at_feed, tap_feeds, injector_feeds, feeds, tri_sum}
-use Rattle.dft_edt.specs.Hardware.{EdtNets, HasStage, HasRing, HasHold, HasEnd, HasCompactor, IsFlop, segment_length, segment_start, chain_in, before_in, group_of}
+use Rattle.dft_edt.specs.Feeds.{Feed, Stage, Channel, at_feed, tap_feeds, injector_feeds, feeds}
+use Rattle.dft_parts.specs.SumTrees.{tri_sum}
+use Rattle.dft_edt.specs.Hardware.{EdtNets, HasStage, HasRing, HasHold, HasEnd, HasCompactor, segment_length, segment_start, chain_in, before_in, group_of}
+use Rattle.dft_parts.specs.Standing.{IsFlop}
 use Rattle.dft_edt.specs.Parts.{shown_by}
 use Rattle.dft_edt.specs.Vectors.{IsEdtShift, ShiftLaw, ClearLaw, MaskLaw, HoldLaw, RestLaw, OutputLaw, OutputInRuns}
-use Rattle.dft_edt.proofs.Sums.{AreThere, IsThere, bit_at, same_feeds, known_sum, same_sum, same_sums}
+use Rattle.dft_edt.proofs.Sums.{AreThere, IsThere, same_feeds, known_sum, same_sum, same_sums}
+use Rattle.dft_parts.proofs.Trees.{bit_at}
 use Rattle.dft_edt.proofs.Parts.{stage_values, phase_values, hold_values, output_values, output_bits, group_below}
 
 -- ---- what a configuration in range names is there

@@ -1,92 +1,19 @@
--- Sums of bits and of three-valued bits, and the trees of gates that make them.
-use Rattle.std.proofs.Common.{ℕ, suc, Bool, true, false, List, [], ◌∷◌, ◌++◌, ◌≡◌, ◌==◌, ◌<◌, ◌+◌, ◌%◌, refl, sym, ap, arith, map, ◌∙◌}
-use Rattle.std.specs.Prelude.{not, ◌&&◌, nat_lt, if◌then◌else◌}
+-- Sums of what feeds stages and outputs.
+use Rattle.std.proofs.Common.{ℕ, suc, Bool, true, false, List, [], ◌∷◌, ◌≡◌, ◌==◌, ◌<◌, ◌+◌, ◌%◌, refl, ap, arith, map, ◌∙◌}
+use Rattle.std.specs.Prelude.{◌&&◌, nat_lt, if◌then◌else◌}
 use Rattle.std.proofs.lemmas.Bool.Decides.{nat_tests}
 use Rattle.std.proofs.lemmas.List.{map-append}
 use Rattle.std.specs.List.{All}
 use Rattle.dft_base.specs.declared.tri.Tri.{Tri}
-use Rattle.dft_base.specs.declared.tri.Tri.TheVariants.{Zero, One, Unknown}
 use Rattle.dft_base.specs.Tri.{known}
 use Rattle.dft_base.specs.Solutions.{xor}
-use Rattle.dft_base.proofs.SumLemmas.{xor_false, xor_assoc}
-use Rattle.dft_cells.specs.declared.kind.Kind.TheVariants.{Xor}
-use Rattle.dft_cells.specs.Gates.{tri_of}
-use Rattle.dft_netlist.specs.Drivers.{Net}
-use Rattle.dft_netlist.specs.Logic.{Logic, Meaning, Gate}
-use Rattle.dft_netlist.specs.Settled.{Sources, bit_given, IsSettled, TriSources, IsTriSettled}
 use Rattle.dft_config.specs.declared.config.Tap.{Tap}
 use Rattle.dft_config.specs.declared.config.Injector.{Injector}
 use Rattle.dft_config.specs.declared.config.RingConfig.{RingConfig}
 use Rattle.dft_config.specs.Ring.{sum_of, tapped, injected, step}
-use Rattle.dft_chains.proofs.Shiftings.{value_at}
-use Rattle.dft_edt.specs.Feeds.{Feed, Stage, Channel, at_feed, tap_feeds, injector_feeds, feeds, tri_xor, tri_sum}
-use Rattle.dft_edt.specs.Hardware.{IsSum, Term, Joined}
-
--- a net has what its meaning gives it
-pub bit_at : (l : Logic) (s : Sources) (w : ℕ → Bool) (net : ℕ) (m : Meaning) → IsSettled l s w → l.net net ≡ m → w net ≡ bit_given s w net m
-bit_at l s w net m settled is = settled net ∙ ap (bit_given s w net) is
-
--- ---- sums
-
--- the sum of a list of bits
-abbrev pub sum_bits : List Bool → Bool
-sum_bits [] = false
-sum_bits (b ∷ bs) = xor b (sum_bits bs)
-
-tri_xor_assoc : (a b c : Tri) → tri_xor (tri_xor a b) c ≡ tri_xor a (tri_xor b c)
-tri_xor_assoc = grind arith
-
-tri_xor_zero : (a : Tri) → tri_xor a Zero ≡ a
-tri_xor_zero Zero = refl
-tri_xor_zero One = refl
-tri_xor_zero Unknown = refl
-
-pub sum_bits_append : (xs ys : List Bool) → sum_bits (xs ++ ys) ≡ xor (sum_bits xs) (sum_bits ys)
-sum_bits_append [] ys = refl
-sum_bits_append (x ∷ xs) ys = ap (xor x) (sum_bits_append xs ys) ∙ sym (xor_assoc x (sum_bits xs) (sum_bits ys))
-
-sum_append : (ts us : List Tri) → tri_sum (ts ++ us) ≡ tri_xor (tri_sum ts) (tri_sum us)
-sum_append [] us = refl
-sum_append (t ∷ ts) us = ap (tri_xor t) (sum_append ts us) ∙ sym (tri_xor_assoc t (tri_sum ts) (tri_sum us))
-
--- ---- the trees
-
-xor_gate : (a b : Tri) → tri_of Xor (a ∷ b ∷ []) ≡ tri_xor a b
-xor_gate Zero Zero = refl
-xor_gate Zero One = refl
-xor_gate Zero Unknown = refl
-xor_gate One Zero = refl
-xor_gate One One = refl
-xor_gate One Unknown = refl
-xor_gate Unknown Zero = refl
-xor_gate Unknown One = refl
-xor_gate Unknown Unknown = refl
-
-xor_bit : (a b : Bool) → (if a then not (if b then true else false) else (if b then true else false)) ≡ xor a b
-xor_bit true true = refl
-xor_bit true false = refl
-xor_bit false true = refl
-xor_bit false false = refl
-
-pub sum_value : (l : Logic) (s : TriSources) (w : ℕ → Tri) (net : ℕ) (terms : List ℕ) → IsTriSettled l s w → IsSum l net terms → w net ≡ tri_sum (map w terms)
-sum_value l s w net _ settled Term = sym (tri_xor_zero (w net))
-sum_value l s w net _ settled (Joined {a = a} {b = b} {xs = xs} {ys = ys} at left right) =
-    value_at l s w net (Gate Xor (Net a ∷ Net b ∷ [])) settled at
-    ∙ xor_gate (w a) (w b)
-    ∙ ap (λ t. tri_xor t (w b)) (sum_value l s w a xs settled left)
-    ∙ ap (tri_xor (tri_sum (map w xs))) (sum_value l s w b ys settled right)
-    ∙ sym (sum_append (map w xs) (map w ys))
-    ∙ ap tri_sum (sym (map-append w xs ys))
-
-pub sum_bit : (l : Logic) (s : Sources) (w : ℕ → Bool) (net : ℕ) (terms : List ℕ) → IsSettled l s w → IsSum l net terms → w net ≡ sum_bits (map w terms)
-sum_bit l s w net _ settled Term = sym (xor_false (w net))
-sum_bit l s w net _ settled (Joined {a = a} {b = b} {xs = xs} {ys = ys} at left right) =
-    bit_at l s w net (Gate Xor (Net a ∷ Net b ∷ [])) settled at
-    ∙ xor_bit (w a) (w b)
-    ∙ ap (λ t. xor t (w b)) (sum_bit l s w a xs settled left)
-    ∙ ap (xor (sum_bits (map w xs))) (sum_bit l s w b ys settled right)
-    ∙ sym (sum_bits_append (map w xs) (map w ys))
-    ∙ ap sum_bits (sym (map-append w xs ys))
+use Rattle.dft_parts.proofs.Trees.{sum_bits_append}
+use Rattle.dft_edt.specs.Feeds.{Feed, Stage, Channel, at_feed, tap_feeds, injector_feeds, feeds}
+use Rattle.dft_parts.specs.SumTrees.{sum_bits, tri_xor, tri_sum}
 
 -- what feeds and stages have, by a function of their nets
 pub at_feeds : {T : Type 0} (w : ℕ → T) (stages channels : ℕ → ℕ) (fs : List Feed) → map w (map (at_feed stages channels) fs) ≡ map (at_feed (λ k. w (stages k)) (λ j. w (channels j))) fs

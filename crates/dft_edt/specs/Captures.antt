@@ -9,6 +9,7 @@ use Rattle.dft_netlist.specs.Settled.{IsTriSettled}
 use Rattle.dft_netlist.specs.Runs.{Vector}
 use Rattle.dft_abstract.specs.Cycle.{AreViews, after_pulse, pulse_of, strobe_sources}
 use Rattle.dft_abstract.specs.Laws.{next_from}
+use Rattle.dft_runs.specs.WiderPorts.{MeansMore}
 use Rattle.dft_chains.specs.ScanOff.{moved_meaning, Places, KeepsFlop, Contains}
 
 -- The written design has each net of the original with the same meaning, or the net is free in the original, as the output of a
@@ -24,6 +25,12 @@ pub record Covers (original written : Logic) (p : Places) : Type 0 where
 -- a design that contains another covers it
 abbrev pub ContainingCovers : Type 0
 ContainingCovers = (original written : Logic) (p : Places) → Contains original written p → Covers original written p
+
+-- so does one that means more, as under wider ports, where the flip-flops of the original are the same
+abbrev pub WideningCovers : Type 0
+WideningCovers =
+    (original written wide : Logic) (p : Places) → Contains original written p → MeansMore written wide → ((cell : ℕ) → p.is_flop cell ≡ true → wide.cell cell ≡ written.cell cell) →
+    Covers original wide p
 
 -- what a vector of the written design is for the original: the ports' values and the flip-flops' stand above those of the design
 pub record StandsOver (p : Places) (y x : Vector) (its old : ℕ → Tri) : Type 0 where

@@ -1,13 +1,15 @@
 -- What it is for a design to have the hardware of compression: ring, phase shifter, masks and compactor (Rajski and others, 2004).
-use Rattle.std.specs.Prelude.{ℕ, zero, suc, ◌+◌, ◌<◌, ◌≡◌, false, List, [], ◌∷◌, ◌++◌, map, length, get_or, None, Some}
-use Rattle.dft_cells.specs.declared.kind.Kind.TheVariants.{Buf, Inv, And, Or, Xor}
+use Rattle.std.specs.Prelude.{ℕ, zero, suc, ◌+◌, ◌<◌, ◌≡◌, false, List, [], ◌∷◌, map, length, get_or, None, Some}
+use Rattle.dft_cells.specs.declared.kind.Kind.TheVariants.{Buf, Inv, And, Or}
 use Rattle.dft_netlist.specs.declared.ids.InstanceId.{InstanceId}
 use Rattle.dft_netlist.specs.Drivers.{Source, Net}
-use Rattle.dft_netlist.specs.Logic.{Logic, Ports, Cell, Input, Gate, Flop, Lockup}
+use Rattle.dft_netlist.specs.Logic.{Logic, Ports, Input, Gate, Flop, Lockup}
 use Rattle.dft_config.specs.declared.config.RingConfig.{RingConfig}
 use Rattle.dft_config.specs.declared.config.Config.{Config}
 use Rattle.dft_config.specs.Cycles.{part_length}
 use Rattle.dft_config.specs.Ring.{phase_of}
+use Rattle.dft_parts.specs.Standing.{IsFlop}
+use Rattle.dft_parts.specs.SumTrees.{IsSum}
 use Rattle.dft_runs.specs.WiderPorts.{MeansMore}
 use Rattle.dft_stitch.specs.Plans.{cell_at}
 use Rattle.dft_chains.specs.Hardware.{ChainNets, HasChains}
@@ -34,19 +36,6 @@ pub record EdtNets : Type 0 where
   -- by chain: the net of its last cell, and what the compactor takes of it
   pub end_net : ℕ → ℕ
   pub gated : ℕ → ℕ
-
--- a tree of two-input gates down to the listed nets
-pub data IsSum (l : Logic) : ℕ → List ℕ → Type 0 where
-  Term : {net : ℕ} → IsSum l net (net ∷ [])
-  Joined : {net a b : ℕ} {xs ys : List ℕ} → l.net net ≡ Gate Xor (Net a ∷ Net b ∷ []) → IsSum l a xs → IsSum l b ys → IsSum l net (xs ++ ys)
-
--- a flip-flop on edt_clock that takes the bit of a net
-abbrev pub plain_cell : (clock net : ℕ) → Cell
-plain_cell clock net = record { domain = clock; input = Net net; scan = None; force = None }
-
-pub record IsFlop (l : Logic) (clock flop output input : ℕ) : Type 0 where
-  pub cell : l.cell flop ≡ plain_cell clock input
-  pub net : l.net output ≡ Flop flop false
 
 -- ---- ring, phase shifter and chains
 

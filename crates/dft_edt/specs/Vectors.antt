@@ -15,7 +15,8 @@ use Rattle.dft_config.specs.Ring.{sum_of, phase_of}
 use Rattle.dft_stitch.specs.Plans.{cell_at}
 use Rattle.dft_chains.specs.Hardware.{ChainNets}
 use Rattle.dft_chains.specs.Shifts.{IsShift, at_strobe}
-use Rattle.dft_edt.specs.Feeds.{at_feed, feeds, tri_sum}
+use Rattle.dft_edt.specs.Feeds.{at_feed, feeds}
+use Rattle.dft_parts.specs.SumTrees.{tri_sum}
 use Rattle.dft_edt.specs.Hardware.{EdtNets, HasRing, HasCompactor, segment_length, chain_in, before_in, group_of}
 use Rattle.dft_edt.specs.Parts.{shown_by}
 

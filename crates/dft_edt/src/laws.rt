@@ -14,7 +14,7 @@ ghost use Rattle.dft_edt.specs.Vectors.{
   ShiftInRuns,
   ShiftLaw,
 };
-ghost use Rattle.dft_edt.specs.Captures.{CaptureLaw, ContainingCovers, StrobeLaw};
+ghost use Rattle.dft_edt.specs.Captures.{CaptureLaw, ContainingCovers, StrobeLaw, WideningCovers};
 ghost use Rattle.dft_edt.specs.Examples.{SmallHas};
 ghost use Rattle.dft_edt.specs.Hardware.{HardwareStays};
 ghost use Rattle.dft_edt.specs.Loads.{LoadInRounds, LoadInRuns, LoadPasses};
@@ -70,6 +70,7 @@ pub fn unloads_reach_outputs()
 /// What the strobe and the capture of the original know stands above the abstract cycle of a design that covers it.
 pub fn captures_stand_over()
     ensures covers { ContainingCovers }
+    ensures widens { WideningCovers }
     ensures strobe { StrobeLaw }
     ensures capture { CaptureLaw }
 {}

@@ -2,9 +2,10 @@ pub mod Soundness
 pub mod Uniqueness
 pub mod PlainLemmas
 pub mod ExampleLemmas
-pub mod Existence
 pub mod TestLemmas
 pub mod FitLemmas
+pub mod LookLemmas
+pub mod PlayedLemmas
 pub mod VectorLemmas
 pub mod SignalLemmas
 pub mod ReplayLemmas

@@ -1,5 +1,5 @@
 -- A vector on the machine: which inputs are told, which clocks pulse, and what its compared bits decide.
-use Rattle.std.proofs.Common.{ℕ, zero, suc, ◌+◌, ◌<◌, ◌≤◌, ◌≢◌, ◌==◌, Bool, true, false, ◌&&◌, List, [], ◌∷◌, ◌++◌, ◌≡◌, ◌⊎◌, inl, inr, Option, Some, length, map, drop, refl, sym, ap, ◌∙◌, slice_get, get_or, below_more, arith}
+use Rattle.std.proofs.Common.{ℕ, zero, suc, ◌+◌, ◌<◌, ◌≤◌, ◌≢◌, ◌==◌, Bool, true, false, ◌&&◌, List, [], ◌∷◌, ◌++◌, ◌≡◌, ◌⊎◌, inl, inr, Some, length, map, refl, sym, ap, ◌∙◌, slice_get, get_or, below_more, arith}
 use Rattle.std.specs.Prelude.{if◌then◌else◌, filter, All, AllPairs, count_by}
 use Rattle.std.specs.List.{range_with_len}
 use Rattle.std.proofs.lemmas.Bool.Decides.{eqb_tells}
@@ -11,16 +11,14 @@ use Rattle.std.proofs.lemmas.Option.{slice_get-get_or}
 use Rattle.dft_base.specs.declared.tri.Tri.{Tri}
 use Rattle.dft_netlist.specs.declared.ids.NetId.{NetId}
 use Rattle.dft_netlist.specs.Orders.{Has, numbers_of}
-use Rattle.dft_cycle.specs.Machine.{Machine, value_at, logic, is_one_of, pulses, IsSet, IsStrobed, IsPulsed}
+use Rattle.dft_cycle.specs.Machine.{Machine, value_at, logic, is_one_of, pulses, IsSet}
 use Rattle.dft_cycle.specs.MachineLaws.{IsForced, StandsSince}
-use Rattle.dft_cycle.proofs.MachineRounds.{set_stands, calls_round}
+use Rattle.dft_cycle.proofs.MachineRounds.{set_stands}
 use Rattle.dft_patterns.specs.declared.act.Act.{Act}
 use Rattle.dft_patterns.specs.declared.act.Act.TheVariants.{Unset, Low, High, Pulse, ExpectLow, ExpectHigh, Ignore}
-use Rattle.dft_replay.specs.declared.verdict.Verdict.{Verdict}
 use Rattle.dft_replay.specs.Rows.{Compared, Row, act_on, set_by, is_pulse, compared_at, compared_from, row_of}
 use Rattle.dft_replay.specs.Rows as rows
-use Rattle.dft_replay.specs.Vectors.{act_at, net_at, is_compared, pulses_at, clocks_of, AreClocks, IsPlayed}
-use Rattle.dft_replay.specs.Verdicts.{decided}
+use Rattle.dft_replay.specs.Vectors.{act_at, net_at, is_compared, pulses_at, clocks_of, AreClocks}
 use Rattle.dft_replay.proofs.TestLemmas.{or_cases, or_left, or_right, and_parts, and_both}
 
 -- ---- the act at a net
@@ -328,12 +326,6 @@ clocks_pulse nets vectors e differ same =
     let less = r.2 in
     among_one nets (clocks_of count vectors) e r.0 (clock_there vectors count r.0 (omega arith) r.1) (number_of nets r.0 ∙ r.3)))
 
--- ---- what compared bits decide
-
--- what the signals from one on decide
-abbrev pub decided_from : (values : ℕ → Tri) → (vector : ℕ) → List NetId → List Act → (signal : ℕ) → Option Verdict
-decided_from values v nets acts i = decided values v (compared_from i (numbers_of (drop i nets)) (drop i acts))
-
 -- ---- counts
 
 count_step : (i net : ℕ) (act : Act) (rest : List Compared) (acts : List Act) → length rest ≡ count_by is_compared acts → length (compared_at i net act rest) ≡ count_by is_compared (act ∷ acts)
@@ -350,25 +342,3 @@ count_compared i [] [] same = refl
 count_compared i [] (act ∷ acts) same = absurd (omega arith)
 count_compared i (net ∷ nets) [] same = absurd (omega arith)
 count_compared i (net ∷ nets) (act ∷ acts) same = count_step i net act (compared_from (suc i) nets acts) acts (count_compared (suc i) nets acts (omega arith))
-
--- ---- a vector
-
-pub played : (start set strobed after : Machine) (nets : List NetId) (clocks : List ℕ) (pulsed : List Bool) (acts : List Act) (vector : ℕ) (decision : Option Verdict) → Differ (numbers_of nets) → length acts ≡ length nets →
-    AreClocks start nets clocks acts → StandsSince start set → ((net : ℕ) → value_at set.inputs net ≡ set_by (act_on (numbers_of nets) acts net) (value_at start.inputs net)) →
-    IsStrobed (logic set) set strobed → decision ≡ decided (value_at strobed.shown) vector (compared_from 0 (numbers_of nets) acts) → pulsed ≡ map (λ s. is_pulse (act_at acts s)) clocks →
-    IsPulsed (logic strobed) strobed pulsed after → IsPlayed start (row_of (numbers_of nets) (value_at start.inputs) acts) vector decision after
-played start set strobed after nets clocks pulsed acts vector decision differ same are stands inputs strobe decides marked pulse =
-    let x : Row = row_of (numbers_of nets) (value_at start.inputs) acts in
-    let ups : (e : ℕ) → pulses set.clocks pulsed e ≡ x.vector.pulsed e = λ e.
-    (λ t. pulses (stands.clocks t) (marked t) e) ∙ clocks_marked start nets clocks acts e differ same are in
-    let r = calls_round start set strobed after x.vector pulsed stands inputs ups strobe pulse in
-    record {
-      netlist = pulse.netlist ∙ strobe.netlist ∙ stands.netlist;
-      clocks = pulse.clocks ∙ strobe.clocks ∙ stands.clocks;
-      inputs = λ net. ap (λ (ts : List Tri). value_at ts net) (pulse.inputs ∙ strobe.inputs) ∙ inputs net;
-      forced = r.1.3;
-      round = r.0;
-      holds = r.1.0;
-      says = decides ∙ ap (λ (w : ℕ → Tri). decided w vector x.compared) (sym r.1.1);
-      cells = r.1.2;
-    }

@@ -4,6 +4,7 @@ pub mod Rows
 pub mod Verdicts
 pub mod Fits
 pub mod Laws
+pub mod Looks
 pub mod Plain
 pub mod Examples
 pub mod Choices

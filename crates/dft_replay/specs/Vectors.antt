@@ -1,7 +1,6 @@
 -- How the machine plays vectors: nets by signal, clocks by signal, and what a vector comes to.
 use Rattle.std.specs.Prelude.{ℕ, ◌≡◌, ◌<◌, ◌≢◌, Bool, true, false, List, [], ◌∷◌, ◌++◌, length, map, filter, AllPairs, Option, None, Some, get_or, slice_get}
 use Rattle.std.specs.List.{list_any, range_with_len}
-use Rattle.dft_base.specs.declared.tri.Tri.{Tri}
 use Rattle.dft_netlist.specs.declared.ids.NetId.{NetId}
 use Rattle.dft_base.specs.declared.dir.Dir.{Dir}
 use Rattle.dft_netlist.specs.declared.port.Port.{Port}
@@ -13,7 +12,7 @@ use Rattle.dft_patterns.specs.declared.act.Act.{Act}
 use Rattle.dft_patterns.specs.declared.act.Act.TheVariants.{Unset, Low, High, Pulse, ExpectLow, ExpectHigh, Ignore}
 use Rattle.dft_replay.specs.declared.verdict.Verdict.{Verdict}
 use Rattle.dft_replay.specs.Rows.{Row, is_pulse}
-use Rattle.dft_replay.specs.Verdicts.{decided_by, decided}
+use Rattle.dft_replay.specs.Verdicts.{decided}
 
 -- ---- ports
 
@@ -39,15 +38,15 @@ is_compared High = false
 is_compared Pulse = false
 is_compared Ignore = false
 
--- what an act at a signal with this value decides
-abbrev pub judged : (vector signal : ℕ) → Tri → Act → Option Verdict
-judged v i value ExpectLow = decided_by v i value false None
-judged v i value ExpectHigh = decided_by v i value true None
-judged v i value Unset = None
-judged v i value Low = None
-judged v i value High = None
-judged v i value Pulse = None
-judged v i value Ignore = None
+-- the bit that an act compares
+abbrev pub printed : Act → Option Bool
+printed ExpectLow = Some false
+printed ExpectHigh = Some true
+printed Unset = None
+printed Low = None
+printed High = None
+printed Pulse = None
+printed Ignore = None
 
 -- ---- clocks
 

@@ -1,6 +1,6 @@
 //! What the acts of vectors say of signals by number.
 
-ghost use Rattle.std.specs.Prelude.{◌≡◌, count_by, false, length, map, IfOk, None};
+ghost use Rattle.std.specs.Prelude.{◌≡◌, false, length, map, IfOk, None};
 ghost use Rattle.dft_base.specs.declared.tri.Tri.{Tri};
 ghost use Rattle.dft_replay.specs.Rows as rows;
 ghost use Rattle.dft_replay.specs.Vectors as spec;
@@ -49,41 +49,25 @@ fn is_pulse(act: Act) -> bool
     }
 }
 
-fn is_compared(act: Act) -> bool
-    ensures { result ≡ spec.is_compared act }
+/// The bit that an act compares, if it compares one.
+pub(crate) fn printed(act: Act) -> Option<bool>
+    ensures { result ≡ spec.printed act }
 {
     match act {
-        Act::ExpectLow | Act::ExpectHigh => true,
-        _ => false,
+        Act::ExpectLow => Some(false),
+        Act::ExpectHigh => Some(true),
+        _ => None,
     }
 }
 
-/// How many bits a vector compares.
-pub(crate) fn compared_count(acts: &[Act]) -> usize
-    ensures { result ≡ count_by spec.is_compared acts.now }
-{
-    acts.iter().filter(|act| is_compared(**act)).count()
-}
-
 /// What a compared bit comes to where its value is not as printed.
-fn differs(vector: u32, signal: u32, value: Tri, printed: bool) -> Option<Verdict>
+pub(crate) fn differs(vector: u32, signal: u32, value: Tri, printed: bool) -> Option<Verdict>
     ensures { result ≡ decided_by vector signal value printed None }
 {
     match (value, printed) {
         (Tri::Unknown, _) => Some(Verdict::Undetermined { vector, signal }),
         (Tri::Zero, true) | (Tri::One, false) => Some(Verdict::Mismatch { vector, signal }),
         (Tri::Zero, false) | (Tri::One, true) => None,
-    }
-}
-
-/// What an act at a signal with this value comes to, where the vector compares it and it is not as printed.
-pub(crate) fn judged(vector: u32, signal: u32, value: Tri, act: Act) -> Option<Verdict>
-    ensures { result ≡ spec.judged vector signal value act }
-{
-    match act {
-        Act::ExpectLow => differs(vector, signal, value, false),
-        Act::ExpectHigh => differs(vector, signal, value, true),
-        _ => None,
     }
 }
 

@@ -2,6 +2,7 @@
 #![tactic(auto)]
 
 mod acts;
+mod comparing;
 mod error;
 mod examples;
 mod laws;

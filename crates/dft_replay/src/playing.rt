@@ -1,20 +1,23 @@
-//! A vector on the machine: its inputs are set, the nets are strobed, its clocks pulse.
+//! A vector on the machine: its inputs are set, its bits are compared at a strobe, its clocks pulse.
 
-ghost use Rattle.std.specs.Prelude.{◌≡◌, ◌<◌, ◌^◌, ℕ, length, IfSome};
-ghost use Rattle.dft_base.specs.declared.tri.Tri.{Tri};
+ghost use Rattle.std.specs.Prelude.{◌≡◌, ◌<◌, ◌^◌, ℕ, count_by, length, IfOk, IfSome};
 ghost use Rattle.dft_netlist.specs.Orders.{numbers_of};
 ghost use Rattle.dft_cycle.specs.Machine.{value_at};
 ghost use Rattle.dft_cycle.specs.MachineLaws.{IsForced, StandsSince};
 ghost use Rattle.dft_replay.specs.Rows as rows;
-ghost use Rattle.dft_replay.specs.Rows.{act_on, compared_from, row_of};
-ghost use Rattle.dft_replay.specs.Vectors.{AreSignals, AreClocks, IsPlayed};
-ghost use Rattle.dft_replay.specs.Verdicts.{decided, IsPlaced};
+ghost use Rattle.dft_replay.specs.Looks.{HasRanks, HasRoom};
+ghost use Rattle.dft_replay.specs.Rows.{act_on, row_of};
+ghost use Rattle.dft_replay.specs.Vectors.{AreSignals, AreClocks, IsPlayed, is_compared};
+ghost use Rattle.dft_replay.specs.Verdicts.{IsPlaced};
 
-use crate::acts::{act_at, differ, judged, mark, set_by};
+use crate::acts::{act_at, differ, mark, set_by};
+use crate::comparing::{Asked, compare, list_compared};
 use crate::verdict::Verdict;
+use dft_base::Tri;
 use dft_cycle::AbstractMachine;
 use dft_netlist::NetId;
 use dft_patterns::Act;
+use std::alloc::{AllocError, Global};
 
 /// Sets the inputs that a vector sets.
 fn set_inputs(machine: &mut AbstractMachine<'_>, nets: &[NetId], acts: &[Act])
@@ -33,50 +36,54 @@ fn set_inputs(machine: &mut AbstractMachine<'_>, nets: &[NetId], acts: &[Act])
     }
 }
 
-/// What the first compared bit that is not as printed comes to, if there is one.
-fn decide(
-    machine: &AbstractMachine<'_>,
-    nets: &[NetId],
-    vector: u32,
-    acts: &[Act],
-) -> Option<Verdict>
-    requires few { length nets.now < 2 ^ 32 }
-    requires acts { length acts.now ≡ length nets.now }
-    ensures first { result ≡ decided (value_at machine.now.shown) vector (compared_from 0 (numbers_of nets.now) acts.now) }
-    ensures placed { (vectors : ℕ) → vector < vectors → IfSome result (IsPlaced vectors (length nets.now)) }
-{
-    for (signal, net) in nets.iter().enumerate() {
-        let value = machine.value(*net);
-        let decision = judged(vector, signal as u32, value, act_at(acts, signal));
-        if decision.is_some() {
-            return decision;
-        }
-    }
-    None
+/// What the vectors of a replay use again and again, made once.
+#[derive(Drop)]
+pub(crate) struct Room {
+    pub pulsed: Vec<bool>,
+    pub wanted: Vec<NetId>,
+    pub asked: Vec<Asked>,
+    pub seen: Vec<Tri>,
 }
 
-/// Plays a vector: sets its inputs, strobes, compares and pulses.
+impl Room {
+    /// Room for so many clocks and signals.
+    pub fn new(alloc: Global, clocks: usize, signals: usize) -> Result<Room, AllocError>
+        ensures { IfOk result (HasRoom clocks signals) }
+    {
+        Ok(Room {
+            pulsed: vec![in alloc; false; clocks]?,
+            wanted: Vec::with_capacity(alloc, signals)?,
+            asked: Vec::with_capacity(alloc, signals)?,
+            seen: vec![in alloc; Tri::Unknown; signals]?,
+        })
+    }
+}
+
+/// Plays a vector: sets its inputs, compares at a strobe and pulses.
 pub(crate) fn play(
     machine: &mut AbstractMachine<'_>,
     nets: &[NetId],
     clocks: &[usize],
-    pulsed: &mut [bool],
+    room: &mut Room,
     vector: u32,
     acts: &[Act],
 ) -> Option<Verdict>
+    requires ordered { HasRanks machine.old.netlist }
     requires forced { IsForced machine.old }
     requires nets { AreSignals (length machine.old.netlist.nets) nets.now }
     requires few { length nets.now < 2 ^ 32 }
     requires acts { length acts.now ≡ length nets.now }
     requires clocks { AreClocks machine.old nets.now clocks.now acts.now }
-    requires pulsed { length pulsed.old ≡ length clocks.now }
+    requires room { HasRoom (length clocks.now) (length nets.now) room.old }
     ensures played { IsPlayed machine.old (row_of (numbers_of nets.now) (value_at machine.old.inputs) acts.now) vector result machine.new }
     ensures placed { (vectors : ℕ) → vector < vectors → IfSome result (IsPlaced vectors (length nets.now)) }
+    ensures room { HasRoom (length clocks.now) (length nets.now) room.new }
+    ensures counted { length room.new.asked.items ≡ count_by is_compared acts.now }
 {
     set_inputs(machine, nets, acts);
-    machine.strobe();
-    let decision = decide(machine, nets, vector, acts);
-    mark(clocks, acts, pulsed);
-    machine.pulse(pulsed);
+    list_compared(nets, acts, &mut room.wanted, &mut room.asked);
+    let decision = compare(machine, vector, &room.wanted, &room.asked, &mut room.seen);
+    mark(clocks, acts, &mut room.pulsed);
+    machine.pulse(&room.pulsed);
     decision
 }

@@ -7,14 +7,15 @@ ghost use Rattle.dft_abstract.specs.Cycle.{all_unknown};
 ghost use Rattle.dft_patterns.specs.Patterns.{IsWellFormed};
 ghost use Rattle.dft_replay.specs.Fits.{first_misfit, TellsMisfit};
 ghost use Rattle.dft_replay.specs.Laws.{HoldsInRuns};
+ghost use Rattle.dft_replay.specs.Looks.{HasRanks};
 ghost use Rattle.dft_replay.specs.Rows.{rows_from, ports_in};
 ghost use Rattle.dft_replay.specs.Vectors.{AreSignals};
 ghost use Rattle.dft_replay.specs.Verdicts.{HasVerdict, HasVerdictFrom, IsPlaced};
 
-use crate::acts::{clocks_of, compared_count, nets_at};
+use crate::acts::{clocks_of, nets_at};
 use crate::error::ReplayError;
 use crate::nets::nets_of;
-use crate::playing::play;
+use crate::playing::{Room, play};
 use crate::verdict::Verdict;
 use dft_cycle::AbstractMachine;
 use dft_netlist::{Design, NetId};
@@ -28,6 +29,7 @@ fn verdict_at(
     nets: &[NetId],
     vectors: &[Acts],
 ) -> Result<Verdict, AllocError>
+    requires ordered { HasRanks design.now }
     requires nets { AreSignals (length design.now.nets) nets.now }
     requires signals { length nets.now < 2 ^ 31 }
     requires vectors { length vectors.now < 2 ^ 32 }
@@ -37,17 +39,16 @@ fn verdict_at(
 {
     let clocks = clocks_of(alloc, nets.len(), vectors)?;
     let clock_nets = nets_at(alloc, nets, &clocks)?;
-    let mut flags = vec![in alloc; false; clocks.len()]?;
-    let pulsed = flags.as_mut_slice();
+    let mut room = Room::new(alloc, clocks.len(), nets.len())?;
     let mut machine = AbstractMachine::prepare(alloc, design, &clock_nets)?;
     let mut compared: u64 = 0;
     for (vector, acts) in vectors.iter().enumerate() {
         let acts = acts.as_slice();
-        let decision = play(&mut machine, nets, &clocks, pulsed, vector as u32, acts);
+        let decision = play(&mut machine, nets, &clocks, &mut room, vector as u32, acts);
         if let Some(verdict) = decision {
             return Ok(verdict);
         }
-        compared += compared_count(acts) as u64;
+        compared += room.asked.len() as u64;
     }
     Ok(Verdict::Pass { compared })
 }

@@ -8,8 +8,8 @@ use Rattle.dft_netlist.specs.Building.{empty_netlist}
 use Rattle.dft_netlist_text.specs.Modules.{Draft}
 use Rattle.dft_netlist_text.specs.NetlistText.{Grown, and_grown, nets_of_ports, other_nets, net_order, names_of_others, add_ports, add_nets, add_instances, add_joins, built}
 use Rattle.dft_verilog.specs.FinalNets.{numbers_among, without_number, all_numbered, AreFinal}
-use Rattle.dft_verilog.specs.Built.{Grows, HasNetsOf}
-use Rattle.dft_verilog.proofs.GrowLemmas.{and_grown-assoc, add_ports-Ok, add_nets-Ok}
+use Rattle.dft_verilog.specs.Built.{Grows, IsGrown, HasNetsOf}
+use Rattle.dft_verilog.proofs.GrowLemmas.{and_grown-assoc, IsGrown-first, IsGrown-same, add_ports-Ok, add_nets-Ok}
 use Rattle.dft_verilog.proofs.FinalLemmas.{without_number-others, AreFinal-numbered}
 
 -- ---- all nets
@@ -71,3 +71,17 @@ unfolding built
 built-refused d start none =
     and_grown-assoc (add_ports d.ports (empty_netlist d.name d.library)) _ (add_nets (names_of_others d)) (λ n. add_instances (net_order d) d.instances (add_joins (net_order d) d.joins n)) (λ n. refl)
     ∙ ap (λ g. and_grown g (λ n. add_instances (net_order d) d.instances (add_joins (net_order d) d.joins n))) (ap (all_nets d) (sym none))
+
+-- the nets of a draft of which no part is refused are not
+pub IsGrown-nets : (d : Draft) (start : Netlist) → start ≡ empty_netlist d.name d.library → IsGrown (built d) → IsGrown (all_nets d start)
+IsGrown-nets d start none g = IsGrown-first (built d) (all_nets d start) _ (built-refused d start none) g
+
+-- nor are its instances
+pub IsGrown-instances : (d : Draft) (start mid joined : Netlist) → start ≡ empty_netlist d.name d.library → all_nets d start ≡ Ok mid → joined ≡ add_joins (net_order d) d.joins mid
+    → IsGrown (built d) → IsGrown (add_instances (net_order d) d.instances joined)
+IsGrown-instances d start mid joined none nets joins g = IsGrown-same (add_instances (net_order d) d.instances joined) (built d) (sym (built-by d start mid joined none nets joins)) g
+
+-- what is built of a draft does not depend on the names that are taken
+pub built-without_names : (d : Draft) → built (record d { names = [] }) ≡ built d
+unfolding built
+built-without_names d = refl

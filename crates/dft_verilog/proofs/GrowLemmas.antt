@@ -24,7 +24,7 @@ use Rattle.dft_netlist_text.specs.NetlistText.{Grown, add_port, nets_of_port, ne
 use Rattle.dft_verilog.specs.FinalNets.{name_unless, without_number, all_numbered}
 use Rattle.dft_verilog_draft.proofs.DeclareLemmas.{length-bit_names}
 use Rattle.dft_verilog.proofs.NumberingLemmas.{length-count_from}
-use Rattle.dft_verilog.specs.Built.{IsRefusal, HasNetsOf}
+use Rattle.dft_verilog.specs.Built.{IsGrown, IsRefusal, HasNetsOf}
 
 -- ---- one step behind another
 
@@ -34,13 +34,26 @@ and_grown-assoc (Ok n) both first second same = same n
 and_grown-assoc (Err why) both first second same = refl
 
 -- a step after which the netlist is this one: the one before is another, from which it comes
-and_grown-Ok : (g : Grown) (more : Netlist → Grown) (m : Netlist) → and_grown g more ≡ Ok m → (n : Netlist) × (g ≡ Ok n) × (more n ≡ Ok m)
+pub and_grown-Ok : (g : Grown) (more : Netlist → Grown) (m : Netlist) → and_grown g more ≡ Ok m → (n : Netlist) × (g ≡ Ok n) × (more n ≡ Ok m)
 and_grown-Ok (Ok n) more m e = (n, refl, e)
 and_grown-Ok (Err why) more m e = absurd (cc)
 
 pub unless_refused-Ok : (refusal : Option NetlistError) (n m : Netlist) → unless_refused refusal n ≡ Ok m → m ≡ n
 unless_refused-Ok None n m e = cc
 unless_refused-Ok (Some why) n m e = absurd (cc)
+
+-- a whole that is not refused has a first step that is not
+pub IsGrown-first : (whole first : Grown) (more : Netlist → Grown) → whole ≡ and_grown first more → IsGrown whole → IsGrown first
+IsGrown-first whole first more is g = let step = and_grown-Ok first more g.0 (sym is ∙ g.1) in (step.0, step.1)
+
+-- an outcome that is the same as one that is not refused
+pub IsGrown-same : (a b : Grown) → a ≡ b → IsGrown b → IsGrown a
+IsGrown-same a b is g = (g.0, is ∙ g.1)
+
+-- a step that is not refused has no refusal
+pub unrefused : (refusal : Option NetlistError) (n : Netlist) → IsGrown (unless_refused refusal n) → refusal ≡ None
+unrefused None n g = refl
+unrefused (Some why) n g = let e = g.1 in absurd (cc)
 
 -- a refusal of the first step is one of the whole
 pub IsRefusal-then : (whole first : Grown) (more : Netlist → Grown) (why : NetlistError) → whole ≡ and_grown first more → IsRefusal first why → IsRefusal whole why
@@ -144,6 +157,19 @@ rest_of : (word : Text) (words : List Text) (number : Option NetId) (ahead : Lis
 rest_of word words number ahead now =
     ap (λ ws. add_nets ws now) (without_number-cons word words number ahead) ∙ add_nets-append (name_unless number word) (without_number words ahead) now
 
+-- a net that is added is not refused
+pub net-free : (number : Option NetId) (word name : Text) (n : Netlist) → number ≡ None → name ≡ word → IsGrown (add_nets (name_unless number word) n) → net_refusal n name ≡ None
+net-free (Some k) word name n is same g = absurd (cc)
+net-free None word name n is same g =
+    let step = and_grown-Ok (add_net n word) (add_nets []) g.0 g.1 in
+    ap (net_refusal n) same ∙ unrefused (net_refusal n word) (record n { nets = n.nets ++ word ∷ [] }) (step.0, step.1)
+
+-- nor is the next one
+pub NumbersOthers-here : (words : List Text) (numbers : List (Option NetId)) (word : Text) (words_ahead : List Text) (number : Option NetId) (ahead : List (Option NetId)) (start now : Netlist) (finals : List NetId)
+    → IsGrown (add_nets (without_number words numbers) start) → NumbersOthers words numbers (word ∷ words_ahead) (number ∷ ahead) start now finals → IsGrown (add_nets (name_unless number word) now)
+NumbersOthers-here words numbers word words_ahead number ahead start now finals g h =
+    IsGrown-first (add_nets (without_number words numbers) start) (add_nets (name_unless number word) now) (add_nets (without_number words_ahead ahead)) (sym h.rest ∙ rest_of word words_ahead number ahead now) g
+
 all_by : (number : Option NetId) (word : Text) (ahead : List (Option NetId)) (now new : Netlist) (finals : List NetId) → add_nets (name_unless number word) now ≡ Ok new
     → (finals ++ unwrap_or number (new_net now) ∷ []) ++ all_numbered (length new.nets) ahead ≡ finals ++ all_numbered (length now.nets) (number ∷ ahead)
 all_by (Some k) word ahead now new finals grown =
@@ -176,10 +202,18 @@ add_instance-by order n new i name pins named joined free grown =
     ap (λ r. unless_refused r (record n { instances = n.instances ++ instance_of i.name i.cell (map (final_signal order) i.pins) ∷ [] })) (ap (instance_refusal n) (sym named) ∙ free)
     ∙ ap Ok (sym (grown ∙ ap₂ (λ (w : Option Text) (ps : List Signal). record n { instances = n.instances ++ instance_of w i.cell ps ∷ [] }) named joined))
 
+-- an instance that is added is not refused
+pub instance-free : (order : List ℕ) (n : Netlist) (i : Instance) (name : Option Text) → name ≡ i.name → IsGrown (add_instance order n i) → instance_refusal n name ≡ None
+instance-free order n i name same g = ap (instance_refusal n) same ∙ unrefused (instance_refusal n i.name) _ g
+
 -- the instances ahead are to be added, behind those before; the nets stay
 pub record InstancesAhead (d : Draft) (all ahead : List Instance) (start now : Netlist) : Type 0 where
   pub rest : add_instances (net_order d) ahead now ≡ add_instances (net_order d) all start
   pub nets : HasNetsOf d now
+
+-- the next of them is not refused
+pub InstancesAhead-here : (d : Draft) (all : List Instance) (i : Instance) (ahead : List Instance) (start now : Netlist) → IsGrown (add_instances (net_order d) all start) → InstancesAhead d all (i ∷ ahead) start now → IsGrown (add_instance (net_order d) now i)
+InstancesAhead-here d all i ahead start now g h = IsGrown-first (add_instances (net_order d) all start) (add_instance (net_order d) now i) (add_instances (net_order d) ahead) (sym h.rest) g
 
 -- the joins ahead are to be added
 pub record JoinsAhead (d : Draft) (all ahead : List Join) (start now : Netlist) : Type 0 where

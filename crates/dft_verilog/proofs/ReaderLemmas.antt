@@ -11,7 +11,7 @@ use Rattle.dft_netlist_text.specs.declared.text.Fault.{Fault}
 use Rattle.dft_netlist.specs.Netlist.{Netlist}
 use Rattle.dft_netlist_text.specs.Modules.{Draft}
 use Rattle.dft_netlist_text.specs.NetlistText.{module_of, built, StandsFor}
-use Rattle.dft_verilog.specs.Built.{IsBuilt, IsRefusedAs, CannotBuild}
+use Rattle.dft_verilog.specs.Built.{IsBuilt, IsGrown, IsRefusedAs, CannotBuild}
 use Rattle.dft_verilog.specs.Laws.{StandsForOne}
 use Rattle.dft_verilog.specs.Refusals.{IsFirstFault, IsUnfinished, IsRefused, told_of, told_whole}
 use Rattle.dft_verilog.proofs.BuildableLemmas.{buildable_are_built}
@@ -28,7 +28,11 @@ one_netlist library text x y a b =
     let grown : a.grown ≡ b.grown = cc (a.parts, b.parts, ap built draft) in
     a.finished.same ∙ grown ∙ sym b.finished.same
 
--- a module that the grammar gives is built
+-- of a module that the grammar gives no part is refused
+pub all_grown : (library : List Cell) (text : Text) (d : Draft) → module_of library text ≡ Ok d → IsGrown (built d)
+all_grown library text d said = buildable_are_built d (modules_buildable library text d said)
+
+-- and so it is built
 refused_parts : (library : List Cell) (text : Text) (d : Draft) (why : NetlistError) → module_of library text ≡ Ok d → built d ≡ Err why → ⊥
 refused_parts library text d why said refused =
     let whole = buildable_are_built d (modules_buildable library text d said) in
@@ -66,4 +70,4 @@ by_cause library text f (cause.Full what) at h = h
 pub refused_first : (library : List Cell) (text : Text) (f : Fault) → module_of library text ≡ Err f → IsRefused library text (told_of f.cause (place_of text f.left))
 refused_first library text f first = by_cause library text f f.cause (place_of text f.left) (record { fault = f; first = first; told = refl })
 
-pub ruleset reading = (stands, refused_whole, refused_first)
+pub ruleset reading = (stands, all_grown, refused_whole, refused_first)

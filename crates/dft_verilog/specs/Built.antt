@@ -16,6 +16,10 @@ IsRefusal outcome (error.DuplicateName name) = outcome ≡ Err (error.DuplicateN
 IsRefusal outcome (error.TooMany what limit) = outcome ≡ Err (error.TooMany what limit)
 IsRefusal outcome (error.Memory failed) = Unit {0}
 
+-- the step is not refused
+abbrev pub IsGrown : Grown → Type 0
+IsGrown outcome = (netlist : Netlist) × (outcome ≡ Ok netlist)
+
 -- the outcome is the netlist that is there after a step, or its refusal
 abbrev pub Grows : {X : Type 0} → Grown → Result X NetlistError → (new : Netlist) → Type 0
 Grows outcome result new = MatchResult result (λ _. outcome ≡ Ok new) (IsRefusal outcome)

@@ -7,11 +7,12 @@ ghost use Rattle.dft_netlist_text.specs.NetlistText as spec;
 ghost use Rattle.dft_netlist.specs.Sound.{HasOnlyPorts};
 ghost use Rattle.dft_verilog_draft.specs.Drafts.{InstanceFits, JoinFits, nets_alone};
 ghost use Rattle.dft_verilog.specs.FinalNets.{name_unless, without_number, all_numbered, AreFinal};
-ghost use Rattle.dft_verilog.specs.Built.{Grows, Builds, HasNetsOf, IsBuilt, CannotBuild};
+ghost use Rattle.dft_verilog.specs.Built.{IsGrown, Grows, Builds, HasNetsOf, IsBuilt, CannotBuild};
 
 use crate::final_nets::{final_net, final_pins, final_signal, port_numbers};
 use dft_base::Name;
-use dft_netlist::{Design, DesignBuilder, Join, NetId, NetlistError};
+use dft_cells::Library;
+use dft_netlist::{Design, DesignBuilder, Instance, Join, NetId, NetlistError};
 use dft_verilog_draft::{DraftInstance, HeaderPort, ModuleDraft};
 use dft_verilog_tokens::Word;
 use std::alloc::{AllocError, Global};
@@ -58,12 +59,13 @@ fn number_or_add(
     name: &Word<'_>,
     number: Option<NetId>,
 ) -> Result<NetId, NetlistError>
+    requires { IsGrown (spec.add_nets (name_unless number name.now) builder.old) }
     ensures grown { Grows (spec.add_nets (name_unless number name.now) builder.old) result builder.new }
     ensures number { IfOk result (λ net. net ≡ unwrap_or number (record { 0 = length builder.old.nets })) }
 {
     match number {
         Some(net) => Ok(net),
-        None => builder.net(Name::from_slice(alloc, name.as_slice())?),
+        None => Ok(builder.add_net(Name::from_slice(alloc, name.as_slice())?)?),
     }
 }
 
@@ -74,7 +76,8 @@ fn add_others(
     names: &[Word<'_>],
     numbers: &[Option<NetId>],
 ) -> Result<Vec<NetId>, NetlistError>
-    requires { length names.now ≡ length numbers.now }
+    requires count { length names.now ≡ length numbers.now }
+    requires grown { IsGrown (spec.add_nets (without_number names.now numbers.now) builder.old) }
     ensures grown { Grows (spec.add_nets (without_number names.now numbers.now) builder.old) result builder.new }
     ensures finals { IfOk result (λ finals. finals.items ≡ all_numbered (length builder.old.nets) numbers.now) }
 {
@@ -92,7 +95,8 @@ fn add_all_nets(
     builder: &mut DesignBuilder,
     draft: &ModuleDraft<'_>,
 ) -> Result<Vec<NetId>, NetlistError>
-    requires { builder.old ≡ empty_netlist draft.now.name draft.now.library }
+    requires none { builder.old ≡ empty_netlist draft.now.name draft.now.library }
+    requires grown { IsGrown (spec.and_grown (spec.add_ports draft.now.ports builder.old) (spec.add_nets (spec.names_of_others draft.now))) }
     ensures grown { Grows (spec.and_grown (spec.add_ports draft.now.ports builder.old) (spec.add_nets (spec.names_of_others draft.now))) result builder.new }
     ensures finals { IfOk result (λ finals. AreFinal draft.now finals.items) }
     ensures nets { OnOk result (HasNetsOf draft.now builder.new) }
@@ -146,12 +150,14 @@ fn add_instance(
     requires nets { HasNetsOf draft.now builder.old }
     requires finals { AreFinal draft.now finals.now }
     requires fits { InstanceFits (nets_alone draft.now) instance.now }
+    requires grown { IsGrown (spec.add_instance (spec.net_order draft.now) builder.old instance.now) }
     ensures grown { Grows (spec.add_instance (spec.net_order draft.now) builder.old instance.now) result builder.new }
     ensures nets { HasNetsOf draft.now builder.new }
 {
     let name = instance.name(alloc)?;
+    let cell = instance.cell();
     let pins = final_pins(alloc, finals, instance.pins())?;
-    builder.instance(name, instance.cell(), pins.as_slice())?;
+    builder.add_instance(Instance { name, cell, pins })?;
     Ok(())
 }
 
@@ -164,6 +170,7 @@ fn add_instances(
 ) -> Result<(), NetlistError>
     requires nets { HasNetsOf draft.now builder.old }
     requires finals { AreFinal draft.now finals.now }
+    requires grown { IsGrown (spec.add_instances (spec.net_order draft.now) draft.now.instances builder.old) }
     ensures { Grows (spec.add_instances (spec.net_order draft.now) draft.now.instances builder.old) result builder.new }
 {
     for instance in draft.instances() {
@@ -172,24 +179,64 @@ fn add_instances(
     Ok(())
 }
 
-/// The netlist of a draft, not finished yet.
-fn built(alloc: Global, draft: &ModuleDraft<'_>) -> Result<DesignBuilder, NetlistError>
-    ensures { Builds (spec.built draft.now) result }
+/// Adds all that a draft has to a netlist that has nothing yet.
+fn add_all(
+    alloc: Global,
+    builder: &mut DesignBuilder,
+    draft: &ModuleDraft<'_>,
+) -> Result<(), NetlistError>
+    requires none { builder.old ≡ empty_netlist draft.now.name draft.now.library }
+    requires grown { IsGrown (spec.built draft.now) }
+    ensures { Grows (spec.built draft.now) result builder.new }
 {
+    let finals = add_all_nets(alloc, builder, draft)?;
+    add_joins(builder, draft, &finals)?;
+    add_instances(alloc, builder, draft, &finals)
+}
+
+/// A netlist over a draft's cells that has nothing yet, and room for what the draft has.
+fn begun(
+    alloc: Global,
+    library: Library,
+    draft: &ModuleDraft<'_>,
+) -> Result<DesignBuilder, AllocError>
+    requires { library ≡ draft.now.library }
+    ensures { IfOk result (λ builder. builder ≡ empty_netlist draft.now.name draft.now.library) }
+{
+    let instances = draft.instance_count();
     let name = draft.name().copy(alloc)?;
-    let library = draft.library().copy(alloc)?;
     let mut builder = DesignBuilder::new(alloc, name, library);
-    let finals = add_all_nets(alloc, &mut builder, draft)?;
-    add_joins(&mut builder, draft, &finals)?;
-    add_instances(alloc, &mut builder, draft, &finals)?;
+    builder.reserve(draft.net_count() + instances, instances)?;
     Ok(builder)
 }
 
-/// The design of what a module said. Refused with `DuplicateName` or `TooMany` where a part is refused, with
-/// `MultipleDrivers` for the first net with two drivers, and else with `Loop` where the nets have no order.
-pub(crate) fn finished(alloc: Global, draft: ModuleDraft<'_>) -> Result<Design, NetlistError>
+/// The netlist of a draft, not finished yet. The names that are taken are let go first.
+fn built(
+    alloc: Global,
+    library: Library,
+    draft: ModuleDraft<'_>,
+) -> Result<DesignBuilder, NetlistError>
+    requires library { library ≡ draft.library }
+    requires grown { IsGrown (spec.built draft) }
+    ensures { Builds (spec.built draft.entry) result }
+{
+    let draft = draft.without_names();
+    let mut builder = begun(alloc, library, &draft)?;
+    add_all(alloc, &mut builder, &draft)?;
+    Ok(builder)
+}
+
+/// The design of what a module said, of which no part is refused, over its cells. Refused with `MultipleDrivers` for the
+/// first net with two drivers, and else with `Loop` where the nets have no order.
+pub(crate) fn finished(
+    alloc: Global,
+    library: Library,
+    draft: ModuleDraft<'_>,
+) -> Result<Design, NetlistError>
+    requires library { library ≡ draft.library }
+    requires grown { IsGrown (spec.built draft) }
     ensures ok { IfOk result (λ design. IsBuilt draft.entry design) }
     ensures refused { IfErr result (λ why. CannotBuild draft.entry why) }
 {
-    built(alloc, &draft)?.finish()
+    built(alloc, library, draft)?.finish()
 }

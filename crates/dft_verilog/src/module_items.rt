@@ -58,7 +58,8 @@ pub fn items<'a>(
     tokens: &mut Tokens<'a>,
 ) -> Result<(), ReadError>
     requires { draft.old.library ≡ library.now }
-    ensures { Reads (λ _. draft.new) (spec.items draft.old tokens.old) result tokens.new }
+    ensures read { Reads (λ _. draft.new) (spec.items draft.old tokens.old) result tokens.new }
+    ensures library { OnOk result (draft.new.library ≡ draft.old.library) }
 {
     'turns: for _turn in 0..tokens.left() {
         if tokens.sees(TokenKind::Endmodule) {

@@ -48,33 +48,38 @@ fn end_of_text(draft: &ModuleDraft<'_>, tokens: &Tokens<'_>) -> Result<(), ReadE
 }
 
 #[tactic(auto, unfolding(dft_netlist_text::specs::NetlistText::module_text))]
-// The whole text: a heading, items, and the end.
+// The whole text: a heading, items, and the end. The cells are those of the library.
 fn module_text<'a>(
     alloc: Global,
     library: Library,
+    cells: &Library,
     tokens: &mut Tokens<'a>,
 ) -> Result<ModuleDraft<'a>, ReadError>
-    ensures { Reads (λ draft. draft) (spec.module_text library tokens.old) result tokens.new }
+    requires { cells.now ≡ library }
+    ensures read { Reads (λ draft. draft) (spec.module_text library tokens.old) result tokens.new }
+    ensures library { IfOk result (λ draft. draft.library ≡ library) }
 {
-    let cells = library.copy(alloc)?;
     let mut draft = heading(alloc, library, tokens)?;
-    items(&cells, &mut draft, tokens)?;
+    items(cells, &mut draft, tokens)?;
     module_end(&draft, tokens)?;
     end_of_text(&draft, tokens)?;
     Ok(draft)
 }
 
 #[tactic(auto, unfolding(dft_netlist_text::specs::NetlistText::module_of))]
-// What the module of a text says.
+// What the module of a text says. The cells are those of the library.
 pub(crate) fn module_of<'a>(
     alloc: Global,
     bytes: &'a [u8],
     library: Library,
+    cells: &Library,
 ) -> Result<ModuleDraft<'a>, ReadError>
-    requires { length bytes.now ≤ MAX_TEXT }
-    ensures { Checks (λ draft. draft) (spec.module_of library bytes.now) result }
+    requires few { length bytes.now ≤ MAX_TEXT }
+    requires same { cells.now ≡ library }
+    ensures read { Checks (λ draft. draft) (spec.module_of library bytes.now) result }
+    ensures library { IfOk result (λ draft. draft.library ≡ library) }
 {
-    module_text(alloc, library, &mut Tokens::new(alloc, bytes))
+    module_text(alloc, library, cells, &mut Tokens::new(alloc, bytes))
 }
 
 // There are as many as there may be.
@@ -135,6 +140,28 @@ fn told_whole(error: NetlistError) -> VerilogError
 }
 
 #[tactic(auto, using(crate::proofs::ReaderLemmas::reading))]
+// The design that a netlist text stands for, over the cells of a library, which are given once more.
+fn read_over(
+    alloc: Global,
+    bytes: &[u8],
+    library: Library,
+    cells: Library,
+) -> Result<Design, VerilogError>
+    requires few { length bytes.now ≤ MAX_TEXT }
+    requires same { cells ≡ library }
+    ensures design { IfOk result (λ design. StandsFor library bytes.now design) }
+    ensures refused { IfErr result (λ error. IsRefused library bytes.now error) }
+{
+    match module_of(alloc, bytes, library, &cells) {
+        Ok(draft) => match finished(alloc, cells, draft) {
+            Ok(design) => Ok(design),
+            Err(error) => Err(told_whole(error)),
+        },
+        Err(ReadError::Fault(fault)) => Err(told(bytes, fault)),
+        Err(ReadError::Memory(error)) => Err(VerilogError::Memory(error)),
+    }
+}
+
 /// The design that a netlist text stands for, over the cells of a library (IEEE 1364, structural part). A text with a
 /// fault is refused by its first, with the place where the refused token begins; a name that is taken and one port, net
 /// or instance more than there may be are refused as the netlist is. A text without a fault is refused where a net has
@@ -144,12 +171,8 @@ pub fn read(alloc: Global, bytes: &[u8], library: Library) -> Result<Design, Ver
     ensures design { IfOk result (λ design. StandsFor library bytes.now design) }
     ensures refused { IfErr result (λ error. IsRefused library bytes.now error) }
 {
-    match module_of(alloc, bytes, library) {
-        Ok(draft) => match finished(alloc, draft) {
-            Ok(design) => Ok(design),
-            Err(error) => Err(told_whole(error)),
-        },
-        Err(ReadError::Fault(fault)) => Err(told(bytes, fault)),
-        Err(ReadError::Memory(error)) => Err(VerilogError::Memory(error)),
+    match library.copy(alloc) {
+        Ok(cells) => read_over(alloc, bytes, library, cells),
+        Err(error) => Err(VerilogError::Memory(error)),
     }
 }

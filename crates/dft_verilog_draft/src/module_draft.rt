@@ -167,6 +167,16 @@ impl<'a> ModuleDraft<'a> {
         }
     }
 
+    /// Lets go of the names that are taken; what they stand for stays.
+    pub fn without_names(self) -> ModuleDraft<'a>
+        ensures { result ≡ record self.entry { names = [] } }
+    {
+        ModuleDraft {
+            names: TakenNames::new(self.alloc),
+            ..self
+        }
+    }
+
     /// Takes a name that is free.
     pub(crate) fn take(&mut self, word: &'a [u8], meaning: Meaning) -> Result<(), AllocError>
         requires name { IsName word.now }

@@ -4,3 +4,4 @@ pub mod NameLemmas
 pub mod WordByteLemmas
 pub mod WordKindLemmas
 pub mod DigitLemmas
+pub mod SmallWordLemmas

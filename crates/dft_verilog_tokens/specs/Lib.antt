@@ -5,3 +5,4 @@ pub mod TokensAhead
 pub mod Checking
 pub mod Constants
 pub mod Digits
+pub mod SmallWords

@@ -4,10 +4,31 @@ ghost use Rattle.std.specs.Prelude.{false, ◌≡◌, IsTrue};
 ghost use Rattle.dft_base.specs.Words as words;
 ghost use Rattle.dft_netlist_text.specs.Lexemes as spec;
 ghost use Rattle.dft_verilog_tokens.specs.Cut.{carries_name};
+ghost use Rattle.dft_verilog_tokens.specs.SmallWords as letters;
 
 use crate::blanks::is_printed;
 use dft_base::is_reserved;
 use dft_netlist_text::TokenKind;
+
+// Whether two small letters stand in front, as in each reserved word.
+#[inline(always)]
+fn begins_small(word: &[u8]) -> bool
+    ensures { result ≡ letters.begins_small word.now }
+{
+    match word {
+        [first, second, ..] => first.is_ascii_lowercase() && second.is_ascii_lowercase(),
+        _ => false,
+    }
+}
+
+#[tactic(auto, using(crate::proofs::SmallWordLemmas::small_words))]
+// Whether a word is reserved. Most names do not begin as one, and are told at once.
+#[inline(always)]
+fn is_reserved_word(word: &[u8]) -> bool
+    ensures { result ≡ words.is_reserved word.now }
+{
+    begins_small(word) && is_reserved(word)
+}
 
 #[tactic(auto, using(crate::proofs::WordKindLemmas::free_words))]
 /// The kind of a word: a keyword, another reserved word, or a name.
@@ -15,7 +36,7 @@ use dft_netlist_text::TokenKind;
 pub fn word_kind(word: &[u8]) -> TokenKind
     ensures { result ≡ spec.word_kind word.now }
 {
-    if is_reserved(word) {
+    if is_reserved_word(word) {
         reserved_kind(word)
     } else {
         TokenKind::Name

@@ -1,10 +1,8 @@
 -- What the entries need is marked.
-use Rattle.std.proofs.Common.{◌<◌, ◌≡◌, ◌∙◌, length, arith}
-use Rattle.dft_logic.specs.EntryTables.{MarksAll}
+use Rattle.std.proofs.Common.{◌<◌, length, arith}
 use Rattle.dft_cycle.proofs.plans.list_needs.Goals as goal
 
 pub returns-clause-needed : goal.returns-clause-needed
 returns-clause-needed c = λ place less k live has.
     (let marks = (rw c.deref.ensures.value at c.mark_entries.ensures.each) place less in
-    let size : length c.lower.new.flags ≡ length c.args.circuit.now.ops.items = c.lower.auto.flags ∙ c.requires.marked in
-    c.mark_needed.ensures.kept k (marks.all k (omega (arith, size, live)) has))
+    c.mark_needed.ensures.kept k (marks.all k (omega (arith, c.requires.marked, live)) has))

@@ -2,6 +2,7 @@
 use Rattle.std.proofs.Common.{◌≡◌, ◌∙◌, ℕ, List, sym, ap, subst, length}
 use Rattle.std.specs.Prelude.{All}
 use Rattle.dft_netlist.specs.Netlist.{Netlist}
+use Rattle.dft_netlist.proofs.RankLemmas.{order_ranks}
 use Rattle.dft_netlist.specs.Orders.{numbers_of}
 use Rattle.dft_cycle.specs.Machine.{AreNets}
 use Rattle.dft_patterns.specs.declared.act.Act.{Act}
@@ -12,6 +13,9 @@ use Rattle.dft_replay.specs.Verdicts.{HasVerdict, IsPlaced}
 use Rattle.dft_replay.proofs.SignalLemmas.{signals_are, signal_count, few_signals, vectors_long, patterns_verdict}
 use Rattle.dft_replay.proofs.Soundness.{verdict_holds}
 use Rattle.dft_replay.proofs.replayer.replay.Goals as goal
+
+pub verdict_at-requires-clause-ordered : goal.verdict_at-requires-clause-ordered
+verdict_at-requires-clause-ordered c = order_ranks c.args.design.now c.soundness.ensures.ordered.order c.soundness.ensures.netlist c.soundness.ensures.ordered.is
 
 pub verdict_at-requires-clause-nets : goal.verdict_at-requires-clause-nets
 verdict_at-requires-clause-nets c =

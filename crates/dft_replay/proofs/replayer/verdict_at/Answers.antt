@@ -9,7 +9,8 @@ use Rattle.dft_cycle.specs.Machine.{Machine, AreNets, logic}
 use Rattle.dft_cycle.proofs.MachineRounds.{start_forced}
 use Rattle.dft_patterns.specs.declared.act.Act.{Act}
 use Rattle.dft_replay.specs.Rows.{ports_in}
-use Rattle.dft_replay.specs.Vectors.{net_at, clocks_of, AreClocks}
+use Rattle.std.specs.Prelude.{count_by}
+use Rattle.dft_replay.specs.Vectors.{is_compared, net_at, clocks_of, AreClocks}
 use Rattle.dft_replay.proofs.VectorLemmas.{clock_live, clock_nets_live, are_clocks}
 use Rattle.dft_replay.proofs.ReplayLemmas.{few_counted, read_at, long_at, machine_means, ends, goes_on, starts}
 use Rattle.dft_replay.proofs.replayer.verdict_at.Goals as goal
@@ -33,7 +34,7 @@ loop-vector-init c =
       netlist = start.netlist;
       clocks = start.clocks ∙ are;
       forced = (start_forced n c.deref-2.result.now m start).0;
-      flags = search rules;
+      room = search rules;
       rest = λ verdict h. starts (logic_of n (ports_in (numbers_of nets) vectors)) n c.deref-2.result.now m (numbers_of nets) vectors verdict start h;
       few = omega arith;
     }
@@ -76,12 +77,13 @@ loop-vector-preserved c =
     let here : get_or vectors v [] ≡ acts = read_at vectors v c.index-vectors-vector.result acts less c.index-vectors-vector.is c.as_slice-acts.ensures in
     let same : length acts ≡ length nets = long_at vectors v (length nets) acts c.requires.acts less here in
     let means : logic m ≡ logic_of n (ports_in (numbers_of nets) vectors) = machine_means n m nets vectors c.loop-vector.invariant.netlist c.loop-vector.invariant.clocks c.requires.nets.differ c.requires.acts in
+    let counted : c.len-in-loop-vector.result ≡ count_by is_compared acts = (let size = c.play-decision.ensures.counted in omega arith) in
     record {
       netlist = played.netlist ∙ c.loop-vector.invariant.netlist;
       clocks = played.clocks ∙ c.loop-vector.invariant.clocks;
       forced = played.forced;
-      flags = c.play-decision.auto.pulsed ∙ c.loop-vector.invariant.flags;
+      room = search rules;
       rest = λ verdict later. c.loop-vector.invariant.rest verdict
-          (goes_on (logic_of n (ports_in (numbers_of nets) vectors)) (numbers_of nets) vectors v c.loop-vector.compared c.compared_count.result acts m c.play-decision.new.machine c.play-decision.result verdict means less here (same ∙ sym (length-map nets (λ (k : NetId). k.0))) c.compared_count.ensures played c.in_default.is later);
-      few = few_counted c.loop-vector.compared v (length nets) c.compared_count.result acts c.loop-vector.invariant.few c.compared_count.ensures same;
+          (goes_on (logic_of n (ports_in (numbers_of nets) vectors)) (numbers_of nets) vectors v c.loop-vector.compared c.len-in-loop-vector.result acts m c.play-decision.new.machine c.play-decision.result verdict means less here (same ∙ sym (length-map nets (λ (k : NetId). k.0))) counted played c.in_default.is later);
+      few = few_counted c.loop-vector.compared v (length nets) c.len-in-loop-vector.result acts c.loop-vector.invariant.few counted same;
     }

@@ -6,6 +6,7 @@ use Rattle.dft_abstract.specs.Cycle.{all_unknown}
 use Rattle.dft_cycle.specs.Machine.{value_at}
 use Rattle.dft_cycle.specs.MachineLaws.{IsForced}
 use Rattle.dft_replay.specs.declared.verdict.Verdict.{Verdict}
+use Rattle.dft_replay.specs.Looks.{HasRoom}
 use Rattle.dft_replay.specs.Rows.{rows_from, ports_in}
 use Rattle.dft_replay.specs.Vectors.{net_at, clocks_of}
 use Rattle.dft_replay.specs.Verdicts.{HasVerdictFrom}
@@ -16,7 +17,7 @@ invariant-loop-vector l = record {
   netlist : l.machine.netlist ≡ l.design;
   clocks : l.machine.clocks ≡ map (net_at l.nets) (clocks_of (length l.nets) l.vectors);
   forced : IsForced l.machine;
-  flags : length l.pulsed ≡ length l.clocks.items;
+  room : HasRoom (length l.clocks.items) (length l.nets) l.room;
   rest : (verdict : Verdict) → HasVerdictFrom (logic_of l.design (ports_in (numbers_of l.nets) l.vectors)) (value_at l.machine.cells) l.vector l.compared (rows_from (numbers_of l.nets) (value_at l.machine.inputs) (drop l.vector l.vectors)) verdict
       → HasVerdictFrom (logic_of l.design (ports_in (numbers_of l.nets) l.vectors)) all_unknown 0 0 (rows_from (numbers_of l.nets) all_unknown l.vectors) verdict;
   few : l.compared ≤ l.vector * length l.nets;

@@ -9,15 +9,28 @@ use Rattle.dft_verilog.specs.FinalNets.{number_among, numbers_among, without_num
 use Rattle.dft_verilog.specs.Built.{Grows}
 use Rattle.dft_verilog.proofs.NumberingLemmas.{length-count_from}
 use Rattle.dft_verilog.proofs.BuiltLemmas.{all_nets, all_nets-by, finals-by, HasNetsOf-all, OnOk-grown}
+use Rattle.dft_verilog.proofs.GrowLemmas.{IsGrown-same}
 use Rattle.dft_verilog.proofs.finishing.add_all_nets.Goals as goal
 
-pub add_others-requires : goal.add_others-requires
-add_others-requires c =
+pub add_others-requires-clause-count : goal.add_others-requires-clause-count
+add_others-requires-clause-count c =
     let d : Draft = c.args.draft.now in
     let bits = nets_of_ports d.ports in
     let numbers : c.deref.result.now ≡ numbers_among bits (length d.nets) =
     c.deref.ensures.value ∙ c.in_ok-numbers.ensures ∙ ap₂ (λ (ps : List HeaderPort) n. numbers_among (nets_of_ports ps) n) c.ports.ensures.ports c.net_count.ensures.count in
     ap length c.nets.ensures.nets ∙ sym (ap length numbers ∙ length-map (count_from 0 (length d.nets)) (number_among bits) ∙ length-count_from 0 (length d.nets))
+
+pub add_others-requires-clause-grown : goal.add_others-requires-clause-grown
+add_others-requires-clause-grown c =
+    let d : Draft = c.args.draft.now in
+    let start : Netlist = c.args.builder.now in
+    let mid : Netlist = c.add_ports.new.builder in
+    let numbers : c.deref.result.now ≡ numbers_among (nets_of_ports d.ports) (length d.nets) =
+    c.deref.ensures.value ∙ c.in_ok-numbers.ensures ∙ ap₂ (λ (ps : List HeaderPort) n. numbers_among (nets_of_ports ps) n) c.ports.ensures.ports c.net_count.ensures.count in
+    let ports : add_ports d.ports start ≡ Ok mid = ap (λ (ps : List HeaderPort). add_ports ps start) (sym c.ports-2.ensures.ports) ∙ c.in_ok-add_ports.ensures in
+    let others : all_nets d start ≡ add_nets (without_number c.nets.result.now c.deref.result.now) mid =
+    all_nets-by d start mid c.deref.result.now ports numbers ∙ ap (λ (ws : List Text). add_nets (without_number ws c.deref.result.now) mid) (sym c.nets.ensures.nets) in
+    IsGrown-same (add_nets (without_number c.nets.result.now c.deref.result.now) mid) (all_nets d start) (sym others) c.requires.grown
 
 pub returns : goal.returns
 returns c =
@@ -33,6 +46,6 @@ returns c =
     let grown : Grows (all_nets d start) c.add_others.result new = subst (λ (g : Grown). Grows g c.add_others.result new) (sym others) c.add_others.ensures.grown in
     record {
       grown = grown;
-      finals = IfOk-weaker c.add_others.result _ _ (λ f e. finals-by d start mid c.deref.result.now f.items c.requires ports numbers e) c.add_others.ensures.finals;
-      nets = OnOk-grown (all_nets d start) c.add_others.result new _ grown (λ e. HasNetsOf-all d start mid new c.requires ports (sym (ap (λ (g : Grown). and_grown g (add_nets (names_of_others d))) ports) ∙ e));
+      finals = IfOk-weaker c.add_others.result _ _ (λ f e. finals-by d start mid c.deref.result.now f.items c.requires.none ports numbers e) c.add_others.ensures.finals;
+      nets = OnOk-grown (all_nets d start) c.add_others.result new _ grown (λ e. HasNetsOf-all d start mid new c.requires.none ports (sym (ap (λ (g : Grown). and_grown g (add_nets (names_of_others d))) ports) ∙ e));
     }

@@ -8,15 +8,15 @@ pub turns-init : goal.turns-init
 unfolding items
 turns-init c = first_of (search rules, grind (arith, common_steps))
 
-pub returns-then-sees : goal.returns-then-sees
+pub returns-then-sees-clause-read : goal.returns-then-sees-clause-read
 unfolding items_from
-returns-then-sees c =
+returns-then-sees-clause-read c =
     let e = one_more (λ n. items_from n c.turns.draft c.turns.tokens) _ c.turns._turn c.turns-test.true c.turns.invariant.same in
     first_of (search rules, grind (arith, common_steps))
 
-pub returns-in_err-item : goal.returns-in_err-item
+pub returns-in_err-item-clause-read : goal.returns-in_err-item-clause-read
 unfolding items_from
-returns-in_err-item c =
+returns-in_err-item-clause-read c =
     let e = one_more (λ n. items_from n c.turns.draft c.turns.tokens) _ c.turns._turn c.turns-test.true c.turns.invariant.same in
     first_of (search rules, grind (arith, common_steps))
 
@@ -26,8 +26,8 @@ turns-preserved c =
     let e = one_more (λ n. items_from n c.turns.draft c.turns.tokens) _ c.turns._turn c.turns-test.true c.turns.invariant.same in
     record { same = first_of (search rules, grind (arith, common_steps)); library = first_of (search rules, grind (arith, common_steps)) }
 
-pub returns : goal.returns
+pub returns-clause-read : goal.returns-clause-read
 unfolding items_from
-returns c =
+returns-clause-read c =
     let e = no_more (λ n. items_from n c.turns.draft c.turns.tokens) _ c.turns._turn c.turns-test.false c.turns.invariant.same in
     first_of (search rules, grind (arith, common_steps))

@@ -1,0 +1,196 @@
+-- A plan that is made passes every pulse that has its key.
+use Rattle.std.proofs.Common.{ℕ, zero, suc, Bool, true, false, List, [], ◌∷◌, ◌≡◌, ◌<◌, ◌≤◌, ◌⊎◌, inl, inr, Option, None, Some, length, map, take, drop, refl, sym, ap, ◌∙◌, subst, get_or, arith}
+use Rattle.std.specs.Vec.{vec_capacity}
+use Rattle.std.specs.Global.{Vec}
+use Rattle.std.proofs.lemmas.Bool.Decides.{leb_tells}
+use Rattle.std.proofs.lemmas.List.{get_or_past, length-map}
+use Rattle.dft_base.specs.declared.tri.Tri.{Tri}
+use Rattle.dft_base.specs.declared.tri.Tri.TheVariants.{Unknown}
+use Rattle.dft_netlist.specs.declared.ids.NetId.{NetId}
+use Rattle.dft_netlist.specs.Drivers.{Source, Net, Tied, Loose}
+use Rattle.dft_netlist.specs.Logic.{Cell, Force, Scan, Free}
+use Rattle.dft_netlist.specs.Settled.{value_from, value_given}
+use Rattle.dft_netlist.specs.Orders.{Has, numbers_of}
+use Rattle.dft_abstract.specs.Cycle.{Pulse}
+use Rattle.dft_logic.specs.declared.circuit.Circuit.{Circuit}
+use Rattle.dft_logic.specs.declared.takings.Taking.{Taking}
+use Rattle.dft_logic.specs.Needs.{strobe_from, AreSeen}
+use Rattle.dft_logic.specs.Shows.{Shown, IsShownOn}
+use Rattle.dft_logic.specs.Takes.{AreOrigins}
+use Rattle.dft_logic.specs.Entries.{Entry, Keeps, entry_value}
+use Rattle.dft_logic.specs.Values.{value_at}
+use Rattle.dft_logic.specs.Circuit.{meaning, op_at, logic_at, cell_of, cell_at, flag_at, force_nets, next_at, IsCircuit}
+use Rattle.dft_logic.specs.EntryTables.{scan_needs, entry_for, entry_of}
+use Rattle.dft_logic.specs.Takings.{taking_at, taken_by, ArePut, AreTakings}
+use Rattle.dft_logic.proofs.EntryLemmas.{entry_stays}
+use Rattle.dft_logic.proofs.PlanLemmas.{planned}
+use Rattle.dft_cycle.specs.declared.plans.Pins.{Pins}
+use Rattle.dft_cycle.specs.declared.plans.Plan.{Plan}
+use Rattle.dft_cycle.specs.declared.plans.Stage.{Stage}
+use Rattle.dft_cycle.specs.declared.plans.Stage.TheVariants.{Noted, Made, Barred}
+use Rattle.dft_cycle.specs.declared.looks.Look.{Look}
+use Rattle.dft_cycle.specs.Views.{Among, PulsesAmong}
+use Rattle.dft_cycle.specs.Looks.{IsListed}
+use Rattle.dft_logic.proofs.LookLemmas.{look_of_marked}
+use Rattle.dft_cycle.specs.Plans.{row_of, flags_of, IsNeedList, IsPins, IsKey, IsMade, IsPlan, IsNoted, IsFilled, IsPassed}
+
+-- ---- the same key is the same at each pin
+
+rows_same : {V : Type 0} (d : V) (f g : ℕ → V) (nets : List NetId) (k : ℕ) → map (λ net. f net.0) nets ≡ map (λ net. g net.0) nets → Has (numbers_of nets) k → f k ≡ g k
+rows_same d f g [] k same h = absurd h
+rows_same d f g (net ∷ nets) k same h = elim h [
+  | inl e ↦ ap f e ∙ ap (λ (l : List _). get_or l 0 d) same ∙ sym (ap g e)
+  | inr rest ↦ rows_same d f g nets k (ap (λ (l : List _). drop 1 l) same) rest
+]
+
+among_has : (clocks : List NetId) (place e : ℕ) → place < length clocks → (get_or clocks place (record { 0 = 0 })).0 ≡ e → Has (numbers_of clocks) e
+among_has [] place e less is = absurd (omega arith)
+among_has (clock ∷ clocks) zero e less is = inl (sym is)
+among_has (clock ∷ clocks) (suc place) e less is = inr (among_has clocks place e (omega arith) is)
+
+either_up : (b c : Bool) → (b ≡ true → b ≡ c) → (c ≡ true → b ≡ c) → b ≡ c
+either_up true c f g = f refl
+either_up false true f g = g refl
+either_up false false f g = refl
+
+pulsed_same : (clocks : List NetId) (p q : ℕ → Bool) → ((e : ℕ) → p e ≡ true → Among clocks (length clocks) e) → ((e : ℕ) → q e ≡ true → Among clocks (length clocks) e) → flags_of p clocks ≡ flags_of q clocks →
+    (e : ℕ) → p e ≡ q e
+pulsed_same clocks p q a b same e =
+    let there : Among clocks (length clocks) e → p e ≡ q e = λ m. rows_same false p q clocks e same (among_has clocks m.place e m.before m.here) in
+    either_up (p e) (q e) (λ up. there (a e up)) (λ up. there (b e up))
+
+-- two values by net agree at these nets, where past a count both are unknown
+at_nets : (f g : ℕ → Tri) (nets : List NetId) (count k : ℕ) → row_of f nets ≡ row_of g nets → ((i : ℕ) → count ≤ i → f i ≡ Unknown) → ((i : ℕ) → count ≤ i → g i ≡ Unknown) →
+    (k < count → Has (numbers_of nets) k) → f k ≡ g k
+at_nets f g nets count k same a b has = elim (leb_tells count k) [ inl out ↦ a k out.1 ∙ sym (b k out.1) | inr live ↦ rows_same Unknown f g nets k same (has live.1) ]
+
+source_same : (f g : ℕ → Tri) (source : Source) → ((k : ℕ) → source ≡ Net k → f k ≡ g k) → value_from f source ≡ value_from g source
+source_same f g (Net k) same = same k refl
+source_same f g (Tied bit) same = refl
+source_same f g (Loose i pin) same = refl
+
+force_here : (found : Option Force) (force : Force) → found ≡ Some force → Has (force_nets found) force.port
+force_here None force is = absurd cc
+force_here (Some f) force is = let e : f ≡ force = cc in inl (ap (λ (t : Force). t.port) (sym e))
+
+scan_here : (found : Option Scan) (scan : Scan) (k : ℕ) → found ≡ Some scan → scan.enable ≡ Net k → Has (scan_needs true found) k
+scan_here None scan k is net = absurd cc
+scan_here (Some s) scan k is net =
+    let e : s ≡ scan = cc in
+    let P : Source → Type 0 = λ source. Has (scan_needs true (Some (record { enable = source; input = s.input }))) k in
+    subst P (sym (ap (λ (t : Scan). t.enable) e ∙ net)) (inl refl)
+
+-- ---- the pulse by a plan
+
+by_takings : (cells : ℕ → Cell) (q : Pulse) (v : ℕ → Tri) (table : ℕ → Entry) (count : ℕ) (takings : List Taking) (next old new : List Tri) → AreTakings table count takings → ((c : ℕ) → q.old c ≡ value_at old c) →
+    ((j : ℕ) → j < length takings → value_at next j ≡ taken_by cells q v (taking_at takings j)) → ArePut takings (length takings) next old new →
+    (c : ℕ) → c < count → value_at new c ≡ entry_value q.old v (next_at (cells c) q.ports v) c (table c)
+by_takings cells q v table count takings next old new are same takes put c live =
+    let G : ℕ → Tri = λ k. entry_value q.old v (next_at (cells k) q.ports v) k (table k) in
+    elim (put.each c) [
+      | inl w ↦
+          (let t : Taking = taking_at takings w.0 in
+          w.1.1.1 ∙ takes w.0 w.1.0 ∙ ap (entry_value q.old v (next_at (cells t.place) q.ports v) t.place) (sym (are.each w.0 w.1.0)) ∙ ap G w.1.1.0)
+      | inr none ↦ elim (are.all c live) [
+          | inl among ↦ absurd (none.0 among)
+          | inr keeps ↦ none.1 ∙ sym (same c) ∙ ap (entry_value q.old v (next_at (cells c) q.ports v) c) (sym keeps)
+        ]
+    ]
+
+pub passed : (x : Circuit) (clocks : List NetId) (pins : Pins) (plan : Plan) (q : Pulse) (values next old new : List Tri) → IsCircuit x → IsPins x pins → IsMade x clocks pins plan →
+    ((e : ℕ) → q.pulsed e ≡ true → Among clocks (length clocks) e) → ((k : ℕ) → length x.ops.items ≤ k → q.ports k ≡ Unknown) → ((c : ℕ) → q.old c ≡ value_at old c) → length values ≡ length x.ops.items →
+    plan.pulsed.items ≡ flags_of q.pulsed clocks → plan.ports.items ≡ row_of q.ports pins.ports.items → plan.enables.items ≡ row_of (value_at values) pins.enables.items →
+    ((k : ℕ) → Has (numbers_of (take plan.count plan.list.items)) k → value_at values k ≡ value_given (strobe_from q.ports q.old (value_at values)) (value_at values) k (meaning (op_at x.ops.items k))) →
+    ((j : ℕ) → j < length plan.takings.items → value_at next j ≡ taken_by (cell_at (map cell_of x.flops.items)) q (value_at values) (taking_at plan.takings.items j)) →
+    ArePut plan.takings.items (length plan.takings.items) next old new → IsPassed x q new
+unfolding logic_at
+passed x clocks pins plan q values next old new is pinned m among past olds len ups ports enables settled takes put =
+    let v : ℕ → Tri = value_at values in
+    let w : ℕ → Tri = value_at m.values in
+    let count : ℕ = length x.ops.items in
+    let cells : ℕ → Cell = cell_at (map cell_of x.flops.items) in
+    let same : (e : ℕ) → m.pulse.pulsed e ≡ q.pulsed e = pulsed_same clocks m.pulse.pulsed q.pulsed m.key.among among (sym m.key.pulsed ∙ ups) in
+    let whole : m.pulse.pulsed ≡ q.pulsed = λ t e. same e t in
+    let S : (ℕ → Bool) → Type 0 = λ f. IsShownOn (logic_at x) f (λ net. true) m.shown in
+    let beyond : (l : List Tri) → length l ≡ count → (k : ℕ) → count ≤ k → value_at l k ≡ Unknown = λ l e k far. get_or_past l k Unknown (omega arith) in
+    let port : (c : ℕ) (force : Force) → c < length x.flops.items → (cells c).force ≡ Some force → m.pulse.ports force.port ≡ q.ports force.port =
+    λ c force live at. at_nets m.pulse.ports q.ports pins.ports.items count force.port (sym m.key.ports ∙ ports) m.past past (λ less. pinned.ports c force.port live less (force_here (cells c).force force at)) in
+    let enable : (c : ℕ) (scan : Scan) → c < length x.flops.items → (cells c).scan ≡ Some scan → value_from w scan.enable ≡ value_from v scan.enable =
+    λ c scan live at. source_same w v scan.enable
+        (λ k net. at_nets w v pins.enables.items count k (sym m.key.enables ∙ enables) (beyond m.values m.size) (beyond values len) (λ less. pinned.enables c k live less (scan_here (cells c).scan scan k at net))) in
+    let entries : (c : ℕ) → c < length x.flops.items → entry_for (cells c) q m.origin m.shown v ≡ Some (m.table c) =
+    λ c live. sym (entry_stays (record { net = λ net. Free; cell = λ k. cells c }) m.pulse q m.origin m.shown w v 0 (same (cells c).domain) (λ force at. port c force live at) (λ scan at. enable c scan live at)) ∙ m.entries c live in
+    let pass = planned x q m.origin m.shown m.table m.marked values new is len m.origins (subst S whole m.shows) m.list.closed (λ k up. settled k (m.list.listed k up)) entries m.needed
+    (by_takings cells q v m.table (length x.flops.items) plan.takings.items next old new m.takings olds takes put) in
+    record { poss = pass.0; view = pass.1.0; least = pass.1.1.0; each = pass.1.1.1 }
+
+-- ---- a plan is made
+
+pub plan_made : (x : Circuit) (clocks : List NetId) (pins : Pins) (p : Pulse) (values : List Tri) (origin : ℕ → Option ℕ) (shown : ℕ → Shown) (table : ℕ → Entry) (old mid new : Plan) →
+    IsPlan x clocks pins old → IsFilled x table old mid → IsNoted clocks pins p (value_at values) Made mid new → length values ≡ length x.ops.items → ((k : ℕ) → length x.ops.items ≤ k → p.ports k ≡ Unknown) →
+    ((e : ℕ) → p.pulsed e ≡ true → Among clocks (length clocks) e) → AreOrigins (logic_at x) origin → IsShownOn (logic_at x) p.pulsed (λ net. true) shown →
+    ((c : ℕ) → c < length x.flops.items → entry_for (cell_at (map cell_of x.flops.items) c) p origin shown (value_at values) ≡ Some (table c)) → IsPlan x clocks pins new
+plan_made x clocks pins p values origin shown table old mid new was f n size past among origins shows entries =
+    let lists : length new.list.items ≡ length mid.list.items = ap (λ (v : Vec NetId). length v.items) n.list in
+    let taken : vec_capacity new.takings ≡ vec_capacity mid.takings = ap (λ (v : Vec Taking). vec_capacity v) n.takings in
+    let front : take new.count new.list.items ≡ take mid.count mid.list.items = ap (λ (k : ℕ). take k new.list.items) n.count ∙ ap (λ (v : Vec NetId). take mid.count v.items) n.list in
+    let L : List NetId → Type 0 = λ nets. IsNeedList x f.marked nets in
+    let T : List Taking → Type 0 = λ l. AreTakings table (length x.flops.items) l in
+    let fits : mid.count ≤ length mid.list.items = f.count in
+    let room : length x.flops.items ≤ vec_capacity old.takings = was.room in
+    record {
+      pulsed = ap length n.pulsed ∙ length-map clocks _;
+      ports = ap length n.ports ∙ length-map pins.ports.items _;
+      enables = ap length n.enables ∙ length-map pins.enables.items _;
+      list = lists ∙ f.size ∙ was.list;
+      count = omega (arith, n.count, lists, fits);
+      room = omega (arith, taken, f.room, room);
+      made = λ is. record {
+        pulse = p;
+        values = values;
+        origin = origin;
+        shown = shown;
+        marked = f.marked;
+        table = table;
+        size = size;
+        past = past;
+        key = record { among = among; pulsed = n.pulsed; ports = n.ports; enables = n.enables };
+        origins = origins;
+        shows = shows;
+        entries = entries;
+        needed = f.needed;
+        list = subst L (sym front) f.list;
+        takings = subst T (sym (ap (λ (v : Vec Taking). v.items) n.takings)) f.takings;
+      };
+    }
+
+pub plan_barred : (x : Circuit) (clocks : List NetId) (pins : Pins) (old new : Plan) → IsPlan x clocks pins old → new ≡ (record old { stage = Barred }) → IsPlan x clocks pins new
+plan_barred x clocks pins old new was is =
+    let P : Plan → Type 0 = λ plan. IsPlan x clocks pins plan in
+    subst P (sym is) (record { pulsed = was.pulsed; ports = was.ports; enables = was.enables; list = was.list; count = was.count; room = was.room; made = λ made. absurd cc })
+
+pub plan_noted : (x : Circuit) (clocks : List NetId) (pins : Pins) (p : Pulse) (values : ℕ → Tri) (old new : Plan) → IsPlan x clocks pins old → IsNoted clocks pins p values Noted old new → IsPlan x clocks pins new
+plan_noted x clocks pins p values old new was n =
+    let lists : length new.list.items ≡ length old.list.items = ap (λ (v : Vec NetId). length v.items) n.list in
+    let taken : vec_capacity new.takings ≡ vec_capacity old.takings = ap (λ (v : Vec Taking). vec_capacity v) n.takings in
+    let fits : old.count ≤ length old.list.items = was.count in
+    let room : length x.flops.items ≤ vec_capacity old.takings = was.room in
+    record {
+      pulsed = ap length n.pulsed ∙ length-map clocks _;
+      ports = ap length n.ports ∙ length-map pins.ports.items _;
+      enables = ap length n.enables ∙ length-map pins.enables.items _;
+      list = lists ∙ was.list;
+      count = omega (arith, n.count, lists, fits);
+      room = omega (arith, taken, room);
+      made = λ is. (let none : Noted ≡ Made = sym n.stage ∙ is in absurd cc);
+    }
+
+-- ---- looks
+
+pub look_read : (x : Circuit) (look : Look) (ports flops : ℕ → Tri) (values row : List Tri) → IsCircuit x → IsListed x look → length values ≡ length x.ops.items →
+    ((k : ℕ) → Has (numbers_of (take look.count look.list.items)) k → value_at values k ≡ value_given (strobe_from ports flops (value_at values)) (value_at values) k (meaning (op_at x.ops.items k))) →
+    row ≡ map (λ net. value_at values net.0) look.nets.items → AreSeen (logic_at x) ports flops look.nets.items row
+unfolding logic_at
+look_read x look ports flops values row is listed len settled read =
+    let R : List Tri → Type 0 = λ r. AreSeen (logic_at x) ports flops look.nets.items r in
+    subst R (sym read) (look_of_marked x ports flops listed.marked values look.nets.items is len listed.list.closed (λ k up. settled k (listed.list.listed k up)) listed.all)

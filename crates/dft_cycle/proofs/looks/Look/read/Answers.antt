@@ -1,0 +1,10 @@
+-- The nets of the list have their drivers' values.
+use Rattle.std.proofs.Common.{◌∙◌}
+use Rattle.dft_logic.specs.Values.{value_at}
+use Rattle.dft_cycle.proofs.PassLemmas.{look_read}
+use Rattle.dft_cycle.proofs.looks.Look.read.Goals as goal
+
+pub returns : goal.returns
+returns c =
+    look_read c.args.circuit.now c.args.self.now (value_at c.args.ports.now) (value_at c.args.cells.now) c.settle_strobe.new.values c.read_list.new.row c.requires.circuit c.requires.listed
+    (c.settle_strobe.auto.values ∙ c.requires.values) (rw c.deref.ensures.value at c.settle_strobe.ensures) (rw c.deref-2.ensures.value at c.read_list.ensures)

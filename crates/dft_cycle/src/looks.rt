@@ -1,0 +1,131 @@
+//! Looks: nets whose values are asked for, and what they are settled from, kept for when they are asked for again.
+
+ghost use Rattle.std.specs.Prelude.{◌≡◌, ℕ, ◌<◌, ◌≤◌, All, [], length, take, true, false, IfSome};
+ghost use Rattle.std.specs.Vec.{vec_capacity};
+ghost use Rattle.dft_netlist.specs.Orders.{Has, numbers_of};
+ghost use Rattle.dft_logic.specs.Values as spec;
+ghost use Rattle.dft_logic.specs.Circuit.{IsCircuit, logic_at, flag_at as is_up};
+ghost use Rattle.dft_logic.specs.Needs.{AreSeen};
+ghost use Rattle.dft_cycle.specs.Plans.{IsNeedList};
+ghost use Rattle.dft_cycle.specs.Looks.{IsLook, IsListed};
+
+use dft_base::Tri;
+use dft_logic::{
+    Circuit, list_marked, lower, mark_needed, mark_nets, read_list, settle_strobe,
+};
+use dft_netlist::NetId;
+
+/// The nets that are asked for; and once they were asked for again, what they are settled from, at the front of a list.
+#[derive(Drop)]
+pub(crate) struct Look {
+    pub made: bool,
+    pub nets: Vec<NetId>,
+    pub list: Vec<NetId>,
+    pub count: usize,
+}
+
+/// Whether these are the same nets.
+fn same_nets(one: &[NetId], other: &[NetId]) -> bool
+    ensures { result ≡ true → one.now ≡ other.now }
+{
+    if one.len() != other.len() {
+        return false;
+    }
+    for (place, net) in one.iter().enumerate() {
+        if net.0 != other[place].0 {
+            return false;
+        }
+    }
+    true
+}
+
+/// Copies nets into a list that has room for them.
+fn copy_nets(nets: &[NetId], list: &mut Vec<NetId>)
+    requires { length nets.now ≤ vec_capacity list.old }
+    ensures copied { list.new.items ≡ nets.now }
+    ensures room { vec_capacity list.new ≡ vec_capacity list.old }
+{
+    list.clear();
+    for net in nets {
+        list.push_reserved(*net);
+    }
+}
+
+/// The place of the look at these nets.
+pub(crate) fn find_look(looks: &[Look], nets: &[NetId]) -> Option<usize>
+    ensures { IfSome result (λ place. place < length looks.now) }
+{
+    for (place, look) in looks.iter().enumerate() {
+        if same_nets(&look.nets, nets) {
+            return Some(place);
+        }
+    }
+    None
+}
+
+/// Lists what nets are settled from, at the front of a list: how many.
+fn list_sources(
+    circuit: &Circuit,
+    nets: &[NetId],
+    marked: &mut [bool],
+    list: &mut [NetId],
+) -> usize
+    requires circuit { IsCircuit circuit.now }
+    requires marked { length marked.old ≡ length circuit.now.ops.items }
+    requires list { length list.old ≡ length circuit.now.ops.items }
+    ensures room { result ≤ length list.new }
+    ensures list { IsNeedList circuit.now marked.new (take result list.new) }
+    ensures all { (k : ℕ) → k < length circuit.now.ops.items → Has (numbers_of nets.now) k → is_up marked.new k ≡ true }
+{
+    mark_nets(nets, marked);
+    mark_needed(circuit, marked);
+    list_marked(circuit, marked, list)
+}
+
+impl Look {
+    /// Notes the nets that are asked for, if there is room for so many.
+    pub(crate) fn note(&mut self, circuit: &Circuit, nets: &[NetId])
+        requires look { IsLook circuit.now self.old }
+        ensures look { IsLook circuit.now self.new }
+    {
+        if nets.len() <= self.list.len() {
+            self.made = false;
+            copy_nets(nets, &mut self.nets);
+        }
+    }
+
+    /// Lists what its nets are settled from.
+    fn make(&mut self, circuit: &Circuit, marked: &mut [bool])
+        requires circuit { IsCircuit circuit.now }
+        requires marked { length marked.old ≡ length circuit.now.ops.items }
+        requires look { IsLook circuit.now self.old }
+        ensures look { IsLook circuit.now self.new }
+        ensures made { IsListed circuit.now self.new }
+        ensures nets { self.new.nets ≡ self.old.nets }
+        ensures clear { (k : ℕ) → is_up marked.new k ≡ false }
+    {
+        self.count = list_sources(circuit, &self.nets, marked, &mut self.list);
+        self.made = true;
+        lower(marked);
+    }
+
+    /// Reads the values of its nets at a strobe.
+    fn read(
+        &self,
+        circuit: &Circuit,
+        ports: &[Tri],
+        cells: &[Tri],
+        values: &mut [Tri],
+        row: &mut [Tri],
+    )
+        requires circuit { IsCircuit circuit.now }
+        requires values { length values.old ≡ length circuit.now.ops.items }
+        requires look { IsLook circuit.now self.now }
+        requires listed { IsListed circuit.now self.now }
+        requires row { length row.old ≡ length self.now.nets.items }
+        ensures { AreSeen (logic_at circuit.now) (spec.value_at ports.now) (spec.value_at cells.now) self.now.nets.items row.new }
+    {
+        settle_strobe(circuit, ports, cells, &self.list[..self.count], values);
+        read_list(&self.nets, values, row);
+    }
+}

@@ -1,0 +1,83 @@
+-- The first cell of a kind in a library.
+use Rattle.std.proofs.Common.{ℕ, zero, suc, ◌+◌, ◌≡◌, ◌<◌, Bool, true, false, List, [], ◌∷◌, Some, length, slice_get, refl, sym, ap, arith, ◌∙◌}
+use Rattle.std.specs.Prelude.{if◌then◌else◌}
+use Rattle.std.proofs.lemmas.Option.{none-some, same_Some}
+use Rattle.dft_cells.specs.declared.kind.Kind.{Kind}
+use Rattle.dft_cells.specs.declared.kind.Kind.TheVariants as kind
+use Rattle.dft_cells.specs.declared.cell.Cell.{Cell}
+use Rattle.dft_cells.specs.declared.cell.CellId.{CellId}
+use Rattle.dft_cells.specs.Cells.{IsFirstOf}
+use Rattle.dft_parts.specs.Cells.{is_dff, is_lockup, first_from, numbered_cell, first_cell}
+
+not_dff : (k : Kind) → (k ≡ kind.Dff → ⊥) → is_dff k ≡ false
+not_dff kind.Buf h = refl
+not_dff kind.Inv h = refl
+not_dff kind.And h = refl
+not_dff kind.Nand h = refl
+not_dff kind.Or h = refl
+not_dff kind.Nor h = refl
+not_dff kind.Xor h = refl
+not_dff kind.Xnor h = refl
+not_dff kind.Mux2 h = refl
+not_dff (kind.Table number) h = refl
+not_dff kind.Tie0 h = refl
+not_dff kind.Tie1 h = refl
+not_dff kind.Dff h = absurd (h refl)
+not_dff kind.Dffr h = refl
+not_dff kind.Dffs h = refl
+not_dff kind.Sdff h = refl
+not_dff kind.Sdffr h = refl
+not_dff kind.Sdffs h = refl
+not_dff kind.Lockup h = refl
+not_dff kind.Opaque h = refl
+
+not_lockup : (k : Kind) → (k ≡ kind.Lockup → ⊥) → is_lockup k ≡ false
+not_lockup kind.Buf h = refl
+not_lockup kind.Inv h = refl
+not_lockup kind.And h = refl
+not_lockup kind.Nand h = refl
+not_lockup kind.Or h = refl
+not_lockup kind.Nor h = refl
+not_lockup kind.Xor h = refl
+not_lockup kind.Xnor h = refl
+not_lockup kind.Mux2 h = refl
+not_lockup (kind.Table number) h = refl
+not_lockup kind.Tie0 h = refl
+not_lockup kind.Tie1 h = refl
+not_lockup kind.Dff h = refl
+not_lockup kind.Dffr h = refl
+not_lockup kind.Dffs h = refl
+not_lockup kind.Sdff h = refl
+not_lockup kind.Sdffr h = refl
+not_lockup kind.Sdffs h = refl
+not_lockup kind.Lockup h = absurd (h refl)
+not_lockup kind.Opaque h = refl
+
+-- the number of the first cell that passes
+first_at : (test : Kind → Bool) (from k : ℕ) (xs : List Cell) (x : Cell) → slice_get xs k ≡ Some x → test x.kind ≡ true → ((j : ℕ) (z : Cell) → j < k → slice_get xs j ≡ Some z → test z.kind ≡ false) → first_from test from xs ≡ Some (from + k)
+first_at test from k [] x at is before = absurd (none-some x at)
+first_at test from zero (z ∷ xs) x at is before = ap (λ b. if b then Some from else first_from test (suc from) xs) (ap (λ (c : Cell). test c.kind) (same_Some z x at) ∙ is) ∙ ap Some (omega arith)
+first_at test from (suc k) (z ∷ xs) x at is before =
+    ap (λ b. if b then Some from else first_from test (suc from) xs) (before zero z (omega arith) refl)
+    ∙ first_at test (suc from) k xs x at is (λ j y less there. before (suc j) y (omega (arith, less)) there) ∙ ap Some (omega arith)
+
+first_is : (test : Kind → Bool) (k : Kind) (library : List Cell) (id : CellId) → test k ≡ true → ((other : Kind) → (other ≡ k → ⊥) → test other ≡ false) → IsFirstOf library k id → id ≡ first_cell test library
+first_is test k library id is other first =
+    let number : first_from test zero library ≡ Some (zero + id.0) =
+    first_at test zero id.0 library first.cell first.at (ap test first.kind_is ∙ is) (λ j z less there. other z.kind (first.before j z less there)) in
+    let same : zero + id.0 ≡ id.0 = omega arith in
+    sym (ap numbered_cell (number ∙ ap Some same))
+
+pub first_dff_is : (library : List Cell) (id : CellId) → IsFirstOf library kind.Dff id → id ≡ first_cell is_dff library
+first_dff_is library id first = first_is is_dff kind.Dff library id refl not_dff first
+
+pub first_lockup_is : (library : List Cell) (id : CellId) → IsFirstOf library kind.Lockup id → id ≡ first_cell is_lockup library
+first_lockup_is library id first = first_is is_lockup kind.Lockup library id refl not_lockup first
+
+within : {X : Type 0} (xs : List X) (k : ℕ) (x : X) → slice_get xs k ≡ Some x → k < length xs
+within [] k x at = absurd (none-some x at)
+within (z ∷ xs) zero x at = omega arith
+within (z ∷ xs) (suc k) x at = let h = within xs k x at in omega (arith, h)
+
+pub first_there : (library : List Cell) (k : Kind) (id : CellId) → IsFirstOf library k id → id.0 < length library
+first_there library k id first = within library id.0 first.cell first.at

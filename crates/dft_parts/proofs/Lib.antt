@@ -1,0 +1,15 @@
+pub mod NameBytes
+pub mod Growing
+pub mod Outcomes
+pub mod Standing
+pub mod Stores
+pub mod Trees
+pub mod Joining
+pub mod FirstCells
+pub mod Fitting
+pub mod Loops
+pub mod Levels
+pub mod Singles
+pub mod Live
+pub mod Ordering
+pub mod Runs

@@ -1,0 +1,12 @@
+pub use Rattle.dft_netlist.specs.Building
+pub mod MadeNames
+pub mod Parts
+pub mod Cells
+pub mod Recipes
+pub mod Sums
+pub mod Growth
+pub mod Single
+pub mod Order
+pub mod Standing
+pub mod SumTrees
+pub mod Shown

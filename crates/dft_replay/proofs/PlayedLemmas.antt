@@ -1,0 +1,112 @@
+-- The calls for a vector come to its round: inputs are set, nets are looked at, clocks pulse.
+use Rattle.std.proofs.Common.{ℕ, Bool, true, false, List, ◌≡◌, Option, None, Some, length, map, refl, sym, ap, ◌∙◌, subst}
+use Rattle.std.specs.Prelude.{if◌then◌else◌}
+use Rattle.dft_base.specs.declared.tri.Tri.{Tri}
+use Rattle.dft_base.specs.declared.tri.Tri.TheVariants.{Zero, Unknown}
+use Rattle.dft_netlist.specs.declared.ids.NetId.{NetId}
+use Rattle.dft_netlist.specs.Logic.{Logic, Force}
+use Rattle.dft_netlist.specs.Orders.{numbers_of}
+use Rattle.dft_netlist.specs.Runs.{Vector}
+use Rattle.dft_netlist.specs.Settled.{TriSources, value_from, IsTriSettled}
+use Rattle.dft_netlist.proofs.Ranks.{order_is_rank}
+use Rattle.dft_abstract.specs.Cycle.{Pulse, tri_forced_by, tri_taken_by, next_value, after_pulse, IsLeast, pulse_of, strobe_sources, Round, IsRound, after_round}
+use Rattle.dft_abstract.proofs.Views.{family}
+use Rattle.dft_logic.specs.Needs.{IsStrobe, strobe_from}
+use Rattle.dft_cycle.specs.Machine.{Machine, value_at, logic, pulses, pulse_from, ports_of, IsPulsed}
+use Rattle.dft_cycle.specs.MachineLaws.{IsForced, StandsSince}
+use Rattle.dft_cycle.proofs.MachineRounds.{forced_twice}
+use Rattle.dft_patterns.specs.declared.act.Act.{Act}
+use Rattle.dft_replay.specs.declared.comparing.Asked.{Asked}
+use Rattle.dft_replay.specs.declared.verdict.Verdict.{Verdict}
+use Rattle.dft_replay.specs.Looks.{HasRanks, asked_of, decided_seen}
+use Rattle.dft_replay.specs.Rows.{Row, Compared, act_on, set_by, is_pulse, compared_from, row_of}
+use Rattle.dft_replay.specs.Verdicts.{decided}
+use Rattle.dft_replay.specs.Vectors.{act_at, AreClocks, IsPlayed}
+use Rattle.dft_replay.proofs.LookLemmas.{looks_decide}
+use Rattle.dft_replay.proofs.VectorLemmas.{Differ, clocks_marked}
+
+-- the same design has the same logic
+same_logic : (m n : Machine) → n.netlist ≡ m.netlist → n.clocks ≡ m.clocks → logic n ≡ logic m
+unfolding logic
+same_logic m n e f = λ i. logic (record { netlist = e i; clocks = f i; inputs = m.inputs; cells = m.cells; shown = m.shown })
+
+by_twice : (f : Option Force) (ports : ℕ → Tri) (bit : Tri) → tri_forced_by f ports (tri_forced_by f ports bit) ≡ tri_forced_by f ports bit
+by_twice None ports bit = refl
+by_twice (Some f) ports bit = forced_twice f.value (ports f.port) bit
+
+after_forced : (l : Logic) (p : Pulse) (view : ℕ → ℕ → Tri) (c : ℕ) (up : Bool) → p.pulsed (l.cell c).domain ≡ up → p.old c ≡ tri_forced_by (l.cell c).force p.ports (p.old c) →
+    (if up then next_value l p view c else p.old c) ≡ tri_forced_by (l.cell c).force p.ports (if up then next_value l p view c else p.old c)
+after_forced l p view c true e old = sym (by_twice (l.cell c).force p.ports (tri_taken_by (l.cell c).scan (value_from (view (l.cell c).domain)) (value_from (view (l.cell c).domain) (l.cell c).input)))
+after_forced l p view c false e old = old
+
+-- an assignment that is settled for a strobe of the machine, once its inputs are set, and its pulse are a round of the vector
+record IsLooked (start set after : Machine) (x : Vector) (shown : ℕ → Tri) : Type 0 where
+  pub round : Round
+  pub holds : IsRound (logic start) x (value_at start.cells) round
+  pub strobe : round.strobe ≡ shown
+  pub cells : (c : ℕ) → value_at after.cells c ≡ after_round (logic start) x (value_at start.cells) round c
+  pub forced : IsForced after
+
+looked_round : (start set after : Machine) (x : Vector) (pulsed : List Bool) (shown : ℕ → Tri) → StandsSince start set → ((net : ℕ) → value_at set.inputs net ≡ x.ports net) → ((e : ℕ) → pulses set.clocks pulsed e ≡ x.pulsed e) →
+    IsStrobe (logic set) (value_at set.inputs) (value_at set.cells) shown → IsPulsed (logic set) set pulsed after → IsLooked start set after x shown
+looked_round start set after x pulsed shown stands ports ups settled pulse =
+    let l : Logic = logic start in
+    let one = same_logic start set stands.netlist stands.clocks in
+    let three = same_logic start after (pulse.netlist ∙ stands.netlist) (pulse.clocks ∙ stands.clocks) in
+    let old : ℕ → Tri = value_at start.cells in
+    let p : Pulse = pulse_of l x old in
+    let inputs : value_at set.inputs ≡ x.ports = λ i k. ports k i in
+    let cell : (c : ℕ) → value_at set.cells c ≡ p.old c = λ c. stands.cells c ∙ ap (λ (f : ℕ → Tri). tri_forced_by (l.cell c).force f (old c)) inputs in
+    let from : strobe_from (value_at set.inputs) (value_at set.cells) shown ≡ strobe_sources l x old shown =
+    λ i. record { ports = inputs i; clocks = λ e. Zero; flops = λ c. cell c i; lockups = λ c e source. value_from shown source } in
+    let S : TriSources → Type 0 = λ t. IsTriSettled l t shown in
+    let T : Logic → Type 0 = λ k. IsTriSettled k (strobe_from (value_at set.inputs) (value_at set.cells) shown) shown in
+    let q : Pulse = pulse_from set pulsed in
+    let qp : q ≡ p = λ i. record { ports = inputs i; pulsed = λ e. ups e i; old = λ c. cell c i } in
+    let L : Pulse → Type 0 = λ k. IsLeast l k pulse.poss pulse.view in
+    let M : Logic → Type 0 = λ k. IsLeast k q pulse.poss pulse.view in
+    let A : Logic → Type 0 = λ k. (c : ℕ) → value_at after.cells c ≡ after_pulse k q pulse.view c in
+    let B : Pulse → Type 0 = λ k. (c : ℕ) → value_at after.cells c ≡ after_pulse l k pulse.view c in
+    let cells : (c : ℕ) → value_at after.cells c ≡ after_pulse l p pulse.view c = subst B qp (subst A one pulse.cells) in
+    let kept : value_at after.inputs ≡ x.ports = ap value_at pulse.inputs ∙ inputs in
+    record {
+      round = record { strobe = shown; poss = pulse.poss; view = pulse.view };
+      holds = record { strobe = subst S from (subst T one settled); least = subst L qp (subst M one pulse.least) };
+      strobe = refl;
+      cells = cells;
+      forced = λ c.
+          (let K : Logic → Type 0 = λ k. value_at after.cells c ≡ tri_forced_by (k.cell c).force (value_at after.inputs) (value_at after.cells c) in
+          let N : (ℕ → Tri) → Type 0 = λ f. value_at after.cells c ≡ tri_forced_by (l.cell c).force f (value_at after.cells c) in
+          let C : Tri → Type 0 = λ t. t ≡ tri_forced_by (l.cell c).force x.ports t in
+          subst K (sym three) (subst N (sym kept) (subst C (sym (cells c)) (after_forced l p pulse.view c (p.pulsed (l.cell c).domain) refl (sym (by_twice (l.cell c).force x.ports (old c)))))));
+    }
+
+-- a strobe has a settled assignment, whatever the values of inputs and flip-flops
+settled_exists : (m : Machine) → HasRanks m.netlist → (values : ℕ → Tri) × IsStrobe (logic m) (value_at m.inputs) (value_at m.cells) values
+unfolding logic
+settled_exists m ranks =
+    let found = family (logic m) ranks.0 (λ d. strobe_from (value_at m.inputs) (value_at m.cells) (λ k. Unknown)) (λ d e. d) (order_is_rank m.netlist (ports_of m.clocks) ranks.0 ranks.1) in
+    (found.0 0, found.1 0)
+
+pub played : (start set after : Machine) (nets : List NetId) (clocks : List ℕ) (pulsed : List Bool) (acts : List Act) (vector : ℕ) (wanted : List NetId) (asked : List Asked) (decision : Option Verdict) →
+    HasRanks start.netlist → Differ (numbers_of nets) → length acts ≡ length nets →
+    AreClocks start nets clocks acts → StandsSince start set → ((net : ℕ) → value_at set.inputs net ≡ set_by (act_on (numbers_of nets) acts net) (value_at start.inputs net)) →
+    numbers_of wanted ≡ map (λ (c : Compared). c.net) (compared_from 0 (numbers_of nets) acts) → asked ≡ map asked_of (compared_from 0 (numbers_of nets) acts) →
+    ((values : ℕ → Tri) → IsStrobe (logic set) (value_at set.inputs) (value_at set.cells) values → decision ≡ decided_seen vector asked (map (λ (net : NetId). values net.0) wanted)) →
+    pulsed ≡ map (λ s. is_pulse (act_at acts s)) clocks → IsPulsed (logic set) set pulsed after → IsPlayed start (row_of (numbers_of nets) (value_at start.inputs) acts) vector decision after
+played start set after nets clocks pulsed acts vector wanted asked decision ranks differ same are stands inputs listed printed looks marked pulse =
+    let x : Row = row_of (numbers_of nets) (value_at start.inputs) acts in
+    let ups : (e : ℕ) → pulses set.clocks pulsed e ≡ x.vector.pulsed e = λ e.
+    (λ t. pulses (stands.clocks t) (marked t) e) ∙ clocks_marked start nets clocks acts e differ same are in
+    let settled = settled_exists set (subst HasRanks (sym stands.netlist) ranks) in
+    let r = looked_round start set after x.vector pulsed settled.0 stands inputs ups settled.1 pulse in
+    record {
+      netlist = pulse.netlist ∙ stands.netlist;
+      clocks = pulse.clocks ∙ stands.clocks;
+      inputs = λ net. ap (λ (ts : List Tri). value_at ts net) pulse.inputs ∙ inputs net;
+      forced = r.forced;
+      round = r.round;
+      holds = r.holds;
+      says = looks settled.0 settled.1 ∙ looks_decide settled.0 vector x.compared wanted asked listed printed ∙ ap (λ (w : ℕ → Tri). decided w vector x.compared) (sym r.strobe);
+      cells = r.cells;
+    }
