@@ -127,7 +127,7 @@ one_word line at span spans more before next is = subst (WordsBefore line span.e
   words = ap (λ (words : List Text). words ++ words_from false (drop span.end line)) (map-append (cut line) spans (span ∷ []))
       ∙ append_assoc (map (cut line) spans) (cut line span ∷ []) (words_from false (drop span.end line))
       ∙ ap (λ (words : List Text). map (cut line) spans ++ words) (sym next.0) ∙ before.words;
-  within = All-push (λ (s : Span). (s.start ≤ s.end) × (s.end ≤ length line)) spans span before.within (let less : span.start < span.end = next.2 in (omega arith, next.3));
+  within = All-push (λ (s : Span). (s.start < s.end) × (s.end ≤ length line)) spans span before.within (next.2, next.3);
 })
 
 pub all_words : (line : Text) (at : ℕ) (spans : List Span) → WordsBefore line at spans → IsNextWord line at None → map (cut line) spans ≡ words_of line

@@ -50,9 +50,9 @@ are_printed words = list_all is_printed words
 abbrev pub cut : Text → Span → Text
 cut line span = take (span.end - span.start) (drop span.start line)
 
--- spans that lie within a line
+-- spans that lie within a line, each of some bytes
 abbrev pub AreWithin : Text → List Span → Type 0
-AreWithin line spans = All (λ span. (span.start ≤ span.end) × (span.end ≤ length line)) spans
+AreWithin line spans = All (λ span. (span.start < span.end) × (span.end ≤ length line)) spans
 
 -- what stands from a place of a line on: no word, or this one, and then what stands behind it
 abbrev pub IsNextWord : Text → (at : ℕ) → Option Span → Type 0

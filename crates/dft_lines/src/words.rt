@@ -14,6 +14,17 @@ pub struct Span {
     pub end: usize,
 }
 
+impl Span {
+    /// The bytes of a line where this word stands.
+    pub fn of<'a>(&self, line: &'a [u8]) -> &'a [u8]
+        requires begun { self.now.start ≤ self.now.end }
+        requires within { self.now.end ≤ length line.now }
+        ensures { result.now ≡ cut line.now self.now }
+    {
+        &line[self.start..self.end]
+    }
+}
+
 /// How many bytes the first line of a text has, without the byte 10 that ends it.
 pub fn line_len(text: &[u8]) -> usize
     ensures value { result ≡ prefix_len (λ b. not (b == 10)) text.now }
@@ -73,9 +84,22 @@ pub fn words_of(line: &[u8], words: &mut Vec<Span>) -> Result<(), AllocError>
     Ok(())
 }
 
-/// Whether all bytes of a word are printed: 33 to 126.
-pub fn is_printed(word: &[u8]) -> bool
+// Whether all bytes of a word are printed: 33 to 126.
+fn is_printed(word: &[u8]) -> bool
     ensures { result ≡ spec.is_printed word.now }
 {
     word.iter().all(|byte| matches!(*byte, 33..=126))
+}
+
+/// Whether all bytes of these words of a line are printed: 33 to 126.
+pub fn are_printed(line: &[u8], words: &[Span]) -> bool
+    requires { AreWithin line.now words.now }
+    ensures { result ≡ spec.are_printed (map (cut line.now) words.now) }
+{
+    for word in words {
+        if !is_printed(word.of(line)) {
+            return false;
+        }
+    }
+    true
 }
