@@ -1,5 +1,5 @@
 -- Cube files: test cubes, each with the clock of its capture and with bits of scan cells and of input ports.
-use Rattle.std.specs.Prelude.{codes, ℕ, suc, ◌-◌, ◌==◌, ◌||◌, Bool, true, false, List, [], ◌∷◌, ◌++◌, length, map, position, Option, None, Some, Result, Ok, Err, option_map, is_some, is_none, if◌then◌else◌, nat_le}
+use Rattle.std.specs.Prelude.{codes, ℕ, suc, ◌-◌, ◌==◌, ◌≡◌, ◌||◌, Bool, true, false, List, [], ◌∷◌, ◌++◌, length, map, position, Option, None, Some, Result, Ok, Err, option_map, is_some, is_none, if◌then◌else◌, nat_le}
 use Rattle.std.specs.List.{list_any}
 use Rattle.std.specs.Str.{bytes_eq}
 use Rattle.dft_base.specs.Lexing.{Text}
@@ -10,10 +10,11 @@ use Rattle.dft_netlist.specs.Netlist.{Netlist}
 use Rattle.dft_netlist.specs.Connections.{input_net}
 use Rattle.dft_config.specs.declared.config.Config.{Config}
 use Rattle.dft_rules.specs.Rules.{flip_flop_named}
+use Rattle.dft_cells.specs.WellFormed.{has_name}
 use Rattle.dft_lines.specs.Lines.{lines_of, words_of, are_printed}
 use Rattle.dft_cubes.specs.declared.cube.Cube.{Cube}
 use Rattle.dft_cubes.specs.declared.error.CubeError.{CubeError}
-use Rattle.dft_cubes.specs.declared.error.CubeError.TheVariants.{Q1, Q2, Q3, Q4, Q5, Q6, Q7, Q8, Q9}
+use Rattle.dft_cubes.specs.declared.error.CubeError.TheVariants.{Q1, Q2, Q3, Q4, Q5, Q6, Q7, Q8, Q9, Memory}
 use Rattle.dft_cubes.specs.declared.limits.TheConstants.{MAX_CUBES}
 
 -- ---- what a line says
@@ -43,9 +44,16 @@ pub record Reading : Type 0 where
   pub cubes : List Cube
   pub pending : Option Cube
 
+-- whether one of these names is this one
+abbrev pub is_among : List Text → (name : Text) → Bool
+is_among names name = list_any (λ other. bytes_eq other name) names
+
+abbrev pub names_of : List Cube → List Text
+names_of cubes = map (λ cube. cube.name) cubes
+
 -- the place of a clock among the domains
 abbrev pub domain_named : Config → Text → Option ℕ
-domain_named config clock = position (bytes_eq clock) config.domains
+domain_named config clock = position (λ name. bytes_eq name clock) config.domains
 
 abbrev pub has_cell : Cube → InstanceId → Bool
 has_cell cube cell = list_any (λ given. given.0.0 == cell.0) cube.cells
@@ -63,7 +71,7 @@ or_zero (Some k) = k
 abbrev pub begin_refusal : Config → List Cube → Place → (name clock : Text) → Option CubeError
 begin_refusal config cubes place name clock =
     if is_none (domain_named config clock) then Some (Q4 place clock)
-    else if list_any (λ cube. bytes_eq cube.name name) cubes then Some (Q5 place name)
+    else if has_name (names_of cubes) name then Some (Q5 place name)
     else if nat_le MAX_CUBES (length cubes) then Some (Q9 place)
     else None
 
@@ -76,7 +84,7 @@ cell_refusal cube place name (Some cell) = if has_cell cube cell then Some (Q6 p
 abbrev pub port_refusal : Config → Cube → Place → (name : Text) → Option NetId → Option CubeError
 port_refusal config cube place name None = Some (Q3 place name)
 port_refusal config cube place name (Some port) =
-    if has_port cube port then Some (Q6 place name) else if list_any (bytes_eq name) (config.domains ++ config.resets) then Some (Q8 place name) else None
+    if has_port cube port then Some (Q6 place name) else if (is_among config.domains name || is_among config.resets name) then Some (Q8 place name) else None
 
 -- what a line says, where no cube is pending, and where one is
 abbrev pub said_refusal : Netlist → Config → List Cube → (pending : Option Cube) → Place → Option Line → Option CubeError
@@ -146,3 +154,15 @@ cubes_from n config r number (line ∷ lines) =
 -- the cubes that a text stands for, or its first refusal
 abbrev pub cubes_of : Netlist → Config → Text → Result (List Cube) CubeError
 cubes_of n config text = cubes_from n config (record { cubes = []; pending = None }) 0 (lines_of text)
+
+-- ---- refusals
+
+-- this is the check that fails; nothing is said where memory runs out
+abbrev pub IsFault : Option CubeError → CubeError → Type 0
+IsFault fault (Memory error) = Unit {0}
+IsFault fault error = fault ≡ Some error
+
+-- a text whose cubes are told so is refused for this; nothing is said where memory runs out
+abbrev pub IsRefused : Result (List Cube) CubeError → CubeError → Type 0
+IsRefused told (Memory error) = Unit {0}
+IsRefused told error = told ≡ Err error

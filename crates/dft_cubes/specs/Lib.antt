@@ -1,1 +1,3 @@
 pub mod Cubes
+pub mod NameSetShown
+pub mod Taking

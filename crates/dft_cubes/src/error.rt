@@ -1,5 +1,8 @@
+ghost use Rattle.std.specs.Prelude.{◌≡◌, alloc_error};
+ghost use Rattle.dft_cubes.specs.declared.error.CubeError.TheVariants.{Memory};
+
 use dft_base::{Name, Place};
-use std::alloc::AllocError;
+use std::alloc::{AllocError, AllocFailed};
 
 /// Why a cube file was not read: the first check of the first line that fails. Each place is the first column of that line.
 #[derive(Debug, Drop)]
@@ -24,4 +27,20 @@ pub enum CubeError {
     Q9 { place: Place },
     /// Memory ran out.
     Memory(AllocError),
+}
+
+impl From<AllocError> for CubeError {
+    ghost from_gives = { λ error e. e ≡ Memory error };
+
+    fn from(error: AllocError) -> CubeError {
+        CubeError::Memory(error)
+    }
+}
+
+impl<T: Drop> From<AllocFailed<T>> for CubeError {
+    ghost from_gives = { λ error e. e ≡ Memory alloc_error };
+
+    fn from(_error: AllocFailed<T>) -> CubeError {
+        CubeError::Memory(AllocError)
+    }
 }

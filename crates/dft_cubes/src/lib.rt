@@ -2,9 +2,19 @@
 #![tactic(auto)]
 
 mod cube;
+mod draft;
 mod error;
+mod giving;
+mod here;
 mod limits;
+mod looking;
+mod name_set;
+mod reader;
+mod said;
+mod stamps;
+mod taken;
 
 pub use cube::{Cube, Merged};
 pub use error::CubeError;
 pub use limits::MAX_CUBES;
+pub use reader::read;
