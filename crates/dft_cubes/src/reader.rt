@@ -22,8 +22,8 @@ fn take_said(taken: &mut Taken, here: &Here<'_>, said: Said<'_>) -> Result<(), C
     requires names { SaysNames (line_said said) }
     requires domains { length here.now.config.now.domains ≤ 16 }
     requires taken { IsTaken here.now.design.now taken.old }
-    ensures ok { OnOk result (Passes here.now taken.old (line_said said) taken.new) }
-    ensures refused { IfErr result (IsFault (refusal_of here.now taken.old (line_said said))) }
+    ensures ok { OnOk result (Passes here.now taken.old (line_said said.entry) taken.new) }
+    ensures refused { IfErr result (IsFault (refusal_of here.now taken.old (line_said said.entry))) }
 {
     match said {
         Said::Begin { name, clock } => taken.begin(here, name, clock),
