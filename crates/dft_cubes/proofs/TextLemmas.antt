@@ -1,14 +1,13 @@
 -- The lines that are left of a text, and what they give.
-use Rattle.std.proofs.Common.{ℕ, suc, ◌+◌, ◌-◌, ◌==◌, ◌≡◌, ◌<◌, ◌≤◌, Bool, true, false, List, [], ◌∷◌, length, take, drop, subst, Option, None, Some, Result, Ok, Err, refl, sym, ap, arith, ◌∙◌}
+use Rattle.std.proofs.Common.{ℕ, suc, ◌+◌, ◌-◌, ◌==◌, ◌≡◌, ◌≤◌, Bool, true, false, List, [], ◌∷◌, length, take, drop, subst, Option, None, Result, sym, ap, arith, ◌∙◌}
 use Rattle.std.proofs.lemmas.List.{length-drop, drop-drop, take_all}
-use Rattle.std.proofs.lemmas.List.Sums.{prefix_len-le-length}
 use Rattle.std.specs.Prelude.{if◌then◌else◌}
 use Rattle.std.specs.List.{prefix_len}
 use Rattle.dft_base.specs.Lexing.{Text}
 use Rattle.dft_netlist.specs.Netlist.{Netlist}
 use Rattle.dft_config.specs.declared.config.Config.{Config}
 use Rattle.dft_lines.specs.Lines.{lines_of, words_of}
-use Rattle.dft_lines.proofs.LineLemmas.{is_on_line, line_ends, lines_behind}
+use Rattle.dft_lines.proofs.LineLemmas.{is_on_line, line_ends}
 use Rattle.dft_cubes.specs.declared.cube.Cube.{Cube}
 use Rattle.dft_cubes.specs.declared.error.CubeError.{CubeError}
 use Rattle.dft_cubes.specs.declared.error.CubeError.TheVariants.{Q1, Q2, Q3, Q4, Q5, Q6, Q7, Q8, Q9, Memory}
@@ -35,8 +34,8 @@ line_at at text begun =
     let p : ℕ = prefix_len is_on_line t in
     (λ i. if not_behind at (length text) begun i then [] else lines_of t) ∙ line_ends t
     ∙ ap (λ (lines : List Text). take p t ∷ lines)
-      ((λ i. if p == length-drop at text i then [] else lines_of (drop (p + 1) t))
-      ∙ (λ i. if next_at at (length text) (at + (p + 1)) p (omega arith) begun i then [] else lines_of (drop-drop (p + 1) at text i)))
+    ((λ i. if p == length-drop at text i then [] else lines_of (drop (p + 1) t))
+    ∙ (λ i. if next_at at (length text) (at + (p + 1)) p (omega arith) begun i then [] else lines_of (drop-drop (p + 1) at text i)))
 
 none_at : (at : ℕ) (text : Text) → at ≡ length text + 1 → lines_at at text ≡ []
 none_at at text end = ap (λ (b : Bool). if b then [] else lines_of (drop at text)) (same_number at (length text + 1) end)
@@ -85,7 +84,7 @@ text_fails n config text r number at len line words error is cut rest fault =
     let failed = subst (λ (ws : List Text). IsFault (line_refusal n config r (record { line = number + 1; column = 1 }) ws) error) cut fault in
     let placed = subst (λ (k : ℕ). IsFault (line_refusal n config r (record { line = k; column = 1 }) (words_of line)) error) place failed in
     subst (λ (told : Result (List Cube) CubeError). IsRefused told error) (sym (rest ∙ ap (cubes_from n config r number) (lines_begin text at len line is)))
-      (fails (line_refusal n config r (place_of_line (suc number)) (words_of line)) error later placed)
+    (fails (line_refusal n config r (place_of_line (suc number)) (words_of line)) error later placed)
 
 -- a line that passes leaves the rest
 pub text_passes : (n : Netlist) (config : Config) (text : Text) (r more : Reading) (number at len : ℕ) (line : Text) (words : List Text) → IsLine text at len line →
@@ -97,7 +96,7 @@ text_passes n config text r more number at len line words is cut rest passed nex
     let place : number + 1 ≡ suc number = omega arith in
     let later : Result (List Cube) CubeError = cubes_from n config (with_line n config r (words_of line)) (suc number) (lines_at (at + (len + 1)) text) in
     let none : line_refusal n config r (place_of_line (suc number)) (words_of line) ≡ None =
-        sym (λ i. line_refusal n config r (record { line = place i; column = 1 }) (cut i)) ∙ passed in
+    sym (λ i. line_refusal n config r (record { line = place i; column = 1 }) (cut i)) ∙ passed in
     rest ∙ ap (cubes_from n config r number) (lines_begin text at len line is) ∙ ap (λ (f : Option CubeError). or_refused f later) none
     ∙ (λ i. cubes_from n config (sym (next ∙ ap (with_line n config r) cut) i) (sym place i) (lines_at (at + (len + 1)) text))
 

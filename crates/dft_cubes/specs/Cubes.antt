@@ -1,5 +1,5 @@
 -- Cube files: test cubes, each with the clock of its capture and with bits of scan cells and of input ports.
-use Rattle.std.specs.Prelude.{codes, ℕ, suc, ◌-◌, ◌==◌, ◌≡◌, ◌||◌, Bool, true, false, List, [], ◌∷◌, ◌++◌, length, map, position, Option, None, Some, Result, Ok, Err, option_map, is_some, is_none, if◌then◌else◌, nat_le}
+use Rattle.std.specs.Prelude.{codes, ℕ, suc, ◌==◌, ◌≡◌, ◌||◌, Bool, true, false, List, [], ◌∷◌, ◌++◌, length, map, position, Option, None, Some, Result, Ok, Err, option_map, is_none, if◌then◌else◌, nat_le}
 use Rattle.std.specs.List.{list_any}
 use Rattle.std.specs.Str.{bytes_eq}
 use Rattle.dft_base.specs.Lexing.{Text}

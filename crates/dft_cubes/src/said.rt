@@ -52,7 +52,11 @@ fn said_by_one<'a>(word: &[u8]) -> Option<Said<'a>>
     ensures said { option_map line_said result ≡ spec.line_of (word.now ∷ []) }
     ensures names { IfSome result (λ said. SaysNames (line_said said)) }
 {
-    if word == b"end".as_slice() { Some(Said::End) } else { None }
+    if word == b"end".as_slice() {
+        Some(Said::End)
+    } else {
+        None
+    }
 }
 
 /// What the words of a line say, if that is something.

@@ -70,7 +70,12 @@ impl Taken {
     }
 
     /// A cube begins.
-    pub(crate) fn begin(&mut self, here: &Here<'_>, name: &[u8], clock: &[u8]) -> Result<(), CubeError>
+    pub(crate) fn begin(
+        &mut self,
+        here: &Here<'_>,
+        name: &[u8],
+        clock: &[u8],
+    ) -> Result<(), CubeError>
         requires name { IsName name.now }
         requires clock { IsName clock.now }
         requires domains { length here.now.config.now.domains ≤ 16 }

@@ -1,5 +1,5 @@
 -- Words at the front of what is left of a line, and the first line of a text.
-use Rattle.std.proofs.Common.{ℕ, zero, suc, ◌+◌, ◌-◌, ◌==◌, ◌≡◌, ◌<◌, ◌≤◌, Bool, true, false, not, List, [], ◌∷◌, ◌⊎◌, length, take, drop, drop-cons, get_or, map, ◌++◌, None, Some, refl, sym, subst, ap, arith, ◌∙◌}
+use Rattle.std.proofs.Common.{ℕ, suc, ◌+◌, ◌-◌, ◌==◌, ◌≡◌, ◌<◌, ◌≤◌, Bool, true, false, not, List, [], ◌∷◌, length, take, drop, drop-cons, get_or, map, ◌++◌, None, Some, refl, sym, subst, ap, arith, ◌∙◌}
 use Rattle.std.proofs.lemmas.List.{append_assoc, append-nil, map-append, length-drop, take_all, drop_all, drop-drop, get_or-drop}
 use Rattle.std.proofs.lemmas.List.Elements.{All-push}
 use Rattle.std.proofs.lemmas.List.Sums.{prefix_len_stops, prefix_len-le-length}
@@ -104,8 +104,8 @@ word_there line at n m is less hash size =
     let fits : prefix_len is_inner (drop s line) ≤ length (drop s line) = prefix_len-le-length is_inner (drop s line) in
     let count : s + m - s ≡ m = omega arith in (
       gaps_end line at n is ∙ ap (words_from false) here ∙ word_begins b (drop (suc s) line) gap hash ∙ ap (words_from true) (sym here) ∙ word_ends (drop s line)
-      ∙ ap (λ (k : ℕ). take k (drop s line) ∷ words_from false (drop k (drop s line))) (sym same)
-      ∙ (λ i. take (sym count i) (drop s line) ∷ words_from false (drop-drop m s line i)),
+          ∙ ap (λ (k : ℕ). take k (drop s line) ∷ words_from false (drop k (drop s line))) (sym same)
+          ∙ (λ i. take (sym count i) (drop s line) ∷ words_from false (drop-drop m s line i)),
       omega arith,
       omega (arith, same, some),
       omega (arith, same, fits, long, less),

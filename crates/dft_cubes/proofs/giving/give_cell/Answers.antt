@@ -9,4 +9,4 @@ returns-then-has_cell-clause-refused c =
     let cube = cube_of c.args.draft.now in
     let given = c.requires.marked.cells_given in
     cell_twice cube c.args.here.now.place c.args.name.now c.in_ok-from_slice-2.field-0 (rules.flip_flop_named c.args.here.now.design.now c.args.name.now) c.in-Some.cell
-      (sym c.flip_flop_named.ensures.found ∙ c.in-Some.is) (sym (c.has_cell.ensures cube.cells given) ∙ c.if-has_cell.true) c.in_ok-from_slice-2.ensures
+    (sym c.flip_flop_named.ensures.found ∙ c.in-Some.is) (sym (c.has_cell.ensures cube.cells given) ∙ c.if-has_cell.true) c.in_ok-from_slice-2.ensures

@@ -1,4 +1,4 @@
-use Rattle.std.proofs.Common.{◌-◌, length, arith}
+use Rattle.std.proofs.Common.{arith}
 use Rattle.dft_lines.proofs.LineLemmas.{all_words, no_words, one_word}
 use Rattle.dft_lines.proofs.words.words_of.Goals as goal
 

@@ -1,4 +1,4 @@
-use Rattle.std.proofs.Common.{ℕ, ◌-◌, length}
+use Rattle.std.proofs.Common.{◌-◌, length}
 use Rattle.dft_lines.specs.Lines.{WordsBefore}
 use Rattle.dft_lines.proofs.words.words_of.Given as goal
 

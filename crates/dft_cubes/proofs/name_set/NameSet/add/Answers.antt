@@ -1,4 +1,4 @@
-use Rattle.std.proofs.Common.{List, ℕ, cond, ◌++◌, ◌∷◌, [], map, refl, ap, ◌∙◌}
+use Rattle.std.proofs.Common.{List, ℕ, cond, ◌++◌, ◌∷◌, [], refl, ap, ◌∙◌}
 use Rattle.std.proofs.lemmas.List.{map-append}
 use Rattle.dft_cells.specs.WellFormed.{has_name}
 use Rattle.dft_cubes.proofs.NameLemmas.{has-map}
