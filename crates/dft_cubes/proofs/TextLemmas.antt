@@ -20,7 +20,7 @@ lines_at at text = if at == length text + 1 then [] else lines_of (drop at text)
 not_behind : (at n : ℕ) → at ≤ n → (at == n + 1) ≡ false
 not_behind = grind arith
 
-same_number : (m n : ℕ) → m ≡ n → (m == n) ≡ true
+pub same_number : (m n : ℕ) → m ≡ n → (m == n) ≡ true
 same_number = grind arith
 
 next_at : (at n m k : ℕ) → m ≡ k + 1 + at → at ≤ n → (k == (n - at)) ≡ (m == n + 1)

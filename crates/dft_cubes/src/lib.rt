@@ -6,6 +6,7 @@ mod draft;
 mod error;
 mod giving;
 mod here;
+mod laws;
 mod limits;
 mod looking;
 mod name_set;
@@ -16,5 +17,6 @@ mod taken;
 
 pub use cube::{Cube, Merged};
 pub use error::CubeError;
+pub use laws::cubes_are_sound;
 pub use limits::MAX_CUBES;
 pub use reader::read;
