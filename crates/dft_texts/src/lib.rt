@@ -2,6 +2,8 @@
 #![tactic(auto)]
 
 #[cfg(test)]
+mod cube_files;
+#[cfg(test)]
 mod netlist_items;
 #[cfg(test)]
 mod netlist_limits;

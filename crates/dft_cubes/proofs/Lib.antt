@@ -1,0 +1,4 @@
+pub mod NameLemmas
+pub mod GiveLemmas
+pub mod TextLemmas
+pub mod SoundLemmas

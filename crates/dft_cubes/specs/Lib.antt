@@ -1,0 +1,4 @@
+pub mod Cubes
+pub mod NameSetShown
+pub mod Taking
+pub mod Laws

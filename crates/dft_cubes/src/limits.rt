@@ -1,0 +1,2 @@
+/// The most cubes that a file may have.
+pub const MAX_CUBES: usize = 65_536;

@@ -1,0 +1,191 @@
+//! Cube files: what each stands for, or its refusal.
+
+ghost use Rattle.dft_config.specs.Range.{IsInRange};
+
+use dft_base::{Name, Place};
+use dft_cells::Library;
+use dft_config::Config;
+use dft_cubes::{Cube, CubeError, read};
+use dft_netlist::Design;
+use dft_verilog::read as read_netlist;
+use std::alloc::{AllocError, Global};
+use std::test::Fail;
+
+// Nets: clk 0, rst 1, a 2, v[1] 3, v[0] 4, y 5. Instances: f0 0, f1 1, f2 2, g 3.
+static NETLIST: &[u8] =
+    b"module m (clk, rst, a, v, y); input clk, rst, a; input [1:0] v; output y; DFF f0 (.CK(clk), .D(a), .Q(q0)); DFF f1 (.CK(clk), .D(q0), .Q(q1)); DFFR f2 (.CK(clk), .D(q1), .RN(rst), .Q(y)); INV g (.A(q1), .Y(n)); endmodule";
+
+static CONFIG: &[u8] =
+    b"version = 1\ndomains = ['clk']\nresets = ['rst']\nchains = 1\nwarm = 0\nwindow = 1\nring = { stages = 2, channels = 1, taps = [], injectors = [], phase = [[0]] }\ncompactor = { groups = [[0]], mask_inputs = 1 }\n";
+
+static CASES: [(&str, &str); 40] = [
+    // a text, and its cubes with cells and ports by number, or its refusal
+    ("", ""),
+    ("cube k clk\nend\n", " k"),
+    (
+        "cube k clk\ncell f2 1\nport a 0\ncell f0 0\nport v[0] 1\nend\n",
+        " k c2=1 c0=0 p2=0 p4=1",
+    ),
+    (
+        "cube k clk\ncell f0 1\nport a 0\nend\ncube l clk\ncell f0 0\nport a 1\nend\n",
+        " k c0=1 p2=0 l c0=0 p2=1",
+    ),
+    (
+        "# é\n\n\t \r\ncube k clk # x\r\n\tcell\tf0 1\r\n  end  ",
+        " k c0=1",
+    ),
+    ("cube k#1 clk\nend", " k#1"),
+    ("cell f2 1\n", "Q1 1:1"),
+    ("\nend\n", "Q1 2:1"),
+    ("version 1\n", "Q1 1:1"),
+    ("cube k\n", "Q1 1:1"),
+    ("cube k clk clk\n", "Q1 1:1"),
+    ("cube k clk\nend#x\n", "Q1 2:1"),
+    ("cube k clk\nend x\n", "Q1 2:1"),
+    ("cube k clk\ncube l clk\n", "Q1 2:1"),
+    ("cube k clk\ncell f0 2\n", "Q1 2:1"),
+    ("cube k clk\ncell f0 1 1\n", "Q1 2:1"),
+    ("cube k clk\nport a 01\n", "Q1 2:1"),
+    ("cube k clk\ncell zz\u{c} 1\n", "Q1 2:1"),
+    ("cube k\u{7f} clk\n", "Q1 1:1"),
+    ("cube é clk\n", "Q1 1:1"),
+    ("cube k clk\ncell g 1\n", "Q2 2:1 g"),
+    ("cube k clk\ncell zz 1\n", "Q2 2:1 zz"),
+    ("cube k clk\ncell a 1\n", "Q2 2:1 a"),
+    ("cube k clk\nport y 1\n", "Q3 2:1 y"),
+    ("cube k clk\nport v 1\n", "Q3 2:1 v"),
+    ("cube k clk\nport scan_enable 1\n", "Q3 2:1 scan_enable"),
+    ("cube k rst\n", "Q4 1:1 rst"),
+    ("cube k clk\nend\ncube k a\n", "Q4 3:1 a"),
+    ("cube k clk\nend\ncube k clk\n", "Q5 3:1 k"),
+    (
+        "cube k clk\nend\ncube l clk\nend\ncube k clk\nend\n",
+        "Q5 5:1 k",
+    ),
+    ("cube k clk\ncell f2 1\ncell f2 0\nend\n", "Q6 3:1 f2"),
+    ("cube k clk\nport a 1\nport a 1\nend\n", "Q6 3:1 a"),
+    ("cube k clk\ncell f2 1\n", "Q7 3:1"),
+    ("cube k clk", "Q7 1:1"),
+    ("cube k clk\n# end", "Q7 2:1"),
+    ("cube k clk\nport clk 1\nend\n", "Q8 2:1 clk"),
+    ("cube k clk\nport rst 1\nend\n", "Q8 2:1 rst"),
+    ("cube k clk\nport clk 1\ncell zz 1\n", "Q8 2:1 clk"),
+    ("cube k clk\ncell zz 1\nport clk 1\n", "Q2 2:1 zz"),
+    ("cube k clk\nend\ncell f0 1\n", "Q1 3:1"),
+];
+
+fn push_name(line: &mut String, name: &Name) -> Result<(), AllocError> {
+    line.push(' ')?;
+    for byte in name.as_slice() {
+        line.push(char::from(*byte))?;
+    }
+    Ok(())
+}
+
+// The cubes, each with its cells and ports.
+fn cubes_of(alloc: Global, cubes: &[Cube]) -> Result<String, AllocError> {
+    let mut line = String::new(alloc);
+    for cube in cubes {
+        push_name(&mut line, &cube.name)?;
+        for (cell, bit) in cube.cells.as_slice() {
+            let number = cell.0;
+            let bit = u8::from(*bit);
+            line.push_str(&format!(in alloc; " c{number}={bit}")?)?;
+        }
+        for (port, bit) in cube.ports.as_slice() {
+            let number = port.0;
+            let bit = u8::from(*bit);
+            line.push_str(&format!(in alloc; " p{number}={bit}")?)?;
+        }
+    }
+    Ok(line)
+}
+
+// A code, its place, and its name, if it has one.
+fn told(
+    alloc: Global,
+    code: &str,
+    place: Place,
+    name: Option<&Name>,
+) -> Result<String, AllocError> {
+    let number = place.line;
+    let column = place.column;
+    let mut line = format!(in alloc; "{code} {number}:{column}")?;
+    if let Some(name) = name {
+        push_name(&mut line, name)?;
+    }
+    Ok(line)
+}
+
+fn refusal_of(alloc: Global, error: CubeError) -> Result<String, AllocError> {
+    match error {
+        CubeError::Q1 { place } => told(alloc, "Q1", place, None),
+        CubeError::Q2 { place, name } => told(alloc, "Q2", place, Some(&name)),
+        CubeError::Q3 { place, name } => told(alloc, "Q3", place, Some(&name)),
+        CubeError::Q4 { place, name } => told(alloc, "Q4", place, Some(&name)),
+        CubeError::Q5 { place, name } => told(alloc, "Q5", place, Some(&name)),
+        CubeError::Q6 { place, name } => told(alloc, "Q6", place, Some(&name)),
+        CubeError::Q7 { place } => told(alloc, "Q7", place, None),
+        CubeError::Q8 { place, name } => told(alloc, "Q8", place, Some(&name)),
+        CubeError::Q9 { place } => told(alloc, "Q9", place, None),
+        CubeError::Memory(error) => Err(error),
+    }
+}
+
+// What a cube file stands for.
+fn line_of(
+    alloc: Global,
+    text: &[u8],
+    design: &Design,
+    config: &Config,
+) -> Result<String, AllocError>
+    requires { IsInRange config.now }
+{
+    if text.len() > 67_108_864 {
+        return String::from_str(alloc, "too long");
+    }
+    match read(alloc, text, design, config) {
+        Ok(cubes) => cubes_of(alloc, &cubes),
+        Err(error) => refusal_of(alloc, error),
+    }
+}
+
+// What a cube file for the small design stands for.
+fn line_for(alloc: Global, text: &[u8]) -> Result<String, AllocError> {
+    let Ok(design) = read_netlist(alloc, NETLIST, Library::standard(alloc)?) else {
+        return String::from_str(alloc, "no netlist");
+    };
+    let Ok(config) = Config::read(alloc, CONFIG) else {
+        return String::from_str(alloc, "no configuration");
+    };
+    line_of(alloc, text, &design, &config)
+}
+
+#[test]
+fn cube_files_are_read_or_refused(rt: HostRuntime) -> Result<(), Fail> {
+    for (text, wanted) in &CASES {
+        let line = line_for(rt.alloc(), text.as_bytes())?;
+        assert_eq!(rt; line.as_str(), *wanted, "{text}");
+    }
+    Ok(())
+}
+
+// So many empty cubes.
+fn empty_cubes(alloc: Global, count: u32) -> Result<String, AllocError> {
+    let mut text = String::new(alloc);
+    for cube in 0..count {
+        text.push_str(&format!(in alloc; "cube k{cube} clk\nend\n")?)?;
+    }
+    Ok(text)
+}
+
+#[test]
+fn a_cube_too_many_is_refused(rt: HostRuntime) -> Result<(), Fail> {
+    let text = empty_cubes(rt.alloc(), 65_536)?;
+    let line = line_for(rt.alloc(), text.as_bytes())?;
+    assert!(rt; line.len() == 447_642, "all are read");
+    let text = empty_cubes(rt.alloc(), 65_537)?;
+    let line = line_for(rt.alloc(), text.as_bytes())?;
+    assert_eq!(rt; line.as_str(), "Q9 131073:1");
+    Ok(())
+}
