@@ -13,3 +13,5 @@ pub mod Singles
 pub mod Live
 pub mod Ordering
 pub mod Runs
+pub mod Ranking
+pub mod RankedParts

@@ -23,7 +23,7 @@ use Rattle.dft_parts.specs.Standing.{sources_at, GateStands}
 
 -- ---- an instance drives what it lists
 
-get_behind : {X : Type 0} (xs ys : List X) (k : ℕ) (y : X) → slice_get ys k ≡ Some y → slice_get (xs ++ ys) (length xs + k) ≡ Some y
+pub get_behind : {X : Type 0} (xs ys : List X) (k : ℕ) (y : X) → slice_get ys k ≡ Some y → slice_get (xs ++ ys) (length xs + k) ≡ Some y
 get_behind [] ys k y h = ap (slice_get ys) (let e : 0 + k ≡ k = omega arith in e) ∙ h
 get_behind (x ∷ xs) ys k y h = ap (slice_get (x ∷ (xs ++ ys))) (let e : suc (length xs) + k ≡ suc (length xs + k) = omega arith in e) ∙ get_behind xs ys k y h
 
@@ -53,7 +53,7 @@ kept_nets [] o (y ∷ z ∷ ys) h = absurd h.1
 kept_nets (x ∷ xs) o [] h = absurd h
 kept_nets (x ∷ xs) o (y ∷ ys) h = λ i. h.0 i ∷ kept_nets xs o ys h.1 i
 
-gate_inputs : (i pin : ℕ) (xs : List NetId) (o : NetId) → inputs_of i (connections_from pin (gate_roles (length xs)) (at_nets xs ++ AtNet o ∷ [])) ≡ sources_at xs
+pub gate_inputs : (i pin : ℕ) (xs : List NetId) (o : NetId) → inputs_of i (connections_from pin (gate_roles (length xs)) (at_nets xs ++ AtNet o ∷ [])) ≡ sources_at xs
 gate_inputs i pin [] o = refl
 gate_inputs i pin (x ∷ xs) o = ap (λ (s : List Source). Net x.0 ∷ s) (gate_inputs i (suc pin) xs o)
 

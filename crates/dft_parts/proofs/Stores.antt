@@ -107,7 +107,7 @@ lockup_is kind.Opaque h = absurd cc
 
 -- ---- their pins
 
-abbrev shape_as : Kind → List Role → Shape
+abbrev pub shape_as : Kind → List Role → Shape
 shape_as k roles = record { kind = k; roles = roles }
 
 dff_shape : (library : List Cell) → IsWellFormed library →
@@ -122,7 +122,7 @@ dff_shape library well =
       | inr e ↦ inr (ap (λ (o : Option Cell). shape_of_cell o) f.at ∙ (λ i. record { kind = k i; roles = e i }))
     ]
 
-lockup_shape : (library : List Cell) → IsWellFormed library → shape_of library (Library (first_cell is_lockup library)) ≡ shape_as kind.Lockup (AClock ∷ Din ∷ Output ∷ [])
+pub lockup_shape : (library : List Cell) → IsWellFormed library → shape_of library (Library (first_cell is_lockup library)) ≡ shape_as kind.Lockup (AClock ∷ Din ∷ Output ∷ [])
 lockup_shape library well =
     let h = well.lockup in
     let f = found is_lockup library h.0 h.1 h.2 (ap is_lockup h.3) in

@@ -7,6 +7,7 @@ pub mod Sums
 pub mod Growth
 pub mod Single
 pub mod Order
+pub mod Ranks
 pub mod Standing
 pub mod SumTrees
 pub mod Shown

@@ -2,6 +2,7 @@
 
 ghost use Rattle.dft_parts.specs.Growth.{PartsGrow, PartsStay};
 ghost use Rattle.dft_parts.specs.Order.{OrderStays};
+ghost use Rattle.dft_parts.specs.Ranks.{FlipFlopRanked, GateRanked, LockupRanked, OrderRanks, PartsRank, RanksOrder};
 ghost use Rattle.dft_parts.specs.Single.{NewIsFree, StaysSingle, TimesAddUp};
 ghost use Rattle.dft_parts.specs.Standing.{FlopStands, GateStands, LockupStands};
 ghost use Rattle.dft_parts.specs.SumTrees.{SumBit, SumStands, SumValue};
@@ -23,6 +24,17 @@ pub fn parts_stay_single()
 /// Nets that come after what they read can be ordered.
 pub fn order_stays()
     ensures { OrderStays }
+{}
+
+/// Where each instance drives nets that stand above those that it reads, every net can be ordered; an order of a netlist's nets ranks all,
+/// and parts that are ranked leave all ranked: a flip-flop always is, a gate and a lock-up whose output stands above what they read are.
+pub fn ranks_order()
+    ensures order { RanksOrder }
+    ensures ranks { OrderRanks }
+    ensures parts { PartsRank }
+    ensures flip_flop { FlipFlopRanked }
+    ensures gate { GateRanked }
+    ensures lockup { LockupRanked }
 {}
 
 /// In a finished netlist a made gate drives its net from its inputs, a made flip-flop takes its input and shows its bit, and a made

@@ -12,7 +12,9 @@ mod pins;
 mod sums;
 
 pub use edt_ports::EdtPorts;
-pub use laws::{made_parts_drive, order_stays, parts_grow, parts_stay_single, sums_add_up};
+pub use laws::{
+    made_parts_drive, order_stays, parts_grow, parts_stay_single, ranks_order, sums_add_up,
+};
 pub use lists::push_net;
 pub use made::Made;
 pub use made_names::{made_instance, made_net, numbered};
