@@ -1,5 +1,5 @@
 -- A pin that is joined by the builder.
-use Rattle.std.proofs.Common.{ℕ, zero, suc, ◌≡◌, Bool, true, false, List, [], ◌∷◌, Option, None, Some, slice_get, refl, sym, ap, ◌∙◌}
+use Rattle.std.proofs.Common.{ℕ, zero, suc, ◌≡◌, false, List, [], ◌∷◌, Some, slice_get, refl, sym, ap, ◌∙◌}
 use Rattle.std.specs.Prelude.{slice_set}
 use Rattle.std.proofs.lemmas.Option.{none-some, same_Some}
 use Rattle.dft_netlist.specs.declared.ids.NetId.{NetId}
@@ -32,19 +32,6 @@ pin_made s n i pin net free is =
     ∙ ap (λ (xs : List Instance). record s { netlist = record s.netlist { instances = xs } }) (instance_set i.0 pin net s.netlist.instances is.instance is.at is_open)
 
 -- ---- open pins
-
-unconnected_is : (o : Option Signal) → is_unconnected o ≡ true → o ≡ Some Unconnected
-unconnected_is None h = absurd cc
-unconnected_is (Some Unconnected) h = refl
-unconnected_is (Some (Net net)) h = absurd cc
-unconnected_is (Some (Constant bit)) h = absurd cc
-
-open_by : (n : Netlist) (i : InstanceId) (pin : ℕ) (o : Option Instance) → slice_get n.instances i.0 ≡ o → is_open_in o pin ≡ true → IsUnconnected n i pin
-open_by n i pin None at h = absurd cc
-open_by n i pin (Some x) at h = record { instance = x; at = at; free = unconnected_is (slice_get x.pins pin) h }
-
-pub open_is : (n : Netlist) (i : InstanceId) (pin : ℕ) → is_open_at n i pin ≡ true → IsUnconnected n i pin
-open_is n i pin h = open_by n i pin (slice_get n.instances i.0) refl h
 
 -- what is not open stays
 pin_left : (pin : ℕ) (net : NetId) (xs : List Signal) → is_unconnected (slice_get xs pin) ≡ false → pin_joined pin net xs ≡ xs
