@@ -1,5 +1,5 @@
 -- The recipe of the chains: nets for open outputs, the links between neighbours with lock-ups between domains, and the scan inputs.
-use Rattle.std.specs.Prelude.{ℕ, ◌+◌, ◌-◌, ◌==◌, List, [], ◌∷◌, length, Option, None, Some, position, slice_get, slice_index_or, option_map, if◌then◌else◌}
+use Rattle.std.specs.Prelude.{ℕ, ◌+◌, ◌-◌, ◌==◌, List, [], ◌∷◌, length, Option, None, Some, slice_get, slice_index_or, option_map, if◌then◌else◌}
 use Rattle.std.specs.List.{range_with_len}
 use Rattle.dft_cells.specs.declared.kind.Role.{Role}
 use Rattle.dft_cells.specs.declared.kind.Role.TheVariants.{Output, ScanIn}
@@ -17,7 +17,7 @@ use Rattle.dft_stitch.specs.declared.places.LockupPlace.{LockupPlace}
 use Rattle.dft_parts.specs.Recipes.{Recipe, pure, ◌>>=◌, ◌>>◌, each, collect, net_at, a_net, a_lockup, a_pin}
 use Rattle.dft_insert.specs.Moves.{Gap, moved}
 use Rattle.dft_insert.specs.Pieces.{domain_in}
-use Rattle.dft_insert.specs.Stitching.{own_output}
+use Rattle.dft_insert.specs.Stitching.{number_of, own_output}
 
 -- ---- pins of scan cells
 
@@ -36,7 +36,7 @@ a_numbered_pin cell (Some pin) net = a_pin cell pin net
 
 -- the first pin of a role
 abbrev pub a_role_pin : Netlist → InstanceId → Role → NetId → Recipe (Unit {0})
-a_role_pin n cell role net = a_numbered_pin cell (position (same_role role) (scan_roles n cell)) net
+a_role_pin n cell role net = a_numbered_pin cell (number_of (same_role role) 0 (scan_roles n cell)) net
 
 -- the scan input of a cell, if there is such a cell
 abbrev pub a_scan_in : Netlist → Option InstanceId → NetId → Recipe (Unit {0})

@@ -58,7 +58,7 @@ pub fn make_scanned(
 /// Makes the hardware of a style in its frame.
 fn fill(
     alloc: Global,
-    frame: DesignBuilder,
+    builder: DesignBuilder,
     design: &Design,
     config: &Config,
     chains: &Chains,
@@ -66,18 +66,18 @@ fn fill(
 ) -> Result<DesignBuilder, InsertError>
     requires range { IsInRange config.now }
     requires planned { chains.now ≡ plan_of design.now config.now }
-    requires frame { frame ≡ frame style design.now config.now }
+    requires frame { builder ≡ frame style design.now config.now }
     ensures netlist { IfOk result (λ builder. builder ≡ scanned_netlist style design.now config.now chains.now) }
     ensures accepted { IfOk result (λ builder. parts_refusal (framed style design.now config.now) (parts_of style design.now config.now chains.now) ≡ None) }
     ensures refused { IfErr result (IsRefusal (option_map as_told (parts_refusal (framed style design.now config.now) (parts_of style design.now config.now chains.now)))) }
 {
-    let width = frame.ports().len() - design.ports().len();
+    let width = builder.ports().len() - design.ports().len();
     let gap = Gap::new(design, width as u32);
     let made = Made {
         nets: 0,
         instances: 0,
     };
-    let mut parts = PartsBuilder::new(alloc, frame, made);
+    let mut parts = PartsBuilder::new(alloc, builder, made);
     match make(&mut parts, design, config, chains, style, &gap) {
         Ok(()) => Ok(parts.into_builder()),
         Err(error) => Err(told(error)),

@@ -114,6 +114,7 @@ fn make_crossing(
     ensures makes { Makes (λ _. tt) (a_crossing design.now config.now gap.now cells.now row.now lockup) parts.old result parts.new }
     ensures nets { OnOk result (length parts.old.netlist.nets ≤ length parts.new.netlist.nets) }
 {
+    design.soundness();
     let after = usize::from(lockup.after);
     let clock = domain_net(design, config, gap, lockup.domain);
     let net = parts.net()?;

@@ -107,7 +107,8 @@ fn make_edt_chains(
     ensures makes { Makes (λ _. tt) (each (an_edt_chain design.now config.now chains.now gap.now ports.now phases.now rows.now) (range_with_len 0 (length chains.now.chains))) parts.old result parts.new }
     ensures nets { OnOk result (length parts.old.netlist.nets ≤ length parts.new.netlist.nets) }
 {
-    for chain in 0..chains.count() {
+    let count = chains.count();
+    for chain in 0..count {
         let phase = net_at(phases, usize::from(chain));
         let row = row_at(rows, chain);
         make_edt_chain(parts, design, config, chains, gap, ports, chain, phase, row)?;

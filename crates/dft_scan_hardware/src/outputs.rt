@@ -1,6 +1,6 @@
 //! The nets at the outputs of the cells.
 
-ghost use Rattle.std.specs.Prelude.{◌≡◌, ◌+◌, ◌-◌, ◌<◌, ◌≤◌, IfOk, OnOk, length};
+ghost use Rattle.std.specs.Prelude.{◌≡◌, ◌+◌, ◌++◌, ◌∷◌, ◌<◌, ◌≤◌, [], IfOk, OnOk, length};
 ghost use Rattle.std.specs.List.{All};
 ghost use Rattle.dft_netlist.specs.declared.limits.TheConstants.{MAX_PORTS};
 ghost use Rattle.dft_parts.specs.Recipes.{AreThere, Makes};
@@ -32,7 +32,8 @@ pub(crate) fn make_rows(
     ensures nets { OnOk result (length parts.old.netlist.nets ≤ length parts.new.netlist.nets) }
 {
     let mut rows = Vec::new(parts.alloc());
-    for chain in 0..chains.count() {
+    let count = chains.count();
+    for chain in 0..count {
         let row = make_row(parts, design, gap, chains.chain(chain))?;
         push_row(&mut rows, row)?;
     }
@@ -80,6 +81,7 @@ fn make_output(
     ensures there { IfOk result (λ net. net.0 < length parts.new.netlist.nets) }
     ensures nets { OnOk result (length parts.old.netlist.nets ≤ length parts.new.netlist.nets) }
 {
+    design.soundness();
     match own_output(design, cell) {
         Some(net) => Ok(gap.moved(net)),
         None => open_output(parts, design, cell),

@@ -1,10 +1,11 @@
 //! Pins of scan cells that are joined.
 
-ghost use Rattle.std.specs.Prelude.{◌≡◌, ◌<◌, ◌≤◌, ◌^◌, Ok, length, map, option_map, position, slice_get};
+ghost use Rattle.std.specs.Prelude.{◌≡◌, ◌<◌, ◌≤◌, ◌^◌, Ok, length, map, slice_get};
 ghost use Rattle.dft_cells.specs.WellFormed.{role_of};
 ghost use Rattle.dft_netlist.specs.Logic.{same_role};
 ghost use Rattle.dft_rules.specs.Rules.{scan_cell_of};
 ghost use Rattle.dft_parts.specs.Recipes.{outcome};
+ghost use Rattle.dft_insert.specs.Stitching.{number_of};
 ghost use Rattle.dft_scan_hardware.specs.Chained.{a_role_pin, a_scan_in, scan_roles};
 
 use dft_cells::{CellId, Pin, Role};
@@ -50,7 +51,7 @@ pub(crate) fn join_role(
 /// The number of the first pin of this role, if there is one.
 fn pin_of(pins: &[Pin], role: Role) -> Option<u32>
     requires { length pins.now < 2 ^ 32 }
-    ensures { result ≡ position (same_role role) (map role_of pins.now) }
+    ensures { result ≡ number_of (same_role role) 0 (map role_of pins.now) }
 {
     for number in 0..pins.len() as u32 {
         if is_role(role, pins[number as usize].role) {

@@ -1,6 +1,6 @@
 //! What style Plain makes.
 
-ghost use Rattle.std.specs.Prelude.{◌≡◌, ◌+◌, ◌<◌, ◌≤◌, OnOk, length};
+ghost use Rattle.std.specs.Prelude.{◌≡◌, ◌+◌, ◌<◌, ◌≤◌, ◌^◌, OnOk, length};
 ghost use Rattle.std.specs.List.{All, range_with_len};
 ghost use Rattle.dft_netlist.specs.declared.limits.TheConstants.{MAX_NETS, MAX_PORTS};
 ghost use Rattle.dft_parts.specs.Recipes.{AreThere, Makes, each};
@@ -25,7 +25,7 @@ pub(crate) fn make_plain(
     gap: &Gap,
 ) -> Result<(), NetlistError>
     requires room { gap.now.width ≤ MAX_PORTS }
-    requires before { gap.now.before ≤ MAX_NETS }
+    requires few { length parts.old.netlist.nets ≤ MAX_NETS }
     requires ports { gap.now.before + 1 + config.now.chains + length chains.now.chains ≤ length parts.old.netlist.nets }
     requires nets { length design.now.nets + gap.now.width ≤ length parts.old.netlist.nets }
     ensures makes { Makes (λ _. tt) (plain_recipe design.now config.now chains.now gap.now) parts.old result parts.new }
@@ -45,14 +45,15 @@ fn make_plain_chains(
     rows: &[Listed<NetId>],
 ) -> Result<(), NetlistError>
     requires room { gap.now.width ≤ MAX_PORTS }
-    requires before { gap.now.before ≤ MAX_NETS }
+    requires fits { gap.now.before + 1 + config.now.chains + length chains.now.chains < 2 ^ 32 }
     requires ports { gap.now.before + 1 + length chains.now.chains ≤ length parts.old.netlist.nets }
     requires nets { length design.now.nets + gap.now.width ≤ length parts.old.netlist.nets }
     requires rows { All (AreThere parts.old.netlist) rows.now }
     ensures makes { Makes (λ _. tt) (each (a_plain_chain design.now config.now chains.now gap.now rows.now) (range_with_len 0 (length chains.now.chains))) parts.old result parts.new }
     ensures nets { OnOk result (length parts.old.netlist.nets ≤ length parts.new.netlist.nets) }
 {
-    for chain in 0..chains.count() {
+    let count = chains.count();
+    for chain in 0..count {
         let entry = NetId(gap.before() + 1 + u32::from(chain));
         let row = row_at(rows, chain);
         make_chain(parts, design, config, chains, gap, chain, row, entry)?;
@@ -68,13 +69,14 @@ fn make_plain_ends(
     gap: &Gap,
     rows: &[Listed<NetId>],
 ) -> Result<(), NetlistError>
-    requires before { gap.now.before ≤ MAX_NETS }
+    requires fits { gap.now.before + 1 + config.now.chains + length chains.now.chains < 2 ^ 32 }
     requires ports { gap.now.before + 1 + config.now.chains + length chains.now.chains ≤ length parts.old.netlist.nets }
     requires rows { All (AreThere parts.old.netlist) rows.now }
     ensures makes { Makes (λ _. tt) (each (a_plain_end config.now gap.now rows.now) (range_with_len 0 (length chains.now.chains))) parts.old result parts.new }
 {
     let first = gap.before() + 1 + u32::from(config.chains);
-    for chain in 0..chains.count() {
+    let count = chains.count();
+    for chain in 0..count {
         let end = last_net(row_at(rows, chain));
         parts.gate(Kind::Buf, &[end], NetId(first + u32::from(chain)))?;
     }

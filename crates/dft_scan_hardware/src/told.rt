@@ -12,7 +12,7 @@ pub(crate) fn told(error: NetlistError) -> InsertError
         NetlistError::DuplicateName { name } => InsertError::NameClash { name },
         NetlistError::TooMany { what, limit } => InsertError::TooMany { what, limit },
         NetlistError::Memory(error) => InsertError::Memory(error),
-        NetlistError::MultipleDrivers { name } => InsertError::NameClash { name },
-        NetlistError::Loop { name } => InsertError::NameClash { name },
+        NetlistError::MultipleDrivers { net } => InsertError::NameClash { name: net },
+        NetlistError::Loop { net } => InsertError::NameClash { name: net },
     }
 }

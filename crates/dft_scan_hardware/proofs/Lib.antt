@@ -1,0 +1,4 @@
+pub mod AddedPorts
+pub mod Frames
+pub mod PinLemmas
+pub mod MadeParts
