@@ -1,5 +1,5 @@
 -- A netlist that grows by made parts, one after another.
-use Rattle.std.specs.Prelude.{ℕ, zero, suc, ◌+◌, List, [], ◌∷◌, ◌++◌, Option, None, Some}
+use Rattle.std.specs.Prelude.{ℕ, zero, suc, ◌+◌, Bool, true, false, List, [], ◌∷◌, ◌++◌, Option, None, Some, slice_get}
 use Rattle.dft_netlist.specs.declared.ids.NetId.{NetId}
 use Rattle.dft_netlist.specs.declared.ids.InstanceId.{InstanceId}
 use Rattle.dft_netlist.specs.declared.instance.CellRef.{CellRef}
@@ -59,6 +59,20 @@ instance_joined (suc i) pin net (x ∷ xs) = x ∷ instance_joined i pin net xs
 
 abbrev pub with_pin : Making → InstanceId → (pin : ℕ) → NetId → Making
 with_pin s instance pin net = record s { netlist = record s.netlist { instances = instance_joined instance.0 pin net s.netlist.instances } }
+
+-- whether a pin of this number is there, joined to nothing
+abbrev pub is_unconnected : Option Signal → Bool
+is_unconnected None = false
+is_unconnected (Some Unconnected) = true
+is_unconnected (Some (Net net)) = false
+is_unconnected (Some (Constant bit)) = false
+
+abbrev pub is_open_in : Option Instance → (pin : ℕ) → Bool
+is_open_in None pin = false
+is_open_in (Some x) pin = is_unconnected (slice_get x.pins pin)
+
+abbrev pub is_open_at : Netlist → InstanceId → (pin : ℕ) → Bool
+is_open_at n instance pin = is_open_in (slice_get n.instances instance.0) pin
 
 -- one part more
 abbrev pub with_part : Making → Part → Making

@@ -1,9 +1,9 @@
-ghost use Rattle.std.specs.Prelude.{◌≡◌, ◌<◌, ◌≤◌, [], Some, IfOk, OnOk, length};
+ghost use Rattle.std.specs.Prelude.{◌≡◌, ◌<◌, ◌≤◌, [], Some, IfOk, OnOk, length, slice_get};
 ghost use Rattle.std.specs.List.{All};
 ghost use Rattle.dft_cells.specs.WellFormed.{TakesInputs};
 ghost use Rattle.dft_netlist.specs.Building.{IsUnconnected};
 ghost use Rattle.dft_netlist.specs.Sound.{IsInstanceOf, is_primitive};
-ghost use Rattle.dft_parts.specs.Parts.{with_pin};
+ghost use Rattle.dft_parts.specs.Parts.{is_open_at, is_unconnected, with_pin};
 ghost use Rattle.dft_parts.specs.Recipes.{Makes, a_net, an_instance};
 
 use crate::made::Made;
@@ -104,5 +104,36 @@ impl PartsBuilder {
         ensures { self.new ≡ with_pin self.old instance pin net }
     {
         self.builder.connect(instance, pin, net);
+    }
+
+    /// Joins a pin of an instance to this net where it is joined to nothing, and else leaves it.
+    pub fn join(&mut self, instance: InstanceId, pin: u32, net: NetId)
+        requires { net.0 < length self.old.netlist.nets }
+        ensures { self.new ≡ with_pin self.old instance pin net }
+    {
+        if !self.is_open(instance, pin) {
+            return;
+        }
+        self.pin(instance, pin, net);
+    }
+
+    /// Whether an instance has this pin, joined to nothing.
+    fn is_open(&self, instance: InstanceId, pin: u32) -> bool
+        ensures { result ≡ is_open_at self.now.netlist instance pin }
+    {
+        match self.builder.instances().get(instance.0 as usize) {
+            Some(instance) => is_open(instance.pins.as_slice(), pin as usize),
+            None => false,
+        }
+    }
+}
+
+/// Whether there is a pin of this number, joined to nothing.
+fn is_open(pins: &[Signal], pin: usize) -> bool
+    ensures { result ≡ is_unconnected (slice_get pins.now pin) }
+{
+    match pins.get(pin) {
+        Some(Signal::Unconnected) => true,
+        _ => false,
     }
 }
