@@ -114,7 +114,7 @@ pub record AreFew (ports nets instances : ℕ) : Type 0 where
   pub few_nets : nets ≤ MAX_NETS
   pub few_instances : instances ≤ MAX_INSTANCES
 
-le_by : (m k : ℕ) (error : InsertError) (b : Bool) → nat_le m k ≡ b → (if b then None else Some error) ≡ None → m ≤ k
+pub le_by : (m k : ℕ) (error : InsertError) (b : Bool) → nat_le m k ≡ b → (if b then None else Some error) ≡ None → m ≤ k
 le_by m k error true is e = grind (arith, nat_tests)
 le_by m k error false is e = absurd (none-some error (sym e))
 

@@ -53,7 +53,7 @@ connected gap Unconnected h = h
 wider : (n : Netlist) (config : Config) (plan : Plan) → length n.nets + length (added_ports Plain config) ≤ length (plain_netlist n config plan).nets
 wider n config plan = omega (arith, nets_length n config plan)
 
-join_sound : (gap : Gap) (count all : ℕ) (join : Join) → count + gap.width ≤ all → IsAJoin count join.target join.source → IsAJoin all (moved_join gap join).target (moved_join gap join).source
+pub join_sound : (gap : Gap) (count all : ℕ) (join : Join) → count + gap.width ≤ all → IsAJoin count join.target join.source → IsAJoin all (moved_join gap join).target (moved_join gap join).source
 join_sound gap count all join le sound = record {
   target_live = omega (arith, le, moved_less gap join.target.0 count sound.target_live);
   source_live = signal_live gap count all join.source le sound.source_live;

@@ -52,7 +52,7 @@ less_by net count width false less = omega (arith, less)
 pub moved_less : (gap : Gap) (net count : ℕ) → net < count → moved gap net < count + gap.width
 moved_less gap net count less = less_by net count gap.width (nat_lt net gap.before) less
 
-none_less : (gap : Gap) (o : Option ℕ) (count : ℕ) → 0 < count + gap.width → ((net : ℕ) → o ≡ Some net → net < count) → moved_or_none gap o < count + gap.width
+pub none_less : (gap : Gap) (o : Option ℕ) (count : ℕ) → 0 < count + gap.width → ((net : ℕ) → o ≡ Some net → net < count) → moved_or_none gap o < count + gap.width
 none_less gap None count some live = some
 none_less gap (Some net) count some live = moved_less gap net count (live net refl)
 
@@ -75,10 +75,10 @@ own_by : (n : Netlist) (i own : ℕ) (o : Option Instance) → IsNetlist n → s
 own_by n i own None sound at e = absurd (none-some own e)
 own_by n i own (Some x) sound at e = pin_live (length n.nets) i 0 Output (shape_of n.library x.cell).roles x.pins own (sound.instances i x at).live e
 
-own_live : (n : Netlist) (cell : InstanceId) (own : ℕ) → IsNetlist n → own_output n cell ≡ Some own → own < length n.nets
+pub own_live : (n : Netlist) (cell : InstanceId) (own : ℕ) → IsNetlist n → own_output n cell ≡ Some own → own < length n.nets
 own_live n cell own sound e = own_by n cell.0 own (slice_get n.instances cell.0) sound refl e
 
-output_own_live : (n : Netlist) (o : Option InstanceId) (own : ℕ) → IsNetlist n → option_and_then (own_output n) o ≡ Some own → own < length n.nets
+pub output_own_live : (n : Netlist) (o : Option InstanceId) (own : ℕ) → IsNetlist n → option_and_then (own_output n) o ≡ Some own → own < length n.nets
 output_own_live n None own sound e = absurd (none-some own e)
 output_own_live n (Some cell) own sound e = own_live n cell own sound e
 
@@ -109,7 +109,7 @@ input_by : (count net : ℕ) (k : NetId) (b : Bool) → k.0 < count → option_m
 input_by count net k true less e = omega (arith, same_Some k.0 net e, less)
 input_by count net k false less e = absurd (none-some net e)
 
-input_live : (n : Netlist) (name : Text) (o : Option NetId) (net : ℕ) → find_net n name ≡ o → option_map (λ (k : NetId). k.0) (option_and_then (λ (k : NetId). if is_input (driver n k.0) then Some k else None) o) ≡ Some net → net < length n.nets
+pub input_live : (n : Netlist) (name : Text) (o : Option NetId) (net : ℕ) → find_net n name ≡ o → option_map (λ (k : NetId). k.0) (option_and_then (λ (k : NetId). if is_input (driver n k.0) then Some k else None) o) ≡ Some net → net < length n.nets
 input_live n name None net found e = absurd (none-some net e)
 input_live n name (Some k) net found e = input_by (length n.nets) net k (is_input (driver n k.0)) (net_there n name k found) e
 

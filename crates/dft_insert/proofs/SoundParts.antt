@@ -41,7 +41,7 @@ signal_live gap count all (Net net) le live = omega (arith, le, moved_less gap n
 signal_live gap count all (Constant bit) le live = tt
 signal_live gap count all Unconnected le live = tt
 
-moved_live : (gap : Gap) (count all : ℕ) (pins : List Signal) → count + gap.width ≤ all → AreLive count pins → AreLive all (map (moved_signal gap) pins)
+pub moved_live : (gap : Gap) (count all : ℕ) (pins : List Signal) → count + gap.width ≤ all → AreLive count pins → AreLive all (map (moved_signal gap) pins)
 moved_live gap count all pins le live place s at =
     let it = map_at (moved_signal gap) pins place s at in subst (IsLive all) it.2 (signal_live gap count all it.0 le (live place it.0 it.1))
 
@@ -50,7 +50,7 @@ moved_constant gap (Net net) bit e = absurd cc
 moved_constant gap (Constant b) bit e = e
 moved_constant gap Unconnected bit e = e
 
-moved_outputs : (gap : Gap) (roles : List Role) (pins : List Signal) → NoConstantOutput roles pins → NoConstantOutput roles (map (moved_signal gap) pins)
+pub moved_outputs : (gap : Gap) (roles : List Role) (pins : List Signal) → NoConstantOutput roles pins → NoConstantOutput roles (map (moved_signal gap) pins)
 moved_outputs gap roles pins none pin role bit at is there =
     let it = map_at (moved_signal gap) pins pin (Constant bit) there in none pin role bit at is (it.1 ∙ ap Some (moved_constant gap it.0 bit it.2))
 
@@ -76,18 +76,18 @@ stitched_width i e o (Preset ∷ roles) pins = ap suc (stitched_width i e o role
 stitched_width i e o (Output ∷ roles) pins = ap suc (stitched_width i e o roles (drop 1 pins))
 stitched_width i e o (Inverted ∷ roles) pins = ap suc (stitched_width i e o roles (drop 1 pins))
 
-live_none : (all : ℕ) → AreLive all []
+pub live_none : (all : ℕ) → AreLive all []
 live_none all place s at = absurd (none-some s at)
 
-live_cons : (all : ℕ) (x : Signal) (xs : List Signal) → IsLive all x → AreLive all xs → AreLive all (x ∷ xs)
+pub live_cons : (all : ℕ) (x : Signal) (xs : List Signal) → IsLive all x → AreLive all xs → AreLive all (x ∷ xs)
 live_cons all x xs here more zero s at = subst (IsLive all) (same_Some x s at) here
 live_cons all x xs here more (suc place) s at = more place s at
 
-live_drop : (all : ℕ) (pins : List Signal) → AreLive all pins → AreLive all (drop 1 pins)
+pub live_drop : (all : ℕ) (pins : List Signal) → AreLive all pins → AreLive all (drop 1 pins)
 live_drop all [] live = live
 live_drop all (x ∷ pins) live = λ place s at. live (suc place) s at
 
-live_first : (all : ℕ) (pins : List Signal) → AreLive all pins → IsLive all (slice_index_or pins zero Unconnected)
+pub live_first : (all : ℕ) (pins : List Signal) → AreLive all pins → IsLive all (slice_index_or pins zero Unconnected)
 live_first all [] live = tt
 live_first all (x ∷ pins) live = live 0 x refl
 
@@ -104,18 +104,18 @@ stitched_live all i e o (Preset ∷ roles) pins li le lo live = live_cons all (s
 stitched_live all i e o (Inverted ∷ roles) pins li le lo live = live_cons all (slice_index_or pins zero Unconnected) (stitched_pins i e o roles (drop 1 pins)) (live_first all pins live) (stitched_live all i e o roles (drop 1 pins) li le lo (live_drop all pins live))
 
 -- no output is joined to a constant, pin by pin
-none_none : (pins : List Signal) → NoConstantOutput [] pins
+pub none_none : (pins : List Signal) → NoConstantOutput [] pins
 none_none pins pin role bit at is there = none-some role at
 
-none_cons : (r : Role) (roles : List Role) (s : Signal) (pins : List Signal) → (is_output r ≡ true → (bit : Bool) → s ≡ Constant bit → ⊥) → NoConstantOutput roles pins → NoConstantOutput (r ∷ roles) (s ∷ pins)
+pub none_cons : (r : Role) (roles : List Role) (s : Signal) (pins : List Signal) → (is_output r ≡ true → (bit : Bool) → s ≡ Constant bit → ⊥) → NoConstantOutput roles pins → NoConstantOutput (r ∷ roles) (s ∷ pins)
 none_cons r roles s pins here more zero role bit at is there = here (ap is_output (same_Some r role at) ∙ is) bit (same_Some s (Constant bit) there)
 none_cons r roles s pins here more (suc pin) role bit at is there = more pin role bit at is there
 
-none_drop : (r : Role) (roles : List Role) (pins : List Signal) → NoConstantOutput (r ∷ roles) pins → NoConstantOutput roles (drop 1 pins)
+pub none_drop : (r : Role) (roles : List Role) (pins : List Signal) → NoConstantOutput (r ∷ roles) pins → NoConstantOutput roles (drop 1 pins)
 none_drop r roles [] none pin role bit at is there = none-some (Constant bit) there
 none_drop r roles (s ∷ pins) none pin role bit at is there = none (suc pin) role bit at is there
 
-none_first : (r : Role) (roles : List Role) (pins : List Signal) (bit : Bool) → NoConstantOutput (r ∷ roles) pins → is_output r ≡ true → slice_index_or pins zero Unconnected ≡ Constant bit → ⊥
+pub none_first : (r : Role) (roles : List Role) (pins : List Signal) (bit : Bool) → NoConstantOutput (r ∷ roles) pins → is_output r ≡ true → slice_index_or pins zero Unconnected ≡ Constant bit → ⊥
 none_first r roles [] bit none is e = cc
 none_first r roles (s ∷ pins) bit none is e = none zero r bit refl is (ap Some e)
 
@@ -133,7 +133,7 @@ stitched_outputs i e net (Reset ∷ roles) pins none = none_cons Reset roles (sl
 stitched_outputs i e net (Preset ∷ roles) pins none = none_cons Preset roles (slice_index_or pins zero Unconnected) (stitched_pins i e (at_net net) roles (drop 1 pins)) (λ is. absurd cc) (stitched_outputs i e net roles (drop 1 pins) (none_drop Preset (shared_roles roles) pins none))
 
 -- the flip-flop has its scan cell's pins but those for scan
-pair_shared : (k : Kind) (old : List Role) (l : Kind) (new : List Role) → ScanPair k old l new → old ≡ shared_roles new
+pub pair_shared : (k : Kind) (old : List Role) (l : Kind) (new : List Role) → ScanPair k old l new → old ≡ shared_roles new
 pair_shared k old l new Plain = refl
 pair_shared k old l new PlainBoth = refl
 pair_shared k old l new Resets = refl
@@ -141,7 +141,7 @@ pair_shared k old l new ResetsBoth = refl
 pair_shared k old l new Sets = refl
 pair_shared k old l new SetsBoth = refl
 
-pair_modelled : (k : Kind) (old : List Role) (l : Kind) (new : List Role) → ScanPair k old l new → l ≡ kind.Opaque → ⊥
+pub pair_modelled : (k : Kind) (old : List Role) (l : Kind) (new : List Role) → ScanPair k old l new → l ≡ kind.Opaque → ⊥
 pair_modelled k old l new Plain e = cc
 pair_modelled k old l new PlainBoth e = cc
 pair_modelled k old l new Resets e = cc
@@ -154,10 +154,10 @@ there_by : (library : List Cell) (k : ℕ) (o : Option Cell) → slice_get libra
 there_by library k None at modelled = absurd (modelled refl)
 there_by library k (Some cell) at modelled = slice_get_within library k cell at
 
-there : (library : List Cell) (id : CellId) → ((shape_of library (Library id)).kind ≡ kind.Opaque → ⊥) → id.0 < length library
+pub there : (library : List Cell) (id : CellId) → ((shape_of library (Library id)).kind ≡ kind.Opaque → ⊥) → id.0 < length library
 there library id modelled = there_by library id.0 (slice_get library id.0) refl modelled
 
-named_by : (library : List Cell) (name : Option Text) (ref : CellRef) (id : CellId) → scan_cell_in library ref ≡ Some id → IsCellOf library name ref → is_some name ≡ true
+pub named_by : (library : List Cell) (name : Option Text) (ref : CellRef) (id : CellId) → scan_cell_in library ref ≡ Some id → IsCellOf library name ref → is_some name ≡ true
 named_by library name (Library cell) id e fits = fits.1
 named_by library name (Gate k inputs) id e fits = absurd (none-some id e)
 

@@ -32,7 +32,7 @@ split_from from (x ∷ xs) ys e =
     let after : suc from + length xs ≡ from + suc (length xs) = omega arith in
     (ap (λ (z : NetId). z ∷ xs) head ∙ ap (λ (zs : List NetId). record { 0 = from } ∷ zs) more.0, more.1 ∙ ap (λ k. nets_from k (length ys)) after)
 
-numbered_from : (from : ℕ) (ports : List Port) → ((k : ℕ) (port : Port) → slice_get ports k ≡ Some port → length port.bits ≡ length (bit_names port.name port.range)) → bits_of ports ≡ nets_from from (length (bits_of ports)) → AreNumbered from ports
+pub numbered_from : (from : ℕ) (ports : List Port) → ((k : ℕ) (port : Port) → slice_get ports k ≡ Some port → length port.bits ≡ length (bit_names port.name port.range)) → bits_of ports ≡ nets_from from (length (bits_of ports)) → AreNumbered from ports
 numbered_from from [] wide e = tt
 numbered_from from (port ∷ ports) wide e =
     let both = split_from from port.bits (bits_of ports) e in
@@ -40,16 +40,16 @@ numbered_from from (port ∷ ports) wide e =
     (both.0 ∙ ap (nets_from from) width, numbered_from (from + length (bit_names port.name port.range)) ports (λ k p at. wide (suc k) p at) (both.1 ∙ ap (λ k. nets_from (from + k) (length (bits_of ports))) width))
 
 -- the names of added ports' bits are the ports'
-names_from : (net : ℕ) (ports : List NewPort) → bit_names_of (ports_from net ports) ≡ map port_name ports
+pub names_from : (net : ℕ) (ports : List NewPort) → bit_names_of (ports_from net ports) ≡ map port_name ports
 names_from net [] = refl
 names_from net (port ∷ ports) = ap (λ names. port.name ∷ names) (names_from (suc net) ports)
 
-added_numbered : (net : ℕ) (ports : List NewPort) → AreNumbered net (ports_from net ports)
+pub added_numbered : (net : ℕ) (ports : List NewPort) → AreNumbered net (ports_from net ports)
 added_numbered net [] = tt
 added_numbered net (port ∷ ports) = (refl, subst (λ k. AreNumbered k (ports_from (suc net) ports)) (let after : suc net ≡ net + 1 = omega arith in after) (added_numbered (suc net) ports))
 
 -- the first nets are those of the ports
-front_nets : (n : Netlist) → IsNetlist n → bit_names_of n.ports ≡ take (length (bits_of n.ports)) n.nets
+pub front_nets : (n : Netlist) → IsNetlist n → bit_names_of n.ports ≡ take (length (bits_of n.ports)) n.nets
 front_nets n sound =
     sym (take-append_seam (bit_names_of n.ports) sound.bits.rest) ∙ ap (λ k. take k (bit_names_of n.ports ++ sound.bits.rest)) (length-bits n.ports sound.widths) ∙ ap (take (length (bits_of n.ports))) (sym sound.bits.same)
 
@@ -90,7 +90,7 @@ ports_stand n b new sound is added =
     added ∙ ap (λ (m : Netlist). with_things m (port_things n.ports)) is ∙ with_all_ports (empty_netlist n.name n.library) n.ports
     ∙ ap (λ nets. record (with_ports n) { nets = nets }) (front_nets n sound)
 
-front_count : (n : Netlist) → IsNetlist n → length (take (before_of n) n.nets) ≡ before_of n
+pub front_count : (n : Netlist) → IsNetlist n → length (take (before_of n) n.nets) ≡ before_of n
 front_count n sound = ap length (sym (front_nets n sound)) ∙ length-bits n.ports sound.widths
 
 -- the added ports

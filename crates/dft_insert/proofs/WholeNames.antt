@@ -69,7 +69,7 @@ buffer_names_added q lockups from (suc count) =
 
 -- ---- the names of the scanned netlist
 
-no_vectors : (net : ℕ) (ports : List NewPort) → filter_map vector_name (ports_from net ports) ≡ []
+pub no_vectors : (net : ℕ) (ports : List NewPort) → filter_map vector_name (ports_from net ports) ≡ []
 no_vectors net [] = refl
 no_vectors net (port ∷ ports) = no_vectors (suc net) ports
 
@@ -108,7 +108,7 @@ nets_counted q k xs added made =
       ap (times_named q) (take-append-drop k xs),
     )
 
-vectors_counted : (q : Text) (net : ℕ) (ports : List Port) (added : List NewPort) → times_named q (filter_map vector_name (ports ++ ports_from net added)) ≡ times_named q (filter_map vector_name ports)
+pub vectors_counted : (q : Text) (net : ℕ) (ports : List Port) (added : List NewPort) → times_named q (filter_map vector_name (ports ++ ports_from net added)) ≡ times_named q (filter_map vector_name ports)
 vectors_counted q net ports added = omega (arith, shown_append vector_name q ports (ports_from net added), ap (times_named q) (no_vectors net added))
 
 instances_counted : (q : Text) (y : Layout) (config : Config) (entry out : ℕ → ℕ) (enable : ℕ) (xs : List Instance) (ls : List LockupPlace) (chains : List (List InstanceId)) →
@@ -172,7 +172,7 @@ names_counted n config plan q =
 
 -- ---- limits
 
-length_ports : (net : ℕ) (ports : List NewPort) → length (ports_from net ports) ≡ length ports
+pub length_ports : (net : ℕ) (ports : List NewPort) → length (ports_from net ports) ≡ length ports
 length_ports net [] = refl
 length_ports net (port ∷ ports) = ap suc (length_ports (suc net) ports)
 

@@ -54,7 +54,7 @@ fn see_ready(design: &Design, config: &Config)
 }
 
 /// So many ids from a number on.
-fn port_ids(alloc: Global, first: usize, count: usize) -> Result<Vec<PortId>, AllocError>
+pub fn port_ids(alloc: Global, first: usize, count: usize) -> Result<Vec<PortId>, AllocError>
     requires { first + count ≤ MAX_PORTS }
     ensures { IfOk result (λ ids. ids.items ≡ map (λ number. record { 0 = number }) (range_with_len first count)) }
 {

@@ -14,7 +14,7 @@ use dft_netlist::{Design, DesignBuilder, Join, NetId, PinSignals, Port, Signal};
 use std::alloc::{AllocError, Global};
 
 /// Adds these ports.
-pub(crate) fn carry_ports(
+pub fn carry_ports(
     alloc: Global,
     builder: &mut DesignBuilder,
     ports: &[Port],
@@ -29,7 +29,7 @@ pub(crate) fn carry_ports(
 }
 
 /// Adds the nets of a design from this one on.
-pub(crate) fn carry_nets(
+pub fn carry_nets(
     alloc: Global,
     builder: &mut DesignBuilder,
     design: &Design,
@@ -46,7 +46,7 @@ pub(crate) fn carry_nets(
 }
 
 /// Adds these joins, moved.
-pub(crate) fn carry_joins(
+pub fn carry_joins(
     builder: &mut DesignBuilder,
     joins: &[Join],
     gap: &Gap,
@@ -76,7 +76,7 @@ fn moved_signal(gap: &Gap, signal: Signal) -> Signal
 }
 
 /// What the pins of an instance of the design are joined to in the scanned netlist.
-pub(crate) fn moved_pins(
+pub fn moved_pins(
     alloc: Global,
     gap: &Gap,
     pins: &[Signal],

@@ -13,7 +13,7 @@ use std::marker::Model;
 
 /// The nets of the added ports, which stand between those of the design's ports and its other nets.
 #[derive(Debug, Drop)]
-pub(crate) struct Gap {
+pub struct Gap {
     before: u32,
     width: u32,
 }
@@ -27,6 +27,17 @@ impl Model for Gap {
 }
 
 impl Gap {
+    /// That of so many nets of added ports.
+    pub fn new(design: &Design, width: u32) -> Gap
+        ensures { result ≡ spec.gap_of design.now width }
+    {
+        design.soundness();
+        Gap {
+            before: count_port_nets(design) as u32,
+            width,
+        }
+    }
+
     /// That of style Plain.
     pub fn plain(design: &Design, config: &Config) -> Gap
         requires { IsInRange config.now }

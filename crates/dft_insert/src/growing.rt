@@ -38,7 +38,7 @@ pub(crate) fn add_net(builder: &mut DesignBuilder, name: Name) -> Result<(), All
 }
 
 /// Adds an instance.
-pub(crate) fn add_instance(
+pub fn add_instance(
     builder: &mut DesignBuilder,
     instance: Instance,
 ) -> Result<(), AllocError>

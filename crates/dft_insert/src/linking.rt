@@ -116,7 +116,7 @@ fn last_output(nets: &[Option<CellNets>], cells: &[InstanceId]) -> NetId
 }
 
 /// The net of the port of a domain.
-fn domain_net(design: &Design, config: &Config, gap: &Gap, domain: u8) -> NetId
+pub fn domain_net(design: &Design, config: &Config, gap: &Gap, domain: u8) -> NetId
     requires room { gap.now.width ≤ MAX_PORTS }
     requires few { length design.now.nets ≤ MAX_NETS }
     ensures { result.0 ≡ domain_in design.now gap.now config.now domain }

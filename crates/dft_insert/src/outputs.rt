@@ -7,7 +7,7 @@ use dft_cells::Role;
 use dft_netlist::{Design, InstanceId, NetId, Signal};
 
 /// The net that the output pin of an instance is joined to, if there is one.
-pub(crate) fn own_output(design: &Design, cell: InstanceId) -> Option<NetId>
+pub fn own_output(design: &Design, cell: InstanceId) -> Option<NetId>
     ensures net { option_map (λ net. net.0) result ≡ spec.own_output design.now cell }
     ensures live { IfSome result (λ net. net.0 < length design.now.nets) }
 {

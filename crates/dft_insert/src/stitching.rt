@@ -81,7 +81,7 @@ fn written(
 }
 
 /// The name of an instance once more, if it has one.
-fn own_name(alloc: Global, name: &Option<Name>) -> Result<Option<Name>, AllocError>
+pub fn own_name(alloc: Global, name: &Option<Name>) -> Result<Option<Name>, AllocError>
     ensures { IfOk result (λ copy. copy ≡ name.now) }
 {
     match name {
@@ -91,7 +91,7 @@ fn own_name(alloc: Global, name: &Option<Name>) -> Result<Option<Name>, AllocErr
 }
 
 /// The scan cell that a cell names.
-fn scan_cell(library: &Library, cell: CellRef) -> Option<CellId>
+pub fn scan_cell(library: &Library, cell: CellRef) -> Option<CellId>
     ensures { result ≡ scan_cell_in library.now cell }
 {
     match cell {
@@ -101,7 +101,7 @@ fn scan_cell(library: &Library, cell: CellRef) -> Option<CellId>
 }
 
 /// The pins of a cell of the library.
-fn pins_of(library: &Library, cell: CellId) -> &[Pin]
+pub fn pins_of(library: &Library, cell: CellId) -> &[Pin]
     ensures { map role_of result.now ≡ (shape_of library.now (ALibrary cell)).roles }
 {
     match library.cells().get(cell.0 as usize) {
@@ -142,7 +142,7 @@ fn stitched_pin(role: Role, nets: CellNets, enable: NetId, pin: Signal) -> Signa
 }
 
 /// How many pins of the flip-flop a pin of the scan cell stands for.
-fn pins_taken(role: Role) -> usize
+pub fn pins_taken(role: Role) -> usize
     ensures { result ≡ pieces.pins_taken role }
 {
     match role {
@@ -152,7 +152,7 @@ fn pins_taken(role: Role) -> usize
 }
 
 /// The pin of this number, and nothing past the end.
-fn signal_at(pins: &[Signal], number: usize) -> Signal
+pub fn signal_at(pins: &[Signal], number: usize) -> Signal
     ensures { result ≡ slice_index_or pins.now number Unconnected }
 {
     match pins.get(number) {
