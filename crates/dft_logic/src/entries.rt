@@ -183,12 +183,11 @@ impl Entry {
     {
         match self {
             Entry::Follows(cell) => value_at(pulse.old, cell.0),
-            Entry::Takes(value) => value,
             other => other.settled_value(place, flops, pulse, values),
         }
     }
 
-    /// The same. Most entries follow another flip-flop or take a value, and need not come here.
+    /// The same. Most entries follow another flip-flop, and need not come here.
     #[inline(never)]
     fn settled_value(
         self,

@@ -60,7 +60,9 @@ pub fn list_takings(flops: &[FlipFlop], entries: &[Entry], takings: &mut Vec<Tak
     }
 }
 
-/// The values of flip-flops after a pulse: those of the list take what it tells, and the others keep theirs.
+/// The values of flip-flops after a pulse: those of the list take what it tells, and the others keep theirs. A replay
+/// spends most of its time here.
+#[inline(never)]
 pub fn take_all(
     flops: &[FlipFlop],
     takings: &[Taking],
