@@ -1,0 +1,5 @@
+pub mod AddedPorts
+pub mod Frames
+pub mod PinLemmas
+pub mod MadeParts
+pub mod Filling

@@ -1,0 +1,17 @@
+use dft_base::{Dir, Name};
+use std::marker::Model;
+
+/// A port of one bit that is added.
+#[derive(Debug, Drop)]
+pub struct NewPort {
+    pub name: Name,
+    pub dir: Dir,
+}
+
+impl Model for NewPort {
+    ghost use Rattle.dft_insert.specs.AddedPorts as added;
+
+    ghost Value = { added.NewPort };
+
+    ghost view = { λ p. record { name = p.name; dir = p.dir } };
+}

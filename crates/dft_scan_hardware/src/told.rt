@@ -1,0 +1,18 @@
+ghost use Rattle.std.specs.Prelude.{◌≡◌};
+ghost use Rattle.dft_scan_hardware.specs.Refusals.{as_told};
+
+use dft_insert::InsertError;
+use dft_netlist::NetlistError;
+
+/// A refusal of the builder, as it is told.
+pub(crate) fn told(error: NetlistError) -> InsertError
+    ensures { result ≡ as_told error }
+{
+    match error {
+        NetlistError::DuplicateName { name } => InsertError::NameClash { name },
+        NetlistError::TooMany { what, limit } => InsertError::TooMany { what, limit },
+        NetlistError::Memory(error) => InsertError::Memory(error),
+        NetlistError::MultipleDrivers { net } => InsertError::NameClash { name: net },
+        NetlistError::Loop { net } => InsertError::NameClash { name: net },
+    }
+}
