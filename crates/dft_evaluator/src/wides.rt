@@ -6,7 +6,7 @@ ghost use Rattle.dft_evaluator.specs.Wides.{value_in, unknown_wide, IsWide};
 ghost use Rattle.dft_evaluator.specs.Wides as spec;
 
 use dft_base::Tri;
-use dft_lanes::{Wide, has_bit};
+use dft_lanes::{Wide, has_bit, put};
 
 /// Either in each pattern.
 pub(crate) fn unknown() -> Wide
@@ -63,13 +63,26 @@ pub(crate) fn value_in(wide: &Wide, pattern: u16) -> Tri
     }
 }
 
+/// Whether a value can be this bit.
+fn may(value: Tri, bit: bool) -> bool
+    ensures { result ≡ spec.may value bit }
+{
+    match value {
+        Tri::Zero => !bit,
+        Tri::One => bit,
+        Tri::Unknown => true,
+    }
+}
+
 /// Makes the bit at a place this one.
 fn write(row: &mut [u64], place: usize, bit: bool)
     requires { place / 64 < length row.old }
     ensures { (k : ℕ) → packed_bit row.new k ≡ (if k == place then bit else packed_bit row.old k) }
 {
-    if has_bit(row, place) != bit {
-        row[place / 64] ^= 1 << (place % 64);
+    if bit {
+        put(row, place, true);
+    } else {
+        row[place / 64] &= !(1 << (place % 64));
     }
 }
 
@@ -81,7 +94,7 @@ pub(crate) fn with_value(wide: &Wide, pattern: u16, value: Tri) -> Wide
 {
     let mut result = *wide;
     let place = pattern as usize;
-    write(&mut result.can_zero, place, value != Tri::One);
-    write(&mut result.can_one, place, value != Tri::Zero);
+    write(&mut result.can_zero, place, may(value, false));
+    write(&mut result.can_one, place, may(value, true));
     result
 }
