@@ -32,7 +32,7 @@ folding_starts f joined wides inputs wide t one is =
       rest = λ p less. sym (ap (λ (x : Tri). joined x (shared f (inputs_at wides inputs p))) (value_is wide (λ q. t) is p less) ∙ one (shared f (inputs_at wides inputs p)));
     }
 
-length-inputs : (wides : List Wide) (inputs : List Operand) (p : ℕ) → length (inputs_at wides inputs p) ≡ length inputs
+pub length-inputs : (wides : List Wide) (inputs : List Operand) (p : ℕ) → length (inputs_at wides inputs p) ≡ length inputs
 length-inputs wides inputs p = length-map (map source_at inputs) (value_from (values_in wides p)) ∙ length-map inputs source_at
 
 pub input_at : (wides : List Wide) (inputs : List Operand) (p i : ℕ) (d : Operand) → i < length inputs → get_or (inputs_at wides inputs p) i Unknown ≡ value_from (values_in wides p) (source_at (get_or inputs i d))
