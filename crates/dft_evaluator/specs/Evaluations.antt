@@ -1,5 +1,5 @@
 -- Settling a design from values that are given at its sources: what takes no value from other nets.
-use Rattle.std.specs.Prelude.{ℕ, Bool, false, ◌≡◌, ◌==◌, ◌<◌, ◌&&◌, if◌then◌else◌, List, map, length, slice_index_or}
+use Rattle.std.specs.Prelude.{ℕ, Bool, true, false, ◌≡◌, ◌==◌, ◌<◌, ◌&&◌, if◌then◌else◌, List, map, length, slice_index_or}
 use Rattle.dft_base.specs.declared.tri.Tri.{Tri}
 use Rattle.dft_base.specs.declared.tri.Tri.TheVariants.{Unknown}
 use Rattle.dft_cells.specs.Gates.{tri_of}
@@ -36,9 +36,9 @@ IsGiven s given net Free = given net ≡ Unknown
 abbrev pub AreGiven : (ℕ → Meaning) → TriSources → (given : ℕ → Tri) → Type 0
 AreGiven meanings s given = (net : ℕ) → IsGiven s given net (meanings net)
 
--- no port is named a clock or a reset: every input bit and every output of a flip-flop or a lock-up is a source
-abbrev pub no_ports : Ports
-no_ports = record { is_clock = λ net. false; is_reset = λ net. false }
+-- no port is a clock, so no flip-flop and no lock-up is modelled: their outputs, like input bits, are sources
+abbrev pub no_clocks : Ports
+no_clocks = record { is_clock = λ net. false; is_reset = λ net. true }
 
 -- ---- an evaluator
 
@@ -58,7 +58,7 @@ value_at e pattern net = values_in e.wides pattern net
 -- the evaluator was prepared from this design
 pub record IsFor (n : Netlist) (e : Evaluation) : Type 0 where
   pub nets : length e.wides ≡ length n.nets
-  pub means : (net : ℕ) → meaning_at e.meanings net ≡ (logic_of n no_ports).net net
+  pub means : (net : ℕ) → meaning_at e.meanings net ≡ (logic_of n no_clocks).net net
 
 -- the value of one net in one pattern is set
 pub record IsSet (old : Evaluation) (pattern net : ℕ) (value : Tri) (new : Evaluation) : Type 0 where
