@@ -4,7 +4,9 @@ use Rattle.std.specs.Prelude.{if◌then◌else◌, ◌&&◌, ◌==◌, Option, N
 use Rattle.std.proofs.Math.ListN.{get_or-map}
 use Rattle.std.proofs.lemmas.Bool.{cases_eq, cases_lt}
 use Rattle.std.proofs.lemmas.Bool.Decides.{nat_tests}
-use Rattle.std.proofs.lemmas.List.{get_or_past, get_or_read, get_or-replicate, length-replicate}
+use Rattle.std.specs.Global.{Vec}
+use Rattle.std.specs.Vec.{with_items}
+use Rattle.std.proofs.lemmas.List.{get_or_past, get_or_read, get_or-replicate, length-replicate, with_items_is}
 use Rattle.dft_base.specs.declared.tri.Tri.{Tri}
 use Rattle.dft_base.specs.declared.tri.Tri.TheVariants.{Unknown}
 use Rattle.dft_lanes.specs.declared.wide.Wide.{Wide}
@@ -130,3 +132,15 @@ pub settled_values : (n : Netlist) (old new : Evaluation) → IsFor n old → Is
 settled_values n old new is settled p ports s less given =
     (from_sources (logic_of n ports) s (value_at old p) (value_at new p) given).0
     (any_ports n no_clocks ports (value_at old p) (value_at new p) (λ net. settled.each p less net ∙ ap (λ (m : Meaning). value_set (value_at old p) (value_at new p) net m) (is.means net)))
+
+-- the elements of a vector that was filled anew
+filled : (v : Vec Wide) (ws rs : List Wide) → length ws ≡ length rs → rs ≡ v.items → (with_items v ws).items ≡ ws
+filled v ws rs a e = with_items_is v ws (a ∙ ap length e ∙ sym v.ok.0)
+
+pub swept : (x : Circuit) (v : Vec Wide) (ws rs : List Wide) → length ws ≡ length rs → rs ≡ v.items
+    → ((p : ℕ) → p < 512 → IsSettledFrom (λ net. meaning (op_at x.ops.items net)) (values_in rs p) (values_in ws p))
+    → IsSettledIn (record { meanings = map meaning x.ops.items; wides = v.items }) (record { meanings = map meaning x.ops.items; wides = (with_items v ws).items })
+swept x v ws rs a e settled =
+    let P : List Wide → Type 0 = λ l. IsSettledIn (record { meanings = map meaning x.ops.items; wides = v.items }) (record { meanings = map meaning x.ops.items; wides = l }) in
+    let Q : List Wide → Type 0 = λ l. IsSettledIn (record { meanings = map meaning x.ops.items; wides = l }) (record { meanings = map meaning x.ops.items; wides = ws }) in
+    subst P (sym (filled v ws rs a e)) (subst Q e (settled_in x rs ws a settled))
