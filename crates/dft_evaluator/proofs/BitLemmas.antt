@@ -1,5 +1,5 @@
 -- Words of one bit, and a bit that is written.
-use Rattle.std.proofs.Common.{ℕ, Bool, true, false, not, ◌≡◌, ◌≢◌, ◌<◌, ◌≤◌, ◌*◌, ◌/◌, ◌%◌, ◌^◌, ◌⊎◌, inl, inr, List, length, get_or, refl, sym, ap, subst, arith, ◌∙◌, get_or-set_other, get_or-set_same}
+use Rattle.std.proofs.Common.{ℕ, Bool, true, false, ◌≡◌, ◌≢◌, ◌<◌, ◌*◌, ◌/◌, ◌%◌, ◌^◌, ◌⊎◌, inl, inr, List, length, get_or, refl, sym, ap, subst, arith, ◌∙◌, get_or-set_other, get_or-set_same}
 use Rattle.std.specs.Prelude.{if◌then◌else◌, ◌==◌, ◌&&◌, ◌||◌, slice_set, bit_and, replicate}
 use Rattle.std.specs.Int.{bit_at as bit_of_word, bit_not, w64}
 use Rattle.std.proofs.lemmas.Bool.{cases_eq}

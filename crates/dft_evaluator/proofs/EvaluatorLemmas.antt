@@ -1,5 +1,5 @@
 -- What an evaluator shows of its design, and what its calls do to it.
-use Rattle.std.proofs.Common.{ℕ, Bool, true, false, List, [], ◌∷◌, ◌≡◌, ◌≢◌, ◌<◌, ◌≤◌, ◌⊎◌, inl, inr, length, map, refl, sym, ap, subst, ◌∙◌, slice_set, get_or, get_or-set_same, get_or-set_other, length-set, arith}
+use Rattle.std.proofs.Common.{ℕ, Bool, true, false, List, [], ◌≡◌, ◌≢◌, ◌<◌, ◌≤◌, ◌⊎◌, inl, inr, length, map, refl, sym, ap, subst, ◌∙◌, slice_set, get_or, get_or-set_same, get_or-set_other, length-set, arith}
 use Rattle.std.specs.Prelude.{if◌then◌else◌, ◌&&◌, ◌==◌, Option, None, Some, replicate}
 use Rattle.std.proofs.Math.ListN.{get_or-map}
 use Rattle.std.proofs.lemmas.Bool.{cases_eq, cases_lt}
@@ -13,7 +13,7 @@ use Rattle.dft_lanes.specs.declared.wide.Wide.{Wide}
 use Rattle.dft_netlist.specs.Netlist.{Netlist}
 use Rattle.dft_netlist.specs.Drivers.{Source, Driver, driver}
 use Rattle.dft_netlist.specs.Drivers as drivers
-use Rattle.dft_netlist.specs.Logic.{Logic, Meaning, Cell, Ports, Input, Clock, Gate, Joined, Flop, Lockup, Free, logic_of, meaning_of, flop_meaning, lockup_meaning, flip_flop, domain_at}
+use Rattle.dft_netlist.specs.Logic.{Logic, Meaning, Cell, Ports, Input, Clock, Gate, Joined, Flop, Lockup, Free, logic_of, meaning_of, flop_meaning, lockup_meaning, flip_flop}
 use Rattle.dft_netlist.specs.Settled.{TriSources, value_given, IsTriSettled}
 use Rattle.dft_logic.specs.declared.circuit.Op.{Op}
 use Rattle.dft_logic.specs.declared.circuit.Op.TheVariants as op

@@ -1,15 +1,12 @@
 -- A gate of any number of inputs, input by input.
-use Rattle.std.proofs.Common.{ℕ, Bool, List, [], ◌∷◌, ◌≡◌, ◌<◌, ◌≤◌, ◌+◌, refl, sym, ap, ◌∙◌, map, drop, length, get_or, arith}
+use Rattle.std.proofs.Common.{ℕ, Bool, List, [], ◌≡◌, ◌<◌, ◌≤◌, ◌+◌, refl, sym, ap, ◌∙◌, map, drop, length, get_or, arith}
 use Rattle.std.proofs.lemmas.List.{length-map, get_or-map, drop_all}
 use Rattle.dft_base.specs.declared.tri.Tri.{Tri}
 use Rattle.dft_base.specs.declared.tri.Tri.TheVariants.{Zero, One, Unknown}
 use Rattle.dft_base.specs.Tri.{known}
-use Rattle.dft_cells.specs.Gates.{shared, all_one, any_one, odd_ones}
+use Rattle.dft_cells.specs.Gates.{shared}
 use Rattle.dft_cells.specs.Tables.{and_tri, or_tri, xor_tri}
-use Rattle.dft_cells.proofs.Pairs.{and_step, or_step, xor_step}
 use Rattle.dft_lanes.specs.declared.wide.Wide.{Wide}
-use Rattle.dft_netlist.specs.Drivers.{Source}
-use Rattle.dft_netlist.specs.Drivers as drivers
 use Rattle.dft_netlist.specs.Settled.{value_from}
 use Rattle.dft_logic.specs.declared.circuit.Operand.{Operand}
 use Rattle.dft_logic.specs.Circuit.{source_at}

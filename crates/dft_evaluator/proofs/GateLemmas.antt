@@ -1,5 +1,5 @@
 -- Gates of one input and of three, and inverted gates.
-use Rattle.std.proofs.Common.{ℕ, Bool, not, List, ◌≡◌, ◌<◌, refl, sym, ap, ◌∙◌, length, get_or, arith}
+use Rattle.std.proofs.Common.{ℕ, Bool, not, List, ◌≡◌, sym, ap, ◌∙◌, length, get_or, arith}
 use Rattle.std.specs.Prelude.{if◌then◌else◌}
 use Rattle.dft_base.specs.declared.tri.Tri.{Tri}
 use Rattle.dft_base.specs.declared.tri.Tri.TheVariants.{Unknown}

@@ -1,12 +1,10 @@
 -- A table, input by input.
-use Rattle.std.proofs.Common.{ℕ, Bool, true, false, List, [], ◌∷◌, ◌≡◌, ◌<◌, ◌≤◌, ◌+◌, ◌-◌, ◌*◌, ◌^◌, refl, sym, ap, subst, ◌∙◌, map, take, drop, length, get_or, arith}
+use Rattle.std.proofs.Common.{ℕ, Bool, true, false, List, [], ◌∷◌, ◌≡◌, ◌<◌, ◌≤◌, ◌+◌, ◌-◌, ◌*◌, ◌^◌, sym, ap, subst, ◌∙◌, take, drop, length, get_or, arith}
 use Rattle.std.specs.Prelude.{if◌then◌else◌}
 use Rattle.std.proofs.Math.Seq.{take-length}
 use Rattle.std.proofs.Math.Nat.{pow-suc, one-le-pow, mul-le-mul_left}
 use Rattle.dft_base.specs.declared.tri.Tri.{Tri}
-use Rattle.dft_base.specs.declared.tri.Tri.TheVariants.{Zero, One}
-use Rattle.dft_base.specs.Tri.{known}
-use Rattle.dft_cells.specs.Gates.{shared, completing, bit_of_number, number_of}
+use Rattle.dft_cells.specs.Gates.{shared, bit_of_number, number_of}
 use Rattle.dft_cells.proofs.Pairs.{shared_equal}
 use Rattle.dft_lanes.specs.declared.wide.Wide.{Wide}
 use Rattle.dft_lanes.specs.Choices.{can, some_choice_of_three}
@@ -59,10 +57,3 @@ table_chosen table place weight wides inputs rest x w a b e is first second by m
     (λ p less. shared_equal (table_at table (place + weight) (2 * weight)) (λ bs. table_at table place weight (true ∷ bs)) (inputs_at wides rest p) (λ bs. ap (bit_of_number table) (omega arith))) in
     let R : List Operand → Type 0 = λ l. IsWide w (λ p. shared (table_at table place weight) (inputs_at wides l p)) in
     subst R (sym is) (wide_chosen w a b e f (λ p. value_from (values_in wides p) (source_at x)) low high by made)
-
--- no input is left
-pub table_ends : (table place weight : ℕ) (wides : List Wide) (inputs : List Operand) (w : Wide) (t : Tri) → inputs ≡ [] → t ≡ known (bit_of_number table place) → IsWide w (λ p. t)
-    → IsWide w (λ p. shared (table_at table place weight) (inputs_at wides inputs p))
-table_ends table place weight wides inputs w t none is made =
-    let R : List Operand → Type 0 = λ l. IsWide w (λ p. shared (table_at table place weight) (inputs_at wides l p)) in
-    subst R (sym none) (wide_same w (λ p. t) (λ p. known (bit_of_number table (place + weight * 0))) made (λ p less. is ∙ ap (λ (n : ℕ). known (bit_of_number table n)) (omega arith)))

@@ -1,5 +1,5 @@
 -- Settling a design from values that are given at its sources: what takes no value from other nets.
-use Rattle.std.specs.Prelude.{ℕ, Bool, true, false, ◌≡◌, ◌==◌, ◌<◌, ◌&&◌, if◌then◌else◌, List, map, length, slice_index_or}
+use Rattle.std.specs.Prelude.{ℕ, true, false, ◌≡◌, ◌==◌, ◌<◌, ◌&&◌, if◌then◌else◌, List, map, length, slice_index_or}
 use Rattle.dft_base.specs.declared.tri.Tri.{Tri}
 use Rattle.dft_base.specs.declared.tri.Tri.TheVariants.{Unknown}
 use Rattle.dft_cells.specs.Gates.{tri_of}

@@ -1,6 +1,5 @@
 -- What a net can be in each of 512 patterns, seen as three-valued bits.
-use Rattle.std.specs.Prelude.{ℕ, Bool, true, false, not, ◌≡◌, ◌<◌, List, [], ◌∷◌, map, replicate, slice_index_or, if◌then◌else◌}
-use Rattle.std.specs.List.{AllByRecursion}
+use Rattle.std.specs.Prelude.{ℕ, Bool, true, false, not, ◌≡◌, ◌<◌, List, [], ◌∷◌, replicate, slice_index_or, if◌then◌else◌}
 use Rattle.dft_base.specs.declared.tri.Tri.{Tri}
 use Rattle.dft_base.specs.declared.tri.Tri.TheVariants.{Zero, One, Unknown}
 use Rattle.dft_lanes.specs.declared.wide.Wide.{Wide}

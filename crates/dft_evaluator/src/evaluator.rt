@@ -8,7 +8,7 @@ ghost use Rattle.dft_evaluator.specs.Wides.{unknown_wide};
 ghost use Rattle.dft_evaluator.specs.Evaluations.{IsFor, IsSet, IsSettledIn, AreGiven, value_at};
 
 use crate::sweeping::sweep;
-use crate::wides::{unknown, value_in, with_value, wide_at};
+use crate::wides::{unknown, value_in, wide_at, with_value};
 use dft_base::Tri;
 use dft_lanes::Wide;
 use dft_logic::{Circuit, compile};

@@ -56,7 +56,10 @@ pub(crate) fn value_in(wide: &Wide, pattern: u16) -> Tri
     ensures { result ≡ value_in wide.now pattern }
 {
     let pattern = pattern as usize;
-    match (has_bit(&wide.can_zero, pattern), has_bit(&wide.can_one, pattern)) {
+    match (
+        has_bit(&wide.can_zero, pattern),
+        has_bit(&wide.can_one, pattern),
+    ) {
         (true, false) => Tri::Zero,
         (false, true) => Tri::One,
         _ => Tri::Unknown,

@@ -1,6 +1,6 @@
 -- One input more.
 use Rattle.std.proofs.Common.{refl, arith}
-use Rattle.dft_base.specs.declared.tri.Tri.TheVariants.{Zero, One}
+use Rattle.dft_base.specs.declared.tri.Tri.TheVariants.{One}
 use Rattle.dft_cells.specs.Gates.{all_one}
 use Rattle.dft_cells.specs.Tables.{and_tri}
 use Rattle.dft_cells.proofs.Pairs.{and_step}

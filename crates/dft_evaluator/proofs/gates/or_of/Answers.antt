@@ -1,6 +1,6 @@
 -- One input more.
 use Rattle.std.proofs.Common.{refl, arith}
-use Rattle.dft_base.specs.declared.tri.Tri.TheVariants.{Zero, One}
+use Rattle.dft_base.specs.declared.tri.Tri.TheVariants.{Zero}
 use Rattle.dft_cells.specs.Gates.{any_one}
 use Rattle.dft_cells.specs.Tables.{or_tri}
 use Rattle.dft_cells.proofs.Pairs.{or_step}

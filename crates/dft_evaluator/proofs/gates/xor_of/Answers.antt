@@ -1,6 +1,6 @@
 -- One input more.
 use Rattle.std.proofs.Common.{refl, arith}
-use Rattle.dft_base.specs.declared.tri.Tri.TheVariants.{Zero, One}
+use Rattle.dft_base.specs.declared.tri.Tri.TheVariants.{Zero}
 use Rattle.dft_cells.specs.Gates.{odd_ones}
 use Rattle.dft_cells.specs.Tables.{xor_tri}
 use Rattle.dft_cells.proofs.Pairs.{xor_step}

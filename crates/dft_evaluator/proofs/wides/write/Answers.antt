@@ -1,5 +1,5 @@
 -- The bit is set or cleared.
-use Rattle.std.proofs.Common.{◌≡◌, ◌∙◌, Bool, true, false, sym, ap}
+use Rattle.std.proofs.Common.{◌∙◌, Bool, sym, ap}
 use Rattle.std.specs.Prelude.{◌==◌, if◌then◌else◌}
 use Rattle.dft_base.specs.Packed.{packed_bit}
 use Rattle.dft_evaluator.proofs.BitLemmas.{set, cleared}

@@ -1,6 +1,5 @@
 -- The circuit means what the design does, and every net can be either.
 use Rattle.std.proofs.Common.{◌∙◌, sym, ap, subst, length, List}
-use Rattle.std.specs.Prelude.{replicate}
 use Rattle.std.proofs.lemmas.List.{length-replicate}
 use Rattle.dft_lanes.specs.declared.wide.Wide.{Wide}
 use Rattle.dft_evaluator.specs.Wides.{unknown_wide, AreWides}
