@@ -111,8 +111,8 @@ pub settled_in : (x : Circuit) (old new : List Wide) → length new ≡ length o
 settled_in x old new nets settled =
     record { meanings = refl; nets = nets; each = λ p less net. settled p less net ∙ ap (λ (m : Meaning). value_set (values_in old p) (values_in new p) net m) (sym (meaning_shown x.ops.items net)) }
 
-pub for_new : (n : Netlist) (old new : Evaluation) → IsFor n old → IsSettledIn old new → IsFor n new
-for_new n old new is settled = record { nets = settled.nets ∙ is.nets; means = λ net. ap (λ (ms : List Meaning). meaning_at ms net) settled.meanings ∙ is.means net }
+pub for_new : (old new : Evaluation) → IsSettledIn old new → (n : Netlist) → IsFor n old → IsFor n new
+for_new old new settled n is = record { nets = settled.nets ∙ is.nets; means = λ net. ap (λ (ms : List Meaning). meaning_at ms net) settled.meanings ∙ is.means net }
 
 given_same : (s : TriSources) (given values : ℕ → Tri) (net : ℕ) (m : Meaning) → IsGiven s given net m → value_set given values net m ≡ value_given s values net m
 given_same s given values net Input is = is
@@ -127,9 +127,9 @@ pub from_sources : SettledFromSources
 from_sources l s given values are =
     (λ settled net. settled net ∙ given_same s given values net (l.net net) (are net), λ settled net. settled net ∙ sym (given_same s given values net (l.net net) (are net)))
 
-pub settled_values : (n : Netlist) (old new : Evaluation) → IsFor n old → IsSettledIn old new → (p : ℕ) (ports : Ports) (s : TriSources) → p < 512 → AreGiven (logic_of n ports).net s (value_at old p)
+pub settled_values : (old new : Evaluation) → IsSettledIn old new → (n : Netlist) (ports : Ports) (s : TriSources) (p : ℕ) → IsFor n old → p < 512 → AreGiven (logic_of n ports).net s (value_at old p)
     → IsTriSettled (logic_of n ports) s (value_at new p)
-settled_values n old new is settled p ports s less given =
+settled_values old new settled n ports s p is less given =
     (from_sources (logic_of n ports) s (value_at old p) (value_at new p) given).0
     (any_ports n no_clocks ports (value_at old p) (value_at new p) (λ net. settled.each p less net ∙ ap (λ (m : Meaning). value_set (value_at old p) (value_at new p) net m) (is.means net)))
 

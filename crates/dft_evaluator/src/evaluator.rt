@@ -2,6 +2,7 @@
 
 ghost use Rattle.std.specs.Prelude.{◌≡◌, ℕ, ◌<◌, length, replicate, IfOk};
 ghost use Rattle.dft_base.specs.declared.tri.Tri.TheVariants.{Unknown};
+ghost use Rattle.dft_netlist.specs.Netlist.{Netlist};
 ghost use Rattle.dft_netlist.specs.Logic.{Ports, logic_of};
 ghost use Rattle.dft_netlist.specs.Settled.{TriSources, IsTriSettled};
 ghost use Rattle.dft_evaluator.specs.Wides.{unknown_wide};
@@ -66,14 +67,13 @@ impl Evaluator {
         self.values[net.0 as usize] = wide;
     }
 
-    /// Settles all nets of the design in all patterns, from the sources as they were set last.
-    pub fn settle(&mut self, design: &Design)
-        requires { IsFor design.now self.old }
+    /// Settles all nets in all patterns, from the sources as they were set last.
+    pub fn settle(&mut self)
         ensures settled { IsSettledIn self.old self.new }
-        ensures design { IsFor design.now self.new }
+        ensures design { (n : Netlist) → IsFor n self.old → IsFor n self.new }
         // whatever ports are clocks and resets, the values are those that are settled from what the sources show
-        ensures values { (pattern : ℕ) (ports : Ports) (s : TriSources) → pattern < 512 → AreGiven (logic_of design.now ports).net s (value_at self.old pattern)
-            → IsTriSettled (logic_of design.now ports) s (value_at self.new pattern) }
+        ensures values { (n : Netlist) (ports : Ports) (s : TriSources) (pattern : ℕ) → IsFor n self.old → pattern < 512 → AreGiven (logic_of n ports).net s (value_at self.old pattern)
+            → IsTriSettled (logic_of n ports) s (value_at self.new pattern) }
     {
         sweep(&self.circuit, &mut self.values);
     }
