@@ -1,5 +1,5 @@
 -- What the machine's calls do, from what they do to its lists.
-use Rattle.std.proofs.Common.{ℕ, zero, suc, Bool, not, true, false, List, [], ◌∷◌, ◌≡◌, ◌<◌, ◌≤◌, ◌+◌, ◌==◌, ◌||◌, ◌&&◌, inl, inr, length, map, drop, drop-cons, add-one, ◌≢◌, refl, sym, ap, ◌∙◌, subst, get_or, slice_set, get_or-set_same, get_or-set_other, arith}
+use Rattle.std.proofs.Common.{ℕ, zero, suc, Bool, not, true, false, List, [], ◌∷◌, ◌≡◌, ◌<◌, ◌≤◌, ◌+◌, ◌==◌, ◌||◌, ◌&&◌, inl, inr, Option, None, Some, is_none, length, map, drop, drop-cons, add-one, ◌≢◌, refl, sym, ap, ◌∙◌, subst, get_or, slice_set, get_or-set_same, get_or-set_other, arith}
 use Rattle.std.specs.Prelude.{if◌then◌else◌, replicate}
 use Rattle.std.proofs.lemmas.Bool.Decides.{leb_tells, eqb_tells}
 use Rattle.std.specs.Global.{Vec}
@@ -9,7 +9,7 @@ use Rattle.dft_base.specs.declared.tri.Tri.{Tri}
 use Rattle.dft_base.specs.declared.tri.Tri.TheVariants.{Zero, Unknown}
 use Rattle.dft_netlist.specs.declared.ids.NetId.{NetId}
 use Rattle.dft_netlist.specs.Drivers.{Source}
-use Rattle.dft_netlist.specs.Logic.{Logic, Cell}
+use Rattle.dft_netlist.specs.Logic.{Logic, Cell, Force}
 use Rattle.dft_netlist.specs.Settled.{TriSources, value_from, IsTriSettled}
 use Rattle.dft_logic.specs.declared.circuit.FlipFlop.{FlipFlop}
 use Rattle.dft_logic.specs.declared.circuit.Circuit.{Circuit}
@@ -17,13 +17,15 @@ use Rattle.dft_abstract.specs.Cycle.{Pulse, tri_forced_by, tri_taken_by, AreView
 use Rattle.dft_cycle.specs.Machine.{Machine, value_at, is_one_of, ports_of, logic, acted, IsSet, at_strobe, IsStrobed, pulses, pulse_from, IsPulsed}
 use Rattle.dft_logic.specs.Circuit.{IsReady, logic_at, cell_of, cell_at, flag_at, IsCircuit}
 use Rattle.dft_cycle.specs.Views.{rank_of, Among, AreNext}
-use Rattle.dft_cycle.specs.Plans.{IsPassed}
+use Rattle.dft_cycle.specs.Plans.{IsPassed, LooseAreUnknown}
 use Rattle.dft_logic.specs.Compiling.{ports_by}
 use Rattle.dft_logic.specs.Needs.{AreSeen}
+use Rattle.dft_logic.specs.Takings.{is_loose_input, is_loose}
 use Rattle.dft_logic.proofs.LookLemmas.{look_of_all}
 use Rattle.dft_abstract.proofs.Views.{views_exist}
 use Rattle.dft_logic.proofs.CircuitRanks.{circuit_ranked}
 use Rattle.dft_logic.proofs.Writings.{cell_past}
+use Rattle.dft_logic.proofs.TakingLemmas.{next_loose}
 
 -- ---- the elements of a vector that was filled anew
 
@@ -335,3 +337,57 @@ pulse_passed m after x pulsed p new compiled n k i s cells ports ups old a b pas
           ] in
           ap (λ (l : List Tri). value_at l c) cells ∙ subst S (sym compiled) (subst R same taken));
     }
+
+-- ---- loose flip-flops stay Unknown
+
+pub loose_kept : (x : Circuit) (v : Vec Tri) (ws rs : List Tri) → length ws ≡ length rs → rs ≡ v.items → LooseAreUnknown x (value_at ws) → LooseAreUnknown x (value_at (with_items v ws).items)
+loose_kept x v ws rs a e loose = subst (λ (l : List Tri). LooseAreUnknown x (value_at l)) (sym (filled v ws rs a e)) loose
+
+-- past the end there is no value
+loose_within : (x : Circuit) (new : List Tri) → length new ≡ length x.flops.items → ((c : ℕ) → c < length x.flops.items → is_loose (cell_at (map cell_of x.flops.items) c) ≡ true → value_at new c ≡ Unknown) →
+    LooseAreUnknown x (value_at new)
+loose_within x new size each c is = elim (leb_tells (length x.flops.items) c) [
+  | inl out ↦ (let far : length new ≤ c = omega (arith, out.1) in get_or_past new c Unknown far)
+  | inr live ↦ each c live.1 is
+]
+
+acted_loose : (cell : Cell) (net : ℕ) (value bit : Tri) → is_loose cell ≡ true → acted cell.force net value bit ≡ bit
+acted_loose cell net value bit is = go (is_loose_input cell.input) (is_none cell.scan) cell.force is where
+  go : (a b : Bool) (force : Option Force) → (a && (b && is_none force)) ≡ true → acted force net value bit ≡ bit
+  go a b None is = refl
+  go false b (Some force) is = absurd cc
+  go true false (Some force) is = absurd cc
+  go true true (Some force) is = absurd cc
+
+-- an input that gets a value
+pub set_loose : (x : Circuit) (net : ℕ) (value : Tri) (old new : List Tri) → length new ≡ length x.flops.items → LooseAreUnknown x (value_at old) →
+    ((c : ℕ) → c < length x.flops.items → value_at new c ≡ acted (cell_at (map cell_of x.flops.items) c).force net value (value_at old c)) → LooseAreUnknown x (value_at new)
+set_loose x net value old new size loose each =
+    loose_within x new size (λ c live is. each c live ∙ acted_loose (cell_at (map cell_of x.flops.items) c) net value (value_at old c) is ∙ loose c is)
+
+either_unknown : (up : Bool) (next old : Tri) → (up ≡ true → next ≡ Unknown) → old ≡ Unknown → (if up then next else old) ≡ Unknown
+either_unknown true next old a b = a refl
+either_unknown false next old a b = b
+
+-- a pulse by a plan, or none
+pub passed_loose : (x : Circuit) (p : Pulse) (old new : List Tri) (taken : Bool) → length new ≡ length x.flops.items → ((c : ℕ) → p.old c ≡ value_at old c) → LooseAreUnknown x (value_at old) →
+    (taken ≡ true → IsPassed x p new) → (taken ≡ false → new ≡ old) → LooseAreUnknown x (value_at new)
+unfolding logic_at
+passed_loose x p old new false size olds loose passed same = λ c is. ap (λ (l : List Tri). value_at l c) (same refl) ∙ loose c is
+passed_loose x p old new true size olds loose passed same =
+    let r = passed refl in
+    let cells : ℕ → Cell = cell_at (map cell_of x.flops.items) in
+    loose_within x new size
+    (λ c live is. r.each c live ∙ either_unknown (p.pulsed (cells c).domain) _ (p.old c) (λ up. next_loose (cells c) p.ports (r.view (cells c).domain) is) (olds c ∙ loose c is))
+
+-- a pulse by the views
+pub pulsed_loose : (x : Circuit) (p : Pulse) (poss next old new : List Tri) → IsCircuit x → length new ≡ length x.flops.items → LooseAreUnknown x (value_at old) →
+    ((view : ℕ → ℕ → Tri) → AreViews (logic_at x) p (value_at poss) view → AreNext (logic_at x) p view poss next) →
+    ((c : ℕ) → c < length x.flops.items → value_at new c ≡ (if p.pulsed ((logic_at x).cell c).domain then value_at next c else value_at old c)) → LooseAreUnknown x (value_at new)
+unfolding logic_at
+pulsed_loose x p poss next old new is size loose nexts each =
+    let cells : ℕ → Cell = cell_at (map cell_of x.flops.items) in
+    let found = views_exist (logic_at x) (rank_of x) p (value_at poss) (circuit_ranked x is) in
+    loose_within x new size
+    (λ c live l. each c live
+    ∙ either_unknown (p.pulsed (cells c).domain) (value_at next c) (value_at old c) (λ up. (nexts found.0 found.1 c up).0 ∙ next_loose (cells c) p.ports (found.0 (cells c).domain) l) (loose c l))

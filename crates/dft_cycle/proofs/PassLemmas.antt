@@ -21,9 +21,10 @@ use Rattle.dft_logic.specs.Entries.{Entry, entry_value}
 use Rattle.dft_logic.specs.Values.{value_at}
 use Rattle.dft_logic.specs.Circuit.{meaning, op_at, logic_at, cell_of, cell_at, force_nets, next_at, IsCircuit}
 use Rattle.dft_logic.specs.EntryTables.{scan_needs, entry_for}
-use Rattle.dft_logic.specs.Takings.{taking_at, taken_by, ArePut, AreTakings}
+use Rattle.dft_logic.specs.Takings.{taking_at, taken_by, is_loose, ArePut, AreTakings}
 use Rattle.dft_logic.proofs.EntryLemmas.{entry_stays}
 use Rattle.dft_logic.proofs.PlanLemmas.{planned}
+use Rattle.dft_logic.proofs.TakingLemmas.{idle_value}
 use Rattle.dft_cycle.specs.declared.plans.Pins.{Pins}
 use Rattle.dft_cycle.specs.declared.plans.Plan.{Plan}
 use Rattle.dft_cycle.specs.declared.plans.Stage.TheVariants.{Noted, Made, Barred}
@@ -31,7 +32,7 @@ use Rattle.dft_cycle.specs.declared.looks.Look.{Look}
 use Rattle.dft_cycle.specs.Views.{Among}
 use Rattle.dft_cycle.specs.Looks.{IsListed}
 use Rattle.dft_logic.proofs.LookLemmas.{look_of_marked}
-use Rattle.dft_cycle.specs.Plans.{row_of, flags_of, IsNeedList, IsPins, IsMade, IsPlan, IsNoted, IsFilled, IsPassed}
+use Rattle.dft_cycle.specs.Plans.{row_of, flags_of, IsNeedList, IsPins, IsMade, IsPlan, IsNoted, IsFilled, LooseAreUnknown, IsPassed}
 
 -- ---- the same key is the same at each pin
 
@@ -81,29 +82,27 @@ scan_here (Some s) scan k is net =
 
 -- ---- the pulse by a plan
 
-by_takings : (cells : ℕ → Cell) (q : Pulse) (v : ℕ → Tri) (table : ℕ → Entry) (count : ℕ) (takings : List Taking) (next old new : List Tri) → AreTakings table count takings → ((c : ℕ) → q.old c ≡ value_at old c) →
-    ((j : ℕ) → j < length takings → value_at next j ≡ taken_by cells q v (taking_at takings j)) → ArePut takings (length takings) next old new →
-    (c : ℕ) → c < count → value_at new c ≡ entry_value q.old v (next_at (cells c) q.ports v) c (table c)
-by_takings cells q v table count takings next old new are same takes put c live =
+by_takings : (cells : ℕ → Cell) (q : Pulse) (v : ℕ → Tri) (table : ℕ → Entry) (count : ℕ) (takings : List Taking) (old new : List Tri) → AreTakings cells table count takings → ((c : ℕ) → q.old c ≡ value_at old c) →
+    ((c : ℕ) → is_loose (cells c) ≡ true → value_at old c ≡ Unknown) → ArePut takings (length takings) (taken_by cells q v) old new → (c : ℕ) → c < count → value_at new c ≡ entry_value q.old v (next_at (cells c) q.ports v) c (table c)
+by_takings cells q v table count takings old new are same loose put c live =
     let G : ℕ → Tri = λ k. entry_value q.old v (next_at (cells k) q.ports v) k (table k) in
     elim (put.each c) [
       | inl w ↦
           (let t : Taking = taking_at takings w.0 in
-          w.1.1.1 ∙ takes w.0 w.1.0 ∙ ap (entry_value q.old v (next_at (cells t.place) q.ports v) t.place) (sym (are.each w.0 w.1.0)) ∙ ap G w.1.1.0)
+          w.1.1.1 ∙ ap (entry_value q.old v (next_at (cells t.place) q.ports v) t.place) (sym (are.each w.0 w.1.0)) ∙ ap G w.1.1.0)
       | inr none ↦ elim (are.all c live) [
         | inl among ↦ absurd (none.0 among)
-        | inr keeps ↦ none.1 ∙ sym (same c) ∙ ap (entry_value q.old v (next_at (cells c) q.ports v) c) (sym keeps)
+        | inr idle ↦ none.1 ∙ sym (same c) ∙ idle_value (cells c) q.old v (next_at (cells c) q.ports v) c (table c) idle (λ is. same c ∙ loose c is)
       ]
     ]
 
-pub passed : (x : Circuit) (clocks : List NetId) (pins : Pins) (plan : Plan) (q : Pulse) (values next old new : List Tri) → IsCircuit x → IsPins x pins → IsMade x clocks pins plan →
-    ((e : ℕ) → q.pulsed e ≡ true → Among clocks (length clocks) e) → ((k : ℕ) → length x.ops.items ≤ k → q.ports k ≡ Unknown) → ((c : ℕ) → q.old c ≡ value_at old c) → length values ≡ length x.ops.items →
+pub passed : (x : Circuit) (clocks : List NetId) (pins : Pins) (plan : Plan) (q : Pulse) (values old new : List Tri) → IsCircuit x → IsPins x pins → IsMade x clocks pins plan →
+    ((e : ℕ) → q.pulsed e ≡ true → Among clocks (length clocks) e) → ((k : ℕ) → length x.ops.items ≤ k → q.ports k ≡ Unknown) → ((c : ℕ) → q.old c ≡ value_at old c) → LooseAreUnknown x (value_at old) → length values ≡ length x.ops.items →
     plan.pulsed.items ≡ flags_of q.pulsed clocks → plan.ports.items ≡ row_of q.ports pins.ports.items → plan.enables.items ≡ row_of (value_at values) pins.enables.items →
     ((k : ℕ) → Has (numbers_of (take plan.count plan.list.items)) k → value_at values k ≡ value_given (strobe_from q.ports q.old (value_at values)) (value_at values) k (meaning (op_at x.ops.items k))) →
-    ((j : ℕ) → j < length plan.takings.items → value_at next j ≡ taken_by (cell_at (map cell_of x.flops.items)) q (value_at values) (taking_at plan.takings.items j)) →
-    ArePut plan.takings.items (length plan.takings.items) next old new → IsPassed x q new
+    ArePut plan.takings.items (length plan.takings.items) (taken_by (cell_at (map cell_of x.flops.items)) q (value_at values)) old new → IsPassed x q new
 unfolding logic_at
-passed x clocks pins plan q values next old new is pinned m among past olds len ups ports enables settled takes put =
+passed x clocks pins plan q values old new is pinned m among past olds loose len ups ports enables settled put =
     let v : ℕ → Tri = value_at values in
     let w : ℕ → Tri = value_at m.values in
     let count : ℕ = length x.ops.items in
@@ -120,7 +119,7 @@ passed x clocks pins plan q values next old new is pinned m among past olds len 
     let entries : (c : ℕ) → c < length x.flops.items → entry_for (cells c) q m.origin m.shown v ≡ Some (m.table c) =
     λ c live. sym (entry_stays (record { net = λ net. Free; cell = λ k. cells c }) m.pulse q m.origin m.shown w v 0 (same (cells c).domain) (λ force at. port c force live at) (λ scan at. enable c scan live at)) ∙ m.entries c live in
     let pass = planned x q m.origin m.shown m.table m.marked values new is len m.origins (subst S whole m.shows) m.list.closed (λ k up. settled k (m.list.listed k up)) entries m.needed
-    (by_takings cells q v m.table (length x.flops.items) plan.takings.items next old new m.takings olds takes put) in
+    (by_takings cells q v m.table (length x.flops.items) plan.takings.items old new m.takings olds loose put) in
     record { poss = pass.0; view = pass.1.0; least = pass.1.1.0; each = pass.1.1.1 }
 
 -- ---- a plan is made
@@ -134,7 +133,7 @@ plan_made x clocks pins p values origin shown table old mid new was f n size pas
     let taken : vec_capacity new.takings ≡ vec_capacity mid.takings = ap (λ (v : Vec Taking). vec_capacity v) n.takings in
     let front : take new.count new.list.items ≡ take mid.count mid.list.items = ap (λ (k : ℕ). take k new.list.items) n.count ∙ ap (λ (v : Vec NetId). take mid.count v.items) n.list in
     let L : List NetId → Type 0 = λ nets. IsNeedList x f.marked nets in
-    let T : List Taking → Type 0 = λ l. AreTakings table (length x.flops.items) l in
+    let T : List Taking → Type 0 = λ l. AreTakings (cell_at (map cell_of x.flops.items)) table (length x.flops.items) l in
     let fits : mid.count ≤ length mid.list.items = f.count in
     let room : length x.flops.items ≤ vec_capacity old.takings = was.room in
     record {

@@ -2,10 +2,10 @@
 use Rattle.std.specs.Prelude.{ℕ, true, false, ◌≡◌, ◌<◌, Some, length, slice_get}
 use Rattle.dft_netlist.specs.declared.ids.NetId.{NetId}
 use Rattle.dft_cycle.specs.declared.machine.AbstractMachine.TheInside.{Inside}
-use Rattle.dft_cycle.specs.Machine.{Machine, logic, is_one_of}
+use Rattle.dft_cycle.specs.Machine.{Machine, logic, is_one_of, value_at}
 use Rattle.dft_logic.specs.Circuit.{logic_at, flag_at, IsCircuit, IsReady}
 use Rattle.dft_cycle.specs.Views.{OwnsLatches}
-use Rattle.dft_cycle.specs.Plans.{ArePlans}
+use Rattle.dft_cycle.specs.Plans.{ArePlans, LooseAreUnknown}
 use Rattle.dft_cycle.specs.Looks.{AreLooks}
 
 abbrev pub machine_of : Inside → Machine
@@ -32,5 +32,6 @@ pub record IsMachine (d : Inside) : Type 0 where
   pub quick : length d.quick.items ≡ length d.circuit.ops.items
   pub plans : ArePlans d.circuit d.clocks.items d.plans
   pub looks : AreLooks d.circuit d.looks
+  pub loose : LooseAreUnknown d.circuit (value_at d.cells.items)
   -- no net but clocks is flagged
   pub flags : (e : ℕ) → flag_at d.pulsed.items e ≡ true → is_one_of d.clocks.items e ≡ true

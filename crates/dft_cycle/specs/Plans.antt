@@ -14,7 +14,7 @@ use Rattle.dft_logic.specs.Entries.{Entry}
 use Rattle.dft_logic.specs.Values.{value_at}
 use Rattle.dft_logic.specs.Circuit.{logic_at, cell_of, cell_at, flag_at, force_nets, AreOrdered}
 use Rattle.dft_logic.specs.EntryTables.{origin_at, scan_needs, entry_for, entry_needs}
-use Rattle.dft_logic.specs.Takings.{AreTakings}
+use Rattle.dft_logic.specs.Takings.{AreTakings, is_loose}
 use Rattle.dft_cycle.specs.declared.plans.Pins.{Pins}
 use Rattle.dft_cycle.specs.declared.plans.Plan.{Plan}
 use Rattle.dft_cycle.specs.declared.plans.Stage.{Stage}
@@ -66,7 +66,7 @@ pub record IsMade (x : Circuit) (clocks : List NetId) (pins : Pins) (plan : Plan
   pub entries : (c : ℕ) → c < length x.flops.items → entry_for (cell_at (map cell_of x.flops.items) c) pulse origin shown (value_at values) ≡ Some (table c)
   pub needed : (c : ℕ) → c < length x.flops.items → (k : ℕ) → k < length x.ops.items → Has (entry_needs (cell_at (map cell_of x.flops.items) c) (table c)) k → flag_at marked k ≡ true
   pub list : IsNeedList x marked (take plan.count plan.list.items)
-  pub takings : AreTakings table (length x.flops.items) plan.takings.items
+  pub takings : AreTakings (cell_at (map cell_of x.flops.items)) table (length x.flops.items) plan.takings.items
 
 pub record IsPlan (x : Circuit) (clocks : List NetId) (pins : Pins) (plan : Plan) : Type 0 where
   pub pulsed : length plan.pulsed.items ≡ length clocks
@@ -100,8 +100,14 @@ pub record IsFilled (x : Circuit) (table : ℕ → Entry) (old new : Plan) : Typ
   pub count : new.count ≤ length new.list.items
   pub list : IsNeedList x marked (take new.count new.list.items)
   pub needed : (c : ℕ) → c < length x.flops.items → (k : ℕ) → k < length x.ops.items → Has (entry_needs (cell_at (map cell_of x.flops.items) c) (table c)) k → flag_at marked k ≡ true
-  pub takings : AreTakings table (length x.flops.items) new.takings.items
+  pub takings : AreTakings (cell_at (map cell_of x.flops.items)) table (length x.flops.items) new.takings.items
   pub room : vec_capacity new.takings ≡ vec_capacity old.takings
+
+-- ---- loose flip-flops
+
+-- flip-flops that are loose have never another value than Unknown, so no plan lists them
+abbrev pub LooseAreUnknown : Circuit → (values : ℕ → Tri) → Type 0
+LooseAreUnknown x values = (c : ℕ) → is_loose (cell_at (map cell_of x.flops.items) c) ≡ true → values c ≡ Unknown
 
 -- ---- all plans
 

@@ -4,7 +4,7 @@ ghost use Rattle.std.specs.Prelude.{◌≡◌, ℕ, ◌<◌, length, true, false
 ghost use Rattle.dft_logic.specs.Values as spec;
 ghost use Rattle.dft_logic.specs.Circuit.{IsCircuit, flag_at as is_up};
 ghost use Rattle.dft_cycle.specs.Views.{PulsesAmong};
-ghost use Rattle.dft_cycle.specs.Plans.{ArePlans, IsPassed};
+ghost use Rattle.dft_cycle.specs.Plans.{ArePlans, LooseAreUnknown, IsPassed};
 
 use crate::plans::{Pins, Plan, Stage};
 use dft_base::Tri;
@@ -168,6 +168,7 @@ impl Plans {
         requires clear { (k : ℕ) → is_up marked.old k ≡ false }
         requires next { length next.old ≡ length circuit.now.flops.items }
         requires cells { length cells.old ≡ length circuit.now.flops.items }
+        requires loose { LooseAreUnknown circuit.now (spec.value_at cells.old) }
         ensures plans { ArePlans circuit.now clocks.now self.new }
         ensures clear { (k : ℕ) → is_up marked.new k ≡ false }
         ensures passed { result ≡ true → IsPassed circuit.now (record { ports = spec.value_at ports.now; pulsed = is_up pulsed.now; old = spec.value_at cells.old }) cells.new }

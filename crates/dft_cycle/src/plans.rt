@@ -11,13 +11,13 @@ ghost use Rattle.dft_logic.specs.ShownTables.{shown_at};
 ghost use Rattle.dft_logic.specs.EntryTables.{origin_at, entry_for, entry_needs, entry_at};
 ghost use Rattle.dft_cycle.specs.declared.plans.Stage.TheVariants.{Noted, Made};
 ghost use Rattle.dft_cycle.specs.Views.{PulsesAmong};
-ghost use Rattle.dft_cycle.specs.Plans.{row_of, flags_of, IsPins, IsNeedList, IsPlan, IsNoted, IsFilled, IsPassed};
+ghost use Rattle.dft_cycle.specs.Plans.{row_of, flags_of, IsPins, IsNeedList, IsPlan, IsNoted, IsFilled, LooseAreUnknown, IsPassed};
 
 use dft_base::Tri;
 use dft_logic::{
     Circuit, Entry, Pulse, Shown, Sights, Taking, find_entries, flag_at, has_row, list_marked,
-    list_takings, lower, mark_entries, mark_needed, put_all, read_list, settle, settle_strobe,
-    show_all, strobe_view, take_all,
+    list_takings, lower, mark_entries, mark_needed, read_list, settle, settle_strobe, show_all,
+    strobe_view, take_all,
 };
 use dft_netlist::{InstanceId, NetId};
 
@@ -196,7 +196,7 @@ impl Plan {
         ensures clear { (k : ℕ) → is_up marked.new k ≡ false }
     {
         self.count = list_needs(circuit, entries, marked, &mut self.list);
-        list_takings(entries, &mut self.takings);
+        list_takings(&circuit.flops, entries, &mut self.takings);
         lower(marked);
     }
 
@@ -254,6 +254,7 @@ impl Plan {
         requires values { length values.old ≡ length circuit.now.ops.items }
         requires next { length next.old ≡ length circuit.now.flops.items }
         requires cells { length cells.old ≡ length circuit.now.flops.items }
+        requires loose { LooseAreUnknown circuit.now (spec.value_at cells.old) }
         ensures passed { result ≡ true → IsPassed circuit.now (record { ports = spec.value_at ports.now; pulsed = is_up pulsed.now; old = spec.value_at cells.old }) cells.new }
         ensures same { result ≡ false → cells.new ≡ cells.old }
     {
@@ -270,7 +271,7 @@ impl Plan {
             return false;
         }
         take_all(&circuit.flops, &self.takings, pulse, values, next);
-        put_all(&self.takings, next, cells);
+        cells.copy_from_slice(next);
         true
     }
 }

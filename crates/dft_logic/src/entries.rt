@@ -182,6 +182,25 @@ impl Entry {
         ensures { result ≡ spec.entry_value (machine.value_at pulse.entry.old.now) (machine.value_at values.now) (next_at (cell_at (map cell_of flops.now) place) (machine.value_at pulse.entry.ports.now) (machine.value_at values.now)) place (entry_of self) }
     {
         match self {
+            Entry::Follows(cell) => value_at(pulse.old, cell.0),
+            other => other.settled_value(place, flops, pulse, values),
+        }
+    }
+
+    /// The same. Most entries follow another flip-flop, and need not come here.
+    #[inline(never)]
+    fn settled_value(
+        self,
+        place: usize,
+        flops: &[FlipFlop],
+        pulse: Pulse<'_>,
+        values: &[Tri],
+    ) -> Tri
+        requires flops { place < length flops.now }
+        requires old { place < length pulse.old.now }
+        ensures { result ≡ spec.entry_value (machine.value_at pulse.entry.old.now) (machine.value_at values.now) (next_at (cell_at (map cell_of flops.now) place) (machine.value_at pulse.entry.ports.now) (machine.value_at values.now)) place (entry_of self) }
+    {
+        match self {
             Entry::Keeps => pulse.old[place],
             Entry::Takes(value) => value,
             Entry::Follows(cell) => value_at(pulse.old, cell.0),

@@ -1,6 +1,6 @@
 //! The statements of a pattern (IEEE 1450-1999 `Pattern`).
 
-ghost use Rattle.std.specs.Prelude.{◌≡◌, ℕ, false, length, option_map, OnOk, IfOk, IfSome};
+ghost use Rattle.std.specs.Prelude.{◌≡◌, ℕ, [], length, option_map, OnOk, IfOk, IfSome};
 ghost use Rattle.dft_stil_text.specs.Statements as spec;
 ghost use Rattle.dft_stil_tokens.specs.Steps.{left};
 ghost use Rattle.dft_stil.specs.TablesShown.{AreWide};
@@ -13,11 +13,13 @@ use crate::names::Names;
 use crate::shape_table::ShapeTable;
 use crate::tables::Tables;
 use crate::vector::{Vector, assignment};
-use dft_patterns::{Act, Acts};
+use dft_patterns::Acts;
 use dft_stil_tokens::{Cause, ReadError, TokenKind, Tokens, fault_at, unknown};
 use std::alloc::{AllocError, Global};
+use std::mem::replace;
 
-/// A pattern so far: the table of the last `W`, by number, the acts of the last vector, and the vectors.
+/// A pattern so far: the table of the last `W`, by number, the acts of the last vector, and the vectors. While a vector is
+/// read, its acts are out.
 #[derive(Debug, Drop)]
 pub struct Pattern {
     pub table: Option<usize>,
@@ -34,15 +36,13 @@ fn shapes_at(tables: &Tables, number: Option<usize>) -> Option<&ShapeTable>
 }
 
 // A vector that mentions no signal, behind one with these acts.
-fn begun(alloc: Global, acts: &[Act]) -> Result<Vector, AllocError>
-    ensures value { IfOk result (λ v. vector_as v ≡ spec.begun acts.now) }
-    ensures acts { IfOk result (λ v. length v.acts ≡ length acts.now) }
-    ensures told { IfOk result (λ v. length v.told.items ≡ length acts.now) }
+fn begun(alloc: Global, acts: Acts) -> Result<Vector, AllocError>
+    ensures value { IfOk result (λ v. vector_as v ≡ spec.begun acts) }
+    ensures acts { IfOk result (λ v. length v.acts ≡ length acts) }
+    ensures told { IfOk result (λ v. length v.told.items ≡ length acts) }
 {
-    Ok(Vector {
-        acts: Acts::copied(alloc, acts)?,
-        told: vec![in alloc; false; acts.len()]?,
-    })
+    let told = vec![in alloc; false; acts.count()]?;
+    Ok(Vector { acts, told })
 }
 
 // The assignments of a vector, and its brace.
@@ -69,25 +69,34 @@ fn assignments(
     Err(tokens.no_token())
 }
 
-// The assignments of a vector behind this pattern.
+// The assignments of a vector behind one with these acts, by the table with this number.
 fn assigned(
     alloc: Global,
     names: &Names,
     tables: &Tables,
-    pattern: &Pattern,
+    table: Option<usize>,
+    acts: Acts,
     tokens: &mut Tokens<'_>,
 ) -> Result<Vector, ReadError>
-    requires acts { length pattern.now.acts ≡ length names.now.signals }
+    requires acts { length acts ≡ length names.now.signals }
     requires wide { AreWide (length names.now.signals) tables.now }
-    ensures read { ReadsText vector_as (spec.assignments_from (left tokens.old) names.now (spec.shapes_at tables.now pattern.now.table) (spec.begun pattern.now.acts) tokens.old) result tokens.new }
+    ensures read { ReadsText vector_as (spec.assignments_from (left tokens.old) names.now (spec.shapes_at tables.now table) (spec.begun acts) tokens.old) result tokens.new }
     ensures acts { IfOk result (λ v. length v.acts ≡ length names.now.signals) }
 {
-    let begun = begun(alloc, pattern.acts.as_slice())?;
-    let shapes = shapes_at(tables, pattern.table);
+    let begun = begun(alloc, acts)?;
+    let shapes = shapes_at(tables, table);
     assignments(alloc, names, shapes, begun, tokens)
 }
 
-// Adds a vector with these acts.
+// Takes the acts of the last vector out of a pattern.
+fn taken_acts(alloc: Global, pattern: &mut Pattern) -> Acts
+    ensures acts { result ≡ pattern.old.acts }
+    ensures left { pattern_as pattern.new ≡ record (pattern_as pattern.old) { acts = [] } }
+{
+    replace(&mut pattern.acts, Acts::new(alloc))
+}
+
+// Adds a vector with these acts, which are copied into it.
 fn add_acts(alloc: Global, pattern: &mut Pattern, acts: Acts) -> Result<(), AllocError>
     ensures added { OnOk result (pattern_as pattern.new ≡ spec.with_acts acts (pattern_as pattern.old)) }
     ensures acts { OnOk result (pattern.new.acts ≡ acts) }
@@ -118,7 +127,8 @@ fn vector(
         return Err(fault_at(Cause::Count, place));
     }
     tokens.expect(TokenKind::OpenBrace)?;
-    let vector = assigned(alloc, names, tables, pattern, tokens)?;
+    let acts = taken_acts(alloc, pattern);
+    let vector = assigned(alloc, names, tables, pattern.table, acts, tokens)?;
     add_acts(alloc, pattern, vector.acts)?;
     Ok(())
 }

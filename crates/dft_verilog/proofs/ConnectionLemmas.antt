@@ -17,22 +17,19 @@ use Rattle.dft_netlist.specs.Sound.{IsLive, is_output, IsInstanceOf}
 use Rattle.dft_netlist_text.specs.Modules.{Draft}
 use Rattle.dft_netlist_text.specs.Items.{Joined, unjoined, pin_drives, is_driving, signal_at, cell_instance}
 use Rattle.dft_verilog_draft.specs.Drafts.{InstanceFits, nets_alone}
-use Rattle.dft_verilog_draft.specs.Operands.{IsBit, AreBits}
+use Rattle.dft_verilog_draft.specs.Operands.{IsBit}
 use Rattle.dft_verilog.specs.JoinedPins.{IsPinSignal, FitsCell}
-use Rattle.dft_verilog_draft.proofs.OperandLemmas.{grows_on, grows_not, first_bit}
+use Rattle.dft_verilog_draft.proofs.OperandLemmas.{grows_on, grows_not}
 use Rattle.dft_verilog.proofs.GateLemmas.{named_room, named_library}
 
 -- ---- what a pin may be joined to
 
-pin_bit : (count : ℕ) (drives : Bool) (s : Signal) → IsBit count drives s → IsPinSignal count drives s
+-- the one bit of an expression at a pin
+pub pin_bit : (count : ℕ) (drives : Bool) (s : Signal) → IsBit count drives s → IsPinSignal count drives s
 pin_bit count drives (signal.Net net) h = h
 pin_bit count true (signal.Constant bit) h = h
 pin_bit count false (signal.Constant bit) h = h
 pin_bit count drives signal.Unconnected h = absurd h
-
--- the one bit of an expression at a pin
-pub pin_of_bits : (count : ℕ) (drives : Bool) (s : Signal) (bits : List Signal) → bits ≡ s ∷ [] → AreBits count drives bits → IsPinSignal count drives s
-pin_of_bits count drives s bits one h = pin_bit count drives s (first_bit count drives s bits one h)
 
 -- a pin may stay unconnected
 pub pin_free : (count : ℕ) (drives : Bool) → IsPinSignal count drives signal.Unconnected
@@ -150,6 +147,6 @@ instance_stands d id word cell joined pins all at h =
 
 pub ruleset unjoined_pins = (fits_unjoined)
 
-pub ruleset pins = (pin_of_bits, pin_free, fits_more, fits_with, grows_on, grows_not)
+pub ruleset pins = (pin_bit, pin_free, fits_more, fits_with, grows_on, grows_not)
 
 pub ruleset instances = (instance_fits, fits_unjoined, named_room, named_library, grows_on, grows_not)

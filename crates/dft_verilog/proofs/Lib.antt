@@ -1,4 +1,5 @@
 pub mod NestLemmas
+pub mod LoneNameLemmas
 pub mod ConnectionLemmas
 pub mod FaultLemmas
 pub mod GateLemmas

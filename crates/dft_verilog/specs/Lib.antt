@@ -3,6 +3,7 @@ pub mod Built
 pub mod Declarations
 pub mod Facings
 pub mod JoinedPins
+pub mod LoneNames
 pub mod NestShown
 pub mod Refusals
 pub mod FinalNets

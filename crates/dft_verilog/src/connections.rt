@@ -6,9 +6,8 @@ ghost use Rattle.dft_verilog.specs.JoinedPins.{FitsCell, IsPinSignal};
 ghost use Rattle.dft_verilog_draft.specs.Operands.{Grows};
 ghost use Rattle.dft_verilog_tokens.specs.Reading.{Reads};
 
-use crate::gates::one_bit;
 use crate::joined_pins::JoinedPins;
-use crate::nesting::expression;
+use crate::single_bits::single_bit;
 use dft_cells::{Cell, Role};
 use dft_netlist::Signal;
 use dft_netlist_text::{Site, TokenKind};
@@ -93,8 +92,7 @@ fn pin_signal<'a>(
     ensures to { IfOk result (λ to. IsPinSignal (length draft.new.nets) (spec.pin_drives (slice_get cell.now.pins pin)) to) }
 {
     let drives = pin_drives(cell, pin);
-    let bits = expression(Site::Pin { drives }, draft, tokens)?;
-    one_bit(place, bits.as_slice())
+    single_bit(Site::Pin { drives }, place, draft, tokens)
 }
 
 #[tactic(auto, using(dft_verilog_draft::proofs::OperandLemmas::growing), unfolding(dft_netlist_text::specs::Items::pin_content))]

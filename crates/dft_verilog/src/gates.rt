@@ -8,7 +8,7 @@ ghost use Rattle.dft_netlist.specs.Sound.{is_primitive};
 ghost use Rattle.dft_verilog_draft.specs.Operands.{Grows, AreBits, IsBit};
 ghost use Rattle.dft_verilog_tokens.specs.Reading.{Reads};
 
-use crate::nesting::expression;
+use crate::single_bits::single_bit;
 use dft_cells::Kind;
 use dft_netlist::{CellRef, MAX_INSTANCES, PinSignals, Signal};
 use dft_netlist_text::{Cause, Site, TokenKind};
@@ -43,18 +43,7 @@ fn has_inputs(kind: Kind, count: usize) -> bool
     }
 }
 
-/// The one bit of an expression; another number of bits is refused at this place.
-pub fn one_bit(place: usize, bits: &[Signal]) -> Result<Signal, ReadError>
-    ensures read { (d : Draft) (ts : List Token) → Reads (λ bit. (d, bit)) (spec.one_bit place d bits.now ts) result ts }
-    ensures one { IfOk result (λ bit. bits.now ≡ bit ∷ []) }
-{
-    match bits {
-        [bit] => Ok(*bit),
-        _ => Err(refused(place, Cause::Misfit)),
-    }
-}
-
-#[tactic(auto, using(dft_verilog_draft::proofs::OperandLemmas::one), unfolding(dft_netlist_text::specs::Items::terminal))]
+#[tactic(auto, unfolding(dft_netlist_text::specs::Items::terminal))]
 // A terminal of a gate; its width is tested at its first token.
 fn terminal<'a>(
     drives: bool,
@@ -66,8 +55,7 @@ fn terminal<'a>(
     ensures bit { IfOk result (λ bit. IsBit (length draft.new.nets) drives bit) }
 {
     let place = tokens.left();
-    let bits = expression(Site::Terminal { drives }, draft, tokens)?;
-    one_bit(place, bits.as_slice())
+    single_bit(Site::Terminal { drives }, place, draft, tokens)
 }
 
 // The terminals behind the first.

@@ -16,6 +16,7 @@ mod module_items;
 mod nesting;
 mod operands;
 mod reader;
+mod single_bits;
 
 pub use dft_verilog_tokens::MAX_TEXT;
 pub use error::VerilogError;

@@ -1,8 +1,8 @@
 -- What a draft keeps when it says more.
-use Rattle.std.proofs.Common.{◌≡◌, ℕ, ◌+◌, ◌≤◌, Bool, true, false, cond, List, [], ◌∷◌, ◌++◌, length, Option, Some, None, ap, arith, length-append, IfSome, option_map}
+use Rattle.std.proofs.Common.{◌≡◌, ℕ, ◌+◌, ◌<◌, ◌≤◌, Bool, true, false, cond, List, [], ◌∷◌, ◌++◌, length, Option, Some, None, ap, arith, length-append, IfSome, option_map}
 use Rattle.std.specs.Str.{bytes_eq}
 use Rattle.dft_verilog_draft.specs.TakenNames.{meaning_in}
-use Rattle.std.proofs.lemmas.List.Elements.{All-weaker, All-head, All-tail}
+use Rattle.std.proofs.lemmas.List.Elements.{All-weaker, All-head, All-tail, All-append, All-cons, All-nil}
 use Rattle.dft_base.specs.Lexing.{Text}
 use Rattle.dft_cells.specs.declared.cell.Cell.{Cell}
 use Rattle.dft_netlist_text.specs.declared.text.Meaning.{Meaning}
@@ -14,7 +14,7 @@ use Rattle.dft_netlist.specs.declared.instance.Instance.{Instance}
 use Rattle.dft_netlist.specs.declared.instance.Join.{Join}
 use Rattle.dft_netlist.specs.declared.limits.TheConstants.{MAX_NETS}
 use Rattle.dft_netlist.specs.Sound.{IsLive}
-use Rattle.dft_netlist_text.specs.Modules.{Draft, HeaderPort, Entry}
+use Rattle.dft_netlist_text.specs.Modules.{Draft, HeaderPort, Entry, next_shape}
 use Rattle.dft_verilog_draft.specs.Drafts.{IsDraft, IsMeaningWithin, AreNamesWithin, IsDeclaredWithin, InstanceFits, JoinFits, bare, nets_alone}
 
 -- ---- more nets
@@ -80,3 +80,15 @@ pub meaning-within : (n : ℕ) (names : List Entry) (word : Text) → AreNamesWi
 meaning-within n [] word all = tt
 meaning-within n (e ∷ es) word all =
     within_by n (bytes_eq e.name word) e _ (All-head (λ (x : Entry). IsMeaningWithin n x.meaning) e es all) (meaning-within n es word (All-tail (λ (x : Entry). IsMeaningWithin n x.meaning) e es all))
+
+-- a name that stands for the next net, which is there too
+pub IsDraft-net : (d : Draft) (word : Text) → length d.nets < MAX_NETS → IsDraft d →
+    IsDraft (record d { names = d.names ++ record { name = word; meaning = meaning.Nets (next_shape d None) } ∷ []; nets = d.nets ++ word ∷ [] })
+IsDraft-net d word room h =
+    let more = length-append d.nets (word ∷ []) in
+    let e : Draft = record d { nets = d.nets ++ word ∷ [] } in
+    let grown : IsDraft e = IsDraft-nets d (d.nets ++ word ∷ []) (omega (arith, more)) (omega (arith, more)) h in
+    let name : Entry = record { name = word; meaning = meaning.Nets (next_shape d None) } in
+    IsDraft-names e (d.names ++ name ∷ [])
+    (All-append (λ (x : Entry). IsMeaningWithin (length e.nets) x.meaning) d.names (name ∷ []) grown.names (All-cons (λ (x : Entry). IsMeaningWithin (length e.nets) x.meaning) name [] (omega (arith, more)) (All-nil (λ (x : Entry). IsMeaningWithin (length e.nets) x.meaning))))
+    grown

@@ -7,3 +7,4 @@ pub mod DeclareLemmas
 pub mod SelectLemmas
 pub mod NamingLemmas
 pub mod OperandLemmas
+pub mod LoneLemmas

@@ -1,7 +1,8 @@
 -- The table of taken names: look-ups by bytes, and one name more.
-use Rattle.std.proofs.Common.{◌≡◌, ℕ, Bool, true, false, cond, List, [], ◌∷◌, map, Option, Some, option_map, refl, sym}
+use Rattle.std.proofs.Common.{◌≡◌, ℕ, Bool, true, false, cond, List, [], ◌∷◌, map, Option, Some, option_map, refl, sym, ap}
 use Rattle.std.specs.Str.{bytes_eq}
 use Rattle.std.specs.Map.{lookup}
+use Rattle.indexmap.specs.IndexMap.{insert_entry}
 use Rattle.std.proofs.lemmas.Slice.Eq.{bytes_eq-Decides}
 use Rattle.std.proofs.lemmas.Bool.Decides.{same_from_decides, Decides-like}
 use Rattle.dft_netlist_text.specs.declared.text.Meaning.{Meaning}
@@ -23,3 +24,12 @@ entry_of shown e = record { name = shown e.0; meaning = e.1 }
 pub meaning_in-map : {K : Type 0} (shown : K → List ℕ) (word : List ℕ) (es : List (K × Meaning)) → lookup (λ k. bytes_eq word (shown k)) es ≡ meaning_in (map (λ e. entry_of shown e) es) word
 meaning_in-map shown word [] = refl
 meaning_in-map shown word (e ∷ es) = rw (bytes_eq-comm word (shown e.0)) (first_or (bytes_eq (shown e.0) word) (entry_of shown e) _ _ (meaning_in-map shown word es))
+
+same_at : {K V : Type 0} (t : Bool) (e : K × V) (es rest : List (K × V)) (v : V) (more : Option V) → cond t (Some e.1) more ≡ Some v → (more ≡ Some v → rest ≡ es) → cond t ((e.0, v) ∷ es) (e ∷ rest) ≡ e ∷ es
+same_at true e es rest v more h others = let same : e.1 ≡ v = cc in ap (λ x. (e.0, x) ∷ es) (sym same)
+same_at false e es rest v more h others = ap (λ r. e ∷ r) (others h)
+
+-- a key that has this value keeps it
+pub insert_entry-same : {K V : Type 0} (eq : K → K → Bool) (es : List (K × V)) (k : K) (v : V) → lookup (eq k) es ≡ Some v → insert_entry eq es k v ≡ es
+insert_entry-same eq [] k v h = absurd (cc)
+insert_entry-same eq (e ∷ es) k v h = same_at (eq k e.0) e es (insert_entry eq es k v) v (lookup (eq k) es) h (insert_entry-same eq es k v)

@@ -1,6 +1,6 @@
 //! Declarations of a module: ports, wires and instances take names (IEEE 1364).
 
-ghost use Rattle.std.specs.Prelude.{◌≡◌, ◌+◌, ◌≤◌, ◌++◌, length, not, nat_lt, None, Some, Ok, IfOk, option_copied};
+ghost use Rattle.std.specs.Prelude.{◌≡◌, ◌+◌, ◌<◌, ◌≤◌, ◌++◌, length, not, nat_lt, None, Some, Ok, IfOk, option_copied};
 ghost use Rattle.dft_base.specs.Name.{IsName};
 ghost use Rattle.dft_netlist_text.specs.Modules as spec;
 ghost use Rattle.dft_verilog_tokens.specs.Checking.{Checks};
@@ -298,6 +298,35 @@ impl<'a> ModuleDraft<'a> {
         requires { IsName word.now }
         ensures { Checks (λ _. self.new) (spec.declare_wire place word.now range self.old) result }
     {
+        match range {
+            None if self.has_room_for_nets(1) => self.declare_lone_wire(place, word),
+            _ => self.declare_any_wire(place, word, range),
+        }
+    }
+
+    /// Declares a wire without a range, for whose net there is room, or repeats a port. Its name is looked up once.
+    fn declare_lone_wire(&mut self, place: usize, word: &'a [u8]) -> Result<(), ReadError>
+        requires name { IsName word.now }
+        requires room { length self.old.nets < MAX_NETS }
+        ensures { Checks (λ _. self.new) (spec.declare_wire place word.now None self.old) result }
+    {
+        match self.put_net(word)? {
+            None => Ok(()),
+            Some(Meaning::Port(port)) => self.repeat_port(place, word, None, port),
+            Some(_) => Err(taken(self.alloc(), place, word)),
+        }
+    }
+
+    /// Declares a wire with or without a range, or repeats a port.
+    fn declare_any_wire(
+        &mut self,
+        place: usize,
+        word: &'a [u8],
+        range: Option<Range>,
+    ) -> Result<(), ReadError>
+        requires { IsName word.now }
+        ensures { Checks (λ _. self.new) (spec.declare_wire place word.now range self.old) result }
+    {
         let meaning = self.meaning(word);
         match port_place(meaning) {
             Some(port) => self.repeat_port(place, word, range, port),
@@ -315,14 +344,25 @@ impl<'a> ModuleDraft<'a> {
         requires { IsName word.now }
         ensures { Checks (λ _. self.new) (spec.name_instance place word.now self.old) result }
     {
+        if self.instance_count() >= MAX_INSTANCES {
+            return self.refuse_instance(place, word);
+        }
+        match self.put(word, Meaning::Instance)? {
+            None => Ok(()),
+            Some(_) => Err(taken(self.alloc(), place, word)),
+        }
+    }
+
+    /// Refuses an instance for which there is no room: at its name, if that is taken.
+    fn refuse_instance(&self, place: usize, word: &[u8]) -> Result<(), ReadError>
+        requires name { IsName word.now }
+        requires full { MAX_INSTANCES ≤ length self.now.instances }
+        ensures { Checks (λ _. self.now) (spec.name_instance place word.now self.now) result }
+    {
         if self.meaning(word).is_some() {
             return Err(taken(self.alloc(), place, word));
         }
-        if self.instance_count() >= MAX_INSTANCES {
-            return Err(full(place, Counted::Instances));
-        }
-        self.take(word, Meaning::Instance)?;
-        Ok(())
+        Err(full(place, Counted::Instances))
     }
 
     /// Tests that there is room for an instance.

@@ -1,9 +1,10 @@
-ghost use Rattle.std.specs.Prelude.{◌≡◌, ◌+◌, ◌<◌, ◌≤◌, ◌++◌, ◌∷◌, [], None, OnOk, IfSome, option_copied, length, drop, slice_set};
+ghost use Rattle.std.specs.Prelude.{◌≡◌, ◌+◌, ◌<◌, ◌≤◌, ◌++◌, ◌∷◌, [], None, OnOk, IfOk, IfSome, option_copied, length, drop, slice_set};
 ghost use Rattle.dft_base.specs.Name.{IsName};
 ghost use Rattle.dft_netlist_text.specs.Modules as spec;
 ghost use Rattle.dft_netlist_text.specs.NetlistText.{first_undeclared};
 ghost use Rattle.dft_verilog_draft.specs.Drafts.{IsDraft, IsMeaningWithin, IsDeclaredWithin, InstanceFits, JoinFits, nets_alone};
 ghost use Rattle.dft_verilog_draft.specs.Free.{AreFreeBits, with_bits_of};
+ghost use Rattle.dft_verilog_draft.specs.TakenNames.{and_put, and_net};
 
 use crate::draft_instance::DraftInstance;
 use crate::header_port::HeaderPort;
@@ -185,6 +186,38 @@ impl<'a> ModuleDraft<'a> {
         ensures { OnOk result (self.new ≡ spec.with_name word.now meaning self.old) }
     {
         self.names.take(Word::read(word), meaning)
+    }
+
+    /// Takes a name if it is free. Tells what it stood for before.
+    pub(crate) fn put(
+        &mut self,
+        word: &'a [u8],
+        meaning: Meaning,
+    ) -> Result<Option<Meaning>, AllocError>
+        requires name { IsName word.now }
+        requires within { IsMeaningWithin (length self.old.nets) meaning }
+        ensures before { IfOk result (λ before. before ≡ spec.meaning_of self.old word.now) }
+        ensures names { IfOk result (λ before. self.new ≡ record self.old { names = and_put word.now meaning before self.old.names }) }
+    {
+        self.names.put(Word::read(word), meaning)
+    }
+
+    /// A name that is free stands for one net of this name from here on. Tells what it stood for before.
+    pub(crate) fn put_net(&mut self, word: &'a [u8]) -> Result<Option<Meaning>, AllocError>
+        requires name { IsName word.now }
+        requires room { length self.old.nets < MAX_NETS }
+        ensures before { IfOk result (λ before. before ≡ spec.meaning_of self.old word.now) }
+        ensures names { IfOk result (λ before. self.new ≡ and_net word.now before self.old) }
+    {
+        let meaning = Meaning::Nets(self.next_shape(None));
+        self.nets.reserve(1)?;
+        match self.names.put(Word::read(word), meaning)? {
+            None => {
+                self.nets.push_reserved(Word::read(word));
+                Ok(None)
+            }
+            Some(before) => Ok(Some(before)),
+        }
     }
 
     /// Takes the names of a vector's bits, which are those of the nets from this one on.

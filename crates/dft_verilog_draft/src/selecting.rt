@@ -1,10 +1,11 @@
 //! What a name gives where it stands in an expression: nets, their bits and parts (IEEE 1364).
 
-ghost use Rattle.std.specs.Prelude.{◌≡◌, ◌≤◌, ◌+◌, ◌<◌, ◌^◌, ◌++◌, ◌&&◌, None, option_map, IfSome, OnOk};
+ghost use Rattle.std.specs.Prelude.{◌≡◌, ◌≤◌, ◌+◌, ◌<◌, ◌^◌, ◌++◌, ◌&&◌, None, length, option_map, IfSome, OnOk};
 ghost use Rattle.dft_base.specs.Name.{IsName};
 ghost use Rattle.dft_netlist_text.specs.Expressions as spec;
 ghost use Rattle.dft_netlist_text.specs.Modules.{declare_nets, declared_at, meaning_of};
 ghost use Rattle.dft_verilog_tokens.specs.Checking.{Checks};
+ghost use Rattle.dft_verilog_draft.specs.Drafts.{IsMeaningWithin};
 ghost use Rattle.dft_verilog_draft.specs.Selecting.{signals_of, behind, and_selected};
 
 use crate::bits::width;
@@ -207,8 +208,27 @@ impl<'a> ModuleDraft<'a> {
         requires { IsName word.now }
         ensures { Checks (λ _. (self.new, bits.new)) (behind bits.old (spec.bits_of_name spot.site spot.depth (record { word = word.now; what = what; place = spot.place }) self.old)) result }
     {
+        let meaning = self.meaning(word);
+        self.bits_of_meaning(spot, word, what, meaning, bits)
+    }
+
+    /// The same of a name that stands for this.
+    pub(crate) fn bits_of_meaning(
+        &mut self,
+        spot: Spot,
+        word: &'a [u8],
+        what: Select,
+        meaning: Option<Meaning>,
+        bits: &mut PinSignals,
+    ) -> Result<(), ReadError>
+        requires name { IsName word.now }
+        requires is { meaning ≡ meaning_of self.old word.now }
+        requires within { IfSome meaning (IsMeaningWithin (length self.old.nets)) }
+        ensures { Checks (λ _. (self.new, bits.new)) (behind bits.old (spec.bits_of_name spot.site spot.depth (record { word = word.now; what = what; place = spot.place }) self.old)) result }
+    {
         let implied = is_implied(spot, what);
-        match self.meaning(word) {
+        let _count = self.net_count();
+        match meaning {
             Some(Meaning::Nets(shape)) => push_selected(bits, spot.place, shape, what),
             Some(Meaning::Port(port)) => self.bits_of_port(spot.place, word, what, port, bits),
             Some(Meaning::Bit) => Err(taken(self.alloc(), spot.place, word)),

@@ -1,11 +1,12 @@
-ghost use Rattle.std.specs.Prelude.{◌≡◌, ℕ, ◌++◌, ◌∷◌, [], None, OnOk, OnErr};
+ghost use Rattle.std.specs.Prelude.{◌≡◌, ℕ, ◌++◌, ◌∷◌, [], None, IfOk, OnOk, OnErr};
 ghost use Rattle.dft_verilog_draft.specs.Drafts.{AreNamesWithin};
 ghost use Rattle.dft_verilog_draft.specs.Free.{AreFree, and_bits};
-ghost use Rattle.dft_verilog_draft.specs.TakenNames.{meaning_in};
+ghost use Rattle.dft_verilog_draft.specs.TakenNames.{meaning_in, and_put};
 
 use dft_netlist_text::Meaning;
 use dft_verilog_tokens::Word;
 use indexmap::IndexMap;
+use indexmap::map::Entry;
 use std::alloc::{AllocError, Global};
 use std::borrow::CowSlice;
 use std::marker::Model;
@@ -53,6 +54,21 @@ impl<'a> TakenNames<'a> {
     {
         self.meanings.insert(word.into_bytes(), meaning)?;
         Ok(())
+    }
+
+    /// Takes a name if it is free. Tells what it stood for before.
+    pub fn put(&mut self, word: Word<'a>, meaning: Meaning) -> Result<Option<Meaning>, AllocError>
+        ensures before { IfOk result (λ before. before ≡ meaning_in self.old word.entry) }
+        ensures names { IfOk result (λ before. self.new ≡ and_put word.entry meaning before self.old) }
+        ensures err { OnErr result (self.new ≡ self.old) }
+    {
+        match self.meanings.entry(word.into_bytes())? {
+            Entry::Occupied(entry) => Ok(Some(*entry.into_mut())),
+            Entry::Vacant(entry) => {
+                entry.insert(meaning);
+                Ok(None)
+            }
+        }
     }
 
     /// Takes the names of bits, which are free.

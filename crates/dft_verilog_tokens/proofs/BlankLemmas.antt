@@ -1,10 +1,11 @@
 -- A text that begins with a `#` or a grave accent, and with no blank.
-use Rattle.std.proofs.Common.{◌≡◌, ℕ, suc, ◌<◌, ◌&&◌, ◌||◌, ◌==◌, not, nat_le, [], ◌∷◌, length, Bool, true, false, cond, get_or, refl, sym, ap, ◌∙◌, subst, arith}
+use Rattle.std.proofs.Common.{◌≡◌, ℕ, suc, ◌<◌, ◌&&◌, ◌==◌, not, [], ◌∷◌, length, Bool, true, false, cond, get_or, refl, sym, ap, ◌∙◌, subst, arith}
 use Rattle.std.proofs.lemmas.Bool.Decides.{nat_tests}
 use Rattle.dft_base.specs.Lexing.{Text}
-use Rattle.std.specs.Prelude.{codes, take}
+use Rattle.std.specs.Prelude.{codes, take, drop}
 use Rattle.std.specs.List.{prefix_len}
 use Rattle.dft_netlist_text.specs.Lexemes.{is_space, begins_with, comment_rest, attribute_rest, closed_len, word_len, is_passed_over, blank_len, begins_blank, is_passed_directive, directive_len, to_blank}
+use Rattle.dft_verilog_tokens.specs.Classes.{is_plain, is_lone_paren}
 
 unpassed : (t : Bool) (len : ℕ) → 0 < len → cond t len 0 ≡ 0 → t ≡ false
 unpassed true len some none = absurd (omega arith)
@@ -53,33 +54,52 @@ nor : (a b : Bool) → a ≡ false → (a && b) ≡ false
 nor true b e = absurd (cc)
 nor false b e = refl
 
-nor_third : (a b c : Bool) → (a && b) ≡ false → (a && (b && c)) ≡ false
-nor_third true true c e = absurd (cc)
-nor_third true false c e = refl
-nor_third false b c e = refl
+nor_second : (a b c : Bool) → b ≡ false → (a && (b && c)) ≡ false
+nor_second true b c e = nor b c e
+nor_second false b c e = refl
 
-none_in : (b d : ℕ) (text : Text) → (nat_le 33 b && not (b == 47) && not (b == 96) && (not (b == 40) || not (d == 42))) ≡ true → 0 ≡ blank_len (b ∷ d ∷ text)
+plain_in : (b : ℕ) (text : Text) → is_plain b ≡ true → 0 ≡ blank_len (b ∷ text)
 unfolding blank_len
-none_in b d text e =
+plain_in b text e =
+    let whole = b ∷ text in
+    let space : is_space b ≡ false = grind (arith, nat_tests) in
+    let slash : (47 == b) ≡ false = grind (arith, nat_tests) in
+    let paren : (40 == b) ≡ false = grind (arith, nat_tests) in
+    let accent : (b == 96) ≡ false = grind (arith, nat_tests) in
+    let line : begins_with (codes "//") whole ≡ false = nor (47 == b) (begins_with (codes "/") text) slash in
+    let comment : begins_with (codes "/*") whole ≡ false = nor (47 == b) (begins_with (codes "*") text) slash in
+    let attribute : begins_with (codes "(*") whole ≡ false = nor (40 == b) (begins_with (codes "*") text) paren in
+    let directive : is_passed_directive whole ≡ false = nor (b == 96) (is_passed_over (take (word_len text) text)) accent in
+    in_none (is_space b) (begins_with (codes "//") whole) (begins_with (codes "/*") whole) (begins_with (codes "(*") whole) (is_passed_directive whole)
+    (prefix_len (λ c. not (c == 10)) whole) (closed_len (comment_rest (drop 1 text))) (closed_len (attribute_rest false (drop 1 text))) (directive_len whole)
+    space line comment attribute directive
+
+paren_in : (b d : ℕ) (text : Text) → is_lone_paren b d ≡ true → 0 ≡ blank_len (b ∷ d ∷ text)
+unfolding blank_len
+paren_in b d text e =
     let whole = b ∷ d ∷ text in
     let space : is_space b ≡ false = grind (arith, nat_tests) in
-    let pair : (40 == b && 42 == d) ≡ false = grind (arith, nat_tests) in
+    let star : (42 == d) ≡ false = grind (arith, nat_tests) in
     let slash : (47 == b) ≡ false = grind (arith, nat_tests) in
     let accent : (b == 96) ≡ false = grind (arith, nat_tests) in
     let line : begins_with (codes "//") whole ≡ false = nor (47 == b) (begins_with (codes "/") (d ∷ text)) slash in
     let comment : begins_with (codes "/*") whole ≡ false = nor (47 == b) (begins_with (codes "*") (d ∷ text)) slash in
-    let attribute : begins_with (codes "(*") whole ≡ false = nor_third (40 == b) (42 == d) (begins_with [] text) pair in
+    let attribute : begins_with (codes "(*") whole ≡ false = nor_second (40 == b) (42 == d) (begins_with [] text) star in
     let directive : is_passed_directive whole ≡ false = nor (b == 96) (is_passed_over (take (word_len (d ∷ text)) (d ∷ text))) accent in
     in_none (is_space b) (begins_with (codes "//") whole) (begins_with (codes "/*") whole) (begins_with (codes "(*") whole) (is_passed_directive whole)
     (prefix_len (λ c. not (c == 10)) whole) (closed_len (comment_rest text)) (closed_len (attribute_rest false text)) (directive_len whole)
     space line comment attribute directive
 
--- no blank begins at a printed byte that is no slash, grave accent, or bracket before a star
-pub printed_begins : (text : Text) (d : ℕ) → 1 < length text
-    → (nat_le 33 (get_or text 0 d) && not (get_or text 0 d == 47) && not (get_or text 0 d == 96) && (not (get_or text 0 d == 40) || not (get_or text 1 d == 42))) ≡ true → 0 ≡ blank_len text
-printed_begins [] d some e = absurd (omega arith)
-printed_begins (b ∷ []) d some e = absurd (omega arith)
-printed_begins (b ∷ c ∷ text) d some e = none_in b c text e
+-- no blank begins at a plain byte
+pub plain_begins : (text : Text) (d : ℕ) → 0 < length text → is_plain (get_or text 0 d) ≡ true → 0 ≡ blank_len text
+plain_begins [] d some e = absurd (omega arith)
+plain_begins (b ∷ text) d some e = plain_in b text e
+
+-- no blank begins at a bracket that opens no attribute
+pub paren_begins : (text : Text) (d e : ℕ) → 1 < length text → is_lone_paren (get_or text 0 d) (get_or text 1 e) ≡ true → 0 ≡ blank_len text
+paren_begins [] d e some h = absurd (omega arith)
+paren_begins (b ∷ []) d e some h = absurd (omega arith)
+paren_begins (b ∷ c ∷ text) d e some h = paren_in b c text h
 
 one_if : (t : Bool) (n : ℕ) → t ≡ true → 1 ≡ cond t 1 n
 one_if true n e = refl
@@ -94,7 +114,7 @@ pub space_begins : (text : Text) (d : ℕ) → 0 < length text → is_space (get
 space_begins [] d some e = absurd (omega arith)
 space_begins (b ∷ text) d some e = space_in b text e
 
-pub ruleset no_blank_begins = (printed_begins, space_begins)
+pub ruleset no_blank_begins = (plain_begins, paren_begins, space_begins)
 
 pub ruleset no_blank = (grave_begins, hash_begins)
 

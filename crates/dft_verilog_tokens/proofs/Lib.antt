@@ -1,7 +1,7 @@
 pub mod BlankLemmas
 pub mod FrontLemmas
 pub mod NameLemmas
-pub mod WordByteLemmas
+pub mod ClassLemmas
 pub mod WordKindLemmas
 pub mod DigitLemmas
 pub mod SmallWordLemmas

@@ -5,6 +5,8 @@ ghost use Rattle.std.specs.List.{prefix_len};
 ghost use Rattle.dft_base.specs.Words as words;
 ghost use Rattle.dft_netlist_text.specs.Lexemes as spec;
 
+use crate::classes::{is_in_word, is_lone_paren, is_plain};
+
 /// The most bytes that a netlist text may have: 64 MiB.
 pub const MAX_TEXT: usize = 67_108_864;
 
@@ -20,34 +22,6 @@ pub fn is_printed(byte: u8) -> bool
     ensures { result ≡ spec.is_printed byte }
 {
     33 <= byte && byte <= 126
-}
-
-// Whether no blank begins with these bytes: the first is printed, no slash and no grave accent, and they open no
-// attribute.
-fn begin_no_blank(first: u8, second: u8) -> bool
-    ensures { result ≡ (nat_le 33 first && not (first == 47) && not (first == 96) && (not (first == 40) || not (second == 42))) }
-{
-    33 <= first && first != b'/' && first != b'`' && (first != b'(' || second != b'*')
-}
-
-// 1 for each byte with which a word may go on, and 0 for another.
-static WORD_BYTES: [u8; 256] = [
-    0, 0, 0, 0, 0, 0, 0, 0, 0, 0, 0, 0, 0, 0, 0, 0, 0, 0, 0, 0, 0, 0, 0, 0, 0, 0, 0, 0, 0, 0, 0, 0,
-    0, 0, 0, 0, 1, 0, 0, 0, 0, 0, 0, 0, 0, 0, 0, 0, 1, 1, 1, 1, 1, 1, 1, 1, 1, 1, 0, 0, 0, 0, 0, 0,
-    0, 1, 1, 1, 1, 1, 1, 1, 1, 1, 1, 1, 1, 1, 1, 1, 1, 1, 1, 1, 1, 1, 1, 1, 1, 1, 1, 0, 0, 0, 0, 1,
-    0, 1, 1, 1, 1, 1, 1, 1, 1, 1, 1, 1, 1, 1, 1, 1, 1, 1, 1, 1, 1, 1, 1, 1, 1, 1, 1, 0, 0, 0, 0, 0,
-    0, 0, 0, 0, 0, 0, 0, 0, 0, 0, 0, 0, 0, 0, 0, 0, 0, 0, 0, 0, 0, 0, 0, 0, 0, 0, 0, 0, 0, 0, 0, 0,
-    0, 0, 0, 0, 0, 0, 0, 0, 0, 0, 0, 0, 0, 0, 0, 0, 0, 0, 0, 0, 0, 0, 0, 0, 0, 0, 0, 0, 0, 0, 0, 0,
-    0, 0, 0, 0, 0, 0, 0, 0, 0, 0, 0, 0, 0, 0, 0, 0, 0, 0, 0, 0, 0, 0, 0, 0, 0, 0, 0, 0, 0, 0, 0, 0,
-    0, 0, 0, 0, 0, 0, 0, 0, 0, 0, 0, 0, 0, 0, 0, 0, 0, 0, 0, 0, 0, 0, 0, 0, 0, 0, 0, 0, 0, 0, 0, 0,
-];
-
-// Whether a word may go on with this byte.
-#[inline(always)]
-fn is_in_word(byte: u8) -> bool
-    ensures { result ≡ words.continues_word byte }
-{
-    WORD_BYTES[byte as usize] == 1
 }
 
 /// How many bytes the word at the front has; a text may begin with none.
@@ -172,7 +146,8 @@ pub fn blank_len(text: &[u8]) -> usize
     ensures within { result ≤ length text.now }
 {
     match text {
-        [first, second, ..] if begin_no_blank(*first, *second) => 0,
+        [first, ..] if is_plain(*first) => 0,
+        [first, second, ..] if is_lone_paren(*first, *second) => 0,
         [first, ..] if is_space(*first) => 1,
         _ => any_blank_len(text),
     }

@@ -118,9 +118,11 @@ impl<'a> Tokens<'a> {
     {
         let bytes = self.bytes();
         let (_, rest) = self.ahead.split_at(self.front.len);
-        self.behind_base = is_base_kind(self.front.kind);
-        self.ahead = skip_blanks(rest);
-        let front = cut(self.behind_base, self.ahead);
+        let behind_base = is_base_kind(self.front.kind);
+        let ahead = skip_blanks(rest);
+        let front = cut(behind_base, ahead);
+        self.behind_base = behind_base;
+        self.ahead = ahead;
         self.front.kind = front.kind;
         self.front.len = front.len;
         self.front.prefix = front.prefix;

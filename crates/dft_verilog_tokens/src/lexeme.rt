@@ -10,8 +10,8 @@ ghost use Rattle.dft_netlist_text.specs.declared.text.TokenKind.TheVariants as k
 ghost use Rattle.dft_verilog_tokens.specs.Cut.{carries_name, shown};
 
 use crate::blanks::{MAX_TEXT, begins_blank, is_printed, is_space, word_len};
+use crate::classes::{begins_word, is_lone_paren, is_mark, lone_mark_kind};
 use crate::words::{mark_kind, word_kind};
-use dft_base::begins_word;
 use dft_netlist_text::TokenKind;
 
 /// The token at the front of a text.
@@ -205,10 +205,32 @@ fn directive(text: &[u8]) -> Lexeme
     Lexeme::plain(TokenKind::Directive, len).with_printed(&text[..len])
 }
 
-#[tactic(auto, using(crate::proofs::BlankLemmas::no_blank), unfolding(dft_netlist_text::specs::Lexemes::lexeme))]
+#[tactic(auto, using(crate::proofs::ClassLemmas::marks_in_front))]
 /// The token at the front of a text that begins with no blank. Behind a base a run of letters, digits and `_` is one token.
 #[inline(always)]
 pub fn cut(behind_base: bool, text: &[u8]) -> Lexeme
+    requires { length text.now ≤ MAX_TEXT }
+    ensures value { shown result ≡ spec.lexeme behind_base text.now }
+    ensures within { result.len ≤ length text.now }
+    ensures moves { 0 < length text.now → spec.blank_len text.now ≡ 0 → 0 < result.len }
+    ensures placed { result.at ≤ length text.now }
+    ensures inside { result.at < length text.now → spec.blank_len text.now ≡ 0 → result.at < result.len }
+    ensures named { result.prefix ≤ result.len }
+    ensures name { carries_name result.kind ≡ true → spec.blank_len text.now ≡ 0 → IsName (drop result.prefix (take result.len text.now)) }
+{
+    match text {
+        [first, ..] if is_mark(*first) => Lexeme::plain(lone_mark_kind(*first), 1),
+        [first, second, ..] if is_lone_paren(*first, *second) => {
+            Lexeme::plain(TokenKind::OpenParen, 1)
+        }
+        _ => cut_any(behind_base, text),
+    }
+}
+
+#[tactic(auto, using(crate::proofs::BlankLemmas::no_blank), unfolding(dft_netlist_text::specs::Lexemes::lexeme))]
+// The token at the front of a text that begins with no blank.
+#[inline(always)]
+fn cut_any(behind_base: bool, text: &[u8]) -> Lexeme
     requires { length text.now ≤ MAX_TEXT }
     ensures value { shown result ≡ spec.lexeme behind_base text.now }
     ensures within { result.len ≤ length text.now }

@@ -2,6 +2,7 @@
 #![tactic(auto)]
 
 mod blanks;
+mod classes;
 mod constants;
 mod cursor;
 mod faults;

@@ -87,7 +87,7 @@ fn reserved_kind(word: &[u8]) -> TokenKind
 
 #[tactic(auto, unfolding(dft_netlist_text::specs::Lexemes::mark_kind))]
 /// The kind of a byte that stands for itself.
-#[inline(always)]
+#[inline(never)]
 pub fn mark_kind(byte: u8) -> TokenKind
     ensures value { result ≡ spec.mark_kind byte }
     ensures name { carries_name result ≡ false }

@@ -33,6 +33,7 @@ invariant_of-self c =
       quick = refilled d.quick c.read-read.new.values ∙ i.quick;
       plans = i.plans;
       looks = c.read-read.ensures.looks;
+      loose = i.loose;
       flags = i.flags;
     }
 
@@ -61,6 +62,7 @@ invariant_of-self-else-not-read c =
       quick = refilled d.quick c.read-read.new.values ∙ i.quick;
       plans = i.plans;
       looks = c.read-read.ensures.looks;
+      loose = i.loose;
       flags = i.flags;
     }
 

@@ -37,6 +37,7 @@ invariant_of-self c =
       quick = i.quick;
       plans = i.plans;
       looks = i.looks;
+      loose = i.loose;
       flags = i.flags;
     }
 

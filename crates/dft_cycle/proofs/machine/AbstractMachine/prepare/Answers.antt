@@ -55,6 +55,7 @@ invariant_of-result c =
       quick = ap length c.in_ok-quick.ensures ∙ length-replicate _ _ ∙ count ∙ sym nets;
       plans = subst (λ (l : List NetId). ArePlans x l c.in_ok-plans.plans) c.deref-2.ensures.value c.in_ok-plans.ensures.plans;
       looks = c.in_ok-looks.ensures;
+      loose = λ k is. ap (λ (l : List Tri). value_at l k) c.in_ok-bits.ensures ∙ unknown_all _ k;
       flags = λ e up. sym (same e) ∙ ap (λ (l : List Bool). flag_at l e) read ∙ up;
     }
 

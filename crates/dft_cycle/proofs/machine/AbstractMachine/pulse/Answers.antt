@@ -9,7 +9,7 @@ use Rattle.dft_logic.specs.Circuit.{flag_at}
 use Rattle.dft_cycle.specs.Views.{Among}
 use Rattle.dft_cycle.specs.Plans.{ArePlans}
 use Rattle.dft_cycle.specs.MachineShown.{machine_of}
-use Rattle.dft_cycle.proofs.MachineLemmas.{refilled, filled, clear_kept, pulses_among, flags_one, pulse_passed}
+use Rattle.dft_cycle.proofs.MachineLemmas.{refilled, filled, clear_kept, loose_kept, passed_loose, pulses_among, flags_one, pulse_passed}
 use Rattle.dft_cycle.proofs.machine.AbstractMachine.pulse.Goals as goal
 
 pub mark-requires-clause-live : goal.mark-requires-clause-live
@@ -30,11 +30,16 @@ take-taken-requires-clause-among c = λ e up.
     subst Q (sym named) (pulses_among d.clocks.items c.args.pulsed.now e
     (sym (ap (λ (l : List NetId). pulses l c.args.pulsed.now e) clocks) ∙ sym (c.mark.ensures e) ∙ sym (ap (λ (l : List Bool). flag_at l e) marked) ∙ up)))
 
+pub take-taken-requires-clause-loose : goal.take-taken-requires-clause-loose
+take-taken-requires-clause-loose c = λ k is. ap (λ (l : List Tri). value_at l k) c.deref_mut-5.ensures.value ∙ c.self.invariant.loose k is
+
 pub invariant_of-self : goal.invariant_of-self
 unfolding logic
 invariant_of-self c =
     let i = c.self.invariant in
     let d = c.self.inside in
+    let old : c.deref_mut-5.result.now ≡ d.cells.items = c.deref_mut-5.ensures.value in
+    let p : Pulse = record { ports = value_at c.deref-3.result.now; pulsed = flag_at c.deref-4.result.now; old = value_at c.deref_mut-5.result.now } in
     record {
       circuit = i.circuit;
       compiled = i.compiled;
@@ -55,6 +60,9 @@ invariant_of-self c =
       quick = refilled d.quick c.take-taken.new.values ∙ i.quick;
       plans = subst (λ (l : List NetId). ArePlans d.circuit l c.take-taken.new.self) c.deref-2.ensures.value c.take-taken.ensures.plans;
       looks = i.looks;
+      loose = loose_kept d.circuit d.cells c.take-taken.new.cells c.deref_mut-5.result.now c.take-taken.auto.cells old
+          (passed_loose d.circuit p d.cells.items c.take-taken.new.cells c.take-taken.result (c.take-taken.auto.cells ∙ ap length old ∙ i.cells) (λ k. ap (λ (l : List Tri). value_at l k) old) i.loose c.take-taken.ensures.passed
+          (λ down. c.take-taken.ensures.same down ∙ old));
       flags = flags_one d.clocks.items c.args.pulsed.now d.pulsed c.mark.new.flags c.deref.result.now c.deref_mut.result.now c.mark.auto.flags c.deref_mut.ensures.value c.deref.ensures.value c.mark.ensures;
     }
 
@@ -63,6 +71,8 @@ unfolding logic
 invariant_of-self-else-not-taken c =
     let i = c.self.invariant in
     let d = c.self.inside in
+    let old : c.deref_mut-5.result.now ≡ d.cells.items = c.deref_mut-5.ensures.value in
+    let p : Pulse = record { ports = value_at c.deref-3.result.now; pulsed = flag_at c.deref-4.result.now; old = value_at c.deref_mut-5.result.now } in
     record {
       circuit = i.circuit;
       compiled = i.compiled;
@@ -83,6 +93,9 @@ invariant_of-self-else-not-taken c =
       quick = refilled d.quick c.take-taken.new.values ∙ i.quick;
       plans = subst (λ (l : List NetId). ArePlans d.circuit l c.take-taken.new.self) c.deref-2.ensures.value c.take-taken.ensures.plans;
       looks = i.looks;
+      loose = loose_kept d.circuit d.cells c.take-taken.new.cells c.deref_mut-5.result.now c.take-taken.auto.cells old
+          (passed_loose d.circuit p d.cells.items c.take-taken.new.cells c.take-taken.result (c.take-taken.auto.cells ∙ ap length old ∙ i.cells) (λ k. ap (λ (l : List Tri). value_at l k) old) i.loose c.take-taken.ensures.passed
+          (λ down. c.take-taken.ensures.same down ∙ old));
       flags = flags_one d.clocks.items c.args.pulsed.now d.pulsed c.mark.new.flags c.deref.result.now c.deref_mut.result.now c.mark.auto.flags c.deref_mut.ensures.value c.deref.ensures.value c.mark.ensures;
     }
 

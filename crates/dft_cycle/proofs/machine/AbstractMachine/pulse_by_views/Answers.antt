@@ -8,7 +8,7 @@ use Rattle.dft_cycle.specs.Machine.{Machine, logic, value_at, pulses, IsPulsed}
 use Rattle.dft_logic.specs.Circuit.{flag_at, logic_at}
 use Rattle.dft_cycle.specs.Views.{Among}
 use Rattle.dft_cycle.specs.MachineShown.{machine_of}
-use Rattle.dft_cycle.proofs.MachineLemmas.{refilled, filled, clear_kept, ready_kept, pulse_done, taken_read, pulses_among, flags_one}
+use Rattle.dft_cycle.proofs.MachineLemmas.{refilled, filled, clear_kept, ready_kept, pulsed_loose, pulse_done, taken_read, pulses_among, flags_one}
 use Rattle.dft_cycle.proofs.machine.AbstractMachine.pulse_by_views.Goals as goal
 
 pub mark-requires-clause-live : goal.mark-requires-clause-live
@@ -41,11 +41,15 @@ find_least-requires-clause-pulsing c = λ e up.
     (sym (ap (λ (l : List NetId). pulses l c.args.pulsed.now e) clocks) ∙ sym (c.mark.ensures e) ∙ sym (ap (λ (l : List Bool). flag_at l e) marked) ∙ up)))
 
 pub invariant_of-self : goal.invariant_of-self
-unfolding logic
+unfolding logic logic_at
 invariant_of-self c =
     let i = c.self.invariant in
     let d = c.self.inside in
     let poss = with_items d.poss c.copy_from_slice.new.self in
+    let cells = with_items d.cells c.take.new.cells in
+    let nexts : c.deref_mut-6.result.now ≡ d.next.items = c.deref_mut-6.ensures.value in
+    let before : c.deref_mut-7.result.now ≡ d.cells.items = c.deref_mut-7.ensures.value in
+    let p : Pulse = record { ports = value_at c.deref-3.result.now; pulsed = flag_at c.deref-4.result.now; old = value_at c.deref-5.result.now } in
     record {
       circuit = i.circuit;
       compiled = i.compiled;
@@ -66,6 +70,10 @@ invariant_of-self c =
       quick = i.quick;
       plans = i.plans;
       looks = i.looks;
+      loose = pulsed_loose d.circuit p c.find_least.new.poss c.find_least.new.next d.cells.items cells.items i.circuit (refilled d.cells c.take.new.cells ∙ i.cells) i.loose c.find_least.ensures.next
+          (taken_read d.circuit.flops.items c.deref-7.result.now c.deref-4.result.now c.deref-8.result.now c.find_least.new.next c.deref-9.result.now d.cells.items c.deref_mut-7.result.now cells.items c.take.new.cells
+          c.deref-7.ensures.value (c.deref-8.ensures.value ∙ sym c.deref-4.ensures.value) (c.deref-9.ensures.value ∙ filled d.next c.find_least.new.next c.deref_mut-6.result.now c.find_least.auto.next nexts) before
+          (filled d.cells c.take.new.cells c.deref_mut-7.result.now c.take.auto.cells before) c.take.ensures);
       flags = flags_one d.clocks.items c.args.pulsed.now d.pulsed c.mark.new.flags c.deref.result.now c.deref_mut.result.now c.mark.auto.flags c.deref_mut.ensures.value c.deref.ensures.value c.mark.ensures;
     }
 

@@ -4,13 +4,15 @@ use Rattle.std.proofs.Math.ListN.{length-set}
 use Rattle.std.specs.Vec.{with_items, with_item}
 use Rattle.dft_cycle.specs.Machine.{Machine, logic, IsSet}
 use Rattle.dft_cycle.specs.MachineShown.{machine_of}
-use Rattle.dft_cycle.proofs.MachineLemmas.{refilled, filled, set_done, acted_read}
+use Rattle.dft_cycle.proofs.MachineLemmas.{refilled, filled, set_done, set_loose, acted_read}
 use Rattle.dft_cycle.proofs.machine.AbstractMachine.set.Goals as goal
 
 pub invariant_of-self : goal.invariant_of-self
 unfolding logic
 invariant_of-self c =
     let i = c.self.invariant in
+    let d = c.self.inside in
+    let cells = with_items d.cells c.act.new.cells in
     record {
       circuit = i.circuit;
       compiled = i.compiled;
@@ -21,7 +23,7 @@ invariant_of-self c =
       inputs = length-set c.self.inside.inputs.items c.args.net.0 c.args.value ∙ i.inputs;
       shown = i.shown;
       values = i.values;
-      cells = refilled c.self.inside.cells c.act.new.cells ∙ i.cells;
+      cells = refilled d.cells c.act.new.cells ∙ i.cells;
       poss = i.poss;
       next = i.next;
       held = i.held;
@@ -31,6 +33,9 @@ invariant_of-self c =
       quick = i.quick;
       plans = i.plans;
       looks = i.looks;
+      loose = set_loose d.circuit c.args.net.0 c.args.value d.cells.items cells.items (refilled d.cells c.act.new.cells ∙ i.cells) i.loose
+          (acted_read d.circuit.flops.items d.cells.items c.deref_mut.result.now cells.items c.act.new.cells c.args.net.0 c.args.value c.deref_mut.ensures.value
+          (filled d.cells c.act.new.cells c.deref_mut.result.now c.act.auto.cells c.deref_mut.ensures.value) c.act.ensures);
       flags = i.flags;
     }
 

@@ -10,8 +10,8 @@ pub returns-clause-next : goal.returns-clause-next
 returns-clause-next c =
     let t = c.self.inside in
     let v = c.self.invariant in
-    c.skip_blanks-self-inside.ensures.rest c.is_base_kind-self-inside.result
-    ∙ ap₂ (λ mode text. tokens_from front mode 0 text) c.is_base_kind-self-inside.ensures c.split_at.ensures.back
+    c.skip_blanks-ahead.ensures.rest c.is_base_kind-behind_base.result
+    ∙ ap₂ (λ mode text. tokens_from front mode 0 text) c.is_base_kind-behind_base.ensures c.split_at.ensures.back
     ∙ next_at t.behind_base t.ahead.now (shown t.front) v.begins v.cut v.moves
     ∙ ap next c.self.view_is
 
@@ -19,9 +19,9 @@ pub returns-clause-moves : goal.returns-clause-moves
 returns-clause-moves c = λ some.
     let t = c.self.inside in
     let v = c.self.invariant in
-    let text = c.skip_blanks-self-inside in
+    let text = c.skip_blanks-ahead in
     let token = c.cut-front in
     let old = left_at t.behind_base t.ahead.now (shown t.front) v.begins v.cut v.moves in
     let was = ap left c.self.view_is in
-    let new = left_at c.is_base_kind-self-inside.result text.result.now (shown token.result) text.ensures.begins token.ensures.value (λ full. token.ensures.moves full text.ensures.begins) in
+    let new = left_at c.is_base_kind-behind_base.result text.result.now (shown token.result) text.ensures.begins token.ensures.value (λ full. token.ensures.moves full text.ensures.begins) in
     omega (arith, old, was, new, text.ensures.within, c.split_at.ensures.back_len, v.inside, v.within)
