@@ -116,11 +116,11 @@ pin_less : (n : Netlist) (new : Netlist) (i pin : ℕ) (net : NetId) (k : ℕ) (
 pin_less n new i pin net k None same keeps at h = absurd h
 pin_less n new i pin net k (Some x) same keeps at h =
     let s = keeps i x at in
-    let as : opened_at new.library (slice_get new.instances i) pin net ≡ opened_in (shape_of n.library x.cell).roles s.instance.pins pin net =
+    let is : opened_at new.library (slice_get new.instances i) pin net ≡ opened_in (shape_of n.library x.cell).roles s.instance.pins pin net =
     ap (λ (o : Option Instance). opened_at new.library o pin net) s.at
     ∙ ap (λ (library : List Cell). opened_in (shape_of library s.instance.cell).roles s.instance.pins pin net) same
     ∙ ap (λ (c : CellRef). opened_in (shape_of n.library c).roles s.instance.pins pin net) s.cell_is in
-    subst (λ (nets : List ℕ). times_in nets k ≤ times_in (claimed (slice_get (shape_of n.library x.cell).roles pin) net) k) (sym as) (opened_in_less (shape_of n.library x.cell).roles s.instance.pins pin net k)
+    subst (λ (nets : List ℕ). times_in nets k ≤ times_in (claimed (slice_get (shape_of n.library x.cell).roles pin) net) k) (sym is) (opened_in_less (shape_of n.library x.cell).roles s.instance.pins pin net k)
 
 part_less : (n : Netlist) (rank : ℕ → ℕ) (s : Making) (part : Part) (k : ℕ) → s.netlist.library ≡ n.library → Keeps n s.netlist → IsFine n rank part → times_in (driven_by_part s.netlist part) k ≤ times_in (claim n part) k
 part_less n rank s ANet k same keeps h = omega arith
