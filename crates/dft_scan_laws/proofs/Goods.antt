@@ -56,8 +56,11 @@ IsBelow rank next net = (k : ℕ) → next ≤ k → rank net.0 < rank k
 abbrev pub AreBelow : (rank : ℕ → ℕ) → (next : ℕ) → List NetId → Type 0
 AreBelow rank next nets = AllByRecursion (IsBelow rank next) nets
 
-pub made_below : (library : List Cell) (rank : ℕ → ℕ) (base net : ℕ) → Setting library rank base → base ≤ net → IsBelow rank (suc net) (record { 0 = net })
-made_below library rank base net s from k past = s.rising net k from (omega (arith, past))
+pub made_below : (library : List Cell) (rank : ℕ → ℕ) (base net next : ℕ) → Setting library rank base → base ≤ net → net < next → IsBelow rank next (record { 0 = net })
+made_below library rank base net next s from less k past = s.rising net k from (omega (arith, less, past))
+
+pub none_below : (library : List Cell) (rank : ℕ → ℕ) (base next : ℕ) → Setting library rank base → base ≤ next → IsBelow rank next (record { 0 = 0 })
+none_below library rank base next s from k past = s.first k (omega (arith, from, past))
 
 pub below_more : (rank : ℕ → ℕ) (next later : ℕ) (nets : List NetId) → next ≤ later → AreBelow rank next nets → AreBelow rank later nets
 below_more rank next later [] le h = tt

@@ -1,3 +1,4 @@
 pub mod Claims
 pub mod FirstFlops
 pub mod Goods
+pub mod GoodSums
