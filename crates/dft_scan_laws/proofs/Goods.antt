@@ -203,3 +203,12 @@ good_input n rank at cell pin net flop drives = record {
     omega (arith, whole, is)
     );
 }
+
+-- ---- behind parts that drive what they make
+
+pub good_after : (n : Netlist) (rank : ℕ → ℕ) (at : Start) (xs ys : List Part) (o e : ℕ → ℕ) → IsGood n rank at xs none none → IsGood n rank (behind at xs) ys o e → IsGood n rank at (xs ++ ys) o e
+good_after n rank at xs ys o e h g = good_as n rank at (xs ++ ys) (λ k. none k + o k) o (λ k. none k + e k) e (λ k. omega arith) (good_both n rank at xs ys none o none e h g)
+
+-- and before nothing
+pub good_end : (n : Netlist) (rank : ℕ → ℕ) (at : Start) (xs : List Part) (o e : ℕ → ℕ) → IsGood n rank at xs o e → IsGood n rank at (xs ++ []) o e
+good_end n rank at xs o e h = good_as n rank at (xs ++ []) (λ k. o k + none k) o (λ k. e k + none k) e (λ k. omega arith) (good_both n rank at xs [] o none e none h (good_nil n rank (behind at xs)))
