@@ -3,3 +3,4 @@ pub mod FirstFlops
 pub mod Goods
 pub mod GoodSums
 pub mod GoodRing
+pub mod GoodCompactor
