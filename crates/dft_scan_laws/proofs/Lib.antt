@@ -1,0 +1,6 @@
+pub mod Claims
+pub mod FirstFlops
+pub mod Goods
+pub mod GoodSums
+pub mod GoodRing
+pub mod GoodCompactor
