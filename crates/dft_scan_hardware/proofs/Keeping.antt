@@ -150,11 +150,11 @@ moved_signals gap r (x ∷ roles) (s ∷ pins) k =
 
 -- ---- which role a pin has
 
-at_by : (r : Role) (k p : ℕ) (x : Role) (b : Bool) (o : Option ℕ) (rest : Role → Type 0) → same_role r x ≡ b → (if b then Some k else o) ≡ Some p → ((k ≡ p) × (same_role r x ≡ true)) ⊎ (o ≡ Some p)
+pub at_by : (r : Role) (k p : ℕ) (x : Role) (b : Bool) (o : Option ℕ) (rest : Role → Type 0) → same_role r x ≡ b → (if b then Some k else o) ≡ Some p → ((k ≡ p) × (same_role r x ≡ true)) ⊎ (o ≡ Some p)
 at_by r k p x true o rest is e = inl (same_Some k p e, is)
 at_by r k p x false o rest is e = inr e
 
-past : (r : Role) (k p : ℕ) (roles : List Role) → number_of (same_role r) k roles ≡ Some p → k ≤ p
+pub past : (r : Role) (k p : ℕ) (roles : List Role) → number_of (same_role r) k roles ≡ Some p → k ≤ p
 past r k p [] e = absurd (none-some p e)
 past r k p (x ∷ roles) e = elim (at_by r k p x (same_role r x) (number_of (same_role r) (suc k) roles) (λ z. Unit {0}) refl e) [
   | inl it ↦ omega (arith, it.0)

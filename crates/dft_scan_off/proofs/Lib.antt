@@ -1,3 +1,4 @@
 pub mod Driving
 pub mod Merging
+pub mod ScanPins
 pub mod Spared

@@ -193,7 +193,7 @@ pub record ListOf6 (pins : List Signal) : Type 0 where
   pub f : Signal
   pub is : pins ≡ a ∷ b ∷ c ∷ d ∷ e ∷ f ∷ []
 
-six : (pins : List Signal) → length pins ≡ 6 → ListOf6 pins
+pub six : (pins : List Signal) → length pins ≡ 6 → ListOf6 pins
 six [] h = absurd (omega (arith, h))
 six (a ∷ []) h = absurd (omega (arith, h))
 six (a ∷ b ∷ []) h = absurd (omega (arith, h))
@@ -213,7 +213,7 @@ pub record ListOf7 (pins : List Signal) : Type 0 where
   pub g : Signal
   pub is : pins ≡ a ∷ b ∷ c ∷ d ∷ e ∷ f ∷ g ∷ []
 
-seven : (pins : List Signal) → length pins ≡ 7 → ListOf7 pins
+pub seven : (pins : List Signal) → length pins ≡ 7 → ListOf7 pins
 seven [] h = absurd (omega (arith, h))
 seven (a ∷ []) h = absurd (omega (arith, h))
 seven (a ∷ b ∷ []) h = absurd (omega (arith, h))
