@@ -111,7 +111,7 @@ index_is [] p s h = absurd (none-some s h)
 index_is (x ∷ pins) zero s h = same_Some x s h
 index_is (x ∷ pins) (suc p) s h = index_is pins p s h
 
-index_same : (xs ys : List Signal) (p q : ℕ) → slice_get xs p ≡ slice_get ys q → slice_index_or xs p Unconnected ≡ slice_index_or ys q Unconnected
+pub index_same : (xs ys : List Signal) (p q : ℕ) → slice_get xs p ≡ slice_get ys q → slice_index_or xs p Unconnected ≡ slice_index_or ys q Unconnected
 index_same [] [] p q h = refl
 index_same (x ∷ xs) ys (suc p) q h = index_same xs ys p q h
 index_same xs (y ∷ ys) p (suc q) h = index_same xs ys p q h
@@ -147,7 +147,7 @@ instances_carry f k library written i (x ∷ xs) each =
     (each zero i x (omega arith) refl)
     (instances_carry f k library written (suc i) xs (λ j number z is at. each (suc j) number z (omega (arith, is)) at))
 
-true_false : (b : Bool) → b ≡ true → b ≡ false → ⊥
+pub true_false : (b : Bool) → b ≡ true → b ≡ false → ⊥
 true_false true e f = cc
 true_false false e f = cc
 
@@ -261,7 +261,7 @@ ports_carry gap k (port ∷ ports) h =
     (carries_all (moved gap) k (driven_by_bits port.dir port.bits) (driven_by_bits port.dir port.bits) (bits_stay gap port.dir port.bits (before_front gap.before port.bits (bits_of ports) h)))
     (ports_carry gap k ports (before_back gap.before port.bits (bits_of ports) h))
 
-ports_before : (n : Netlist) (config : Config) → IsReady n config → AreBefore (length (bits_of n.ports)) (bits_of n.ports)
+pub ports_before : (n : Netlist) (config : Config) → IsReady n config → AreBefore (length (bits_of n.ports)) (bits_of n.ports)
 ports_before n config ready = subst (AreBefore (length (bits_of n.ports))) (sym ready.netlist.numbered) (nets_before 0 (length (bits_of n.ports)) (length (bits_of n.ports)) (omega arith))
 
 -- ---- the whole netlist
@@ -321,7 +321,7 @@ driver_kept style n config net ready spared less =
 
 -- ---- the port scan_enable
 
-skips : (k : ℕ) (xs ys : List Driven) → NoneAt xs k → driver_in (xs ++ ys) k ≡ driver_in ys k
+pub skips : (k : ℕ) (xs ys : List Driven) → NoneAt xs k → driver_in (xs ++ ys) k ≡ driver_in ys k
 skips k [] ys h = refl
 skips k (x ∷ xs) ys h = ap (λ b. if b then x.1 else driver_in (xs ++ ys) k) h.0 ∙ skips k xs ys h.1
 
@@ -333,7 +333,7 @@ bits_below k dir.Output bits h = tt
 bits_below k dir.Input [] h = tt
 bits_below k dir.Input (net ∷ bits) h = (less_apart net.0 k h.0, bits_below k dir.Input bits h.1)
 
-ports_below : (k : ℕ) (ports : List Port) → AreBefore k (bits_of ports) → NoneAt (driven_by_ports ports) k
+pub ports_below : (k : ℕ) (ports : List Port) → AreBefore k (bits_of ports) → NoneAt (driven_by_ports ports) k
 ports_below k [] h = tt
 ports_below k (port ∷ ports) h =
     none_append (driven_by_bits port.dir port.bits) (driven_by_ports ports) k (bits_below k port.dir port.bits (before_front k port.bits (bits_of ports) h)) (ports_below k ports (before_back k port.bits (bits_of ports) h))

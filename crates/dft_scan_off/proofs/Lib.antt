@@ -1,4 +1,6 @@
+pub mod Containing
 pub mod Driving
+pub mod Matching
 pub mod Merging
 pub mod ScanPins
 pub mod Spared
