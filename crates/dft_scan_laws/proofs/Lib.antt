@@ -4,3 +4,4 @@ pub mod Goods
 pub mod GoodSums
 pub mod GoodRing
 pub mod GoodCompactor
+pub mod GoodChains
