@@ -46,11 +46,7 @@ pub fn carry_nets(
 }
 
 /// Adds these joins, moved.
-pub fn carry_joins(
-    builder: &mut DesignBuilder,
-    joins: &[Join],
-    gap: &Gap,
-) -> Result<(), AllocError>
+pub fn carry_joins(builder: &mut DesignBuilder, joins: &[Join], gap: &Gap) -> Result<(), AllocError>
     requires room { gap.now.width ≤ MAX_PORTS }
     requires live { (place : ℕ) (join : Join) → slice_get joins.now place ≡ Some join → IsAJoin MAX_NETS join.target join.source }
     requires fit { AllFit builder.old (join_things (map (moved_join gap.now) joins.now)) }
@@ -76,11 +72,7 @@ fn moved_signal(gap: &Gap, signal: Signal) -> Signal
 }
 
 /// What the pins of an instance of the design are joined to in the scanned netlist.
-pub fn moved_pins(
-    alloc: Global,
-    gap: &Gap,
-    pins: &[Signal],
-) -> Result<PinSignals, AllocError>
+pub fn moved_pins(alloc: Global, gap: &Gap, pins: &[Signal]) -> Result<PinSignals, AllocError>
     requires room { gap.now.width ≤ MAX_PORTS }
     requires live { AreLive MAX_NETS pins.now }
     ensures { IfOk result (λ moved. moved ≡ map (spec.moved_signal gap.now) pins.now) }

@@ -38,10 +38,7 @@ pub(crate) fn add_net(builder: &mut DesignBuilder, name: Name) -> Result<(), All
 }
 
 /// Adds an instance.
-pub fn add_instance(
-    builder: &mut DesignBuilder,
-    instance: Instance,
-) -> Result<(), AllocError>
+pub fn add_instance(builder: &mut DesignBuilder, instance: Instance) -> Result<(), AllocError>
     requires { InstanceFits builder.old instance }
     ensures { OnOk result (builder.new ≡ with_thing builder.old (AnInstance instance)) }
 {

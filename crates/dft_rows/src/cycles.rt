@@ -1,6 +1,7 @@
 //! Verdicts of small designs, worked out from what a vector does: inputs are set, a strobe is compared, clocks pulse.
 
 use crate::files::{patterns, replayed};
+use crate::hardware::LOOP_MADE;
 use std::test::Fail;
 
 static WORDS: [&str; 5] = ["replay", "--netlist", "n", "--patterns", "p"];
@@ -44,7 +45,7 @@ const BOTH_WAYS: &str =
     "module m (c, d, p, q); input c, d; output p, q; DFF f (.CK(c), .D(d), .Q(p)); INV u (.A(p), .Y(q)); endmodule";
 
 // A netlist, its inputs that are set, its outputs, the vectors, and what is printed.
-static VERDICTS: [(&str, &str, &str, &str, &str); 24] = [
+static VERDICTS: [(&str, &str, &str, &str, &str); 26] = [
     (
         SCANNED,
         "c d i",
@@ -212,6 +213,22 @@ static VERDICTS: [(&str, &str, &str, &str, &str); 24] = [
         "p q",
         "P1 XX 01 XL 01 LX",
         "mismatch vector 2 signal p\n",
+    ),
+    // Two loads and two captures through compression hardware.
+    (
+        LOOP_MADE,
+        "clk a scan_enable edt_clock edt_update edt_in0 edt_mask0",
+        "y edt_out0 edt_out1",
+        "000P100 XXX P01P000 XXX P01P010 XXX P01P010 XXX P01P000 XXX P01P000 XXX P10P100 LXX P01P010 XHL P01P000 XLH P01P010 XLL P01P000 XLL P01P000 XLH P00P100 LXX P01P000 XHH P01P000 XLL P01P000 XHL P01P000 XLL P01P000 XLL",
+        "pass 18 vectors 22 compared\n",
+    ),
+    // The same with the first bit of the second load turned.
+    (
+        LOOP_MADE,
+        "clk a scan_enable edt_clock edt_update edt_in0 edt_mask0",
+        "y edt_out0 edt_out1",
+        "000P100 XXX P01P000 XXX P01P010 XXX P01P010 XXX P01P000 XXX P01P000 XXX P10P100 LXX P01P000 XHL P01P000 XLH P01P010 XLL P01P000 XLL P01P000 XLH",
+        "mismatch vector 11 signal edt_out1\n",
     ),
 ];
 

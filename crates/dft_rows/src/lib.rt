@@ -10,6 +10,8 @@ mod designs;
 #[cfg(test)]
 mod files;
 #[cfg(test)]
+mod hardware;
+#[cfg(test)]
 mod reports;
 #[cfg(test)]
 mod rows;

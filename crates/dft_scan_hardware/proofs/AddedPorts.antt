@@ -1,7 +1,7 @@
 -- Ports that are added one after another.
-use Rattle.std.proofs.Common.{ℕ, zero, suc, ◌+◌, ◌-◌, ◌≡◌, ◌≤◌, ◌<◌, Bool, true, false, List, [], ◌∷◌, ◌++◌, length, map, Option, None, Some, refl, sym, subst, ap, arith, ◌∙◌, append_assoc, append-nil, length-append}
+use Rattle.std.proofs.Common.{ℕ, suc, ◌+◌, ◌-◌, ◌≡◌, ◌≤◌, ◌<◌, Bool, true, false, List, [], ◌∷◌, ◌++◌, length, map, Option, None, Some, refl, sym, subst, ap, arith, ◌∙◌, append_assoc, append-nil, length-append}
 use Rattle.std.specs.Prelude.{pos, nat_le, option_map, if◌then◌else◌}
-use Rattle.std.specs.List.{filter_map, range_with_len}
+use Rattle.std.specs.List.{range_with_len}
 use Rattle.std.specs.Str.{bytes_eq}
 use Rattle.std.proofs.lemmas.Option.{none-some}
 use Rattle.dft_base.specs.Lexing.{Text}
@@ -11,7 +11,7 @@ use Rattle.dft_netlist.specs.declared.error.NetlistError.TheVariants as netlist
 use Rattle.dft_netlist.specs.declared.limits.TheConstants.{MAX_PORTS, MAX_NETS}
 use Rattle.dft_netlist.specs.declared.port.Port.{Port}
 use Rattle.dft_netlist.specs.Building.{port_refusal, room_limit, taken_or}
-use Rattle.dft_netlist.specs.Names.{is_taken, names_taken, vector_name, instance_name}
+use Rattle.dft_netlist.specs.Names.{is_taken, names_taken, vector_name}
 use Rattle.dft_netlist.specs.Netlist.{Netlist}
 use Rattle.dft_netlist.specs.Sound.{HasOnlyPorts, bits_of}
 use Rattle.dft_netlist.proofs.NamesLemmas.{same_of}

@@ -1,12 +1,10 @@
 -- The frame: its instances can stand in it, its names differ where no added port is refused, and how it is built up.
-use Rattle.std.proofs.Common.{ℕ, zero, suc, ◌+◌, ◌≡◌, ◌≤◌, ◌<◌, Bool, true, false, List, [], ◌∷◌, ◌++◌, length, map, take, drop, Option, None, Some, is_some, slice_get, refl, sym, subst, ap, arith, ◌∙◌, append_assoc, append-nil, length-append}
-use Rattle.std.specs.Prelude.{slice_index_or, pos, nat_le, if◌then◌else◌}
+use Rattle.std.proofs.Common.{ℕ, zero, suc, ◌+◌, ◌≡◌, ◌≤◌, ◌<◌, Bool, true, false, List, [], ◌∷◌, ◌++◌, length, map, take, drop, Option, None, Some, is_some, refl, sym, subst, ap, arith, ◌∙◌, append_assoc, append-nil, length-append}
+use Rattle.std.specs.Prelude.{slice_index_or, pos, nat_le}
 use Rattle.std.specs.List.{filter_map, cons_option}
-use Rattle.std.specs.Str.{bytes_eq}
 use Rattle.std.proofs.lemmas.List.{length-map, take-append-drop}
-use Rattle.std.proofs.lemmas.Option.{none-some, same_Some}
+use Rattle.std.proofs.lemmas.Option.{same_Some}
 use Rattle.dft_base.specs.Lexing.{Text}
-use Rattle.dft_cells.specs.declared.kind.Kind.{Kind}
 use Rattle.dft_cells.specs.declared.kind.Role.{Role}
 use Rattle.dft_cells.specs.declared.kind.Role.TheVariants.{Input, Clock, Din, Reset, Preset, ScanIn, ScanEnable, Output, Inverted}
 use Rattle.dft_cells.specs.declared.cell.Cell.{Cell}
@@ -15,42 +13,41 @@ use Rattle.dft_cells.specs.WellFormed.{IsWellFormed}
 use Rattle.dft_netlist.specs.declared.instance.CellRef.{CellRef}
 use Rattle.dft_netlist.specs.declared.instance.CellRef.TheVariants.{Library}
 use Rattle.dft_netlist.specs.declared.instance.Signal.{Signal}
-use Rattle.dft_netlist.specs.declared.instance.Signal.TheVariants.{Net, Constant, Unconnected}
+use Rattle.dft_netlist.specs.declared.instance.Signal.TheVariants.{Unconnected}
 use Rattle.dft_netlist.specs.declared.instance.Instance.{Instance}
 use Rattle.dft_netlist.specs.declared.instance.Join.{Join}
-use Rattle.dft_netlist.specs.declared.port.Port.{Port}
-use Rattle.dft_netlist.specs.declared.limits.TheConstants.{MAX_PORTS, MAX_NETS}
+use Rattle.dft_netlist.specs.declared.limits.TheConstants.{MAX_NETS}
 use Rattle.dft_netlist.specs.declared.error.Counted.TheVariants.{Nets}
 use Rattle.dft_netlist.specs.Building.{empty_netlist}
 use Rattle.dft_netlist.specs.Drivers.{Shape, shape_of}
-use Rattle.dft_netlist.specs.Names.{is_taken, names_taken, vector_name, instance_name}
+use Rattle.dft_netlist.specs.Names.{is_taken, names_taken, instance_name}
 use Rattle.dft_netlist.specs.Netlist.{Netlist}
-use Rattle.dft_netlist.specs.Sound.{IsNetlist, IsLive, AreLive, IsInstance, IsAJoin, NoConstantOutput, HasOnlyPorts, bits_of}
+use Rattle.dft_netlist.specs.Sound.{IsNetlist, IsLive, AreLive, IsInstance, IsAJoin, NoConstantOutput, HasOnlyPorts}
 use Rattle.dft_config.specs.declared.config.Config.{Config}
 use Rattle.dft_rules.specs.Refusals.{is_scanned}
 use Rattle.dft_rules.specs.Rules.{judged, scan_cell_in}
-use Rattle.dft_insert.specs.declared.error.InsertError.{InsertError}
 use Rattle.dft_insert.specs.declared.error.InsertError.TheVariants.{TooMany}
-use Rattle.dft_insert.specs.AddedPorts.{NewPort, port_name, ports_from}
+use Rattle.dft_base.specs.declared.dir.Dir.TheVariants as dir
+use Rattle.dft_insert.specs.AddedPorts.{NewPort, numbered_ports, port_name, ports_from}
 use Rattle.dft_insert.specs.Growing.{AllFit, port_things, net_things, instance_things, join_things, with_things}
-use Rattle.dft_insert.specs.Moves.{Gap, moved_signal, moved_instance, moved_join}
-use Rattle.dft_insert.specs.Refusals.{or_else}
+use Rattle.dft_insert.specs.Moves.{Gap, moved_signal, moved_join}
 use Rattle.dft_insert.specs.Written.{at_net, map_from}
 use Rattle.dft_insert.proofs.AddedNames.{le_by}
 use Rattle.dft_insert.proofs.Additions.{both_none}
 use Rattle.dft_insert.proofs.Carried.{HasPair, has_pair}
-use Rattle.dft_insert.proofs.Fitting.{IsWhole, IsFront, ports_fit, nets_fit, instances_fit, joins_fit, with_all_ports, with_all_nets, with_all_instances, with_all_joins}
+use Rattle.dft_insert.proofs.Fitting.{IsWhole, ports_fit, nets_fit, instances_fit, joins_fit, with_all_nets, with_all_instances, with_all_joins}
 use Rattle.dft_insert.proofs.Joined.{join_sound}
-use Rattle.dft_insert.proofs.Kept.{ports_fit as ports_among}
-use Rattle.dft_insert.proofs.NamesOnce.{times_named, named-append, has_never, taken_times, shown_append, stands_once}
+use Rattle.dft_insert.proofs.Kept.{numbered_count, ports_count, ports_fit as ports_among}
+use Rattle.dft_insert.proofs.NamesOnce.{times_named, named-append, has_never, taken_times, stands_once}
 use Rattle.dft_insert.proofs.Pairs.{shared_roles}
 use Rattle.dft_insert.proofs.ScanPairs.{ScanPair}
 use Rattle.dft_insert.proofs.SoundParts.{map_at, moved_live, moved_outputs, moved_sound, live_none, live_cons, live_drop, live_first, none_none, none_cons, none_drop, none_first, pair_shared, pair_modelled, there, named_by}
-use Rattle.dft_insert.proofs.Stages.{before_of, with_ports as bare, numbered_from, front_nets, front_count, ports_stand}
+use Rattle.dft_insert.proofs.Stages.{before_of, numbered_from, front_count, ports_stand}
 use Rattle.dft_insert.proofs.Tabled.{from_at}
 use Rattle.dft_insert.proofs.Whole.{length_map_from}
 use Rattle.dft_insert.proofs.WholeNames.{length_ports, vectors_counted}
 use Rattle.dft_scan_hardware.specs.declared.style.Style.{Style}
+use Rattle.dft_scan_hardware.specs.declared.style.Style.TheVariants.{Plain, Edt}
 use Rattle.dft_scan_hardware.specs.Frame.{framed_pins, as_scan_cell, framed_instance, framed_at, frame}
 use Rattle.dft_scan_hardware.specs.Ports.{added_ports, gap_in}
 use Rattle.dft_scan_hardware.specs.Refusals.{ports_alone, ports_refusal, with_ports, room_refusal, frame_refusal}
@@ -58,7 +55,7 @@ use Rattle.dft_scan_hardware.proofs.AddedPorts.{AreOnce, added_once, added_few, 
 
 -- ---- scan cells
 
-framed_width : (e : Signal) (roles : List Role) (pins : List Signal) → length (framed_pins e roles pins) ≡ length roles
+pub framed_width : (e : Signal) (roles : List Role) (pins : List Signal) → length (framed_pins e roles pins) ≡ length roles
 framed_width e [] pins = refl
 framed_width e (ScanIn ∷ roles) pins = ap suc (framed_width e roles pins)
 framed_width e (ScanEnable ∷ roles) pins = ap suc (framed_width e roles pins)
@@ -178,6 +175,29 @@ frame_nets style n config =
 
 pub frame_ports : (style : Style) (n : Netlist) (config : Config) → length (frame style n config).ports ≡ length n.ports + length (added_ports style config)
 frame_ports style n config = omega (arith, length-append n.ports (ports_from (gap_in style n config).before (added_ports style config)), length_ports (gap_in style n config).before (added_ports style config))
+
+-- each style adds a port
+pub some_ports : (style : Style) (config : Config) → 0 < length (added_ports style config)
+some_ports Plain config = omega arith
+some_ports Edt config = omega arith
+
+-- style Plain adds so many, and so does style Edt
+pub plain_count : (config : Config) → length (added_ports Plain config) ≡ 1 + config.chains + config.chains
+plain_count config = ports_count config
+
+pub edt_count : (config : Config) → length (added_ports Edt config) ≡ 3 + config.ring.channels + config.compactor.mask_inputs + length config.compactor.groups
+edt_count config =
+    let channels : List NewPort = numbered_ports dir.Input config.names.channel config.ring.channels in
+    let masks : List NewPort = numbered_ports dir.Input config.names.mask config.compactor.mask_inputs in
+    let outputs : List NewPort = numbered_ports dir.Output config.names.output (length config.compactor.groups) in
+    omega (
+      arith,
+      length-append channels (masks ++ outputs),
+      length-append masks outputs,
+      numbered_count dir.Input config.names.channel config.ring.channels,
+      numbered_count dir.Input config.names.mask config.compactor.mask_inputs,
+      numbered_count dir.Output config.names.output (length config.compactor.groups),
+    )
 
 -- ---- the frame is whole
 

@@ -1,5 +1,5 @@
 -- What is made in a frame, step by step.
-use Rattle.std.proofs.Common.{ℕ, zero, suc, ◌+◌, ◌-◌, ◌≡◌, ◌==◌, ◌≤◌, ◌<◌, Bool, true, false, List, [], ◌∷◌, ◌++◌, length, map, drop, Option, None, Some, Result, Ok, Err, slice_get, refl, sym, subst, ap, arith, ◌∙◌, length-append}
+use Rattle.std.proofs.Common.{ℕ, zero, suc, ◌+◌, ◌-◌, ◌≡◌, ◌==◌, ◌≤◌, ◌<◌, Bool, true, false, List, [], ◌∷◌, ◌++◌, length, map, drop, Option, None, Some, Result, Ok, slice_get, refl, sym, subst, ap, arith, ◌∙◌, length-append}
 use Rattle.std.specs.Prelude.{slice_index_or, option_map, if◌then◌else◌}
 use Rattle.std.specs.List.{All, range_with_len}
 use Rattle.std.proofs.lemmas.Bool.{eqb-true}
@@ -21,7 +21,7 @@ use Rattle.dft_stitch.specs.declared.places.LockupPlace.{LockupPlace}
 use Rattle.dft_stitch.specs.Plans.{Plan}
 use Rattle.dft_parts.specs.declared.edt_ports.EdtPorts.{EdtPorts}
 use Rattle.dft_parts.specs.Parts.{Making, with_pin}
-use Rattle.dft_parts.specs.Recipes.{Recipe, AreThere, pure, ◌>>=◌, ◌>>◌, each, collect, net_at, a_net, a_lockup, a_pin, outcome, IsRefusal, Makes}
+use Rattle.dft_parts.specs.Recipes.{Recipe, AreThere, pure, ◌>>=◌, each, collect, net_at, a_net, a_lockup, a_pin, outcome, IsRefusal, Makes}
 use Rattle.dft_parts.proofs.Fitting.{there_on}
 use Rattle.dft_parts.proofs.Loops.{goes_on, goes_start, collect_step, collect_refused, collect_end}
 use Rattle.dft_parts.proofs.Outcomes.{then_ok, then_refused, same_makes, pure_made}
@@ -33,7 +33,7 @@ use Rattle.dft_insert.specs.Pieces.{domain_in}
 use Rattle.dft_insert.specs.Stitching.{number_of, own_output, moved_or_none}
 use Rattle.dft_insert.proofs.LiveNets.{moved_less, input_live}
 use Rattle.dft_scan_hardware.specs.Bounds.{EdtThere}
-use Rattle.dft_scan_hardware.specs.Chained.{scan_roles, a_numbered_pin, a_role_pin, a_scan_in, an_open_output, own_or_made, an_output, a_row, rows, a_crossing, crossing_in, a_step, a_chain, a_late_chain, cells_at, row_at, last_net}
+use Rattle.dft_scan_hardware.specs.Chained.{scan_roles, a_numbered_pin, a_role_pin, a_scan_in, an_open_output, own_or_made, an_output, rows, a_crossing, crossing_in, a_step, a_chain, a_late_chain, row_at, last_net}
 use Rattle.dft_scan_hardware.specs.Scanned.{a_plain_chain, a_plain_end, plain_recipe, an_edt_chain, behind_rows, edt_recipe}
 
 -- ---- pins

@@ -1,5 +1,5 @@
 -- Why a scanned netlist cannot be made: the first thing that is added and refused.
-use Rattle.std.specs.Prelude.{ℕ, ◌+◌, ◌≡◌, pos, nat_le, List, [], ◌∷◌, length, take, Option, None, Some, option_map, if◌then◌else◌}
+use Rattle.std.specs.Prelude.{ℕ, ◌+◌, pos, nat_le, List, [], ◌∷◌, length, take, Option, None, Some, option_map, if◌then◌else◌}
 use Rattle.dft_netlist.specs.declared.error.Counted.TheVariants.{Nets}
 use Rattle.dft_netlist.specs.declared.error.NetlistError.{NetlistError}
 use Rattle.dft_netlist.specs.declared.error.NetlistError.TheVariants as netlist

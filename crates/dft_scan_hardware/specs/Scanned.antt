@@ -9,7 +9,7 @@ use Rattle.dft_config.specs.declared.config.Config.{Config}
 use Rattle.dft_stitch.specs.Plans.{Plan}
 use Rattle.dft_parts.specs.declared.edt_ports.EdtPorts.{EdtPorts}
 use Rattle.dft_parts.specs.Parts.{Part, Making, with_parts}
-use Rattle.dft_parts.specs.Recipes.{Recipe, pure, ◌>>=◌, ◌>>◌, each, net_at, a_gate, start_of}
+use Rattle.dft_parts.specs.Recipes.{Recipe, ◌>>=◌, ◌>>◌, each, net_at, a_gate, start_of}
 use Rattle.dft_ring.specs.RingRecipe.{a_ring}
 use Rattle.dft_compact.specs.CompactorRecipe.{a_compactor}
 use Rattle.dft_insert.specs.Moves.{Gap}

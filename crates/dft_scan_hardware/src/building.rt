@@ -100,6 +100,7 @@ fn make(
     requires gap { gap.now ≡ gap_in style design.now config.now }
     ensures makes { Makes (λ _. tt) (recipe style design.now config.now chains.now) parts.old result parts.new }
 {
+    design.soundness();
     match style {
         Style::Plain => make_plain(parts, design, config, chains, gap),
         Style::Edt => make_edt(parts, design, config, chains, gap),

@@ -72,6 +72,7 @@ fn fill_frame(
     ensures accepted { OnOk result (frame_refusal style design.now config.now ≡ None) }
     ensures refused { IfErr result (IsRefusal (frame_refusal style design.now config.now)) }
 {
+    design.soundness();
     let ports = added_ports(alloc, style, config)?;
     add_ports(alloc, builder, design, &ports)?;
     check_room(design, ports.len())?;
@@ -112,6 +113,7 @@ fn carry_rest(
     ensures { OnOk result (builder.new ≡ frame style design.now config.now) }
 {
     let _ = style;
+    design.soundness();
     carry_nets(alloc, builder, design, gap.before())?;
     carry_joins(builder, design.joins(), gap)?;
     frame_instances(alloc, builder, design, config, chains, gap)

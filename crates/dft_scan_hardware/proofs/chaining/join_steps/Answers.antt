@@ -11,9 +11,10 @@ loop-place-preserved c =
     let k = c.loop-place.place in
     let n = length c.args.cells.now in
     let made : outcome (f k) c.loop-place.parts ≡ Ok (tt, c.join_scan_in.new.parts) = rw (c.cell_in.ensures, c.net_at.ensures) at c.join_scan_in.ensures.makes in
-    let same = c.join_scan_in.ensures.nets in
-    (each_goes f (range_with_len 0 n) (range_with_len k (n - k)) (range_with_len (k + 1) (n - (k + 1))) k c.args.parts.now c.loop-place.parts c.join_scan_in.new.parts c.loop-place.invariant.0 (range_on k n c.loop-place-test.true) made (omega (arith, same)),
-    same ∙ c.loop-place.invariant.1)
+    let same = c.join_scan_in.ensures.nets in (
+      each_goes f (range_with_len 0 n) (range_with_len k (n - k)) (range_with_len (k + 1) (n - (k + 1))) k c.args.parts.now c.loop-place.parts c.join_scan_in.new.parts c.loop-place.invariant.0 (range_on k n c.loop-place-test.true) made (omega (arith, same)),
+      same ∙ c.loop-place.invariant.1,
+    )
 
 pub returns-clause-makes : goal.returns-clause-makes
 returns-clause-makes c =

@@ -1,4 +1,4 @@
-use Rattle.std.proofs.Common.{ℕ, List, ◌++◌, ◌∷◌, [], ap, ◌∙◌}
+use Rattle.std.proofs.Common.{ℕ, ◌++◌, ◌∷◌, [], ap, ◌∙◌}
 use Rattle.dft_base.specs.Lexing.{Text}
 use Rattle.dft_insert.specs.AddedPorts.{NewPort, new_port, numbered, numbered_ports}
 use Rattle.dft_scan_hardware.proofs.AddedPorts.{mapped_on}
