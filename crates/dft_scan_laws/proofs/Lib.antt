@@ -5,3 +5,4 @@ pub mod GoodSums
 pub mod GoodRing
 pub mod GoodCompactor
 pub mod GoodChains
+pub mod GoodRecipes
