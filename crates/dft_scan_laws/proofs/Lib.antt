@@ -4,3 +4,5 @@ pub mod Goods
 pub mod GoodSums
 pub mod GoodRing
 pub mod GoodCompactor
+pub mod GoodChains
+pub mod GoodRecipes

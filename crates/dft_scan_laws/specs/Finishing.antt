@@ -1,14 +1,9 @@
 -- Scanned netlists can be finished.
 use Rattle.dft_netlist.specs.Netlist.{Netlist}
 use Rattle.dft_config.specs.declared.config.Config.{Config}
-use Rattle.dft_stitch.specs.Chains.{plan_of}
 use Rattle.dft_insert.specs.Statements.{IsReady, CanFinish}
 use Rattle.dft_scan_hardware.specs.declared.style.Style.{Style}
-use Rattle.dft_scan_hardware.specs.Scanned.{scanned_netlist}
-
--- the scanned netlist of a design, with the chains that are planned for it
-abbrev pub scanned : Style → Netlist → Config → Netlist
-scanned style n config = scanned_netlist style n config (plan_of n config)
+use Rattle.dft_scan_hardware.specs.Statements.{scanned}
 
 -- In it no net has two drivers, and every net can be ordered.
 abbrev pub CanBeFinished : Type 0

@@ -1,3 +1,2 @@
-pub use Rattle.dft_scan_hardware.specs.Scanned
-pub use Rattle.dft_insert.specs.Statements
+pub use Rattle.dft_scan_hardware.specs.Statements
 pub mod Finishing
