@@ -1,6 +1,3 @@
 //! Laws of scanned netlists of both styles: they can be finished, they keep the design, and they have the hardware of their style.
 #![tactic(auto)]
 
-mod laws;
-
-pub use laws::scanned_can_finish;

@@ -225,7 +225,7 @@ seven (a ∷ b ∷ c ∷ d ∷ e ∷ f ∷ g ∷ []) h = record { a = a; b = b; 
 seven (a ∷ b ∷ c ∷ d ∷ e ∷ f ∷ g ∷ h ∷ pins) i = absurd (omega (arith, i))
 
 -- the role at a number is that of an output
-abbrev is_output_role : Option Role → Bool
+abbrev pub is_output_role : Option Role → Bool
 is_output_role None = false
 is_output_role (Some role) = is_output role
 

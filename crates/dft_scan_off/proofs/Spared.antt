@@ -46,7 +46,7 @@ times_append : (xs ys : List ℕ) (net : ℕ) → times_in (xs ++ ys) net ≡ ti
 times_append [] ys net = (let e : times_in ys net ≡ 0 + times_in ys net = omega arith in e)
 times_append (x ∷ xs) ys net = omega (arith, counted_by x net (xs ++ ys) (x == net) refl, counted_by x net xs (x == net) refl, times_append xs ys net)
 
-one_none : (x k : ℕ) (b : Bool) → (x == k) ≡ b → times_in (x ∷ []) k ≡ 0 → (x == k) ≡ false
+pub one_none : (x k : ℕ) (b : Bool) → (x == k) ≡ b → times_in (x ∷ []) k ≡ 0 → (x == k) ≡ false
 one_none x k false is none = is
 one_none x k true is none = absurd (let e : times_in (x ∷ []) k ≡ 1 + times_in [] k = counted_by x k [] true is in omega (arith, e, none))
 
