@@ -1,10 +1,9 @@
 -- A scanned netlist of either style contains its design, where the parts that are made leave the design's nets alone.
-use Rattle.std.proofs.Common.{ℕ, suc, ◌+◌, ◌≡◌, ◌==◌, ◌<◌, Bool, true, false, ◌||◌, List, [], ◌∷◌, ◌++◌, drop, length, map, Option, None, Some, is_some, slice_get, refl, sym, subst, ap, arith, ◌∙◌, append_assoc}
+use Rattle.std.proofs.Common.{ℕ, suc, ◌+◌, ◌≡◌, ◌==◌, ◌<◌, Bool, true, false, ◌||◌, List, ◌∷◌, ◌++◌, drop, length, map, slice_get, refl, ap, arith, ◌∙◌, append_assoc}
 use Rattle.std.specs.Prelude.{if◌then◌else◌}
 use Rattle.std.proofs.lemmas.Bool.{eq-eqb}
 use Rattle.dft_netlist.specs.Netlist.{Netlist}
 use Rattle.dft_netlist.specs.Sound.{bits_of}
-use Rattle.dft_netlist.specs.declared.instance.Instance.{Instance}
 use Rattle.dft_netlist.specs.Drivers.{Source, Driver, Driven, driven_by_instances, driven_by_ports, driven_by_joins, driver, driver_in}
 use Rattle.dft_netlist.specs.Drivers as drivers
 use Rattle.dft_netlist.specs.Logic.{Ports, Meaning, flip_flop, meaning_of, logic_of}
@@ -12,7 +11,7 @@ use Rattle.dft_netlist.specs.Logic as logic
 use Rattle.dft_netlist.proofs.RankLemmas.{order_ranks}
 use Rattle.dft_netlist.proofs.Ranks.{order_is_rank}
 use Rattle.dft_config.specs.declared.config.Config.{Config}
-use Rattle.dft_chains.specs.ScanOff.{moved_source, moved_meaning, Contains, KeepsFlop}
+use Rattle.dft_chains.specs.ScanOff.{moved_meaning, Contains, KeepsFlop}
 use Rattle.dft_chains.proofs.ScanOffLemmas.{scan_off}
 use Rattle.dft_insert.specs.AddedPorts.{ports_from}
 use Rattle.dft_insert.specs.Moves.{moved, moved_join}

@@ -1,13 +1,11 @@
 -- The nets of a design keep their drivers in its scanned netlist.
-use Rattle.std.proofs.Common.{ℕ, zero, suc, ◌+◌, ◌≡◌, ◌==◌, ◌<◌, ◌≤◌, ◌⊎◌, inl, inr, Bool, true, false, nat_lt, List, [], ◌∷◌, ◌++◌, length, map, Option, None, Some, is_some, option_and_then, slice_get, refl, sym, subst, ap, arith, ◌∙◌, append_assoc, append-nil, length-append}
+use Rattle.std.proofs.Common.{ℕ, zero, suc, ◌+◌, ◌≡◌, ◌==◌, ◌<◌, ◌≤◌, inl, inr, Bool, true, false, nat_lt, List, [], ◌∷◌, ◌++◌, length, map, Option, None, Some, is_some, option_and_then, slice_get, refl, sym, subst, ap, arith, ◌∙◌, append-nil}
 use Rattle.std.specs.Prelude.{slice_index_or, if◌then◌else◌}
-use Rattle.std.proofs.lemmas.Bool.{eq-eqb}
 use Rattle.std.proofs.lemmas.List.{length-map}
 use Rattle.std.proofs.lemmas.Option.{none-some, same_Some}
 use Rattle.dft_base.specs.declared.dir.Dir.{Dir}
 use Rattle.dft_base.specs.declared.dir.Dir.TheVariants as dir
 use Rattle.dft_cells.specs.declared.kind.Kind.{Kind}
-use Rattle.dft_cells.specs.declared.kind.Kind.TheVariants.{Dff, Dffr, Dffs, Sdff, Sdffr, Sdffs}
 use Rattle.dft_cells.specs.declared.kind.Role.{Role}
 use Rattle.dft_cells.specs.declared.kind.Role.TheVariants.{Clock, Din, Reset, Preset, ScanIn, ScanEnable, Output, Inverted}
 use Rattle.dft_cells.specs.declared.cell.Cell.{Cell}
@@ -18,7 +16,7 @@ use Rattle.dft_netlist.specs.declared.instance.CellRef.TheVariants.{Library}
 use Rattle.dft_netlist.specs.declared.instance.Signal.{Signal}
 use Rattle.dft_netlist.specs.declared.instance.Signal.TheVariants.{Net, Constant, Unconnected}
 use Rattle.dft_netlist.specs.declared.instance.Instance.{Instance}
-use Rattle.dft_netlist.specs.Drivers.{Source, Input, Driver, Driven, Shape, Connection, connections_from, inputs_of, shape_of, driven_by, driven_by_instances, driven_by_bits, driven_by_ports, driven_by_joins, all_driven, driver, driver_in}
+use Rattle.dft_netlist.specs.Drivers.{Input, Driven, Shape, connections_from, inputs_of, shape_of, driven_by, driven_by_instances, driven_by_bits, driven_by_ports, driven_by_joins, all_driven, driver, driver_in}
 use Rattle.dft_netlist.specs.NetDrivers.{roles_at, roles_in}
 use Rattle.dft_netlist.specs.Netlist.{Netlist}
 use Rattle.dft_netlist.specs.Sound.{bits_of}
@@ -32,7 +30,7 @@ use Rattle.dft_insert.specs.AddedPorts.{NewPort, ports_from}
 use Rattle.dft_insert.specs.Moves.{Gap, moved, moved_signal, moved_instance, moved_join}
 use Rattle.dft_insert.specs.Statements.{IsReady}
 use Rattle.dft_insert.specs.Written.{at_net, map_from}
-use Rattle.dft_insert.proofs.Mergings.{moved_driver, moved_driven, all_kept, NoneAt, old_driver, moved_instance_drives, moved_joins_drive, ports_append}
+use Rattle.dft_insert.proofs.Mergings.{moved_driver, moved_driven, NoneAt, old_driver, moved_instance_drives, moved_joins_drive, ports_append}
 use Rattle.dft_insert.proofs.ScanPairs.{ScanPair, Plain, PlainBoth, Resets, ResetsBoth, Sets, SetsBoth, ListOf3, ListOf4, ListOf5, three, four, five}
 use Rattle.dft_insert.proofs.Whole.{moved_front, moved_apart, AreBefore, nets_before, before_front, before_back, instances_append, length_map_from}
 use Rattle.dft_scan_hardware.specs.declared.style.Style.{Style}
@@ -44,7 +42,7 @@ use Rattle.dft_scan_hardware.proofs.Chains.{IsChainPin, OnChains, parts_on}
 use Rattle.dft_scan_hardware.proofs.Frames.{framed_width, scan_pair}
 use Rattle.dft_scan_hardware.proofs.Keeping.{from_get, scans_of, scanned_names}
 use Rattle.dft_scan_hardware.proofs.Joins.{Each, joined_in, none_joined, joined_width}
-use Rattle.dft_scan_off.proofs.Merging.{news, Early, joined_at, instances_are, JoinsWith, IsKeptOr, pin_kept, Carries, none_append, carries_append, carries_all, carries_added, IsOutput, scan_carries, is_output_at}
+use Rattle.dft_scan_off.proofs.Merging.{news, Early, joined_at, instances_are, pin_kept, Carries, none_append, carries_append, carries_all, carries_added, scan_carries, is_output_at}
 use Rattle.dft_scan_off.proofs.Spared.{Spares, IsOther, others_joined, news_none}
 
 -- ---- outputs of a scan cell in the frame

@@ -1,11 +1,10 @@
 -- The parts that are made leave the nets of the design alone.
-use Rattle.std.proofs.Common.{ℕ, zero, suc, ◌+◌, ◌≡◌, ◌==◌, ◌<◌, ◌≤◌, ◌⊎◌, inl, inr, Bool, true, false, nat_lt, List, [], ◌∷◌, ◌++◌, length, map, Option, None, Some, is_some, option_map, option_and_then, slice_get, refl, sym, subst, ap, arith, ◌∙◌}
+use Rattle.std.proofs.Common.{ℕ, zero, suc, ◌+◌, ◌≡◌, ◌<◌, ◌≤◌, ◌⊎◌, inl, inr, Bool, true, false, nat_lt, List, [], ◌∷◌, length, Option, None, Some, is_some, option_map, option_and_then, slice_get, refl, sym, subst, ap, arith, ◌∙◌}
 use Rattle.std.specs.Prelude.{slice_index_or, if◌then◌else◌, IsTrue}
 use Rattle.std.specs.List.{AllByRecursion}
-use Rattle.std.proofs.lemmas.Option.{none-some, same_Some}
+use Rattle.std.proofs.lemmas.Option.{none-some}
 use Rattle.dft_cells.specs.declared.kind.Kind.{Kind}
 use Rattle.dft_cells.specs.declared.kind.Role.{Role}
-use Rattle.dft_cells.specs.declared.cell.Cell.{Cell}
 use Rattle.dft_cells.specs.declared.cell.CellId.{CellId}
 use Rattle.dft_cells.specs.FlipFlops.{is_flip_flop}
 use Rattle.dft_netlist.specs.declared.ids.NetId.{NetId}
@@ -15,22 +14,20 @@ use Rattle.dft_netlist.specs.declared.instance.Instance.{Instance}
 use Rattle.dft_netlist.specs.Connections.{input_net}
 use Rattle.dft_netlist.specs.Drivers.{Shape, shape_of}
 use Rattle.dft_netlist.specs.Names.{find_net}
-use Rattle.dft_netlist.specs.NetDrivers.{roles_at, roles_in}
+use Rattle.dft_netlist.specs.NetDrivers.{roles_in}
 use Rattle.dft_netlist.specs.NetNumbers.{nets_from}
 use Rattle.dft_netlist.specs.Netlist.{Netlist}
-use Rattle.dft_netlist.specs.Sound.{IsNetlist}
 use Rattle.dft_config.specs.declared.config.Config.{Config}
 use Rattle.dft_rules.specs.Refusals.{is_scanned}
 use Rattle.dft_rules.specs.Rules.{judged, scan_cell_in}
 use Rattle.dft_stitch.specs.Chains.{plan_of}
-use Rattle.dft_stitch.specs.Plans.{Plan, cell_at}
+use Rattle.dft_stitch.specs.Plans.{Plan}
 use Rattle.dft_stitch.proofs.OnceLemmas.{cells_scanned}
 use Rattle.dft_parts.specs.declared.edt_ports.EdtPorts.{EdtPorts}
-use Rattle.dft_parts.specs.Recipes.{Start, start_of, nets_in, net_at}
+use Rattle.dft_parts.specs.Recipes.{Start, start_of, nets_in}
 use Rattle.dft_insert.specs.Moves.{Gap, moved}
-use Rattle.dft_insert.specs.Pieces.{domain_in}
 use Rattle.dft_insert.specs.Statements.{IsReady}
-use Rattle.dft_insert.specs.Stitching.{moved_or_none, own_output}
+use Rattle.dft_insert.specs.Stitching.{moved_or_none}
 use Rattle.dft_insert.proofs.Kept.{ports_fit}
 use Rattle.dft_insert.proofs.LiveNets.{moved_less, own_live, input_live}
 use Rattle.dft_insert.proofs.ScanPairs.{ScanPair}
@@ -39,17 +36,17 @@ use Rattle.dft_scan_hardware.specs.declared.style.Style.{Style}
 use Rattle.dft_scan_hardware.specs.declared.style.Style.TheVariants.{Plain, Edt}
 use Rattle.dft_scan_hardware.specs.Chained.{roles_of, scan_roles}
 use Rattle.dft_scan_hardware.specs.Frame.{as_scan_cell, framed_instance, framed_at, frame}
-use Rattle.dft_scan_hardware.specs.Ports.{added_ports, gap_in, edt_nets, plain_out}
+use Rattle.dft_scan_hardware.specs.Ports.{gap_in, edt_nets}
 use Rattle.dft_scan_hardware.specs.Scanned.{framed}
 use Rattle.dft_scan_hardware.specs.Statements.{made_in}
 use Rattle.dft_scan_hardware.proofs.Filling.{chains_planned}
 use Rattle.dft_scan_hardware.proofs.Frames.{scan_pair, frame_nets, some_ports, plain_count, edt_count}
 use Rattle.dft_scan_hardware.proofs.Keeping.{from_get, scanned_names}
 use Rattle.dft_scan_laws.proofs.Claims.{IsFlopIn}
-use Rattle.dft_scan_laws.proofs.Goods.{Setting, IsBelow, AreBelow, IsGood, none}
+use Rattle.dft_scan_laws.proofs.Goods.{IsBelow, AreBelow}
 use Rattle.dft_scan_laws.proofs.GoodChains.{IsScanCell, ChainSetting}
 use Rattle.dft_scan_laws.proofs.GoodCompactor.{outputs_of}
-use Rattle.dft_scan_laws.proofs.GoodRecipes.{ends_of, PortsBelow, plain_good, edt_good}
+use Rattle.dft_scan_laws.proofs.GoodRecipes.{ends_of, plain_good, edt_good}
 use Rattle.dft_scan_off.proofs.Driving.{AreSpared, scanned_there}
 use Rattle.dft_scan_off.proofs.Sparing.{spared_by, plain_apart, edt_apart, net_from}
 

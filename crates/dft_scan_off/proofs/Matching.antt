@@ -1,22 +1,19 @@
 -- The nets of a design trace to the same ports in its scanned netlist, and its flip-flops are kept there.
-use Rattle.std.proofs.Common.{ℕ, zero, suc, ◌+◌, ◌≡◌, ◌==◌, ◌<◌, ◌≤◌, ◌⊎◌, inl, inr, Bool, true, false, ◌||◌, List, [], ◌∷◌, ◌++◌, length, map, Option, None, Some, is_some, option_map, option_and_then, slice_get, refl, sym, subst, ap, arith, ◌∙◌, length-append}
+use Rattle.std.proofs.Common.{ℕ, ◌+◌, ◌≡◌, ◌==◌, ◌<◌, ◌≤◌, inl, inr, Bool, true, false, ◌||◌, List, length, map, Option, None, Some, is_some, option_map, option_and_then, slice_get, refl, sym, subst, ap, arith, ◌∙◌, length-append}
 use Rattle.std.specs.Prelude.{if◌then◌else◌}
 use Rattle.std.specs.List.{range_with_len}
-use Rattle.std.proofs.lemmas.List.{length-map}
-use Rattle.dft_cells.specs.declared.kind.Kind.{Kind}
 use Rattle.dft_cells.specs.declared.kind.Role.{Role}
 use Rattle.dft_cells.specs.declared.kind.Role.TheVariants.{Clock, Din, Reset, Preset, ScanIn, ScanEnable, Output}
 use Rattle.dft_cells.specs.declared.cell.Cell as library_cells
 use Rattle.dft_cells.specs.declared.cell.CellId.{CellId}
 use Rattle.dft_cells.specs.FlipFlops.{is_flip_flop}
-use Rattle.dft_cells.specs.WellFormed.{IsWellFormed}
 use Rattle.dft_netlist.specs.declared.instance.CellRef.TheVariants.{Library}
 use Rattle.dft_netlist.specs.declared.instance.Signal.{Signal}
 use Rattle.dft_netlist.specs.declared.instance.Instance.{Instance}
 use Rattle.dft_netlist.specs.Netlist.{Netlist}
 use Rattle.dft_netlist.specs.Sound.{bits_of}
 use Rattle.dft_netlist.specs.Drivers.{Source, Shape, Connection, connections_from, connections_of, shape_of, kind_of, pins_at}
-use Rattle.dft_netlist.specs.Logic.{Ports, Force, Cell, same_role, pin_of, or_loose, scan_of, domain_of, domain_at, force_of, forcing, modelled, modelled_of, flip_flop}
+use Rattle.dft_netlist.specs.Logic.{Ports, same_role, pin_of, or_loose, scan_of, domain_of, domain_at, force_of, forcing, modelled, modelled_of, flip_flop}
 use Rattle.dft_netlist.specs.Traces.{Root, Port, Constant, Other, root_of}
 use Rattle.dft_netlist.proofs.RankLemmas.{order_ranks}
 use Rattle.dft_config.specs.declared.config.Config.{Config}
@@ -30,7 +27,7 @@ use Rattle.dft_parts.proofs.Growing.{parts_grow}
 use Rattle.dft_insert.specs.Moves.{Gap, moved, moved_signal, moved_instance}
 use Rattle.dft_insert.specs.Statements.{IsReady, config_ports}
 use Rattle.dft_insert.specs.Stitching.{number_of}
-use Rattle.dft_insert.specs.Written.{at_net, map_from}
+use Rattle.dft_insert.specs.Written.{at_net}
 use Rattle.dft_insert.proofs.Contained.{RootsKept, SamePins, IsPinWithin, AreMatched, modelled_kept, pin_inside, pin_moved}
 use Rattle.dft_insert.proofs.Containing.{no_pin, ref_no_role, flop_in, match_if, scan_kinds}
 use Rattle.dft_insert.proofs.Fine.{instance_plain}
@@ -43,17 +40,17 @@ use Rattle.dft_scan_hardware.specs.declared.style.Style.{Style}
 use Rattle.dft_scan_hardware.specs.declared.style.Style.TheVariants.{Plain, Edt}
 use Rattle.dft_scan_hardware.specs.Chained.{roles_of, scan_roles}
 use Rattle.dft_scan_hardware.specs.Frame.{framed_pins, as_scan_cell, framed_instance, framed_at, frame}
-use Rattle.dft_scan_hardware.specs.Ports.{added_ports, gap_in}
+use Rattle.dft_scan_hardware.specs.Ports.{gap_in}
 use Rattle.dft_scan_hardware.specs.Scanned.{framed}
 use Rattle.dft_scan_hardware.specs.Statements.{scanned, made_in}
 use Rattle.dft_scan_hardware.proofs.Chains.{IsChainPin, parts_on}
 use Rattle.dft_scan_hardware.proofs.Frames.{framed_width, scan_pair, frame_nets}
-use Rattle.dft_scan_hardware.proofs.Joins.{Each, joined_in, instance_stays, pin_kept, none_joined, joined_width}
+use Rattle.dft_scan_hardware.proofs.Joins.{joined_in, instance_stays, pin_kept, none_joined, joined_width}
 use Rattle.dft_scan_hardware.proofs.Keeping.{from_get, scanned_names}
 use Rattle.dft_scan_off.specs.Agreeing.{edt_clock_net, ports_in, places_in}
 use Rattle.dft_scan_off.proofs.Driving.{now_at, index_same, true_false, AreSpared, driver_kept}
 use Rattle.dft_scan_off.proofs.Merging.{joined_at}
-use Rattle.dft_scan_off.proofs.ScanPins.{is_fixed_at, not_fixed, output_off, input_off, KeepsPins, AreFixed, scan_keeps}
+use Rattle.dft_scan_off.proofs.ScanPins.{not_fixed, output_off, input_off, KeepsPins, AreFixed, scan_keeps}
 
 -- ---- roots
 

@@ -1,27 +1,23 @@
 -- The drivers of a design, with their nets moved, among those of its scanned netlist.
-use Rattle.std.proofs.Common.{ℕ, zero, suc, ◌+◌, ◌≡◌, ◌==◌, ◌<◌, ◌≤◌, ◌⊎◌, inl, inr, Bool, true, false, List, [], ◌∷◌, ◌++◌, length, map, Option, None, Some, is_some, slice_get, refl, sym, subst, ap, arith, ◌∙◌, append_assoc, append-nil, length-append}
+use Rattle.std.proofs.Common.{ℕ, zero, suc, ◌+◌, ◌≡◌, ◌==◌, ◌<◌, ◌⊎◌, inl, inr, Bool, true, false, List, [], ◌∷◌, ◌++◌, length, map, Option, None, Some, slice_get, refl, sym, subst, ap, arith, ◌∙◌, append_assoc, append-nil}
 use Rattle.std.specs.Prelude.{slice_index_or, if◌then◌else◌}
-use Rattle.std.proofs.lemmas.Bool.{eqb-true, eq-eqb}
+use Rattle.std.proofs.lemmas.Bool.{eqb-true}
 use Rattle.std.proofs.lemmas.Bool.Decides.{nat_tests}
-use Rattle.std.proofs.lemmas.Option.{none-some, same_Some}
 use Rattle.dft_cells.specs.declared.kind.Kind.{Kind}
 use Rattle.dft_cells.specs.declared.kind.Kind.TheVariants.{Dff, Dffr, Dffs, Sdff, Sdffr, Sdffs}
 use Rattle.dft_cells.specs.declared.kind.Role.{Role}
 use Rattle.dft_cells.specs.declared.kind.Role.TheVariants.{Clock, Din, Reset, Preset, ScanIn, ScanEnable, Output, Inverted}
-use Rattle.dft_cells.specs.declared.cell.Cell.{Cell}
 use Rattle.dft_netlist.specs.declared.ids.NetId.{NetId}
-use Rattle.dft_netlist.specs.declared.instance.CellRef.{CellRef}
 use Rattle.dft_netlist.specs.declared.instance.Signal.{Signal}
 use Rattle.dft_netlist.specs.declared.instance.Signal.TheVariants.{Net, Constant, Unconnected}
 use Rattle.dft_netlist.specs.declared.instance.Instance.{Instance}
-use Rattle.dft_netlist.specs.Drivers.{Source, Driver, Flop, Driven, Connection, connections_from, connections_of, shape_of, at_signal, driven_by_pins, driven_by, driven_by_instances}
-use Rattle.dft_netlist.specs.Netlist.{Netlist}
+use Rattle.dft_netlist.specs.Drivers.{Source, Driver, Flop, Driven, connections_from, at_signal, driven_by_pins}
 use Rattle.dft_netlist.specs.Sound.{is_output}
 use Rattle.dft_parts.specs.MadeNames.{made_instance}
 use Rattle.dft_parts.specs.Parts.{Part, ANet, AnInstance, APin, Making, pin_joined, instance_joined, with_part, with_parts}
 use Rattle.dft_insert.specs.Written.{map_from}
 use Rattle.dft_insert.specs.Moves.{Gap, moved, moved_signal}
-use Rattle.dft_insert.proofs.Mergings.{Merges, Nothing, Kept, Added, moved_driver, moved_driven, append_merges, all_kept, all_added, NoneAt}
+use Rattle.dft_insert.proofs.Mergings.{Merges, moved_driver, moved_driven, append_merges, all_kept, all_added, NoneAt}
 use Rattle.dft_insert.proofs.ScanPairs.{ScanPair, Plain, PlainBoth, Resets, ResetsBoth, Sets, SetsBoth, ListOf3, ListOf4, ListOf5, three, four, five}
 use Rattle.dft_insert.proofs.Tabled.{map_from_same}
 use Rattle.dft_scan_hardware.proofs.Joins.{Each, joined_in, stays_joined}

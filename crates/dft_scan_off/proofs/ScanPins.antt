@@ -1,17 +1,14 @@
 -- Each flip-flop of a design is kept in its scanned netlist.
-use Rattle.std.proofs.Common.{ℕ, zero, suc, ◌+◌, ◌≡◌, ◌==◌, ◌<◌, ◌≤◌, ◌⊎◌, inl, inr, Bool, true, false, ◌||◌, List, [], ◌∷◌, ◌++◌, length, map, Option, None, Some, is_some, option_map, option_and_then, slice_get, refl, sym, subst, ap, arith, ◌∙◌, length-append}
-use Rattle.std.specs.Prelude.{slice_index_or, if◌then◌else◌}
-use Rattle.std.proofs.lemmas.Option.{none-some, same_Some}
-use Rattle.std.proofs.lemmas.List.{length-map}
+use Rattle.std.proofs.Common.{ℕ, zero, suc, ◌+◌, ◌≡◌, inl, inr, Bool, true, false, List, [], ◌∷◌, length, map, Option, None, Some, slice_get, refl, sym, subst, ap, arith, ◌∙◌}
+use Rattle.std.specs.Prelude.{slice_index_or}
+use Rattle.std.proofs.lemmas.Option.{none-some}
 use Rattle.dft_cells.specs.declared.kind.Kind.{Kind}
-use Rattle.dft_cells.specs.declared.kind.Kind.TheVariants.{Dff, Dffr, Dffs, Sdff, Sdffr, Sdffs}
 use Rattle.dft_cells.specs.declared.kind.Role.{Role}
 use Rattle.dft_cells.specs.declared.kind.Role.TheVariants.{Input, Clock, Din, Reset, Preset, ScanIn, ScanEnable, Output, Inverted}
 use Rattle.dft_netlist.specs.declared.instance.Signal.{Signal}
 use Rattle.dft_netlist.specs.declared.instance.Signal.TheVariants.{Unconnected}
-use Rattle.dft_netlist.specs.declared.instance.Signal.TheVariants as signal
-use Rattle.dft_netlist.specs.Drivers.{Source, Net, Connection, connections_from, source_of}
-use Rattle.dft_netlist.specs.Logic.{Scan, same_role, pin_of, scan_of}
+use Rattle.dft_netlist.specs.Drivers.{Source, Connection, connections_from, source_of}
+use Rattle.dft_netlist.specs.Logic.{same_role, pin_of, scan_of}
 use Rattle.dft_chains.specs.ScanOff.{moved_source, IsEnabledBy}
 use Rattle.dft_insert.specs.Moves.{Gap, moved, moved_signal}
 use Rattle.dft_insert.specs.Stitching.{number_of}

@@ -1,17 +1,14 @@
 -- Parts that drive a net nowhere.
-use Rattle.std.proofs.Common.{ℕ, zero, suc, ◌+◌, ◌≡◌, ◌==◌, ◌<◌, Bool, true, false, List, [], ◌∷◌, ◌++◌, cond, length, Option, None, Some, slice_get, refl, sym, subst, ap, arith, ◌∙◌}
-use Rattle.std.specs.Prelude.{if◌then◌else◌}
+use Rattle.std.proofs.Common.{ℕ, suc, ◌+◌, ◌≡◌, ◌==◌, Bool, true, false, List, [], ◌∷◌, ◌++◌, cond, Some, refl, ap, arith, ◌∙◌}
 use Rattle.std.proofs.lemmas.List.Sums.{sum_by-cons}
 use Rattle.dft_cells.specs.declared.kind.Kind.{Kind}
 use Rattle.dft_cells.specs.declared.kind.Role.{Role}
 use Rattle.dft_cells.specs.declared.kind.Role.TheVariants.{Input, Clock, Din, Reset, Preset, ScanIn, ScanEnable, Output, Inverted}
-use Rattle.dft_cells.specs.declared.cell.Cell.{Cell}
 use Rattle.dft_netlist.specs.declared.ids.NetId.{NetId}
-use Rattle.dft_netlist.specs.declared.instance.CellRef.{CellRef}
 use Rattle.dft_netlist.specs.declared.instance.Signal.{Signal}
 use Rattle.dft_netlist.specs.declared.instance.Signal.TheVariants.{Net, Constant, Unconnected}
 use Rattle.dft_netlist.specs.declared.instance.Instance.{Instance}
-use Rattle.dft_netlist.specs.Drivers.{Source, Driver, Driven, Connection, connections_from, connections_of, inputs_of, shape_of, at_signal, at_role, driven_by_pins, driven_by, driven_by_instances}
+use Rattle.dft_netlist.specs.Drivers.{Source, Driver, connections_from, connections_of, inputs_of, shape_of, at_signal, at_role, driven_by_pins, driven_by, driven_by_instances}
 use Rattle.dft_netlist.specs.NetDrivers.{roles_at}
 use Rattle.dft_netlist.specs.Netlist.{Netlist}
 use Rattle.dft_parts.specs.MadeNames.{made_instance}

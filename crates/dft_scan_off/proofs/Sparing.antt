@@ -1,8 +1,7 @@
 -- Parts that are good leave the nets of a design alone.
-use Rattle.std.proofs.Common.{ℕ, zero, suc, ◌+◌, ◌≡◌, ◌==◌, ◌<◌, ◌≤◌, Bool, true, false, nat_lt, List, [], ◌∷◌, ◌++◌, cond, length, map, Option, None, Some, slice_get, refl, sym, subst, ap, arith, ◌∙◌}
-use Rattle.std.specs.Prelude.{slice_index_or, if◌then◌else◌}
-use Rattle.std.specs.List.{AllByRecursion, range_with_len}
-use Rattle.std.proofs.lemmas.Bool.Decides.{nat_tests}
+use Rattle.std.proofs.Common.{ℕ, zero, suc, ◌+◌, ◌≡◌, ◌==◌, ◌<◌, ◌≤◌, Bool, true, false, nat_lt, List, [], ◌∷◌, cond, length, Option, None, Some, slice_get, refl, sym, ap, arith, ◌∙◌}
+use Rattle.std.specs.Prelude.{if◌then◌else◌}
+use Rattle.std.specs.List.{range_with_len}
 use Rattle.std.proofs.lemmas.List.Sums.{sum_by-cons}
 use Rattle.dft_cells.specs.declared.kind.Role.{Role}
 use Rattle.dft_netlist.specs.declared.ids.NetId.{NetId}
@@ -10,7 +9,6 @@ use Rattle.dft_netlist.specs.Drivers.{shape_of}
 use Rattle.dft_netlist.specs.NetDrivers.{roles_at}
 use Rattle.dft_netlist.specs.NetNumbers.{nets_from}
 use Rattle.dft_netlist.specs.Netlist.{Netlist}
-use Rattle.dft_netlist.specs.Sound.{is_output}
 use Rattle.dft_config.specs.declared.config.Config.{Config}
 use Rattle.dft_parts.specs.Parts.{Part, ANet, AnInstance, APin}
 use Rattle.dft_parts.specs.Recipes.{start_of, nets_in, net_at}
@@ -20,12 +18,12 @@ use Rattle.dft_insert.proofs.LiveNets.{moved_less}
 use Rattle.dft_scan_hardware.specs.declared.style.Style.{Style}
 use Rattle.dft_scan_hardware.specs.declared.style.Style.TheVariants.{Plain, Edt}
 use Rattle.dft_scan_hardware.specs.Frame.{frame}
-use Rattle.dft_scan_hardware.specs.Ports.{added_ports, gap_in, edt_nets, plain_out}
+use Rattle.dft_scan_hardware.specs.Ports.{gap_in, edt_nets, plain_out}
 use Rattle.dft_scan_hardware.specs.Scanned.{framed}
 use Rattle.dft_scan_hardware.specs.Statements.{made_in}
 use Rattle.dft_scan_hardware.proofs.Frames.{frame_nets, plain_count, edt_count}
 use Rattle.dft_scan_hardware.proofs.Joins.{Each}
-use Rattle.dft_scan_laws.proofs.Claims.{claimed, claim, claims, times_in-append}
+use Rattle.dft_scan_laws.proofs.Claims.{claimed, claims, times_in-append}
 use Rattle.dft_scan_laws.proofs.Goods.{IsGood, none, one}
 use Rattle.dft_scan_laws.proofs.GoodSums.{all_of}
 use Rattle.dft_scan_laws.proofs.GoodCompactor.{outputs_of}
