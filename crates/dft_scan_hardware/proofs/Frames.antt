@@ -55,7 +55,7 @@ use Rattle.dft_scan_hardware.proofs.AddedPorts.{AreOnce, added_once, added_few, 
 
 -- ---- scan cells
 
-framed_width : (e : Signal) (roles : List Role) (pins : List Signal) → length (framed_pins e roles pins) ≡ length roles
+pub framed_width : (e : Signal) (roles : List Role) (pins : List Signal) → length (framed_pins e roles pins) ≡ length roles
 framed_width e [] pins = refl
 framed_width e (ScanIn ∷ roles) pins = ap suc (framed_width e roles pins)
 framed_width e (ScanEnable ∷ roles) pins = ap suc (framed_width e roles pins)

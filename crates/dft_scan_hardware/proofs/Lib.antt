@@ -3,3 +3,7 @@ pub mod Frames
 pub mod PinLemmas
 pub mod MadeParts
 pub mod Filling
+pub mod Joins
+pub mod Free
+pub mod Chains
+pub mod Keeping

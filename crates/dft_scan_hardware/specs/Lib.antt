@@ -6,3 +6,4 @@ pub mod Chained
 pub mod Scanned
 pub mod Refusals
 pub mod Bounds
+pub mod Statements

@@ -7,6 +7,7 @@ mod chaining;
 mod edt;
 mod frame;
 mod framing;
+mod laws;
 mod new_port;
 mod outputs;
 mod pins;
@@ -16,5 +17,6 @@ mod style;
 mod told;
 
 pub use building::{Unfinished, make_scanned};
+pub use laws::scanned_keeps;
 pub use new_port::NewPort;
 pub use style::Style;
