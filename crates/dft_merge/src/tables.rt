@@ -1,11 +1,11 @@
 //! Tables of bits: for each number of a cell or a port its bit, if it has one.
 
-ghost use Rattle.std.specs.Prelude.{◌≡◌, ◌≤◌, ◌<◌, ◌++◌, ◌+◌, ℕ, [], length, filter, is_none, IfOk, OnOk, vec_len};
+ghost use Rattle.std.specs.Prelude.{◌≡◌, ◌≤◌, ◌<◌, ◌++◌, ◌+◌, ◌==◌, ℕ, length, if◌then◌else◌, OnOk, vec_len};
 ghost use Rattle.std.specs.Vec.{vec_capacity};
-ghost use Rattle.std.specs.List.{list_any};
-ghost use Rattle.dft_merge.specs.Placement.{bit_in, cell_number, is_opposite, port_number};
+ghost use Rattle.dft_merge.specs.Placement as placement;
+ghost use Rattle.dft_merge.specs.Placement.{cell_number, port_number};
 ghost use Rattle.dft_merge.specs.Rows.{or_else};
-ghost use Rattle.dft_merge.specs.Tables.{AreBelow, SameBits};
+ghost use Rattle.dft_merge.specs.Tables.{AreBelow, IsNoted, SameBits, missing_by, opposes_by};
 ghost use Rattle.dft_merge.specs.Tables as spec;
 
 use dft_netlist::{InstanceId, NetId};
@@ -23,7 +23,7 @@ fn bit_of(table: &[Option<bool>], number: u32) -> Option<bool>
 
 // Whether a bit is the opposite of one that is there.
 fn is_opposite(there: Option<bool>, bit: bool) -> bool
-    ensures { result ≡ is_opposite there bit }
+    ensures { result ≡ placement.is_opposite there bit }
 {
     match there {
         Some(other) => other != bit,
@@ -33,7 +33,7 @@ fn is_opposite(there: Option<bool>, bit: bool) -> bool
 
 /// Whether one of these cells has the opposite bit in the table.
 pub(crate) fn opposes_cells(table: &[Option<bool>], cells: &[(InstanceId, bool)]) -> bool
-    ensures { result ≡ list_any (λ given. is_opposite (spec.bit_of table.now (cell_number given.0)) given.1) cells.now }
+    ensures { result ≡ opposes_by cell_number table.now cells.now }
 {
     cells
         .iter()
@@ -42,7 +42,7 @@ pub(crate) fn opposes_cells(table: &[Option<bool>], cells: &[(InstanceId, bool)]
 
 /// Whether one of these ports has the opposite bit in the table.
 pub(crate) fn opposes_ports(table: &[Option<bool>], ports: &[(NetId, bool)]) -> bool
-    ensures { result ≡ list_any (λ given. is_opposite (spec.bit_of table.now (port_number given.0)) given.1) ports.now }
+    ensures { result ≡ opposes_by port_number table.now ports.now }
 {
     ports
         .iter()
@@ -85,7 +85,7 @@ pub(crate) fn grow(table: &mut Vec<Option<bool>>, end: usize) -> Result<(), Allo
 /// Notes the bits of these cells where the table has none yet.
 pub(crate) fn note_cells(table: &mut [Option<bool>], cells: &[(InstanceId, bool)])
     requires { AreBelow cell_number (length table.old) cells.now }
-    ensures { (k : ℕ) → spec.bit_of table.new k ≡ or_else (spec.bit_of table.old k) (bit_in cell_number cells.now k) }
+    ensures { IsNoted cell_number table.old cells.now table.new }
 {
     for given in cells {
         note(table, given.0.0, given.1);
@@ -95,7 +95,7 @@ pub(crate) fn note_cells(table: &mut [Option<bool>], cells: &[(InstanceId, bool)
 /// Notes the bits of these ports where the table has none yet.
 pub(crate) fn note_ports(table: &mut [Option<bool>], ports: &[(NetId, bool)])
     requires { AreBelow port_number (length table.old) ports.now }
-    ensures { (k : ℕ) → spec.bit_of table.new k ≡ or_else (spec.bit_of table.old k) (bit_in port_number ports.now k) }
+    ensures { IsNoted port_number table.old ports.now table.new }
 {
     for given in ports {
         note(table, given.0.0, given.1);
@@ -116,7 +116,7 @@ fn note(table: &mut [Option<bool>], number: u32, bit: bool)
 /// Appends those of these cells that have no bit in the table.
 pub(crate) fn push_missing_cells(list: &mut Vec<(InstanceId, bool)>, table: &[Option<bool>], cells: &[(InstanceId, bool)])
     requires { vec_len list.old + length cells.now ≤ vec_capacity list.old }
-    ensures { list.new.items ≡ list.old.items ++ filter (λ given. is_none (spec.bit_of table.now (cell_number given.0))) cells.now }
+    ensures { list.new.items ≡ list.old.items ++ missing_by cell_number table.now cells.now }
 {
     for given in cells {
         if bit_of(table, given.0.0).is_none() {
@@ -128,7 +128,7 @@ pub(crate) fn push_missing_cells(list: &mut Vec<(InstanceId, bool)>, table: &[Op
 /// Appends those of these ports that have no bit in the table.
 pub(crate) fn push_missing_ports(list: &mut Vec<(NetId, bool)>, table: &[Option<bool>], ports: &[(NetId, bool)])
     requires { vec_len list.old + length ports.now ≤ vec_capacity list.old }
-    ensures { list.new.items ≡ list.old.items ++ filter (λ given. is_none (spec.bit_of table.now (port_number given.0))) ports.now }
+    ensures { list.new.items ≡ list.old.items ++ missing_by port_number table.now ports.now }
 {
     for given in ports {
         if bit_of(table, given.0.0).is_none() {
