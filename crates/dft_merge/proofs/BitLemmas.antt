@@ -1,13 +1,14 @@
 -- Bits that are given by lists, and by tables.
-use Rattle.std.proofs.Common.{ℕ, Bool, true, false, cond, List, [], ◌∷◌, ◌++◌, ◌≡◌, ◌||◌, ◌==◌, refl, sym, ap, subst, arith, ◌∙◌, Option, Some, None, is_none, filter}
+use Rattle.std.proofs.Common.{ℕ, Bool, true, false, cond, List, [], ◌∷◌, ◌++◌, ◌≡◌, ◌<◌, ◌≤◌, ◌+◌, ◌||◌, ◌==◌, length, get_or, take, drop, refl, sym, ap, subst, arith, ◌∙◌, Option, Some, None, is_none, filter}
 use Rattle.std.specs.List.{list_any}
 use Rattle.std.proofs.lemmas.Bool.{eqb-true, or_parts}
 use Rattle.std.proofs.lemmas.Option.{same_Some}
-use Rattle.std.proofs.lemmas.List.Elements.{filter_agree}
+use Rattle.std.proofs.lemmas.List.{drop_all, drop_more}
+use Rattle.std.proofs.lemmas.List.Elements.{All-more, All-weaker, filter_agree}
 use Rattle.dft_base.specs.Solutions.{xor}
 use Rattle.dft_merge.specs.Rows.{or_else}
 use Rattle.dft_merge.specs.Placement.{bit_in, has_opposite, is_opposite, missing}
-use Rattle.dft_merge.specs.Tables.{IsNoted, IsTable, bit_of, missing_by, opposes_by}
+use Rattle.dft_merge.specs.Tables.{AreBelow, IsNoted, IsTable, bit_of, missing_by, opposes_by}
 use Rattle.dft_merge.proofs.EquationLemmas.{Each}
 
 -- ---- what holds of a list's bits
@@ -54,9 +55,6 @@ each_missing number Q pattern (g ∷ more) each = kept_case Q g (missing number 
 
 -- ---- the bits of two lists
 
-or_else-cond : (t : Bool) (x o p : Option Bool) → cond t x (or_else o p) ≡ cond t x o → cond t x (or_else o p) ≡ cond t x o
-or_else-cond t x o p same = same
-
 append_case : (t : Bool) (b : Bool) (o p : Option Bool) → cond t (Some b) (or_else o p) ≡ or_else (cond t (Some b) o) p
 append_case true b o p = refl
 append_case false b o p = refl
@@ -98,3 +96,39 @@ missing_same number xs ys table is = filter_agree (λ g. is_none (bit_of table (
 pub opposes_same : {T : Type 0} (number : T → ℕ) (xs ys : List (T × Bool)) (table : List (Option Bool)) → IsTable number xs table → opposes_by number table ys ≡ has_opposite number xs ys
 opposes_same number xs [] table is = refl
 opposes_same number xs (g ∷ ys) table is = λ i. is_opposite (is (number g.0) i) g.1 || opposes_same number xs ys table is i
+
+-- ---- loops over lists of bits
+
+-- the list is below a number that is as great as before, and above one number more
+pub below_more : {T : Type 0} (number : T → ℕ) (end more : ℕ) (xs : List (T × Bool)) (i : ℕ) (x : T × Bool) → i < length xs → x ≡ get_or xs i x → AreBelow number end (take i xs) → end ≤ more → number x.0 < more → AreBelow number more (take (i + 1) xs)
+below_more number end more xs i x less is below far above =
+    All-more (λ g. number g.0 < more) xs i x less (All-weaker (λ g. number g.0 < end) (λ g. number g.0 < more) (λ g under. omega arith) (take i xs) below) (subst (λ g. number g.0 < more) is above)
+
+noted_step : (o : Option Bool) (t : Bool) (b : Bool) (rest : Option Bool) → or_else (or_else o (cond t (Some b) None)) rest ≡ or_else o (cond t (Some b) rest)
+noted_step None true b rest = refl
+noted_step None false b rest = refl
+noted_step (Some a) t b rest = refl
+
+-- with the bits that are left to note, a table has what all of them give it
+pub record IsNoting {T : Type 0} (number : T → ℕ) (old : List (Option Bool)) (given : List (T × Bool)) (now : List (Option Bool)) (i : ℕ) : Type 0 where
+  pub size : length now ≡ length old
+  pub bits : (k : ℕ) → or_else (bit_of now k) (bit_in number (drop i given) k) ≡ or_else (bit_of old k) (bit_in number given k)
+
+pub noting_more : {T : Type 0} (number : T → ℕ) (old : List (Option Bool)) (given : List (T × Bool)) (now next : List (Option Bool)) (i : ℕ) (x : T × Bool) → i < length given → x ≡ get_or given i x → IsNoting number old given now i →
+    length next ≡ length now → ((k : ℕ) → bit_of next k ≡ or_else (bit_of now k) (cond (number x.0 == k) (Some x.1) None)) → IsNoting number old given next (i + 1)
+noting_more number old given now next i x less is noting size noted = record {
+  size = size ∙ noting.size;
+  bits = λ k.
+      ap (λ (o : Option Bool). or_else o (bit_in number (drop (i + 1) given) k)) (noted k)
+      ∙ noted_step (bit_of now k) (number x.0 == k) x.1 (bit_in number (drop (i + 1) given) k)
+      ∙ ap (λ xs. or_else (bit_of now k) (bit_in number xs k)) (sym (drop_more given i x less ∙ ap (λ y. y ∷ drop (i + 1) given) (sym is)))
+      ∙ noting.bits k;
+}
+
+or_else-none : (o : Option Bool) → or_else o None ≡ o
+or_else-none None = refl
+or_else-none (Some b) = refl
+
+pub noting_all : {T : Type 0} (number : T → ℕ) (old : List (Option Bool)) (given : List (T × Bool)) (now : List (Option Bool)) (i : ℕ) → length given ≤ i → IsNoting number old given now i → IsNoted number old given now
+noting_all number old given now i past noting k =
+    sym (or_else-none (bit_of now k)) ∙ ap (λ xs. or_else (bit_of now k) (bit_in number xs k)) (sym (drop_all i given past)) ∙ noting.bits k

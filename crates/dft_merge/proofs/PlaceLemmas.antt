@@ -4,6 +4,11 @@ use Rattle.std.proofs.lemmas.Bool.{cases_lt, cond-true, eqb-true, eq-eqb, both_w
 use Rattle.std.proofs.lemmas.Option.{same_Some, slice_get-get_or, slice_get_within, get_or_from_slice_get}
 use Rattle.std.proofs.lemmas.List.Quantifiers.{position-Some}
 use Rattle.std.proofs.lemmas.List.Sums.{fails_before_first}
+use Rattle.std.proofs.lemmas.List.{ext_get_or, get_or_past}
+use Rattle.dft_base.specs.Packed.{packed_bit}
+use Rattle.dft_base.specs.Solutions.{bit_at}
+use Rattle.dft_lanes.specs.Rows.{bits_of, words_for, IsPacked}
+use Rattle.dft_lanes.proofs.RowLemmas.{bits-at, length-bits_of}
 use Rattle.std.specs.List.{position_or_len}
 use Rattle.dft_netlist.specs.declared.ids.InstanceId.{InstanceId}
 use Rattle.dft_stitch.specs.declared.places.CellPlace.{CellPlace}
@@ -101,3 +106,15 @@ wide_case chains rows cell row (Some at) are is found =
 -- each load equation has a bit for each column
 pub row_wide : (chains : List (List InstanceId)) (rows : LoadRows) (cell : InstanceId) (row : List Bool) → AreRows chains rows → cell_row chains rows cell ≡ Some row → length row ≡ rows.columns
 row_wide chains rows cell row are found = wide_case chains rows cell row (place_from 0 chains cell) are refl found
+
+-- ---- packed rows
+
+-- words with the bits of a row are packed
+pub row_packed : (n : ℕ) (row : List Bool) (words : List ℕ) → length words ≡ words_for n → ((column : ℕ) → packed_bit words column ≡ bit_at row column) → length row ≡ n → IsPacked n words
+row_packed n row words size same width = record { size = size; clear = λ column past. same column ∙ get_or_past row column false (omega arith) }
+
+-- and stand for it
+pub row_bits : (n : ℕ) (row : List Bool) (words : List ℕ) → length words ≡ words_for n → ((column : ℕ) → packed_bit words column ≡ bit_at row column) → length row ≡ n → row ≡ bits_of n words
+row_bits n row words size same width =
+    let packed = row_packed n row words size same width in
+    ext_get_or false row (bits_of n words) (width ∙ sym (length-bits_of n words)) (λ k less. sym (same k) ∙ sym (bits-at words n k packed.clear))
