@@ -1,14 +1,16 @@
 -- Bits that are given by lists, and by tables.
-use Rattle.std.proofs.Common.{ℕ, Bool, true, false, cond, List, [], ◌∷◌, ◌++◌, ◌≡◌, ◌<◌, ◌≤◌, ◌+◌, ◌||◌, ◌==◌, length, get_or, take, drop, refl, sym, ap, subst, arith, ◌∙◌, Option, Some, None, is_none, filter}
+use Rattle.std.proofs.Common.{ℕ, Bool, true, false, cond, List, [], ◌∷◌, ◌++◌, ◌≡◌, ◌<◌, ◌≤◌, ◌+◌, ◌||◌, ◌==◌, length, get_or, take, drop, refl, sym, ap, subst, arith, ◌∙◌, Option, Some, None, is_none, filter, Vec}
+use Rattle.std.specs.Vec.{with_items}
+use Rattle.std.specs.declared.alloc.Global.{Global}
 use Rattle.std.specs.List.{list_any}
 use Rattle.std.proofs.lemmas.Bool.{eqb-true, or_parts}
 use Rattle.std.proofs.lemmas.Option.{same_Some}
-use Rattle.std.proofs.lemmas.List.{drop_all, drop_more}
+use Rattle.std.proofs.lemmas.List.{drop_all, drop_more, with_items_is}
 use Rattle.std.proofs.lemmas.List.Elements.{All-more, All-weaker, filter_agree}
 use Rattle.dft_base.specs.Solutions.{xor}
 use Rattle.dft_merge.specs.Rows.{or_else}
 use Rattle.dft_merge.specs.Placement.{bit_in, has_opposite, is_opposite, missing}
-use Rattle.dft_merge.specs.Tables.{AreBelow, IsNoted, IsTable, bit_of, missing_by, opposes_by}
+use Rattle.dft_merge.specs.Tables.{AreBelow, IsNoted, IsTable, SameBits, bit_of, missing_by, opposes_by}
 use Rattle.dft_merge.proofs.EquationLemmas.{Each}
 
 -- ---- what holds of a list's bits
@@ -132,3 +134,19 @@ or_else-none (Some b) = refl
 pub noting_all : {T : Type 0} (number : T → ℕ) (old : List (Option Bool)) (given : List (T × Bool)) (now : List (Option Bool)) (i : ℕ) → length given ≤ i → IsNoting number old given now i → IsNoted number old given now
 noting_all number old given now i past noting k =
     sym (or_else-none (bit_of now k)) ∙ ap (λ xs. or_else (bit_of now k) (bit_in number xs k)) (sym (drop_all i given past)) ∙ noting.bits k
+
+-- ---- the table of a pattern with a cube
+
+-- the items of a vector that was lent and filled anew
+pub filled : {X : Type 0} (v : Vec X Global) (ws rs : List X) → length ws ≡ length rs → rs ≡ v.items → (with_items v ws).items ≡ ws
+filled v ws rs size from = with_items_is v ws (size ∙ ap length from ∙ sym v.ok.0)
+
+-- a table that grew, and in which a cube's bits were noted, is that of the pattern with what the cube adds
+pub given_table : {T : Type 0} (number : T → ℕ) (pattern cube now lent : List (T × Bool)) (old : List (Option Bool)) (grown : Vec (Option Bool) Global) (rest new : List (Option Bool)) → IsTable number pattern old → SameBits old grown.items →
+    now ≡ pattern ++ missing_by number grown.items cube → lent ≡ cube → rest ≡ grown.items → length new ≡ length rest → IsNoted number rest lent new → IsTable number now (with_items grown new).items
+given_table number pattern cube now lent old grown rest new table same added is from size noted =
+    let wide : IsTable number pattern grown.items = λ k. same k ∙ table k in
+    let here : IsNoted number grown.items cube new = subst (λ t. IsNoted number t cube new) from (subst (λ xs. IsNoted number rest xs new) is noted) in
+    let joined : IsTable number (pattern ++ missing number pattern cube) new = table_joined number pattern cube grown.items new wide here in
+    let split : now ≡ pattern ++ missing number pattern cube = added ∙ ap (λ xs. pattern ++ xs) (missing_same number pattern cube grown.items wide) in
+    subst (λ xs. IsTable number xs (with_items grown new).items) (sym split) (subst (IsTable number (pattern ++ missing number pattern cube)) (sym (filled grown new rest size from)) joined)

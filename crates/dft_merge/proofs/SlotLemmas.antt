@@ -1,22 +1,24 @@
 -- Slots and patterns, side by side.
-use Rattle.std.proofs.Common.{ℕ, zero, suc, Bool, true, false, cond, List, [], ◌∷◌, ◌++◌, ◌≡◌, ◌+◌, ◌-◌, ◌<◌, ◌≤◌, length, drop, set, min, refl, sym, ap, subst, arith, ◌∙◌, ◌⊎◌, inl, inr, Option, Some, None, is_none, slice_get, slice_set, length-set}
+use Rattle.std.proofs.Common.{ℕ, zero, suc, Bool, true, false, cond, List, [], ◌∷◌, ◌++◌, ◌≡◌, ◌+◌, ◌-◌, ◌<◌, ◌≤◌, length, get_or, drop, take, set, min, ◌||◌, MatchBool, refl, sym, ap, subst, arith, ◌∙◌, ◌⊎◌, inl, inr, Option, Some, None, is_none, slice_get, slice_set, length-set}
 use Rattle.std.specs.Prelude.{unwrap_or}
-use Rattle.std.proofs.lemmas.Bool.{cases_eq, cases_lt}
-use Rattle.std.proofs.lemmas.Option.{same_Some, slice_get_within, slice_get_past}
-use Rattle.std.proofs.lemmas.List.{length_push, length-drop, set_at}
+use Rattle.std.proofs.lemmas.Bool.{both_ways, cases_eq, cases_lt, or_from, or_parts}
+use Rattle.std.proofs.lemmas.Option.{same_Some, slice_get_cases, slice_get_within}
+use Rattle.std.proofs.lemmas.List.{drop_all, drop_more, length_push, length-drop, set_at, set-get_or, take_more}
 use Rattle.dft_base.specs.Solutions.{Equation, Solves, IsSolvable, sum_over}
 use Rattle.dft_netlist.specs.declared.ids.InstanceId.{InstanceId}
 use Rattle.dft_netlist.proofs.DriveLemmas.{get_set_same, get_set_other}
 use Rattle.dft_gf2.specs.Elimination.{Elimination}
+use Rattle.dft_gf2.proofs.Restorations.{solves_push}
 use Rattle.dft_cubes.specs.declared.cube.Cube.{Cube}
 use Rattle.dft_cubes.specs.declared.cube.Merged.{Merged}
 use Rattle.dft_merge.specs.declared.slot.Slot.{Slot}
 use Rattle.dft_merge.specs.Rows.{CellRows}
-use Rattle.dft_merge.specs.Placement.{Fits, begun, cell_number, equations_of, first_unscanned, has_opposite, joined, missing, port_number}
-use Rattle.dft_merge.specs.Slots.{AreLoadable, AreSlots, HasPlace, IsJoined, IsLoadable, IsNextCount, IsPut, IsSlot, NoneFrom}
-use Rattle.dft_merge.specs.Systems.{IsSystem}
-use Rattle.dft_merge.specs.Tables.{IsTable}
-use Rattle.dft_merge.proofs.BitLemmas.{Has, covered, each_missing}
+use Rattle.dft_merge.specs.Placement.{Fits, begun, cell_number, equations_from, equations_of, first_unscanned, has_opposite, joined, missing, port_number}
+use Rattle.dft_merge.specs.Slots.{AreLoadable, AreSlots, HasPlace, HaveColumns, IsJoined, IsLoadable, IsNextCount, IsPut, IsSlot, NoneFrom}
+use Rattle.dft_merge.specs.Systems.{AreWide, IsConflict, IsRefused, IsRun, IsSystem, IsTaken}
+use Rattle.dft_merge.specs.Tables.{IsTable, opposes_by}
+use Rattle.dft_merge.proofs.BitLemmas.{covered, each_missing, opposes_same}
+use Rattle.dft_merge.proofs.SystemLemmas.{run_more, run_refused, system_solvable, system_taken}
 use Rattle.dft_merge.proofs.EquationLemmas.{Each, Meets, each_join, each_left, each_right, meets_solves, solves_join, solves_left, solves_meets, solves_right}
 
 -- ---- a pattern with a cube
@@ -218,3 +220,174 @@ pub opened : (n : ℕ) (row : CellRows) (window : ℕ) (cube : Cube) (cells port
     IsTable cell_number cube.cells cells → IsTable port_number cube.ports ports → Opened n row window old (patterns ++ begun cube ∷ []) new now
 opened n row window cube cells ports system old mid patterns now new some few are place put is cells_are ports_are =
     opened_case n row window cube cells ports system old mid patterns now new some few are place put (begun_slot n row cube cells ports system mid now new is cells_are ports_are put) (cases_lt (length old) window)
+
+-- ---- loops over cells
+
+there_at : (row : CellRows) (cells : List (InstanceId × Bool)) (i : ℕ) (x : InstanceId × Bool) → Each (IsThere row) cells → i < length cells → x ≡ get_or cells i x → IsThere row x
+there_at row [] i x each less is = absurd (omega arith)
+there_at row (g ∷ cells) zero x each less is = subst (IsThere row) (sym is) each.0
+there_at row (g ∷ cells) (suc i) x each less is = there_at row cells i x each.1 (omega arith) is
+
+-- each of scanned cells is scanned
+pub scanned_at : (row : CellRows) (cells : List (InstanceId × Bool)) (i : ℕ) (x : InstanceId × Bool) → first_unscanned row cells ≡ None → i < length cells → x ≡ get_or cells i x → row x.0 ≡ None → ⊥
+scanned_at row cells i x scanned less is none = both_ways (is_none (row x.0)) (there_at row cells i x (each_scanned row cells scanned) less is) (ap is_none none)
+
+pub equations_drop : (row : CellRows) (k : ℕ) (cells : List (InstanceId × Bool)) (i : ℕ) (x : InstanceId × Bool) → i < length cells → x ≡ get_or cells i x →
+    equations_from row k (drop i cells) ≡ record { row = unwrap_or (row x.0) []; bit = x.1; id = k } ∷ equations_from row (k + 1) (drop (i + 1) cells)
+equations_drop row k cells i x less is =
+    ap (equations_from row k) (drop_more cells i x less ∙ ap (λ (y : InstanceId × Bool). y ∷ drop (i + 1) cells) (sym is))
+    ∙ ap (λ (m : ℕ). record { row = unwrap_or (row x.0) []; bit = x.1; id = k } ∷ equations_from row m (drop (i + 1) cells)) (let e : suc k ≡ k + 1 = omega arith in e)
+
+row_size : (n : ℕ) (row : CellRows) → ((cell : InstanceId) (r : List Bool) → row cell ≡ Some r → length r ≡ n) → (cell : InstanceId) (o : Option (List Bool)) → row cell ≡ o → (row cell ≡ None → ⊥) → length (unwrap_or o []) ≡ n
+row_size n row wide cell None is some = absurd (some is)
+row_size n row wide cell (Some r) is some = wide cell r is
+
+pub size_of : (n : ℕ) (row : CellRows) → ((cell : InstanceId) (r : List Bool) → row cell ≡ Some r → length r ≡ n) → (cell : InstanceId) → (row cell ≡ None → ⊥) → length (unwrap_or (row cell) []) ≡ n
+size_of n row wide cell some = row_size n row wide cell (row cell) refl some
+
+pub wide_equations : (n : ℕ) (row : CellRows) (k : ℕ) (cells : List (InstanceId × Bool)) → ((cell : InstanceId) (r : List Bool) → row cell ≡ Some r → length r ≡ n) → first_unscanned row cells ≡ None → AreWide n (equations_from row k cells)
+wide_equations n row k [] wide scanned j less = absurd (omega arith)
+wide_equations n row k (g ∷ cells) wide scanned zero less = size_of n row wide g.0 (scanned_at row (g ∷ cells) 0 g scanned (omega arith) refl)
+wide_equations n row k (g ∷ cells) wide scanned (suc j) less = wide_equations n row (suc k) cells wide (scanned_case row g cells (is_none (row g.0)) refl scanned).1 j (omega arith)
+
+-- ---- a run over cells
+
+-- the equation of the cell at a place
+abbrev pub equation_of : CellRows → InstanceId → Bool → ℕ → Equation
+equation_of row cell bit id = record { row = unwrap_or (row cell) []; bit = bit; id = id }
+
+pub run_cell : (n : ℕ) (row : CellRows) (old now next : List Equation) (cells : List (InstanceId × Bool)) (i : ℕ) (x : InstanceId × Bool) → i < length cells → x ≡ get_or cells i x → length (unwrap_or (row x.0) []) ≡ n →
+    IsRun n old (equations_of row cells) now (equations_from row i (drop i cells)) → IsTaken n now (equation_of row x.0 x.1 i) next → IsRun n old (equations_of row cells) next (equations_from row (i + 1) (drop (i + 1) cells))
+run_cell n row old now next cells i x less is size run taken =
+    run_more n old (equations_of row cells) now (equations_from row (i + 1) (drop (i + 1) cells)) (equation_of row x.0 x.1 i) next size
+    (subst (IsRun n old (equations_of row cells) now) (equations_drop row i cells i x less is) run) taken
+
+pub refused_cell : (n : ℕ) (row : CellRows) (old now new : Elimination) (cells : List (InstanceId × Bool)) (i : ℕ) (x : InstanceId × Bool) → i < length cells → x ≡ get_or cells i x →
+    IsRun n old.kept (equations_of row cells) now.kept (equations_from row i (drop i cells)) → IsConflict n (equation_of row x.0 x.1 i) now new → IsRefused n (equations_of row cells) old new
+refused_cell n row old now new cells i x less is run conflict =
+    run_refused n (equations_of row cells) (equations_from row (i + 1) (drop (i + 1) cells)) (equation_of row x.0 x.1 i) old now new
+    (subst (IsRun n old.kept (equations_of row cells) now.kept) (equations_drop row i cells i x less is) run) conflict
+
+pub run_all : (n : ℕ) (row : CellRows) (old now : List Equation) (cells : List (InstanceId × Bool)) (i : ℕ) → length cells ≤ i → IsRun n old (equations_of row cells) now (equations_from row i (drop i cells)) → IsRun n old (equations_of row cells) now []
+run_all n row old now cells i past run = subst (IsRun n old (equations_of row cells) now) (ap (equations_from row i) (drop_all i cells past)) run
+
+-- ---- a system of cells that are added again
+
+each_take : (P : InstanceId × Bool → Type 0) (i : ℕ) (xs : List (InstanceId × Bool)) → Each P xs → Each P (take i xs)
+each_take P zero xs each = tt
+each_take P (suc i) [] each = tt
+each_take P (suc i) (x ∷ xs) each = (each.0, each_take P i xs each.1)
+
+each_at : (P : InstanceId × Bool → Type 0) (xs : List (InstanceId × Bool)) (i : ℕ) (x : InstanceId × Bool) → Each P xs → i < length xs → x ≡ get_or xs i x → P x
+each_at P [] i x each less is = absurd (omega arith)
+each_at P (y ∷ xs) zero x each less is = subst P (sym is) each.0
+each_at P (y ∷ xs) (suc i) x each less is = each_at P xs i x each.1 (omega arith) is
+
+taken_again : (n : ℕ) (row : CellRows) (cells : List (InstanceId × Bool)) (i : ℕ) (x : InstanceId × Bool) (old new : Elimination) → i < length cells → x ≡ get_or cells i x → length (unwrap_or (row x.0) []) ≡ n → new.columns ≡ n →
+    IsSystem n (equations_of row (take i cells)) old → IsTaken n old.kept (equation_of row x.0 x.1 0) new.kept → IsSystem n (equations_of row (take (i + 1) cells)) new
+taken_again n row cells i x old new less is size columns before taken =
+    let e : Equation = equation_of row x.0 x.1 0 in
+    let es : List Equation = equations_of row (take i cells) in
+    let now : IsSystem n (es ++ e ∷ []) new = system_taken n es e old new before columns size taken in
+    let split : take (i + 1) cells ≡ take i cells ++ x ∷ [] = take_more cells i x less ∙ ap (λ (y : InstanceId × Bool). take i cells ++ y ∷ []) (sym is) in
+    record {
+      columns = columns;
+      wide = now.wide;
+      kept = now.kept;
+      there = λ y all.
+          (let here : Solves n y (es ++ e ∷ []) = now.there y all in
+          let front : Each (Meets n row y) (take i cells) = solves_meets n row y (take i cells) (solves_left n y es (e ∷ []) here) in
+          let last : Meets n row y x = solves_right n y es (e ∷ []) here 0 (omega arith) in
+          subst (λ (l : List (InstanceId × Bool)). Solves n y (equations_of row l)) (sym split)
+          (meets_solves n row y (take i cells ++ x ∷ []) (each_join (Meets n row y) (take i cells) (x ∷ []) front (last, tt))));
+      back = λ y all.
+          (let each : Each (Meets n row y) (take i cells ++ x ∷ []) = solves_meets n row y (take i cells ++ x ∷ []) (subst (λ (l : List (InstanceId × Bool)). Solves n y (equations_of row l)) split all) in
+          let front : Solves n y es = meets_solves n row y (take i cells) (each_left (Meets n row y) (take i cells) (x ∷ []) each) in
+          let last : Each (Meets n row y) (x ∷ []) = each_right (Meets n row y) (take i cells) (x ∷ []) each in
+          now.back y (solves_push n y es e front last.0));
+    }
+
+never_again : (n : ℕ) (row : CellRows) (cells : List (InstanceId × Bool)) (i : ℕ) (x : InstanceId × Bool) (old new : Elimination) → i < length cells → x ≡ get_or cells i x → IsSolvable n (equations_of row cells) →
+    IsSystem n (equations_of row (take i cells)) old → IsConflict n (equation_of row x.0 x.1 0) old new → ⊥
+never_again n row cells i x old new less is solved before conflict =
+    let each : Each (Meets n row solved.0) cells = solves_meets n row solved.0 cells solved.1 in
+    conflict.none solved.0 (before.back solved.0 (meets_solves n row solved.0 (take i cells) (each_take (Meets n row solved.0) i cells each))) (each_at (Meets n row solved.0) cells i x each less is)
+
+-- one cell more, whose equation cannot be refused
+pub added_again : (n : ℕ) (row : CellRows) (cells : List (InstanceId × Bool)) (i : ℕ) (x : InstanceId × Bool) (old new : Elimination) (b : Bool) → i < length cells → x ≡ get_or cells i x → length (unwrap_or (row x.0) []) ≡ n → new.columns ≡ n →
+    IsSolvable n (equations_of row cells) → IsSystem n (equations_of row (take i cells)) old → MatchBool b (IsTaken n old.kept (equation_of row x.0 x.1 0) new.kept) (IsConflict n (equation_of row x.0 x.1 0) old new) →
+    IsSystem n (equations_of row (take (i + 1) cells)) new
+added_again n row cells i x old new true less is size columns solved before added = taken_again n row cells i x old new less is size columns before added
+added_again n row cells i x old new false less is size columns solved before added = absurd (never_again n row cells i x old new less is solved before added)
+
+-- ---- a system that goes back
+
+pub system_back : (n : ℕ) (es : List Equation) (old mid new : Elimination) (mark : ℕ) → IsSystem n es old → mid.columns ≡ n → take (length old.kept) mid.kept ≡ old.kept → mark ≡ length old.kept →
+    new ≡ record { columns = mid.columns; kept = take mark mid.kept; refused = None } → IsSystem n es new
+system_back n es old mid new mark is columns front at back =
+    let kept : new.kept ≡ old.kept = ap (λ (s : Elimination). s.kept) back ∙ ap (λ (k : ℕ). take k mid.kept) at ∙ front in
+    record {
+      columns = ap (λ (s : Elimination). s.columns) back ∙ columns;
+      wide = rw kept is.wide;
+      kept = rw kept is.kept;
+      there = λ x all. is.there x (subst (Solves n x) kept all);
+      back = λ x all. subst (Solves n x) (sym kept) (is.back x all);
+    }
+
+-- ---- whether a cube fits
+
+pub fits_not : (n : ℕ) (row : CellRows) (pattern : Merged) (cube : Cube) (old new : Elimination) → IsSystem n (equations_of row pattern.cells) old → IsRefused n (equations_of row cube.cells) old new → Fits n row pattern cube → ⊥
+fits_not n row pattern cube old new is refused fits =
+    let x = fits.solvable.0 in
+    refused.none x (is.back x (solves_left n x (equations_of row pattern.cells) (equations_of row cube.cells) fits.solvable.1)) (solves_right n x (equations_of row pattern.cells) (equations_of row cube.cells) fits.solvable.1)
+
+-- whether tables tell an opposite bit of a cell or a port
+abbrev Tells : List (Option Bool) → List (Option Bool) → Cube → Bool
+Tells cells ports cube = opposes_by cell_number cells cube.cells || opposes_by port_number ports cube.ports
+
+pub opposite_not : (n : ℕ) (row : CellRows) (pattern : Merged) (cube : Cube) (cells ports : List (Option Bool)) → IsTable cell_number pattern.cells cells → IsTable port_number pattern.ports ports →
+    Tells cells ports cube ≡ true → Fits n row pattern cube → ⊥
+opposite_not n row pattern cube cells ports cells_are ports_are told fits =
+    both_ways (Tells cells ports cube)
+    (or_from (opposes_by cell_number cells cube.cells) (opposes_by port_number ports cube.ports) (opposes_same cell_number pattern.cells cube.cells cells cells_are ∙ fits.cells)
+    (opposes_same port_number pattern.ports cube.ports ports ports_are ∙ fits.ports)) told
+
+pub no_opposite : (pattern : Merged) (cube : Cube) (cells ports : List (Option Bool)) → IsTable cell_number pattern.cells cells → IsTable port_number pattern.ports ports → Tells cells ports cube ≡ false →
+    (has_opposite cell_number pattern.cells cube.cells ≡ false) × (has_opposite port_number pattern.ports cube.ports ≡ false)
+no_opposite pattern cube cells ports cells_are ports_are told =
+    let parts = or_parts (opposes_by cell_number cells cube.cells) (opposes_by port_number ports cube.ports) told in
+    (sym (opposes_same cell_number pattern.cells cube.cells cells cells_are) ∙ parts.0, sym (opposes_same port_number pattern.ports cube.ports ports ports_are) ∙ parts.1)
+
+pub fits_joined : (n : ℕ) (row : CellRows) (pattern : Merged) (cube : Cube) (cells ports : List (Option Bool)) (s : Elimination) → pattern.domain ≡ cube.domain → IsTable cell_number pattern.cells cells → IsTable port_number pattern.ports ports → Tells cells ports cube ≡ false →
+    IsSystem n (equations_of row pattern.cells ++ equations_of row cube.cells) s → Fits n row pattern cube
+fits_joined n row pattern cube cells ports s same cells_are ports_are told is =
+    let none = no_opposite pattern cube cells ports cells_are ports_are told in
+    record { domain = same; cells = none.0; ports = none.1; solvable = system_solvable n (equations_of row pattern.cells ++ equations_of row cube.cells) s is }
+
+-- ---- reading slots
+
+pub slots_columns : (n : ℕ) (row : CellRows) (first : ℕ) (patterns : List Merged) (slots : List Slot) → AreSlots n row first patterns slots → HaveColumns n slots
+slots_columns n row first patterns slots are j slot is =
+    let within = slice_get_within slots j slot is in
+    let count = are.count in
+    let some = slice_get_cases patterns (first + j) in
+    elim some.1 [
+      | inl found ↦ (are.each j slot found.0 is found.2).system.columns
+      | inr past ↦ absurd (let over = past.0 in omega arith)
+    ]
+
+pub oldest_last : (slots : List Slot) → 1 ≤ length slots → (slot : Slot) × ((slice_get slots 0 ≡ Some slot) × (drop 1 slots ++ take 1 slots ≡ drop 1 slots ++ slot ∷ []))
+oldest_last [] some = absurd (omega arith)
+oldest_last (slot ∷ slots) some = (slot, (refl, refl))
+
+-- a list in which an item is put in its own place
+pub set_itself : {X : Type 0} (xs : List X) (i : ℕ) (x y : X) → x ≡ get_or xs i x → y ≡ x → slice_set xs i y ≡ xs
+set_itself xs i x y is same = ap (slice_set xs i) (same ∙ is) ∙ set-get_or xs i x
+
+pub before_more : (n : ℕ) (row : CellRows) (first : ℕ) (patterns : List Merged) (cube : Cube) (place : ℕ) (pattern : Merged) → NoneFrom n row first patterns cube (first + place) → slice_get patterns (first + place) ≡ Some pattern → (Fits n row pattern cube → ⊥) →
+    NoneFrom n row first patterns cube (first + (place + 1))
+before_more n row first patterns cube place pattern before at never q other from less is fits = elim (cases_lt q (first + place)) [
+  | inl under ↦ before q other from under is fits
+  | inr past ↦ (let here : q ≡ first + place = omega arith in
+      never (subst (λ (p : Merged). Fits n row p cube) (same_Some other pattern (sym is ∙ ap (slice_get patterns) here ∙ at)) fits))
+]

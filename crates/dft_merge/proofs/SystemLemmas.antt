@@ -1,15 +1,21 @@
 -- Systems to which equations are added one by one.
-use Rattle.std.proofs.Common.{ℕ, zero, suc, Bool, List, [], ◌∷◌, ◌++◌, ◌≡◌, ◌+◌, ◌<◌, ◌≤◌, length, take, refl, sym, ap, subst, arith, ◌∙◌, ◌⊎◌, inl, inr, append_assoc, Option, Some, None, IsSome, IfSome}
+use Rattle.std.proofs.Common.{ℕ, zero, suc, Bool, List, [], ◌∷◌, ◌++◌, ◌≡◌, ◌+◌, ◌<◌, ◌≤◌, ◌↔◌, length, take, refl, sym, ap, subst, arith, ◌∙◌, ◌⊎◌, inl, inr, append_assoc, Option, Some, None, IsSome, IfSome}
 use Rattle.std.proofs.lemmas.Bool.{cases_lt, false≢true}
 use Rattle.std.proofs.lemmas.List.{append-nil, length_push, take-append-le, take_all, get_or_push}
 use Rattle.dft_base.specs.Solutions.{Equation, equation_at, Holds, Solves, IsSolvable, IsSum, AllGive, NoneGives, Contradicts, StatesFrom, StatesCertificate}
-use Rattle.dft_gf2.specs.Elimination.{Elimination}
+use Rattle.dft_gf2.specs.Elimination.{After, Elimination}
+use Rattle.dft_gf2.specs.declared.system.Outcome.TheVariants.{Kept, Implied, Conflict}
+use Rattle.dft_lanes.specs.Rows.{bits_of}
+use Rattle.std.specs.Prelude.{unwrap_or}
 use Rattle.dft_gf2.proofs.Restorations.{push_at, solves_push, solves_front, solves_last}
 use Rattle.dft_gf2.proofs.Unsolvable.{solves_cons}
 use Rattle.dft_gf2.proofs.Stated.{unsolvable_stated}
 use Rattle.dft_merge.specs.Systems.{AreKept, AreWide, IsConflict, IsKept, IsImplied, IsRefused, IsRun, IsSystem, IsTaken}
 use Rattle.dft_merge.proofs.EquationLemmas.{solves_join, solves_left, solves_right}
 use Rattle.dft_merge.proofs.SolvableLemmas.{solvable_or_not}
+
+abbrev record_of : List Bool → Bool → ℕ → Equation
+record_of row bit id = record { row = row; bit = bit; id = id }
 
 -- ---- one equation more
 
@@ -33,6 +39,37 @@ stated_kept n kept e es ids free states = elim states [
 pub kept_more : (n : ℕ) (kept : List Equation) (e : Equation) → AreKept n kept → (IsSum n kept e.row → ⊥) → AreKept n (kept ++ e ∷ [])
 kept_more n kept e all free es ids states =
     stated_kept n kept e es ids free (all (e ∷ es) ids (subst (λ (l : List Equation). StatesFrom n [] l ids) (append_assoc kept (e ∷ []) es) states))
+
+-- ---- what a system answers
+
+-- an equation with packed columns, as its row
+same_equation : (o : Option (List Bool)) (row : List Bool) (bit : Bool) (id : ℕ) → o ≡ Some row → record_of row bit id ≡ record_of (unwrap_or o []) bit id
+same_equation o row bit id is = λ i. record_of (unwrap_or (sym is i) []) bit id
+
+answered_kept : (n : ℕ) (words : List ℕ) (o : Option (List Bool)) (bit : Bool) (id : ℕ) (old new : Elimination) → o ≡ Some (bits_of n words) → (IsSum n old.kept (bits_of n words) → ⊥) → new ≡ After (record_of (bits_of n words) bit id) Kept old →
+    IsTaken n old.kept (record_of (unwrap_or o []) bit id) new.kept
+answered_kept n words o bit id old new is free after =
+    subst (λ (e : Equation). IsTaken n old.kept e new.kept) (same_equation o (bits_of n words) bit id is)
+    (subst (IsTaken n old.kept (record_of (bits_of n words) bit id)) (sym (ap (λ (s : Elimination). s.kept) after)) (IsKept free))
+
+pub taken_kept : (n m : ℕ) (words : List ℕ) (o : Option (List Bool)) (bit : Bool) (id : ℕ) (old new : Elimination) → m ≡ n → o ≡ Some (bits_of n words) → (IsSum m old.kept (bits_of m words) → ⊥) → new ≡ After (record_of (bits_of m words) bit id) Kept old →
+    IsTaken n old.kept (record_of (unwrap_or o []) bit id) new.kept
+taken_kept n m words o bit id old new same is =
+    subst (λ (k : ℕ). (IsSum k old.kept (bits_of k words) → ⊥) → new ≡ After (record_of (bits_of k words) bit id) Kept old → IsTaken n old.kept (record_of (unwrap_or o []) bit id) new.kept) (sym same) (answered_kept n words o bit id old new is)
+
+answered_implied : (n : ℕ) (words : List ℕ) (o : Option (List Bool)) (bit : Bool) (id : ℕ) (old new : Elimination) → o ≡ Some (bits_of n words) → ((Implied ≡ Kept) ↔ (IsSum n old.kept (bits_of n words) → ⊥)) → ((Implied ≡ Implied) ↔ AllGive n old.kept (bits_of n words) bit) →
+    ((Implied ≡ Conflict) ↔ (IsSum n old.kept (bits_of n words) × NoneGives n old.kept (bits_of n words) bit)) → new ≡ After (record_of (bits_of n words) bit id) Implied old → IsTaken n old.kept (record_of (unwrap_or o []) bit id) new.kept
+answered_implied n words o bit id old new is kept implied conflict after =
+    subst (λ (e : Equation). IsTaken n old.kept e new.kept) (same_equation o (bits_of n words) bit id is)
+    (subst (IsTaken n old.kept (record_of (bits_of n words) bit id)) (sym (ap (λ (s : Elimination). s.kept) after))
+    (IsImplied (implied.0 refl) (λ free. let other : Implied ≡ Kept = kept.1 free in cc) (λ both. let other : Implied ≡ Conflict = conflict.1 both in cc)))
+
+pub taken_implied : (n m : ℕ) (words : List ℕ) (o : Option (List Bool)) (bit : Bool) (id : ℕ) (old new : Elimination) → m ≡ n → o ≡ Some (bits_of n words) → ((Implied ≡ Kept) ↔ (IsSum m old.kept (bits_of m words) → ⊥)) → ((Implied ≡ Implied) ↔ AllGive m old.kept (bits_of m words) bit) →
+    ((Implied ≡ Conflict) ↔ (IsSum m old.kept (bits_of m words) × NoneGives m old.kept (bits_of m words) bit)) → new ≡ After (record_of (bits_of m words) bit id) Implied old → IsTaken n old.kept (record_of (unwrap_or o []) bit id) new.kept
+taken_implied n m words o bit id old new same is =
+    subst (λ (k : ℕ). ((Implied ≡ Kept) ↔ (IsSum k old.kept (bits_of k words) → ⊥)) → ((Implied ≡ Implied) ↔ AllGive k old.kept (bits_of k words) bit) →
+    ((Implied ≡ Conflict) ↔ (IsSum k old.kept (bits_of k words) × NoneGives k old.kept (bits_of k words) bit)) → new ≡ After (record_of (bits_of k words) bit id) Implied old → IsTaken n old.kept (record_of (unwrap_or o []) bit id) new.kept) (sym same)
+    (answered_implied n words o bit id old new is)
 
 -- ---- systems
 

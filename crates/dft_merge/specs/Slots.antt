@@ -62,6 +62,10 @@ pub record IsJoined (n : ℕ) (row : CellRows) (first : ℕ) (old : List Merged)
   pub before : NoneFrom n row first old cube p
   pub patterns : new ≡ slice_set old p (joined pattern cube)
 
+-- the system of each slot has so many columns
+abbrev pub HaveColumns : ℕ → List Slot → Type 0
+HaveColumns n slots = (j : ℕ) (slot : Slot) → slice_get slots j ≡ Some slot → slot.system.columns ≡ n
+
 -- behind so many slots there is one more, up to the window
 abbrev pub IsNextCount : (window old new : ℕ) → Type 0
 IsNextCount window old new = (old < window → new ≡ old + 1) × (window ≤ old → new ≡ old)

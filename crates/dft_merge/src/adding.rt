@@ -28,7 +28,11 @@ fn add_cell(
         MatchBool result (IsTaken (columns_by loading.now) system.old.kept e system.new.kept) (IsConflict (columns_by loading.now) e system.old system.new) }
 {
     match loading.row(cell) {
-        Some(row) => system.try_add(row, bit, id) != Outcome::Conflict,
+        Some(row) => match system.try_add(row, bit, id) {
+            Outcome::Kept => true,
+            Outcome::Implied => true,
+            Outcome::Conflict => false,
+        },
         None => false,
     }
 }

@@ -93,15 +93,14 @@ impl<'a> Merger<'a> {
             return Ok(Placed::Skipped(cell));
         }
         match self.join(cube)? {
-            Some(pattern) => Ok(Placed::Into(pattern)),
+            Some(pattern) => Ok(Placed::Into(pattern as u32)),
             None => self.begin(cube),
         }
     }
 
     // Puts a cube of scanned cells into the oldest open pattern that it fits, and tells its number.
-    fn join(&mut self, cube: &Cube) -> Result<Option<u32>, AllocError>
+    fn join(&mut self, cube: &Cube) -> Result<Option<usize>, AllocError>
         requires cells { length cube.now.cells < 2 ^ 32 }
-        requires patterns { length self.old.patterns < 65536 }
         requires scanned { spec.first_unscanned (rows_in self.old) cube.now.cells ≡ None }
         ensures joined { IfOk result (λ found. MatchOption found
             (NoneFits (columns_in self.old) (rows_in self.old) self.old.window self.old.patterns cube.now (length self.old.patterns) × (self.new ≡ self.old))
@@ -110,14 +109,13 @@ impl<'a> Merger<'a> {
         ensures err { OnErr result (self.new ≡ self.old) }
     {
         let first = self.patterns.len() - self.slots.len();
-        let found = join_first(
+        join_first(
             &self.loading,
             &mut self.slots,
             &mut self.patterns,
             first,
             cube,
-        )?;
-        Ok(found.map(|pattern| pattern as u32))
+        )
     }
 
     // Begins a pattern with a cube of scanned cells that fits no open one, where its equations alone have a solution.

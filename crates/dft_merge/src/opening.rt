@@ -3,7 +3,7 @@
 ghost use Rattle.std.specs.Prelude.{◌≡◌, ◌≤◌, ◌<◌, ◌-◌, ◌++◌, ◌∷◌, [], length, IfOk, OnErr, OnOk, vec_len};
 ghost use Rattle.std.specs.Vec.{vec_capacity};
 ghost use Rattle.dft_merge.specs.Placement.{begun, cell_number, equations_of, port_number};
-ghost use Rattle.dft_merge.specs.Slots.{AreSlots, HasPlace, IsNextCount, IsPut, columns_by, rows_by};
+ghost use Rattle.dft_merge.specs.Slots.{AreSlots, HasPlace, HaveColumns, IsNextCount, IsPut, columns_by, rows_by};
 ghost use Rattle.dft_merge.specs.Systems.{IsSystem};
 ghost use Rattle.dft_merge.specs.Tables.{IsTable};
 
@@ -74,7 +74,8 @@ fn make_room(
     slots: &mut Vec<Slot>,
     patterns: &mut Vec<Merged>,
 ) -> Result<(), AllocError>
-    requires { 1 ≤ window }
+    requires window { 1 ≤ window }
+    requires columns { HaveColumns (columns_by loading.now) slots.old.items }
     ensures patterns { patterns.new.items ≡ patterns.old.items }
     ensures room { OnOk result (vec_len patterns.new < vec_capacity patterns.new) }
     ensures ok { OnOk result (HasPlace (columns_by loading.now) window slots.old.items slots.new.items) }
