@@ -1,8 +1,10 @@
 -- Slots and patterns, side by side.
-use Rattle.std.proofs.Common.{ℕ, zero, suc, Bool, true, false, cond, List, [], ◌∷◌, ◌++◌, ◌≡◌, ◌+◌, ◌-◌, ◌<◌, ◌≤◌, length, get_or, drop, take, set, min, ◌||◌, MatchBool, refl, sym, ap, subst, arith, ◌∙◌, ◌⊎◌, inl, inr, Option, Some, None, is_none, slice_get, slice_set, length-set}
+use Rattle.std.proofs.Common.{ℕ, zero, suc, Bool, true, false, cond, List, [], ◌∷◌, ◌++◌, ◌≡◌, ◌+◌, ◌-◌, ◌<◌, ◌≤◌, length, get_or, drop, take, set, min, ◌||◌, MatchBool, refl, sym, ap, subst, arith, ◌∙◌, ◌⊎◌, inl, inr, Option, Some, None, is_none, slice_get, slice_set, Vec, length-set}
+use Rattle.std.specs.Vec.{with_items}
+use Rattle.std.specs.declared.alloc.Global.{Global}
 use Rattle.std.specs.Prelude.{unwrap_or}
-use Rattle.std.proofs.lemmas.Bool.{both_ways, cases_eq, cases_lt, or_from, or_parts}
-use Rattle.std.proofs.lemmas.Option.{same_Some, slice_get_cases, slice_get_within}
+use Rattle.std.proofs.lemmas.Bool.{MatchBool-at_false, MatchBool-at_true, both_ways, cases_eq, cases_lt, or_from, or_parts}
+use Rattle.std.proofs.lemmas.Option.{same_Some, slice_get_cases, slice_get_read, slice_get_within}
 use Rattle.std.proofs.lemmas.List.{drop_all, drop_more, length_push, length-drop, set_at, set-get_or, take_more}
 use Rattle.dft_base.specs.Solutions.{Equation, Solves, IsSolvable, sum_over}
 use Rattle.dft_netlist.specs.declared.ids.InstanceId.{InstanceId}
@@ -17,8 +19,8 @@ use Rattle.dft_merge.specs.Placement.{Fits, begun, cell_number, equations_from, 
 use Rattle.dft_merge.specs.Slots.{AreLoadable, AreSlots, HasPlace, HaveColumns, IsJoined, IsLoadable, IsNextCount, IsPut, IsSlot, NoneFrom}
 use Rattle.dft_merge.specs.Systems.{AreWide, IsConflict, IsRefused, IsRun, IsSystem, IsTaken}
 use Rattle.dft_merge.specs.Tables.{IsTable, opposes_by}
-use Rattle.dft_merge.proofs.BitLemmas.{covered, each_missing, opposes_same}
-use Rattle.dft_merge.proofs.SystemLemmas.{run_more, run_refused, system_solvable, system_taken}
+use Rattle.dft_merge.proofs.BitLemmas.{covered, each_missing, filled, opposes_same}
+use Rattle.dft_merge.proofs.SystemLemmas.{run_more, run_refused, run_system, system_solvable, system_taken}
 use Rattle.dft_merge.proofs.EquationLemmas.{Each, Meets, each_join, each_left, each_right, meets_solves, solves_join, solves_left, solves_meets, solves_right}
 
 -- ---- a pattern with a cube
@@ -342,7 +344,7 @@ fits_not n row pattern cube old new is refused fits =
     refused.none x (is.back x (solves_left n x (equations_of row pattern.cells) (equations_of row cube.cells) fits.solvable.1)) (solves_right n x (equations_of row pattern.cells) (equations_of row cube.cells) fits.solvable.1)
 
 -- whether tables tell an opposite bit of a cell or a port
-abbrev Tells : List (Option Bool) → List (Option Bool) → Cube → Bool
+abbrev pub Tells : List (Option Bool) → List (Option Bool) → Cube → Bool
 Tells cells ports cube = opposes_by cell_number cells cube.cells || opposes_by port_number ports cube.ports
 
 pub opposite_not : (n : ℕ) (row : CellRows) (pattern : Merged) (cube : Cube) (cells ports : List (Option Bool)) → IsTable cell_number pattern.cells cells → IsTable port_number pattern.ports ports →
@@ -391,3 +393,88 @@ before_more n row first patterns cube place pattern before at never q other from
   | inr past ↦ (let here : q ≡ first + place = omega arith in
       never (subst (λ (p : Merged). Fits n row p cube) (same_Some other pattern (sym is ∙ ap (slice_get patterns) here ∙ at)) fits))
 ]
+
+-- ---- a cube that fits
+
+-- the system of a slot to which all equations of a cube were added
+pub both_system : (n : ℕ) (row : CellRows) (pattern : Merged) (cube : Cube) (slot : Slot) (lent : List (InstanceId × Bool)) (s : Elimination) → IsSlot n row pattern slot → lent ≡ cube.cells → s.columns ≡ n →
+    IsRun n slot.system.kept (equations_of row lent) s.kept [] → IsSystem n (equations_of row pattern.cells ++ equations_of row cube.cells) s
+both_system n row pattern cube slot lent s is from columns run =
+    run_system n (equations_of row pattern.cells) (equations_of row cube.cells) slot.system s is.system columns
+    (subst (λ (cells : List (InstanceId × Bool)). IsRun n slot.system.kept (equations_of row cells) s.kept []) from run)
+
+-- the tables of a slot tell no opposite bit
+tells_not : (cube : Cube) (slot : Slot) (told : Bool) (a b : List (Option Bool)) → a ≡ slot.cells.items → b ≡ slot.ports.items → told ≡ (opposes_by cell_number a cube.cells || opposes_by port_number b cube.ports) → told ≡ false →
+    Tells slot.cells.items slot.ports.items cube ≡ false
+tells_not cube slot told a b cells ports is not = (λ i. opposes_by cell_number (sym cells i) cube.cells || opposes_by port_number (sym ports i) cube.ports) ∙ sym is ∙ not
+
+pub slot_joined : (n : ℕ) (row : CellRows) (pattern next : Merged) (cube : Cube) (slot new : Slot) (lent : List (InstanceId × Bool)) (s : Elimination) (told : Bool) (a b : List (Option Bool)) → IsSlot n row pattern slot →
+    a ≡ slot.cells.items → b ≡ slot.ports.items → told ≡ (opposes_by cell_number a cube.cells || opposes_by port_number b cube.ports) → told ≡ false → lent ≡ cube.cells → s.columns ≡ n → IsRun n slot.system.kept (equations_of row lent) s.kept [] →
+    next ≡ joined pattern cube → new.system ≡ s → IsTable cell_number next.cells new.cells.items → IsTable port_number next.ports new.ports.items → IsSlot n row next new
+slot_joined n row pattern next cube slot new lent s told a b is cells ports tells not from columns run joins system new_cells new_ports = record {
+  system = subst (λ (m : Merged). IsSystem n (equations_of row m.cells) new.system) (sym joins)
+      (subst (IsSystem n (equations_of row (joined pattern cube).cells)) (sym system)
+      (system_joined n row pattern cube s (no_opposite pattern cube slot.cells.items slot.ports.items is.cells is.ports (tells_not cube slot told a b cells ports tells not)).0
+      (both_system n row pattern cube slot lent s is from columns run)));
+  cells = new_cells;
+  ports = new_ports;
+}
+
+pub slot_fits : (n : ℕ) (row : CellRows) (pattern : Merged) (cube : Cube) (slot : Slot) (lent : List (InstanceId × Bool)) (s : Elimination) (told : Bool) (a b : List (Option Bool)) → IsSlot n row pattern slot → pattern.domain ≡ cube.domain →
+    a ≡ slot.cells.items → b ≡ slot.ports.items → told ≡ (opposes_by cell_number a cube.cells || opposes_by port_number b cube.ports) → told ≡ false → lent ≡ cube.cells → s.columns ≡ n → IsRun n slot.system.kept (equations_of row lent) s.kept [] → Fits n row pattern cube
+slot_fits n row pattern cube slot lent s told a b is same cells ports tells not from columns run =
+    fits_joined n row pattern cube slot.cells.items slot.ports.items s same is.cells is.ports (tells_not cube slot told a b cells ports tells not) (both_system n row pattern cube slot lent s is from columns run)
+
+-- ---- an open pattern that was tried
+
+-- slots and patterns behind a try that changed nothing of the pattern
+pub tried : (n : ℕ) (row : CellRows) (first : ℕ) (patterns : List Merged) (slots : List Slot) (place : ℕ) (slot new : Slot) (pattern next : Merged) → AreSlots n row first patterns slots → place < length slots → slot ≡ get_or slots place slot → pattern ≡ get_or patterns (first + place) pattern →
+    IsSlot n row next new → AreSlots n row first (slice_set patterns (first + place) next) (slice_set slots place new)
+tried n row first patterns slots place slot new pattern next are less is that here =
+    let count = are.count in
+    slots_set n row first patterns slots place slot new pattern next are (slice_get_read slots (length slots) place slot refl less is) (slice_get_read patterns (length patterns) (first + place) pattern refl (omega arith) that) here
+
+pub there_is : (n : ℕ) (row : CellRows) (first : ℕ) (patterns : List Merged) (slots : List Slot) (place : ℕ) (pattern : Merged) → AreSlots n row first patterns slots → place < length slots → pattern ≡ get_or patterns (first + place) pattern → slice_get patterns (first + place) ≡ Some pattern
+there_is n row first patterns slots place pattern are less that = let count = are.count in slice_get_read patterns (length patterns) (first + place) pattern refl (omega arith) that
+
+-- the same, where the slots are those of a vector that was lent
+pub opened_all : (n : ℕ) (row : CellRows) (window : ℕ) (cube : Cube) (cells ports : List (Option Bool)) (system : Elimination) (old : List Slot) (mid : Vec Slot Global) (lent : List Slot) (patterns before next : List Merged) (pattern : Merged) (now : Elimination) (new : List Slot) →
+    1 ≤ window → length old ≤ window → AreSlots n row (length patterns - length old) patterns old → HasPlace n window old mid.items → lent ≡ mid.items → IsPut cells ports system lent now new → length new ≡ length lent → IsSystem n (equations_of row cube.cells) system →
+    IsTable cell_number cube.cells cells → IsTable port_number cube.ports ports → next ≡ before ++ pattern ∷ [] → before ≡ patterns → pattern ≡ begun cube → Opened n row window old next (with_items mid new).items now
+opened_all n row window cube cells ports system old mid lent patterns before next pattern now new some few are place from put size is cells_are ports_are pushed same begins =
+    let items : (with_items mid new).items ≡ new = filled mid new lent size from in
+    let here : IsPut cells ports system mid.items now new = subst (λ (l : List Slot). IsPut cells ports system l now new) from put in
+    let all : Opened n row window old (patterns ++ begun cube ∷ []) new now = opened n row window cube cells ports system old mid.items patterns now new some few are place here is cells_are ports_are in
+    subst (λ (l : List Merged). Opened n row window old l (with_items mid new).items now) (sym (pushed ∙ (λ i. same i ++ begins i ∷ [])))
+    (subst (λ (l : List Slot). Opened n row window old (patterns ++ begun cube ∷ []) l now) (sym items) all)
+
+-- ---- what a try tells
+
+-- what a try tells of a pattern and a cube, where the pattern became another one
+abbrev pub Told : ℕ → CellRows → (was next : Merged) → Cube → Bool → Type 0
+Told n row was next cube fits = MatchBool fits (Fits n row was cube × (next ≡ joined was cube)) ((Fits n row was cube → ⊥) × (next ≡ was))
+
+pub found_joined : (n : ℕ) (row : CellRows) (first : ℕ) (start patterns : List Merged) (slots : List Slot) (place : ℕ) (pattern next : Merged) (cube : Cube) (b : Bool) → AreSlots n row first patterns slots → patterns ≡ start → place < length slots →
+    pattern ≡ get_or patterns (first + place) pattern → b ≡ true → Told n row (get_or patterns (first + place) pattern) next cube b → NoneFrom n row first start cube (first + place) →
+    IsJoined n row first start cube (slice_set patterns (first + place) next) (first + place)
+found_joined n row first start patterns slots place pattern next cube b are same less is passed told before =
+    let both : Fits n row (get_or patterns (first + place) pattern) cube × (next ≡ joined (get_or patterns (first + place) pattern) cube) = MatchBool-at_true _ _ passed told in
+    record {
+      pattern = pattern;
+      is = subst (λ (l : List Merged). slice_get l (first + place) ≡ Some pattern) same (there_is n row first patterns slots place pattern are less is);
+      open_is = omega arith;
+      fits = subst (λ (m : Merged). Fits n row m cube) (sym is) both.0;
+      before = before;
+      patterns = (λ i. slice_set (same i) (first + place) next) ∙ ap (slice_set start (first + place)) (both.1 ∙ ap (λ (m : Merged). joined m cube) (sym is));
+    }
+
+pub found_none : (n : ℕ) (row : CellRows) (first : ℕ) (start patterns : List Merged) (slots : List Slot) (place : ℕ) (pattern next : Merged) (cube : Cube) (b : Bool) → AreSlots n row first patterns slots → patterns ≡ start → place < length slots →
+    pattern ≡ get_or patterns (first + place) pattern → b ≡ false → Told n row (get_or patterns (first + place) pattern) next cube b → NoneFrom n row first start cube (first + place) →
+    (slice_set patterns (first + place) next ≡ start) × NoneFrom n row first start cube (first + (place + 1))
+found_none n row first start patterns slots place pattern next cube b are same less is failed told before =
+    let both : (Fits n row (get_or patterns (first + place) pattern) cube → ⊥) × (next ≡ get_or patterns (first + place) pattern) = MatchBool-at_false _ _ failed told in
+    (
+      set_itself patterns (first + place) pattern next is (both.1 ∙ sym is) ∙ same,
+      before_more n row first start cube place pattern before (subst (λ (l : List Merged). slice_get l (first + place) ≡ Some pattern) same (there_is n row first patterns slots place pattern are less is))
+          (λ fits. both.0 (subst (λ (m : Merged). Fits n row m cube) is fits)),
+    )
