@@ -6,3 +6,4 @@ pub mod PlaceLemmas
 pub mod OneLemmas
 pub mod SlotLemmas
 pub mod WordLemmas
+pub mod MergerLemmas

@@ -103,7 +103,7 @@ impl<'a> Merger<'a> {
         requires cells { length cube.now.cells < 2 ^ 32 }
         requires scanned { spec.first_unscanned (rows_in self.old) cube.now.cells ≡ None }
         ensures joined { IfOk result (λ found. MatchOption found
-            (NoneFits (columns_in self.old) (rows_in self.old) self.old.window self.old.patterns cube.now (length self.old.patterns) × (self.new ≡ self.old))
+            (NoneFits (columns_in self.old) (rows_in self.old) self.old.window self.old.patterns cube.now (length self.old.patterns) × (self.new.patterns ≡ self.old.patterns))
             (λ p. Joins (columns_in self.old) (rows_in self.old) self.old.window self.old.patterns cube.now p self.new.patterns)) }
         ensures same { self.new ≡ record self.old { patterns = self.new.patterns } }
         ensures err { OnErr result (self.new ≡ self.old) }
