@@ -1,10 +1,12 @@
 -- What holds of a merger before and after each cube.
-use Rattle.std.proofs.Common.{ℕ, zero, suc, Bool, List, [], ◌∷◌, ◌++◌, ◌≡◌, ◌+◌, ◌-◌, ◌*◌, ◌<◌, ◌≤◌, length, get_or, map, min, take, refl, sym, ap, subst, arith, ◌∙◌, ◌⊎◌, inl, inr, Option, Some, None, Result, Ok, Err, IfOk, OnErr, MatchOption, IfSome, slice_get, slice_set, length-set, option_and_then}
+use Rattle.std.proofs.Common.{ℕ, zero, suc, Bool, List, [], ◌∷◌, ◌++◌, ◌≡◌, ◌+◌, ◌-◌, ◌*◌, ◌<◌, ◌≤◌, length, get_or, map, min, take, refl, sym, ap, subst, arith, ◌∙◌, ◌⊎◌, inl, inr, Option, Some, None, Result, Ok, Err, IfOk, OnErr, MatchOption, IfSome, slice_get, slice_set, length-set, Vec}
 use Rattle.std.proofs.lemmas.Bool.{cases_lt}
-use Rattle.std.proofs.lemmas.Option.{same_Some, slice_get_within, get_or_from_slice_get, option_and_then_some}
+use Rattle.std.proofs.lemmas.Option.{same_Some, slice_get_cases, slice_get_read, slice_get_within, get_or_from_slice_get, option_and_then_some}
 use Rattle.std.proofs.lemmas.List.{get_or-map, length-map, length_push}
 use Rattle.std.proofs.lemmas.List.FromFn.{length-map-range_with_len}
 use Rattle.std.specs.declared.alloc.AllocError.{AllocError}
+use Rattle.std.specs.declared.alloc.Global.{Global}
+use Rattle.dft_lanes.specs.Rows.{bits_of, IsPacked}
 use Rattle.dft_base.specs.Solutions.{Equation, IsSolvable, IsChosen, CanTake, Contradicts, Solves, StatesCertificate, bit_at}
 use Rattle.dft_netlist.specs.declared.ids.InstanceId.{InstanceId}
 use Rattle.dft_config.specs.declared.config.RingConfig.{RingConfig}
@@ -17,7 +19,7 @@ use Rattle.dft_cubes.specs.declared.cube.Merged.{Merged}
 use Rattle.dft_merge.specs.declared.slot.Slot.{Slot}
 use Rattle.dft_merge.specs.Rows.{CellRows, StandApart, cell_row}
 use Rattle.dft_merge.specs.Placement.{Begins, Joins, Loads, NoneFits, begun, equations_of, first_open, first_unscanned, joined}
-use Rattle.dft_merge.specs.Slots.{AreLoadable, AreRows, AreSlots, IsJoined, IsLoadable, IsNextCount, NoneFrom}
+use Rattle.dft_merge.specs.Slots.{AreLoadable, AreRows, AreSlots, IsJoined, IsNextCount, IsSlot, NoneFrom}
 use Rattle.dft_merge.specs.Systems.{IsRefused, IsSystem}
 use Rattle.dft_merge.proofs.EquationLemmas.{solves_loads}
 use Rattle.dft_merge.proofs.PlaceLemmas.{row_wide}
@@ -180,13 +182,37 @@ chosen_along n es fs fill bits there back is = record {
   turned = λ c less never. is.turned c less (λ can. never (can_along n es fs bits c (bit_at fill c) there can));
 }
 
-pub chosen_by : (n m : ℕ) (row : CellRows) (cells : List (InstanceId × Bool)) (s : Elimination) (fill bits : List Bool) → IsSystem n (equations_of row cells) s → m ≡ n → IsChosen m s.kept fill bits → IsChosen n (equations_of row cells) fill bits
-chosen_by n m row cells s fill bits is same chosen = chosen_along n s.kept (equations_of row cells) fill bits is.there is.back (subst (λ (k : ℕ). IsChosen k s.kept fill bits) same chosen)
-
-pub loads_by : (n m : ℕ) (row : CellRows) (cells : List (InstanceId × Bool)) (s : Elimination) (x : ℕ → Bool) → IsSystem n (equations_of row cells) s → m ≡ n → Solves m x s.kept → Loads n row x cells
-loads_by n m row cells s x is same solves = solves_loads n row x cells (is.there x (subst (λ (k : ℕ). Solves k x s.kept) same solves))
-
 -- the system of a cube alone, which goes back to its start
 pub empty_again : (n : ℕ) (before old : Elimination) (start : ℕ) → before.columns ≡ n → start ≡ 0 → old ≡ record { columns = before.columns; kept = take start before.kept; refused = None } → IsSystem n [] old
 empty_again n before old start columns empty back =
     system_none n old (ap (λ (s : Elimination). s.columns) back ∙ columns) (ap (λ (s : Elimination). s.kept) back ∙ ap (λ (k : ℕ). take k before.kept) empty)
+
+-- ---- the bits of a system
+
+-- a pattern that is open, and its slot
+pub slot_at : (n : ℕ) (row : CellRows) (first from p : ℕ) (patterns : List Merged) (slots : List Slot) (slot : Slot) → AreSlots n row first patterns slots → from ≡ first → from ≤ p → p < length patterns → slot ≡ get_or slots (p - from) slot →
+    (pattern : Merged) × ((slice_get patterns p ≡ Some pattern) × IsSlot n row pattern slot)
+slot_at n row first from p patterns slots slot are same open_is within is =
+    let count = are.count in
+    let some = slice_get_cases patterns p in
+    elim some.1 [
+      | inl found ↦ (found.0, (found.2, are.each (p - from) slot found.0 (slice_get_read slots (length slots) (p - from) slot refl (omega arith) is) (ap (slice_get patterns) (let e : first + (p - from) ≡ p = omega arith in e) ∙ found.2)))
+      | inr past ↦ absurd (let over = past.0 in omega arith)
+    ]
+
+pub packed_all : (n m : ℕ) (result : Result (Vec ℕ Global) AllocError) → m ≡ n → IfOk result (λ words. IsPacked m words.items) → IfOk result (λ words. IsPacked n words.items)
+packed_all n m result same is = subst (λ (k : ℕ). IfOk result (λ words. IsPacked k words.items)) same is
+
+pub chosen_all : (n : ℕ) (row : CellRows) (patterns : List Merged) (p : ℕ) (pattern : Merged) (s : Elimination) (fill : List Bool) (result : Result (Vec ℕ Global) AllocError) → IsSystem n (equations_of row pattern.cells) s → slice_get patterns p ≡ Some pattern →
+    IfOk result (λ words. IsChosen s.columns s.kept fill (bits_of s.columns words.items)) → IfOk result (λ words. (merged : Merged) → slice_get patterns p ≡ Some merged → IsChosen n (equations_of row merged.cells) fill (bits_of n words.items))
+chosen_all n row patterns p pattern s fill (Ok words) is at chosen = λ merged found.
+    let here : IsChosen n s.kept fill (bits_of n words.items) = subst (λ (k : ℕ). IsChosen k s.kept fill (bits_of k words.items)) is.columns chosen in
+    subst (λ (m : Merged). IsChosen n (equations_of row m.cells) fill (bits_of n words.items)) (same_Some pattern merged (sym at ∙ found)) (chosen_along n s.kept (equations_of row pattern.cells) fill (bits_of n words.items) is.there is.back here)
+chosen_all n row patterns p pattern s fill (Err error) is at chosen = tt
+
+pub loads_all : (n : ℕ) (row : CellRows) (patterns : List Merged) (p : ℕ) (pattern : Merged) (s : Elimination) (result : Result (Vec ℕ Global) AllocError) → IsSystem n (equations_of row pattern.cells) s → slice_get patterns p ≡ Some pattern →
+    IfOk result (λ words. Solves s.columns (bit_at (bits_of s.columns words.items)) s.kept) → IfOk result (λ words. (merged : Merged) → slice_get patterns p ≡ Some merged → Loads n row (bit_at (bits_of n words.items)) merged.cells)
+loads_all n row patterns p pattern s (Ok words) is at solves = λ merged found.
+    let here : Solves n (bit_at (bits_of n words.items)) s.kept = subst (λ (k : ℕ). Solves k (bit_at (bits_of k words.items)) s.kept) is.columns solves in
+    subst (λ (m : Merged). Loads n row (bit_at (bits_of n words.items)) m.cells) (same_Some pattern merged (sym at ∙ found)) (solves_loads n row (bit_at (bits_of n words.items)) pattern.cells (is.there (bit_at (bits_of n words.items)) here))
+loads_all n row patterns p pattern s (Err error) is at solves = tt
