@@ -1,8 +1,8 @@
 -- What solves equations, one by one, and what loads cells.
-use Rattle.std.proofs.Common.{ℕ, zero, suc, Bool, List, [], ◌∷◌, ◌++◌, ◌≡◌, ◌<◌, length, subst, arith, Some, slice_get}
+use Rattle.std.proofs.Common.{ℕ, zero, suc, Bool, List, [], ◌∷◌, ◌++◌, ◌≡◌, subst, arith, Some}
 use Rattle.std.specs.Prelude.{unwrap_or}
 use Rattle.std.proofs.lemmas.Option.{same_Some}
-use Rattle.dft_base.specs.Solutions.{Equation, equation_at, Holds, Solves, sum_over}
+use Rattle.dft_base.specs.Solutions.{Equation, Holds, Solves, sum_over}
 use Rattle.dft_gf2.proofs.Unsolvable.{solves_cons}
 use Rattle.dft_netlist.specs.declared.ids.InstanceId.{InstanceId}
 use Rattle.dft_merge.specs.Rows.{CellRows}

@@ -1,5 +1,5 @@
 -- What holds of a merger before and after each cube.
-use Rattle.std.proofs.Common.{ℕ, zero, suc, Bool, List, [], ◌∷◌, ◌++◌, ◌≡◌, ◌+◌, ◌-◌, ◌*◌, ◌<◌, ◌≤◌, length, get_or, map, min, take, refl, sym, ap, subst, arith, ◌∙◌, ◌⊎◌, inl, inr, Option, Some, None, Result, Ok, Err, IfOk, OnErr, MatchOption, IfSome, slice_get, slice_set, length-set, Vec}
+use Rattle.std.proofs.Common.{ℕ, Bool, List, [], ◌∷◌, ◌++◌, ◌≡◌, ◌+◌, ◌-◌, ◌*◌, ◌<◌, ◌≤◌, length, get_or, map, min, take, refl, sym, ap, subst, arith, ◌∙◌, ◌⊎◌, inl, inr, Option, Some, None, Result, Ok, Err, IfOk, OnErr, MatchOption, IfSome, slice_get, length-set, Vec}
 use Rattle.std.proofs.lemmas.Bool.{cases_lt}
 use Rattle.std.proofs.lemmas.Option.{same_Some, slice_get_cases, slice_get_read, slice_get_within, get_or_from_slice_get, option_and_then_some}
 use Rattle.std.proofs.lemmas.List.{get_or-map, length-map, length_push}
@@ -12,13 +12,13 @@ use Rattle.dft_netlist.specs.declared.ids.InstanceId.{InstanceId}
 use Rattle.dft_config.specs.declared.config.RingConfig.{RingConfig}
 use Rattle.dft_config.specs.Loads.{load_equation}
 use Rattle.dft_stitch.specs.Plans.{cell_at}
-use Rattle.dft_equations.specs.LoadRows.{LoadRows, AreLoadEquations, IsCell, row_of, rows_of}
+use Rattle.dft_equations.specs.LoadRows.{LoadRows, AreLoadEquations, rows_of}
 use Rattle.dft_gf2.specs.Elimination.{Elimination}
 use Rattle.dft_cubes.specs.declared.cube.Cube.{Cube}
 use Rattle.dft_cubes.specs.declared.cube.Merged.{Merged}
 use Rattle.dft_merge.specs.declared.slot.Slot.{Slot}
 use Rattle.dft_merge.specs.Rows.{CellRows, StandApart, cell_row}
-use Rattle.dft_merge.specs.Placement.{Begins, Joins, Loads, NoneFits, begun, equations_of, first_open, first_unscanned, joined}
+use Rattle.dft_merge.specs.Placement.{Joins, Loads, NoneFits, begun, equations_of, first_open, first_unscanned, joined}
 use Rattle.dft_merge.specs.Slots.{AreLoadable, AreRows, AreSlots, IsJoined, IsNextCount, IsSlot, NoneFrom}
 use Rattle.dft_merge.specs.Systems.{IsRefused, IsSystem}
 use Rattle.dft_merge.proofs.EquationLemmas.{solves_loads}

@@ -1,20 +1,17 @@
 -- Placements are one, and tell exactly which cubes cannot be loaded.
-use Rattle.std.proofs.Common.{ℕ, Bool, List, [], ◌∷◌, ◌++◌, ◌≡◌, ◌<◌, ◌≤◌, ◌↔◌, length, refl, sym, ap, subst, arith, ◌∙◌, ◌⊎◌, inl, inr, Option, Some, None, slice_get, slice_set}
+use Rattle.std.proofs.Common.{ℕ, Bool, List, [], ◌∷◌, ◌≡◌, ◌<◌, refl, sym, ap, subst, ◌∙◌, ◌⊎◌, inl, inr, None, slice_get, slice_set}
 use Rattle.std.proofs.lemmas.Bool.{cases_order}
 use Rattle.std.proofs.lemmas.Option.{same_Some, slice_get_within}
-use Rattle.dft_base.specs.Solutions.{Solves, IsSolvable, StatesCertificate}
+use Rattle.dft_base.specs.Solutions.{IsSolvable}
 use Rattle.dft_gf2.proofs.Unsolvable.{stated_unsolvable}
 use Rattle.dft_gf2.proofs.OneStated.{stated_one}
 use Rattle.dft_netlist.specs.declared.ids.InstanceId.{InstanceId}
-use Rattle.dft_netlist.specs.Netlist.{Netlist}
-use Rattle.dft_config.specs.declared.config.Config.{Config}
-use Rattle.dft_config.specs.Range.{IsInRange}
 use Rattle.dft_cubes.specs.declared.cube.Cube.{Cube}
 use Rattle.dft_cubes.specs.declared.cube.Merged.{Merged}
 use Rattle.dft_merge.specs.declared.placed.Placed.{Placed}
 use Rattle.dft_merge.specs.declared.placed.Placed.TheVariants.{Into, Unsolvable, Skipped}
 use Rattle.dft_merge.specs.Rows.{CellRows}
-use Rattle.dft_merge.specs.Placement.{Begins, Fits, Joins, Loads, Places, PlacesAll, begun, equations_of, first_unscanned, joined}
+use Rattle.dft_merge.specs.Placement.{Begins, Joins, Loads, Places, PlacesAll, equations_of, first_unscanned, joined}
 use Rattle.dft_merge.specs.Laws.{IsUnsolvable, PlacementIsOne, UnsolvableIsExact}
 use Rattle.dft_merge.proofs.EquationLemmas.{loads_solves, solves_loads, solves_right}
 

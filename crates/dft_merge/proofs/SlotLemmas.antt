@@ -1,5 +1,5 @@
 -- Slots and patterns, side by side.
-use Rattle.std.proofs.Common.{ℕ, zero, suc, Bool, true, false, cond, List, [], ◌∷◌, ◌++◌, ◌≡◌, ◌+◌, ◌-◌, ◌<◌, ◌≤◌, length, get_or, drop, take, set, min, ◌||◌, MatchBool, refl, sym, ap, subst, arith, ◌∙◌, ◌⊎◌, inl, inr, Option, Some, None, is_none, slice_get, slice_set, Vec, length-set}
+use Rattle.std.proofs.Common.{ℕ, zero, suc, Bool, true, false, cond, List, [], ◌∷◌, ◌++◌, ◌≡◌, ◌+◌, ◌-◌, ◌<◌, ◌≤◌, length, get_or, drop, take, ◌||◌, MatchBool, refl, sym, ap, subst, arith, ◌∙◌, ◌⊎◌, inl, inr, Option, Some, None, is_none, slice_get, slice_set, Vec, length-set}
 use Rattle.std.specs.Vec.{with_items}
 use Rattle.std.specs.declared.alloc.Global.{Global}
 use Rattle.std.specs.Prelude.{unwrap_or}
@@ -472,8 +472,7 @@ pub found_none : (n : ℕ) (row : CellRows) (first : ℕ) (start patterns : List
     pattern ≡ get_or patterns (first + place) pattern → b ≡ false → Told n row (get_or patterns (first + place) pattern) next cube b → NoneFrom n row first start cube (first + place) →
     (slice_set patterns (first + place) next ≡ start) × NoneFrom n row first start cube (first + (place + 1))
 found_none n row first start patterns slots place pattern next cube b are same less is failed told before =
-    let both : (Fits n row (get_or patterns (first + place) pattern) cube → ⊥) × (next ≡ get_or patterns (first + place) pattern) = MatchBool-at_false _ _ failed told in
-    (
+    let both : (Fits n row (get_or patterns (first + place) pattern) cube → ⊥) × (next ≡ get_or patterns (first + place) pattern) = MatchBool-at_false _ _ failed told in (
       set_itself patterns (first + place) pattern next is (both.1 ∙ sym is) ∙ same,
       before_more n row first start cube place pattern before (subst (λ (l : List Merged). slice_get l (first + place) ≡ Some pattern) same (there_is n row first patterns slots place pattern are less is))
           (λ fits. both.0 (subst (λ (m : Merged). Fits n row m cube) is fits)),

@@ -1,8 +1,8 @@
 -- Systems to which equations are added one by one.
-use Rattle.std.proofs.Common.{ℕ, zero, suc, Bool, List, [], ◌∷◌, ◌++◌, ◌≡◌, ◌+◌, ◌<◌, ◌≤◌, ◌↔◌, length, take, refl, sym, ap, subst, arith, ◌∙◌, ◌⊎◌, inl, inr, append_assoc, Option, Some, None, IsSome, IfSome}
+use Rattle.std.proofs.Common.{ℕ, suc, Bool, List, [], ◌∷◌, ◌++◌, ◌≡◌, ◌<◌, ◌≤◌, ◌↔◌, length, refl, sym, ap, subst, arith, ◌∙◌, ◌⊎◌, inl, inr, append_assoc, Option, Some, None, IsSome, IfSome}
 use Rattle.std.proofs.lemmas.Bool.{cases_lt, false≢true}
 use Rattle.std.proofs.lemmas.List.{append-nil, length_push, take-append-le, take_all, get_or_push}
-use Rattle.dft_base.specs.Solutions.{Equation, equation_at, Holds, Solves, IsSolvable, IsSum, AllGive, NoneGives, Contradicts, StatesFrom, StatesCertificate}
+use Rattle.dft_base.specs.Solutions.{Equation, equation_at, Solves, IsSolvable, IsSum, AllGive, NoneGives, Contradicts, StatesFrom, StatesCertificate}
 use Rattle.dft_gf2.specs.Elimination.{After, Elimination}
 use Rattle.dft_gf2.specs.declared.system.Outcome.TheVariants.{Kept, Implied, Conflict}
 use Rattle.dft_lanes.specs.Rows.{bits_of}

@@ -1,5 +1,5 @@
 -- How test cubes are put together into patterns: a cube goes into the oldest open pattern that it fits, or else begins one (static compaction).
-use Rattle.std.specs.Prelude.{ℕ, suc, ◌≡◌, ◌<◌, ◌≤◌, ◌-◌, ◌⊎◌, ◌==◌, Bool, true, false, if◌then◌else◌, List, [], ◌∷◌, ◌++◌, length, filter, Option, None, Some, is_none, unwrap_or, slice_get, slice_set}
+use Rattle.std.specs.Prelude.{ℕ, suc, ◌≡◌, ◌<◌, ◌≤◌, ◌-◌, ◌⊎◌, ◌==◌, Bool, false, if◌then◌else◌, List, [], ◌∷◌, ◌++◌, length, filter, Option, None, Some, is_none, unwrap_or, slice_get, slice_set}
 use Rattle.std.specs.List.{list_any}
 use Rattle.dft_base.specs.Solutions.{Equation, IsSolvable, StatesCertificate, sum_over, xor}
 use Rattle.dft_netlist.specs.declared.ids.InstanceId.{InstanceId}

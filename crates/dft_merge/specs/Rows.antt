@@ -1,9 +1,9 @@
 -- The load equations of cells: where a cell stands in its chains, and which variables of the channels it sums after a load (Rajski and others, 2004).
-use Rattle.std.specs.Prelude.{ℕ, suc, ◌≡◌, ◌==◌, Bool, List, [], ◌∷◌, length, position, Option, None, Some, option_map}
+use Rattle.std.specs.Prelude.{ℕ, suc, ◌≡◌, ◌==◌, Bool, List, [], ◌∷◌, position, Option, None, Some, option_map}
 use Rattle.dft_netlist.specs.declared.ids.InstanceId.{InstanceId}
 use Rattle.dft_stitch.specs.declared.places.CellPlace.{CellPlace}
 use Rattle.dft_stitch.specs.Plans.{cell_at}
-use Rattle.dft_equations.specs.LoadRows.{LoadRows, row_of, IsCell}
+use Rattle.dft_equations.specs.LoadRows.{LoadRows, row_of}
 
 -- for each cell the variables that it sums, as a set of columns; a cell that is not scanned has none
 abbrev pub CellRows : Type 0

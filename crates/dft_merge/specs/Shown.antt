@@ -1,5 +1,5 @@
 -- What a `Merger` shows, and what holds of it.
-use Rattle.std.specs.Prelude.{ℕ, ◌≡◌, ◌-◌, ◌≤◌, length, min}
+use Rattle.std.specs.Prelude.{◌≡◌, ◌-◌, ◌≤◌, length, min}
 use Rattle.dft_merge.specs.declared.merger.Merger.TheInside.{Inside}
 use Rattle.dft_merge.specs.Merging.{Merging}
 use Rattle.dft_merge.specs.Slots.{AreSlots, AreLoadable, IsLoading, rows_by, columns_by}

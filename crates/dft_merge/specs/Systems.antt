@@ -1,5 +1,5 @@
 -- What a system of equations is to the equations that it was given.
-use Rattle.std.specs.Prelude.{ℕ, Bool, true, false, ◌≡◌, ◌<◌, ◌≤◌, ◌⊎◌, ◌↔◌, List, [], ◌∷◌, ◌++◌, length, take, IsSome, IfSome}
+use Rattle.std.specs.Prelude.{ℕ, Bool, ◌≡◌, ◌<◌, ◌≤◌, List, [], ◌∷◌, ◌++◌, length, take, IsSome, IfSome}
 use Rattle.dft_base.specs.Solutions.{Equation, equation_at, Solves, IsSum, AllGive, NoneGives, Contradicts, StatesFrom}
 use Rattle.dft_gf2.specs.Elimination.{Elimination}
 

@@ -1,5 +1,5 @@
 -- Tables of bits: for each number its bit, if it has one.
-use Rattle.std.specs.Prelude.{ℕ, Bool, ◌≡◌, ◌<◌, List, length, filter, get_or, Option, None, is_none}
+use Rattle.std.specs.Prelude.{ℕ, Bool, ◌≡◌, ◌<◌, List, filter, get_or, Option, None, is_none}
 use Rattle.std.specs.List.{All, list_any}
 use Rattle.dft_merge.specs.Rows.{or_else}
 use Rattle.dft_merge.specs.Placement.{bit_in, is_opposite}

@@ -36,16 +36,11 @@ fn append(
 }
 
 // Appends to a pattern what a cube gives and the tables do not have, or nothing where memory runs out.
-fn extend(
-    alloc: Global,
-    pattern: &mut Merged,
-    slot: &Slot,
-    cube: &Cube,
-) -> Result<(), AllocError>
+fn extend(alloc: Global, pattern: &mut Merged, slot: &Slot, cube: &Cube) -> Result<(), AllocError>
     ensures ok { OnOk result (pattern.new ≡ record {
-        domain = pattern.old.domain;
-        cells = pattern.old.cells ++ missing_by cell_number slot.now.cells.items cube.now.cells;
-        ports = pattern.old.ports ++ missing_by port_number slot.now.ports.items cube.now.ports;
+      domain = pattern.old.domain;
+      cells = pattern.old.cells ++ missing_by cell_number slot.now.cells.items cube.now.cells;
+      ports = pattern.old.ports ++ missing_by port_number slot.now.ports.items cube.now.ports;
     }) }
     ensures err { OnErr result (pattern.new ≡ pattern.old) }
 {
@@ -58,12 +53,7 @@ fn extend(
 }
 
 // Puts the bits of a cube into a pattern and its tables, or none of them where memory runs out.
-fn give(
-    alloc: Global,
-    slot: &mut Slot,
-    pattern: &mut Merged,
-    cube: &Cube,
-) -> Result<(), AllocError>
+fn give(alloc: Global, slot: &mut Slot, pattern: &mut Merged, cube: &Cube) -> Result<(), AllocError>
     requires cells { IsTable cell_number pattern.old.cells slot.old.cells.items }
     requires ports { IsTable port_number pattern.old.ports slot.old.ports.items }
     ensures system { slot.new.system ≡ slot.old.system }
@@ -132,7 +122,12 @@ pub(crate) fn join_first(
     ensures err { OnErr result (patterns.new ≡ patterns.old) }
 {
     for place in 0..slots.len() {
-        if join(loading, &mut slots[place], &mut patterns[first + place], cube)? {
+        if join(
+            loading,
+            &mut slots[place],
+            &mut patterns[first + place],
+            cube,
+        )? {
             return Ok(Some(first + place));
         }
     }

@@ -171,7 +171,9 @@ impl<'a> Merger<'a> {
         let pattern = pattern as usize;
         let first = self.patterns.len() - self.slots.len();
         if first <= pattern {
-            self.slots[pattern - first].system.solve(self.loading.alloc, fill)
+            self.slots[pattern - first]
+                .system
+                .solve(self.loading.alloc, fill)
         } else {
             let system = system_of(&self.loading, self.patterns[pattern].cells.as_slice())?;
             system.solve(self.loading.alloc, fill)

@@ -114,7 +114,11 @@ fn note(table: &mut [Option<bool>], number: u32, bit: bool)
 }
 
 /// Appends those of these cells that have no bit in the table.
-pub(crate) fn push_missing_cells(list: &mut Vec<(InstanceId, bool)>, table: &[Option<bool>], cells: &[(InstanceId, bool)])
+pub(crate) fn push_missing_cells(
+    list: &mut Vec<(InstanceId, bool)>,
+    table: &[Option<bool>],
+    cells: &[(InstanceId, bool)],
+)
     requires { vec_len list.old + length cells.now ≤ vec_capacity list.old }
     ensures { list.new.items ≡ list.old.items ++ missing_by cell_number table.now cells.now }
 {
@@ -126,7 +130,11 @@ pub(crate) fn push_missing_cells(list: &mut Vec<(InstanceId, bool)>, table: &[Op
 }
 
 /// Appends those of these ports that have no bit in the table.
-pub(crate) fn push_missing_ports(list: &mut Vec<(NetId, bool)>, table: &[Option<bool>], ports: &[(NetId, bool)])
+pub(crate) fn push_missing_ports(
+    list: &mut Vec<(NetId, bool)>,
+    table: &[Option<bool>],
+    ports: &[(NetId, bool)],
+)
     requires { vec_len list.old + length ports.now ≤ vec_capacity list.old }
     ensures { list.new.items ≡ list.old.items ++ missing_by port_number table.now ports.now }
 {

@@ -1,4 +1,4 @@
-use Rattle.std.proofs.Common.{◌≡◌, ◌<◌, Bool, false, List, length, get_or, sym}
+use Rattle.std.proofs.Common.{◌≡◌, Bool, false, get_or}
 use Rattle.std.proofs.lemmas.List.{get_or_default}
 use Rattle.dft_netlist.specs.declared.ids.InstanceId.{InstanceId}
 use Rattle.dft_merge.specs.Slots.{columns_by, rows_by}

@@ -1,5 +1,4 @@
-use Rattle.std.proofs.Common.{ℕ, [], ◌∷◌, ◌++◌, sym, ◌≡◌, ◌+◌, ◌<◌, ◌/◌, ◌∙◌, Bool, List, length, ap, arith, map, refl}
-use Rattle.std.specs.List.{range_with_len}
+use Rattle.std.proofs.Common.{ℕ, [], ◌∷◌, ◌++◌, sym, ◌≡◌, ◌+◌, ◌/◌, ◌∙◌, List, length, ap, arith}
 use Rattle.std.proofs.lemmas.List.FromFn.{map-range_with_len_more}
 use Rattle.rand_pcg.specs.Pcg.{pcg32}
 use Rattle.dft_merge.specs.Fills.{bit_of_column, generator}

@@ -1,9 +1,6 @@
-use Rattle.std.proofs.Common.{◌≡◌, ap}
-use Rattle.dft_netlist.specs.declared.ids.InstanceId.{InstanceId}
-use Rattle.dft_netlist.specs.declared.ids.NetId.{NetId}
+use Rattle.std.proofs.Common.{ap}
 use Rattle.dft_cubes.specs.declared.cube.Merged.{Merged}
 use Rattle.dft_merge.specs.Placement.{cell_number, port_number}
-use Rattle.dft_merge.specs.Tables.{IsTable}
 use Rattle.dft_merge.proofs.BitLemmas.{given_table}
 use Rattle.dft_merge.proofs.joining.give.Goals as goal
 

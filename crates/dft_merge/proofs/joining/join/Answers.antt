@@ -1,4 +1,4 @@
-use Rattle.std.proofs.Common.{◌≡◌, ◌∙◌, ◌++◌, ◌||◌, Bool, List, Option, ap, length, refl, subst, sym, take}
+use Rattle.std.proofs.Common.{◌∙◌, Bool, List, ap, length, refl, subst, sym, take}
 use Rattle.dft_netlist.specs.declared.ids.InstanceId.{InstanceId}
 use Rattle.dft_gf2.specs.Elimination.{Elimination}
 use Rattle.dft_cubes.specs.declared.cube.Merged.{Merged}

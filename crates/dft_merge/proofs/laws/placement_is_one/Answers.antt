@@ -1,5 +1,4 @@
 use Rattle.dft_merge.proofs.OneLemmas.{placement_one}
-use Rattle.dft_merge.proofs.SlotLemmas.{opened}
 use Rattle.dft_merge.proofs.laws.placement_is_one.Goals as goal
 
 pub returns : goal.returns

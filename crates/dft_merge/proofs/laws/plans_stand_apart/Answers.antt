@@ -1,4 +1,4 @@
-use Rattle.std.proofs.Common.{◌≡◌, ◌∙◌, sym}
+use Rattle.std.proofs.Common.{◌∙◌, sym}
 use Rattle.dft_stitch.proofs.OnceLemmas.{cells_once, cells_scanned}
 use Rattle.dft_merge.proofs.laws.plans_stand_apart.Goals as goal
 

@@ -1,4 +1,3 @@
-use Rattle.dft_merge.proofs.MergerLemmas.{loads_by}
 use Rattle.dft_merge.proofs.OneLemmas.{unsolvable_exact}
 use Rattle.dft_merge.proofs.laws.unsolvable_is_exact.Goals as goal
 

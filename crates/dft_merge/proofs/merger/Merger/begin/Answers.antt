@@ -1,12 +1,11 @@
-use Rattle.std.proofs.Common.{◌≡◌, ◌++◌, ◌∷◌, ◌∙◌, ℕ, Bool, List, [], None, inr, ap, length, refl, subst, sym}
+use Rattle.std.proofs.Common.{◌≡◌, ◌++◌, ◌∷◌, ◌∙◌, Bool, List, [], None, inr, ap, length, refl, subst, sym}
 use Rattle.dft_base.specs.Solutions.{IsSolvable, StatesCertificate}
 use Rattle.dft_netlist.specs.declared.ids.InstanceId.{InstanceId}
-use Rattle.dft_gf2.specs.Elimination.{Elimination}
 use Rattle.dft_merge.specs.Placement.{begun, equations_of, first_unscanned}
 use Rattle.dft_merge.specs.Slots.{columns_by, rows_by}
 use Rattle.dft_merge.specs.Merging.{Merging, columns_in, rows_in}
-use Rattle.dft_merge.specs.Systems.{IsRun, IsSystem}
-use Rattle.dft_merge.proofs.SystemLemmas.{run_system, system_none, system_solvable}
+use Rattle.dft_merge.specs.Systems.{IsRun}
+use Rattle.dft_merge.proofs.SystemLemmas.{run_system, system_solvable}
 use Rattle.dft_merge.proofs.MergerLemmas.{IsState, alone_stated, empty_again, state_opened, state_same}
 use Rattle.dft_merge.proofs.merger.Merger.begin.Goals as goal
 

@@ -1,8 +1,8 @@
-use Rattle.std.proofs.Common.{◌≡◌, ◌-◌, ◌<◌, ◌∙◌, Bool, List, None, Some, IfOk, ap, arith, length, get_or, refl, slice_get, subst, sym}
+use Rattle.std.proofs.Common.{◌≡◌, ◌-◌, ◌<◌, ◌∙◌, Bool, List, None, Some, IfOk, ap, arith, length, refl, slice_get, subst, sym}
 use Rattle.std.proofs.lemmas.Option.{slice_get_read}
 use Rattle.dft_base.specs.Solutions.{IsChosen, IsSolvable, bit_at}
 use Rattle.dft_netlist.specs.declared.ids.InstanceId.{InstanceId}
-use Rattle.dft_lanes.specs.Rows.{bits_of, IsPacked}
+use Rattle.dft_lanes.specs.Rows.{bits_of}
 use Rattle.dft_cubes.specs.declared.cube.Merged.{Merged}
 use Rattle.dft_merge.specs.Placement.{Loads, equations_of, first_unscanned}
 use Rattle.dft_merge.specs.Slots.{IsLoadable, IsSlot, columns_by, rows_by}

@@ -1,4 +1,4 @@
-use Rattle.std.proofs.Common.{◌≡◌, ◌-◌, ◌∙◌, List, None, IfOk, ap, length, arith, subst, sym}
+use Rattle.std.proofs.Common.{◌≡◌, ◌-◌, List, None, IfOk, ap, length, arith, subst, sym}
 use Rattle.std.specs.Vec.{with_items}
 use Rattle.dft_cubes.specs.declared.cube.Merged.{Merged}
 use Rattle.dft_merge.specs.Placement.{first_unscanned}
