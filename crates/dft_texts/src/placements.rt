@@ -1,6 +1,6 @@
 //! Cubes that are put together into patterns, and the channel bits of each pattern, worked by hand.
 
-ghost use Rattle.std.specs.Prelude.{◌≡◌, ◌<◌, ◌≤◌, ◌^◌, ◌*◌, length, map, IfOk, IfSome, IsTrue, nat_le};
+ghost use Rattle.std.specs.Prelude.{◌≡◌, ◌<◌, length, map, IfOk, IfSome, OnOk, nat_le};
 ghost use Rattle.std.specs.List.{list_all};
 ghost use Rattle.dft_config.specs.Range.{IsInRange};
 ghost use Rattle.dft_equations.specs.LoadRows.{AreLoadEquations};
@@ -211,7 +211,11 @@ fn push_bits(
     line.push_str(" | ")?;
     for column in 0..like.len() {
         let word = words.get(column / 64).copied().unwrap_or(0);
-        line.push(if (word >> (column % 64)) & 1 == 1 { '1' } else { '0' })?;
+        line.push(if (word >> (column % 64)) & 1 == 1 {
+            '1'
+        } else {
+            '0'
+        })?;
     }
     Ok(())
 }
@@ -223,7 +227,7 @@ fn place_all(
     merger: &mut Merger<'_>,
     cubes: &[Cube],
 ) -> Result<(), AllocError>
-    ensures { columns_in merger.new ≡ columns_in merger.old }
+    ensures { OnOk result (columns_in merger.new ≡ columns_in merger.old) }
 {
     for cube in cubes {
         if cube.cells.as_slice().len() <= 65_536 && merger.patterns().len() < 65_536 {
@@ -320,12 +324,7 @@ fn planned(
 }
 
 // What becomes of the cubes of a text, over a netlist and a configuration.
-fn line_for(
-    alloc: Global,
-    netlist: &str,
-    config: &str,
-    cubes: &str,
-) -> Result<String, AllocError> {
+fn line_for(alloc: Global, netlist: &str, config: &str, cubes: &str) -> Result<String, AllocError> {
     if netlist.len() > MAX_TEXT || config.len() > 4096 || cubes.len() > 4096 {
         return String::from_str(alloc, "too long");
     }
