@@ -6,3 +6,4 @@ pub mod GoodRing
 pub mod GoodCompactor
 pub mod GoodChains
 pub mod GoodRecipes
+pub mod FrameRanks
