@@ -29,7 +29,7 @@ times_in-append [] ys net = (let e : times_in ys net ≡ 0 + times_in ys net = o
 times_in-append (x ∷ xs) ys net =
     omega (arith, sum_by-cons (λ (k : ℕ). cond (k == net) 1 0) x (xs ++ ys), sum_by-cons (λ (k : ℕ). cond (k == net) 1 0) x xs, times_in-append xs ys net)
 
-counted_by : (x net : ℕ) (xs : List ℕ) (b : Bool) → (x == net) ≡ b → times_in (x ∷ xs) net ≡ cond b 1 0 + times_in xs net
+pub counted_by : (x net : ℕ) (xs : List ℕ) (b : Bool) → (x == net) ≡ b → times_in (x ∷ xs) net ≡ cond b 1 0 + times_in xs net
 counted_by x net xs b h = sum_by-cons (λ (k : ℕ). cond (k == net) 1 0) x xs ∙ ap (λ (t : Bool). cond t 1 0 + times_in xs net) h
 
 -- a net stands at most as often in a list as in a longer one

@@ -7,3 +7,4 @@ pub mod GoodCompactor
 pub mod GoodChains
 pub mod GoodRecipes
 pub mod FrameRanks
+pub mod MadeGood
