@@ -8,3 +8,4 @@ pub mod GoodChains
 pub mod GoodRecipes
 pub mod FrameRanks
 pub mod MadeGood
+pub mod FrameSingle

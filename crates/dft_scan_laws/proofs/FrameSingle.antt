@@ -1,0 +1,128 @@
+-- No net of a frame has two drivers, and its added outputs have none.
+use Rattle.std.proofs.Common.{ℕ, zero, suc, ◌+◌, ◌-◌, ◌≡◌, ◌<◌, ◌≤◌, ◌==◌, ◌⊎◌, inl, inr, Bool, true, false, List, [], ◌∷◌, ◌++◌, length, map, Option, None, Some, slice_get, refl, sym, subst, ap, arith, ◌∙◌, append_assoc}
+use Rattle.std.proofs.lemmas.List.{append-nil, length-map, length-append}
+use Rattle.dft_base.specs.declared.dir.Dir.{Dir}
+use Rattle.dft_base.specs.declared.dir.Dir.TheVariants as dir
+use Rattle.dft_cells.specs.declared.kind.Kind.{Kind}
+use Rattle.dft_cells.specs.declared.kind.Role.{Role}
+use Rattle.dft_cells.specs.declared.cell.Cell.{Cell}
+use Rattle.dft_cells.specs.declared.cell.CellId.{CellId}
+use Rattle.dft_cells.specs.WellFormed.{IsWellFormed}
+use Rattle.dft_netlist.specs.declared.ids.NetId.{NetId}
+use Rattle.dft_netlist.specs.declared.port.Port.{Port}
+use Rattle.dft_netlist.specs.declared.instance.Instance.{Instance}
+use Rattle.dft_netlist.specs.declared.instance.CellRef.TheVariants.{Library}
+use Rattle.dft_netlist.specs.declared.instance.Signal.{Signal}
+use Rattle.dft_netlist.specs.declared.instance.Signal.TheVariants.{Net, Constant, Unconnected}
+use Rattle.dft_netlist.specs.Drivers.{Source, Driver, Input, Flop, Driven, at_signal, Shape, connections_from, connections_of, inputs_of, driven_by_pins, driven_by, driven_by_instances, driven_by_bits, driven_by_ports, driven_by_joins, all_driven, shape_of}
+use Rattle.dft_netlist.specs.Netlist.{Netlist}
+use Rattle.dft_netlist.specs.NetDrivers.{IsSingle, times_driven}
+use Rattle.dft_netlist.specs.NetNumbers.{nets_from}
+use Rattle.dft_netlist.specs.Sound.{bits_of}
+use Rattle.dft_config.specs.declared.config.Config.{Config}
+use Rattle.dft_rules.specs.Refusals.{is_scanned}
+use Rattle.dft_rules.specs.Rules.{judged, scan_cell_in}
+use Rattle.dft_insert.specs.AddedPorts.{NewPort, new_port, numbered_ports, ports_from}
+use Rattle.dft_insert.specs.Moves.{Gap, moved, moved_signal, moved_instance, moved_join}
+use Rattle.dft_insert.specs.Statements.{IsReady}
+use Rattle.dft_insert.specs.Written.{map_from, at_net}
+use Rattle.dft_insert.proofs.AddedOnce.{ports_rise, outputs_none, ports_below}
+use Rattle.dft_insert.proofs.Kept.{ports_fit, numbered_count}
+use Rattle.dft_insert.proofs.LiveDriven.{DriveBelow, drives_below}
+use Rattle.dft_insert.proofs.Mergings.{moved_driven, Merges, Nothing, append_merges, all_kept, all_added, NoneAt, times, old_times, moved_instance_drives, moved_joins_drive, ports_append}
+use Rattle.dft_insert.proofs.ScanPairs.{ScanPair, Plain as PlainPair, PlainBoth, Resets, ResetsBoth, Sets, SetsBoth, three, four, five}
+use Rattle.dft_insert.proofs.Single.{IsMovedOrNew, IsMoved, IsNone, moved_or_new}
+use Rattle.dft_insert.proofs.Times.{rises_once, past_none, added_times_live}
+use Rattle.dft_insert.proofs.Whole.{moved_front, moved_back, moved_apart, AreBefore, nets_before, before_front, before_back}
+use Rattle.dft_scan_hardware.specs.declared.style.Style.{Style}
+use Rattle.dft_scan_hardware.specs.declared.style.Style.TheVariants.{Plain, Edt}
+use Rattle.dft_scan_hardware.specs.Frame.{framed_pins, as_scan_cell, framed_instance, framed_at, frame}
+use Rattle.dft_scan_hardware.specs.Ports.{added_ports, gap_in}
+use Rattle.dft_scan_hardware.proofs.Frames.{scan_pair, frame_nets}
+use Rattle.dft_scan_laws.proofs.FrameRanks.{outs_start, IsLaid, laid}
+
+-- ---- a scan cell drives what its flip-flop drove
+
+abbrev Same : (gap : Gap) → (i : ℕ) → (e : Signal) → (inputs its : List Source) → Kind → List Role → Kind → List Role → List Signal → Type 0
+Same gap i e inputs its k old scan new pins =
+    driven_by_pins scan i its (connections_from 0 new (framed_pins e new (map (moved_signal gap) pins))) ≡ map (moved_driven (moved gap)) (driven_by_pins k i inputs (connections_from 0 old pins))
+
+module _ (gap : Gap) (i : ℕ) (e : Signal) (inputs its : List Source) where
+  at_one : (c : Signal) → at_signal (moved_signal gap c) (Flop i false) ++ [] ≡ map (moved_driven (moved gap)) (at_signal c (Flop i false) ++ [])
+  at_one (Net c) = refl
+  at_one (Constant c) = refl
+  at_one Unconnected = refl
+
+  at_both : (c d : Signal) → at_signal (moved_signal gap c) (Flop i false) ++ (at_signal (moved_signal gap d) (Flop i true) ++ []) ≡ map (moved_driven (moved gap)) (at_signal c (Flop i false) ++ (at_signal d (Flop i true) ++ []))
+  at_both (Net c) (Net d) = refl
+  at_both (Net c) (Constant d) = refl
+  at_both (Net c) Unconnected = refl
+  at_both (Constant c) (Net d) = refl
+  at_both (Constant c) (Constant d) = refl
+  at_both (Constant c) Unconnected = refl
+  at_both Unconnected (Net d) = refl
+  at_both Unconnected (Constant d) = refl
+  at_both Unconnected Unconnected = refl
+
+  pair_drives : (k : Kind) (old : List Role) (scan : Kind) (new : List Role) (pins : List Signal) → ScanPair k old scan new → length pins ≡ length old → Same gap i e inputs its k old scan new pins
+  pair_drives k old scan new pins PlainPair wide = let p = three pins wide in subst (Same gap i e inputs its k old scan new) (sym p.3) (at_one p.2)
+  pair_drives k old scan new pins PlainBoth wide = let p = four pins wide in subst (Same gap i e inputs its k old scan new) (sym p.4) (at_both p.2 p.3)
+  pair_drives k old scan new pins Resets wide = let p = four pins wide in subst (Same gap i e inputs its k old scan new) (sym p.4) (at_one p.3)
+  pair_drives k old scan new pins ResetsBoth wide = let p = five pins wide in subst (Same gap i e inputs its k old scan new) (sym p.5) (at_both p.3 p.4)
+  pair_drives k old scan new pins Sets wide = let p = four pins wide in subst (Same gap i e inputs its k old scan new) (sym p.4) (at_one p.3)
+  pair_drives k old scan new pins SetsBoth wide = let p = five pins wide in subst (Same gap i e inputs its k old scan new) (sym p.5) (at_both p.3 p.4)
+
+-- ---- instances of the frame
+
+cell_drives : (library : List Cell) (gap : Gap) (i : ℕ) (x : Instance) (o : Option CellId) → IsWellFormed library → length x.pins ≡ length (shape_of library x.cell).roles → scan_cell_in library x.cell ≡ o → driven_by library i (as_scan_cell library gap x o) ≡ map (moved_driven (moved gap)) (driven_by library i x)
+cell_drives library gap i x None well wide names = moved_instance_drives library gap i x
+cell_drives library gap i x (Some id) well wide names =
+    let s : Shape = shape_of library x.cell in
+    let t : Shape = shape_of library (Library id) in
+    let pins = framed_pins (at_net gap.before) t.roles (map (moved_signal gap) x.pins) in
+    pair_drives gap i (at_net gap.before) (inputs_of i (connections_of library x)) (inputs_of i (connections_from 0 t.roles pins)) s.kind s.roles t.kind t.roles x.pins (scan_pair library x.cell id names well) wide
+
+framed_drives : (library : List Cell) (gap : Gap) (i : ℕ) (b : Bool) (x : Instance) → IsWellFormed library → length x.pins ≡ length (shape_of library x.cell).roles → driven_by library i (framed_instance library gap b x) ≡ map (moved_driven (moved gap)) (driven_by library i x)
+framed_drives library gap i false x well wide = moved_instance_drives library gap i x
+framed_drives library gap i true x well wide = cell_drives library gap i x (scan_cell_in library x.cell) well wide refl
+
+instances_merge : (n : Netlist) (config : Config) (gap : Gap) (i : ℕ) (xs : List Instance) → IsWellFormed n.library → ((k : ℕ) (x : Instance) → slice_get xs k ≡ Some x → length x.pins ≡ length (shape_of n.library x.cell).roles) →
+    Merges (moved gap) (driven_by_instances n.library i xs) [] (driven_by_instances n.library i (map_from (framed_at n config gap) i xs))
+instances_merge n config gap i [] well wide = Nothing
+instances_merge n config gap i (x ∷ xs) well wide =
+    append_merges (moved gap) (driven_by n.library i x) [] (driven_by n.library i (framed_at n config gap i x)) (driven_by_instances n.library (suc i) xs) [] (driven_by_instances n.library (suc i) (map_from (framed_at n config gap) (suc i) xs))
+    (subst (Merges (moved gap) (driven_by n.library i x) []) (sym (framed_drives n.library gap i (is_scanned (judged n config i)) x well (wide zero x refl))) (all_kept (moved gap) (driven_by n.library i x)))
+    (instances_merge n config gap (suc i) xs well (λ k z at. wide (suc k) z at))
+
+-- ---- ports
+
+bits_stay : (gap : Gap) (d : Dir) (bits : List NetId) → AreBefore gap.before bits → map (moved_driven (moved gap)) (driven_by_bits d bits) ≡ driven_by_bits d bits
+bits_stay gap dir.Output bits h = refl
+bits_stay gap dir.Input [] h = refl
+bits_stay gap dir.Input (net ∷ bits) h = λ j. (moved_front gap net.0 h.0 j, Input) ∷ bits_stay gap dir.Input bits h.1 j
+
+ports_merge : (gap : Gap) (ports : List Port) → AreBefore gap.before (bits_of ports) → Merges (moved gap) (driven_by_ports ports) [] (driven_by_ports ports)
+ports_merge gap [] h = Nothing
+ports_merge gap (port ∷ ports) h =
+    append_merges (moved gap) (driven_by_bits port.dir port.bits) [] (driven_by_bits port.dir port.bits) (driven_by_ports ports) [] (driven_by_ports ports)
+    (subst (Merges (moved gap) (driven_by_bits port.dir port.bits) []) (bits_stay gap port.dir port.bits (before_front gap.before port.bits (bits_of ports) h)) (all_kept (moved gap) (driven_by_bits port.dir port.bits)))
+    (ports_merge gap ports (before_back gap.before port.bits (bits_of ports) h))
+
+-- what the added ports drive
+abbrev pub added_drives : Style → Netlist → Config → List Driven
+added_drives style n config = driven_by_ports (ports_from (gap_in style n config).before (added_ports style config))
+
+frame_merges : (style : Style) (n : Netlist) (config : Config) → IsReady n config → Merges (moved (gap_in style n config)) (all_driven n) ((added_drives style n config ++ []) ++ []) (all_driven (frame style n config))
+frame_merges style n config ready =
+    let gap : Gap = gap_in style n config in
+    let w : Netlist = frame style n config in
+    let old = driven_by_ports n.ports in
+    let new = added_drives style n config in
+    let before : AreBefore gap.before (bits_of n.ports) = subst (AreBefore gap.before) (sym ready.netlist.numbered) (nets_before 0 gap.before gap.before (omega arith)) in
+    let ports : Merges (moved gap) old new (driven_by_ports w.ports) =
+    subst (Merges (moved gap) old new) (sym (ports_append n.ports (ports_from gap.before (added_ports style config))))
+    (subst (λ (ds : List Driven). Merges (moved gap) ds new (old ++ new)) (append-nil old) (append_merges (moved gap) old [] old [] new new (ports_merge gap n.ports before) (all_added (moved gap) new))) in
+    let instances = instances_merge n config gap 0 n.instances ready.library (λ k x at. (ready.netlist.instances k x at).width) in
+    let joins : Merges (moved gap) (driven_by_joins n.joins) [] (driven_by_joins w.joins) = subst (Merges (moved gap) (driven_by_joins n.joins) []) (sym (moved_joins_drive gap n.joins)) (all_kept (moved gap) (driven_by_joins n.joins)) in
+    append_merges (moved gap) (old ++ driven_by_instances n.library 0 n.instances) (new ++ []) (driven_by_ports w.ports ++ driven_by_instances n.library 0 w.instances) (driven_by_joins n.joins) [] (driven_by_joins w.joins)
+    (append_merges (moved gap) old new (driven_by_ports w.ports) (driven_by_instances n.library 0 n.instances) [] (driven_by_instances n.library 0 w.instances) ports instances) joins
