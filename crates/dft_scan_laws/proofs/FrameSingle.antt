@@ -32,7 +32,7 @@ use Rattle.dft_insert.proofs.LiveDriven.{DriveBelow, drives_below}
 use Rattle.dft_insert.proofs.Mergings.{moved_driven, Merges, Nothing, append_merges, all_kept, all_added, NoneAt, times, old_times, moved_instance_drives, moved_joins_drive, ports_append}
 use Rattle.dft_insert.proofs.ScanPairs.{ScanPair, Plain as PlainPair, PlainBoth, Resets, ResetsBoth, Sets, SetsBoth, three, four, five}
 use Rattle.dft_insert.proofs.Single.{IsMovedOrNew, IsMoved, IsNone, moved_or_new}
-use Rattle.dft_insert.proofs.Times.{rises_once, past_none, added_times_live}
+use Rattle.dft_insert.proofs.Times.{Rises, rises_once, past_none, added_times_live}
 use Rattle.dft_insert.proofs.Whole.{moved_front, moved_back, moved_apart, AreBefore, nets_before, before_front, before_back}
 use Rattle.dft_scan_hardware.specs.declared.style.Style.{Style}
 use Rattle.dft_scan_hardware.specs.declared.style.Style.TheVariants.{Plain, Edt}
@@ -126,3 +126,92 @@ frame_merges style n config ready =
     let joins : Merges (moved gap) (driven_by_joins n.joins) [] (driven_by_joins w.joins) = subst (Merges (moved gap) (driven_by_joins n.joins) []) (sym (moved_joins_drive gap n.joins)) (all_kept (moved gap) (driven_by_joins n.joins)) in
     append_merges (moved gap) (old ++ driven_by_instances n.library 0 n.instances) (new ++ []) (driven_by_ports w.ports ++ driven_by_instances n.library 0 w.instances) (driven_by_joins n.joins) [] (driven_by_joins w.joins)
     (append_merges (moved gap) old new (driven_by_ports w.ports) (driven_by_instances n.library 0 n.instances) [] (driven_by_instances n.library 0 w.instances) ports instances) joins
+
+-- ---- the added inputs
+
+added_below : (style : Style) (n : Netlist) (config : Config) → DriveBelow (outs_start style n config) (added_drives style n config)
+added_below Plain n config =
+    let before = (gap_in Plain n config).before in
+    let inputs : List NewPort = new_port dir.Input config.names.scan_enable ∷ numbered_ports dir.Input config.names.scan_in config.chains in
+    subst (λ (k : ℕ). DriveBelow k (added_drives Plain n config)) (let e : before + suc (length (numbered_ports dir.Input config.names.scan_in config.chains)) ≡ outs_start Plain n config = omega (arith, numbered_count dir.Input config.names.scan_in config.chains) in e)
+    (ports_below before inputs (numbered_ports dir.Output config.names.scan_out config.chains) (λ k. outputs_none k config.names.scan_out 0 config.chains))
+added_below Edt n config =
+    let before = (gap_in Edt n config).before in
+    let channels : List NewPort = numbered_ports dir.Input config.names.channel config.ring.channels in
+    let masks : List NewPort = numbered_ports dir.Input config.names.mask config.compactor.mask_inputs in
+    let outputs : List NewPort = numbered_ports dir.Output config.names.output (length config.compactor.groups) in
+    let a : NewPort = new_port dir.Input config.names.scan_enable in
+    let b : NewPort = new_port dir.Input config.names.edt_clock in
+    let c : NewPort = new_port dir.Input config.names.edt_update in
+    let inputs : List NewPort = a ∷ b ∷ c ∷ (channels ++ masks) in
+    let size : before + length inputs ≡ outs_start Edt n config = omega (arith, length-append channels masks, numbered_count dir.Input config.names.channel config.ring.channels, numbered_count dir.Input config.names.mask config.compactor.mask_inputs) in
+    subst (λ (k : ℕ). DriveBelow k (added_drives Edt n config)) size
+    (subst (λ (ports : List NewPort). DriveBelow (before + length inputs) (driven_by_ports (ports_from before (a ∷ b ∷ c ∷ ports)))) (append_assoc channels masks outputs)
+    (ports_below before inputs outputs (λ k. outputs_none k config.names.output 0 (length config.compactor.groups))))
+
+differ_up : (a b : ℕ) → a < b → (a == b) ≡ false
+differ_up = grind arith
+
+differ_down : (a b : ℕ) → b < a → (a == b) ≡ false
+differ_down = grind arith
+
+none_before : (from net : ℕ) (ds : List Driven) → Rises from ds → net < from → NoneAt ds net
+none_before from net [] h less = tt
+none_before from net (d ∷ ds) h less = (differ_down d.0 net (omega (arith, h.0, less)), none_before (suc d.0) net ds h.1 (omega (arith, h.0, less)))
+
+none_behind : (to net : ℕ) (ds : List Driven) → DriveBelow to ds → to ≤ net → NoneAt ds net
+none_behind to net [] h past = tt
+none_behind to net (d ∷ ds) h past = (differ_up d.0 net (omega (arith, h.0, past)), none_behind to net ds h.1 past)
+
+-- no added port drives a net of the design
+none_moved : (style : Style) (n : Netlist) (config : Config) (own : ℕ) → IsReady n config → (own < (gap_in style n config).before) ⊎ ((gap_in style n config).before ≤ own) → NoneAt (added_drives style n config) (moved (gap_in style n config) own)
+none_moved style n config own ready (inl front) =
+    let gap = gap_in style n config in
+    subst (NoneAt (added_drives style n config)) (sym (moved_front gap own front)) (none_before gap.before own (added_drives style n config) (ports_rise gap.before (added_ports style config)) front)
+none_moved style n config own ready (inr back) =
+    let gap = gap_in style n config in
+    subst (NoneAt (added_drives style n config)) (sym (moved_back gap own back)) (none_behind (outs_start style n config) (own + gap.width) (added_drives style n config) (added_below style n config) (omega (arith, back, (laid style n config ready).end)))
+
+le_or_less : (a b : ℕ) → (b < a) ⊎ (a ≤ b)
+le_or_less zero b = inr (omega arith)
+le_or_less (suc a) zero = inl (omega arith)
+le_or_less (suc a) (suc b) = elim (le_or_less a b) [ inl h ↦ inl (omega (arith, h)) | inr h ↦ inr (omega (arith, h)) ]
+
+-- the drivers of the frame that are not the design's
+padded : (style : Style) (n : Netlist) (config : Config) → (added_drives style n config ++ []) ++ [] ≡ added_drives style n config
+padded style n config = append-nil (added_drives style n config ++ []) ∙ append-nil (added_drives style n config)
+
+merges : (style : Style) (n : Netlist) (config : Config) → IsReady n config → Merges (moved (gap_in style n config)) (all_driven n) (added_drives style n config) (all_driven (frame style n config))
+merges style n config ready = subst (λ (ds : List Driven). Merges (moved (gap_in style n config)) (all_driven n) ds (all_driven (frame style n config))) (padded style n config) (frame_merges style n config ready)
+
+-- a net that is none of the design's is driven by the added ports alone
+other_times : (style : Style) (n : Netlist) (config : Config) (net : ℕ) → IsReady n config → ((k : ℕ) → k < length n.nets → (moved (gap_in style n config) k == net) ≡ false) → times_driven (frame style n config) net ≡ times net (added_drives style n config)
+other_times style n config net ready apart =
+    added_times_live (moved (gap_in style n config)) net (length n.nets) (all_driven n) (added_drives style n config) (all_driven (frame style n config)) apart (drives_below n ready.netlist) (merges style n config ready)
+
+frame_by : (style : Style) (n : Netlist) (config : Config) (net : ℕ) → IsReady n config → IsMovedOrNew (gap_in style n config) (length n.nets) net → times_driven (frame style n config) net ≤ 1
+frame_by style n config net ready (IsMoved {own = own} less is) =
+    let gap = gap_in style n config in
+    let w : Netlist = frame style n config in
+    subst (λ (k : ℕ). times_driven w k ≤ 1) is
+    (subst (λ (m : ℕ). m ≤ 1) (sym (old_times (moved gap) own (all_driven n) (added_drives style n config) (all_driven w) (moved_apart gap) (merges style n config ready) (none_moved style n config own ready (le_or_less gap.before own)))) (ready.single own))
+frame_by style n config net ready (IsNone apart) =
+    subst (λ (m : ℕ). m ≤ 1) (sym (other_times style n config net ready apart)) (rises_once net (gap_in style n config).before (added_drives style n config) (ports_rise (gap_in style n config).before (added_ports style config)))
+
+-- no net of the frame has two drivers
+pub frame_single : (style : Style) (n : Netlist) (config : Config) → IsReady n config → IsSingle (frame style n config)
+frame_single style n config ready net = frame_by style n config net ready (moved_or_new (gap_in style n config) (length n.nets) net (laid style n config ready).before)
+
+moved_not : (gap : Gap) (count k net : ℕ) → (k < gap.before) ⊎ (gap.before ≤ k) → k < count → gap.before ≤ net → (net < gap.before + gap.width) ⊎ (count + gap.width ≤ net) → (moved gap k == net) ≡ false
+moved_not gap count k net (inl front) less from (inl inside) = ap (λ (m : ℕ). m == net) (moved_front gap k front) ∙ differ_up k net (omega (arith, front, from))
+moved_not gap count k net (inl front) less from (inr past) = ap (λ (m : ℕ). m == net) (moved_front gap k front) ∙ differ_up k net (omega (arith, front, from))
+moved_not gap count k net (inr back) less from (inl inside) = ap (λ (m : ℕ). m == net) (moved_back gap k back) ∙ differ_down (k + gap.width) net (omega (arith, back, inside))
+moved_not gap count k net (inr back) less from (inr past) = ap (λ (m : ℕ). m == net) (moved_back gap k back) ∙ differ_up (k + gap.width) net (omega (arith, less, past))
+
+-- an added output, or a net past the end, has no driver in the frame
+pub frame_free : (style : Style) (n : Netlist) (config : Config) (net : ℕ) → IsReady n config → outs_start style n config ≤ net → (net < (gap_in style n config).before + (gap_in style n config).width) ⊎ (length n.nets + (gap_in style n config).width ≤ net) →
+    times_driven (frame style n config) net ≡ 0
+frame_free style n config net ready from where_it =
+    let gap = gap_in style n config in
+    other_times style n config net ready (λ k less. moved_not gap (length n.nets) k net (le_or_less gap.before k) less (omega (arith, from, (laid style n config ready).start)) where_it)
+    ∙ past_none net (outs_start style n config) (added_drives style n config) (added_below style n config) from
