@@ -33,6 +33,7 @@ use Rattle.dft_insert.proofs.Kept.{ports_fit}
 use Rattle.dft_insert.proofs.LiveNets.{own_live, input_live}
 use Rattle.dft_insert.proofs.ScanPairs.{ScanPair, Plain as PlainPair, PlainBoth, Resets, ResetsBoth, Sets, SetsBoth}
 use Rattle.dft_insert.proofs.Standing.{IsScannedFlop, stands_scanned}
+use Rattle.dft_insert.proofs.Whole.{moved_front, moved_back}
 use Rattle.dft_scan_hardware.specs.declared.style.Style.{Style}
 use Rattle.dft_scan_hardware.specs.declared.style.Style.TheVariants.{Plain, Edt}
 use Rattle.dft_scan_hardware.specs.Chained.{roles_of, scan_roles}
@@ -60,6 +61,12 @@ picked_front = grind arith
 
 picked_back : (k before outs end all port top other made count : ℕ) → other ≤ count → before ≤ k → outs ≤ k → end ≤ k → k < all → picked k before outs end all port top other made ≤ count
 picked_back = grind arith
+
+picked_port : (k before outs end all port top other made : ℕ) → k < before → picked k before outs end all port top other made ≡ port
+picked_port = grind arith
+
+picked_other : (k before outs end all port top other made : ℕ) → before ≤ k → outs ≤ k → end ≤ k → k < all → picked k before outs end all port top other made ≡ other
+picked_other = grind arith
 
 -- where the added outputs begin
 abbrev pub outs_start : Style → Netlist → Config → ℕ
@@ -109,6 +116,26 @@ module _ (style : Style) (n : Netlist) (config : Config) (r : ℕ → ℕ) (top 
   moved_rank own true is less = rank_front own (let e : own < gap.before = (let lt : nat_lt own gap.before ≡ true = is in grind (arith, lt)) in omega (arith, e, lies.start))
   moved_rank own false is less = rank_back (own + gap.width) (let e : gap.before ≤ own = (let ge : nat_lt own gap.before ≡ false = is in grind (arith, ge)) in omega (arith, e)) (omega (arith, less))
 
+  moved_is : (own : ℕ) → (own < gap.before) ⊎ (gap.before ≤ own) → own < length n.nets → rank (moved gap own) ≡ r own
+  moved_is own (inl front) less =
+      ap rank (moved_front gap own front)
+      ∙ picked_port own gap.before (outs_start style n config) (gap.before + gap.width) (length n.nets + gap.width) (r own) top (r (own - gap.width)) (length n.nets + 1 + own) front
+  moved_is own (inr back) less =
+      let k = own + gap.width in
+      ap rank (moved_back gap own back)
+      ∙ picked_other k gap.before (outs_start style n config) (gap.before + gap.width) (length n.nets + gap.width) (r k) top (r (k - gap.width)) (length n.nets + 1 + k)
+      (omega (arith, back)) (omega (arith, back, lies.end)) (omega (arith, back)) (omega (arith, less))
+      ∙ ap r (let e : own + gap.width - gap.width ≡ own = omega arith in e)
+
+  less_or : (a b : ℕ) → (b < a) ⊎ (a ≤ b)
+  less_or zero b = inr (omega arith)
+  less_or (suc a) zero = inl (omega arith)
+  less_or (suc a) (suc b) = elim (less_or a b) [ inl h ↦ inl (omega (arith, h)) | inr h ↦ inr (omega (arith, h)) ]
+
+  -- a net of the design has the rank that it had
+  pub rank_moved : (own : ℕ) → own < length n.nets → rank (moved gap own) ≡ r own
+  rank_moved own less = moved_is own (less_or gap.before own) less
+
   -- low nets stand below what is made
   pub low_below : (k : ℕ) → rank k ≤ length n.nets → IsBelow rank (length n.nets + gap.width) (record { 0 = k })
   low_below k low j past = let e = rank_made j past in omega (arith, e, low)
@@ -136,7 +163,7 @@ module _ (style : Style) (n : Netlist) (config : Config) (r : ℕ → ℕ) (top 
 
 -- ---- scanned cells
 
-pair_flop : (k : Kind) (old : List Role) (scan : Kind) (new : List Role) → ScanPair k old scan new → IsTrue (is_flip_flop scan)
+pub pair_flop : (k : Kind) (old : List Role) (scan : Kind) (new : List Role) → ScanPair k old scan new → IsTrue (is_flip_flop scan)
 pair_flop _ _ _ _ PlainPair = refl
 pair_flop _ _ _ _ PlainBoth = refl
 pair_flop _ _ _ _ Resets = refl

@@ -9,3 +9,4 @@ pub mod GoodRecipes
 pub mod FrameRanks
 pub mod MadeGood
 pub mod FrameSingle
+pub mod FrameRanked
