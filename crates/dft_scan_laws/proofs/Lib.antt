@@ -10,3 +10,4 @@ pub mod FrameRanks
 pub mod MadeGood
 pub mod FrameSingle
 pub mod FrameRanked
+pub mod Finished
