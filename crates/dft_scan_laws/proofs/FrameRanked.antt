@@ -1,26 +1,25 @@
 -- All of a frame is ranked, where an order ranks the design.
 use Rattle.std.proofs.Common.{ℕ, zero, suc, ◌+◌, ◌≡◌, ◌<◌, ◌≤◌, ◌⊎◌, inl, inr, Bool, true, false, List, [], ◌∷◌, ◌++◌, length, map, Option, None, Some, slice_get, refl, sym, subst, ap, arith, ◌∙◌}
-use Rattle.std.specs.Prelude.{if◌then◌else◌, IsTrue}
+use Rattle.std.specs.Prelude.{if◌then◌else◌}
 use Rattle.std.proofs.lemmas.Option.{none-some, same_Some}
 use Rattle.dft_cells.specs.declared.kind.Kind.{Kind}
 use Rattle.dft_cells.specs.declared.kind.Kind.TheVariants as kind
 use Rattle.dft_cells.specs.declared.kind.Role.{Role}
 use Rattle.dft_cells.specs.declared.cell.Cell.{Cell}
 use Rattle.dft_cells.specs.declared.cell.CellId.{CellId}
-use Rattle.dft_cells.specs.FlipFlops.{is_flip_flop}
 use Rattle.dft_cells.specs.WellFormed.{IsWellFormed}
 use Rattle.dft_netlist.specs.declared.instance.Instance.{Instance}
 use Rattle.dft_netlist.specs.declared.instance.CellRef.TheVariants.{Library}
 use Rattle.dft_netlist.specs.declared.instance.Join.{Join}
 use Rattle.dft_netlist.specs.declared.instance.Signal.{Signal}
 use Rattle.dft_netlist.specs.declared.instance.Signal.TheVariants as signal
-use Rattle.dft_netlist.specs.Drivers.{Source, Net, Tied, Loose, Connection, Shape, connections_from, inputs_of, is_input, lockup_inputs, driver_of_kind, nets_of, shape_of, source_of}
+use Rattle.dft_netlist.specs.Drivers.{Source, Net, Tied, Loose, Shape, connections_from, inputs_of, is_input, lockup_inputs, driver_of_kind, nets_of, shape_of, source_of}
 use Rattle.dft_netlist.specs.Netlist.{Netlist}
 use Rattle.dft_netlist.specs.Orders.{Has}
 use Rattle.dft_netlist.specs.Sound.{IsLive, AreLive, is_output}
 use Rattle.dft_config.specs.declared.config.Config.{Config}
 use Rattle.dft_chains.specs.ScanOff.{moved_source}
-use Rattle.dft_parts.specs.Ranks.{reads_by, read_by, nets_driven_by, IsRanked, IsJoinRanked, AreRanked}
+use Rattle.dft_parts.specs.Ranks.{reads_by, IsRanked, IsJoinRanked, AreRanked}
 use Rattle.dft_parts.specs.Single.{net_driven, nets_driven}
 use Rattle.dft_parts.proofs.RankedParts.{flip_flop_ranked}
 use Rattle.dft_rules.specs.Refusals.{is_scanned}
@@ -29,7 +28,7 @@ use Rattle.dft_insert.specs.Moves.{Gap, moved, moved_signal, moved_instance, mov
 use Rattle.dft_insert.specs.Statements.{IsReady}
 use Rattle.dft_insert.specs.Written.{map_from}
 use Rattle.dft_insert.proofs.Fine.{is_plain, instance_plain}
-use Rattle.dft_insert.proofs.Mergings.{moved_connection, moved_connections, moved_inputs}
+use Rattle.dft_insert.proofs.Mergings.{moved_connections, moved_inputs}
 use Rattle.dft_scan_hardware.specs.declared.style.Style.{Style}
 use Rattle.dft_scan_hardware.specs.Frame.{as_scan_cell, framed_instance, framed_at, frame}
 use Rattle.dft_scan_hardware.specs.Ports.{gap_in}
@@ -201,16 +200,16 @@ frame_ranked style n config r top ready bound ranked =
     let rank : ℕ → ℕ = rank_in style n config r top in
     let keeps : KeepsRanks gap (length n.nets) r rank = λ own less. rank_moved style n config r top (laid style n config ready) bound own less in record {
       instances = λ i y at. (
-        let it = from_back n config gap 0 n.instances i y at in
-        let x : Instance = it.instance in
-        subst (IsRanked n.library rank i) it.is
-        (framed_ranked n.library gap rank i x (is_scanned (judged n config (0 + i))) ready.library
-        (moved_ranked n.library gap (length n.nets) r rank i x keeps (instance_plain n config i x ready it.at) (ready.netlist.instances i x it.at).live (ranked.instances i x it.at)))
-        );
+          let it = from_back n config gap 0 n.instances i y at in
+          let x : Instance = it.instance in
+          subst (IsRanked n.library rank i) it.is
+          (framed_ranked n.library gap rank i x (is_scanned (judged n config (0 + i))) ready.library
+          (moved_ranked n.library gap (length n.nets) r rank i x keeps (instance_plain n config i x ready it.at) (ready.netlist.instances i x it.at).live (ranked.instances i x it.at)))
+          );
       joins = λ k y at. (
-        let it = join_back gap n.joins k y at in
-        let j : Join = it.join in
-        let sound = ready.netlist.joins k j it.at in
-        subst (IsJoinRanked rank) it.is (join_ranked gap (length n.nets) r rank j.target.0 j.source keeps sound.target_live sound.source_live (ranked.joins k j it.at))
-        );
+          let it = join_back gap n.joins k y at in
+          let j : Join = it.join in
+          let sound = ready.netlist.joins k j it.at in
+          subst (IsJoinRanked rank) it.is (join_ranked gap (length n.nets) r rank j.target.0 j.source keeps sound.target_live sound.source_live (ranked.joins k j it.at))
+          );
     }

@@ -1,15 +1,13 @@
 -- Ranks of the nets of a frame, and the scanned cells in it.
-use Rattle.std.proofs.Common.{ℕ, zero, suc, ◌+◌, ◌-◌, ◌≡◌, ◌<◌, ◌≤◌, ◌⊎◌, inl, inr, nat_lt, Bool, true, false, List, [], ◌∷◌, ◌++◌, length, map, Option, None, Some, is_some, option_map, option_and_then, slice_get, refl, sym, subst, ap, arith, ◌∙◌}
+use Rattle.std.proofs.Common.{ℕ, zero, suc, ◌+◌, ◌-◌, ◌≡◌, ◌<◌, ◌≤◌, ◌⊎◌, inl, inr, nat_lt, Bool, true, false, List, [], ◌∷◌, length, Option, None, Some, is_some, option_map, option_and_then, slice_get, refl, sym, subst, ap, arith, ◌∙◌}
 use Rattle.std.specs.Prelude.{if◌then◌else◌, slice_index_or, IsTrue}
 use Rattle.std.specs.List.{AllByRecursion}
 use Rattle.std.proofs.lemmas.Option.{none-some, same_Some}
 use Rattle.dft_base.specs.Lexing.{Text}
 use Rattle.dft_cells.specs.declared.kind.Kind.{Kind}
 use Rattle.dft_cells.specs.declared.kind.Role.{Role}
-use Rattle.dft_cells.specs.declared.cell.Cell.{Cell}
 use Rattle.dft_cells.specs.declared.cell.CellId.{CellId}
 use Rattle.dft_cells.specs.FlipFlops.{is_flip_flop}
-use Rattle.dft_cells.specs.WellFormed.{IsWellFormed}
 use Rattle.dft_netlist.specs.declared.ids.NetId.{NetId}
 use Rattle.dft_netlist.specs.declared.ids.InstanceId.{InstanceId}
 use Rattle.dft_netlist.specs.declared.instance.Instance.{Instance}
@@ -18,30 +16,29 @@ use Rattle.dft_netlist.specs.Connections.{input_net}
 use Rattle.dft_netlist.specs.Drivers.{Shape, shape_of}
 use Rattle.dft_netlist.specs.Names.{find_net}
 use Rattle.dft_netlist.specs.Netlist.{Netlist}
-use Rattle.dft_netlist.specs.NetDrivers.{roles_at, roles_in}
+use Rattle.dft_netlist.specs.NetDrivers.{roles_in}
 use Rattle.dft_config.specs.declared.config.Config.{Config}
 use Rattle.dft_rules.specs.Refusals.{is_scanned}
 use Rattle.dft_rules.specs.Rules.{judged, scan_cell_in, scan_cell_of}
 use Rattle.dft_stitch.specs.Chains.{plan_of}
 use Rattle.dft_stitch.specs.Plans.{cell_at}
 use Rattle.dft_insert.specs.Moves.{Gap, moved}
-use Rattle.dft_insert.specs.Pieces.{domain_in}
 use Rattle.dft_insert.specs.Statements.{IsReady}
-use Rattle.dft_insert.specs.Stitching.{own_output, moved_or_none}
+use Rattle.dft_insert.specs.Stitching.{moved_or_none}
 use Rattle.dft_insert.specs.Written.{map_from}
 use Rattle.dft_insert.proofs.Kept.{ports_fit}
 use Rattle.dft_insert.proofs.LiveNets.{own_live, input_live}
 use Rattle.dft_insert.proofs.ScanPairs.{ScanPair, Plain as PlainPair, PlainBoth, Resets, ResetsBoth, Sets, SetsBoth}
-use Rattle.dft_insert.proofs.Standing.{IsScannedFlop, stands_scanned}
+use Rattle.dft_insert.proofs.Standing.{stands_scanned}
 use Rattle.dft_insert.proofs.Whole.{moved_front, moved_back}
 use Rattle.dft_scan_hardware.specs.declared.style.Style.{Style}
 use Rattle.dft_scan_hardware.specs.declared.style.Style.TheVariants.{Plain, Edt}
-use Rattle.dft_scan_hardware.specs.Chained.{roles_of, scan_roles}
+use Rattle.dft_scan_hardware.specs.Chained.{roles_of}
 use Rattle.dft_scan_hardware.specs.Frame.{as_scan_cell, framed_instance, framed_at, frame}
-use Rattle.dft_scan_hardware.specs.Ports.{added_ports, gap_in}
+use Rattle.dft_scan_hardware.specs.Ports.{gap_in}
 use Rattle.dft_scan_hardware.proofs.Frames.{scan_pair, plain_count, edt_count}
 use Rattle.dft_scan_laws.proofs.Claims.{IsFlopIn}
-use Rattle.dft_scan_laws.proofs.Goods.{Setting, IsBelow}
+use Rattle.dft_scan_laws.proofs.Goods.{IsBelow}
 use Rattle.dft_scan_laws.proofs.GoodChains.{IsScanCell, ChainSetting}
 
 -- ---- ranks by where a net stands
@@ -155,9 +152,9 @@ module _ (style : Style) (n : Netlist) (config : Config) (r : ℕ → ℕ) (top 
       first = λ k past. (let low = rank_front 0 (omega (arith, lies.start)) in let e = rank_made k past in omega (arith, low, e));
     };
     domains = λ domain. (
-      let name : Text = slice_index_or config.domains domain [] in
-      none_or_moved (option_map (λ (k : NetId). k.0) (input_net n name)) (λ net e. input_live n name (find_net n name) net refl e)
-      );
+        let name : Text = slice_index_or config.domains domain [] in
+        none_or_moved (option_map (λ (k : NetId). k.0) (input_net n name)) (λ net e. input_live n name (find_net n name) net refl e)
+        );
     owns = λ cell net own. moved_below net (own_live n cell net ready.netlist own);
   }
 

@@ -1,6 +1,6 @@
 -- No net of a frame has two drivers, and its added outputs have none.
-use Rattle.std.proofs.Common.{ℕ, zero, suc, ◌+◌, ◌-◌, ◌≡◌, ◌<◌, ◌≤◌, ◌==◌, ◌⊎◌, inl, inr, Bool, true, false, List, [], ◌∷◌, ◌++◌, length, map, Option, None, Some, slice_get, refl, sym, subst, ap, arith, ◌∙◌, append_assoc}
-use Rattle.std.proofs.lemmas.List.{append-nil, length-map, length-append}
+use Rattle.std.proofs.Common.{ℕ, zero, suc, ◌+◌, ◌≡◌, ◌<◌, ◌≤◌, ◌==◌, ◌⊎◌, inl, inr, Bool, true, false, List, [], ◌∷◌, ◌++◌, length, map, Option, None, Some, slice_get, refl, sym, subst, ap, arith, ◌∙◌, append_assoc}
+use Rattle.std.proofs.lemmas.List.{append-nil, length-append}
 use Rattle.dft_base.specs.declared.dir.Dir.{Dir}
 use Rattle.dft_base.specs.declared.dir.Dir.TheVariants as dir
 use Rattle.dft_cells.specs.declared.kind.Kind.{Kind}
@@ -14,20 +14,19 @@ use Rattle.dft_netlist.specs.declared.instance.Instance.{Instance}
 use Rattle.dft_netlist.specs.declared.instance.CellRef.TheVariants.{Library}
 use Rattle.dft_netlist.specs.declared.instance.Signal.{Signal}
 use Rattle.dft_netlist.specs.declared.instance.Signal.TheVariants.{Net, Constant, Unconnected}
-use Rattle.dft_netlist.specs.Drivers.{Source, Driver, Input, Flop, Driven, at_signal, Shape, connections_from, connections_of, inputs_of, driven_by_pins, driven_by, driven_by_instances, driven_by_bits, driven_by_ports, driven_by_joins, all_driven, shape_of}
+use Rattle.dft_netlist.specs.Drivers.{Source, Input, Flop, Driven, at_signal, Shape, connections_from, connections_of, inputs_of, driven_by_pins, driven_by, driven_by_instances, driven_by_bits, driven_by_ports, driven_by_joins, all_driven, shape_of}
 use Rattle.dft_netlist.specs.Netlist.{Netlist}
 use Rattle.dft_netlist.specs.NetDrivers.{IsSingle, times_driven}
-use Rattle.dft_netlist.specs.NetNumbers.{nets_from}
 use Rattle.dft_netlist.specs.Sound.{bits_of}
 use Rattle.dft_config.specs.declared.config.Config.{Config}
 use Rattle.dft_rules.specs.Refusals.{is_scanned}
 use Rattle.dft_rules.specs.Rules.{judged, scan_cell_in}
 use Rattle.dft_insert.specs.AddedPorts.{NewPort, new_port, numbered_ports, ports_from}
-use Rattle.dft_insert.specs.Moves.{Gap, moved, moved_signal, moved_instance, moved_join}
+use Rattle.dft_insert.specs.Moves.{Gap, moved, moved_signal}
 use Rattle.dft_insert.specs.Statements.{IsReady}
 use Rattle.dft_insert.specs.Written.{map_from, at_net}
 use Rattle.dft_insert.proofs.AddedOnce.{ports_rise, outputs_none, ports_below}
-use Rattle.dft_insert.proofs.Kept.{ports_fit, numbered_count}
+use Rattle.dft_insert.proofs.Kept.{numbered_count}
 use Rattle.dft_insert.proofs.LiveDriven.{DriveBelow, drives_below}
 use Rattle.dft_insert.proofs.Mergings.{moved_driven, Merges, Nothing, append_merges, all_kept, all_added, NoneAt, times, old_times, moved_instance_drives, moved_joins_drive, ports_append}
 use Rattle.dft_insert.proofs.ScanPairs.{ScanPair, Plain as PlainPair, PlainBoth, Resets, ResetsBoth, Sets, SetsBoth, three, four, five}
@@ -38,8 +37,8 @@ use Rattle.dft_scan_hardware.specs.declared.style.Style.{Style}
 use Rattle.dft_scan_hardware.specs.declared.style.Style.TheVariants.{Plain, Edt}
 use Rattle.dft_scan_hardware.specs.Frame.{framed_pins, as_scan_cell, framed_instance, framed_at, frame}
 use Rattle.dft_scan_hardware.specs.Ports.{added_ports, gap_in}
-use Rattle.dft_scan_hardware.proofs.Frames.{scan_pair, frame_nets}
-use Rattle.dft_scan_laws.proofs.FrameRanks.{outs_start, IsLaid, laid}
+use Rattle.dft_scan_hardware.proofs.Frames.{scan_pair}
+use Rattle.dft_scan_laws.proofs.FrameRanks.{outs_start, laid}
 
 -- ---- a scan cell drives what its flip-flop drove
 

@@ -1,33 +1,30 @@
 -- What is made in a frame is good: it drives made nets and the added outputs, each once.
-use Rattle.std.proofs.Common.{ℕ, zero, suc, ◌+◌, ◌-◌, ◌≡◌, ◌<◌, ◌≤◌, ◌==◌, ◌⊎◌, inl, inr, Bool, true, false, List, [], ◌∷◌, ◌++◌, length, map, count_by, cond, refl, sym, subst, ap, arith, ◌∙◌}
-use Rattle.std.specs.List.{AllByRecursion, range_with_len}
+use Rattle.std.proofs.Common.{ℕ, zero, suc, ◌+◌, ◌≡◌, ◌<◌, ◌≤◌, ◌==◌, ◌⊎◌, inl, inr, Bool, true, false, List, [], ◌∷◌, length, cond, refl, sym, subst, arith}
+use Rattle.std.specs.List.{range_with_len}
 use Rattle.std.proofs.lemmas.List.Sums.{sum_by-cons}
 use Rattle.std.proofs.lemmas.Bool.{eqb-true}
-use Rattle.dft_netlist.specs.declared.ids.NetId.{NetId}
 use Rattle.dft_netlist.specs.NetNumbers.{nets_from}
 use Rattle.dft_netlist.specs.Netlist.{Netlist}
 use Rattle.dft_config.specs.declared.config.Config.{Config}
 use Rattle.dft_parts.specs.declared.edt_ports.EdtPorts.{EdtPorts}
-use Rattle.dft_parts.specs.Parts.{Part, Making, with_parts}
-use Rattle.dft_parts.specs.Recipes.{Start, nets_in, net_at, start_of}
+use Rattle.dft_parts.specs.Recipes.{nets_in, net_at, start_of}
 use Rattle.dft_parts.specs.Single.{times_in}
 use Rattle.dft_stitch.specs.Chains.{cells_of, plan_of}
 use Rattle.dft_stitch.proofs.BlockLemmas.{chain_count}
-use Rattle.dft_insert.specs.Moves.{Gap}
 use Rattle.dft_insert.specs.Statements.{IsReady}
 use Rattle.dft_scan_hardware.specs.declared.style.Style.{Style}
 use Rattle.dft_scan_hardware.specs.declared.style.Style.TheVariants.{Plain, Edt}
 use Rattle.dft_scan_hardware.specs.Frame.{frame}
-use Rattle.dft_scan_hardware.specs.Ports.{added_ports, gap_in, plain_out, edt_nets}
-use Rattle.dft_scan_hardware.specs.Scanned.{framed, parts_of}
+use Rattle.dft_scan_hardware.specs.Ports.{gap_in, plain_out, edt_nets}
+use Rattle.dft_scan_hardware.specs.Scanned.{framed}
 use Rattle.dft_scan_hardware.specs.Statements.{made_in}
 use Rattle.dft_scan_hardware.proofs.Frames.{frame_nets, plain_count, edt_count}
 use Rattle.dft_scan_laws.proofs.Claims.{counted_by, claims}
 use Rattle.dft_scan_laws.proofs.Goods.{IsBelow, AreBelow, none, one, IsGood}
 use Rattle.dft_scan_laws.proofs.GoodSums.{all_of}
 use Rattle.dft_scan_laws.proofs.GoodCompactor.{outputs_of}
-use Rattle.dft_scan_laws.proofs.GoodRecipes.{ends_of, PortsBelow, plain_good, edt_good}
-use Rattle.dft_scan_laws.proofs.FrameRanks.{outs_start, rank_in, IsLaid, laid, rank_made, rank_out, rank_front, low_below, chain_setting, planned_cells}
+use Rattle.dft_scan_laws.proofs.GoodRecipes.{ends_of, plain_good, edt_good}
+use Rattle.dft_scan_laws.proofs.FrameRanks.{outs_start, rank_in, laid, rank_made, rank_out, rank_front, low_below, chain_setting, planned_cells}
 
 -- ---- nets that rise by one are counted once
 
@@ -155,10 +152,10 @@ module _ (n : Netlist) (config : Config) (r : ℕ → ℕ) (ready : IsReady n co
       (chain_setting Edt n config r (top_of Edt) (laid Edt n config ready) bound ready) (omega (arith, frame_nets Edt n config)) refl (planned_cells Edt n config ready)
       (record { clock = low Edt (first + 1) (omega arith); update = low Edt (first + 2) (omega arith); channels = nets_low Edt (first + 3) config.ring.channels (omega arith) })
       (λ j less. (
-        let start = outs_start Edt n config in
-        let e = from_at start (length config.compactor.groups) j less in
-        subst (λ (k : ℕ). rank_of Edt (limit_of Edt) < rank_of Edt k) (sym e) (above Edt (start + j) (omega arith) (omega (arith, less, edt_count config)))
-        )) (omega arith)
+      let start = outs_start Edt n config in
+      let e = from_at start (length config.compactor.groups) j less in
+      subst (λ (k : ℕ). rank_of Edt (limit_of Edt) < rank_of Edt k) (sym e) (above Edt (start + j) (omega arith) (omega (arith, less, edt_count config)))
+      )) (omega arith)
 
 -- ---- what it claims
 
