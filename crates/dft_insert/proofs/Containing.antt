@@ -56,7 +56,7 @@ use Rattle.dft_insert.proofs.Contained.{RootsKept, SamePins, AreMatched, modelle
 
 -- ---- a flip-flop before scan has no scan pin
 
-abbrev NoRole : Role → List Role → Type 0
+abbrev pub NoRole : Role → List Role → Type 0
 NoRole r [] = Unit {0}
 NoRole r (x ∷ roles) = (same_role r x ≡ false) × NoRole r roles
 
@@ -64,7 +64,7 @@ none_by : (i : ℕ) (r : Role) (c : Connection) (rest : Option Source) (b : Bool
 none_by i r c rest false e h = h
 none_by i r c rest true e h = absurd cc
 
-no_pin : (r : Role) (i pin : ℕ) (roles : List Role) (signals : List Signal) → NoRole r roles → pin_of r i (connections_from pin roles signals) ≡ None
+pub no_pin : (r : Role) (i pin : ℕ) (roles : List Role) (signals : List Signal) → NoRole r roles → pin_of r i (connections_from pin roles signals) ≡ None
 no_pin r i pin [] signals h = refl
 no_pin r i pin (x ∷ roles) [] h = refl
 no_pin r i pin (x ∷ roles) (s ∷ signals) h =
@@ -109,23 +109,23 @@ cell_no_role : (library : List library_cells.Cell) (number : ℕ) (o : Option li
 cell_no_role library number None whole at a b = absurd cc
 cell_no_role library number (Some cell) whole at a b = flop_no_role cell.kind (map role_of cell.pins) a b (whole.each number cell at).roles
 
-ref_no_role : (library : List library_cells.Cell) (ref : CellRef) → IsWellFormed library → is_plain (shape_of library ref).kind ≡ true → is_flip_flop (shape_of library ref).kind ≡ true → NoRole role.ScanEnable (shape_of library ref).roles
+pub ref_no_role : (library : List library_cells.Cell) (ref : CellRef) → IsWellFormed library → is_plain (shape_of library ref).kind ≡ true → is_flip_flop (shape_of library ref).kind ≡ true → NoRole role.ScanEnable (shape_of library ref).roles
 ref_no_role library (cell_ref.Library cell) whole a b = cell_no_role library cell.0 (slice_get library cell.0) whole refl a b
 ref_no_role library (cell_ref.Gate k inputs) whole a b = gate_no_role inputs
 
 -- ---- an instance and how it is written
 
 -- the modelled flip-flop that an instance is, if it is one
-abbrev flop_in : Netlist → Ports → (i : ℕ) → Option Instance → Option Cell
+abbrev pub flop_in : Netlist → Ports → (i : ℕ) → Option Instance → Option Cell
 flop_in n ports i o = if is_flip_flop (kind_of n.library o) then modelled_of n ports i (pins_at n.library o) else None
 
-match_if : (p : Places) (b c : Bool) (old new : Option Cell) → c ≡ b → (b ≡ true → AreMatched p old new) → AreMatched p (if b then old else None) (if c then new else None)
+pub match_if : (p : Places) (b c : Bool) (old new : Option Cell) → c ≡ b → (b ≡ true → AreMatched p old new) → AreMatched p (if b then old else None) (if c then new else None)
 match_if p true true old new e h = h refl
 match_if p false false old new e h = tt
 match_if p true false old new e h = absurd cc
 match_if p false true old new e h = absurd cc
 
-scan_kinds : (a : Kind) (r : List Role) (b : Kind) (s : List Role) → ScanPair a r b s → is_flip_flop b ≡ is_flip_flop a
+pub scan_kinds : (a : Kind) (r : List Role) (b : Kind) (s : List Role) → ScanPair a r b s → is_flip_flop b ≡ is_flip_flop a
 scan_kinds _ _ _ _ pairs.Plain = refl
 scan_kinds _ _ _ _ pairs.PlainBoth = refl
 scan_kinds _ _ _ _ pairs.Resets = refl
@@ -133,7 +133,7 @@ scan_kinds _ _ _ _ pairs.ResetsBoth = refl
 scan_kinds _ _ _ _ pairs.Sets = refl
 scan_kinds _ _ _ _ pairs.SetsBoth = refl
 
-moved_matched : (n w : Netlist) (ports : Ports) (p : Places) (gap : Gap) (i : ℕ) (x : Instance) → w.library ≡ n.library → p.moved ≡ moved gap → RootsKept n w p.moved p.size → IsWellFormed n.library → AreLive p.size x.pins → is_plain (shape_of n.library x.cell).kind ≡ true →
+pub moved_matched : (n w : Netlist) (ports : Ports) (p : Places) (gap : Gap) (i : ℕ) (x : Instance) → w.library ≡ n.library → p.moved ≡ moved gap → RootsKept n w p.moved p.size → IsWellFormed n.library → AreLive p.size x.pins → is_plain (shape_of n.library x.cell).kind ≡ true →
     AreMatched p (flop_in n ports i (Some x)) (flop_in w ports i (Some (moved_instance gap x)))
 moved_matched n w ports p gap i x same_library same_moved kept whole live plain =
     let old : List Connection = connections_of n.library x in
@@ -213,13 +213,13 @@ instance_matched n config i x ready at =
 
 -- ---- nets
 
-flop_matched : (p : Places) (i : ℕ) (inverted : Bool) (old new : Option Cell) → AreMatched p old new → flop_meaning i inverted new ≡ moved_meaning p.moved (flop_meaning i inverted old)
+pub flop_matched : (p : Places) (i : ℕ) (inverted : Bool) (old new : Option Cell) → AreMatched p old new → flop_meaning i inverted new ≡ moved_meaning p.moved (flop_meaning i inverted old)
 flop_matched p i inverted None None h = refl
 flop_matched p i inverted (Some a) (Some b) h = refl
 flop_matched p i inverted None (Some b) h = absurd h
 flop_matched p i inverted (Some a) None h = absurd h
 
-clock_choice : (f : ℕ → ℕ) (b : Bool) → ◌≡◌ {A = Meaning} (if b then logic.Clock else logic.Input) (moved_meaning f (if b then logic.Clock else logic.Input))
+pub clock_choice : (f : ℕ → ℕ) (b : Bool) → ◌≡◌ {A = Meaning} (if b then logic.Clock else logic.Input) (moved_meaning f (if b then logic.Clock else logic.Input))
 clock_choice f true = refl
 clock_choice f false = refl
 
@@ -242,11 +242,11 @@ meaning_kept n config net ready less =
     ∙ meaning_by n config net (driver n net) ready (driver_fine n config net ready)
 
 -- the flip-flop of an instance past the end is none
-flop_past : (n : Netlist) (config : Config) (i : ℕ) (o : Option Instance) → slice_get n.instances i ≡ o → IsReady n config → is_some (flop_in n (config_ports n config) i o) ≡ true → (x : Instance) × (slice_get n.instances i ≡ Some x)
+pub flop_past : (n : Netlist) (config : Config) (i : ℕ) (o : Option Instance) → slice_get n.instances i ≡ o → IsReady n config → is_some (flop_in n (config_ports n config) i o) ≡ true → (x : Instance) × (slice_get n.instances i ≡ Some x)
 flop_past n config i None at ready is = absurd cc
 flop_past n config i (Some x) at ready is = (x, at)
 
-kept_by : (p : Places) (i : ℕ) (old new : Option Cell) → is_some old ≡ true → AreMatched p old new → KeepsFlop p (cell_or_none i old) (cell_or_none i new)
+pub kept_by : (p : Places) (i : ℕ) (old new : Option Cell) → is_some old ≡ true → AreMatched p old new → KeepsFlop p (cell_or_none i old) (cell_or_none i new)
 kept_by p i None new is h = absurd cc
 kept_by p i (Some a) None is h = absurd h
 kept_by p i (Some a) (Some b) is h = h
@@ -266,7 +266,7 @@ clock_reads : (size : ℕ) (b : Bool) → AreBelow (λ k. k) size (reads (if b t
 clock_reads size true = tt
 clock_reads size false = tt
 
-reads_by : (n : Netlist) (ports : Ports) (net size : ℕ) (d : drivers.Driver) → FineBy n net d → AreBelow (λ k. k) size (drivers.nets_read n d) → AreBelow (λ k. k) size (reads (meaning_of n ports net d))
+pub reads_by : (n : Netlist) (ports : Ports) (net size : ℕ) (d : drivers.Driver) → FineBy n net d → AreBelow (λ k. k) size (drivers.nets_read n d) → AreBelow (λ k. k) size (reads (meaning_of n ports net d))
 reads_by n ports net size drivers.Input fine h = clock_reads size (ports.is_clock net)
 reads_by n ports net size (drivers.Gate k inputs) fine h = h
 reads_by n ports net size (drivers.Joined source) fine h = h
@@ -282,7 +282,7 @@ clock_no_flop : (b : Bool) (cell : ℕ) (inverted : Bool) → (if b then logic.C
 clock_no_flop true cell inverted e = cc
 clock_no_flop false cell inverted e = cc
 
-shows_by : (n : Netlist) (ports : Ports) (net cell : ℕ) (inverted : Bool) (d : drivers.Driver) → FineBy n net d → meaning_of n ports net d ≡ logic.Flop cell inverted → is_some (flip_flop n ports cell) ≡ true
+pub shows_by : (n : Netlist) (ports : Ports) (net cell : ℕ) (inverted : Bool) (d : drivers.Driver) → FineBy n net d → meaning_of n ports net d ≡ logic.Flop cell inverted → is_some (flip_flop n ports cell) ≡ true
 shows_by n ports net cell inverted drivers.Input fine e = absurd (clock_no_flop (ports.is_clock net) cell inverted e)
 shows_by n ports net cell inverted (drivers.Gate k inputs) fine e = absurd cc
 shows_by n ports net cell inverted (drivers.Joined source) fine e = absurd cc
@@ -300,7 +300,7 @@ flop_no_lockup : (i : ℕ) (inverted : Bool) (o : Option Cell) (cell domain : �
 flop_no_lockup i inverted None cell domain source e = cc
 flop_no_lockup i inverted (Some c) cell domain source e = cc
 
-lockup_by : (n : Netlist) (ports : Ports) (net cell domain : ℕ) (source : Source) (d : drivers.Driver) → FineBy n net d → meaning_of n ports net d ≡ logic.Lockup cell domain source → ⊥
+pub lockup_by : (n : Netlist) (ports : Ports) (net cell domain : ℕ) (source : Source) (d : drivers.Driver) → FineBy n net d → meaning_of n ports net d ≡ logic.Lockup cell domain source → ⊥
 lockup_by n ports net cell domain source drivers.Input fine e = clock_no_lockup (ports.is_clock net) cell domain source e
 lockup_by n ports net cell domain source (drivers.Gate k inputs) fine e = cc
 lockup_by n ports net cell domain source (drivers.Joined from) fine e = cc
@@ -348,7 +348,7 @@ none_any false false e f = refl
 none_any true b e f = absurd cc
 none_any false true e f = absurd cc
 
-no_clock : (n : Netlist) (config : Config) (names : List Text) → IsReady n config → list_any (λ name. is_net (length (bits_of n.ports)) (input_net n name)) names ≡ false
+pub no_clock : (n : Netlist) (config : Config) (names : List Text) → IsReady n config → list_any (λ name. is_net (length (bits_of n.ports)) (input_net n name)) names ≡ false
 no_clock n config [] ready = refl
 no_clock n config (name ∷ names) ready = none_any (is_net (length (bits_of n.ports)) (input_net n name)) (list_any (λ other. is_net (length (bits_of n.ports)) (input_net n other)) names) (not_found n config (find_net n name) ready) (no_clock n config names ready)
 

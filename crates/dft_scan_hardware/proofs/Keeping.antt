@@ -150,11 +150,11 @@ moved_signals gap r (x ∷ roles) (s ∷ pins) k =
 
 -- ---- which role a pin has
 
-at_by : (r : Role) (k p : ℕ) (x : Role) (b : Bool) (o : Option ℕ) (rest : Role → Type 0) → same_role r x ≡ b → (if b then Some k else o) ≡ Some p → ((k ≡ p) × (same_role r x ≡ true)) ⊎ (o ≡ Some p)
+pub at_by : (r : Role) (k p : ℕ) (x : Role) (b : Bool) (o : Option ℕ) (rest : Role → Type 0) → same_role r x ≡ b → (if b then Some k else o) ≡ Some p → ((k ≡ p) × (same_role r x ≡ true)) ⊎ (o ≡ Some p)
 at_by r k p x true o rest is e = inl (same_Some k p e, is)
 at_by r k p x false o rest is e = inr e
 
-past : (r : Role) (k p : ℕ) (roles : List Role) → number_of (same_role r) k roles ≡ Some p → k ≤ p
+pub past : (r : Role) (k p : ℕ) (roles : List Role) → number_of (same_role r) k roles ≡ Some p → k ≤ p
 past r k p [] e = absurd (none-some p e)
 past r k p (x ∷ roles) e = elim (at_by r k p x (same_role r x) (number_of (same_role r) (suc k) roles) (λ z. Unit {0}) refl e) [
   | inl it ↦ omega (arith, it.0)
@@ -286,7 +286,7 @@ scan_cell_kept n config gap i x id parts names at ready each =
 
 -- ---- instances of the frame
 
-from_get : {A B : Type 0} (f : ℕ → A → B) (k : ℕ) (xs : List A) (i : ℕ) (x : A) → slice_get xs i ≡ Some x → slice_get (map_from f k xs) i ≡ Some (f (k + i) x)
+pub from_get : {A B : Type 0} (f : ℕ → A → B) (k : ℕ) (xs : List A) (i : ℕ) (x : A) → slice_get xs i ≡ Some x → slice_get (map_from f k xs) i ≡ Some (f (k + i) x)
 from_get f k [] i x h = absurd (none-some x h)
 from_get f k (y ∷ xs) zero x h = let e : k ≡ k + 0 = omega arith in ap (λ z. Some (f k z)) (same_Some y x h) ∙ ap (λ j. Some (f j x)) e
 from_get f k (y ∷ xs) (suc i) x h = let e : suc k + i ≡ k + suc i = omega arith in from_get f (suc k) xs i x h ∙ ap (λ j. Some (f j x)) e
@@ -334,10 +334,10 @@ scans_by n config i true e = scanned_passes (judged_by (domain_of n config i) (a
     scanned_passes (Some (Unscanned rule)) is f = absurd cc
     scanned_passes (Some (Scanned its)) is f = (passes (domain_of n config i) (are_held_at n config i) (is_some (scan_cell_of n i)) (is_kept n config.keep i) its is).is_scan
 
-scans_of : (n : Netlist) (config : Config) (i : ℕ) → is_scanned (judged n config i) ≡ true → is_some (scan_cell_of n i) ≡ true
+pub scans_of : (n : Netlist) (config : Config) (i : ℕ) → is_scanned (judged n config i) ≡ true → is_some (scan_cell_of n i) ≡ true
 scans_of n config i on = scans_by n config i (may_be_scanned (kind_at n i)) on
 
-scanned_names : (n : Netlist) (config : Config) (i : ℕ) (x : Instance) → slice_get n.instances i ≡ Some x → is_scanned (judged n config i) ≡ true → is_some (scan_cell_in n.library x.cell) ≡ true
+pub scanned_names : (n : Netlist) (config : Config) (i : ℕ) (x : Instance) → slice_get n.instances i ≡ Some x → is_scanned (judged n config i) ≡ true → is_some (scan_cell_in n.library x.cell) ≡ true
 scanned_names n config i x at on = sym (ap (λ (o : Option Instance). is_some (option_and_then (λ (y : Instance). scan_cell_in n.library y.cell) o)) at) ∙ scans_of n config i on
 
 -- the names of the frame's instances are the design's

@@ -1,4 +1,4 @@
-//! Laws of scanned netlists of both styles: they can be finished, they keep the design, and they have the hardware of their style.
+//! Laws of scanned netlists of both styles: no net has two drivers, and every net can be ordered.
 #![tactic(auto)]
 
 mod laws;

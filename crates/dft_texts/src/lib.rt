@@ -17,3 +17,5 @@ mod netlist_written;
 mod pattern_lines;
 #[cfg(test)]
 mod patterns;
+#[cfg(test)]
+mod placements;

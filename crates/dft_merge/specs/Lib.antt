@@ -1,0 +1,10 @@
+pub mod Rows
+pub mod Placement
+pub mod Fills
+pub mod Merging
+pub mod Systems
+pub mod Tables
+pub mod Slots
+pub mod Shown
+pub mod Laws
+pub use Rattle.dft_base.specs.Solutions

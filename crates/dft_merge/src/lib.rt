@@ -1,0 +1,19 @@
+//! Test cubes put together into patterns, and the channel bits that load each pattern.
+#![tactic(auto)]
+
+mod adding;
+mod fills;
+mod joining;
+mod laws;
+mod loading;
+mod merger;
+mod opening;
+mod placed;
+mod slot;
+mod tables;
+
+pub use dft_cubes::Merged;
+pub use fills::fill_bits;
+pub use laws::{placement_is_one, plans_stand_apart, unsolvable_is_exact};
+pub use merger::Merger;
+pub use placed::Placed;
