@@ -1,8 +1,8 @@
 -- What parts drive at most, and that they are ranked, told by the netlist that they are added to.
-use Rattle.std.proofs.Common.{ℕ, zero, suc, ◌+◌, ◌≡◌, ◌<◌, ◌≤◌, ◌⊎◌, inl, inr, Bool, true, false, List, [], ◌∷◌, ◌++◌, length, Option, None, Some, slice_get, count_by, cond, refl, sym, subst, ap, arith, ◌∙◌, ◌==◌}
+use Rattle.std.proofs.Common.{ℕ, zero, suc, ◌+◌, ◌≡◌, ◌≤◌, inl, inr, Bool, true, List, [], ◌∷◌, ◌++◌, length, Option, None, Some, slice_get, cond, refl, sym, subst, ap, arith, ◌∙◌, ◌==◌}
 use Rattle.std.specs.Prelude.{IsTrue}
 use Rattle.std.proofs.lemmas.List.Sums.{sum_by-cons}
-use Rattle.std.proofs.lemmas.Bool.{eqb-true, eq-eqb}
+use Rattle.std.proofs.lemmas.Bool.{eq-eqb}
 use Rattle.dft_cells.specs.declared.kind.Role.{Role}
 use Rattle.dft_cells.specs.declared.cell.Cell.{Cell}
 use Rattle.dft_cells.specs.FlipFlops.{is_flip_flop}
@@ -16,7 +16,7 @@ use Rattle.dft_netlist.specs.Netlist.{Netlist}
 use Rattle.dft_netlist.specs.NetDrivers.{roles_at, roles_in}
 use Rattle.dft_netlist.specs.Orders.{AreOnce, Has}
 use Rattle.dft_parts.specs.Growth.{Stands}
-use Rattle.dft_parts.specs.Parts.{Part, ANet, AnInstance, APin, Making, next_instance, pin_joined, with_part, with_parts}
+use Rattle.dft_parts.specs.Parts.{Part, ANet, AnInstance, APin, Making, next_instance, pin_joined, with_part}
 use Rattle.dft_parts.specs.Ranks.{IsRanked, IsPinRanked, IsPartRanked, ArePartsRanked}
 use Rattle.dft_parts.specs.Single.{net_driven, nets_driven, opened, opened_in, opened_at, driven_by_part, driven_by_parts, times_in}
 use Rattle.dft_parts.proofs.Growing.{parts_grow}
@@ -29,7 +29,7 @@ times_in-append [] ys net = (let e : times_in ys net ≡ 0 + times_in ys net = o
 times_in-append (x ∷ xs) ys net =
     omega (arith, sum_by-cons (λ (k : ℕ). cond (k == net) 1 0) x (xs ++ ys), sum_by-cons (λ (k : ℕ). cond (k == net) 1 0) x xs, times_in-append xs ys net)
 
-counted_by : (x net : ℕ) (xs : List ℕ) (b : Bool) → (x == net) ≡ b → times_in (x ∷ xs) net ≡ cond b 1 0 + times_in xs net
+pub counted_by : (x net : ℕ) (xs : List ℕ) (b : Bool) → (x == net) ≡ b → times_in (x ∷ xs) net ≡ cond b 1 0 + times_in xs net
 counted_by x net xs b h = sum_by-cons (λ (k : ℕ). cond (k == net) 1 0) x xs ∙ ap (λ (t : Bool). cond t 1 0 + times_in xs net) h
 
 -- a net stands at most as often in a list as in a longer one

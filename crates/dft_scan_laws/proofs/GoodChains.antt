@@ -1,11 +1,9 @@
 -- The parts of chains are good.
-use Rattle.std.proofs.Common.{ℕ, zero, suc, ◌+◌, ◌-◌, ◌≡◌, ◌<◌, ◌≤◌, ◌==◌, Bool, true, false, List, [], ◌∷◌, ◌++◌, length, map, Option, None, Some, slice_get, refl, sym, subst, ap, arith, ◌∙◌}
-use Rattle.std.specs.Prelude.{if◌then◌else◌, slice_index_or}
+use Rattle.std.proofs.Common.{ℕ, zero, suc, ◌+◌, ◌≡◌, ◌≤◌, ◌==◌, Bool, true, false, List, [], ◌∷◌, ◌++◌, length, Option, None, Some, slice_get, refl, ap, arith, ◌∙◌}
+use Rattle.std.specs.Prelude.{if◌then◌else◌}
 use Rattle.std.specs.List.{AllByRecursion, range_with_len}
-use Rattle.std.proofs.lemmas.Option.{none-some, same_Some}
 use Rattle.dft_cells.specs.declared.kind.Role.{Role}
 use Rattle.dft_cells.specs.declared.kind.Role.TheVariants.{Input, Clock, Din, Reset, Preset, ScanIn, ScanEnable, Output, Inverted}
-use Rattle.dft_cells.specs.declared.cell.Cell.{Cell}
 use Rattle.dft_netlist.specs.declared.ids.NetId.{NetId}
 use Rattle.dft_netlist.specs.declared.ids.InstanceId.{InstanceId}
 use Rattle.dft_netlist.specs.Logic.{same_role}
@@ -14,14 +12,14 @@ use Rattle.dft_netlist.specs.NetDrivers.{roles_at}
 use Rattle.dft_config.specs.declared.config.Config.{Config}
 use Rattle.dft_stitch.specs.declared.places.LockupPlace.{LockupPlace}
 use Rattle.dft_parts.specs.Parts.{Part}
-use Rattle.dft_parts.specs.Recipes.{Start, Recipe, pure, nets_in, behind, each, collect, net_at, a_net, a_lockup}
+use Rattle.dft_parts.specs.Recipes.{Start, Recipe, pure, nets_in, behind, each, net_at, a_net, a_lockup}
 use Rattle.dft_insert.specs.Moves.{Gap, moved}
 use Rattle.dft_insert.specs.Pieces.{domain_in}
 use Rattle.dft_insert.specs.Stitching.{number_of, own_output}
 use Rattle.dft_scan_hardware.specs.Chained.{scan_roles, a_numbered_pin, a_role_pin, a_scan_in, an_open_output, own_or_made, an_output, a_row, rows, a_crossing, crossing_in, a_step, a_chain, a_late_chain}
 use Rattle.dft_scan_laws.proofs.Claims.{claimed, IsFlopIn}
 use Rattle.dft_scan_laws.proofs.Goods.{nets_in-append, Setting, IsBelow, AreBelow, made_below, none_below, below_more, below_at, none, one, IsGood, good_nil, good_both, good_as, good_net, good_lockup, good_pin, good_input, good_after, good_end}
-use Rattle.dft_scan_laws.proofs.GoodSums.{front_less, back_less, Collected, collect_good}
+use Rattle.dft_scan_laws.proofs.GoodSums.{Collected, collect_good}
 use Rattle.dft_scan_laws.proofs.GoodRing.{any}
 
 -- ---- where chains are made
@@ -115,7 +113,7 @@ open_gives n w rank base at cell s from is =
     let pin = (a_role_pin n cell Output net a).parts in
     let whole = first ++ (pin ++ []) in (
       good_as w rank at whole (λ k. one at.next k + none k) none (λ k. none k + one at.next k) none (λ k. omega arith)
-      (good_both w rank at first (pin ++ []) (one at.next) none none (one at.next) (good_net w rank at) (good_end w rank a pin none (one at.next) (open_pin w rank a cell net (number_of (same_role Output) 0 (scan_roles n cell)) is.flop))),
+          (good_both w rank at first (pin ++ []) (one at.next) none none (one at.next) (good_net w rank at) (good_end w rank a pin none (one at.next) (open_pin w rank a cell net (number_of (same_role Output) 0 (scan_roles n cell)) is.flop))),
       made_below w.library rank base at.next (at.next + nets_in whole) s from (omega (arith, nets_in-append first (pin ++ []))),
     )
 

@@ -1,20 +1,19 @@
 -- The parts of masks, hold bits and compactor are good.
-use Rattle.std.proofs.Common.{ℕ, zero, suc, ◌+◌, ◌≡◌, ◌<◌, ◌≤◌, List, [], ◌∷◌, ◌++◌, length, map, refl, sym, subst, ap, arith, ◌∙◌}
+use Rattle.std.proofs.Common.{ℕ, zero, suc, ◌+◌, ◌≡◌, ◌<◌, ◌≤◌, List, [], ◌∷◌, ◌++◌, length, map, subst, arith}
 use Rattle.std.specs.List.{AllByRecursion, range_with_len}
 use Rattle.dft_cells.specs.declared.kind.Kind.TheVariants.{And, Buf, Inv, Or}
-use Rattle.dft_cells.specs.declared.cell.Cell.{Cell}
 use Rattle.dft_netlist.specs.declared.ids.NetId.{NetId}
 use Rattle.dft_netlist.specs.Netlist.{Netlist}
 use Rattle.dft_config.specs.declared.config.Config.{Config}
 use Rattle.dft_parts.specs.declared.edt_ports.EdtPorts.{EdtPorts}
 use Rattle.dft_parts.specs.Parts.{Part}
-use Rattle.dft_parts.specs.Recipes.{Start, Recipe, nets_in, behind, each, collect, net_at, a_net, a_gate, a_flop}
+use Rattle.dft_parts.specs.Recipes.{Start, nets_in, behind, each, collect, net_at, a_net, a_gate, a_flop}
 use Rattle.dft_parts.specs.Sums.{a_driving_gate, a_sum}
 use Rattle.dft_edt.specs.Hardware.{segment_length, group_of}
 use Rattle.dft_compact.specs.declared.mask_nets.MaskNets.{MaskNets}
 use Rattle.dft_compact.specs.CompactorRecipe.{a_next, a_mask, a_segment, segments, masks_at, a_gated, an_output, a_compactor}
-use Rattle.dft_scan_laws.proofs.Goods.{nets_in-append, Setting, IsBelow, AreBelow, made_below, none_below, below_more, below_at, ranks_less, none, one, IsGood, good_nil, good_both, good_as, good_net, good_gate, good_flop, good_after, good_end}
-use Rattle.dft_scan_laws.proofs.GoodSums.{front_less, back_less, Gives, gives_last, gate_gives, sum_gives, all_of, each_good, Collected, all_more, collect_good}
+use Rattle.dft_scan_laws.proofs.Goods.{nets_in-append, Setting, IsBelow, AreBelow, made_below, none_below, below_more, below_at, none, one, IsGood, good_nil, good_both, good_as, good_net, good_gate, good_flop, good_after, good_end}
+use Rattle.dft_scan_laws.proofs.GoodSums.{front_less, Gives, gives_last, gate_gives, sum_gives, all_of, each_good, Collected, all_more, collect_good}
 use Rattle.dft_scan_laws.proofs.GoodRing.{any, places_below}
 
 -- ---- the next hold bit
@@ -178,12 +177,12 @@ compactor_good n rank base limit at config ports run ends s from same update run
     let first = segments_give n rank base at config ports run 0 config.compactor.mask_inputs s from same update running in
     let second = collect_good (λ chain. a_gated (masks_at masks.value chain).hold (net_at ends chain)) n rank (λ (_ : ℕ). Unit {0}) (IsBelow rank) a (range_with_len 0 config.chains) (λ x y v le h k past. h k (omega (arith, le, past))) (any (range_with_len 0 config.chains))
     (λ j d _ lib past. (
-      let zeroth = none_below n.library rank base d.next s (omega (arith, from, past)) in
-      let h = gated_gives n rank base d (masks_at masks.value j).hold (net_at ends j) s (omega (arith, from, past))
-      (masked_at rank d.next masks.value j zeroth (all_more (AreMasked rank) a.next d.next masks.value (masked_more rank) past first.all))
-      (below_at rank d.next ends j zeroth (below_more rank at.next d.next ends (omega (arith, past)) ended)) in
-      (h.good, h.below.0)
-      )) in
+    let zeroth = none_below n.library rank base d.next s (omega (arith, from, past)) in
+    let h = gated_gives n rank base d (masks_at masks.value j).hold (net_at ends j) s (omega (arith, from, past))
+    (masked_at rank d.next masks.value j zeroth (all_more (AreMasked rank) a.next d.next masks.value (masked_more rank) past first.all))
+    (below_at rank d.next ends j zeroth (below_more rank at.next d.next ends (omega (arith, past)) ended)) in
+    (h.good, h.below.0)
+    )) in
     good_after n rank at masks.parts (gated.parts ++ outputs) none (outputs_of config ports) first.good
     (good_after n rank a gated.parts outputs none (outputs_of config ports) second.good
     (each_good (an_output config ports gated.value) n rank limit (λ (j : ℕ). j < count) (λ j. one (net_at ports.outputs j).0) b (range_with_len 0 count) (numbers_below count)

@@ -1,5 +1,5 @@
 -- The parts of each style are good.
-use Rattle.std.proofs.Common.{ℕ, zero, suc, ◌+◌, ◌-◌, ◌≡◌, ◌<◌, ◌≤◌, List, [], ◌∷◌, ◌++◌, length, map, refl, sym, subst, ap, arith, ◌∙◌}
+use Rattle.std.proofs.Common.{ℕ, zero, suc, ◌+◌, ◌-◌, ◌≡◌, ◌<◌, ◌≤◌, List, [], ◌∷◌, ◌++◌, length, map, arith, ◌∙◌}
 use Rattle.std.specs.List.{AllByRecursion, range_with_len}
 use Rattle.dft_cells.specs.declared.kind.Kind.TheVariants.{Buf}
 use Rattle.dft_netlist.specs.declared.ids.NetId.{NetId}
@@ -8,8 +8,7 @@ use Rattle.dft_netlist.specs.Netlist.{Netlist}
 use Rattle.dft_config.specs.declared.config.Config.{Config}
 use Rattle.dft_stitch.specs.Plans.{Plan}
 use Rattle.dft_parts.specs.declared.edt_ports.EdtPorts.{EdtPorts}
-use Rattle.dft_parts.specs.Parts.{Part}
-use Rattle.dft_parts.specs.Recipes.{Start, nets_in, behind, each, net_at, a_gate}
+use Rattle.dft_parts.specs.Recipes.{Start, nets_in, behind, each, net_at}
 use Rattle.dft_ring.specs.RingRecipe.{a_ring}
 use Rattle.dft_compact.specs.CompactorRecipe.{a_compactor}
 use Rattle.dft_insert.specs.Moves.{Gap}
@@ -17,7 +16,7 @@ use Rattle.dft_scan_hardware.specs.Chained.{rows, cells_at, row_at, last_net}
 use Rattle.dft_scan_hardware.specs.Ports.{plain_in, plain_out}
 use Rattle.dft_scan_hardware.specs.Scanned.{a_plain_chain, a_plain_end, plain_recipe, an_edt_chain, behind_rows, edt_recipe}
 use Rattle.dft_scan_laws.proofs.Goods.{nets_in-append, IsBelow, AreBelow, none_below, below_more, below_at, none, one, IsGood, good_gate, good_after}
-use Rattle.dft_scan_laws.proofs.GoodSums.{front_less, back_less, all_of, each_good, all_more}
+use Rattle.dft_scan_laws.proofs.GoodSums.{all_of, each_good, all_more}
 use Rattle.dft_scan_laws.proofs.GoodRing.{any, ring_gives}
 use Rattle.dft_scan_laws.proofs.GoodCompactor.{numbers_below, outputs_of, compactor_good}
 use Rattle.dft_scan_laws.proofs.GoodChains.{IsScanCell, ChainSetting, each_none, rows_give, chain_good, late_chain_good}
@@ -70,11 +69,11 @@ plain_good n w config plan gap rank base limit at s from same are top fits =
     (each_good (a_plain_end config gap outputs.value) w rank limit (λ (chain : ℕ). chain < count) (λ chain. one (plain_out gap.before config.chains chain).0) b (range_with_len 0 count) (numbers_below count)
     (omega (arith, fits, nets_in-append outputs.parts (chains ++ ends), nets_in-append chains ends))
     (λ chain d less lib past room. (
-      let ended = last_below rank d.next (row_at outputs.value chain) (none_below w.library rank base d.next s.setting (omega (arith, from, past))) (row_below rank d.next outputs.value chain (rows_more rank a.next d.next outputs.value (omega (arith, past)) first.all)) in
-      let below = ended limit (omega (arith, room)) in
-      let above = top chain less in
-      good_gate w rank d Buf (last_net (row_at outputs.value chain) ∷ []) (plain_out gap.before config.chains chain) ((omega (arith, below, above)), tt)
-      ))))
+    let ended = last_below rank d.next (row_at outputs.value chain) (none_below w.library rank base d.next s.setting (omega (arith, from, past))) (row_below rank d.next outputs.value chain (rows_more rank a.next d.next outputs.value (omega (arith, past)) first.all)) in
+    let below = ended limit (omega (arith, room)) in
+    let above = top chain less in
+    good_gate w rank d Buf (last_net (row_at outputs.value chain) ∷ []) (plain_out gap.before config.chains chain) ((omega (arith, below, above)), tt)
+    ))))
 
 -- ---- style Edt
 

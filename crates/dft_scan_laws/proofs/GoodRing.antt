@@ -1,8 +1,7 @@
 -- The parts of the ring and the phase shifter are good.
-use Rattle.std.proofs.Common.{ℕ, zero, suc, ◌+◌, ◌≡◌, ◌<◌, ◌≤◌, List, [], ◌∷◌, ◌++◌, length, map, refl, sym, subst, ap, arith, ◌∙◌}
+use Rattle.std.proofs.Common.{ℕ, zero, suc, ◌+◌, ◌≡◌, ◌≤◌, List, [], ◌∷◌, ◌++◌, length, map, refl, sym, ap, arith, ◌∙◌}
 use Rattle.std.specs.List.{AllByRecursion, range_with_len}
 use Rattle.dft_cells.specs.declared.kind.Kind.TheVariants.{And, Inv}
-use Rattle.dft_cells.specs.declared.cell.Cell.{Cell}
 use Rattle.dft_netlist.specs.declared.ids.NetId.{NetId}
 use Rattle.dft_netlist.specs.Netlist.{Netlist}
 use Rattle.dft_netlist.specs.Orders.{numbers_of}
@@ -11,14 +10,14 @@ use Rattle.dft_config.specs.declared.config.RingConfig.{RingConfig}
 use Rattle.dft_config.specs.Ring.{phase_of}
 use Rattle.dft_parts.specs.declared.edt_ports.EdtPorts.{EdtPorts}
 use Rattle.dft_parts.specs.Parts.{Part}
-use Rattle.dft_parts.specs.Recipes.{Start, Recipe, nets_in, behind, each, collect, net_at, nets_made, a_net, a_flop}
+use Rattle.dft_parts.specs.Recipes.{Start, nets_in, behind, each, collect, net_at, nets_made, a_net, a_flop}
 use Rattle.dft_parts.specs.Single.{times_in}
 use Rattle.dft_parts.specs.Sums.{a_driving_gate, a_sum}
 use Rattle.dft_edt.specs.Feeds.{Feed, Stage, Channel, at_feed, feeds}
 use Rattle.dft_ring.specs.declared.ring.Ring.{Ring}
 use Rattle.dft_ring.specs.RingRecipe.{stage_terms, a_stage, a_phase, a_ring}
-use Rattle.dft_scan_laws.proofs.Goods.{nets_in-append, Setting, IsBelow, AreBelow, none_below, below_more, below_at, none, one, IsGood, good_nil, good_both, good_as, good_flop, good_after, good_end}
-use Rattle.dft_scan_laws.proofs.GoodSums.{front_less, back_less, Gives, gives_end, gate_gives, sum_gives, all_of, each_good, Collected, collect_good, Owes, nets_owe, places_count}
+use Rattle.dft_scan_laws.proofs.Goods.{nets_in-append, Setting, IsBelow, AreBelow, none_below, below_more, below_at, none, one, IsGood, good_nil, good_both, good_as, good_flop, good_after}
+use Rattle.dft_scan_laws.proofs.GoodSums.{front_less, gate_gives, sum_gives, all_of, each_good, collect_good, nets_owe, places_count}
 
 -- ---- nets by their places
 
@@ -95,10 +94,10 @@ ring_gives n rank base at config ports s from same channels update =
     λ k. ap (λ (m : ℕ). all_of (λ j. one (net_at made j).0) (range_with_len 0 m) k) lengths ∙ places_count (net_at made) 0 made k (λ j less. ap (net_at made) (let e : 0 + j ≡ j = omega arith in e)) in
     let all_phases = collect_good (a_phase config.ring made) n rank (λ (_ : ℕ). Unit {0}) (IsBelow rank) c (range_with_len 0 config.chains) (λ x y v le h k past. h k (omega (arith, le, past))) (any (range_with_len 0 config.chains))
     (λ j d _ lib past. (
-      let h = sum_gives n rank base d (map (net_at made) (phase_of config.ring j)) s (omega (arith, from, past))
-      (places_below rank d.next made (phase_of config.ring j) (none_below n.library rank base d.next s (omega (arith, from, past))) (below_more rank b.next d.next made (omega (arith, past)) owed.below)) in
-      (h.good, h.below.0)
-      )) in
+    let h = sum_gives n rank base d (map (net_at made) (phase_of config.ring j)) s (omega (arith, from, past))
+    (places_below rank d.next made (phase_of config.ring j) (none_below n.library rank base d.next s (omega (arith, from, past))) (below_more rank b.next d.next made (omega (arith, past)) owed.below)) in
+    (h.good, h.below.0)
+    )) in
     let last = phases.parts ++ [] in
     let whole = run.parts ++ (stages.parts ++ (body ++ last)) in
     let ends : c.next + nets_in phases.parts ≤ at.next + nets_in whole =

@@ -1,18 +1,16 @@
 -- Sums, and what is made for each of a list: their parts are good.
-use Rattle.std.proofs.Common.{ℕ, zero, suc, ◌+◌, ◌≡◌, ◌<◌, ◌≤◌, List, [], ◌∷◌, ◌++◌, length, map, refl, sym, subst, ap, arith, ◌∙◌, cond, ◌==◌}
+use Rattle.std.proofs.Common.{ℕ, zero, suc, ◌+◌, ◌≡◌, ◌<◌, ◌≤◌, List, [], ◌∷◌, ◌++◌, length, refl, ap, arith, ◌∙◌, cond, ◌==◌}
 use Rattle.std.proofs.lemmas.List.Sums.{sum_by-cons}
 use Rattle.std.specs.List.{AllByRecursion, range_with_len}
 use Rattle.dft_cells.specs.declared.kind.Kind.{Kind}
 use Rattle.dft_cells.specs.declared.kind.Kind.TheVariants.{Xor}
-use Rattle.dft_cells.specs.declared.cell.Cell.{Cell}
 use Rattle.dft_netlist.specs.declared.ids.NetId.{NetId}
 use Rattle.dft_netlist.specs.Netlist.{Netlist}
 use Rattle.dft_netlist.specs.Orders.{numbers_of}
-use Rattle.dft_parts.specs.Parts.{Part, ANet}
+use Rattle.dft_parts.specs.Parts.{Part}
 use Rattle.dft_parts.specs.Recipes.{Start, Recipe, nets_in, behind, each, collect, net_at, a_net, a_gate}
 use Rattle.dft_parts.specs.Single.{times_in}
 use Rattle.dft_parts.specs.Sums.{a_driving_gate, pairs, levels, first_net, a_sum}
-use Rattle.dft_scan_laws.proofs.Claims.{times_in-append}
 use Rattle.dft_scan_laws.proofs.Goods.{nets_in-append, Setting, IsBelow, AreBelow, made_below, none_below, below_more, ranks_less, none, one, IsGood, good_nil, good_both, good_as, good_net, good_gate}
 
 pub front_less : (next : ℕ) (xs ys : List Part) → next + nets_in xs ≤ next + nets_in (xs ++ ys)
@@ -164,10 +162,10 @@ nets_owe n rank base at (x ∷ xs) s from =
     let whole = first ++ (later.parts ++ []) in record {
       good = good_as n rank at whole (λ k. one at.next k + (times_in (numbers_of later.value) k + none k)) (λ k. times_in (at.next ∷ numbers_of later.value) k) none none
           (λ k. (
-            let split = sum_by-cons (λ (j : ℕ). cond (j == k) 1 0) at.next (numbers_of later.value) in
-            let alone = sum_by-cons (λ (j : ℕ). cond (j == k) 1 0) at.next [] in
-            omega (arith, split, alone)
-            ))
+          let split = sum_by-cons (λ (j : ℕ). cond (j == k) 1 0) at.next (numbers_of later.value) in
+          let alone = sum_by-cons (λ (j : ℕ). cond (j == k) 1 0) at.next [] in
+          omega (arith, split, alone)
+          ))
           (good_both n rank at first (later.parts ++ []) (one at.next) (λ k. times_in (numbers_of later.value) k + none k) none none (good_net n rank at)
           (good_both n rank next later.parts [] (λ k. times_in (numbers_of later.value) k) none none none rest.good (good_nil n rank (behind next later.parts))));
       below = (

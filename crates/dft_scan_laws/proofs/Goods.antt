@@ -1,6 +1,6 @@
 -- Parts of a recipe that are fine, and drive made nets and a few others, each once; facts that compose.
-use Rattle.std.proofs.Common.{ℕ, zero, suc, ◌+◌, ◌≡◌, ◌<◌, ◌≤◌, ◌⊎◌, inl, inr, Bool, true, false, List, [], ◌∷◌, ◌++◌, length, map, Option, None, Some, slice_get, count_by, cond, refl, sym, subst, ap, arith, ◌∙◌, ◌==◌}
-use Rattle.std.specs.Prelude.{IsTrue, slice_index_or}
+use Rattle.std.proofs.Common.{ℕ, zero, suc, ◌+◌, ◌≡◌, ◌<◌, ◌≤◌, ◌⊎◌, inl, inr, List, [], ◌∷◌, ◌++◌, length, map, Option, None, Some, slice_get, refl, sym, subst, ap, arith, ◌∙◌}
+use Rattle.std.specs.Prelude.{IsTrue}
 use Rattle.std.specs.List.{AllByRecursion, range_with_len}
 use Rattle.dft_cells.specs.declared.kind.Kind.{Kind}
 use Rattle.dft_cells.specs.declared.kind.Kind.TheVariants as kind
@@ -12,16 +12,13 @@ use Rattle.dft_cells.specs.WellFormed.{IsWellFormed}
 use Rattle.dft_netlist.specs.declared.ids.NetId.{NetId}
 use Rattle.dft_netlist.specs.declared.ids.InstanceId.{InstanceId}
 use Rattle.dft_netlist.specs.declared.instance.CellRef.TheVariants as cell_ref
-use Rattle.dft_netlist.specs.declared.instance.Instance.{Instance}
-use Rattle.dft_netlist.specs.declared.instance.Signal.{Signal}
 use Rattle.dft_netlist.specs.declared.instance.Signal.TheVariants.{Net}
 use Rattle.dft_netlist.specs.Drivers.{Shape, gate_roles, shape_of}
 use Rattle.dft_netlist.specs.Netlist.{Netlist}
 use Rattle.dft_netlist.specs.NetDrivers.{roles_at}
 use Rattle.dft_parts.specs.Cells.{is_dff, is_lockup, first_cell, pin_between, pins_between}
 use Rattle.dft_parts.specs.Parts.{Part, ANet, AnInstance, APin}
-use Rattle.dft_parts.specs.Ranks.{IsRanked}
-use Rattle.dft_parts.specs.Recipes.{Start, Given, Recipe, nets_in, behind, each, collect, net_at, a_net, a_gate, a_flop, a_lockup, a_pin, at_nets}
+use Rattle.dft_parts.specs.Recipes.{Start, nets_in, behind, net_at, a_net, a_gate, a_flop, a_lockup, a_pin, at_nets}
 use Rattle.dft_parts.specs.Single.{nets_driven, times_in}
 use Rattle.dft_parts.proofs.RankedParts.{flip_flop_ranked, gate_ranked, lockup_ranked}
 use Rattle.dft_parts.proofs.Stores.{shape_as, lockup_shape}
@@ -98,13 +95,13 @@ pub good_both : (n : Netlist) (rank : ℕ → ℕ) (at : Start) (xs ys : List Pa
 good_both n rank at xs ys o p e f h g = record {
   fine = fine_append n rank xs ys h.fine g.fine;
   few = λ k. (
-    let split = times_in-append (range_with_len at.next (nets_in xs)) (range_with_len (at.next + nets_in xs) (nets_in ys)) k in
-    let ranges : times_in (range_with_len at.next (nets_in (xs ++ ys))) k ≡ times_in (range_with_len at.next (nets_in xs)) k + times_in (range_with_len (at.next + nets_in xs) (nets_in ys)) k =
-    ap (λ (m : ℕ). times_in (range_with_len at.next m) k) (nets_in-append xs ys) ∙ ap (λ (r : List ℕ). times_in r k) (range_split at.next (nets_in xs) (nets_in ys)) ∙ split in
-    let first = h.few k in
-    let second = g.few k in
-    omega (arith, claims-append n xs ys k, ranges, first, second)
-    );
+      let split = times_in-append (range_with_len at.next (nets_in xs)) (range_with_len (at.next + nets_in xs) (nets_in ys)) k in
+      let ranges : times_in (range_with_len at.next (nets_in (xs ++ ys))) k ≡ times_in (range_with_len at.next (nets_in xs)) k + times_in (range_with_len (at.next + nets_in xs) (nets_in ys)) k =
+      ap (λ (m : ℕ). times_in (range_with_len at.next m) k) (nets_in-append xs ys) ∙ ap (λ (r : List ℕ). times_in r k) (range_split at.next (nets_in xs) (nets_in ys)) ∙ split in
+      let first = h.few k in
+      let second = g.few k in
+      omega (arith, claims-append n xs ys k, ranges, first, second)
+      );
 }
 
 -- counted otherwise
@@ -125,10 +122,10 @@ good_one : (n : Netlist) (rank : ℕ → ℕ) (at : Start) (part : Part) (net : 
 good_one n rank at part net no_nets fine drives = record {
   fine = (fine, tt);
   few = λ k. (
-    let is : times_in (claim n part) k ≡ times_in (net ∷ []) k = ap (λ (nets : List ℕ). times_in nets k) drives in
-    let whole = times_in-append (claim n part) [] k in
-    omega (arith, is, whole)
-    );
+      let is : times_in (claim n part) k ≡ times_in (net ∷ []) k = ap (λ (nets : List ℕ). times_in nets k) drives in
+      let whole = times_in-append (claim n part) [] k in
+      omega (arith, is, whole)
+      );
 }
 
 pub good_gate : (n : Netlist) (rank : ℕ → ℕ) (at : Start) (k : Kind) (inputs : List NetId) (output : NetId) → AllByRecursion (λ (net : NetId). rank net.0 < rank output.0) inputs → IsGood n rank at (a_gate k inputs output at).parts none (one output.0)
@@ -186,10 +183,10 @@ pub good_pin : (n : Netlist) (rank : ℕ → ℕ) (at : Start) (cell : InstanceI
 good_pin n rank at cell pin net flop = record {
   fine = (flop, tt);
   few = λ k. (
-    let whole = times_in-append (claimed (slice_get (roles_at n cell.0) pin) net) [] k in
-    let less = claimed_one (slice_get (roles_at n cell.0) pin) net k in
-    omega (arith, whole, less)
-    );
+      let whole = times_in-append (claimed (slice_get (roles_at n cell.0) pin) net) [] k in
+      let less = claimed_one (slice_get (roles_at n cell.0) pin) net k in
+      omega (arith, whole, less)
+      );
 }
 
 -- and none if it is no output pin
@@ -198,10 +195,10 @@ pub good_input : (n : Netlist) (rank : ℕ → ℕ) (at : Start) (cell : Instanc
 good_input n rank at cell pin net flop drives = record {
   fine = (flop, tt);
   few = λ k. (
-    let whole = times_in-append (claimed (slice_get (roles_at n cell.0) pin) net) [] k in
-    let is : times_in (claimed (slice_get (roles_at n cell.0) pin) net) k ≡ times_in [] k = ap (λ (nets : List ℕ). times_in nets k) drives in
-    omega (arith, whole, is)
-    );
+      let whole = times_in-append (claimed (slice_get (roles_at n cell.0) pin) net) [] k in
+      let is : times_in (claimed (slice_get (roles_at n cell.0) pin) net) k ≡ times_in [] k = ap (λ (nets : List ℕ). times_in nets k) drives in
+      omega (arith, whole, is)
+      );
 }
 
 -- ---- behind parts that drive what they make

@@ -6,3 +6,8 @@ pub mod GoodRing
 pub mod GoodCompactor
 pub mod GoodChains
 pub mod GoodRecipes
+pub mod FrameRanks
+pub mod MadeGood
+pub mod FrameSingle
+pub mod FrameRanked
+pub mod Finished

@@ -1,3 +1,6 @@
-//! Laws of scanned netlists of both styles: they can be finished, they keep the design, and they have the hardware of their style.
+//! Laws of scanned netlists of both styles: no net has two drivers, and every net can be ordered.
 #![tactic(auto)]
 
+mod laws;
+
+pub use laws::scanned_can_finish;
