@@ -1,0 +1,10 @@
+//! What patterns capture, which chains are masked, and the bits that outputs show.
+#![tactic(auto)]
+
+mod laws;
+mod policy;
+mod response;
+
+pub use laws::{capture_is_one, settled_stands_above, unmasked_are_known};
+pub use policy::MaskPolicy;
+pub use response::Response;
