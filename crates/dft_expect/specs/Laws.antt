@@ -1,12 +1,12 @@
 -- What captures, masks and expected bits are.
-use Rattle.std.specs.Prelude.{ℕ, Bool, true, false, ◌≡◌, ◌<◌, ◌⊎◌, List, length, IsTrue, slice_get, Some}
+use Rattle.std.specs.Prelude.{ℕ, Bool, true, false, ◌≡◌, ◌<◌, ◌⊎◌, List, [], ◌∷◌, slice_get, Some}
 use Rattle.std.specs.List.{list_any}
 use Rattle.dft_base.specs.declared.tri.Tri.{Tri}
 use Rattle.dft_base.specs.Tri.{AboveTri}
 use Rattle.dft_base.specs.Solutions.{bit_at, sum_to}
 use Rattle.dft_netlist.specs.declared.ids.InstanceId.{InstanceId}
 use Rattle.dft_netlist.specs.Netlist.{Netlist}
-use Rattle.dft_netlist.specs.Drivers.{Source, IsOrdered}
+use Rattle.dft_netlist.specs.Drivers.{Source, nets_of, AreBelow, IsOrdered}
 use Rattle.dft_netlist.specs.Logic.{Logic, Free, IsRanked}
 use Rattle.dft_netlist.specs.Settled.{TriSources, IsTriSettled}
 use Rattle.dft_config.specs.declared.config.Config.{Config}
@@ -21,18 +21,19 @@ CaptureIsOne =
     (n : Netlist) (rank : ℕ → ℕ) (config : Config) (chains : List (List InstanceId)) (merged : Merged) (loaded : List Bool) (r q : Response) → IsOrdered n rank →
     IsCapture n config chains merged loaded r → IsCapture n config chains merged loaded q → r ≡ q
 
--- the values of these sources stand above the values of the others
-pub record AreAbove (s t : TriSources) : Type 0 where
+-- The values of some sources stand above those of others. A lock-up's do where the nets do that stand before it.
+pub record AreAbove (rank : ℕ → ℕ) (s t : TriSources) (values shows : ℕ → Tri) : Type 0 where
   pub ports : (net : ℕ) → AboveTri (s.ports net) (t.ports net)
   pub clocks : (net : ℕ) → AboveTri (s.clocks net) (t.clocks net)
   pub flops : (cell : ℕ) → AboveTri (s.flops cell) (t.flops cell)
-  pub lockups : (cell domain : ℕ) (source : Source) → AboveTri (s.lockups cell domain source) (t.lockups cell domain source)
+  pub lockups : (r cell domain : ℕ) (source : Source) → ((k : ℕ) → rank k < r → AboveTri (values k) (shows k)) → AreBelow rank r (nets_of (source ∷ [])) →
+      AboveTri (s.lockups cell domain source) (t.lockups cell domain source)
 
 -- What is known of settled values stands above what they are where more is known: let another logic mean the same at each net, or anything where
 -- the net is free, and let its sources' values stand below; then each of its settled values stands below.
 abbrev pub SettledStandsAbove : Type 0
 SettledStandsAbove =
-    (l m : Logic) (rank : ℕ → ℕ) (s t : TriSources) (values shows : ℕ → Tri) → IsRanked l rank → ((net : ℕ) → (l.net net ≡ Free) ⊎ (m.net net ≡ l.net net)) → AreAbove s t →
+    (l m : Logic) (rank : ℕ → ℕ) (s t : TriSources) (values shows : ℕ → Tri) → IsRanked l rank → ((net : ℕ) → (l.net net ≡ Free) ⊎ (m.net net ≡ l.net net)) → AreAbove rank s t values shows →
     IsTriSettled l s values → IsTriSettled m t shows → (net : ℕ) → AboveTri (values net) (shows net)
 
 -- a chain that is not masked holds nothing unknown
