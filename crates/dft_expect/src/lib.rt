@@ -2,9 +2,11 @@
 #![tactic(auto)]
 
 mod laws;
+mod masking;
 mod policy;
 mod response;
 
 pub use laws::{capture_is_one, settled_stands_above, unmasked_are_known};
+pub use masking::masks;
 pub use policy::MaskPolicy;
 pub use response::Response;
