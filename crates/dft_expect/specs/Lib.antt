@@ -7,6 +7,7 @@ pub use Rattle.dft_stitch.specs.Plans
 pub use Rattle.dft_config.specs.Ring
 pub use Rattle.dft_config.specs.Loads
 pub mod Loaded
+pub mod States
 pub mod Captures
 pub mod Masks
 pub mod Expected

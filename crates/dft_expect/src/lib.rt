@@ -5,6 +5,7 @@ mod laws;
 mod masking;
 mod policy;
 mod response;
+mod ring;
 
 pub use laws::{capture_is_one, settled_stands_above, unmasked_are_known};
 pub use masking::masks;
