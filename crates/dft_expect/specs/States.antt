@@ -17,3 +17,7 @@ pub record IsState (ring : RingConfig) (table : Table) (cycle : ℕ) (state : Li
 pub record AreStates (ring : RingConfig) (table : Table) (cycles : ℕ) (states : List (List Bool)) : Type 0 where
   pub count : length states ≡ cycles
   pub each : (t : ℕ) → t < cycles → IsState ring table t (state_at states t)
+
+-- each of these states has as many bits as the ring has stages
+abbrev pub HaveStages : RingConfig → List (List Bool) → Type 0
+HaveStages ring states = (t : ℕ) → t < length states → length (state_at states t) ≡ ring.stages
