@@ -1,22 +1,21 @@
 -- A capture is one, and stands above what more is known of.
-use Rattle.std.proofs.Common.{ℕ, zero, suc, Bool, List, [], ◌∷◌, ◌≡◌, ◌<◌, ◌⊎◌, inl, inr, refl, sym, subst, ap, arith, map, ◌∙◌}
+use Rattle.std.proofs.Common.{ℕ, zero, suc, Bool, List, ◌≡◌, ◌<◌, ◌⊎◌, inl, inr, refl, sym, subst, ap, arith, map, ◌∙◌}
 use Rattle.dft_base.specs.declared.tri.Tri.{Tri}
 use Rattle.dft_base.specs.Tri.{AboveTri}
 use Rattle.dft_netlist.specs.declared.ids.NetId.{NetId}
 use Rattle.dft_netlist.specs.declared.ids.InstanceId.{InstanceId}
 use Rattle.dft_netlist.specs.Netlist.{Netlist}
-use Rattle.dft_netlist.specs.Drivers.{Source, nets_of, AreBelow, IsOrdered}
+use Rattle.dft_netlist.specs.Drivers.{IsOrdered}
 use Rattle.dft_netlist.specs.Logic.{Logic, Meaning, Free, IsRanked}
-use Rattle.dft_netlist.specs.Settled.{TriSources, value_from, value_given, IsTriSettled}
+use Rattle.dft_netlist.specs.Settled.{TriSources, value_given, IsTriSettled}
 use Rattle.dft_netlist.proofs.Meanings.{source_same, meaning_monotone, at_nets}
 use Rattle.dft_netlist.proofs.Ranks.{order_is_rank}
 use Rattle.dft_abstract.specs.Cycle.{strobe_sources}
 use Rattle.dft_abstract.proofs.Views.{settled_same}
 use Rattle.dft_config.specs.declared.config.Config.{Config}
 use Rattle.dft_cubes.specs.declared.cube.Merged.{Merged}
-use Rattle.dft_expect.specs.declared.response.Response.{Response}
 use Rattle.dft_expect.specs.Loaded.{all_cells, loaded_values}
-use Rattle.dft_expect.specs.Captures.{config_ports, capture_vector, original, IsSettledCapture, captured_value, output_bits, IsCapture}
+use Rattle.dft_expect.specs.Captures.{config_ports, capture_vector, original, IsSettledCapture, captured_value, output_bits}
 use Rattle.dft_expect.specs.Laws.{CaptureIsOne, AreAbove, SettledStandsAbove}
 
 -- ---- settled values

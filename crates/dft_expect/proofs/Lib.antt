@@ -1,3 +1,4 @@
 pub mod CaptureLemmas
 pub mod MaskLemmas
 pub mod RingLemmas
+pub mod LoadedLemmas

@@ -1,5 +1,5 @@
 -- Masks by chain.
-use Rattle.std.proofs.Common.{ℕ, zero, suc, Bool, true, false, List, [], ◌∷◌, ◌++◌, ◌≡◌, ◌<◌, ◌≤◌, ◌+◌, ◌-◌, refl, sym, ap, arith, map, take, drop, length, length-append, length-drop, drop-drop, append_assoc, append-nil, get_or, Option, None, Some, ◌∙◌}
+use Rattle.std.proofs.Common.{ℕ, Bool, true, false, List, [], ◌∷◌, ◌++◌, ◌≡◌, ◌<◌, ◌≤◌, ◌+◌, ◌-◌, refl, sym, ap, arith, map, take, drop, length, length-append, drop-drop, append_assoc, append-nil, Some, ◌∙◌}
 use Rattle.std.specs.Prelude.{◌||◌, slice_get}
 use Rattle.std.specs.List.{list_any, enumerate_from}
 use Rattle.std.proofs.lemmas.List.{get_or-map, drop_more, drop_all}
@@ -45,7 +45,7 @@ pub record Masking (always : List Bool) (chains : List (List InstanceId)) (value
 pub masking_starts : (always : List Bool) (chains : List (List InstanceId)) (values : List Tri) → length values ≡ length (all_cells chains) → Masking always chains values 0 0 []
 masking_starts always chains values size = record { size = omega arith; same = refl }
 
-drop_at : {T : Type 0} (xs : List T) (k : ℕ) (x : T) → slice_get xs k ≡ Some x → drop k xs ≡ x ∷ drop (k + 1) xs
+pub drop_at : {T : Type 0} (xs : List T) (k : ℕ) (x : T) → slice_get xs k ≡ Some x → drop k xs ≡ x ∷ drop (k + 1) xs
 drop_at {T = T} xs k x at = drop_more xs k x (slice_get_within xs k x at) ∙ ap (λ (y : T). y ∷ drop (k + 1) xs) (get_or_from_slice_get xs k x x at)
 
 pub masking_fits : (always : List Bool) (chains : List (List InstanceId)) (values : List Tri) (k first : ℕ) (masks : List Bool) (cells : List InstanceId) → slice_get chains k ≡ Some cells

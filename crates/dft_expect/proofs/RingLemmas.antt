@@ -1,13 +1,12 @@
 -- The states of a ring that is fed a table of channel bits.
-use Rattle.std.proofs.Common.{ℕ, suc, Bool, false, ◌≡◌, ◌<◌, ◌≤◌, ◌+◌, ◌*◌, List, [], ◌∷◌, ◌++◌, length, replicate, refl, sym, ap, arith, ◌∙◌}
+use Rattle.std.proofs.Common.{ℕ, suc, Bool, false, ◌≡◌, ◌+◌, ◌*◌, List, [], ◌∷◌, ◌++◌, length, replicate, refl, ap, arith, ◌∙◌}
 use Rattle.std.proofs.lemmas.List.{length-append, length-replicate}
-use Rattle.dft_base.specs.Packed.{packed_bit}
 use Rattle.dft_base.specs.Solutions.{bit_at}
 use Rattle.dft_config.specs.declared.config.RingConfig.{RingConfig}
 use Rattle.dft_config.specs.Ring.{Table, step, state_after}
 use Rattle.dft_equations.proofs.ImpulseLemmas.{push_each, bit_at-zeros}
 use Rattle.dft_expect.specs.Loaded.{table_of}
-use Rattle.dft_expect.specs.States.{state_at, IsState, AreStates}
+use Rattle.dft_expect.specs.States.{IsState, AreStates}
 
 state_zero : (ring : RingConfig) (table : Table) (stage : ℕ) → false ≡ state_after ring table 0 stage
 unfolding state_after

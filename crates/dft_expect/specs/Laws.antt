@@ -1,9 +1,9 @@
 -- What captures, masks and expected bits are.
-use Rattle.std.specs.Prelude.{ℕ, Bool, true, false, ◌≡◌, ◌<◌, ◌⊎◌, List, [], ◌∷◌, slice_get, Some}
+use Rattle.std.specs.Prelude.{ℕ, Bool, false, ◌≡◌, ◌<◌, ◌⊎◌, List, [], ◌∷◌, slice_get, Some}
 use Rattle.std.specs.List.{list_any}
 use Rattle.dft_base.specs.declared.tri.Tri.{Tri}
 use Rattle.dft_base.specs.Tri.{AboveTri}
-use Rattle.dft_base.specs.Solutions.{bit_at, sum_to}
+use Rattle.dft_base.specs.Solutions.{bit_at}
 use Rattle.dft_netlist.specs.declared.ids.InstanceId.{InstanceId}
 use Rattle.dft_netlist.specs.Netlist.{Netlist}
 use Rattle.dft_netlist.specs.Drivers.{Source, nets_of, AreBelow, IsOrdered}

@@ -1,5 +1,5 @@
 -- Which chains are masked while a pattern is unloaded: those in which a capture leaves something unknown, and those that always are.
-use Rattle.std.specs.Prelude.{ℕ, Bool, true, false, ◌||◌, List, length, map}
+use Rattle.std.specs.Prelude.{Bool, true, false, ◌||◌, List, length, map}
 use Rattle.std.specs.List.{list_any, enumerate_from, range_with_len}
 use Rattle.dft_base.specs.declared.tri.Tri.{Tri}
 use Rattle.dft_base.specs.declared.tri.Tri.TheVariants.{Zero, One, Unknown}

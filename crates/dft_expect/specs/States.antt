@@ -2,7 +2,8 @@
 use Rattle.std.specs.Prelude.{ℕ, Bool, ◌≡◌, ◌<◌, List, [], length, slice_index_or}
 use Rattle.dft_base.specs.Solutions.{bit_at}
 use Rattle.dft_config.specs.declared.config.RingConfig.{RingConfig}
-use Rattle.dft_config.specs.Ring.{Table, state_after}
+use Rattle.dft_config.specs.Ring.{Table, state_after, phase_sum}
+use Rattle.dft_config.specs.Loads.{moment_of_place}
 
 -- the state after this many cycles
 abbrev pub state_at : List (List Bool) → ℕ → List Bool
@@ -21,3 +22,7 @@ pub record AreStates (ring : RingConfig) (table : Table) (cycles : ℕ) (states 
 -- each of these states has as many bits as the ring has stages
 abbrev pub HaveStages : RingConfig → List (List Bool) → Type 0
 HaveStages ring states = (t : ℕ) → t < length states → length (state_at states t) ≡ ring.stages
+
+-- the bit that a load brings to a place of a chain, by the states of its cycles
+abbrev pub brought : RingConfig → List (List Bool) → (chain place : ℕ) → Bool
+brought ring states chain place = phase_sum ring chain (bit_at (state_at states (moment_of_place (length states) place)))

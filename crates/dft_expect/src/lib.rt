@@ -9,6 +9,7 @@ mod response;
 mod ring;
 
 pub use laws::{capture_is_one, settled_stands_above, unmasked_are_known};
+pub use loading::loaded;
 pub use masking::masks;
 pub use policy::MaskPolicy;
 pub use response::Response;

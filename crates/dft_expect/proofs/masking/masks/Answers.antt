@@ -1,10 +1,6 @@
 -- One chain more.
-use Rattle.std.proofs.Common.{◌∙◌, ◌≡◌, ◌<◌, ◌≤◌, ◌+◌, ◌-◌, ap, sym, length, take, drop, List, Bool, arith, rules}
-use Rattle.std.specs.Prelude.{◌||◌}
-use Rattle.std.specs.List.{list_any}
-use Rattle.dft_base.specs.Solutions.{bit_at}
-use Rattle.dft_expect.specs.Masks.{is_unknown}
-use Rattle.dft_expect.proofs.MaskLemmas.{Masking, masking_fits, masking_goes_on, mask_is}
+use Rattle.std.proofs.Common.{ap, length, arith}
+use Rattle.dft_expect.proofs.MaskLemmas.{masking_fits, masking_goes_on, mask_is}
 use Rattle.dft_expect.proofs.masking.masks.Goals as goal
 
 pub slice_bounds-has_unknown-end : goal.slice_bounds-has_unknown-end

@@ -1,5 +1,5 @@
 -- At first the ring is at zero; then each state comes from the one before.
-use Rattle.std.proofs.Common.{ℕ, List, Bool, ◌≡◌, ◌+◌, ◌*◌, arith, ◌∙◌, ap, length}
+use Rattle.std.proofs.Common.{List, Bool, ◌≡◌, ◌+◌, ◌*◌, arith, ◌∙◌, ap, length}
 use Rattle.dft_base.specs.Packed.{packed_bit}
 use Rattle.dft_base.specs.Solutions.{bit_at}
 use Rattle.dft_config.specs.Ring.{step}
@@ -24,5 +24,5 @@ loop-cycle-preserved c =
     record {
       so_far = rw (c.in_ok-push.ensures.items, c.from_vec.ensures, c.replace.ensures.value) (states_more ring (table_of ring bits) t c.loop-cycle.states.items c.loop-cycle.state.items before.so_far before.now);
       now = rw c.replace.ensures.after (state_steps ring bits t first c.loop-cycle.state.items c.in_ok-next.next.items at before.now c.in_ok-next.ensures.stages
-      (λ stage. c.in_ok-next.ensures.step stage ∙ ap (λ (l : List Bool). step ring (λ channel. bits (first + channel)) (bit_at l) stage) c.deref.ensures.value));
+          (λ stage. c.in_ok-next.ensures.step stage ∙ ap (λ (l : List Bool). step ring (λ channel. bits (first + channel)) (bit_at l) stage) c.deref.ensures.value));
     }
