@@ -11,5 +11,6 @@ pub mod States
 pub mod Captures
 pub mod Masks
 pub mod Expected
+pub mod Unloads
 pub mod Policies
 pub mod Laws

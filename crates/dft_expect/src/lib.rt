@@ -7,6 +7,7 @@ mod masking;
 mod policy;
 mod response;
 mod ring;
+mod unloading;
 
 pub use laws::{capture_is_one, settled_stands_above, unmasked_are_known};
 pub use loading::loaded;

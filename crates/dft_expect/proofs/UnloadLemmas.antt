@@ -1,0 +1,71 @@
+-- The values of a chain in the list of all values.
+use Rattle.std.proofs.Common.{ℕ, zero, suc, Bool, List, [], ◌∷◌, ◌++◌, ◌≡◌, ◌<◌, ◌≤◌, ◌+◌, ◌-◌, refl, sym, ap, arith, map, take, drop, length, length-append, length-drop, drop-drop, get_or, Option, None, Some, ◌∙◌}
+use Rattle.std.specs.Prelude.{slice_get, nat_lt, if◌then◌else◌, true, false}
+use Rattle.std.proofs.lemmas.Bool.Decides.{nat_tests}
+use Rattle.std.proofs.lemmas.List.{length-take-le, get_or-take, get_or-drop, get_or_default}
+use Rattle.std.proofs.lemmas.Option.{slice_get_within, get_or_from_slice_get}
+use Rattle.dft_base.specs.declared.tri.Tri.{Tri}
+use Rattle.dft_base.specs.declared.tri.Tri.TheVariants.{Unknown}
+use Rattle.dft_netlist.specs.declared.ids.InstanceId.{InstanceId}
+use Rattle.dft_expect.specs.Loaded.{all_cells}
+use Rattle.dft_expect.specs.Masks.{by_chain}
+use Rattle.dft_base.specs.Solutions.{bit_at}
+use Rattle.dft_config.specs.declared.config.RingConfig.{RingConfig}
+use Rattle.dft_config.specs.Ring.{Table, sum_of, state_after, phase_of, phase_sum}
+use Rattle.dft_expect.specs.States.{state_at, AreStates}
+use Rattle.dft_expect.specs.Expected.{is_one, from_end, shown_by, chain_at}
+
+-- the cells before a chain
+abbrev pub before : List (List InstanceId) → (k : ℕ) → ℕ
+before chains k = length (all_cells (take k chains))
+
+pub before_more : (chains : List (List InstanceId)) (k : ℕ) (cells : List InstanceId) → slice_get chains k ≡ Some cells → before chains (suc k) ≡ before chains k + length cells
+before_more [] k cells at = absurd (let h = slice_get_within [] k cells at in omega (arith, h))
+before_more (c ∷ cs) zero cells at =
+    let e : c ≡ cells = get_or_from_slice_get (c ∷ cs) 0 cells cells at in
+    length-append c [] ∙ omega (arith, ap length e)
+before_more (c ∷ cs) (suc k) cells at = length-append c (all_cells (take (suc k) cs)) ∙ omega (arith, before_more cs k cells at, length-append c (all_cells (take k cs)))
+
+pub before_fits : (chains : List (List InstanceId)) (k : ℕ) → before chains k ≤ length (all_cells chains)
+before_fits [] zero = omega arith
+before_fits [] (suc k) = omega arith
+before_fits (c ∷ cs) zero = omega arith
+before_fits (c ∷ cs) (suc k) = omega (arith, before_fits cs k, length-append c (all_cells (take k cs)), length-append c (all_cells cs))
+
+pub chain_part : (chains : List (List InstanceId)) (values : List Tri) (k : ℕ) (cells : List InstanceId) → slice_get chains k ≡ Some cells → chain_at (by_chain chains values) k ≡ take (length cells) (drop (before chains k) values)
+chain_part [] values k cells at = absurd (let h = slice_get_within [] k cells at in omega (arith, h))
+chain_part (c ∷ cs) values zero cells at = ap (λ (l : List InstanceId). take (length l) values) (get_or_from_slice_get (c ∷ cs) 0 cells cells at)
+chain_part (c ∷ cs) values (suc k) cells at =
+    chain_part cs (drop (length c) values) k cells at ∙ ap (take (length cells)) (drop-drop (before cs k) (length c) values)
+    ∙ ap (λ (n : ℕ). take (length cells) (drop n values)) (sym (length-append c (all_cells (take k cs))))
+
+pub before_next : (chains : List (List InstanceId)) (k : ℕ) (cells : List InstanceId) → slice_get chains k ≡ Some cells → before chains (k + 1) ≡ before chains k + length cells
+before_next chains k cells at = let next : k + 1 ≡ suc k = omega arith in ap (before chains) next ∙ before_more chains k cells at
+
+pub part_fits : (chains : List (List InstanceId)) (k : ℕ) (cells : List InstanceId) → slice_get chains k ≡ Some cells → before chains k + length cells ≤ length (all_cells chains)
+part_fits chains k cells at = omega (arith, before_next chains k cells at, before_fits chains (k + 1))
+
+-- ---- what a chain shows
+
+part_length : (l s : ℕ) (all part : List Tri) → part ≡ take l (drop s all) → s + l ≤ length all → length part ≡ l
+part_length l s all part is fits = ap length is ∙ length-take-le l (drop s all) (omega (arith, length-drop s all))
+
+pub shown_cell : (ring : RingConfig) (table : Table) (chain l s t place : ℕ) (all part : List Tri) (d : Tri) (bit : Bool) → part ≡ take l (drop s all) → s + l ≤ length all → t < l → place ≡ s + l - 1 - t
+    → bit ≡ is_one (get_or all place d) → bit ≡ shown_by ring table chain part t
+shown_cell ring table chain l s t place all part d bit is fits less at read =
+    let size = part_length l s all part is fits in
+    let within : nat_lt t (length part) ≡ true = grind (arith, nat_tests, size) in
+    let from : s + (l - 1 - t) ≡ place = omega arith in
+    let value : get_or part (length part - 1 - t) Unknown ≡ get_or all place d =
+    (λ i. get_or (is i) (size i - 1 - t) Unknown) ∙ get_or-take l (drop s all) (l - 1 - t) Unknown (omega arith) ∙ get_or-drop s all (l - 1 - t) Unknown
+    ∙ ap (λ (n : ℕ). get_or all n Unknown) from ∙ get_or_default all place Unknown d (omega arith) in
+    read ∙ ap is_one (sym value) ∙ ap (λ (b : Bool). if b then is_one (from_end part t) else phase_sum ring chain (state_after ring table (t - length part))) (sym within)
+
+pub shown_later : (ring : RingConfig) (table : Table) (chain l s t cycles : ℕ) (all part : List Tri) (states : List (List Bool)) (bit : Bool) → part ≡ take l (drop s all) → s + l ≤ length all → l ≤ t → t < cycles
+    → AreStates ring table cycles states → bit ≡ phase_sum ring chain (bit_at (state_at states (t - l))) → bit ≡ shown_by ring table chain part t
+shown_later ring table chain l s t cycles all part states bit is fits past less are read =
+    let size = part_length l s all part is fits in
+    let over : nat_lt t (length part) ≡ false = grind (arith, nat_tests, size) in
+    let state = are.each (t - l) (omega arith) in
+    read ∙ (λ i. sum_of (λ stage. state.bits stage i) (phase_of ring chain)) ∙ ap (λ (n : ℕ). phase_sum ring chain (state_after ring table (t - n))) (sym size)
+    ∙ ap (λ (b : Bool). if b then is_one (from_end part t) else phase_sum ring chain (state_after ring table (t - length part))) (sym over)
