@@ -1,15 +1,17 @@
 -- The values of a chain in the list of all values.
-use Rattle.std.proofs.Common.{ℕ, zero, suc, Bool, List, [], ◌∷◌, ◌++◌, ◌≡◌, ◌<◌, ◌≤◌, ◌+◌, ◌-◌, refl, sym, ap, arith, map, take, drop, length, length-append, length-drop, drop-drop, get_or, Option, None, Some, ◌∙◌}
+use Rattle.std.proofs.Common.{ℕ, zero, suc, Bool, List, [], ◌∷◌, ◌++◌, ◌≡◌, ◌<◌, ◌≤◌, ◌+◌, ◌-◌, refl, sym, ap, arith, map, take, drop, length, length-append, length-drop, drop-drop, append_assoc, append-nil, not, get_or, Option, None, Some, ◌∙◌}
 use Rattle.std.specs.Prelude.{slice_get, nat_lt, if◌then◌else◌, true, false}
+use Rattle.std.specs.Bool.{beq}
 use Rattle.std.proofs.lemmas.Bool.Decides.{nat_tests}
-use Rattle.std.proofs.lemmas.List.{length-take-le, get_or-take, get_or-drop, get_or_default}
+use Rattle.std.proofs.lemmas.List.{length-take-le, get_or-take, get_or-drop, get_or_default, drop_more, drop_all}
 use Rattle.std.proofs.lemmas.Option.{slice_get_within, get_or_from_slice_get}
 use Rattle.dft_base.specs.declared.tri.Tri.{Tri}
 use Rattle.dft_base.specs.declared.tri.Tri.TheVariants.{Unknown}
 use Rattle.dft_netlist.specs.declared.ids.InstanceId.{InstanceId}
 use Rattle.dft_expect.specs.Loaded.{all_cells}
 use Rattle.dft_expect.specs.Masks.{by_chain}
-use Rattle.dft_base.specs.Solutions.{bit_at}
+use Rattle.dft_base.specs.Solutions.{bit_at, xor}
+use Rattle.dft_base.proofs.SumLemmas.{xor_assoc}
 use Rattle.dft_config.specs.declared.config.RingConfig.{RingConfig}
 use Rattle.dft_config.specs.Ring.{Table, sum_of, state_after, phase_of, phase_sum}
 use Rattle.dft_expect.specs.States.{state_at, AreStates}
@@ -69,3 +71,33 @@ shown_later ring table chain l s t cycles all part states bit is fits past less 
     let state = are.each (t - l) (omega arith) in
     read ∙ (λ i. sum_of (λ stage. state.bits stage i) (phase_of ring chain)) ∙ ap (λ (n : ℕ). phase_sum ring chain (state_after ring table (t - n))) (sym size)
     ∙ ap (λ (b : Bool). if b then is_one (from_end part t) else phase_sum ring chain (state_after ring table (t - length part))) (sym over)
+
+-- ---- sums and lists, item by item
+
+pub flipped : (a b : Bool) → not (beq a b) ≡ xor a b
+flipped true true = refl
+flipped true false = refl
+flipped false true = refl
+flipped false false = refl
+
+pub sum_goes_on : (f : ℕ → Bool) (group : List ℕ) (i d : ℕ) (sum next bit : Bool) → i < length group → next ≡ xor sum bit → bit ≡ f (get_or group i d) → xor sum (sum_of f (drop i group)) ≡ sum_of f group
+    → xor next (sum_of f (drop (i + 1) group)) ≡ sum_of f group
+sum_goes_on f group i d sum next bit less is read before =
+    let rest = sum_of f (drop (i + 1) group) in
+    ap (λ (b : Bool). xor b rest) is ∙ xor_assoc sum bit rest ∙ ap (λ (b : Bool). xor sum (xor b rest)) read ∙ ap (λ (l : List ℕ). xor sum (sum_of f l)) (sym (drop_more group i d less)) ∙ before
+
+xor_none : (a : Bool) → a ≡ xor a false
+xor_none true = refl
+xor_none false = refl
+
+pub sum_ends : (f : ℕ → Bool) (group : List ℕ) (i : ℕ) (sum : Bool) → length group ≤ i → xor sum (sum_of f (drop i group)) ≡ sum_of f group → sum ≡ sum_of f group
+sum_ends f group i sum past before = xor_none sum ∙ ap (λ (l : List ℕ). xor sum (sum_of f l)) (sym (drop_all i group past)) ∙ before
+
+pub list_goes_on : (f : List ℕ → Bool) (groups : List (List ℕ)) (i : ℕ) (group d : List ℕ) (old start new : List Bool) (bit : Bool) → i < length groups → group ≡ get_or groups i d → new ≡ old ++ bit ∷ [] → bit ≡ f group
+    → old ++ map f (drop i groups) ≡ start ++ map f groups → new ++ map f (drop (i + 1) groups) ≡ start ++ map f groups
+list_goes_on f groups i group d old start new bit less is more read before =
+    let rest = map f (drop (i + 1) groups) in
+    ap (λ (l : List Bool). l ++ rest) more ∙ append_assoc old (bit ∷ []) rest ∙ ap (λ (b : Bool). old ++ (b ∷ rest)) (read ∙ ap f is) ∙ ap (λ (l : List (List ℕ)). old ++ map f l) (sym (drop_more groups i d less)) ∙ before
+
+pub list_ends : (f : List ℕ → Bool) (groups : List (List ℕ)) (i : ℕ) (old start : List Bool) → length groups ≤ i → old ++ map f (drop i groups) ≡ start ++ map f groups → old ≡ start ++ map f groups
+list_ends f groups i old start past before = sym (append-nil old) ∙ ap (λ (l : List (List ℕ)). old ++ map f l) (sym (drop_all i groups past)) ∙ before

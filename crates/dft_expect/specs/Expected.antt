@@ -25,9 +25,13 @@ shown_by ring running chain values t =
 abbrev pub chain_at : List (List Tri) → (chain : ℕ) → List Tri
 chain_at values chain = slice_index_or values chain []
 
+-- what a chain brings to an output in a cycle: nothing where it is masked
+abbrev pub counted_by : RingConfig → (running : Table) → (masks : List Bool) → List (List Tri) → (cycle chain : ℕ) → Bool
+counted_by ring running masks values t chain = not (bit_at masks chain) && shown_by ring running chain (chain_at values chain) t
+
 -- what an output shows in a cycle: the sum over the chains of its group that are not masked
 abbrev pub output_bit : RingConfig → (running : Table) → (masks : List Bool) → List (List Tri) → (cycle : ℕ) → (group : List ℕ) → Bool
-output_bit ring running masks values t group = sum_of (λ chain. not (bit_at masks chain) && shown_by ring running chain (chain_at values chain) t) group
+output_bit ring running masks values t group = sum_of (counted_by ring running masks values t) group
 
 -- for each cycle of a load, for each output its bit
 abbrev pub expected_of : RingConfig → (groups : List (List ℕ)) → (running : Table) → (masks : List Bool) → List (List Tri) → (cycles : ℕ) → List Bool

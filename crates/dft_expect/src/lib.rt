@@ -14,3 +14,4 @@ pub use loading::loaded;
 pub use masking::masks;
 pub use policy::MaskPolicy;
 pub use response::Response;
+pub use unloading::expected;
