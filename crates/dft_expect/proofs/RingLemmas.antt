@@ -1,5 +1,5 @@
 -- The states of a ring that is fed a table of channel bits.
-use Rattle.std.proofs.Common.{ℕ, suc, Bool, false, ◌≡◌, ◌+◌, ◌*◌, List, [], ◌∷◌, ◌++◌, length, replicate, refl, ap, arith, ◌∙◌}
+use Rattle.std.proofs.Common.{ℕ, suc, Bool, false, ◌≡◌, ◌+◌, ◌*◌, List, [], ◌∷◌, ◌++◌, length, replicate, refl, sym, ap, arith, ◌∙◌, subst}
 use Rattle.std.proofs.lemmas.List.{length-append, length-replicate}
 use Rattle.dft_base.specs.Solutions.{bit_at}
 use Rattle.dft_config.specs.declared.config.RingConfig.{RingConfig}
@@ -38,3 +38,10 @@ states_more ring table t states state so_far now = record {
   count = length-append states (state ∷ []) ∙ omega (arith, so_far.count);
   each = push_each (λ k (s : List Bool). IsState ring table k s) states state [] t so_far.count so_far.each now;
 }
+
+-- as many states as there are
+pub states_again : (ring : RingConfig) (table : Table) (n : ℕ) (xs ys : List (List Bool)) → AreStates ring table n xs → ys ≡ xs → AreStates ring table (length ys) ys
+states_again ring table n xs ys are same =
+    let P : List (List Bool) → Type 0 = λ l. AreStates ring table (length l) l in
+    let own : P xs = record { count = refl; each = λ t less. are.each t (omega (arith, are.count)) } in
+    subst P (sym same) own

@@ -1,7 +1,9 @@
 -- The values of a chain in the list of all values.
-use Rattle.std.proofs.Common.{ℕ, zero, suc, Bool, List, [], ◌∷◌, ◌++◌, ◌≡◌, ◌<◌, ◌≤◌, ◌+◌, ◌-◌, refl, sym, ap, arith, map, take, drop, length, length-append, length-drop, drop-drop, append_assoc, append-nil, not, get_or, Option, None, Some, ◌∙◌}
+use Rattle.std.proofs.Common.{ℕ, zero, suc, Bool, List, [], ◌∷◌, ◌++◌, ◌≡◌, ◌<◌, ◌≤◌, ◌+◌, ◌-◌, refl, sym, ap, arith, map, take, drop, length, length-append, length-drop, drop-drop, append_assoc, append-nil, not, get_or, Some, ◌∙◌}
 use Rattle.std.specs.Prelude.{slice_get, nat_lt, if◌then◌else◌, true, false}
 use Rattle.std.specs.Bool.{beq}
+use Rattle.std.specs.Prelude.{flat_map}
+use Rattle.std.specs.List.{range_with_len}
 use Rattle.std.proofs.lemmas.Bool.Decides.{nat_tests}
 use Rattle.std.proofs.lemmas.List.{length-take-le, get_or-take, get_or-drop, get_or_default, drop_more, drop_all}
 use Rattle.std.proofs.lemmas.Option.{slice_get_within, get_or_from_slice_get}
@@ -15,7 +17,7 @@ use Rattle.dft_base.proofs.SumLemmas.{xor_assoc}
 use Rattle.dft_config.specs.declared.config.RingConfig.{RingConfig}
 use Rattle.dft_config.specs.Ring.{Table, sum_of, state_after, phase_of, phase_sum}
 use Rattle.dft_expect.specs.States.{state_at, AreStates}
-use Rattle.dft_expect.specs.Expected.{is_one, from_end, shown_by, chain_at}
+use Rattle.dft_expect.specs.Expected.{is_one, from_end, shown_by, chain_at, output_bit, expected_of}
 
 -- the cells before a chain
 abbrev pub before : List (List InstanceId) → (k : ℕ) → ℕ
@@ -101,3 +103,25 @@ list_goes_on f groups i group d old start new bit less is more read before =
 
 pub list_ends : (f : List ℕ → Bool) (groups : List (List ℕ)) (i : ℕ) (old start : List Bool) → length groups ≤ i → old ++ map f (drop i groups) ≡ start ++ map f groups → old ≡ start ++ map f groups
 list_ends f groups i old start past before = sym (append-nil old) ∙ ap (λ (l : List (List ℕ)). old ++ map f l) (sym (drop_all i groups past)) ∙ before
+
+-- ---- cycle by cycle
+
+-- the bits so far, with those of the cycles from one on
+abbrev pub IsUnloading : RingConfig → (groups : List (List ℕ)) → Table → (masks : List Bool) → List (List Tri) → (cycles k : ℕ) → (expected : List Bool) → Type 0
+IsUnloading ring groups table masks values cycles k expected =
+    expected ++ flat_map (λ t. map (output_bit ring table masks values t) groups) (range_with_len k (cycles - k)) ≡ expected_of ring groups table masks values cycles
+
+pub unloading_goes_on : (ring : RingConfig) (groups : List (List ℕ)) (table : Table) (masks : List Bool) (values : List (List Tri)) (cycles k : ℕ) (old new : List Bool) → k < cycles → new ≡ old ++ map (output_bit ring table masks values k) groups
+    → IsUnloading ring groups table masks values cycles k old → IsUnloading ring groups table masks values cycles (k + 1) new
+unloading_goes_on ring groups table masks values cycles k old new less more before =
+    let f : ℕ → List Bool = λ t. map (output_bit ring table masks values t) groups in
+    let rest = flat_map f (range_with_len (k + 1) (cycles - (k + 1))) in
+    let left : suc (cycles - (k + 1)) ≡ cycles - k = omega arith in
+    ap (λ (l : List Bool). l ++ rest) more ∙ append_assoc old (f k) rest ∙ ap (λ (n : ℕ). old ++ flat_map f (range_with_len k n)) left ∙ before
+
+pub unloading_ends : (ring : RingConfig) (groups : List (List ℕ)) (table : Table) (masks : List Bool) (values : List (List Tri)) (cycles k : ℕ) (expected : List Bool) → cycles ≤ k
+    → IsUnloading ring groups table masks values cycles k expected → expected ≡ expected_of ring groups table masks values cycles
+unloading_ends ring groups table masks values cycles k expected past before =
+    let f : ℕ → List Bool = λ t. map (output_bit ring table masks values t) groups in
+    let none : 0 ≡ cycles - k = omega arith in
+    sym (append-nil expected) ∙ ap (λ (n : ℕ). expected ++ flat_map f (range_with_len k n)) none ∙ before

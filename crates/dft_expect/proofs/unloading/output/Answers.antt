@@ -1,5 +1,4 @@
 -- One chain more.
-use Rattle.std.proofs.Common.{length, arith}
 use Rattle.dft_expect.specs.Masks.{by_chain}
 use Rattle.dft_expect.specs.Expected.{counted_by}
 use Rattle.dft_expect.proofs.UnloadLemmas.{flipped, sum_goes_on, sum_ends}

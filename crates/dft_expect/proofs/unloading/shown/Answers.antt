@@ -1,6 +1,5 @@
 -- A captured cell, or what entered the chain.
-use Rattle.std.proofs.Common.{ℕ, ◌≡◌, ◌∙◌, ◌+◌, ◌-◌, ap, length, get_or, arith}
-use Rattle.dft_expect.specs.Loaded.{all_cells}
+use Rattle.std.proofs.Common.{ℕ, ◌∙◌, ◌+◌, ◌-◌, ap, length, get_or, arith}
 use Rattle.dft_expect.proofs.UnloadLemmas.{before, part_fits, chain_part, shown_cell, shown_later}
 use Rattle.dft_expect.proofs.unloading.shown.Goals as goal
 

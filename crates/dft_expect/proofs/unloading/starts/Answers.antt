@@ -1,5 +1,5 @@
 -- One start more.
-use Rattle.std.proofs.Common.{ℕ, ◌≡◌, ◌∙◌, ◌+◌, ap, length, arith}
+use Rattle.std.proofs.Common.{ℕ, ◌≡◌, ◌∙◌, ap, length, arith}
 use Rattle.std.proofs.lemmas.List.{length-append}
 use Rattle.dft_equations.proofs.ImpulseLemmas.{push_each}
 use Rattle.dft_expect.proofs.UnloadLemmas.{before, before_next, part_fits}

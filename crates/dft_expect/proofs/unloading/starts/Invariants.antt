@@ -1,5 +1,5 @@
 -- The starts so far, and the next one.
-use Rattle.std.proofs.Common.{◌≡◌, ℕ, ◌<◌, length, take, get_or}
+use Rattle.std.proofs.Common.{◌≡◌, ℕ, ◌<◌, length, get_or}
 use Rattle.dft_expect.proofs.UnloadLemmas.{before}
 use Rattle.dft_expect.proofs.unloading.starts.Given as goal
 
