@@ -1,0 +1,5 @@
+pub mod CaptureLemmas
+pub mod MaskLemmas
+pub mod RingLemmas
+pub mod LoadedLemmas
+pub mod UnloadLemmas
