@@ -5,10 +5,12 @@
 
 mod equations_pace;
 mod patterns_pace;
+mod placements_pace;
 mod systems_pace;
 
 use equations_pace::time_equations;
 use patterns_pace::time_patterns;
+use placements_pace::time_placements;
 use std::alloc::Global;
 use std::rt::Clock;
 use std::{env, io};
@@ -20,6 +22,7 @@ enum Timed {
     Equations,
     Systems,
     Patterns,
+    Placements,
 }
 
 fn main(rt: HostRuntime) -> io::Result<()> {
@@ -31,6 +34,7 @@ fn main(rt: HostRuntime) -> io::Result<()> {
             "equations" => timed = Some(Timed::Equations),
             "systems" => timed = Some(Timed::Systems),
             "patterns" => timed = Some(Timed::Patterns),
+            "placements" => timed = Some(Timed::Placements),
             size => {
                 if let (Some(timed), Ok(size)) = (timed, size.parse::<u32>()) {
                     time(&rt, rt.alloc(), timed, size)?;
@@ -51,5 +55,6 @@ fn time(rt: &(impl Clock + Eprint), alloc: Global, timed: Timed, size: u32) -> i
         Timed::Equations => time_equations(rt, alloc, size),
         Timed::Systems => time_systems(rt, alloc, size),
         Timed::Patterns => time_patterns(rt, alloc, size),
+        Timed::Placements => time_placements(rt, alloc, size),
     }
 }
