@@ -1,5 +1,5 @@
 //! Times parts of the tool that no command reaches alone. Its words name what is timed, each with sizes behind it:
-//! `equations` with cells a chain, `systems` with columns, `patterns` with vectors. With no words it times each once, small.
+//! `equations` with cells a chain, `systems` with columns, `patterns` with vectors, `placements` with chains. With no words it times each once, small.
 //! The times go to standard error. It promises nothing.
 #![tactic(auto)]
 
