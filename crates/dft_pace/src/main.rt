@@ -1,6 +1,6 @@
 //! Times parts of the tool that no command reaches alone. Its words name what is timed, each with sizes behind it:
-//! `equations` with cells a chain, `systems` with columns, `patterns` with vectors, `placements` with chains. With no words it times each once, small.
-//! The times go to standard error. It promises nothing.
+//! `equations` with cells a chain, `systems` with columns, `patterns` with vectors, `placements` with chains. With no words
+//! it times each once, small. The times go to standard error. It promises nothing.
 #![tactic(auto)]
 
 mod equations_pace;
@@ -46,6 +46,7 @@ fn main(rt: HostRuntime) -> io::Result<()> {
         time(&rt, rt.alloc(), Timed::Equations, 64)?;
         time(&rt, rt.alloc(), Timed::Systems, 256)?;
         time(&rt, rt.alloc(), Timed::Patterns, 1000)?;
+        time(&rt, rt.alloc(), Timed::Placements, 16)?;
     }
     Ok(())
 }
