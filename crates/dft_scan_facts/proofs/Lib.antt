@@ -1,0 +1,4 @@
+pub mod PartsThere
+pub mod PortsDriven
+pub mod FirstNets
+pub mod ScanShapes

@@ -1,0 +1,2 @@
+pub use Rattle.dft_scan_off.specs.Agreeing
+pub mod Facts
