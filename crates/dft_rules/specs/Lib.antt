@@ -1,4 +1,5 @@
 pub mod Rules
+pub mod ConfigPorts
 pub mod Refusals
 pub mod Roots
 pub mod Findings

@@ -18,8 +18,8 @@ use Rattle.dft_ring.proofs.RingFacts.{ring_stands}
 use Rattle.dft_compact.specs.CompactorRecipe.{a_compactor}
 use Rattle.dft_compact.specs.CompactorStands.{with_compactor, HasCompactorParts}
 use Rattle.dft_compact.proofs.CompactorFacts.{compactor_stands}
-use Rattle.dft_insert.specs.Statements.{IsReady}
-use Rattle.dft_insert.proofs.Whole.{length_map_from}
+use Rattle.dft_scan_frame.specs.Statements.{IsReady}
+use Rattle.dft_scan_frame.proofs.Whole.{length_map_from}
 use Rattle.dft_scan_hardware.specs.declared.style.Style.TheVariants.{Edt}
 use Rattle.dft_scan_hardware.specs.Chained.{last_net}
 use Rattle.dft_scan_hardware.specs.Frame.{framed_at, frame}

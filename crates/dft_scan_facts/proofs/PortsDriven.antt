@@ -14,12 +14,13 @@ use Rattle.dft_netlist.specs.Netlist.{Netlist}
 use Rattle.dft_netlist.specs.Sound.{bits_of}
 use Rattle.dft_config.specs.declared.config.Config.{Config}
 use Rattle.dft_parts.specs.Standing.{IsClockNet}
-use Rattle.dft_insert.specs.AddedPorts.{NewPort, new_port, numbered, numbered_ports, ports_from}
-use Rattle.dft_insert.specs.Moves.{moved_join}
-use Rattle.dft_insert.specs.Statements.{IsReady, config_ports}
-use Rattle.dft_insert.specs.Written.{map_from}
-use Rattle.dft_insert.proofs.Kept.{numbered_count}
-use Rattle.dft_insert.proofs.Whole.{AreBefore}
+use Rattle.dft_scan_frame.specs.AddedPorts.{NewPort, new_port, numbered, numbered_ports, ports_from}
+use Rattle.dft_scan_frame.specs.Moves.{moved_join}
+use Rattle.dft_scan_frame.specs.Statements.{IsReady}
+use Rattle.dft_rules.specs.ConfigPorts.{config_ports}
+use Rattle.dft_scan_frame.specs.Moves.{map_from}
+use Rattle.dft_scan_frame.proofs.Kept.{numbered_count}
+use Rattle.dft_scan_frame.proofs.Whole.{AreBefore}
 use Rattle.dft_scan_hardware.specs.declared.style.Style.TheVariants.{Edt}
 use Rattle.dft_scan_hardware.specs.Ports.{added_ports, gap_in}
 use Rattle.dft_scan_hardware.specs.Statements.{scanned, made_in}

@@ -13,8 +13,8 @@ use Rattle.dft_netlist.specs.declared.instance.Signal.TheVariants as signal
 use Rattle.dft_netlist.specs.Drivers.{Source, Connection, Driver, Driven, Flop, connections_from, source_of, at_role, driven_by_pins, driver_of_kind}
 use Rattle.dft_netlist.specs.Logic.{same_role, pin_of}
 use Rattle.dft_parts.proofs.Standing.{get_behind}
-use Rattle.dft_insert.specs.Stitching.{number_of}
-use Rattle.dft_insert.proofs.ScanPairs.{ScanPair, Plain, PlainBoth, Resets, ResetsBoth, Sets, SetsBoth}
+use Rattle.dft_scan_frame.specs.Pins.{number_of}
+use Rattle.dft_scan_frame.proofs.ScanPairs.{ScanPair, Plain, PlainBoth, Resets, ResetsBoth, Sets, SetsBoth}
 use Rattle.dft_scan_hardware.specs.Frame.{framed_pins}
 use Rattle.dft_scan_hardware.proofs.Keeping.{past}
 

@@ -11,7 +11,7 @@ use crate::outputs::{last_net, make_rows, row_at};
 use dft_base::Listed;
 use dft_cells::Kind;
 use dft_config::Config;
-use dft_insert::Gap;
+use dft_scan_frame::Gap;
 use dft_netlist::{Design, NetId, NetlistError};
 use dft_parts::PartsBuilder;
 use dft_stitch::Chains;

@@ -1,7 +1,7 @@
 ghost use Rattle.std.specs.Prelude.{◌≡◌};
 ghost use Rattle.dft_scan_hardware.specs.Refusals.{as_told};
 
-use dft_insert::InsertError;
+use dft_scan_frame::InsertError;
 use dft_netlist::NetlistError;
 
 /// A refusal of the builder, as it is told.

@@ -22,15 +22,14 @@ use Rattle.dft_rules.specs.Refusals.{is_scanned}
 use Rattle.dft_rules.specs.Rules.{judged, scan_cell_in, scan_cell_of}
 use Rattle.dft_stitch.specs.Chains.{plan_of}
 use Rattle.dft_stitch.specs.Plans.{cell_at}
-use Rattle.dft_insert.specs.Moves.{Gap, moved}
-use Rattle.dft_insert.specs.Statements.{IsReady}
-use Rattle.dft_insert.specs.Stitching.{moved_or_none}
-use Rattle.dft_insert.specs.Written.{map_from}
-use Rattle.dft_insert.proofs.Kept.{ports_fit}
-use Rattle.dft_insert.proofs.LiveNets.{own_live, input_live}
-use Rattle.dft_insert.proofs.ScanPairs.{ScanPair, Plain as PlainPair, PlainBoth, Resets, ResetsBoth, Sets, SetsBoth}
-use Rattle.dft_insert.proofs.Standing.{stands_scanned}
-use Rattle.dft_insert.proofs.Whole.{moved_front, moved_back}
+use Rattle.dft_scan_frame.specs.Moves.{Gap, moved, map_from}
+use Rattle.dft_scan_frame.specs.Statements.{IsReady}
+use Rattle.dft_scan_frame.specs.Pins.{moved_or_none}
+use Rattle.dft_scan_frame.proofs.Kept.{ports_fit}
+use Rattle.dft_scan_frame.proofs.LiveNets.{own_live, input_live}
+use Rattle.dft_scan_frame.proofs.ScanPairs.{ScanPair, Plain as PlainPair, PlainBoth, Resets, ResetsBoth, Sets, SetsBoth}
+use Rattle.dft_scan_frame.proofs.Standing.{stands_scanned}
+use Rattle.dft_scan_frame.proofs.Whole.{moved_front, moved_back}
 use Rattle.dft_scan_hardware.specs.declared.style.Style.{Style}
 use Rattle.dft_scan_hardware.specs.declared.style.Style.TheVariants.{Plain, Edt}
 use Rattle.dft_scan_hardware.specs.Chained.{roles_of}

@@ -11,7 +11,7 @@ use Rattle.dft_parts.specs.Recipes.{nets_in, net_at, start_of}
 use Rattle.dft_parts.specs.Single.{times_in}
 use Rattle.dft_stitch.specs.Chains.{cells_of, plan_of}
 use Rattle.dft_stitch.proofs.BlockLemmas.{chain_count}
-use Rattle.dft_insert.specs.Statements.{IsReady}
+use Rattle.dft_scan_frame.specs.Statements.{IsReady}
 use Rattle.dft_scan_hardware.specs.declared.style.Style.{Style}
 use Rattle.dft_scan_hardware.specs.declared.style.Style.TheVariants.{Plain, Edt}
 use Rattle.dft_scan_hardware.specs.Frame.{frame}

@@ -13,15 +13,15 @@ use Rattle.dft_netlist.proofs.Ranks.{order_is_rank}
 use Rattle.dft_config.specs.declared.config.Config.{Config}
 use Rattle.dft_chains.specs.ScanOff.{moved_meaning, Contains, KeepsFlop}
 use Rattle.dft_chains.proofs.ScanOffLemmas.{scan_off}
-use Rattle.dft_insert.specs.AddedPorts.{ports_from}
-use Rattle.dft_insert.specs.Moves.{moved, moved_join}
-use Rattle.dft_insert.specs.Statements.{IsReady, config_ports}
-use Rattle.dft_insert.specs.Written.{map_from}
-use Rattle.dft_insert.proofs.Containing.{flop_matched, clock_choice, flop_past, kept_by, reads_by, shows_by, lockup_by, no_clock}
-use Rattle.dft_insert.proofs.Fine.{FineBy, driver_fine}
-use Rattle.dft_insert.proofs.Kept.{reads_inside}
-use Rattle.dft_insert.proofs.Mergings.{moved_driver}
-use Rattle.dft_insert.proofs.Whole.{moved_front, moved_apart}
+use Rattle.dft_scan_frame.specs.AddedPorts.{ports_from}
+use Rattle.dft_scan_frame.specs.Moves.{moved, moved_join, map_from}
+use Rattle.dft_rules.specs.ConfigPorts.{config_ports}
+use Rattle.dft_scan_frame.specs.Statements.{IsReady}
+use Rattle.dft_scan_frame.proofs.Containing.{flop_matched, clock_choice, flop_past, kept_by, reads_by, shows_by, lockup_by, no_clock}
+use Rattle.dft_scan_frame.proofs.Fine.{FineBy, driver_fine}
+use Rattle.dft_scan_frame.proofs.Kept.{reads_inside}
+use Rattle.dft_scan_frame.proofs.Mergings.{moved_driver}
+use Rattle.dft_scan_frame.proofs.Whole.{moved_front, moved_apart}
 use Rattle.dft_scan_hardware.specs.declared.style.Style.{Style}
 use Rattle.dft_scan_hardware.specs.declared.style.Style.TheVariants.{Plain, Edt}
 use Rattle.dft_scan_hardware.specs.Ports.{added_ports, gap_in}

@@ -25,13 +25,13 @@ use Rattle.dft_stitch.specs.Plans.{Plan}
 use Rattle.dft_stitch.proofs.OnceLemmas.{cells_scanned}
 use Rattle.dft_parts.specs.declared.edt_ports.EdtPorts.{EdtPorts}
 use Rattle.dft_parts.specs.Recipes.{Start, start_of, nets_in}
-use Rattle.dft_insert.specs.Moves.{Gap, moved}
-use Rattle.dft_insert.specs.Statements.{IsReady}
-use Rattle.dft_insert.specs.Stitching.{moved_or_none}
-use Rattle.dft_insert.proofs.Kept.{ports_fit}
-use Rattle.dft_insert.proofs.LiveNets.{moved_less, own_live, input_live}
-use Rattle.dft_insert.proofs.ScanPairs.{ScanPair}
-use Rattle.dft_insert.proofs.ScanPairs as pairs
+use Rattle.dft_scan_frame.specs.Moves.{Gap, moved}
+use Rattle.dft_scan_frame.specs.Statements.{IsReady}
+use Rattle.dft_scan_frame.specs.Pins.{moved_or_none}
+use Rattle.dft_scan_frame.proofs.Kept.{ports_fit}
+use Rattle.dft_scan_frame.proofs.LiveNets.{moved_less, own_live, input_live}
+use Rattle.dft_scan_frame.proofs.ScanPairs.{ScanPair}
+use Rattle.dft_scan_frame.proofs.ScanPairs as pairs
 use Rattle.dft_scan_hardware.specs.declared.style.Style.{Style}
 use Rattle.dft_scan_hardware.specs.declared.style.Style.TheVariants.{Plain, Edt}
 use Rattle.dft_scan_hardware.specs.Chained.{roles_of, scan_roles}

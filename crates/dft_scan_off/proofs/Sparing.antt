@@ -13,8 +13,8 @@ use Rattle.dft_config.specs.declared.config.Config.{Config}
 use Rattle.dft_parts.specs.Parts.{Part, ANet, AnInstance, APin}
 use Rattle.dft_parts.specs.Recipes.{start_of, nets_in, net_at}
 use Rattle.dft_parts.specs.Single.{nets_driven, times_in}
-use Rattle.dft_insert.specs.Moves.{Gap, moved}
-use Rattle.dft_insert.proofs.LiveNets.{moved_less}
+use Rattle.dft_scan_frame.specs.Moves.{Gap, moved}
+use Rattle.dft_scan_frame.proofs.LiveNets.{moved_less}
 use Rattle.dft_scan_hardware.specs.declared.style.Style.{Style}
 use Rattle.dft_scan_hardware.specs.declared.style.Style.TheVariants.{Plain, Edt}
 use Rattle.dft_scan_hardware.specs.Frame.{frame}

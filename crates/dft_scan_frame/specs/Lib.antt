@@ -1,0 +1,7 @@
+pub mod Moves
+pub mod AddedPorts
+pub mod Pins
+pub mod Growing
+pub mod Refusals
+pub mod Keeping
+pub mod Statements
