@@ -1,4 +1,11 @@
-pub mod PartsThere
-pub mod PortsDriven
 pub mod FirstNets
 pub mod ScanShapes
+pub mod Clocks
+pub mod Planned
+pub mod Collected
+pub mod Cuts
+pub mod Outputs
+pub mod Lockups
+pub mod ChainNets
+pub mod PartsThere
+pub mod PortsDriven

@@ -27,23 +27,11 @@ use Rattle.dft_scan_hardware.specs.Ports.{gap_in}
 use Rattle.dft_scan_hardware.specs.Scanned.{behind_rows, edt_recipe, framed}
 use Rattle.dft_scan_hardware.specs.Statements.{scanned, made_in}
 use Rattle.dft_scan_laws.proofs.Finished.{scanned_single}
-use Rattle.dft_scan_facts.specs.Facts.{ports_of, row_parts, ring_start, ring_parts, chains_start, chain_parts, compactor_start, ring_number, compactor_number, no_nets, edt_hardware}
-
-abbrev pub compactor_list : Netlist → Config → List Part
-compactor_list n config = (a_compactor config (ports_of n config) (ring_parts n config).value.run (map last_net (row_parts n config).value) (compactor_start n config)).parts
-
--- the parts of style Edt, cut
-made_cut : (n : Netlist) (config : Config) → made_in Edt n config ≡ (row_parts n config).parts ++ ((ring_parts n config).parts ++ (chain_parts n config ++ compactor_list n config))
-unfolding edt_recipe behind_rows
-made_cut n config = refl
-
-all_there : (n : Netlist) (config : Config) → HasParts (scanned Edt n config) (length n.instances) ((row_parts n config).parts ++ ((ring_parts n config).parts ++ (chain_parts n config ++ compactor_list n config)))
-all_there n config =
-    subst (HasParts (scanned Edt n config) (length n.instances)) (made_cut n config)
-    (subst (λ (k : ℕ). HasParts (scanned Edt n config) k (made_in Edt n config)) (length_map_from (framed_at n config (gap_in Edt n config)) 0 n.instances) (parts_grow (framed Edt n config) (made_in Edt n config)).there)
+use Rattle.dft_scan_facts.proofs.Cuts.{compactor_list, all_there}
+use Rattle.dft_scan_facts.specs.Facts.{ports_of, rows_in, ring_start, ring_parts, chains_start, chain_parts, compactor_start, ring_number, compactor_number, no_nets, edt_hardware}
 
 behind_there : (n : Netlist) (config : Config) → HasParts (scanned Edt n config) (ring_number n config) ((ring_parts n config).parts ++ (chain_parts n config ++ compactor_list n config))
-behind_there n config = back (scanned Edt n config) (length n.instances) (row_parts n config).parts ((ring_parts n config).parts ++ (chain_parts n config ++ compactor_list n config)) (all_there n config)
+behind_there n config = back (scanned Edt n config) (length n.instances) (rows_in Edt n config).parts ((ring_parts n config).parts ++ (chain_parts n config ++ compactor_list n config)) (all_there Edt n config)
 
 ring_there : (n : Netlist) (config : Config) → HasParts (scanned Edt n config) (ring_number n config) (ring_parts n config).parts
 ring_there n config = front (scanned Edt n config) (ring_number n config) (ring_parts n config).parts (chain_parts n config ++ compactor_list n config) (behind_there n config)
@@ -62,8 +50,8 @@ ring_has n config ports hw ready clock =
     ring_stands (scanned Edt n config) ports config (ports_of n config) (ring_start n config) (ring_number n config) hw (scanned_single Edt n config ready) (subst IsWellFormed (sym same) ready.library) (sym same) clock ready.range (ring_there n config)
 
 pub compactor_has : (n : Netlist) (config : Config) (ports : Ports) (hw : EdtNets) → IsReady n config → IsClockNet (scanned Edt n config) ports (ports_of n config).edt_clock.0 →
-    HasCompactorParts (logic_of (scanned Edt n config) ports) config (with_compactor config (ports_of n config) (ring_parts n config).value.run (map last_net (row_parts n config).value) (compactor_start n config) (compactor_number n config) hw)
+    HasCompactorParts (logic_of (scanned Edt n config) ports) config (with_compactor config (ports_of n config) (ring_parts n config).value.run (map last_net (rows_in Edt n config).value) (compactor_start n config) (compactor_number n config) hw)
 compactor_has n config ports hw ready clock =
     let same = (parts_grow (framed Edt n config) (made_in Edt n config)).library in
-    compactor_stands (scanned Edt n config) ports config (ports_of n config) (ring_parts n config).value.run (map last_net (row_parts n config).value) (compactor_start n config) (compactor_number n config) hw (scanned_single Edt n config ready) (subst IsWellFormed (sym same) ready.library) (sym same) clock
+    compactor_stands (scanned Edt n config) ports config (ports_of n config) (ring_parts n config).value.run (map last_net (rows_in Edt n config).value) (compactor_start n config) (compactor_number n config) hw (scanned_single Edt n config ready) (subst IsWellFormed (sym same) ready.library) (sym same) clock
     ready.range (compactor_there n config)

@@ -17,7 +17,7 @@ use Rattle.dft_parts.specs.Standing.{IsClockNet}
 use Rattle.dft_scan_frame.specs.AddedPorts.{NewPort, new_port, numbered, numbered_ports, ports_from}
 use Rattle.dft_scan_frame.specs.Moves.{moved_join}
 use Rattle.dft_scan_frame.specs.Statements.{IsReady}
-use Rattle.dft_rules.specs.ConfigPorts.{config_ports}
+use Rattle.dft_scan_frame.specs.ConfigPorts.{config_ports}
 use Rattle.dft_scan_frame.specs.Moves.{map_from}
 use Rattle.dft_scan_frame.proofs.Kept.{numbered_count}
 use Rattle.dft_scan_frame.proofs.Whole.{AreBefore}

@@ -29,7 +29,7 @@ use Rattle.dft_scan_frame.specs.declared.style.Style.TheVariants.{Plain}
 use Rattle.dft_scan_frame.specs.Moves.{moved}
 use Rattle.dft_scan_frame.specs.AddedPorts as ports
 use Rattle.dft_chains.specs.ScanOff.{moved_meaning, Places, KeepsFlop}
-use Rattle.dft_rules.specs.ConfigPorts.{config_ports}
+use Rattle.dft_scan_frame.specs.ConfigPorts.{config_ports}
 use Rattle.dft_scan_frame.specs.Statements.{IsReady}
 use Rattle.dft_scan_frame.proofs.ScanPairs.{ScanPair}
 use Rattle.dft_scan_frame.proofs.ScanPairs as pairs
