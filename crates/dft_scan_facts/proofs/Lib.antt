@@ -7,5 +7,10 @@ pub mod Cuts
 pub mod Outputs
 pub mod Lockups
 pub mod ChainNets
-pub mod PartsThere
 pub mod PortsDriven
+pub mod ScanInputs
+pub mod ChainsHave
+pub mod PlainChains
+pub mod PartsThere
+pub mod ChainsFilled
+pub mod EdtHave

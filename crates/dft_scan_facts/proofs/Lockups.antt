@@ -203,7 +203,7 @@ lockup_means style n config number library clock input output ready same is h =
 -- ---- from cell to cell
 
 module _ (style : Style) (n : Netlist) (config : Config) (ready : IsReady n config) (chain place : ℕ) (cell : InstanceId) (next : ℕ) (s : IsPlanned style n config cell.0) (out : IsShown style n config cell s chain place) where
-  row_is : row_at (rows_in style n config).value chain ≡ out.row
+  pub row_is : row_at (rows_in style n config).value chain ≡ out.row
   row_is = get_or_from_slice_get (rows_in style n config).value chain out.row [] out.at
 
   pub out_net : net_at (row_at (rows_in style n config).value chain) place ≡ out.net

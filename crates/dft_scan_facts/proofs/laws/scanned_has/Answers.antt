@@ -1,14 +1,14 @@
--- In work.
-use Rattle.dft_scan_facts.proofs.ChainNets.{late_fits}
-use Rattle.dft_scan_facts.proofs.PartsThere.{ring_has, compactor_has}
-use Rattle.dft_scan_facts.proofs.PortsDriven.{edt_input, edt_clock_is}
+-- The planned chains and the hardware of each style.
+use Rattle.dft_scan_facts.proofs.ChainsHave.{chains_have}
+use Rattle.dft_scan_facts.proofs.EdtHave.{edt_has}
+use Rattle.dft_scan_facts.proofs.PlainChains.{plain_has}
 use Rattle.dft_scan_facts.proofs.laws.scanned_has.Goals as goal
 
 pub returns-clause-chains : goal.returns-clause-chains
-returns-clause-chains c = ?
+returns-clause-chains c = chains_have
 
 pub returns-clause-plain : goal.returns-clause-plain
-returns-clause-plain c = ?
+returns-clause-plain c = plain_has
 
 pub returns-clause-hardware : goal.returns-clause-hardware
-returns-clause-hardware c = ?
+returns-clause-hardware c = edt_has
