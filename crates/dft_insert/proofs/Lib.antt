@@ -1,2 +1,5 @@
-pub mod Heights
 pub mod Endings
+pub mod Heights
+pub mod Weights
+pub mod WeighedRecipes
+pub mod Counted

@@ -1,2 +1,3 @@
 pub use Rattle.dft_scan_frame.specs.Statements
 pub use Rattle.dft_scan_hardware.specs.Statements
+pub mod Counts

@@ -2,6 +2,7 @@
 #![tactic(auto)]
 
 mod insertion;
+mod laws;
 mod scanned;
 
 pub use dft_chains::{chains_shift, scan_off_agrees};
@@ -13,4 +14,5 @@ pub use dft_scan_hardware::{Style, scanned_keeps};
 pub use dft_scan_laws::scanned_can_finish as scanned_finishes;
 pub use dft_scan_off::scanned_agrees;
 pub use insertion::insert;
+pub use laws::scanned_counts;
 pub use scanned::Scanned;

@@ -1,16 +1,16 @@
 //! Netlists with scan chains and compression hardware, worked by hand to the last made name.
 
-ghost use Rattle.std.specs.Prelude.{◌≡◌};
+ghost use Rattle.std.specs.Prelude.{◌≡◌, None};
 ghost use Rattle.dft_config.specs.Range.{IsInRange};
+ghost use Rattle.dft_rules.specs.Refusals as rules;
 ghost use Rattle.dft_stitch.specs.Chains.{plan_of};
 
 use dft_base::Name;
 use dft_cells::Library;
 use dft_config::Config;
-use dft_insert::InsertError;
-use dft_netlist::{Counted, Design, DesignBuilder};
+use dft_insert::{InsertError, Style, insert};
+use dft_netlist::{Counted, Design};
 use dft_rules::judge;
-use dft_scan_hardware::{Style, make_scanned};
 use dft_stitch::{Chains, plan};
 use dft_verilog::{MAX_TEXT, read};
 use dft_verilog_out::{gates_are_joined, write};
@@ -249,14 +249,11 @@ fn refused(alloc: Global, error: InsertError) -> Result<String, AllocError> {
 }
 
 // The text of a netlist that is made.
-fn written(alloc: Global, builder: DesignBuilder) -> Result<String, AllocError> {
-    let Ok(design) = builder.finish() else {
-        return String::from_str(alloc, "not finished");
-    };
-    if !gates_are_joined(&design) {
+fn written(alloc: Global, design: &Design) -> Result<String, AllocError> {
+    if !gates_are_joined(design) {
         return String::from_str(alloc, "open");
     }
-    let bytes = write(alloc, &design)?;
+    let bytes = write(alloc, design)?;
     match std::str::from_utf8(&bytes) {
         Ok(text) => String::from_str(alloc, text),
         Err(_) => String::from_str(alloc, "no text"),
@@ -271,10 +268,11 @@ fn made(
     style: Style,
 ) -> Result<String, AllocError>
     requires range { IsInRange config.now }
+    requires passed { rules.refusal design.now config.now ≡ None }
     requires planned { chains.now ≡ plan_of design.now config.now }
 {
-    match make_scanned(alloc, design, config, chains, style) {
-        Ok(scanned) => written(alloc, scanned.builder),
+    match insert(alloc, design, config, chains, style) {
+        Ok(scanned) => written(alloc, &scanned.design),
         Err(error) => refused(alloc, error),
     }
 }

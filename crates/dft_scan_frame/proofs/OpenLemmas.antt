@@ -1,4 +1,4 @@
--- How many nets are bits of ports, and how many cells have an output that is joined to nothing.
+-- The net at the output of an instance.
 use Rattle.std.proofs.Common.{◌≡◌, ℕ, ◌+◌, ◌-◌, ◌≤◌, Bool, true, false, cond, List, ◌∷◌, ◌++◌, find, length, length-append, map, Option, None, Some, option_map, option_and_then, refl, ap, arith}
 use Rattle.dft_netlist.specs.declared.ids.InstanceId.{InstanceId}
 use Rattle.dft_cells.specs.declared.kind.Role.{Role}
@@ -9,16 +9,7 @@ use Rattle.dft_netlist.specs.Netlist.{Netlist}
 use Rattle.dft_netlist.specs.Connections.{joined_to, signal_of}
 use Rattle.dft_netlist.specs.Drivers.{Connection, Source, pins_of, source_of}
 use Rattle.dft_netlist.specs.Logic.{pin_of, same_role}
-use Rattle.dft_netlist.specs.Sound.{IsNetlist, bits_of, bit_names_of}
-use Rattle.dft_netlist.proofs.LiveLemmas.{length-bits}
 use Rattle.dft_scan_frame.specs.Pins.{net_of, own_output}
-
--- ---- bits of ports
-
-pub few_bits : (n : Netlist) → IsNetlist n → length (bits_of n.ports) ≤ length n.nets
-few_bits n sound =
-    let whole : length n.nets ≡ length (bit_names_of n.ports ++ sound.bits.rest) = ap length sound.bits.same in
-    omega (arith, whole, length-append (bit_names_of n.ports) sound.bits.rest, length-bits n.ports sound.widths)
 
 -- ---- outputs
 

@@ -36,6 +36,7 @@ use Rattle.dft_scan_hardware.specs.Chained.{roles_of}
 use Rattle.dft_scan_hardware.specs.Frame.{as_scan_cell, framed_instance, framed_at, frame}
 use Rattle.dft_scan_hardware.specs.Ports.{gap_in}
 use Rattle.dft_scan_hardware.proofs.Frames.{scan_pair, plain_count, edt_count}
+use Rattle.dft_scan_hardware.proofs.Keeping.{from_get}
 use Rattle.dft_scan_laws.proofs.Claims.{IsFlopIn}
 use Rattle.dft_scan_laws.proofs.Goods.{IsBelow}
 use Rattle.dft_scan_laws.proofs.GoodChains.{IsScanCell, ChainSetting}
@@ -166,11 +167,6 @@ pair_flop _ _ _ _ Resets = refl
 pair_flop _ _ _ _ ResetsBoth = refl
 pair_flop _ _ _ _ Sets = refl
 pair_flop _ _ _ _ SetsBoth = refl
-
-from_get : {A B : Type 0} (f : ℕ → A → B) (k : ℕ) (xs : List A) (i : ℕ) (x : A) → slice_get xs i ≡ Some x → slice_get (map_from f k xs) i ≡ Some (f (k + i) x)
-from_get f k [] i x h = absurd (none-some x h)
-from_get f k (y ∷ xs) zero x h = let e : k ≡ k + 0 = omega arith in ap (λ z. Some (f k z)) (same_Some y x h) ∙ ap (λ j. Some (f j x)) e
-from_get f k (y ∷ xs) (suc i) x h = let e : suc k + i ≡ k + suc i = omega arith in from_get f (suc k) xs i x h ∙ ap (λ j. Some (f j x)) e
 
 -- an instance of the design stands in the frame
 pub framed_there : (style : Style) (n : Netlist) (config : Config) (i : ℕ) (x : Instance) → slice_get n.instances i ≡ Some x → slice_get (frame style n config).instances i ≡ Some (framed_at n config (gap_in style n config) i x)

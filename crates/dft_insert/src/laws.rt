@@ -1,0 +1,10 @@
+//! Laws about scanned netlists, as contracts of functions that do nothing.
+
+ghost use Rattle.dft_insert.specs.Counts.{CountsAdded};
+
+/// Behind the design's instances a scanned netlist has as many flip-flops and lock-ups as its style adds: in style Edt the stages of
+/// the ring and two flip-flops for each chain, in style Plain none; and the planned lock-ups between domains, with one for each chain
+/// on edt_clock in style Edt.
+pub fn scanned_counts()
+    ensures { CountsAdded }
+{}
