@@ -48,7 +48,7 @@ use Rattle.dft_scan_hardware.specs.Statements.{scanned, made_in}
 use Rattle.dft_scan_laws.proofs.Finished.{scanned_single}
 use Rattle.dft_scan_off.specs.Agreeing.{ports_in}
 use Rattle.dft_scan_off.proofs.Driving.{driver_kept}
-use Rattle.dft_scan_off.proofs.Good.{spared}
+use Rattle.dft_scan_off.proofs.Sparing.{spared}
 use Rattle.dft_scan_facts.specs.Facts.{rows_in}
 use Rattle.dft_scan_facts.proofs.Clocks.{IsClocked, net_is, same_clock, root_stays}
 use Rattle.dft_scan_facts.proofs.Outputs.{IsShown, means}

@@ -43,7 +43,7 @@ use Rattle.dft_scan_hardware.proofs.Joins.{joined_in, stays_joined}
 use Rattle.dft_scan_hardware.proofs.Keeping.{scanned_names}
 use Rattle.dft_scan_laws.proofs.Finished.{scanned_single}
 use Rattle.dft_scan_off.specs.Agreeing.{ports_in, places_in}
-use Rattle.dft_scan_off.proofs.Good.{spared}
+use Rattle.dft_scan_off.proofs.Sparing.{spared}
 use Rattle.dft_scan_off.proofs.Matching.{ports_alike, now_there, instance_matched}
 use Rattle.dft_scan_off.proofs.Merging.{joined_at}
 use Rattle.dft_scan_facts.specs.Facts.{taken_by}

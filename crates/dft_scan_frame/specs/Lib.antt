@@ -4,5 +4,5 @@ pub mod Pins
 pub mod Growing
 pub mod Refusals
 pub mod Keeping
-pub mod ConfigPorts
 pub mod Statements
+pub mod ConfigPorts
