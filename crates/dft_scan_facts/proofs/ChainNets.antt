@@ -64,7 +64,7 @@ module _ (n w : Netlist) (config : Config) (gap : Gap) (i p : ℕ) (P : NetId �
 
   fits_if : (b : Bool) (r : Recipe (Unit {0})) → (b ≡ true → FitsIn w i p P r) → FitsIn w i p P (if b then r else pure tt)
   fits_if true r h = h refl
-  fits_if false r h at k lib has = inl refl
+  fits_if false r h = λ at k lib has. inl refl
 
   found_if : (b : Bool) (r : Recipe (Unit {0})) → b ≡ true → FoundIn w i p P r → FoundIn w i p P (if b then r else pure tt)
   found_if true r e h = h

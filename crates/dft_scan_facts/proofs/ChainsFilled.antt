@@ -64,14 +64,15 @@ all_more v (d ∷ ds) k m =
 above : (e from : ℕ) → (e == from) ≡ false → from ≤ e → from + 1 ≤ e
 above e from is le = grind (arith, nat_tests, is, le)
 
+hits_by : (e from : ℕ) (rest : ℕ) (b : Bool) → (e == from) ≡ b → (from + 1 ≤ e → 1 ≤ rest) → from ≤ e → 1 ≤ (if b then 1 else 0) + rest
+hits_by e from rest true is more low = omega arith
+hits_by e from rest false is more low = (let h = more (above e from is low) in omega (arith, h))
+
 hits_some : (e from count : ℕ) → from ≤ e → e < from + count → 1 ≤ hits (Some e) (range_with_len from count)
 unfolding hits in_one
 hits_some e from zero low high = absurd (omega (arith, low, high))
-hits_some e from (suc count) low high = by (e == from) refl
-  where
-    by : (b : Bool) → (e == from) ≡ b → 1 ≤ (if b then 1 else 0) + hits (Some e) (range_with_len (from + 1) count)
-    by true is = omega arith
-    by false is = (let more = hits_some e (from + 1) count (above e from is low) (omega (arith, high)) in omega (arith, more))
+hits_some e from (suc count) low high =
+    hits_by e from (hits (Some e) (range_with_len (from + 1) count)) (e == from) refl (λ above_it. hits_some e (from + 1) count above_it (omega (arith, high))) low
 
 -- ---- scanned flip-flops are cells
 

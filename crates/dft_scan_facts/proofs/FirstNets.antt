@@ -62,17 +62,17 @@ joined_if pin net b pins = if b then pin_joined pin net pins else pins
 joined_by : (parts : List Part) (i p : ℕ) (pins : List Signal) (pin : ℕ) (its net : NetId) (a b : Bool) → (pin == p) ≡ b → slice_get pins p ≡ Some Unconnected →
     ((ps : List Signal) → slice_get ps p ≡ Some Unconnected → first_at parts i p ≡ Some net → slice_get (joined_in parts i ps) p ≡ Some (Net net)) → (if a && b then Some its else first_at parts i p) ≡ Some net →
     slice_get (joined_in parts i (joined_if pin its a pins)) p ≡ Some (Net net)
-joined_by parts i p pins pin its net false b is open more e = more pins open e
-joined_by parts i p pins pin its net true false is open more e = more (pin_joined pin its pins) (joined_apart pin p its pins (differ pin p is) ∙ open) e
-joined_by parts i p pins pin its net true true is open more e =
+joined_by parts i p pins pin its net false b is free more e = more pins free e
+joined_by parts i p pins pin its net true false is free more e = more (pin_joined pin its pins) (joined_apart pin p its pins (differ pin p is) ∙ free) e
+joined_by parts i p pins pin its net true true is free more e =
     stays_joined parts i (pin_joined pin its pins) p net
-    (subst (λ k. slice_get (pin_joined k its pins) p ≡ Some (Net net)) (sym (eqb-true pin p is)) (joined_here p its pins open ∙ ap (λ (k : NetId). Some (Net k)) (same_Some its net e)))
+    (subst (λ k. slice_get (pin_joined k its pins) p ≡ Some (Net net)) (sym (eqb-true pin p is)) (joined_here p its pins free ∙ ap (λ (k : NetId). Some (Net k)) (same_Some its net e)))
 
 pub joined_first : (parts : List Part) (i p : ℕ) (pins : List Signal) (net : NetId) → slice_get pins p ≡ Some Unconnected → first_at parts i p ≡ Some net → slice_get (joined_in parts i pins) p ≡ Some (Net net)
-joined_first [] i p pins net open e = absurd (none-some net e)
-joined_first (ANet ∷ parts) i p pins net open e = joined_first parts i p pins net open e
-joined_first (AnInstance cell its ∷ parts) i p pins net open e = joined_first parts i p pins net open e
-joined_first (APin j pin its ∷ parts) i p pins net open e = joined_by parts i p pins pin its net (j.0 == i) (pin == p) refl open (λ ps at is. joined_first parts i p ps net at is) e
+joined_first [] i p pins net free e = absurd (none-some net e)
+joined_first (ANet ∷ parts) i p pins net free e = joined_first parts i p pins net free e
+joined_first (AnInstance cell its ∷ parts) i p pins net free e = joined_first parts i p pins net free e
+joined_first (APin j pin its ∷ parts) i p pins net free e = joined_by parts i p pins pin its net (j.0 == i) (pin == p) refl free (λ ps at is. joined_first parts i p ps net at is) e
 
 -- ---- what the first net is
 

@@ -14,3 +14,4 @@ pub mod PlainChains
 pub mod PartsThere
 pub mod ChainsFilled
 pub mod EdtHave
+pub mod Heights

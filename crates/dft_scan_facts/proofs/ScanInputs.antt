@@ -100,7 +100,7 @@ module _ (n : Netlist) (config : Config) (i p : ℕ) (P : NetId → Type 0) wher
       subst (λ (ps : List Part). Found P (first_at ps i p)) (sym (made_cut Edt n config))
       (found_back w i p P (length n.instances) (rows_in Edt n config).parts (rest_of Edt n config) (λ _. inl none)
       (λ has. found_back w i p P _ (ring_parts n config).parts (chain_parts n config ++ compactor_list n config)
-      (λ _. inl (none_first Q (ring_parts n config).parts i p (λ q. q) (ring_free (JoinsAt Q) config (ports_of n config) (record { net = tt; instance = λ cell pins. tt }) (ring_start n config))))
+      (λ _. inl (none_first Q (ring_parts n config).parts i p (λ q. q) (ring_free (JoinsAt Q) config (ports_of n config) (record { net = tt; cell = λ id pins. tt; gate = λ kind inputs output. tt }) (ring_start n config))))
       (λ late. found_front w i p P _ (chain_parts n config) (compactor_list n config)
       (λ there. found_each w i p P (chain_recipe Edt n config) (range_with_len 0 (length (plan_of n config).chains)) chain chain (get_range 0 (length (plan_of n config).chains) chain less ∙ ap Some (omega arith)) found
       (λ k other at. either_fits Edt chain other (other == chain) refl only found) (chains_start n config) _ lib there) late) has)

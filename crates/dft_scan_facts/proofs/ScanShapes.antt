@@ -48,10 +48,10 @@ two_on pins = index_drop (drop 1 pins) 0 ∙ index_drop pins 1
 three_on : (pins : List Signal) → slice_index_or (drop 1 (drop 1 (drop 1 pins))) 0 signal.Unconnected ≡ slice_index_or pins 3 signal.Unconnected
 three_on pins = index_drop (drop 1 (drop 1 pins)) 0 ∙ index_drop (drop 1 pins) 1 ∙ index_drop pins 2
 
-apart_two : 2 ≡ 4 → ⊥
+apart_two : ◌≡◌ {A = ℕ} 2 4 → ⊥
 apart_two e = omega (arith, e)
 
-apart_three : 3 ≡ 5 → ⊥
+apart_three : ◌≡◌ {A = ℕ} 3 5 → ⊥
 apart_three e = omega (arith, e)
 
 pub scan_shape : (a : Kind) (r : List Role) (b : Kind) (s : List Role) → ScanPair a r b s → IsScanShape r b s
@@ -64,45 +64,40 @@ scan_shape _ _ _ _ SetsBoth = record { flop = refl; input = 3; is_input = refl; 
 
 -- ---- a pin by its number
 
--- from where the pin of a role takes its bit
+-- the number of a later pin of a role
+later_number : (r : Role) (first j : ℕ) (roles : List Role) → number_of (same_role r) (suc first) roles ≡ Some (first + suc j) → number_of (same_role r) (suc first) roles ≡ Some (suc first + j)
+later_number r first j roles is = let e : first + suc j ≡ suc first + j = omega arith in is ∙ ap Some e
+
+-- from where the pin of a role takes its bit, by what holds of the later pins
+number_by : (r : Role) (i first : ℕ) (roles : List Role) (t : Signal) (pins : List Signal) (s : Signal) (j : ℕ) (b : Bool) →
+    ((k : ℕ) → slice_get pins k ≡ Some s → number_of (same_role r) (suc first) roles ≡ Some (suc first + k) → pin_of r i (connections_from (suc first) roles pins) ≡ Some (source_of i (suc first + k) s)) →
+    slice_get (t ∷ pins) j ≡ Some s → (if b then Some first else number_of (same_role r) (suc first) roles) ≡ Some (first + j) →
+    (if b then Some (source_of i first t) else pin_of r i (connections_from (suc first) roles pins)) ≡ Some (source_of i (first + j) s)
+number_by r i first roles t pins s zero true more at is = ap (λ z. Some (source_of i first z)) (same_Some t s at) ∙ ap (λ m. Some (source_of i m s)) (same_Some first (first + zero) is)
+number_by r i first roles t pins s (suc j) true more at is = absurd (let e = same_Some first (first + suc j) is in omega (arith, e))
+number_by r i first roles t pins s zero false more at is = absurd (let e = past r (suc first) (first + zero) roles is in omega (arith, e))
+number_by r i first roles t pins s (suc j) false more at is =
+    let e : suc first + j ≡ first + suc j = omega arith in
+    more j at (later_number r first j roles is) ∙ ap (λ m. Some (source_of i m s)) e
+
 pub pin_number : (r : Role) (i first j : ℕ) (roles : List Role) (pins : List Signal) (s : Signal) → number_of (same_role r) first roles ≡ Some (first + j) → slice_get pins j ≡ Some s → pin_of r i (connections_from first roles pins) ≡ Some (source_of i (first + j) s)
 pin_number r i first j [] pins s is at = absurd (none-some (first + j) is)
 pin_number r i first j (x ∷ roles) [] s is at = absurd (none-some s at)
-pin_number r i first j (x ∷ roles) (t ∷ pins) s is at = by (same_role r x) refl is
-  where
-    more : (k : ℕ) → slice_get (t ∷ pins) k ≡ Some s → number_of (same_role r) (suc first) roles ≡ Some (first + k) → pin_of r i (connections_from (suc first) roles pins) ≡ Some (source_of i (first + k) s)
-    more zero here number = absurd (let e = past r (suc first) (first + zero) roles number in omega (arith, e))
-    more (suc k) here number =
-        let e : first + suc k ≡ suc first + k = omega arith in
-        pin_number r i (suc first) k roles pins s (number ∙ ap Some e) here ∙ ap (λ m. Some (source_of i m s)) (sym e)
-
-    first_pin : (k : ℕ) → slice_get (t ∷ pins) k ≡ Some s → first ≡ first + k → Some (source_of i first t) ≡ Some (source_of i (first + k) s)
-    first_pin zero here same = ap (λ z. Some (source_of i first z)) (same_Some t s here) ∙ ap (λ m. Some (source_of i m s)) same
-    first_pin (suc k) here same = absurd (omega (arith, same))
-
-    by : (b : Bool) → same_role r x ≡ b → (if b then Some first else number_of (same_role r) (suc first) roles) ≡ Some (first + j) →
-        (if b then Some (source_of i first t) else pin_of r i (connections_from (suc first) roles pins)) ≡ Some (source_of i (first + j) s)
-    by true its number = first_pin j at (same_Some first (first + j) number)
-    by false its number = more j at number
+pin_number r i first j (x ∷ roles) (t ∷ pins) s is at = number_by r i first roles t pins s j (same_role r x) (λ k there its. pin_number r i (suc first) k roles pins s its there) at is
 
 -- where it has no pin of this number, there is none
+none_by : (r : Role) (i first : ℕ) (roles : List Role) (t : Signal) (pins : List Signal) (j : ℕ) (b : Bool) →
+    ((k : ℕ) → slice_get pins k ≡ None → number_of (same_role r) (suc first) roles ≡ Some (suc first + k) → pin_of r i (connections_from (suc first) roles pins) ≡ None) →
+    slice_get (t ∷ pins) j ≡ None → (if b then Some first else number_of (same_role r) (suc first) roles) ≡ Some (first + j) →
+    (if b then Some (source_of i first t) else pin_of r i (connections_from (suc first) roles pins)) ≡ None
+none_by r i first roles t pins zero b more at is = absurd (none-some t (sym at))
+none_by r i first roles t pins (suc j) true more at is = absurd (let e = same_Some first (first + suc j) is in omega (arith, e))
+none_by r i first roles t pins (suc j) false more at is = more j at (later_number r first j roles is)
+
 pub pin_none : (r : Role) (i first j : ℕ) (roles : List Role) (pins : List Signal) → number_of (same_role r) first roles ≡ Some (first + j) → slice_get pins j ≡ None → pin_of r i (connections_from first roles pins) ≡ None
 pin_none r i first j [] pins is at = refl
 pin_none r i first j (x ∷ roles) [] is at = refl
-pin_none r i first j (x ∷ roles) (t ∷ pins) is at = by (same_role r x) refl is
-  where
-    more : (k : ℕ) → slice_get (t ∷ pins) k ≡ None → number_of (same_role r) (suc first) roles ≡ Some (first + k) → pin_of r i (connections_from (suc first) roles pins) ≡ None
-    more zero here number = absurd (none-some t (sym here))
-    more (suc k) here number = let e : first + suc k ≡ suc first + k = omega arith in pin_none r i (suc first) k roles pins (number ∙ ap Some e) here
-
-    first_pin : (k : ℕ) → slice_get (t ∷ pins) k ≡ None → first ≡ first + k → ◌≡◌ {A = Option Source} (Some (source_of i first t)) None
-    first_pin zero here same = absurd (none-some t (sym here))
-    first_pin (suc k) here same = absurd (omega (arith, same))
-
-    by : (b : Bool) → same_role r x ≡ b → (if b then Some first else number_of (same_role r) (suc first) roles) ≡ Some (first + j) →
-        (if b then Some (source_of i first t) else pin_of r i (connections_from (suc first) roles pins)) ≡ None
-    by true its number = first_pin j at (same_Some first (first + j) number)
-    by false its number = more j at number
+pin_none r i first j (x ∷ roles) (t ∷ pins) is at = none_by r i first roles t pins j (same_role r x) (λ k there its. pin_none r i (suc first) k roles pins its there) at is
 
 -- ---- an output drives its net
 
@@ -146,23 +141,21 @@ output_first k i ins ScanIn net rest flop is = absurd cc
 output_first k i ins ScanEnable net rest flop is = absurd cc
 output_first k i ins Inverted net rest flop is = absurd cc
 
+lists_by : (k : Kind) (i : ℕ) (ins : List Source) (first : ℕ) (x : Role) (roles : List Role) (t : Signal) (pins : List Signal) (net : NetId) (j : ℕ) (b : Bool) → is_flip_flop k ≡ true → same_role Output x ≡ b →
+    ((m : ℕ) → slice_get pins m ≡ Some (signal.Net net) → number_of (same_role Output) (suc first) roles ≡ Some (suc first + m) → Lists (driven_by_pins k i ins (connections_from (suc first) roles pins)) (net.0, Flop i false)) →
+    slice_get (t ∷ pins) j ≡ Some (signal.Net net) → (if b then Some first else number_of (same_role Output) (suc first) roles) ≡ Some (first + j) →
+    Lists (at_role x k i ins t ++ driven_by_pins k i ins (connections_from (suc first) roles pins)) (net.0, Flop i false)
+lists_by k i ins first x roles t pins net zero true flop its more at is =
+    subst (λ (z : Signal). Lists (at_role x k i ins z ++ driven_by_pins k i ins (connections_from (suc first) roles pins)) (net.0, Flop i false)) (sym (same_Some t (signal.Net net) at))
+    (output_first k i ins x net (driven_by_pins k i ins (connections_from (suc first) roles pins)) flop its)
+lists_by k i ins first x roles t pins net (suc j) true flop its more at is = absurd (let e = same_Some first (first + suc j) is in omega (arith, e))
+lists_by k i ins first x roles t pins net zero false flop its more at is = absurd (let e = past Output (suc first) (first + zero) roles is in omega (arith, e))
+lists_by k i ins first x roles t pins net (suc j) false flop its more at is =
+    lists_behind (at_role x k i ins t) (driven_by_pins k i ins (connections_from (suc first) roles pins)) (net.0, Flop i false) (more j at (later_number Output first j roles is))
+
 pub output_lists : (k : Kind) (i : ℕ) (ins : List Source) (first j : ℕ) (roles : List Role) (pins : List Signal) (net : NetId) → is_flip_flop k ≡ true → number_of (same_role Output) first roles ≡ Some (first + j) → slice_get pins j ≡ Some (signal.Net net) →
     Lists (driven_by_pins k i ins (connections_from first roles pins)) (net.0, Flop i false)
 output_lists k i ins first j [] pins net flop is at = absurd (none-some (first + j) is)
 output_lists k i ins first j (x ∷ roles) [] net flop is at = absurd (none-some (signal.Net net) at)
-output_lists k i ins first j (x ∷ roles) (t ∷ pins) net flop is at = by (same_role Output x) refl is
-  where
-    more : (m : ℕ) → slice_get (t ∷ pins) m ≡ Some (signal.Net net) → number_of (same_role Output) (suc first) roles ≡ Some (first + m) → Lists (driven_by_pins k i ins (connections_from (suc first) roles pins)) (net.0, Flop i false)
-    more zero here number = absurd (let e = past Output (suc first) (first + zero) roles number in omega (arith, e))
-    more (suc m) here number = let e : first + suc m ≡ suc first + m = omega arith in output_lists k i ins (suc first) m roles pins net flop (number ∙ ap Some e) here
-
-    first_pin : (m : ℕ) → slice_get (t ∷ pins) m ≡ Some (signal.Net net) → first ≡ first + m → t ≡ signal.Net net
-    first_pin zero here same = same_Some t (signal.Net net) here
-    first_pin (suc m) here same = absurd (omega (arith, same))
-
-    by : (b : Bool) → same_role Output x ≡ b → (if b then Some first else number_of (same_role Output) (suc first) roles) ≡ Some (first + j) →
-        Lists (at_role x k i ins t ++ driven_by_pins k i ins (connections_from (suc first) roles pins)) (net.0, Flop i false)
-    by true its number =
-        subst (λ (z : Signal). Lists (at_role x k i ins z ++ driven_by_pins k i ins (connections_from (suc first) roles pins)) (net.0, Flop i false)) (sym (first_pin j at (same_Some first (first + j) number)))
-        (output_first k i ins x net (driven_by_pins k i ins (connections_from (suc first) roles pins)) flop its)
-    by false its number = lists_behind (at_role x k i ins t) (driven_by_pins k i ins (connections_from (suc first) roles pins)) (net.0, Flop i false) (more j at number)
+output_lists k i ins first j (x ∷ roles) (t ∷ pins) net flop is at =
+    lists_by k i ins first x roles t pins net j (same_role Output x) flop refl (λ m there its. output_lists k i ins (suc first) m roles pins net flop its there) at is
