@@ -15,3 +15,11 @@ pub mod PartsThere
 pub mod ChainsFilled
 pub mod EdtHave
 pub mod Heights
+pub mod PlainShifts
+pub mod EdtUnder
+pub mod EdtActs
+pub mod Reaching
+pub mod Captured
+pub mod FlopsListed
+pub mod FlopsPlaced
+pub mod FlopsOrdered

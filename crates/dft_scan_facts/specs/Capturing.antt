@@ -50,7 +50,13 @@ CapturesClear n config ports =
     IsClearing (edt_hardware n config) x → AreViews l (pulse_of l x old) poss view →
     Clears config (edt_hardware n config) (after_pulse l (pulse_of l x old) view) × HoldsTake config (edt_hardware n config) old (after_pulse l (pulse_of l x old) view)
 
--- One capture vector, for every ready design and all ports that suit.
-abbrev pub CaptureActs : Type 0
-CaptureActs =
-    (n : Netlist) (config : Config) (ports : Ports) → IsReady n config → SuitsEdt n config ports → StrobesStand n config ports × CapturesStand n config ports × CapturesClear n config ports
+-- ---- for every ready design, under all ports that suit
+
+abbrev pub StrobesFollow : Type 0
+StrobesFollow = (n : Netlist) (config : Config) (ports : Ports) → IsReady n config → SuitsEdt n config ports → StrobesStand n config ports
+
+abbrev pub CapturesFollow : Type 0
+CapturesFollow = (n : Netlist) (config : Config) (ports : Ports) → IsReady n config → SuitsEdt n config ports → CapturesStand n config ports
+
+abbrev pub CapturesClearAll : Type 0
+CapturesClearAll = (n : Netlist) (config : Config) (ports : Ports) → IsReady n config → SuitsEdt n config ports → CapturesClear n config ports
