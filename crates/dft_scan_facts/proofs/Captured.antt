@@ -1,6 +1,5 @@
 -- One capture vector of a scanned netlist of style Edt.
 use Rattle.std.proofs.Common.{ℕ, ◌≡◌, true, Option, None, Some, is_some, slice_get, refl, sym, ap, ◌∙◌}
-use Rattle.std.proofs.lemmas.Option.{none-some}
 use Rattle.dft_netlist.specs.Logic.{Logic, Ports, Cell, IsRanked, cell_or_none, flip_flop, logic_of}
 use Rattle.dft_netlist.specs.Netlist.{Netlist}
 use Rattle.dft_netlist.proofs.RankLemmas.{order_ranks}

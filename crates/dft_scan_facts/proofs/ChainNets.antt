@@ -1,9 +1,8 @@
 -- The net that the parts of a chain's recipe join a scan input to.
-use Rattle.std.proofs.Common.{ℕ, zero, suc, ◌+◌, ◌<◌, ◌≡◌, ◌==◌, ◌&&◌, inl, inr, Bool, true, false, List, [], ◌∷◌, length, Option, None, Some, slice_get, refl, sym, subst, ap, arith, ◌∙◌}
-use Rattle.std.specs.Prelude.{slice_index_or, if◌then◌else◌}
+use Rattle.std.proofs.Common.{ℕ, suc, ◌+◌, ◌<◌, ◌≡◌, ◌==◌, ◌&&◌, inl, Bool, true, false, List, length, Option, None, Some, slice_get, refl, sym, subst, ap, arith, ◌∙◌}
+use Rattle.std.specs.Prelude.{if◌then◌else◌}
 use Rattle.std.specs.List.{range_with_len}
 use Rattle.std.proofs.lemmas.Bool.{eqb-true, eq-eqb}
-use Rattle.std.proofs.lemmas.Option.{none-some, same_Some}
 use Rattle.dft_cells.specs.declared.cell.Cell.{Cell}
 use Rattle.dft_cells.specs.declared.kind.Role.TheVariants.{ScanIn}
 use Rattle.dft_netlist.specs.declared.ids.NetId.{NetId}
@@ -12,7 +11,6 @@ use Rattle.dft_netlist.specs.Logic.{same_role}
 use Rattle.dft_netlist.specs.Netlist.{Netlist}
 use Rattle.dft_config.specs.declared.config.Config.{Config}
 use Rattle.dft_stitch.specs.declared.places.LockupPlace.{LockupPlace}
-use Rattle.dft_parts.specs.Growth.{HasParts}
 use Rattle.dft_parts.specs.Recipes.{Start, Recipe, pure, ◌>>◌, behind, each, net_at, a_net, a_lockup}
 use Rattle.dft_scan_frame.specs.Moves.{Gap}
 use Rattle.dft_scan_frame.specs.Pins.{number_of, domain_in}
@@ -87,7 +85,7 @@ module _ (n w : Netlist) (config : Config) (gap : Gap) (i p : ℕ) (P : NetId �
 
     crossed_fits : AllCross → FitsIn w i p P crossed
     crossed_fits h = fits_each w i p P (crossing_in n config gap chain cells outputs) lockups
-      (λ m l there. fits_if (l.chain == chain) (a_crossing n config gap cells outputs l) (λ is. crossing_fits cells outputs l (h m l there (eqb-true l.chain chain is))))
+        (λ m l there. fits_if (l.chain == chain) (a_crossing n config gap cells outputs l) (λ is. crossing_fits cells outputs l (h m l there (eqb-true l.chain chain is))))
 
     crossed_found : (m : ℕ) (l : LockupPlace) (c : InstanceId) → slice_get lockups m ≡ Some l → l.chain ≡ chain → slice_get cells (l.after + 1) ≡ Some c → number_of (same_role ScanIn) 0 (scan_roles n c) ≡ Some p → c.0 ≡ i → AllCross → FoundIn w i p P crossed
     crossed_found m l c there is here number same h =

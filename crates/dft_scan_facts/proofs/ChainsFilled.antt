@@ -1,9 +1,9 @@
 -- Each planned chain of a design that the rules pass has a cell.
-use Rattle.std.proofs.Common.{ℕ, zero, suc, ◌+◌, ◌-◌, ◌*◌, ◌/◌, ◌%◌, ◌<◌, ◌≤◌, ◌≡◌, ◌==◌, min, Bool, true, false, cond, List, [], ◌∷◌, ◌++◌, length, take, drop, map, flat_map, filter_map, count_by, Option, None, Some, option_map, slice_get, slice_index_or, refl, sym, subst, ap, arith, ◌∙◌}
-use Rattle.std.specs.Prelude.{pos, nat_lt, if◌then◌else◌}
+use Rattle.std.proofs.Common.{ℕ, zero, suc, ◌+◌, ◌-◌, ◌*◌, ◌/◌, ◌%◌, ◌<◌, ◌≤◌, ◌≡◌, ◌==◌, min, Bool, true, false, cond, List, [], ◌∷◌, ◌++◌, length, take, drop, map, flat_map, filter_map, count_by, Option, None, Some, option_map, slice_get, refl, sym, subst, ap, arith, ◌∙◌}
+use Rattle.std.specs.Prelude.{nat_lt, if◌then◌else◌}
 use Rattle.std.specs.List.{cons_option, range_with_len}
 use Rattle.std.proofs.lemmas.Bool.Decides.{nat_tests}
-use Rattle.std.proofs.lemmas.List.{length-append, length-take, length-drop, nil_from_length}
+use Rattle.std.proofs.lemmas.List.{length-append, length-take, length-drop}
 use Rattle.std.proofs.lemmas.List.FromFn.{get_or-map-range_with_len, length-map-range_with_len}
 use Rattle.std.proofs.lemmas.List.Sums.{sum_by-cons}
 use Rattle.std.proofs.lemmas.Option.{none-some, same_Some, slice_get-map, slice_get_within}
@@ -19,13 +19,11 @@ use Rattle.dft_rules.specs.Refusals.{unknown_port, unknown_cell, first_present, 
 use Rattle.dft_rules.specs.Rules.{judged, judged_by, judgements, may_be_scanned, domain_of, are_held_at, is_kept, scan_cell_of}
 use Rattle.dft_stitch.specs.Chains.{domain_in, if_domain, cell_in, cells_in, blocks, chain_lengths, cells_of, plan_of}
 use Rattle.dft_stitch.specs.Chains as chains
-use Rattle.dft_stitch.specs.Plans.{cell_at}
 use Rattle.dft_scan_frame.specs.Statements.{IsReady}
 use Rattle.dft_scan_frame.proofs.Pairs.{passes}
 use Rattle.std.specs.Prelude.{is_some}
 use Rattle.dft_scan_facts.proofs.Clocks.{clocked}
 use Rattle.dft_scan_facts.proofs.Lockups.{get_range}
-use Rattle.dft_scan_facts.proofs.Outputs.{at_chain}
 
 -- ---- how often a cell is in domains
 

@@ -1,5 +1,5 @@
 -- A scanned netlist has the planned chains.
-use Rattle.std.proofs.Common.{ℕ, zero, suc, ◌≡◌, List, [], ◌∷◌, Option, None, Some, option_and_then, slice_get, refl, sym, subst, ap, ◌∙◌}
+use Rattle.std.proofs.Common.{ℕ, zero, suc, ◌≡◌, List, [], ◌∷◌, Option, Some, slice_get, refl, sym, subst, ap, ◌∙◌}
 use Rattle.std.proofs.lemmas.Option.{none-some}
 use Rattle.dft_netlist.specs.declared.ids.NetId.{NetId}
 use Rattle.dft_netlist.specs.declared.ids.InstanceId.{InstanceId}
@@ -20,7 +20,7 @@ use Rattle.dft_scan_off.proofs.Containing.{enable_input}
 use Rattle.dft_scan_facts.specs.Facts.{taken_by, HasScanChains}
 use Rattle.dft_scan_facts.proofs.Outputs.{has_chain, at_chain}
 use Rattle.dft_scan_facts.proofs.Planned.{now_pins, IsPlanned, planned, pin_source, scan_cell}
-use Rattle.dft_scan_facts.proofs.ScanInputs.{IsJoined, link_joined, entry_joined}
+use Rattle.dft_scan_facts.proofs.ScanInputs.{link_joined, entry_joined}
 
 get_before : {X : Type 0} (xs : List X) (k : ℕ) (x : X) → slice_get xs (suc k) ≡ Some x → (y : X) × (slice_get xs k ≡ Some y)
 get_before [] k x h = absurd (none-some x h)

@@ -1,7 +1,6 @@
 -- The parts that are made: first the nets for open outputs, then the others.
 use Rattle.std.proofs.Common.{ℕ, ◌≡◌, List, ◌++◌, length, map, refl, subst}
 use Rattle.std.specs.List.{range_with_len}
-use Rattle.dft_netlist.specs.declared.ids.NetId.{NetId}
 use Rattle.dft_netlist.specs.Netlist.{Netlist}
 use Rattle.dft_config.specs.declared.config.Config.{Config}
 use Rattle.dft_stitch.specs.Chains.{plan_of}

@@ -1,18 +1,18 @@
 -- In style Edt a scanned netlist has all of the compression hardware.
-use Rattle.std.proofs.Common.{ℕ, zero, suc, ◌+◌, ◌-◌, ◌<◌, ◌≤◌, ◌≡◌, List, [], ◌∷◌, length, map, Option, None, Some, option_map, option_and_then, slice_get, refl, sym, subst, ap, arith, ◌∙◌}
-use Rattle.std.proofs.lemmas.Option.{none-some, slice_get-map, get_or_from_slice_get}
+use Rattle.std.proofs.Common.{ℕ, zero, suc, ◌+◌, ◌-◌, ◌<◌, ◌≤◌, ◌≡◌, List, [], ◌∷◌, length, map, None, Some, option_map, option_and_then, slice_get, refl, sym, subst, ap, arith, ◌∙◌}
+use Rattle.std.proofs.lemmas.Option.{slice_get-map, get_or_from_slice_get}
 use Rattle.dft_netlist.specs.declared.ids.NetId.{NetId}
 use Rattle.dft_netlist.specs.declared.ids.InstanceId.{InstanceId}
 use Rattle.dft_netlist.specs.NetNumbers.{nets_from}
 use Rattle.dft_netlist.specs.Netlist.{Netlist}
-use Rattle.dft_netlist.specs.Logic.{Logic, Ports, Input, Flop, logic_of}
+use Rattle.dft_netlist.specs.Logic.{Logic, Input, logic_of}
 use Rattle.dft_config.specs.declared.config.Config.{Config}
 use Rattle.dft_stitch.specs.Chains.{cells_of, plan_of}
 use Rattle.dft_stitch.specs.Plans.{cell_at}
 use Rattle.dft_stitch.proofs.BlockLemmas.{chain_count}
 use Rattle.dft_parts.specs.Recipes.{net_at}
 use Rattle.dft_parts.specs.Standing.{IsClockNet}
-use Rattle.dft_edt.specs.Hardware.{EdtNets, HasPhase, HasEnd, HasRing, HasCompactor}
+use Rattle.dft_edt.specs.Hardware.{EdtNets, HasPhase, HasEnd}
 use Rattle.dft_ring.specs.RingStands.{with_ring, HasRingParts}
 use Rattle.dft_compact.specs.CompactorStands.{HasGated, HasCompactorParts}
 use Rattle.dft_scan_frame.specs.Statements.{IsReady}
@@ -20,7 +20,7 @@ use Rattle.dft_scan_hardware.specs.declared.style.Style.TheVariants.{Edt}
 use Rattle.dft_scan_hardware.specs.Chained.{last_net}
 use Rattle.dft_scan_hardware.specs.Ports.{gap_in}
 use Rattle.dft_scan_hardware.specs.Statements.{scanned}
-use Rattle.dft_scan_off.specs.Agreeing.{ports_in, edt_clock_net}
+use Rattle.dft_scan_off.specs.Agreeing.{ports_in}
 use Rattle.dft_scan_facts.specs.Facts.{chain_nets, rows_in, ports_of, ring_start, ring_parts, ring_number, no_nets, edt_hardware, HasEdtHardware}
 use Rattle.dft_scan_facts.proofs.ChainsFilled.{chain_filled}
 use Rattle.dft_scan_facts.proofs.ChainsHave.{into_is, chains_have}

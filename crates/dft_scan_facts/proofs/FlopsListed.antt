@@ -1,28 +1,26 @@
 -- The flip-flops that style Edt adds, in the order of their instances: the ring's stages, then for each chain its mask flip-flop and
 -- that of its hold bit.
-use Rattle.std.proofs.Common.{ℕ, zero, suc, ◌+◌, ◌*◌, ◌<◌, ◌≡◌, Bool, true, false, List, [], ◌∷◌, ◌++◌, length, map, filter, flat_map, cond, Option, None, Some, slice_get, refl, sym, subst, ap, arith, ◌∙◌, append_assoc}
+use Rattle.std.proofs.Common.{ℕ, zero, suc, ◌+◌, ◌≡◌, Bool, true, false, List, [], ◌∷◌, ◌++◌, length, filter, cond, Option, refl, ap, arith, ◌∙◌}
 use Rattle.std.specs.Prelude.{if◌then◌else◌}
 use Rattle.std.specs.List.{range_with_len}
-use Rattle.std.proofs.lemmas.List.{append-nil, map-append}
+use Rattle.std.proofs.lemmas.List.{append-nil}
 use Rattle.dft_cells.specs.declared.kind.Kind.{Kind}
-use Rattle.dft_cells.specs.declared.kind.Kind.TheVariants.{Buf, Inv, And, Or, Xor}
+use Rattle.dft_cells.specs.declared.kind.Kind.TheVariants.{Xor}
 use Rattle.dft_cells.specs.declared.cell.Cell.{Cell}
 use Rattle.dft_cells.specs.FlipFlops.{is_flip_flop}
 use Rattle.dft_cells.specs.WellFormed.{IsWellFormed}
 use Rattle.dft_netlist.specs.declared.ids.NetId.{NetId}
-use Rattle.dft_netlist.specs.declared.ids.InstanceId.{InstanceId}
 use Rattle.dft_netlist.specs.declared.instance.CellRef.{CellRef}
 use Rattle.dft_netlist.specs.declared.instance.CellRef.TheVariants.{Library}
 use Rattle.dft_netlist.specs.declared.instance.Instance.{Instance}
 use Rattle.dft_netlist.specs.Drivers.{kind_at, kind_of, shape_of}
 use Rattle.dft_netlist.specs.Netlist.{Netlist}
-use Rattle.dft_parts.specs.Cells.{is_dff, is_lockup, first_cell}
+use Rattle.dft_parts.specs.Cells.{is_lockup, first_cell}
 use Rattle.dft_parts.specs.Growth.{HasParts, instances_in}
 use Rattle.dft_parts.specs.Parts.{Part, ANet, AnInstance, APin}
-use Rattle.dft_parts.specs.Recipes.{Start, Recipe, pure, ◌>>=◌, ◌>>◌, behind, each, collect, net_at, a_net, a_gate, a_flop, a_lockup}
+use Rattle.dft_parts.specs.Recipes.{Start, Recipe, pure, ◌>>=◌, behind, each, collect, a_net, a_gate, a_lockup}
 use Rattle.dft_parts.specs.Sums.{a_driving_gate, pairs, levels, first_net, a_sum}
 use Rattle.dft_parts.proofs.Stores.{lockup_shape}
-use Rattle.dft_ring.proofs.PartLists.{instances_in-append}
 
 -- the flip-flops among parts whose first instance has this number
 abbrev pub flops_in : List Cell → (number : ℕ) → List Part → List ℕ

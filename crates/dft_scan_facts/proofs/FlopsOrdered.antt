@@ -1,21 +1,18 @@
 -- The flip-flops that style Edt adds stand in the order of its parts.
-use Rattle.std.proofs.Common.{ℕ, ◌+◌, ◌*◌, ◌≤◌, ◌≡◌, inl, inr, Bool, true, List, [], ◌∷◌, ◌++◌, length, map, filter, flat_map, Option, Some, refl, sym, subst, ap, arith, ◌∙◌}
+use Rattle.std.proofs.Common.{ℕ, ◌+◌, ◌*◌, ◌≤◌, ◌≡◌, inl, inr, true, List, [], ◌++◌, length, map, filter, refl, sym, ap, arith, ◌∙◌}
 use Rattle.std.specs.List.{range_with_len}
-use Rattle.dft_cells.specs.declared.kind.Kind.{Kind}
 use Rattle.dft_cells.specs.declared.cell.Cell.{Cell}
 use Rattle.dft_cells.specs.FlipFlops.{is_flip_flop}
 use Rattle.dft_cells.specs.WellFormed.{IsWellFormed}
 use Rattle.dft_netlist.specs.declared.instance.CellRef.TheVariants.{Library}
 use Rattle.dft_netlist.specs.Drivers.{Shape, kind_at, shape_of}
 use Rattle.dft_netlist.specs.Netlist.{Netlist}
-use Rattle.dft_config.specs.declared.config.Config.{Config}
 use Rattle.dft_stitch.specs.Chains.{plan_of}
 use Rattle.dft_parts.specs.Cells.{is_dff, first_cell}
-use Rattle.dft_parts.specs.Growth.{HasParts, instances_in}
+use Rattle.dft_parts.specs.Growth.{instances_in}
 use Rattle.dft_parts.specs.Parts.{Part}
 use Rattle.dft_parts.specs.Recipes.{net_at, start_of}
 use Rattle.dft_parts.proofs.Growing.{parts_grow}
-use Rattle.dft_scan_frame.specs.Statements.{IsReady}
 use Rattle.dft_scan_hardware.specs.declared.style.Style.TheVariants.{Edt}
 use Rattle.dft_scan_hardware.specs.Chained.{cells_at, row_at, last_net}
 use Rattle.dft_scan_hardware.specs.Ports.{gap_in}

@@ -1,9 +1,9 @@
 -- Where the flip-flops stand among the parts of style Edt.
-use Rattle.std.proofs.Common.{ℕ, zero, suc, ◌+◌, ◌*◌, ◌≤◌, ◌≡◌, ◌==◌, Bool, true, false, List, [], ◌∷◌, ◌++◌, length, map, filter, flat_map, Option, None, Some, slice_get, refl, sym, subst, ap, arith, ◌∙◌, append_assoc}
+use Rattle.std.proofs.Common.{ℕ, zero, suc, ◌+◌, ◌*◌, ◌≤◌, ◌≡◌, ◌==◌, Bool, true, false, List, [], ◌∷◌, ◌++◌, length, map, flat_map, Option, None, Some, slice_get, refl, sym, ap, arith, ◌∙◌}
 use Rattle.std.specs.Prelude.{if◌then◌else◌}
 use Rattle.std.specs.List.{range_with_len}
 use Rattle.std.proofs.lemmas.List.{append-nil, length-append, map-append}
-use Rattle.dft_cells.specs.declared.kind.Kind.TheVariants.{Buf, Inv, And, Or}
+use Rattle.dft_cells.specs.declared.kind.Kind.TheVariants.{Buf, Inv, And}
 use Rattle.dft_cells.specs.declared.kind.Role.TheVariants.{Output}
 use Rattle.dft_cells.specs.declared.cell.Cell.{Cell}
 use Rattle.dft_cells.specs.FlipFlops.{is_flip_flop}
@@ -20,20 +20,19 @@ use Rattle.dft_parts.specs.declared.edt_ports.EdtPorts.{EdtPorts}
 use Rattle.dft_parts.specs.Cells.{is_dff, first_cell}
 use Rattle.dft_parts.specs.Growth.{instances_in}
 use Rattle.dft_parts.specs.Parts.{Part, ANet}
-use Rattle.dft_parts.specs.Recipes.{Start, Recipe, pure, ◌>>=◌, ◌>>◌, behind, each, collect, net_at, nets_made, a_net, a_gate, a_flop, a_lockup}
+use Rattle.dft_parts.specs.Recipes.{Start, Recipe, pure, ◌>>◌, behind, each, collect, net_at, nets_made, a_net, a_gate, a_flop, a_lockup}
 use Rattle.dft_parts.specs.Sums.{a_driving_gate, a_sum}
 use Rattle.dft_edt.specs.Hardware.{segment_length, segment_start, group_of}
 use Rattle.dft_ring.specs.RingRecipe.{stage_terms, a_stage, a_phase, a_ring}
-use Rattle.dft_ring.specs.RingStands.{run_parts, stage_nets, stages_start, first_stages, stage_flop}
+use Rattle.dft_ring.specs.RingStands.{run_parts, stage_flop}
 use Rattle.dft_ring.proofs.PartLists.{instances_in-append, each_parts, each_more, range_last}
-use Rattle.dft_compact.specs.declared.mask_nets.MaskNets.{MaskNets}
 use Rattle.dft_compact.specs.CompactorRecipe.{a_next, a_mask, a_segment, segments, masks_at, a_gated, a_compactor}
 use Rattle.dft_compact.specs.CompactorRecipe as compact
 use Rattle.dft_compact.proofs.MaskFacts.{segment_count, cut_count}
 use Rattle.dft_edt.proofs.Steps.{all_segments}
-use Rattle.dft_scan_frame.specs.Moves.{Gap, moved}
+use Rattle.dft_scan_frame.specs.Moves.{Gap}
 use Rattle.dft_scan_frame.specs.Pins.{domain_in, own_output}
-use Rattle.dft_scan_hardware.specs.Chained.{scan_roles, a_numbered_pin, a_role_pin, a_scan_in, an_open_output, own_or_made, an_output, a_row, rows, a_crossing, crossing_in, a_step, a_chain, a_late_chain}
+use Rattle.dft_scan_hardware.specs.Chained.{a_numbered_pin, a_role_pin, a_scan_in, an_open_output, own_or_made, an_output, a_row, rows, a_crossing, crossing_in, a_step, a_chain, a_late_chain}
 use Rattle.dft_scan_facts.proofs.FlopsListed.{flops_in, flops-append, Quiet, quiet_bind, quiet_pure, quiet_each, quiet_collect, quiet_net, quiet_gate, quiet_driving, quiet_lockup, quiet_sum}
 
 -- ---- one flip-flop

@@ -15,7 +15,6 @@ use Rattle.dft_netlist.specs.declared.instance.Instance.{Instance}
 use Rattle.dft_netlist.specs.Netlist.{Netlist}
 use Rattle.dft_netlist.specs.Connections.{input_net}
 use Rattle.dft_netlist.specs.Drivers.{Net, driver}
-use Rattle.dft_netlist.specs.Drivers as drivers
 use Rattle.dft_netlist.specs.Logic.{Cell, Lockup, logic_of}
 use Rattle.dft_netlist.proofs.Places.{get_left}
 use Rattle.dft_netlist.proofs.Walks.{port_found}

@@ -1,33 +1,29 @@
 -- The nets at the outputs of the planned cells: each is its cell's bit in the scanned netlist.
-use Rattle.std.proofs.Common.{ℕ, zero, suc, ◌+◌, ◌≡◌, ◌<◌, List, [], ◌∷◌, ◌++◌, length, map, Option, None, Some, option_and_then, slice_get, false, refl, sym, subst, ap, arith, ◌∙◌}
+use Rattle.std.proofs.Common.{ℕ, zero, suc, ◌+◌, ◌≡◌, List, [], ◌∷◌, length, map, Option, None, Some, option_and_then, slice_get, false, refl, sym, subst, ap, arith, ◌∙◌}
 use Rattle.std.specs.Prelude.{slice_index_or}
 use Rattle.std.proofs.lemmas.Option.{none-some, same_Some}
 use Rattle.dft_cells.specs.declared.kind.Role.{Role}
-use Rattle.dft_cells.specs.declared.kind.Role.TheVariants.{ScanIn, Output}
+use Rattle.dft_cells.specs.declared.kind.Role.TheVariants.{Output}
 use Rattle.dft_netlist.specs.declared.ids.NetId.{NetId}
 use Rattle.dft_netlist.specs.declared.ids.InstanceId.{InstanceId}
-use Rattle.dft_netlist.specs.declared.instance.CellRef.TheVariants.{Library}
 use Rattle.dft_netlist.specs.declared.instance.Signal.{Signal}
 use Rattle.dft_netlist.specs.declared.instance.Signal.TheVariants as signal
 use Rattle.dft_netlist.specs.declared.instance.Instance.{Instance}
 use Rattle.dft_netlist.specs.Netlist.{Netlist}
 use Rattle.dft_netlist.specs.Sound.{NoConstantOutput}
-use Rattle.dft_netlist.specs.Drivers.{connections_from, pins_at, shape_of, source_of}
+use Rattle.dft_netlist.specs.Drivers.{connections_from, pins_at, shape_of}
 use Rattle.dft_netlist.specs.Logic.{Flop, same_role, pin_of, flop_meaning, meaning_of, logic_of}
 use Rattle.dft_config.specs.declared.config.Config.{Config}
-use Rattle.dft_rules.specs.declared.judged.Judged.TheVariants.{Scanned}
-use Rattle.dft_rules.specs.Rules.{judged}
 use Rattle.dft_stitch.specs.Chains.{plan_of}
-use Rattle.dft_stitch.specs.Laws.{StandsOnce}
 use Rattle.dft_stitch.specs.Plans.{cell_at}
 use Rattle.dft_stitch.proofs.OnceLemmas.{cells_once, cells_scanned}
 use Rattle.dft_parts.specs.Parts.{Part}
-use Rattle.dft_parts.specs.Recipes.{Start, start_of}
+use Rattle.dft_parts.specs.Recipes.{start_of}
 use Rattle.dft_scan_frame.specs.Moves.{Gap, at_net, moved, moved_signal}
 use Rattle.dft_scan_frame.specs.Pins.{number_of, net_of, own_output}
 use Rattle.dft_scan_frame.specs.Statements.{IsReady}
 use Rattle.dft_scan_hardware.specs.declared.style.Style.{Style}
-use Rattle.dft_scan_hardware.specs.Chained.{scan_roles, own_or_made, an_output}
+use Rattle.dft_scan_hardware.specs.Chained.{scan_roles, own_or_made}
 use Rattle.dft_scan_hardware.specs.Ports.{gap_in}
 use Rattle.dft_scan_hardware.specs.Scanned.{framed}
 use Rattle.dft_scan_hardware.specs.Statements.{scanned, made_in}
@@ -36,7 +32,7 @@ use Rattle.dft_scan_off.specs.Agreeing.{ports_in}
 use Rattle.dft_scan_facts.specs.Facts.{rows_in}
 use Rattle.dft_scan_facts.proofs.Collected.{rows_found, rows_own, rows_none}
 use Rattle.dft_scan_facts.proofs.Cuts.{rest_of, made_cut}
-use Rattle.dft_scan_facts.proofs.FirstNets.{first_at, first-append, or_first, Found, joined_first}
+use Rattle.dft_scan_facts.proofs.FirstNets.{first_at, first-append, or_first, joined_first}
 use Rattle.dft_scan_facts.proofs.Planned.{cell_pins, now_pins, IsPlanned}
 use Rattle.dft_scan_facts.proofs.ScanShapes.{pin_number, pin_none}
 

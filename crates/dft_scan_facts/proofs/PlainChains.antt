@@ -1,5 +1,5 @@
 -- In style Plain the planned chains stand between ports of their own.
-use Rattle.std.proofs.Common.{ℕ, zero, suc, ◌+◌, ◌-◌, ◌<◌, ◌≤◌, ◌≡◌, List, [], ◌∷◌, ◌++◌, length, Option, None, Some, option_and_then, slice_get, refl, sym, subst, ap, arith, ◌∙◌}
+use Rattle.std.proofs.Common.{ℕ, zero, suc, ◌+◌, ◌-◌, ◌<◌, ◌≤◌, ◌≡◌, List, [], ◌∷◌, length, None, Some, option_and_then, slice_get, refl, sym, subst, ap, arith, ◌∙◌}
 use Rattle.std.specs.List.{range_with_len}
 use Rattle.std.proofs.lemmas.Option.{none-some, slice_get_within}
 use Rattle.dft_cells.specs.declared.kind.Kind.TheVariants.{Buf}
@@ -14,15 +14,14 @@ use Rattle.dft_stitch.specs.Plans.{cell_at}
 use Rattle.dft_stitch.proofs.BlockLemmas.{chain_count}
 use Rattle.dft_chains.specs.Hardware.{Enters, Shows}
 use Rattle.dft_parts.specs.Growth.{HasParts, instances_in}
-use Rattle.dft_parts.specs.Parts.{Part}
-use Rattle.dft_parts.specs.Recipes.{behind, each, net_at}
+use Rattle.dft_parts.specs.Recipes.{each, net_at}
 use Rattle.dft_parts.proofs.Standing.{gate_stands}
 use Rattle.dft_parts.proofs.Trees.{back}
 use Rattle.dft_ring.proofs.PartLists.{each_there, range_at}
 use Rattle.dft_scan_frame.specs.Statements.{IsReady}
 use Rattle.dft_scan_hardware.specs.declared.style.Style.TheVariants.{Plain}
 use Rattle.dft_scan_hardware.specs.Chained.{row_at, last_net}
-use Rattle.dft_scan_hardware.specs.Ports.{gap_in, plain_in, plain_out}
+use Rattle.dft_scan_hardware.specs.Ports.{gap_in, plain_out}
 use Rattle.dft_scan_hardware.specs.Scanned.{a_plain_end}
 use Rattle.dft_scan_hardware.specs.Statements.{scanned}
 use Rattle.dft_scan_laws.proofs.Finished.{scanned_single}

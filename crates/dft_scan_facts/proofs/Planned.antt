@@ -1,8 +1,8 @@
 -- A cell of the planned chains in the scanned netlist: its pins, what its output drives, and the modelled flip-flop that it is.
-use Rattle.std.proofs.Common.{ℕ, zero, suc, ◌+◌, ◌≡◌, Bool, true, false, List, map, Option, None, Some, is_some, option_and_then, slice_get, refl, sym, subst, ap, arith, ◌∙◌}
-use Rattle.std.specs.Prelude.{slice_index_or, if◌then◌else◌}
+use Rattle.std.proofs.Common.{ℕ, ◌+◌, ◌≡◌, Bool, true, false, List, map, Option, None, Some, is_some, option_and_then, slice_get, refl, sym, subst, ap, arith, ◌∙◌}
+use Rattle.std.specs.Prelude.{if◌then◌else◌}
 use Rattle.std.proofs.lemmas.Option.{none-some, same_Some}
-use Rattle.dft_cells.specs.declared.kind.Role.TheVariants.{Clock, Din, Reset, Preset, ScanIn, ScanEnable, Output}
+use Rattle.dft_cells.specs.declared.kind.Role.TheVariants.{Din, Reset, Preset, ScanIn, ScanEnable}
 use Rattle.dft_cells.specs.declared.cell.Cell as library_cells
 use Rattle.dft_cells.specs.declared.cell.CellId.{CellId}
 use Rattle.dft_cells.specs.FlipFlops.{is_flip_flop}
@@ -13,9 +13,8 @@ use Rattle.dft_netlist.specs.declared.instance.Signal.{Signal}
 use Rattle.dft_netlist.specs.declared.instance.Signal.TheVariants as signal
 use Rattle.dft_netlist.specs.declared.instance.Instance.{Instance}
 use Rattle.dft_netlist.specs.Netlist.{Netlist}
-use Rattle.dft_netlist.specs.Sound.{bits_of}
-use Rattle.dft_netlist.specs.Drivers.{Source, Net, Connection, Shape, Flop, connections_from, inputs_of, driven_by, driver, kind_of, kind_at, pins_at, pins_of, shape_of}
-use Rattle.dft_netlist.specs.Logic.{Ports, Force, Scan, Cell, Logic, pin_of, or_loose, forcing, scan_of, modelled, modelled_of, flip_flop, cell_or_none, logic_of}
+use Rattle.dft_netlist.specs.Drivers.{Source, Net, Shape, Flop, connections_from, inputs_of, driven_by, driver, kind_of, kind_at, pins_at, pins_of, shape_of}
+use Rattle.dft_netlist.specs.Logic.{Ports, Force, Scan, Cell, pin_of, or_loose, forcing, scan_of, modelled, modelled_of, flip_flop, cell_or_none, logic_of}
 use Rattle.dft_config.specs.declared.config.Config.{Config}
 use Rattle.dft_rules.specs.declared.judged.Judged.TheVariants.{Scanned}
 use Rattle.dft_scan_frame.specs.ConfigPorts.{config_ports}
@@ -147,10 +146,10 @@ planned style n config chain place cell ready stands =
       shape = shape;
       pins = ap (pins_at w.library) there ∙ ap (λ (l : List library_cells.Cell). pins_at l (Some y)) library;
       drives = λ net joined. (
-      let at : 0 + shape.output ≡ shape.output = omega arith in
-      let listed = output_lists t.kind i (inputs_of i (connections_from 0 t.roles y.pins)) 0 shape.output t.roles y.pins net shape.flop (shape.is_output ∙ ap Some (sym at)) joined in
-      instance_drives w i listed.0 y (net.0, Flop i false) (scanned_single style n config ready) there (ap (λ (l : List library_cells.Cell). slice_get (driven_by l i y) listed.0) library ∙ listed.1)
-      );
+          let at : 0 + shape.output ≡ shape.output = omega arith in
+          let listed = output_lists t.kind i (inputs_of i (connections_from 0 t.roles y.pins)) 0 shape.output t.roles y.pins net shape.flop (shape.is_output ∙ ap Some (sym at)) joined in
+          instance_drives w i listed.0 y (net.0, Flop i false) (scanned_single style n config ready) there (ap (λ (l : List library_cells.Cell). slice_get (driven_by l i y) listed.0) library ∙ listed.1)
+          );
       flop = new.0;
       is = new.1;
       scan = modelled_scan _ _ _ _ new.0 (if_some (is_flip_flop (kind_at w i)) (modelled_of w q i (pins_of w i)) new.0 new.1);

@@ -1,10 +1,8 @@
 -- Loads and unloads of a scanned netlist of style Edt.
-use Rattle.std.proofs.Common.{ℕ, List, ◌≡◌, refl, sym, subst}
+use Rattle.std.proofs.Common.{ℕ, sym, subst}
 use Rattle.dft_base.specs.declared.tri.Tri.{Tri}
 use Rattle.dft_netlist.specs.Logic.{Logic, Ports}
 use Rattle.dft_netlist.specs.Netlist.{Netlist}
-use Rattle.dft_netlist.specs.Runs.{Vector}
-use Rattle.dft_abstract.specs.Cycle.{Round}
 use Rattle.dft_config.specs.declared.config.Config.{Config}
 use Rattle.dft_runs.specs.Passes.{Passes, end_of, pass_of_round, passes_of_rounds, after_rounds}
 use Rattle.dft_runs.proofs.Passing.{round_passes, rounds_pass}

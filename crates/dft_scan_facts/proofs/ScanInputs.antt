@@ -1,9 +1,8 @@
 -- The scan inputs of the planned cells, where all parts are made: what each is joined to.
-use Rattle.std.proofs.Common.{ℕ, zero, suc, ◌+◌, ◌<◌, ◌≡◌, ◌==◌, ◌⊎◌, inl, inr, Bool, true, false, List, [], ◌∷◌, ◌++◌, length, map, Option, None, Some, option_and_then, slice_get, slice_index_or, refl, sym, subst, ap, arith, ◌∙◌}
+use Rattle.std.proofs.Common.{ℕ, zero, suc, ◌+◌, ◌<◌, ◌≡◌, ◌==◌, inl, inr, Bool, true, false, List, [], ◌∷◌, ◌++◌, length, map, None, Some, option_and_then, slice_get, slice_index_or, refl, sym, subst, ap, arith, ◌∙◌}
 use Rattle.std.specs.List.{range_with_len}
 use Rattle.std.proofs.lemmas.Bool.{eqb-true}
-use Rattle.std.proofs.lemmas.Option.{none-some, same_Some, slice_get_within, get_or_from_slice_get}
-use Rattle.dft_cells.specs.declared.cell.Cell.{Cell}
+use Rattle.std.proofs.lemmas.Option.{none-some, slice_get_within, get_or_from_slice_get}
 use Rattle.dft_cells.specs.declared.kind.Role.TheVariants.{ScanIn}
 use Rattle.dft_netlist.specs.declared.ids.NetId.{NetId}
 use Rattle.dft_netlist.specs.declared.ids.InstanceId.{InstanceId}
@@ -13,17 +12,13 @@ use Rattle.dft_netlist.specs.Logic.{Logic, Lockup, same_role, logic_of}
 use Rattle.dft_netlist.specs.Netlist.{Netlist}
 use Rattle.dft_config.specs.declared.config.Config.{Config}
 use Rattle.dft_rules.specs.Rules.{judgements}
-use Rattle.dft_stitch.specs.declared.places.LockupPlace.{LockupPlace}
 use Rattle.dft_stitch.specs.Chains.{plan_of}
-use Rattle.dft_stitch.specs.Chains as chains
 use Rattle.dft_stitch.specs.Plans.{cell_at}
 use Rattle.dft_chains.specs.Hardware.{Leads}
-use Rattle.dft_parts.specs.Growth.{HasParts}
 use Rattle.dft_parts.specs.Parts.{Part}
 use Rattle.dft_parts.specs.Recipes.{Recipe, net_at}
-use Rattle.dft_parts.specs.Standing.{IsClockNet}
 use Rattle.dft_parts.proofs.Growing.{parts_grow}
-use Rattle.dft_scan_frame.specs.Moves.{Gap, at_net, moved_signal}
+use Rattle.dft_scan_frame.specs.Moves.{at_net, moved_signal}
 use Rattle.dft_scan_frame.specs.Pins.{number_of}
 use Rattle.dft_scan_frame.specs.Statements.{IsReady}
 use Rattle.dft_scan_hardware.specs.declared.style.Style.{Style}
@@ -39,9 +34,9 @@ use Rattle.dft_scan_facts.specs.Facts.{rows_in, ports_of, ring_start, ring_parts
 use Rattle.dft_scan_facts.proofs.ChainNets.{IfHere, AllCross, AllStep, entry_found, crossing_first, step_first, chain_apart, late_found, late_fits}
 use Rattle.dft_scan_facts.proofs.Cuts.{plain_start, plain_chain_parts, end_parts, compactor_list, rest_of, made_cut, all_there}
 use Rattle.dft_scan_facts.proofs.FirstNets.{first_at, differ, Found, joined_first, none_first, FitsIn, FoundIn, found_front, found_back, found_each}
-use Rattle.dft_scan_facts.proofs.Lockups.{LockupStands, get_range, cell_domain, same_or_lockup, by_lockup, directly, lockup_means}
+use Rattle.dft_scan_facts.proofs.Lockups.{get_range, cell_domain, same_or_lockup, by_lockup, directly, lockup_means}
 use Rattle.dft_scan_facts.proofs.Outputs.{has_chain, one_place, IsShown, shown, input_free}
-use Rattle.dft_scan_facts.proofs.Planned.{cell_pins, now_pins, IsPlanned, planned}
+use Rattle.dft_scan_facts.proofs.Planned.{cell_pins, now_pins, IsPlanned}
 use Rattle.dft_scan_facts.proofs.PortsDriven.{edt_clock_is}
 
 -- ---- cells of a chain
@@ -119,10 +114,11 @@ joined_by : (style : Style) (n : Netlist) (config : Config) (chain place : ℕ) 
     FoundIn (scanned style n config) cell.0 s.shape.input P (chain_recipe style n config chain) → IsJoined style n config cell s P
 joined_by style n config chain place cell s P ready stands found =
     let first = made_first n config cell.0 s.shape.input P style chain (input_free style n config cell s ready chain place stands) (chain_there (plan_of n config).chains chain place cell stands)
-    (λ other k c is same. (one_place n config chain place other k cell c ready stands (index_cell (plan_of n config).chains other k c is) same).0) found in
-    (first.0,
-    joined_first (made_in style n config) cell.0 s.shape.input (cell_pins style n config s.instance s.id) first.0 (s.shape.opened (at_net (gap_in style n config).before) (map (moved_signal (gap_in style n config)) s.instance.pins)) first.1,
-    first.2)
+    (λ other k c is same. (one_place n config chain place other k cell c ready stands (index_cell (plan_of n config).chains other k c is) same).0) found in (
+      first.0,
+      joined_first (made_in style n config) cell.0 s.shape.input (cell_pins style n config s.instance s.id) first.0 (s.shape.opened (at_net (gap_in style n config).before) (map (moved_signal (gap_in style n config)) s.instance.pins)) first.1,
+      first.2,
+    )
 
 -- ---- behind another cell
 
@@ -170,9 +166,9 @@ module _ (style : Style) (n : Netlist) (config : Config) (ready : IsReady n conf
   chain_found entry =
       elim (same_or_lockup (judgements n config) (plan_of n config).chains out.cells chain place s.domain t.domain cell out.chained out.stands (cell_domain style n config place cell out.cells s out.stands) (cell_domain style n config (suc place) next out.cells t later)) [
         | inl equal ↦ step_first n (scanned style n config) config (gap_in style n config) next.0 t.shape.input Leading (plan_of n config).lockups chain cells row entry place next (not_first entry)
-          (slice_get_within cells place cell (cell_index (plan_of n config).chains chain place cell stands)) here (input_number style n config next t) refl cross (step equal)
+            (slice_get_within cells place cell (cell_index (plan_of n config).chains chain place cell stands)) here (input_number style n config next t) refl cross (step equal)
         | inr it ↦ crossing_first n (scanned style n config) config (gap_in style n config) next.0 t.shape.input Leading (plan_of n config).lockups chain cells row entry it.0 (record { chain = chain; after = place; domain = s.domain }) next (not_first entry)
-          it.1 refl here (input_number style n config next t) refl cross
+            it.1 refl here (input_number style n config next t) refl cross
       ]
 
 pub link_joined : (style : Style) (n : Netlist) (config : Config) (ready : IsReady n config) (chain place : ℕ) (cell next : InstanceId) (s : IsPlanned style n config cell.0) (t : IsPlanned style n config next.0) → cell_at (plan_of n config).chains chain place ≡ Some cell →

@@ -1,5 +1,5 @@
 -- The pins of a scan cell: where its scan input, its scan enable and its output stand, and what a pin that is joined to a net does.
-use Rattle.std.proofs.Common.{ℕ, zero, suc, ◌+◌, ◌≡◌, Bool, true, false, List, [], ◌∷◌, ◌++◌, length, drop, Option, None, Some, slice_get, refl, sym, subst, ap, arith, ◌∙◌}
+use Rattle.std.proofs.Common.{ℕ, zero, suc, ◌+◌, ◌≡◌, Bool, true, false, List, [], ◌∷◌, ◌++◌, length, drop, None, Some, slice_get, refl, sym, subst, ap, arith, ◌∙◌}
 use Rattle.std.specs.Prelude.{slice_index_or, if◌then◌else◌}
 use Rattle.std.proofs.lemmas.Option.{none-some, same_Some}
 use Rattle.dft_cells.specs.declared.kind.Kind.{Kind}
@@ -10,7 +10,7 @@ use Rattle.dft_cells.specs.FlipFlops.{is_flip_flop}
 use Rattle.dft_netlist.specs.declared.ids.NetId.{NetId}
 use Rattle.dft_netlist.specs.declared.instance.Signal.{Signal}
 use Rattle.dft_netlist.specs.declared.instance.Signal.TheVariants as signal
-use Rattle.dft_netlist.specs.Drivers.{Source, Connection, Driver, Driven, Flop, connections_from, source_of, at_role, driven_by_pins, driver_of_kind}
+use Rattle.dft_netlist.specs.Drivers.{Source, Driver, Driven, Flop, connections_from, source_of, at_role, driven_by_pins, driver_of_kind}
 use Rattle.dft_netlist.specs.Logic.{same_role, pin_of}
 use Rattle.dft_parts.proofs.Standing.{get_behind}
 use Rattle.dft_scan_frame.specs.Pins.{number_of}

@@ -14,7 +14,7 @@ use Rattle.dft_runs.specs.WiderPorts.{Suits}
 use Rattle.dft_stitch.specs.Chains.{plan_of}
 use Rattle.dft_stitch.specs.Plans.{cell_at}
 use Rattle.dft_chains.specs.Shifts.{at_strobe}
-use Rattle.dft_edt.specs.Hardware.{EdtNets, IsEdt, segment_length, chain_in, before_in, group_of}
+use Rattle.dft_edt.specs.Hardware.{IsEdt, segment_length, chain_in, before_in, group_of}
 use Rattle.dft_edt.specs.Vectors.{IsEdtShift, IsClearing, Carries, Sends, Shifts, Clears, MasksMove, HoldsStay, HoldsTake}
 use Rattle.dft_scan_frame.specs.Statements.{IsReady}
 use Rattle.dft_scan_hardware.specs.declared.style.Style.TheVariants.{Edt}

@@ -2,7 +2,6 @@
 -- others, 2004).
 use Rattle.std.specs.Prelude.{ℕ, ◌+◌, List, length, map, Option, None, Some}
 use Rattle.std.specs.List.{range_with_len}
-use Rattle.dft_cells.specs.declared.kind.Role.{Role}
 use Rattle.dft_cells.specs.declared.kind.Role.TheVariants.{ScanIn}
 use Rattle.dft_netlist.specs.declared.ids.NetId.{NetId}
 use Rattle.dft_netlist.specs.declared.ids.InstanceId.{InstanceId}
