@@ -1,5 +1,5 @@
 -- How many instances of a kind the recipes of scanned netlists make.
-use Rattle.std.proofs.Common.{ℕ, zero, suc, ◌+◌, ◌≡◌, ◌==◌, ◌<◌, ◌≤◌, inl, inr, Bool, true, false, List, [], ◌∷◌, ◌++◌, length, length-append, map, Option, None, Some, slice_get, refl, sym, subst, ap, arith, ◌∙◌}
+use Rattle.std.proofs.Common.{ℕ, zero, suc, ◌+◌, ◌≡◌, ◌==◌, ◌<◌, ◌≤◌, inl, inr, Bool, true, false, List, [], ◌∷◌, ◌++◌, length, length-append, map, cond, Option, None, Some, slice_get, refl, sym, subst, ap, arith, ◌∙◌}
 use Rattle.std.specs.Prelude.{if◌then◌else◌}
 use Rattle.std.specs.List.{AllByRecursion, range_with_len}
 use Rattle.dft_cells.specs.declared.kind.Kind.{Kind}
@@ -41,7 +41,7 @@ use Rattle.dft_insert.proofs.Weights.{times, times_add, sum_of, sum_add, sum_zer
 -- ---- the weights
 
 abbrev pub bit_weight : Bool → ℕ
-bit_weight b = if b then 1 else 0
+bit_weight b = cond b 1 0
 
 -- an instance of a kind that passes a test weighs one, and all else nothing
 abbrev pub weight : (Kind → Bool) → List Cell → Part → ℕ

@@ -1,5 +1,5 @@
 -- A scanned netlist contains its design: each net means the same, and each flip-flop is kept.
-use Rattle.std.proofs.Common.{ℕ, zero, suc, ◌≡◌, ◌<◌, Bool, true, false, List, ◌∷◌, map, Option, None, Some, option_map, refl, sym, subst, ap, ◌∙◌}
+use Rattle.std.proofs.Common.{ℕ, zero, suc, ◌≡◌, ◌<◌, Bool, true, false, List, ◌∷◌, map, Option, None, Some, option_map, refl, sym, subst, ap, ◌∙◌, []}
 use Rattle.std.specs.Prelude.{if◌then◌else◌}
 use Rattle.std.proofs.lemmas.Option.{none-some, same_Some}
 use Rattle.dft_cells.specs.declared.kind.Role.{Role}

@@ -1,5 +1,5 @@
 -- A scanned netlist contains its design.
-use Rattle.std.proofs.Common.{ℕ, zero, suc, ◌≡◌, ◌==◌, ◌<◌, inl, inr, Bool, true, false, ◌||◌, option_and_then, List, ◌∷◌, length, map, Option, None, Some, is_some, slice_get, refl, sym, subst, ap, arith, ◌∙◌}
+use Rattle.std.proofs.Common.{ℕ, zero, suc, ◌≡◌, ◌==◌, ◌<◌, inl, inr, Bool, true, false, ◌||◌, option_and_then, List, ◌∷◌, length, map, Option, None, Some, is_some, slice_get, refl, sym, subst, ap, arith, ◌∙◌, []}
 use Rattle.std.specs.Prelude.{if◌then◌else◌}
 use Rattle.std.specs.List.{list_any}
 use Rattle.dft_base.specs.Lexing.{Text}
@@ -25,7 +25,6 @@ use Rattle.dft_netlist.specs.Names.{find_net}
 use Rattle.dft_config.specs.declared.config.Config.{Config}
 use Rattle.dft_netlist.specs.Connections.{is_input, input_net}
 use Rattle.dft_rules.specs.Rules.{is_net}
-use Rattle.dft_scan_frame.specs.declared.style.Style.TheVariants.{Plain}
 use Rattle.dft_scan_frame.specs.Moves.{moved}
 use Rattle.dft_scan_frame.specs.AddedPorts as ports
 use Rattle.dft_chains.specs.ScanOff.{moved_meaning, Places, KeepsFlop}

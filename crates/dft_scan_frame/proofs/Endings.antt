@@ -1,5 +1,5 @@
 -- Ids with numbers from one on.
-use Rattle.std.proofs.Common.{ℕ, suc, ◌+◌, ◌-◌, ◌≡◌, ◌<◌, List, ◌∷◌, ◌++◌, map, sym, ap, arith, ◌∙◌, append_assoc}
+use Rattle.std.proofs.Common.{ℕ, suc, ◌+◌, ◌-◌, ◌≡◌, ◌<◌, List, ◌∷◌, ◌++◌, map, sym, ap, arith, ◌∙◌, append_assoc, []}
 use Rattle.std.specs.List.{range_with_len}
 use Rattle.dft_netlist.specs.declared.ids.PortId.{PortId}
 

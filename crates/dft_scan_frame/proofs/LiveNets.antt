@@ -1,5 +1,5 @@
 -- Nets that stand at instances of the scanned netlist are nets of it.
-use Rattle.std.proofs.Common.{ℕ, suc, ◌+◌, ◌≡◌, ◌≤◌, ◌<◌, Bool, true, false, List, ◌∷◌, length, nat_lt, Option, None, Some, option_map, option_and_then, slice_get, refl, arith}
+use Rattle.std.proofs.Common.{ℕ, suc, ◌+◌, ◌≡◌, ◌≤◌, ◌<◌, Bool, true, false, List, ◌∷◌, length, nat_lt, Option, None, Some, option_map, option_and_then, slice_get, refl, arith, []}
 use Rattle.std.specs.Prelude.{if◌then◌else◌}
 use Rattle.std.proofs.lemmas.Option.{none-some, same_Some}
 use Rattle.dft_base.specs.Lexing.{Text}

@@ -1,5 +1,5 @@
 -- The drivers of a design, with their nets moved, among those of a netlist that contains it.
-use Rattle.std.proofs.Common.{ℕ, suc, ◌+◌, ◌≡◌, ◌==◌, Bool, true, false, List, ◌∷◌, ◌++◌, map, cond, count_by, refl, sym, ap, arith, ◌∙◌}
+use Rattle.std.proofs.Common.{ℕ, suc, ◌+◌, ◌≡◌, ◌==◌, Bool, true, false, List, ◌∷◌, ◌++◌, map, cond, count_by, refl, sym, ap, arith, ◌∙◌, []}
 use Rattle.std.specs.Prelude.{if◌then◌else◌}
 use Rattle.std.proofs.lemmas.List.{map-append}
 use Rattle.std.proofs.lemmas.List.Sums.{sum_by-cons}

@@ -1,5 +1,5 @@
 -- A net of a design traces in the scanned netlist to where it traced, moved.
-use Rattle.std.proofs.Common.{ℕ, zero, suc, ◌≡◌, ◌<◌, ◌≤◌, List, ◌∷◌, length, map, refl, ap, arith, ◌∙◌}
+use Rattle.std.proofs.Common.{ℕ, zero, suc, ◌≡◌, ◌<◌, ◌≤◌, List, ◌∷◌, length, map, refl, ap, arith, ◌∙◌, []}
 use Rattle.dft_cells.specs.declared.kind.Kind.{Kind}
 use Rattle.dft_cells.specs.declared.kind.Kind.TheVariants as kind
 use Rattle.dft_netlist.specs.Netlist.{Netlist}

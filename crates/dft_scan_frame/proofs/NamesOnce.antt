@@ -1,5 +1,5 @@
 -- How often a name stands among those of a netlist. Numbers of lists add up, so the order in which things are added does not matter.
-use Rattle.std.proofs.Common.{ℕ, zero, suc, ◌+◌, ◌≡◌, ◌≤◌, Bool, true, false, ◌||◌, List, ◌∷◌, ◌++◌, Option, None, Some, slice_get, refl, sym, ap, arith, ◌∙◌}
+use Rattle.std.proofs.Common.{ℕ, zero, suc, ◌+◌, ◌≡◌, ◌≤◌, Bool, true, false, ◌||◌, List, ◌∷◌, ◌++◌, Option, None, Some, slice_get, refl, sym, ap, arith, ◌∙◌, []}
 use Rattle.std.specs.List.{filter_map, cons_option}
 use Rattle.std.specs.Option.{option_and_then}
 use Rattle.std.specs.Str.{bytes_eq}

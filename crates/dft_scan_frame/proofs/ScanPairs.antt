@@ -1,5 +1,5 @@
 -- A scan cell beside the flip-flop that it stands for: it drives the same nets, and its other pins are joined to the same.
-use Rattle.std.proofs.Common.{◌≡◌, List, ◌∷◌, length, refl, arith}
+use Rattle.std.proofs.Common.{◌≡◌, List, ◌∷◌, length, refl, arith, []}
 use Rattle.dft_cells.specs.declared.kind.Kind.{Kind}
 use Rattle.dft_cells.specs.declared.kind.Kind.TheVariants.{Dff, Dffr, Dffs, Sdff, Sdffr, Sdffs}
 use Rattle.dft_cells.specs.declared.kind.Role.{Role}

@@ -1,5 +1,5 @@
 -- Each instance of the scanned netlist can stand in it.
-use Rattle.std.proofs.Common.{ℕ, zero, suc, ◌+◌, ◌≡◌, ◌≤◌, ◌<◌, Bool, true, List, ◌∷◌, length, map, drop, Option, None, Some, is_some, option_map, slice_get, refl, sym, subst, ap, arith, ◌∙◌}
+use Rattle.std.proofs.Common.{ℕ, zero, suc, ◌+◌, ◌≡◌, ◌≤◌, ◌<◌, Bool, true, List, ◌∷◌, length, map, drop, Option, None, Some, is_some, option_map, slice_get, refl, sym, subst, ap, arith, ◌∙◌, []}
 use Rattle.std.specs.Prelude.{slice_index_or}
 use Rattle.std.proofs.lemmas.List.{length-map}
 use Rattle.std.proofs.lemmas.Option.{none-some, same_Some, slice_get-map, slice_get_within}

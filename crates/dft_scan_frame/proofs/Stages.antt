@@ -1,5 +1,5 @@
 -- The ports of a design, carried over.
-use Rattle.std.proofs.Common.{ℕ, suc, ◌+◌, ◌≡◌, List, ◌∷◌, ◌++◌, length, take, drop, Some, slice_get, refl, sym, ap, arith, ◌∙◌}
+use Rattle.std.proofs.Common.{ℕ, suc, ◌+◌, ◌≡◌, List, ◌∷◌, ◌++◌, length, take, drop, Some, slice_get, refl, sym, ap, arith, ◌∙◌, []}
 use Rattle.std.proofs.lemmas.Option.{same_Some}
 use Rattle.std.proofs.Math.Seq.{take-append_seam}
 use Rattle.dft_netlist.specs.declared.ids.NetId.{NetId}

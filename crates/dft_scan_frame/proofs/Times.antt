@@ -1,5 +1,5 @@
 -- How often nets are driven in lists of drivers.
-use Rattle.std.proofs.Common.{ℕ, suc, ◌+◌, ◌≡◌, ◌==◌, ◌<◌, ◌≤◌, Bool, true, false, List, ◌∷◌, cond, refl, sym, subst, ap, arith, ◌∙◌}
+use Rattle.std.proofs.Common.{ℕ, suc, ◌+◌, ◌≡◌, ◌==◌, ◌<◌, ◌≤◌, Bool, true, false, List, ◌∷◌, cond, refl, sym, subst, ap, arith, ◌∙◌, []}
 use Rattle.std.proofs.lemmas.Bool.{eqb-true}
 use Rattle.dft_netlist.specs.Drivers.{Driven}
 use Rattle.dft_scan_frame.proofs.Mergings.{times, times-cons, none_more, moved_driven, Merges, Nothing, Kept, Added}

@@ -63,7 +63,7 @@ enable_no_clock : (style : Style) (n : Netlist) (config : Config) → IsReady n 
 enable_no_clock Plain n config ready = no_clock n config config.domains ready
 enable_no_clock Edt n config ready = or_false ((config_ports n config).is_clock (length (bits_of n.ports))) (length (bits_of n.ports) == edt_clock_net n config) (no_clock n config config.domains ready) (not_next (length (bits_of n.ports)))
 
-enable_input : (style : Style) (n : Netlist) (config : Config) → IsReady n config → (logic_of (scanned style n config) (ports_in style n config)).net (gap_in style n config).before ≡ logic.Input
+pub enable_input : (style : Style) (n : Netlist) (config : Config) → IsReady n config → (logic_of (scanned style n config) (ports_in style n config)).net (gap_in style n config).before ≡ logic.Input
 enable_input style n config ready =
     ap (meaning_of (scanned style n config) (ports_in style n config) (gap_in style n config).before) (enable_driven style n config ready)
     ∙ ap (λ b. if b then logic.Clock else logic.Input) (enable_no_clock style n config ready)
