@@ -1,7 +1,7 @@
 -- The length of the written form, part by part.
-use Rattle.std.proofs.Common.{◌≡◌, ℕ, zero, suc, ◌+◌, ◌*◌, ◌<◌, ◌≤◌, Bool, true, false, cond, List, [], ◌∷◌, ◌++◌, codes, map, flat_map, length, take, drop, refl, sym, ap, ap₂, subst, ◌∙◌, length-append, take-append-drop, length-take, length-drop, min, ◌-◌, arith}
+use Rattle.std.proofs.Common.{◌≡◌, ℕ, suc, ◌+◌, ◌*◌, ◌<◌, ◌≤◌, Bool, true, false, cond, List, [], ◌∷◌, ◌++◌, codes, map, flat_map, length, take, drop, refl, sym, ap, ap₂, subst, ◌∙◌, length-append, take-append-drop, length-take, length-drop, min, ◌-◌, arith}
 use Rattle.std.specs.Prelude.{nat_le, decimal}
-use Rattle.std.specs.List.{All, sum_by, join_with_byte, concat}
+use Rattle.std.specs.List.{All, sum_by, join_with_byte}
 use Rattle.std.proofs.lemmas.Bool.Decides.{nat_tests}
 use Rattle.std.proofs.lemmas.List.{length-map}
 use Rattle.std.proofs.lemmas.List.Sums.{sum_by-cons, sum_by-append}
@@ -13,10 +13,10 @@ use Rattle.dft_patterns.specs.declared.notes.NoteKind.{NoteKind}
 use Rattle.dft_patterns.specs.declared.notes.NoteKind.TheVariants.{SetUp, Pattern, Unload}
 use Rattle.dft_patterns.specs.declared.signal.StilSignal.{StilSignal}
 use Rattle.dft_patterns.specs.Steadiness.{HaveLength}
-use Rattle.dft_patterns.specs.Patterns.{Patterns, inputs, outputs, input_count}
+use Rattle.dft_patterns.specs.Patterns.{inputs, outputs, input_count}
 use Rattle.dft_stil_out.specs.Letters.{letter}
 use Rattle.dft_stil_out.specs.Written.{declaration, quoted, group, input_waves, output_waves, middle, head, assignment, vector_line, note_line, note_words, due, noted_lines, noted}
-use Rattle.dft_stil_length.specs.WrittenLength.{name_bytes, group_length, waves_length, assignment_length, line_length, notes_length, head_length, frame_length, written_length, declarations_length}
+use Rattle.dft_stil_length.specs.WrittenLength.{name_bytes, group_length, waves_length, assignment_length, line_length, notes_length, head_length, frame_length}
 use Rattle.dft_stil_length.specs.Laws.{HasWrittenLength}
 
 -- ---- groups
@@ -27,8 +27,13 @@ length-quoted s = omega (arith, length-append s.name (codes "\""))
 length-joined : (s : StilSignal) (others : List StilSignal) → length (join_with_byte 43 (map quoted (s ∷ others))) ≡ name_bytes (s ∷ others) + 3 * length others + 2
 length-joined s [] = omega (arith, length-quoted s, sum_by-cons (λ (x : StilSignal). length x.name) s [])
 length-joined s (t ∷ others) =
-    omega (arith, length-append (quoted s) (43 ∷ join_with_byte 43 (map quoted (t ∷ others))), length-quoted s, length-joined t others,
-      sum_by-cons (λ (x : StilSignal). length x.name) s (t ∷ others))
+    omega (
+      arith,
+      length-append (quoted s) (43 ∷ join_with_byte 43 (map quoted (t ∷ others))),
+      length-quoted s,
+      length-joined t others,
+      sum_by-cons (λ (x : StilSignal). length x.name) s (t ∷ others),
+    )
 
 length-group : (label : List ℕ) (signals : List StilSignal) → length (group label signals) ≡ group_length (length label) (length signals) (name_bytes signals)
 length-group label [] = refl
@@ -48,7 +53,7 @@ length-line count inputs outputs acts i o =
     let ins = assignment (codes "ins = ") (take count acts) in
     let outs = assignment (codes "; outs = ") (drop count acts) in
     let same : length (codes "V { " ++ (ins ++ (outs ++ codes "; }\n"))) ≡ line_length (length (take count acts)) (length (drop count acts)) =
-      omega (arith, length-append ins (outs ++ codes "; }\n"), length-append outs (codes "; }\n"), length-assignment (codes "ins = ") (take count acts), length-assignment (codes "; outs = ") (drop count acts)) in
+    omega (arith, length-append ins (outs ++ codes "; }\n"), length-append outs (codes "; }\n"), length-assignment (codes "ins = ") (take count acts), length-assignment (codes "; outs = ") (drop count acts)) in
     same ∙ ap₂ line_length i o
 
 -- ---- notes
@@ -88,7 +93,7 @@ length-lines count inputs outputs place (acts ∷ vectors) notes wide ahead belo
     let rest = noted_lines count (suc place) vectors (drop k notes) in
     let one = All-head (λ acts. (length (take count acts) ≡ inputs) × (length (drop count acts) ≡ outputs)) acts vectors wide in
     let more = length-lines count inputs outputs (suc place) vectors (drop k notes) (All-tail (λ acts. (length (take count acts) ≡ inputs) × (length (drop count acts) ≡ outputs)) acts vectors wide) (ahead_more place notes)
-        (All-drop (λ note. note.before < suc place + length vectors) k notes (subst (λ (j : ℕ). All (λ note. note.before < j) notes) (omega arith) below)) in
+    (All-drop (λ note. note.before < suc place + length vectors) k notes (subst (λ (j : ℕ). All (λ note. note.before < j) notes) (omega arith) below)) in
     let f = λ (n : Note). length (note_line n) in
     let notes_are : notes_length notes ≡ notes_length (take k notes) + notes_length (drop k notes) = ap (sum_by f) (sym (take-append-drop k notes)) ∙ sum_by-append f (take k notes) (drop k notes) in
     let lines : suc (length vectors) * line_length inputs outputs ≡ line_length inputs outputs + length vectors * line_length inputs outputs = grind arith in
@@ -113,8 +118,17 @@ length-middle ins outs =
     let d = output_waves outs in
     let last = codes "}\n}\n}\nPatternBurst b { PatList { p; } }\nPatternExec { PatternBurst b; }\nPattern p {\nW w;\n" in
     let timing = codes "}\nTiming {\nWaveformTable w {\nPeriod '100ns';\nWaveforms {\n" in
-    omega (arith, length-append a (b ++ (timing ++ (c ++ (d ++ (last ++ []))))), length-append b (timing ++ (c ++ (d ++ (last ++ [])))), length-append c (d ++ (last ++ [])), length-append d (last ++ []),
-      length-group (codes "ins") ins, length-group (codes "outs") outs, length-input_waves ins, length-output_waves outs)
+    omega (
+      arith,
+      length-append a (b ++ (timing ++ (c ++ (d ++ (last ++ []))))),
+      length-append b (timing ++ (c ++ (d ++ (last ++ [])))),
+      length-append c (d ++ (last ++ [])),
+      length-append d (last ++ []),
+      length-group (codes "ins") ins,
+      length-group (codes "outs") outs,
+      length-input_waves ins,
+      length-output_waves outs,
+    )
 
 length-head : (signals : List StilSignal) → length (head signals) + 2 ≡ head_length signals
 unfolding head
@@ -136,8 +150,13 @@ unfolding noted
 written_has_length p wide below =
     let k = input_count p.signals in
     let lines = noted_lines k 0 p.vectors p.notes in
-    omega (arith, length-append (head p.signals) (lines ++ codes "}\n"), length-append lines (codes "}\n"), length-head p.signals,
-      length-lines k (length (inputs p.signals)) (length (outputs p.signals)) 0 p.vectors p.notes (wide_of p.signals p.vectors wide) (start_ahead p.notes) (subst (λ (k : ℕ). All (λ note. note.before < k) p.notes) (omega arith) below))
+    omega (
+      arith,
+      length-append (head p.signals) (lines ++ codes "}\n"),
+      length-append lines (codes "}\n"),
+      length-head p.signals,
+      length-lines k (length (inputs p.signals)) (length (outputs p.signals)) 0 p.vectors p.notes (wide_of p.signals p.vectors wide) (start_ahead p.notes) (subst (λ (k : ℕ). All (λ note. note.before < k) p.notes) (omega arith) below),
+    )
 
 -- ---- notes
 

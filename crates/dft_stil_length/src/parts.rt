@@ -50,7 +50,9 @@ pub(crate) fn group_length(label: u64, signals: &[StilSignal]) -> Option<u64>
         return Some(0);
     };
     let marks = (others.len() as u64).checked_mul(3)?;
-    name_bytes(signals)?.checked_add(marks)?.checked_add(label + 9)
+    name_bytes(signals)?
+        .checked_add(marks)?
+        .checked_add(label + 9)
 }
 
 /// A line of so many bytes, if there is a signal.
