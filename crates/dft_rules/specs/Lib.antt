@@ -1,5 +1,4 @@
 pub mod Rules
-pub mod ConfigPorts
 pub mod Refusals
 pub mod Roots
 pub mod Findings

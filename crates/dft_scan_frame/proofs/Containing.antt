@@ -28,7 +28,7 @@ use Rattle.dft_rules.specs.Rules.{is_net}
 use Rattle.dft_scan_frame.specs.Moves.{moved}
 use Rattle.dft_scan_frame.specs.AddedPorts as ports
 use Rattle.dft_chains.specs.ScanOff.{moved_meaning, Places, KeepsFlop}
-use Rattle.dft_rules.specs.ConfigPorts.{config_ports}
+use Rattle.dft_scan_frame.specs.ConfigPorts.{config_ports}
 use Rattle.dft_scan_frame.specs.Statements.{IsReady}
 use Rattle.dft_scan_frame.proofs.ScanPairs.{ScanPair}
 use Rattle.dft_scan_frame.proofs.ScanPairs as pairs

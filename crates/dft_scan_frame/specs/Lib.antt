@@ -5,3 +5,4 @@ pub mod Growing
 pub mod Refusals
 pub mod Keeping
 pub mod Statements
+pub mod ConfigPorts

@@ -15,7 +15,7 @@ use Rattle.dft_chains.specs.ScanOff.{moved_meaning, Contains, KeepsFlop}
 use Rattle.dft_chains.proofs.ScanOffLemmas.{scan_off}
 use Rattle.dft_scan_frame.specs.AddedPorts.{ports_from}
 use Rattle.dft_scan_frame.specs.Moves.{moved, moved_join, map_from}
-use Rattle.dft_rules.specs.ConfigPorts.{config_ports}
+use Rattle.dft_scan_frame.specs.ConfigPorts.{config_ports}
 use Rattle.dft_scan_frame.specs.Statements.{IsReady}
 use Rattle.dft_scan_frame.proofs.Containing.{flop_matched, clock_choice, flop_past, kept_by, reads_by, shows_by, lockup_by, no_clock}
 use Rattle.dft_scan_frame.proofs.Fine.{FineBy, driver_fine}

@@ -25,7 +25,7 @@ use Rattle.dft_parts.specs.Parts.{Part}
 use Rattle.dft_parts.specs.Recipes.{nets_in}
 use Rattle.dft_parts.proofs.Growing.{parts_grow}
 use Rattle.dft_scan_frame.specs.Moves.{Gap, moved, moved_signal, moved_instance, at_net}
-use Rattle.dft_rules.specs.ConfigPorts.{config_ports}
+use Rattle.dft_scan_frame.specs.ConfigPorts.{config_ports}
 use Rattle.dft_scan_frame.specs.Statements.{IsReady}
 use Rattle.dft_scan_frame.specs.Pins.{number_of}
 use Rattle.dft_scan_frame.proofs.Contained.{RootsKept, SamePins, IsPinWithin, AreMatched, modelled_kept, pin_inside, pin_moved}
