@@ -11,6 +11,7 @@ mod designs;
 mod files;
 #[cfg(test)]
 mod hardware;
+#[cfg(test)]
 mod large;
 #[cfg(test)]
 mod reports;
