@@ -1,7 +1,8 @@
 -- A scanned netlist adds as many flip-flops and lock-ups as its style has.
-use Rattle.std.proofs.Common.{ℕ, zero, suc, ◌+◌, ◌*◌, ◌≡◌, ◌<◌, Bool, true, false, List, [], ◌∷◌, ◌++◌, length, drop, map, Option, None, Some, refl, sym, subst, ap, arith, ◌∙◌}
+use Rattle.std.proofs.Common.{ℕ, zero, suc, ◌+◌, ◌*◌, ◌≡◌, ◌==◌, ◌<◌, ◌≤◌, Bool, true, false, List, [], ◌∷◌, ◌++◌, length, drop, cond, Option, None, Some, refl, sym, subst, ap, arith, ◌∙◌}
 use Rattle.std.specs.Prelude.{count_by, flat_map, slice_index_or, if◌then◌else◌}
 use Rattle.std.specs.List.{AllByRecursion, cons_option, filter_map, range_with_len}
+use Rattle.std.proofs.lemmas.List.Sums.{sum_by-cons}
 use Rattle.std.proofs.lemmas.Option.{none-some, same_Some}
 use Rattle.std.proofs.Math.Seq.{drop-append_seam}
 use Rattle.dft_cells.specs.declared.kind.Kind.{Kind}
@@ -22,6 +23,7 @@ use Rattle.dft_stitch.specs.Chains as stitch
 use Rattle.dft_edt.specs.Hardware.{segment_length, segment_start}
 use Rattle.dft_edt.proofs.Steps.{all_segments}
 use Rattle.dft_parts.specs.Cells.{is_lockup}
+use Rattle.dft_parts.specs.MadeNames.{made_instance}
 use Rattle.dft_parts.specs.Parts.{Part, ANet, AnInstance, APin, with_parts}
 use Rattle.dft_parts.specs.Recipes.{start_of}
 use Rattle.dft_parts.proofs.Growing.{parts_grow}
@@ -43,13 +45,6 @@ use Rattle.dft_insert.proofs.WeighedRecipes.{PassesNoGate, bit_weight, weight, p
 
 -- ---- made instances
 
-count_step : (test : Instance → Bool) (x : Instance) (xs : List Instance) → count_by test (x ∷ xs) ≡ bit_weight (test x) + count_by test xs
-count_step test x xs = by (test x) refl
-  where
-    by : (b : Bool) → test x ≡ b → count_by test (x ∷ xs) ≡ bit_weight (test x) + count_by test xs
-    by true is = rw is refl
-    by false is = rw is refl
-
 abbrev kind_passes : (Kind → Bool) → List Cell → Instance → Bool
 kind_passes test library x = test (shape_of library x.cell).kind
 
@@ -58,7 +53,7 @@ news_counted : (test : Kind → Bool) (library : List Cell) (number : ℕ) (part
 news_counted test library number [] = refl
 news_counted test library number (ANet ∷ parts) = omega (arith, news_counted test library number parts)
 news_counted test library number (AnInstance cell pins ∷ parts) =
-    omega (arith, count_step (kind_passes test library) _ (news (number + 1) parts), news_counted test library (number + 1) parts)
+    omega (arith, sum_by-cons (λ (x : Instance). cond (kind_passes test library x) 1 0) (record { name = Some (made_instance number); cell = cell; pins = pins }) (news (number + 1) parts), news_counted test library (number + 1) parts)
 news_counted test library number (APin i pin net ∷ parts) = omega (arith, news_counted test library number parts)
 
 -- ---- behind the design's instances

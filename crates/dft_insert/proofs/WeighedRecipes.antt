@@ -1,5 +1,5 @@
 -- How many instances of a kind the recipes of scanned netlists make.
-use Rattle.std.proofs.Common.{ℕ, zero, suc, ◌+◌, ◌≡◌, ◌==◌, ◌<◌, ◌≤◌, inl, inr, Bool, true, false, List, [], ◌∷◌, ◌++◌, length, length-append, map, Option, None, Some, slice_get, refl, sym, subst, ap, arith, ◌∙◌}
+use Rattle.std.proofs.Common.{ℕ, zero, suc, ◌+◌, ◌≡◌, ◌==◌, ◌<◌, ◌≤◌, inl, inr, Bool, true, false, List, [], ◌∷◌, ◌++◌, length, length-append, map, cond, Option, None, Some, slice_get, refl, sym, subst, ap, arith, ◌∙◌}
 use Rattle.std.specs.Prelude.{if◌then◌else◌}
 use Rattle.std.specs.List.{AllByRecursion, range_with_len}
 use Rattle.dft_cells.specs.declared.kind.Kind.{Kind}
@@ -41,7 +41,7 @@ use Rattle.dft_insert.proofs.Weights.{times, times_add, sum_of, sum_add, sum_zer
 -- ---- the weights
 
 abbrev pub bit_weight : Bool → ℕ
-bit_weight b = if b then 1 else 0
+bit_weight b = cond b 1 0
 
 -- an instance of a kind that passes a test weighs one, and all else nothing
 abbrev pub weight : (Kind → Bool) → List Cell → Part → ℕ
@@ -236,7 +236,7 @@ module _ (test : Kind → Bool) (library : List Cell) (well : IsWellFormed libra
   module _ (n : Netlist) (config : Config) (plan : Plan) (gap : Gap) where
     numbered_has : (cell : InstanceId) (pin : Option ℕ) (net : NetId) → Has (a_numbered_pin cell pin net) 0
     numbered_has cell None net = weighs_pure {A = Unit {0}} (weight test library) library (tt {0})
-    numbered_has cell (Some pin) net at is = refl
+    numbered_has cell (Some pin) net = λ at is. refl
 
     role_has : (cell : InstanceId) (role : Role) (net : NetId) → Has (a_role_pin n cell role net) 0
     role_has cell role net = numbered_has cell (number_of (same_role role) 0 (scan_roles n cell)) net
@@ -294,15 +294,16 @@ module _ (test : Kind → Bool) (library : List Cell) (well : IsWellFormed libra
     late_has : (chain : ℕ) (cells : List InstanceId) (outputs : List NetId) (clock phase : NetId) → Has (a_late_chain n config gap plan.lockups chain cells outputs clock phase) (lock + crossings chain)
     unfolding a_late_chain
     late_has chain cells outputs clock phase =
-        weighs_bind (weight test library) library a_net (λ entry. a_lockup clock phase entry >> a_chain n config gap plan.lockups chain cells outputs entry) 0 (lock + crossings chain) net_has
-        (λ entry. weighs_bind (weight test library) library (a_lockup clock phase entry) (λ _. a_chain n config gap plan.lockups chain cells outputs entry) lock (crossings chain) (lockup_has clock phase entry) (λ _. chain_has chain cells outputs entry))
+        weighs_as (weight test library) library (a_late_chain n config gap plan.lockups chain cells outputs clock phase) (0 + (lock + crossings chain)) (lock + crossings chain) (omega arith)
+        (weighs_bind (weight test library) library a_net (λ entry. a_lockup clock phase entry >> a_chain n config gap plan.lockups chain cells outputs entry) 0 (lock + crossings chain) net_has
+        (λ entry. weighs_bind (weight test library) library (a_lockup clock phase entry) (λ _. a_chain n config gap plan.lockups chain cells outputs entry) lock (crossings chain) (lockup_has clock phase entry) (λ _. chain_has chain cells outputs entry)))
 
     -- ---- the recipes
 
     abbrev chain_numbers : List ℕ
     chain_numbers = range_with_len 0 (length plan.chains)
 
-    plain_has : Has (plain_recipe n config plan gap) (sum_of crossings chain_numbers)
+    pub plain_has : Has (plain_recipe n config plan gap) (sum_of crossings chain_numbers)
     unfolding plain_recipe
     plain_has =
         weighs_as (weight test library) library (plain_recipe n config plan gap) (0 + (sum_of crossings chain_numbers + 0)) (sum_of crossings chain_numbers) (omega arith)
@@ -326,7 +327,7 @@ module _ (test : Kind → Bool) (library : List Cell) (well : IsWellFormed libra
         (weighs_each (weight test library) library (an_edt_chain n config plan gap ports ring.phases outputs) late chain_numbers (λ chain. late_has chain (cells_at plan.chains chain) (row_at outputs chain) ports.edt_clock (net_at ring.phases chain)))
         (λ _. compactor_has config ports ring.run (map last_net outputs)))
 
-    edt_has : (ports : EdtPorts) → Has (edt_recipe n config plan gap ports) edt_weight
+    pub edt_has : (ports : EdtPorts) → Has (edt_recipe n config plan gap ports) edt_weight
     unfolding edt_recipe
     edt_has ports =
         weighs_as (weight test library) library (edt_recipe n config plan gap ports) (0 + edt_weight) edt_weight (omega arith)

@@ -1,5 +1,5 @@
 -- A netlist to which things are added, one after another, up to a whole.
-use Rattle.std.proofs.Common.{ℕ, ◌+◌, ◌-◌, ◌≡◌, ◌<◌, List, ◌∷◌, length, map, drop, get_or, sym, subst, ap, ◌∙◌}
+use Rattle.std.proofs.Common.{ℕ, ◌+◌, ◌≡◌, ◌<◌, List, ◌∷◌, length, map, drop, get_or, sym, subst, ap, ◌∙◌}
 use Rattle.std.proofs.lemmas.List.{drop_more}
 use Rattle.dft_netlist.specs.Netlist.{Netlist}
 use Rattle.dft_scan_frame.specs.Growing.{Thing, with_thing, with_things, AllFit}

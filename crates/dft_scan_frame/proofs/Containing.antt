@@ -25,8 +25,6 @@ use Rattle.dft_netlist.specs.Names.{find_net}
 use Rattle.dft_config.specs.declared.config.Config.{Config}
 use Rattle.dft_netlist.specs.Connections.{is_input, input_net}
 use Rattle.dft_rules.specs.Rules.{is_net}
-use Rattle.dft_scan_frame.specs.Moves.{moved}
-use Rattle.dft_scan_frame.specs.AddedPorts as ports
 use Rattle.dft_chains.specs.ScanOff.{moved_meaning, Places, KeepsFlop}
 use Rattle.dft_scan_frame.specs.ConfigPorts.{config_ports}
 use Rattle.dft_scan_frame.specs.Statements.{IsReady}

@@ -57,9 +57,11 @@ taken_times q n = omega (
   named-append q n.nets (filter_map vector_name n.ports ++ filter_map instance_name n.instances),
   named-append q (filter_map vector_name n.ports) (filter_map instance_name n.instances),
 )
+
 module _ {X : Type 0} (f : X → Option Text) where
   pub shown_append : (q : Text) (xs ys : List X) → times_named q (filter_map f (xs ++ ys)) ≡ times_named q (filter_map f xs) + times_named q (filter_map f ys)
   shown_append q xs ys = ap (times_named q) (filter_map-append f xs ys) ∙ named-append q (filter_map f xs) (filter_map f ys)
+
   where_by : (q : Text) (o : Option Text) (names : List Text) (xs : List X) (x : X) → f x ≡ o → (1 ≤ times_named q names → (k : ℕ) × (option_and_then f (slice_get xs k) ≡ Some q)) → 1 ≤ times_named q (cons_option o names) →
       (k : ℕ) × (option_and_then f (slice_get (x ∷ xs) k) ≡ Some q)
   where_by q None names xs x is more e = let it = more e in (suc it.0, it.1)
@@ -68,10 +70,12 @@ module _ {X : Type 0} (f : X → Option Text) where
       by : (b : Bool) → bytes_eq y q ≡ b → (k : ℕ) × (option_and_then f (slice_get (x ∷ xs) k) ≡ Some q)
       by true same = (0, is ∙ ap Some (same_of y q same))
       by false other = (let it = more (omega (arith, e, ap as_count other)) in (suc it.0, it.1))
+
   -- where a name stands there, an item shows it
   pub shown_where : (q : Text) (xs : List X) → 1 ≤ times_named q (filter_map f xs) → (k : ℕ) × (option_and_then f (slice_get xs k) ≡ Some q)
   shown_where q [] e = absurd (omega (arith, e))
   shown_where q (x ∷ xs) e = where_by q (f x) (filter_map f xs) xs x refl (shown_where q xs) e
+
   once_by : (q : Text) (o : Option Text) (names : List Text) (xs : List X) (x : X) → f x ≡ o → (1 ≤ times_named q names → (k : ℕ) × (option_and_then f (slice_get xs k) ≡ Some q)) → times_named q names ≤ 1 →
       ((k : ℕ) → f x ≡ Some q → option_and_then f (slice_get xs k) ≡ Some q → ⊥) → times_named q (cons_option o names) ≤ 1
   once_by q None names xs x is more once apart = once
@@ -81,6 +85,7 @@ module _ {X : Type 0} (f : X → Option Text) where
       by true same zero none = omega (arith, none, one_named (bytes_eq y q))
       by true same (suc m) some = (let it = more (omega (arith, some)) in absurd (apart it.0 (is ∙ ap Some (same_of y q same)) it.1))
       by false other m e = omega (arith, once, ap as_count other)
+
   -- where no two items show a name it stands there once at most
   pub shown_once : (q : Text) (xs : List X) → ((i j : ℕ) → option_and_then f (slice_get xs i) ≡ Some q → option_and_then f (slice_get xs j) ≡ Some q → i ≡ j) → times_named q (filter_map f xs) ≤ 1
   shown_once q [] differ = omega arith

@@ -7,7 +7,6 @@ use Rattle.dft_base.specs.Lexing.{Text}
 use Rattle.dft_cells.specs.declared.kind.Kind.{Kind}
 use Rattle.dft_cells.specs.declared.kind.Kind.TheVariants as kind
 use Rattle.dft_cells.specs.declared.kind.Role.{Role}
-use Rattle.dft_cells.specs.declared.kind.Role.TheVariants.{Reset, Output}
 use Rattle.dft_cells.specs.declared.cell.Cell.{Cell}
 use Rattle.dft_cells.specs.declared.cell.CellId.{CellId}
 use Rattle.dft_netlist.specs.declared.instance.CellRef.{CellRef}

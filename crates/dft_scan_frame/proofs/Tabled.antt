@@ -1,5 +1,5 @@
 -- Items of a list with their numbers.
-use Rattle.std.proofs.Common.{ℕ, zero, suc, ◌+◌, ◌-◌, ◌≡◌, List, ◌∷◌, Some, slice_get, refl, sym, ap, arith, ◌∙◌, []}
+use Rattle.std.proofs.Common.{ℕ, zero, suc, ◌+◌, ◌≡◌, List, ◌∷◌, Some, slice_get, refl, sym, ap, arith, ◌∙◌, []}
 use Rattle.std.proofs.lemmas.Option.{none-some, same_Some}
 use Rattle.dft_scan_frame.specs.Moves.{map_from}
 

@@ -1,5 +1,5 @@
 -- Added ports have one bit each, and no vectors.
-use Rattle.std.proofs.Common.{ℕ, suc, ◌+◌, ◌-◌, ◌≡◌, List, ◌∷◌, ◌++◌, length, map, refl, ap, arith, []}
+use Rattle.std.proofs.Common.{ℕ, suc, ◌≡◌, List, ◌∷◌, ◌++◌, length, refl, ap, arith, []}
 use Rattle.std.specs.List.{filter_map}
 use Rattle.dft_base.specs.Lexing.{Text}
 use Rattle.dft_netlist.specs.declared.port.Port.{Port}

@@ -1,5 +1,5 @@
 -- Ports of one bit that are added to a design.
-use Rattle.std.specs.Prelude.{ℕ, suc, ◌+◌, List, ◌∷◌, ◌++◌, map, None, []}
+use Rattle.std.specs.Prelude.{ℕ, suc, List, ◌∷◌, ◌++◌, map, None, []}
 use Rattle.std.specs.List.{range_with_len}
 use Rattle.std.specs.Fmt.{decimal}
 use Rattle.dft_base.specs.Lexing.{Text}

@@ -7,8 +7,8 @@ ghost use Rattle.dft_scan_hardware.specs.Refusals.{new_port_refusal, ports_refus
 
 use crate::new_port::NewPort;
 use crate::told::told;
-use dft_scan_frame::InsertError;
 use dft_netlist::{Design, DesignBuilder};
+use dft_scan_frame::InsertError;
 use std::alloc::Global;
 
 /// Adds these ports, or refuses the first whose name is taken or that passes a limit. The builder has only ports so far, and the

@@ -18,9 +18,9 @@ use crate::plain::make_plain;
 use crate::style::Style;
 use crate::told::told;
 use dft_config::Config;
-use dft_scan_frame::{Gap, InsertError, port_ids};
 use dft_netlist::{Design, DesignBuilder, NetlistError, PortId};
 use dft_parts::{Made, PartsBuilder};
+use dft_scan_frame::{Gap, InsertError, port_ids};
 use dft_stitch::Chains;
 use std::alloc::Global;
 

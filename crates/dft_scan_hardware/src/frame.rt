@@ -14,8 +14,8 @@ use crate::framing::frame_instances;
 use crate::ports::added_ports;
 use crate::style::Style;
 use dft_config::Config;
-use dft_scan_frame::{Gap, InsertError, carry_joins, carry_nets, carry_ports};
 use dft_netlist::{Counted, Design, DesignBuilder, MAX_NETS};
+use dft_scan_frame::{Gap, InsertError, carry_joins, carry_nets, carry_ports};
 use dft_stitch::Chains;
 use std::alloc::{AllocError, Global};
 

@@ -18,11 +18,11 @@ ghost use Rattle.dft_scan_hardware.specs.Frame as spec;
 
 use dft_cells::{Library, Pin, Role};
 use dft_config::Config;
-use dft_scan_frame::{
-    Gap, add_instance, moved_pins, own_name, pins_of, pins_taken, scan_cell, signal_at,
-};
 use dft_netlist::{
     CellRef, Design, DesignBuilder, Instance, InstanceId, NetId, PinSignals, Signal,
+};
+use dft_scan_frame::{
+    Gap, add_instance, moved_pins, own_name, pins_of, pins_taken, scan_cell, signal_at,
 };
 use dft_stitch::Chains;
 use std::alloc::{AllocError, Global};

@@ -10,4 +10,4 @@ pub finish-requires : goal.finish-requires
 finish-requires c =
     let n : Netlist = c.args.design.now in
     let config : Config = c.args.config.now in
-    subst CanFinish (sym (c.in_ok-make_scanned.ensures.netlist ∙ ap (scanned_netlist c.args.style n config) c.requires.planned)) (can_be_finished c.args.style n config c.see_ready.ensures)
+    subst CanFinish (sym (c.in_ok-builder.ensures.netlist ∙ ap (scanned_netlist c.args.style n config) c.requires.planned)) (can_be_finished c.args.style n config c.see_ready.ensures)
