@@ -1,12 +1,13 @@
 -- What one vector does to the compression hardware of a scanned netlist of style Edt (Rajski and others, 2004).
-use Rattle.std.specs.Prelude.{ℕ, zero, suc, ◌-◌, ◌<◌, ◌≡◌, ◌&&◌, Bool, true, false, not, List, [], length, get_or, Some}
+use Rattle.std.specs.Prelude.{ℕ, zero, suc, ◌-◌, ◌<◌, ◌≡◌, ◌&&◌, Bool, true, false, not, List, [], length, map, get_or, Some}
 use Rattle.dft_base.specs.declared.tri.Tri.{Tri}
 use Rattle.dft_base.specs.declared.tri.Tri.TheVariants.{Zero, One}
 use Rattle.dft_netlist.specs.declared.ids.InstanceId.{InstanceId}
 use Rattle.dft_netlist.specs.Logic.{Logic, Ports, logic_of}
 use Rattle.dft_netlist.specs.Netlist.{Netlist}
+use Rattle.dft_netlist.specs.Settled.{IsTriSettled}
 use Rattle.dft_netlist.specs.Runs.{Now, Vector, Turn, IsTurn, after_turn, AreLow}
-use Rattle.dft_abstract.specs.Cycle.{AreViews, after_pulse, pulse_of}
+use Rattle.dft_abstract.specs.Cycle.{AreViews, after_pulse, pulse_of, strobe_sources}
 use Rattle.dft_abstract.specs.Laws.{shown}
 use Rattle.dft_config.specs.declared.config.Config.{Config}
 use Rattle.dft_config.specs.Ring.{step, phase_sum, sum_of}
@@ -14,7 +15,9 @@ use Rattle.dft_runs.specs.WiderPorts.{Suits}
 use Rattle.dft_stitch.specs.Chains.{plan_of}
 use Rattle.dft_stitch.specs.Plans.{cell_at}
 use Rattle.dft_chains.specs.Shifts.{at_strobe}
+use Rattle.dft_parts.specs.SumTrees.{tri_sum}
 use Rattle.dft_edt.specs.Hardware.{IsEdt, segment_length, chain_in, before_in, group_of}
+use Rattle.dft_edt.specs.Parts.{shown_by}
 use Rattle.dft_edt.specs.Vectors.{IsEdtShift, IsClearing, Carries, Sends, Shifts, Clears, MasksMove, HoldsStay, HoldsTake}
 use Rattle.dft_scan_frame.specs.Statements.{IsReady}
 use Rattle.dft_scan_hardware.specs.declared.style.Style.TheVariants.{Edt}
@@ -59,7 +62,7 @@ AreMoved n config sent old new =
     new ((edt_hardware n config).mask (chain_in config m k)) ≡ before_in config sent (λ chain. old ((edt_hardware n config).mask chain)) m k
 
 -- the ring, the mask bits and the hold bits are as they were
-pub record AreAsBefore (n : Netlist) (config : Config) (old new : ℕ → Bool) : Type 0 where
+pub record AreAsBefore {T : Type 0} (n : Netlist) (config : Config) (old new : ℕ → T) : Type 0 where
   pub stages : (i : ℕ) → i < config.ring.stages → new ((edt_hardware n config).stage i) ≡ old ((edt_hardware n config).stage i)
   pub masks : (chain : ℕ) → chain < config.chains → new ((edt_hardware n config).mask chain) ≡ old ((edt_hardware n config).mask chain)
   pub holds : (chain : ℕ) → chain < config.chains → new ((edt_hardware n config).hold chain) ≡ old ((edt_hardware n config).hold chain)
@@ -107,6 +110,11 @@ pub record Acts (n : Netlist) (config : Config) (ports : Ports) : Type 0 where
       AreViews (edt_logic n config ports) (pulse_of (edt_logic n config ports) x old) poss view → HoldsStay config (edt_hardware n config) old (after_pulse (edt_logic n config ports) (pulse_of (edt_logic n config ports) x old) view)
   pub take : (x : Vector) (old poss : ℕ → Tri) (view : ℕ → ℕ → Tri) → x.pulsed (edt_hardware n config).clock ≡ true → x.ports (edt_hardware n config).update ≡ One →
       AreViews (edt_logic n config ports) (pulse_of (edt_logic n config ports) x old) poss view → HoldsTake config (edt_hardware n config) old (after_pulse (edt_logic n config ports) (pulse_of (edt_logic n config ports) x old) view)
+  pub rest : (x : Vector) (old : ℕ → Tri) (view : ℕ → ℕ → Tri) → x.pulsed (edt_hardware n config).clock ≡ false → AreAsBefore n config old (after_pulse (edt_logic n config ports) (pulse_of (edt_logic n config ports) x old) view)
+  -- a reset or set acts on the last cells at once
+  pub strobe : (x : Vector) (old values : ℕ → Tri) → IsTriSettled (edt_logic n config ports) (strobe_sources (edt_logic n config ports) x old values) values → (j : ℕ) → j < length config.compactor.groups →
+      values ((edt_hardware n config).output j)
+      ≡ tri_sum (map (λ chain. shown_by (old ((edt_hardware n config).hold chain)) ((pulse_of (edt_logic n config ports) x old).old (last_cell (plan_of n config).chains chain).0)) (group_of config j))
 
 -- So it is for every ready design, under all ports that suit.
 abbrev pub VectorsAct : Type 0
