@@ -102,18 +102,38 @@ acts_alike : (p q : Ports) (force : Option Force) → q.is_reset ≡ p.is_reset 
 acts_alike p q None e h = tt
 acts_alike p q (Some f) e h = ap (λ (is_reset : ℕ → Bool). is_reset f.port) e ∙ h
 
-pub planned : (style : Style) (n : Netlist) (config : Config) (chain place : ℕ) (cell : InstanceId) → IsReady n config → cell_at (plan_of n config).chains chain place ≡ Some cell → IsPlanned style n config cell.0
-planned style n config chain place cell ready stands =
-    let i : ℕ = cell.0 in
+-- the scan cell in place of a scanned flip-flop
+record StandsIn (style : Style) (n : Netlist) (config : Config) (i : ℕ) (x : Instance) : Type 0 where
+  pub id : CellId
+  pub names : scan_cell_in n.library x.cell ≡ Some id
+  pub there : slice_get (scanned style n config).instances i ≡ Some (record { name = x.name; cell = Library id; pins = now_pins style n config i x id })
+
+stands_in : (style : Style) (n : Netlist) (config : Config) (i : ℕ) (x : Instance) → IsReady n config → slice_get n.instances i ≡ Some x → is_scanned (judged n config i) ≡ true → StandsIn style n config i x
+stands_in style n config i x ready at on =
+    let its = made_in style n config in
+    let gap = gap_in style n config in
+    let named = id_by (scan_cell_in n.library x.cell) (scanned_names n config i x at on) in
+    record {
+      id = named.0;
+      names = named.1;
+      there = now_there style n config ready (spared style n config ready) i x at
+          ∙ ap (λ b. Some (joined_at its i (framed_instance n.library gap b x))) on
+          ∙ ap (λ (o : Option CellId). Some (joined_at its i (as_scan_cell n.library gap x o))) named.1;
+    }
+
+-- the flip-flop as it is modelled
+record IsModelled (style : Style) (n : Netlist) (config : Config) (i : ℕ) (net : ℕ) : Type 0 where
+  pub flop : Cell
+  pub is : flip_flop (scanned style n config) (ports_in style n config) i ≡ Some flop
+  pub scan : flop.scan ≡ scan_of (pin_of ScanEnable i (pins_of (scanned style n config) i)) (pin_of ScanIn i (pins_of (scanned style n config) i))
+  pub on : flop.domain ≡ net
+  pub acts : ActsByPort (ports_in style n config) flop.force
+
+modelled_in : (style : Style) (n : Netlist) (config : Config) (i : ℕ) (x : Instance) (it : IsScannedFlop n config i) (clock : IsClocked n config i it.domain) → IsReady n config → slice_get n.instances i ≡ Some x → IsModelled style n config i clock.net
+modelled_in style n config i x it clock ready at =
     let p : Ports = config_ports n config in
     let q : Ports = ports_in style n config in
     let w : Netlist = scanned style n config in
-    let gap = gap_in style n config in
-    let its = made_in style n config in
-    let it : IsScannedFlop n config i = stands_scanned n config chain place cell ready stands in
-    let found = instance_by n i (slice_get n.instances i) refl it.kind in
-    let x : Instance = found.0 in
-    let clock : IsClocked n config i it.domain = clocked n config i it.domain it.passed.is_domain in
     let force : ActsBy style n config (forcing n p (pin_of Reset i (pins_of n i)) (pin_of Preset i (pins_of n i))) = acts_pins style n config (pin_of Reset i (pins_of n i)) (pin_of Preset i (pins_of n i)) ready it.passed.is_held in
     let input : Source = or_loose i (pin_of Din i (pins_of n i)) in
     let scan : Option Scan = scan_of (pin_of ScanEnable i (pins_of n i)) (pin_of ScanIn i (pins_of n i)) in
@@ -121,20 +141,31 @@ planned style n config chain place cell ready stands =
     ap (λ b. if b then modelled_of n p i (pins_of n i) else None) (scannable_flop (kind_at n i) it.kind)
     ∙ ap (λ d. modelled d (forcing n p (pin_of Reset i (pins_of n i)) (pin_of Preset i (pins_of n i))) input scan) (domain_is n config i it.domain clock)
     ∙ ap (λ f. modelled (Some clock.net) f input scan) force.is in
-    let free = spared style n config ready in
-    let new = matched_new (places_in style n config) (flip_flop n p i) (flip_flop w q i) (record { domain = clock.net; input = input; scan = scan; force = force.force }) old (instance_matched style n config ready free i x found.1) in
-    let on : is_scanned (judged n config i) ≡ true = ap is_scanned it.judgement in
-    let named = id_by (scan_cell_in n.library x.cell) (scanned_names n config i x found.1 on) in
-    let id : CellId = named.0 in
+    let new = matched_new (places_in style n config) (flip_flop n p i) (flip_flop w q i) (record { domain = clock.net; input = input; scan = scan; force = force.force }) old (instance_matched style n config ready (spared style n config ready) i x at) in
+    record {
+      flop = new.0;
+      is = new.1;
+      scan = modelled_scan _ _ _ _ new.0 (if_some (is_flip_flop (kind_at w i)) (modelled_of w q i (pins_of w i)) new.0 new.1);
+      on = new.2.domain ∙ root_stays style n config clock.source clock.net ready clock.root;
+      acts = acts_alike p q new.0.force (ports_alike style n config).resets (subst (ActsByPort p) (sym new.2.force) force.acts);
+    }
+
+pub planned : (style : Style) (n : Netlist) (config : Config) (chain place : ℕ) (cell : InstanceId) → IsReady n config → cell_at (plan_of n config).chains chain place ≡ Some cell → IsPlanned style n config cell.0
+planned style n config chain place cell ready stands =
+    let i : ℕ = cell.0 in
+    let w : Netlist = scanned style n config in
+    let it : IsScannedFlop n config i = stands_scanned n config chain place cell ready stands in
+    let found = instance_by n i (slice_get n.instances i) refl it.kind in
+    let x : Instance = found.0 in
+    let clock : IsClocked n config i it.domain = clocked n config i it.domain it.passed.is_domain in
+    let in_place : StandsIn style n config i x = stands_in style n config i x ready found.1 (ap is_scanned it.judgement) in
+    let its : IsModelled style n config i clock.net = modelled_in style n config i x it clock ready found.1 in
+    let id : CellId = in_place.id in
     let s : Shape = shape_of n.library x.cell in
     let t : Shape = shape_of n.library (Library id) in
     let y : Instance = record { name = x.name; cell = Library id; pins = now_pins style n config i x id } in
-    let there : slice_get w.instances i ≡ Some y =
-    now_there style n config ready free i x found.1
-    ∙ ap (λ b. Some (joined_at its i (framed_instance n.library gap b x))) on
-    ∙ ap (λ (o : Option CellId). Some (joined_at its i (as_scan_cell n.library gap x o))) named.1 in
-    let library : w.library ≡ n.library = (parts_grow (framed style n config) its).library in
-    let shape : IsScanShape s.roles t.kind t.roles = scan_shape s.kind s.roles t.kind t.roles (scan_pair n.library x.cell id named.1 ready.library) in
+    let library : w.library ≡ n.library = (parts_grow (framed style n config) (made_in style n config)).library in
+    let shape : IsScanShape s.roles t.kind t.roles = scan_shape s.kind s.roles t.kind t.roles (scan_pair n.library x.cell id in_place.names ready.library) in
     record {
       instance = x;
       at = found.1;
@@ -142,19 +173,19 @@ planned style n config chain place cell ready stands =
       judgement = it.judgement;
       clock = clock;
       id = id;
-      roles = sym (ap (roles_of n.library) (ap (λ (o : Option Instance). option_and_then (λ (z : Instance). scan_cell_in n.library z.cell) o) found.1 ∙ named.1));
+      roles = sym (ap (roles_of n.library) (ap (λ (o : Option Instance). option_and_then (λ (z : Instance). scan_cell_in n.library z.cell) o) found.1 ∙ in_place.names));
       shape = shape;
-      pins = ap (pins_at w.library) there ∙ ap (λ (l : List library_cells.Cell). pins_at l (Some y)) library;
+      pins = ap (pins_at w.library) in_place.there ∙ ap (λ (l : List library_cells.Cell). pins_at l (Some y)) library;
       drives = λ net joined. (
           let at : 0 + shape.output ≡ shape.output = omega arith in
           let listed = output_lists t.kind i (inputs_of i (connections_from 0 t.roles y.pins)) 0 shape.output t.roles y.pins net shape.flop (shape.is_output ∙ ap Some (sym at)) joined in
-          instance_drives w i listed.0 y (net.0, Flop i false) (scanned_single style n config ready) there (ap (λ (l : List library_cells.Cell). slice_get (driven_by l i y) listed.0) library ∙ listed.1)
+          instance_drives w i listed.0 y (net.0, Flop i false) (scanned_single style n config ready) in_place.there (ap (λ (l : List library_cells.Cell). slice_get (driven_by l i y) listed.0) library ∙ listed.1)
           );
-      flop = new.0;
-      is = new.1;
-      scan = modelled_scan _ _ _ _ new.0 (if_some (is_flip_flop (kind_at w i)) (modelled_of w q i (pins_of w i)) new.0 new.1);
-      on = new.2.domain ∙ root_stays style n config clock.source clock.net ready clock.root;
-      acts = acts_alike p q new.0.force (ports_alike style n config).resets (subst (ActsByPort p) (sym new.2.force) force.acts);
+      flop = its.flop;
+      is = its.is;
+      scan = its.scan;
+      on = its.on;
+      acts = its.acts;
     }
 
 -- ---- its pins
