@@ -3,7 +3,6 @@ use Rattle.std.proofs.Common.{ℕ, ◌≡◌, ◌∙◌, inl, inr, List, [], ◌
 use Rattle.dft_files.specs.Outside.{Held, Told, ToldChange, file_at}
 use Rattle.dft_cells.specs.declared.cell.Cell.{Cell}
 use Rattle.dft_config.specs.declared.config.Config.{Config}
-use Rattle.dft_insert.proofs.Shifted.{scanned_shifts, scanned_shows}
 use Rattle.dft_netlist.specs.Netlist.{Netlist}
 use Rattle.dft_netlist_text.specs.NetlistText.{StandsFor}
 use Rattle.dft_netlist.proofs.RankLemmas.{order_ranks}
@@ -13,6 +12,7 @@ use Rattle.dft_replay.specs.declared.verdict.Verdict.TheVariants as verdict
 use Rattle.dft_replay.specs.Fits.{first_misfit}
 use Rattle.dft_replay.specs.Verdicts.{HasVerdict}
 use Rattle.dft_replay.proofs.Soundness.{pass_sound}
+use Rattle.dft_scan_facts.proofs.PlainShifts.{scanned_shifts, scanned_shows}
 use Rattle.dft_scan_hardware.proofs.Keeping.{keeps_design}
 use Rattle.dft_scan_hardware.specs.declared.style.Style.TheVariants.{Plain}
 use Rattle.dft_scan_hardware.specs.Statements.{scanned}
