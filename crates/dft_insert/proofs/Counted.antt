@@ -1,5 +1,5 @@
 -- A scanned netlist adds as many flip-flops and lock-ups as its style has.
-use Rattle.std.proofs.Common.{ℕ, zero, suc, ◌+◌, ◌*◌, ◌≡◌, ◌==◌, ◌<◌, ◌≤◌, Bool, true, false, List, [], ◌∷◌, ◌++◌, length, drop, cond, Option, None, Some, refl, sym, subst, ap, arith, ◌∙◌}
+use Rattle.std.proofs.Common.{ℕ, zero, suc, ◌+◌, ◌≡◌, ◌==◌, ◌<◌, ◌≤◌, Bool, true, false, List, [], ◌∷◌, ◌++◌, length, drop, cond, Option, None, Some, refl, sym, subst, ap, arith, ◌∙◌}
 use Rattle.std.specs.Prelude.{count_by, flat_map, slice_index_or, if◌then◌else◌}
 use Rattle.std.specs.List.{AllByRecursion, cons_option, filter_map, range_with_len}
 use Rattle.std.proofs.lemmas.List.Sums.{sum_by-cons}
@@ -14,7 +14,6 @@ use Rattle.dft_netlist.specs.declared.instance.Instance.{Instance}
 use Rattle.dft_netlist.specs.Drivers.{shape_of}
 use Rattle.dft_netlist.specs.Netlist.{Netlist}
 use Rattle.dft_config.specs.declared.config.Config.{Config}
-use Rattle.dft_config.specs.Range.{IsInRange}
 use Rattle.dft_rules.specs.declared.judged.Judged.{Judged}
 use Rattle.dft_rules.specs.Rules.{judgements}
 use Rattle.dft_stitch.specs.declared.places.LockupPlace.{LockupPlace}
@@ -24,7 +23,7 @@ use Rattle.dft_edt.specs.Hardware.{segment_length, segment_start}
 use Rattle.dft_edt.proofs.Steps.{all_segments}
 use Rattle.dft_parts.specs.Cells.{is_lockup}
 use Rattle.dft_parts.specs.MadeNames.{made_instance}
-use Rattle.dft_parts.specs.Parts.{Part, ANet, AnInstance, APin, with_parts}
+use Rattle.dft_parts.specs.Parts.{Part, ANet, AnInstance, APin}
 use Rattle.dft_parts.specs.Recipes.{start_of}
 use Rattle.dft_parts.proofs.Growing.{parts_grow}
 use Rattle.dft_scan_frame.specs.Moves.{Gap, map_from}
@@ -32,14 +31,13 @@ use Rattle.dft_scan_frame.specs.Statements.{IsReady}
 use Rattle.dft_scan_frame.proofs.Whole.{length_map_from}
 use Rattle.dft_scan_hardware.specs.declared.style.Style.{Style}
 use Rattle.dft_scan_hardware.specs.declared.style.Style.TheVariants.{Plain, Edt}
-use Rattle.dft_scan_hardware.specs.Frame.{framed_at, frame}
 use Rattle.dft_scan_hardware.specs.Ports.{gap_in, edt_nets}
-use Rattle.dft_scan_hardware.specs.Scanned.{framed, parts_of}
+use Rattle.dft_scan_hardware.specs.Scanned.{framed}
 use Rattle.dft_scan_hardware.specs.Statements.{made_in, scanned}
 use Rattle.dft_scan_hardware.proofs.Filling.{chains_planned}
 use Rattle.dft_scan_off.proofs.Driving.{now_at, now_instances}
 use Rattle.dft_scan_off.proofs.Merging.{news}
-use Rattle.dft_insert.specs.Counts.{count_behind, flip_flops_in, lockups_in, HasCounts, CountsAdded}
+use Rattle.dft_insert.specs.Counts.{count_behind, flip_flops_in, lockups_in, CountsAdded}
 use Rattle.dft_insert.proofs.Weights.{times, times_zero, times_one, times_two, sum_of, sum_add, sum_same, total}
 use Rattle.dft_insert.proofs.WeighedRecipes.{PassesNoGate, bit_weight, weight, plain_has, edt_has, crossings_all, segments_all}
 

@@ -1,5 +1,5 @@
 -- How many instances of a kind the recipes of scanned netlists make.
-use Rattle.std.proofs.Common.{ℕ, zero, suc, ◌+◌, ◌≡◌, ◌==◌, ◌<◌, ◌≤◌, inl, inr, Bool, true, false, List, [], ◌∷◌, ◌++◌, length, length-append, map, cond, Option, None, Some, slice_get, refl, sym, subst, ap, arith, ◌∙◌}
+use Rattle.std.proofs.Common.{ℕ, zero, suc, ◌+◌, ◌≡◌, ◌==◌, ◌<◌, inl, inr, Bool, true, false, List, [], ◌∷◌, ◌++◌, length, map, cond, Option, None, Some, slice_get, refl, ap, arith, ◌∙◌}
 use Rattle.std.specs.Prelude.{if◌then◌else◌}
 use Rattle.std.specs.List.{AllByRecursion, range_with_len}
 use Rattle.dft_cells.specs.declared.kind.Kind.{Kind}
@@ -22,7 +22,7 @@ use Rattle.dft_edt.specs.Hardware.{segment_length, segment_start, group_of}
 use Rattle.dft_parts.specs.declared.edt_ports.EdtPorts.{EdtPorts}
 use Rattle.dft_parts.specs.Cells.{is_dff, is_lockup, first_cell}
 use Rattle.dft_parts.specs.Parts.{Part, ANet, AnInstance, APin}
-use Rattle.dft_parts.specs.Recipes.{Start, Recipe, pure, ◌>>=◌, ◌>>◌, behind, each, collect, net_at, nets_made, a_net, a_gate, a_flop, a_lockup}
+use Rattle.dft_parts.specs.Recipes.{Recipe, pure, ◌>>=◌, ◌>>◌, each, collect, net_at, nets_made, a_net, a_gate, a_flop, a_lockup}
 use Rattle.dft_parts.specs.Sums.{a_driving_gate, pairs, levels, first_net, a_sum}
 use Rattle.dft_parts.proofs.Stores.{lockup_shape}
 use Rattle.dft_ring.specs.declared.ring.Ring.{Ring}
@@ -36,7 +36,7 @@ use Rattle.dft_scan_hardware.specs.Chained.{scan_roles, a_numbered_pin, a_role_p
 use Rattle.dft_scan_hardware.specs.Ports.{plain_in, plain_out}
 use Rattle.dft_scan_hardware.specs.Scanned.{a_plain_chain, a_plain_end, plain_recipe, an_edt_chain, behind_rows, edt_recipe}
 use Rattle.dft_scan_laws.proofs.FirstFlops.{dff_shape}
-use Rattle.dft_insert.proofs.Weights.{times, times_add, sum_of, sum_add, sum_zero, sum_same, total, total_append, Weighs, weighs_as, weighs_pure, weighs_bind, weighs_each, weighs_collect, none_each, none_collect, one_in_range}
+use Rattle.dft_insert.proofs.Weights.{times, times_add, sum_of, sum_add, sum_zero, sum_same, Weighs, weighs_as, weighs_pure, weighs_bind, weighs_each, none_each, none_collect, one_in_range}
 
 -- ---- the weights
 
