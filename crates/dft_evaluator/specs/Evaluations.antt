@@ -7,7 +7,7 @@ use Rattle.dft_netlist.specs.Netlist.{Netlist}
 use Rattle.dft_netlist.specs.Logic.{Meaning, Ports, Input, Clock, Gate, Joined, Flop, Lockup, Free, logic_of}
 use Rattle.dft_netlist.specs.Settled.{TriSources, value_from, inverse}
 use Rattle.dft_lanes.specs.declared.wide.Wide.{Wide}
-use Rattle.dft_evaluator.specs.Wides.{values_in}
+use Rattle.dft_evaluator.specs.Wides.{value_in, values_in}
 
 -- the value of a net: that of its gate or join, and at a source what is given there
 abbrev pub value_set : (given values : ℕ → Tri) → (net : ℕ) → Meaning → Tri
@@ -65,6 +65,12 @@ pub record IsSet (old : Evaluation) (pattern net : ℕ) (value : Tri) (new : Eva
   pub meanings : new.meanings ≡ old.meanings
   pub nets : length new.wides ≡ length old.wides
   pub each : (p k : ℕ) → value_at new p k ≡ (if (p == pattern) && (k == net) then value else value_at old p k)
+
+-- the values of one net are set in all patterns
+pub record IsSetWide (old : Evaluation) (net : ℕ) (wide : Wide) (new : Evaluation) : Type 0 where
+  pub meanings : new.meanings ≡ old.meanings
+  pub nets : length new.wides ≡ length old.wides
+  pub each : (p k : ℕ) → value_at new p k ≡ (if k == net then value_in wide p else value_at old p k)
 
 -- all nets are settled in each of the 512 patterns from what was given at the sources
 pub record IsSettledIn (old new : Evaluation) : Type 0 where

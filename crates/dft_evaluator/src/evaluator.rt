@@ -5,11 +5,11 @@ ghost use Rattle.dft_base.specs.declared.tri.Tri.TheVariants.{Unknown};
 ghost use Rattle.dft_netlist.specs.Netlist.{Netlist};
 ghost use Rattle.dft_netlist.specs.Logic.{Ports, logic_of};
 ghost use Rattle.dft_netlist.specs.Settled.{TriSources, IsTriSettled};
-ghost use Rattle.dft_evaluator.specs.Wides.{unknown_wide};
-ghost use Rattle.dft_evaluator.specs.Evaluations.{IsFor, IsSet, IsSettledIn, AreGiven, value_at};
+ghost use Rattle.dft_evaluator.specs.Wides.{unknown_wide, IsWide, value_in};
+ghost use Rattle.dft_evaluator.specs.Evaluations.{IsFor, IsSet, IsSetWide, IsSettledIn, AreGiven, value_at};
 
 use crate::sweeping::sweep;
-use crate::wides::{unknown, value_in, wide_at, with_value};
+use crate::wides::{unknown, value_in, with_value};
 use dft_base::Tri;
 use dft_lanes::Wide;
 use dft_logic::{Circuit, compile};
@@ -67,6 +67,15 @@ impl Evaluator {
         self.values[net.0 as usize] = wide;
     }
 
+    /// Sets the values of a net in all patterns.
+    pub fn set_source_wide(&mut self, net: NetId, wide: &Wide)
+        requires net { net.0 < length self.old.wides }
+        requires wide { IsWide wide.now (value_in wide.now) }
+        ensures { IsSetWide self.old net.0 wide.now self.new }
+    {
+        self.values[net.0 as usize] = *wide;
+    }
+
     /// Settles all nets in all patterns, from the sources as they were set last.
     pub fn settle(&mut self)
         ensures settled { IsSettledIn self.old self.new }
@@ -78,21 +87,22 @@ impl Evaluator {
         sweep(&self.circuit, &mut self.values);
     }
 
-    /// The value of a net in pattern 0.
+    /// The value of a net in pattern 0, and Unknown for a number past the end.
     pub fn value(&self, net: NetId) -> Tri
-        requires { net.0 < length self.now.wides }
         ensures { result ≡ value_at self.now 0 net.0 }
     {
         self.value_at(net, 0)
     }
 
-    /// The value of a net in one of the 512 patterns.
+    /// The value of a net in one of the 512 patterns, and Unknown for a number past the end.
     pub fn value_at(&self, net: NetId, pattern: u16) -> Tri
-        requires net { net.0 < length self.now.wides }
-        requires pattern { pattern < 512 }
+        requires { pattern < 512 }
         ensures { result ≡ value_at self.now pattern net.0 }
     {
-        value_in(&self.values[net.0 as usize], pattern)
+        match self.values.get(net.0 as usize) {
+            Some(wide) => value_in(wide, pattern),
+            None => Tri::Unknown,
+        }
     }
 }
 

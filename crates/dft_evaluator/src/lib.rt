@@ -9,3 +9,4 @@ mod wides;
 
 pub use evaluator::Evaluator;
 pub use laws::{settled_for_any_ports, settled_from_sources, trees_complete};
+pub use wides::{all, set_value, unknown};

@@ -9,7 +9,7 @@ use dft_base::Tri;
 use dft_lanes::{Wide, has_bit, put};
 
 /// Either in each pattern.
-pub(crate) fn unknown() -> Wide
+pub fn unknown() -> Wide
     ensures { result ≡ unknown_wide }
 {
     Wide {
@@ -19,7 +19,7 @@ pub(crate) fn unknown() -> Wide
 }
 
 /// The same value in each pattern.
-pub(crate) fn all(value: Tri) -> Wide
+pub fn all(value: Tri) -> Wide
     ensures { IsWide result (λ pattern. value) }
 {
     let none = [0; 8];
@@ -89,6 +89,17 @@ fn write(row: &mut [u64], place: usize, bit: bool)
     }
 }
 
+/// Sets the value in one pattern.
+pub fn set_value(wide: &mut Wide, pattern: u16, value: Tri)
+    requires { pattern < 512 }
+    ensures each { (p : ℕ) → value_in wide.new p ≡ (if p == pattern then value else value_in wide.old p) }
+    ensures wide { IsWide wide.old (value_in wide.old) → IsWide wide.new (value_in wide.new) }
+{
+    let place = pattern as usize;
+    write(&mut wide.can_zero, place, may(value, false));
+    write(&mut wide.can_one, place, may(value, true));
+}
+
 /// What a net can be whose value in one pattern is set.
 pub(crate) fn with_value(wide: &Wide, pattern: u16, value: Tri) -> Wide
     requires { pattern < 512 }
@@ -96,8 +107,6 @@ pub(crate) fn with_value(wide: &Wide, pattern: u16, value: Tri) -> Wide
     ensures wide { IsWide wide.now (value_in wide.now) → IsWide result (value_in result) }
 {
     let mut result = *wide;
-    let place = pattern as usize;
-    write(&mut result.can_zero, place, may(value, false));
-    write(&mut result.can_one, place, may(value, true));
+    set_value(&mut result, pattern, value);
     result
 }

@@ -14,8 +14,9 @@ use Rattle.dft_abstract.specs.Cycle.{strobe_sources}
 use Rattle.dft_abstract.proofs.Views.{settled_same}
 use Rattle.dft_config.specs.declared.config.Config.{Config}
 use Rattle.dft_cubes.specs.declared.cube.Merged.{Merged}
+use Rattle.dft_expect.specs.Captures.{config_ports}
 use Rattle.dft_expect.specs.Loaded.{all_cells, loaded_values}
-use Rattle.dft_expect.specs.Captures.{config_ports, capture_vector, original, IsSettledCapture, captured_value, output_bits}
+use Rattle.dft_expect.specs.Captures.{capture_vector, original, IsSettledCapture, captured_value, output_bits}
 use Rattle.dft_expect.specs.Laws.{CaptureIsOne, AreAbove, SettledStandsAbove}
 
 -- ---- settled values

@@ -36,10 +36,10 @@ abbrev pub bit_of_port : List (NetId × Bool) → (net : ℕ) → Option Bool
 bit_of_port [] net = None
 bit_of_port (given ∷ ports) net = if given.0.0 == net then Some given.1 else bit_of_port ports net
 
--- a port has the bit that the pattern gives it; else a reset or set is 1, where it does not act, and another port is 0
+-- a reset or set is 1, where it does not act; another port has the bit that the pattern gives it, and else 0
 abbrev pub port_value : (is_reset : Bool) → Option Bool → Tri
-port_value is_reset (Some bit) = known bit
-port_value true None = One
+port_value true given = One
+port_value false (Some bit) = known bit
 port_value false None = Zero
 
 -- the net of the clock that captures

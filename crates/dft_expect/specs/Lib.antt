@@ -9,6 +9,11 @@ pub use Rattle.dft_config.specs.Loads
 pub mod Loaded
 pub mod States
 pub mod Captures
+pub mod Settings
+pub mod Sources
+pub mod Reads
+pub mod Capturing
+pub mod CapturerShown
 pub mod Masks
 pub mod Expected
 pub mod Unloads

@@ -1,17 +1,25 @@
 //! What patterns capture, which chains are masked, and the bits that outputs show.
 #![tactic(auto)]
 
+mod capturer;
 mod laws;
 mod loading;
 mod masking;
+mod pattern;
 mod policy;
+mod reading;
+mod reads;
 mod response;
 mod ring;
+mod settings;
+mod sources;
 mod unloading;
 
+pub use capturer::Capturer;
 pub use laws::{capture_is_one, settled_stands_above, unmasked_are_known};
 pub use loading::loaded;
 pub use masking::masks;
+pub use pattern::Pattern;
 pub use policy::MaskPolicy;
 pub use response::Response;
 pub use unloading::expected;

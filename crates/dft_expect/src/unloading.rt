@@ -21,7 +21,7 @@ use dft_stitch::Chains;
 use std::alloc::{AllocError, Global};
 
 /// Where the values of each chain begin.
-fn starts(alloc: Global, chains: &Chains) -> Result<Vec<usize>, AllocError>
+pub(crate) fn starts(alloc: Global, chains: &Chains) -> Result<Vec<usize>, AllocError>
     requires { length (all_cells chains.now.chains) < 2 ^ 64 }
     ensures { IfOk result (λ starts. AreStarts chains.now.chains starts.items) }
 {

@@ -1,0 +1,293 @@
+-- A cell of the chains is modelled: on the port of its domain, with its data input and no scan pins. And no instance is a lock-up.
+use Rattle.std.proofs.Common.{ℕ, zero, suc, ◌+◌, ◌≡◌, Bool, true, false, ◌||◌, List, [], ◌∷◌, cond, map, position, inl, inr, Option, None, Some, is_some, option_and_then, slice_get, refl, sym, subst, ap, ◌∙◌}
+use Rattle.std.specs.Prelude.{if◌then◌else◌, IsTrue}
+use Rattle.std.specs.List.{list_any, position_from, AllByRecursion}
+use Rattle.std.proofs.lemmas.Iterator.Adapters.{position_from-zero}
+use Rattle.std.proofs.lemmas.Option.{none-some, same_Some}
+use Rattle.dft_base.specs.Lexing.{Text}
+use Rattle.dft_cells.specs.declared.kind.Kind.{Kind}
+use Rattle.dft_cells.specs.declared.kind.Kind.TheVariants as kind
+use Rattle.dft_cells.specs.declared.kind.Role.{Role}
+use Rattle.dft_cells.specs.declared.kind.Role.TheVariants as role
+use Rattle.dft_cells.specs.declared.cell.Cell as declared
+use Rattle.dft_cells.specs.FlipFlops.{is_flip_flop}
+use Rattle.dft_cells.specs.WellFormed.{HasRoles, FlipFlopRoles, IsWellFormed}
+use Rattle.dft_netlist.specs.declared.ids.InstanceId.{InstanceId}
+use Rattle.dft_netlist.specs.declared.instance.CellRef.{CellRef}
+use Rattle.dft_netlist.specs.declared.instance.CellRef.TheVariants as cell_ref
+use Rattle.dft_netlist.specs.declared.instance.Instance.{Instance}
+use Rattle.dft_netlist.specs.declared.instance.Signal.{Signal}
+use Rattle.dft_netlist.specs.Netlist.{Netlist}
+use Rattle.dft_netlist.specs.Drivers.{Source, connections_from, gate_roles, kind_of, kind_at, pins_at, pins_of, shape_of, shape_of_cell, source_of}
+use Rattle.dft_netlist.specs.Sound.{IsCellOf, is_primitive}
+use Rattle.dft_netlist.specs.Traces.{Root, Port, Constant, Other, root_of}
+use Rattle.dft_netlist.specs.Logic.{Ports, Force, Scan, Cell, same_role, pin_of, or_loose, domain_at, force_of, forcing, scan_of, modelled, modelled_of, flip_flop}
+use Rattle.dft_netlist.specs.Logic as logic
+use Rattle.dft_config.specs.declared.config.Config.{Config}
+use Rattle.dft_config.specs.Range.{IsInRange}
+use Rattle.dft_netlist.specs.Connections.{input_net}
+use Rattle.dft_rules.specs.Rules.{is_net, place_of_root, place_of_source, domain_of, is_held, are_held, are_held_at, scan_cell_of, is_kept, may_be_scanned, judged_by}
+use Rattle.dft_expect.specs.Captures.{config_ports}
+use Rattle.dft_rules.specs.declared.judged.Judged.TheVariants.{Scanned}
+use Rattle.dft_rules.specs.declared.error.RuleError.{RuleError}
+use Rattle.dft_rules.specs.declared.error.RuleError.TheVariants.{LockupPresent}
+use Rattle.dft_rules.specs.Refusals.{first_failing, first_present, present, present_as, refusal, unknown_cell, unknown_port}
+use Rattle.dft_rules.proofs.CheckLemmas.{from_clocks, from_keep, from_present, from_resets}
+use Rattle.dft_stitch.specs.Chains.{plan_of}
+use Rattle.dft_stitch.specs.Plans.{cell_at}
+use Rattle.dft_stitch.specs.Laws.{IsScanned}
+use Rattle.dft_stitch.proofs.OnceLemmas.{cells_scanned}
+use Rattle.dft_expect.specs.Capturing.{CanCapture}
+
+-- ---- places of names
+
+-- the item at a number, from one on, passes a test
+record IsAt {A : Type 0} (test : A → Bool) (from : ℕ) (xs : List A) (number : ℕ) : Type 0 where
+  pub place : ℕ
+  pub item : A
+  pub at : slice_get xs place ≡ Some item
+  pub passes : test item ≡ true
+
+position_by : {A : Type 0} (test : A → Bool) (from number : ℕ) (x : A) (xs : List A) (b : Bool) → test x ≡ b → (position_from test (from + 1) xs ≡ Some number → IsAt test (from + 1) xs number) → cond b (Some from) (position_from test (from + 1) xs) ≡ Some number → IsAt test from (x ∷ xs) number
+position_by test from number x xs true is more e = record { place = zero; item = x; at = refl; passes = is }
+position_by test from number x xs false is more e = let it = more e in record { place = suc it.place; item = it.item; at = it.at; passes = it.passes }
+
+position_item : {A : Type 0} (test : A → Bool) (from number : ℕ) (xs : List A) → position_from test from xs ≡ Some number → IsAt test from xs number
+position_item test from number [] e = absurd (none-some number e)
+position_item test from number (x ∷ xs) e = position_by test from number x xs (test x) refl (position_item test (from + 1) number xs) e
+
+position_at : {A : Type 0} (test : A → Bool) (number : ℕ) (xs : List A) → position test xs ≡ Some number → IsAt test 0 xs number
+position_at test number xs e = position_item test 0 number xs (sym (position_from-zero test xs) ∙ e)
+
+or_right : (a b : Bool) → b ≡ true → (a || b) ≡ true
+or_right true b e = refl
+or_right false b e = e
+
+any_at : {A : Type 0} (test : A → Bool) (xs : List A) (j : ℕ) (x : A) → slice_get xs j ≡ Some x → test x ≡ true → list_any test xs ≡ true
+any_at test [] j x at is = absurd (none-some x at)
+any_at test (z ∷ xs) zero x at is = ap (λ b. b || list_any test xs) (ap test (same_Some z x at) ∙ is)
+any_at test (z ∷ xs) (suc j) x at is = or_right (test z) (list_any test xs) (any_at test xs j x at is)
+
+some_of : {A : Type 0} (o : Option A) → is_some o ≡ true → (x : A) × (o ≡ Some x)
+some_of None e = absurd cc
+some_of (Some x) e = (x, refl)
+
+-- ---- a scanned flip-flop
+
+-- the instance is a flip-flop on the port of a domain, with its reset or set held
+record Passes (n : Netlist) (config : Config) (i : ℕ) : Type 0 where
+  pub kind : may_be_scanned (kind_at n i) ≡ true
+  pub domain : ℕ
+  pub is_domain : domain_of n config i ≡ Some domain
+  pub is_held : are_held_at n config i ≡ true
+
+passes_by : (n : Netlist) (config : Config) (i d : ℕ) (domain : Option ℕ) (held scans kept : Bool) → may_be_scanned (kind_at n i) ≡ true → domain_of n config i ≡ domain → are_held_at n config i ≡ held → judged_by domain held scans kept ≡ Some (Scanned d) → Passes n config i
+passes_by n config i d None held scans kept kind domain is e = absurd cc
+passes_by n config i d (Some p) false scans kept kind domain is e = absurd cc
+passes_by n config i d (Some p) true scans kept kind domain is e = record { kind = kind; domain = p; is_domain = domain; is_held = is }
+
+passes_if : (n : Netlist) (config : Config) (i d : ℕ) (b : Bool) → may_be_scanned (kind_at n i) ≡ b →
+    (if b then judged_by (domain_of n config i) (are_held_at n config i) (is_some (scan_cell_of n i)) (is_kept n config.keep i) else None) ≡ Some (Scanned d) → Passes n config i
+passes_if n config i d true kind e = passes_by n config i d (domain_of n config i) (are_held_at n config i) (is_some (scan_cell_of n i)) (is_kept n config.keep i) kind refl refl e
+passes_if n config i d false kind e = absurd (none-some (Scanned d) e)
+
+stands_scanned : (n : Netlist) (config : Config) (chain place : ℕ) (cell : InstanceId) → IsInRange config → cell_at (plan_of n config).chains chain place ≡ Some cell → Passes n config cell.0
+stands_scanned n config chain place cell range stands =
+    let it : IsScanned n config cell.0 = cells_scanned n config chain place cell range stands in
+    passes_if n config cell.0 it.domain (may_be_scanned (kind_at n cell.0)) refl it.is
+
+-- ---- its clock
+
+-- its clock traces to a bit of an input port, which is a clock
+record IsClocked (n : Netlist) (config : Config) (i : ℕ) : Type 0 where
+  pub source : Source
+  pub pin : pin_of role.Clock i (pins_of n i) ≡ Some source
+  pub net : ℕ
+  pub root : root_of n source ≡ Port net
+  pub is : (config_ports n config).is_clock net ≡ true
+
+clocked_root : (n : Netlist) (config : Config) (i domain : ℕ) (source : Source) (r : Root) → pin_of role.Clock i (pins_of n i) ≡ Some source → root_of n source ≡ r → place_of_root n config.domains r ≡ Some domain → IsClocked n config i
+clocked_root n config i domain source (Port net) pin root e =
+    let it = position_at (λ name. is_net net (input_net n name)) domain config.domains e in
+    record { source = source; pin = pin; net = net; root = root; is = any_at (λ name. is_net net (input_net n name)) config.domains it.place it.item it.at it.passes }
+clocked_root n config i domain source (Constant bit) pin root e = absurd (none-some domain e)
+clocked_root n config i domain source Other pin root e = absurd (none-some domain e)
+
+clocked_pin : (n : Netlist) (config : Config) (i domain : ℕ) (o : Option Source) → pin_of role.Clock i (pins_of n i) ≡ o → option_and_then (place_of_source n config.domains) o ≡ Some domain → IsClocked n config i
+clocked_pin n config i domain None pin e = absurd (none-some domain e)
+clocked_pin n config i domain (Some source) pin e = clocked_root n config i domain source (root_of n source) pin refl e
+
+clocked : (n : Netlist) (config : Config) (i domain : ℕ) → domain_of n config i ≡ Some domain → IsClocked n config i
+clocked n config i domain e = clocked_pin n config i domain (pin_of role.Clock i (pins_of n i)) refl e
+
+domain_is : (n : Netlist) (config : Config) (i : ℕ) (c : IsClocked n config i) → domain_at n (config_ports n config) (pin_of role.Clock i (pins_of n i)) ≡ Some c.net
+domain_is n config i c = ap (domain_at n (config_ports n config)) c.pin ∙ ap (logic.domain_of (config_ports n config)) c.root ∙ ap (λ b. if b then Some c.net else None) c.is
+
+-- ---- its reset or set
+
+force_root : (n : Netlist) (config : Config) (value : Bool) (r : Root) → is_held n config.resets r ≡ true → (force : Option Force) × (force_of (config_ports n config) value r ≡ Some force)
+force_root n config value (Port net) e =
+    let some = some_of (place_of_root n config.resets (Port net)) e in
+    let it = position_at (λ name. is_net net (input_net n name)) some.0 config.resets some.1 in
+    let reset : (config_ports n config).is_reset net ≡ true = any_at (λ name. is_net net (input_net n name)) config.resets it.place it.item it.at it.passes in
+    (Some (record { port = net; value = value }), ap (λ b. if b then Some (Some (record { port = net; value = value })) else None) reset)
+force_root n config value (Constant true) e = (None, refl)
+force_root n config value (Constant false) e = absurd cc
+force_root n config value Other e = absurd cc
+
+force_pins : (n : Netlist) (config : Config) (reset preset : Option Source) → are_held n config.resets reset preset ≡ true → (force : Option Force) × (forcing n (config_ports n config) reset preset ≡ Some force)
+force_pins n config (Some reset) preset e = force_root n config false (root_of n reset) e
+force_pins n config None (Some preset) e = force_root n config true (root_of n preset) e
+force_pins n config None None e = (None, refl)
+
+-- ---- it has no scan pins
+
+abbrev NoEnable : List Role → Type 0
+NoEnable roles = AllByRecursion (λ r. same_role role.ScanEnable r ≡ false) roles
+
+no_pin : (i pin : ℕ) (roles : List Role) (signals : List Signal) → NoEnable roles → pin_of role.ScanEnable i (connections_from pin roles signals) ≡ None
+no_pin i pin [] signals none = refl
+no_pin i pin (r ∷ roles) [] none = refl
+no_pin i pin (r ∷ roles) (s ∷ signals) none =
+    ap (λ b. if b then Some (source_of i pin s) else pin_of role.ScanEnable i (connections_from (suc pin) roles signals)) none.0 ∙ no_pin i (suc pin) roles signals none.1
+
+gate_none : (inputs : ℕ) → NoEnable (gate_roles inputs)
+gate_none zero = (refl, tt)
+gate_none (suc inputs) = (refl, gate_none inputs)
+
+plain_none : (roles : List Role) → FlipFlopRoles (role.Clock ∷ role.Din ∷ []) roles → NoEnable roles
+plain_none roles (inl e) = subst NoEnable (sym e) (refl, (refl, (refl, tt)))
+plain_none roles (inr e) = subst NoEnable (sym e) (refl, (refl, (refl, (refl, tt))))
+
+reset_none : (roles : List Role) → FlipFlopRoles (role.Clock ∷ role.Din ∷ role.Reset ∷ []) roles → NoEnable roles
+reset_none roles (inl e) = subst NoEnable (sym e) (refl, (refl, (refl, (refl, tt))))
+reset_none roles (inr e) = subst NoEnable (sym e) (refl, (refl, (refl, (refl, (refl, tt)))))
+
+set_none : (roles : List Role) → FlipFlopRoles (role.Clock ∷ role.Din ∷ role.Preset ∷ []) roles → NoEnable roles
+set_none roles (inl e) = subst NoEnable (sym e) (refl, (refl, (refl, (refl, tt))))
+set_none roles (inr e) = subst NoEnable (sym e) (refl, (refl, (refl, (refl, (refl, tt)))))
+
+kind_none : (k : Kind) (roles : List Role) → may_be_scanned k ≡ true → HasRoles k roles → NoEnable roles
+kind_none kind.Dff roles may has = plain_none roles has
+kind_none kind.Dffr roles may has = reset_none roles has
+kind_none kind.Dffs roles may has = set_none roles has
+kind_none kind.Sdff roles may has = absurd cc
+kind_none kind.Sdffr roles may has = absurd cc
+kind_none kind.Sdffs roles may has = absurd cc
+kind_none kind.Lockup roles may has = absurd cc
+kind_none kind.Opaque roles may has = absurd cc
+kind_none kind.Buf roles may has = absurd cc
+kind_none kind.Inv roles may has = absurd cc
+kind_none kind.And roles may has = absurd cc
+kind_none kind.Nand roles may has = absurd cc
+kind_none kind.Or roles may has = absurd cc
+kind_none kind.Nor roles may has = absurd cc
+kind_none kind.Xor roles may has = absurd cc
+kind_none kind.Xnor roles may has = absurd cc
+kind_none kind.Mux2 roles may has = absurd cc
+kind_none (kind.Table number) roles may has = absurd cc
+kind_none kind.Tie0 roles may has = absurd cc
+kind_none kind.Tie1 roles may has = absurd cc
+
+cell_none : (library : List declared.Cell) (id : ℕ) (o : Option declared.Cell) → IsWellFormed library → slice_get library id ≡ o → may_be_scanned (shape_of_cell o).kind ≡ true → NoEnable (shape_of_cell o).roles
+cell_none library id None well at may = absurd cc
+cell_none library id (Some cell) well at may = kind_none cell.kind _ may (well.each id cell at).roles
+
+shape_none : (library : List declared.Cell) (cell : CellRef) → IsWellFormed library → may_be_scanned (shape_of library cell).kind ≡ true → NoEnable (shape_of library cell).roles
+shape_none library (cell_ref.Library id) well may = cell_none library id.0 (slice_get library id.0) well refl may
+shape_none library (cell_ref.Gate k inputs) well may = gate_none inputs
+
+pins_none : (library : List declared.Cell) (i : ℕ) (o : Option Instance) → IsWellFormed library → may_be_scanned (kind_of library o) ≡ true → pin_of role.ScanEnable i (pins_at library o) ≡ None
+pins_none library i None well may = refl
+pins_none library i (Some x) well may = no_pin i 0 (shape_of library x.cell).roles x.pins (shape_none library x.cell well may)
+
+-- ---- the flip-flop
+
+scannable_flop : (k : Kind) → may_be_scanned k ≡ true → is_flip_flop k ≡ true
+scannable_flop kind.Dff e = refl
+scannable_flop kind.Dffr e = refl
+scannable_flop kind.Dffs e = refl
+scannable_flop kind.Sdff e = refl
+scannable_flop kind.Sdffr e = refl
+scannable_flop kind.Sdffs e = refl
+scannable_flop kind.Lockup e = absurd cc
+scannable_flop kind.Opaque e = absurd cc
+scannable_flop kind.Buf e = absurd cc
+scannable_flop kind.Inv e = absurd cc
+scannable_flop kind.And e = absurd cc
+scannable_flop kind.Nand e = absurd cc
+scannable_flop kind.Or e = absurd cc
+scannable_flop kind.Nor e = absurd cc
+scannable_flop kind.Xor e = absurd cc
+scannable_flop kind.Xnor e = absurd cc
+scannable_flop kind.Mux2 e = absurd cc
+scannable_flop (kind.Table number) e = absurd cc
+scannable_flop kind.Tie0 e = absurd cc
+scannable_flop kind.Tie1 e = absurd cc
+
+-- a cell of the chains: a flip-flop on a clock's port, with its data input, no scan pins, and perhaps a reset or set
+pub record IsModelled (n : Netlist) (config : Config) (i : ℕ) : Type 0 where
+  pub kind : may_be_scanned (kind_at n i) ≡ true
+  pub source : Source
+  pub pin : pin_of role.Clock i (pins_of n i) ≡ Some source
+  pub clock : ℕ
+  pub root : root_of n source ≡ Port clock
+  pub force : Option Force
+  pub flop : flip_flop n (config_ports n config) i ≡ Some (record { domain = clock; input = or_loose i (pin_of role.Din i (pins_of n i)); scan = None; force = force })
+
+pub cell_modelled : (n : Netlist) (config : Config) (chain place : ℕ) (cell : InstanceId) → CanCapture n config → cell_at (plan_of n config).chains chain place ≡ Some cell → IsModelled n config cell.0
+cell_modelled n config chain place cell can stands =
+    let ports : Ports = config_ports n config in
+    let i : ℕ = cell.0 in
+    let it : Passes n config i = stands_scanned n config chain place cell can.range stands in
+    let clock : IsClocked n config i = clocked n config i it.domain it.is_domain in
+    let force = force_pins n config (pin_of role.Reset i (pins_of n i)) (pin_of role.Preset i (pins_of n i)) it.is_held in
+    let input : Source = or_loose i (pin_of role.Din i (pins_of n i)) in
+    let scan : Option Scan = scan_of (pin_of role.ScanEnable i (pins_of n i)) (pin_of role.ScanIn i (pins_of n i)) in
+    record {
+      kind = it.kind;
+      source = clock.source;
+      pin = clock.pin;
+      clock = clock.net;
+      root = clock.root;
+      force = force.0;
+      flop =
+          ap (λ b. if b then modelled_of n ports i (pins_of n i) else None) (scannable_flop (kind_at n i) it.kind)
+          ∙ ap (λ d. modelled d (forcing n ports (pin_of role.Reset i (pins_of n i)) (pin_of role.Preset i (pins_of n i))) input scan) (domain_is n config i clock)
+          ∙ ap (λ f. modelled (Some clock.net) f input scan) force.1
+          ∙ ap (λ o. modelled (Some clock.net) (Some force.0) input (scan_of o (pin_of role.ScanIn i (pins_of n i)))) (pins_none n.library i (slice_get n.instances i) can.library it.kind);
+    }
+
+-- ---- no lock-up
+
+none_first : (check : Option RuleError) (checks : List (Option RuleError)) → first_failing (check ∷ checks) ≡ None → (check ≡ None) × (first_failing checks ≡ None)
+none_first None checks e = (refl, e)
+none_first (Some error) checks e = absurd (none-some error (sym e))
+
+none_present : (n : Netlist) (config : Config) → refusal n config ≡ None → first_present n.library n.instances ≡ None
+unfolding refusal
+none_present n config e =
+    let resets = (none_first (unknown_port n config.domains) (from_resets n config) e).1 in
+    let keep = (none_first (unknown_port n config.resets) (from_keep n config) resets).1 in
+    let there = (none_first (unknown_cell n config.keep) (from_present n config) keep).1 in
+    (none_first (first_present n.library n.instances) (from_clocks n config) there).0
+
+present_at : (library : List declared.Cell) (instances : List Instance) (i : ℕ) (x : Instance) → first_present library instances ≡ None → slice_get instances i ≡ Some x → present library x ≡ None
+present_at library [] i x e at = absurd (none-some x at)
+present_at library (y ∷ instances) zero x e at = subst (λ (z : Instance). present library z ≡ None) (same_Some y x at) (none_first (present library y) (map (present library) instances) e).0
+present_at library (y ∷ instances) (suc i) x e at = present_at library instances i x (none_first (present library y) (map (present library) instances) e).1 at
+
+lockup_named : (name : Option Text) → is_some name ≡ true → present_as kind.Lockup name ≡ None → ⊥
+lockup_named None is e = absurd cc
+lockup_named (Some name) is e = absurd (none-some (LockupPresent name) (sym e))
+
+lockup_cell : (library : List declared.Cell) (name : Option Text) (cell : CellRef) → IsCellOf library name cell → (shape_of library cell).kind ≡ kind.Lockup → present_as (shape_of library cell).kind name ≡ None → ⊥
+lockup_cell library name (cell_ref.Library id) fits is none = lockup_named name fits.1 (subst (λ (k : Kind). present_as k name ≡ None) is none)
+lockup_cell library name (cell_ref.Gate k inputs) fits is none = let no : false ≡ true = subst (λ (j : Kind). IsTrue (is_primitive j)) is fits.0 in let f : ⊥ = cc in f
+
+lockup_at : (n : Netlist) (config : Config) (i : ℕ) (o : Option Instance) → CanCapture n config → slice_get n.instances i ≡ o → kind_of n.library o ≡ kind.Lockup → ⊥
+lockup_at n config i None can at is = absurd cc
+lockup_at n config i (Some x) can at is = lockup_cell n.library x.name x.cell (can.netlist.instances i x at).fits is (present_at n.library n.instances i x (none_present n config can.passed) at)
+
+pub no_lockup : (n : Netlist) (config : Config) (i : ℕ) → CanCapture n config → kind_at n i ≡ kind.Lockup → ⊥
+no_lockup n config i can is = lockup_at n config i (slice_get n.instances i) can refl is

@@ -1,0 +1,137 @@
+//! What patterns capture, up to 512 at a time.
+
+ghost use Rattle.std.specs.Prelude.{◌≡◌, ◌≤◌, ◌<◌, ◌^◌, None, length, IfOk};
+ghost use Rattle.dft_config.specs.Range.{IsInRange};
+ghost use Rattle.dft_rules.specs.Refusals.{refusal};
+ghost use Rattle.dft_stitch.specs.Chains.{plan_of};
+ghost use Rattle.dft_expect.specs.Capturing.{AreCaptures, Captures, IsPrepared};
+ghost use Rattle.dft_expect.specs.Loaded.{all_cells};
+
+use crate::pattern::Pattern;
+use crate::reading::{Reading, response, responses};
+use crate::reads::{Read, outputs, reads};
+use crate::response::Response;
+use crate::settings::{Finding, Setting, flags, settings};
+use crate::sources::settle_all;
+use crate::unloading::starts;
+use dft_config::Config;
+use dft_evaluator::Evaluator;
+use dft_netlist::{Design, NetId};
+use dft_stitch::Chains;
+use std::alloc::{AllocError, Global};
+use std::marker::Model;
+
+/// What captures the responses of a design's patterns, up to 512 in one sweep over its nets. A clause sees the design and the
+/// configuration.
+#[derive(Drop)]
+pub struct Capturer<'a> {
+    design: &'a Design,
+    config: &'a Config,
+    evaluator: Evaluator,
+    settings: Vec<Setting>,
+    reads: Vec<Read>,
+    outputs: Vec<NetId>,
+}
+
+impl<'a> Model for Capturer<'a> {
+    ghost use Rattle.dft_expect.specs.Capturing.{Capturing};
+
+    ghost Value = { Capturing };
+
+    ghost use Rattle.dft_expect.specs.CapturerShown.{capturing_of, IsCapturer};
+
+    ghost view = { capturing_of };
+
+    ghost invariant = { IsCapturer };
+}
+
+impl<'a> Capturer<'a> {
+    /// What captures in a design that the scan rules pass, with its chains. All memory but that of the answers is taken here.
+    pub fn prepare(
+        alloc: Global,
+        design: &'a Design,
+        config: &'a Config,
+        chains: &Chains,
+    ) -> Result<Capturer<'a>, AllocError>
+        requires config { IsInRange config.now }
+        requires passed { refusal design.now config.now ≡ None }
+        requires chains { chains.now ≡ plan_of design.now config.now }
+        ensures { IfOk result (λ c. c ≡ record { design = design.entry.now; config = config.entry.now }) }
+    {
+        design.soundness();
+        let evaluator = Evaluator::prepare(alloc, design)?;
+        let reads = reads(alloc, design, chains)?;
+        let outputs = outputs(alloc, design)?;
+        let settings = all_settings(alloc, design, config, chains)?;
+        Ok(Capturer {
+            design,
+            config,
+            evaluator,
+            settings,
+            reads,
+            outputs,
+        })
+    }
+
+    /// What each of these patterns, 512 at most, captures: the values of the cells, chain by chain, and those of the output
+    /// ports' bits.
+    pub fn capture_all(
+        &mut self,
+        alloc: Global,
+        patterns: &[Pattern<'_>],
+    ) -> Result<Vec<Response>, AllocError>
+        requires { length patterns.now ≤ 512 }
+        ensures captures { IfOk result (λ responses. AreCaptures self.old patterns.now responses.items) }
+        ensures same { self.new ≡ self.old }
+    {
+        settle_all(&mut self.evaluator, &self.settings, patterns);
+        let reading = Reading {
+            design: self.design,
+            config: self.config,
+            evaluator: &self.evaluator,
+            reads: &self.reads,
+            outputs: &self.outputs,
+        };
+        responses(alloc, &reading, patterns)
+    }
+
+    /// What a pattern captures.
+    pub fn capture(&mut self, alloc: Global, pattern: &Pattern<'_>) -> Result<Response, AllocError>
+        ensures captures { IfOk result (λ response. Captures self.old.design self.old.config pattern.now response) }
+        ensures same { self.new ≡ self.old }
+    {
+        settle_all(&mut self.evaluator, &self.settings, &[*pattern]);
+        let reading = Reading {
+            design: self.design,
+            config: self.config,
+            evaluator: &self.evaluator,
+            reads: &self.reads,
+            outputs: &self.outputs,
+        };
+        response(alloc, &reading, pattern, 0)
+    }
+}
+
+/// What each net is set to.
+fn all_settings(
+    alloc: Global,
+    design: &Design,
+    config: &Config,
+    chains: &Chains,
+) -> Result<Vec<Setting>, AllocError>
+    requires chains { chains.now ≡ plan_of design.now config.now }
+    requires small { length (all_cells chains.now.chains) < 2 ^ 64 }
+    ensures { IfOk result (λ settings. IsPrepared design.now config.now settings.items) }
+{
+    let clocks = flags(alloc, design, config.domains.as_slice())?;
+    let resets = flags(alloc, design, config.resets.as_slice())?;
+    let starts = starts(alloc, chains)?;
+    let found = Finding {
+        design,
+        clocks: &clocks,
+        resets: &resets,
+        chains,
+        starts: &starts,
+    };
+    settings(alloc, &found)
+}

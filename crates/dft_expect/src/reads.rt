@@ -1,0 +1,103 @@
+//! Where a capture is read.
+
+ghost use Rattle.std.specs.Prelude.{◌≡◌, ℕ, ◌++◌, List, length, map, option_map, IfOk, IfSome, OnOk};
+ghost use Rattle.dft_netlist.specs.Sound.{IsLive};
+ghost use Rattle.dft_expect.specs.Captures.{bits_out, output_bits};
+ghost use Rattle.dft_expect.specs.Loaded.{all_cells};
+ghost use Rattle.dft_expect.specs.Reads.{AreReads, IsReadOf};
+ghost use Rattle.dft_expect.specs.Reads as spec;
+
+use dft_cells::Role;
+use dft_netlist::{Design, Dir, InstanceId, NetId, Port, Root, Signal};
+use dft_stitch::Chains;
+use std::alloc::{AllocError, Global};
+
+/// Where the next value of a cell is read: the bit of an input port that its clock traces to, and what its data input is
+/// joined to.
+#[derive(Clone, Copy)]
+pub(crate) struct Read {
+    pub clock: Option<NetId>,
+    pub input: Signal,
+}
+
+/// The bit of an input port that a pin traces to.
+fn clock_of(design: &Design, pin: Option<Signal>) -> Option<NetId>
+    requires { IfSome pin (IsLive (length design.now.nets)) }
+    ensures { option_map (λ net. net.0) result ≡ spec.clock_at design.now pin }
+{
+    match pin {
+        Some(Signal::Net(net)) => match design.trace(net) {
+            Root::Port(port) => Some(port),
+            Root::Constant(_) | Root::Other => None,
+        },
+        _ => None,
+    }
+}
+
+/// Where the next value of a cell is read.
+fn read_of(design: &Design, cell: InstanceId) -> Read
+    ensures { IsReadOf design.now cell.0 result }
+{
+    let clock = clock_of(design, design.signal(cell, Role::Clock));
+    let input = or_unconnected(design.signal(cell, Role::Din));
+    Read { clock, input }
+}
+
+/// What a pin is joined to; one that is not there is joined to nothing.
+fn or_unconnected(pin: Option<Signal>) -> Signal
+    ensures { result ≡ spec.or_unconnected pin }
+{
+    match pin {
+        Some(signal) => signal,
+        None => Signal::Unconnected,
+    }
+}
+
+/// Adds where the next values of these cells are read.
+fn add_reads(reads: &mut Vec<Read>, design: &Design, cells: &[InstanceId]) -> Result<(), AllocError>
+    ensures { (before : List InstanceId) → AreReads design.now before reads.old.items → OnOk result (AreReads design.now (before ++ cells.now) reads.new.items) }
+{
+    for cell in cells {
+        reads.push(read_of(design, *cell))?;
+    }
+    Ok(())
+}
+
+/// Where the next values of all cells are read, chain by chain.
+pub(crate) fn reads(
+    alloc: Global,
+    design: &Design,
+    chains: &Chains,
+) -> Result<Vec<Read>, AllocError>
+    ensures { IfOk result (λ reads. AreReads design.now (all_cells chains.now.chains) reads.items) }
+{
+    let mut reads = Vec::new(alloc);
+    for chain in 0..chains.count() {
+        add_reads(&mut reads, design, chains.chain(chain))?;
+    }
+    Ok(reads)
+}
+
+/// Adds the bits of an output port.
+fn add_outputs(outputs: &mut Vec<NetId>, port: &Port) -> Result<(), AllocError>
+    ensures { OnOk result (outputs.new.items ≡ outputs.old.items ++ bits_out port.now.dir port.now.bits) }
+{
+    match port.dir {
+        Dir::Input => Ok(()),
+        Dir::Output => {
+            outputs.extend_from_slice(port.bits.as_slice())?;
+            Ok(())
+        }
+    }
+}
+
+/// The bits of the output ports, in order.
+pub(crate) fn outputs(alloc: Global, design: &Design) -> Result<Vec<NetId>, AllocError>
+    ensures { IfOk result (λ outputs. outputs.items ≡ output_bits design.now.ports) }
+{
+    let mut outputs = Vec::new(alloc);
+    for port in design.ports() {
+        add_outputs(&mut outputs, port)?;
+    }
+    Ok(outputs)
+}
