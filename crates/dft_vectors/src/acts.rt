@@ -30,11 +30,9 @@ pub(crate) fn driven(pulsed: bool, value: Tri) -> Act
 pub(crate) fn port_value(is_reset: bool, given: Option<bool>) -> Tri
     ensures { result ≡ captures.port_value is_reset given }
 {
-    match given {
-        Some(true) => Tri::One,
-        Some(false) => Tri::Zero,
-        None if is_reset => Tri::One,
-        None => Tri::Zero,
+    match (is_reset, given) {
+        (true, _) | (false, Some(true)) => Tri::One,
+        (false, Some(false) | None) => Tri::Zero,
     }
 }
 

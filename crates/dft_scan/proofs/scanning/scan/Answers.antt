@@ -5,9 +5,9 @@ use Rattle.dft_netlist.specs.declared.ids.InstanceId.{InstanceId}
 use Rattle.dft_rules.specs.Rules.{judgements}
 use Rattle.dft_stitch.specs.Chains.{plan_of}
 use Rattle.dft_stitch.specs.Plans.{Plan}
-use Rattle.dft_insert.specs.declared.style.Style.TheVariants.{Plain}
-use Rattle.dft_insert.specs.Refusals as insert
-use Rattle.dft_insert.specs.Written.{scanned_netlist}
+use Rattle.dft_scan_hardware.specs.declared.style.Style.TheVariants.{Plain}
+use Rattle.dft_scan_hardware.specs.Refusals as insert
+use Rattle.dft_scan_hardware.specs.Scanned.{scanned_netlist}
 use Rattle.dft_report.specs.declared.limits.TheConstants.{MAX_BYTES}
 use Rattle.dft_report.specs.declared.report.Report.{Report}
 use Rattle.dft_report.specs.Refusals.{IsTooLong}
@@ -53,7 +53,7 @@ write-requires-2 c =
     let n = c.args.design.now in
     let config = c.args.config.now in
     let is = c.in_ok-scanned.ensures.design ∙ ap (scanned_netlist Plain n config) c.in_ok-chains.ensures.plan in
-    subst GatesAreJoined (sym is) (scanned_joined n config c.requires.joined)
+    subst GatesAreJoined (sym is) (scanned_joined Plain n config c.requires.range c.requires.joined)
 
 pub returns-in_err-netlist-clause-refused : goal.returns-in_err-netlist-clause-refused
 returns-in_err-netlist-clause-refused c =
