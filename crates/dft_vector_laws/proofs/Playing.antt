@@ -53,7 +53,7 @@ set_bit : (b : Bool) → set_by (set_to b) ≡ known b
 set_bit true = refl
 set_bit false = refl
 
-pulse_is : (b : Bool) (t : Tri) → is_pulse (driven b t) ≡ b
+pub pulse_is : (b : Bool) (t : Tri) → is_pulse (driven b t) ≡ b
 pulse_is true t = refl
 pulse_is false Zero = refl
 pulse_is false One = refl
@@ -67,31 +67,31 @@ value_is false None = refl
 
 -- ---- vectors that do acts
 
-abbrev Acts : (x v : Vector) → (net : ℕ) → Type 0
+abbrev pub Acts : (x v : Vector) → (net : ℕ) → Type 0
 Acts x v net = (x.ports net ≡ set_by (driven (v.pulsed net) (v.ports net))) × (x.pulsed net ≡ is_pulse (driven (v.pulsed net) (v.ports net)))
 
-abbrev act_by : Vector → NetId → Act
+abbrev pub act_by : Vector → NetId → Act
 act_by v k = driven (v.pulsed k.0) (v.ports k.0)
 
 own_by : (x v : Vector) (net k : ℕ) (more b : Bool) → (k == net) ≡ b → Acts x v k → (b || more) ≡ true → (more ≡ true → Acts x v net) → Acts x v net
 own_by x v net k more true is here h later = subst (λ (m : ℕ). Acts x v m) (eqb-true k net is) here
 own_by x v net k more false is here h later = later h
 
-does_own : (x v : Vector) (net : ℕ) (own more : List NetId) (rest : List Act) → DoesAt x (own ++ more) (map (act_by v) own ++ rest) → is_in own net ≡ true → Acts x v net
+pub does_own : (x v : Vector) (net : ℕ) (own more : List NetId) (rest : List Act) → DoesAt x (own ++ more) (map (act_by v) own ++ rest) → is_in own net ≡ true → Acts x v net
 does_own x v net [] more rest h is = absurd cc
 does_own x v net (k ∷ own) more rest h is = own_by x v net k.0 (is_in own net) (k.0 == net) refl h.0 is (λ later. does_own x v net own more rest h.1 later)
 
-does_more : (x v : Vector) (own more : List NetId) (rest : List Act) → DoesAt x (own ++ more) (map (act_by v) own ++ rest) → DoesAt x more rest
+pub does_more : (x v : Vector) (own more : List NetId) (rest : List Act) → DoesAt x (own ++ more) (map (act_by v) own ++ rest) → DoesAt x more rest
 does_more x v [] more rest h = h
 does_more x v (k ∷ own) more rest h = does_more x v own more rest h.1
 
-does_head : (x : Vector) (net : NetId) (nets : List NetId) (act : Act) (acts : List Act) → DoesAt x (net ∷ nets) (act ∷ acts) → (x.ports net.0 ≡ set_by act) × (x.pulsed net.0 ≡ is_pulse act)
+pub does_head : (x : Vector) (net : NetId) (nets : List NetId) (act : Act) (acts : List Act) → DoesAt x (net ∷ nets) (act ∷ acts) → (x.ports net.0 ≡ set_by act) × (x.pulsed net.0 ≡ is_pulse act)
 does_head x net nets act acts h = h.0
 
-does_tail : (x : Vector) (net : NetId) (nets : List NetId) (act : Act) (acts : List Act) → DoesAt x (net ∷ nets) (act ∷ acts) → DoesAt x nets acts
+pub does_tail : (x : Vector) (net : NetId) (nets : List NetId) (act : Act) (acts : List Act) → DoesAt x (net ∷ nets) (act ∷ acts) → DoesAt x nets acts
 does_tail x net nets act acts h = h.1
 
-abbrev bits_from : (ℕ → Bool) → (from count : ℕ) → List Act
+abbrev pub bits_from : (ℕ → Bool) → (from count : ℕ) → List Act
 bits_from bits from count = map (λ k. set_to (bits k)) (range_with_len from count)
 
 does_bits : (x : Vector) (b from count : ℕ) (bits : ℕ → Bool) (more : List NetId) (rest : List Act) → DoesAt x (nets_from b count ++ more) (bits_from bits from count ++ rest) → (j : ℕ) → j < count → x.ports (b + j) ≡ known (bits (from + j))
@@ -105,13 +105,13 @@ does_bits x b from (suc count) bits more rest h (suc j) less =
     let here : from + 1 + j ≡ from + suc j = omega arith in
     ap x.ports at ∙ does_bits x (suc b) (from + 1) count bits more rest h.1 j (omega (arith, less)) ∙ ap (λ k. known (bits k)) here
 
-does_past : (x : Vector) (b from count : ℕ) (bits : ℕ → Bool) (more : List NetId) (rest : List Act) → DoesAt x (nets_from b count ++ more) (bits_from bits from count ++ rest) → DoesAt x more rest
+pub does_past : (x : Vector) (b from count : ℕ) (bits : ℕ → Bool) (more : List NetId) (rest : List Act) → DoesAt x (nets_from b count ++ more) (bits_from bits from count ++ rest) → DoesAt x more rest
 does_past x b from zero bits more rest h = h
 does_past x b from (suc count) bits more rest h = does_past x (suc b) (from + 1) count bits more rest h.1
 
 -- ---- what a listed vector does
 
-record Plays (n : Netlist) (config : Config) (v : Vector) (enable update : Bool) (channels masks : ℕ → Bool) (x : Vector) : Type 0 where
+pub record Plays (n : Netlist) (config : Config) (v : Vector) (enable update : Bool) (channels masks : ℕ → Bool) (x : Vector) : Type 0 where
   pub own : (net : ℕ) → is_in (input_bits n.ports) net ≡ true → Acts x v net
   pub enabled : x.ports (gap_in Edt n config).before ≡ known enable
   pub clock : x.pulsed ((gap_in Edt n config).before + 1) ≡ true
@@ -124,7 +124,7 @@ outside : (low width net : ℕ) → (net < low) ⊎ (low + width ≤ net) → (l
 outside low width net (inl less) h = omega (arith, less, h.0)
 outside low width net (inr past) h = omega (arith, past, h.1)
 
-plays : (n : Netlist) (config : Config) (v : Vector) (enable update : Bool) (channels masks : ℕ → Bool) (outs : List Act) (x : Vector) → IsReady n config →
+pub plays : (n : Netlist) (config : Config) (v : Vector) (enable update : Bool) (channels masks : ℕ → Bool) (outs : List Act) (x : Vector) → IsReady n config →
     Does (scanned Edt n config) (inputs_by n v ++ (added_inputs config enable update channels masks ++ outs)) x → Plays n config v enable update channels masks x
 plays n config v enable update channels masks outs x ready does =
     let before : ℕ = (gap_in Edt n config).before in
@@ -167,7 +167,7 @@ set_up_clears n config x ready does =
 
 -- ---- loads
 
-clock_pulses : (n : Netlist) (config : Config) (channels masks : ℕ → Bool) (x : Vector) → Plays n config (pulsing_vector n config) true false channels masks x → (net : ℕ) (a b : Bool) →
+pub clock_pulses : (n : Netlist) (config : Config) (channels masks : ℕ → Bool) (x : Vector) → Plays n config (pulsing_vector n config) true false channels masks x → (net : ℕ) (a b : Bool) →
     (config_ports n config).is_clock net ≡ a → (net == (gap_in Edt n config).before + 1) ≡ b → (a || b) ≡ true → x.pulsed net ≡ true
 clock_pulses n config channels masks x p net true b is at h = (p.own net (input_listed n net (named_input n net config.domains is))).1 ∙ pulse_is ((config_ports n config).is_clock net) _ ∙ is
 clock_pulses n config channels masks x p net false true is at h = ap x.pulsed (eqb-true net ((gap_in Edt n config).before + 1) at) ∙ p.clock
@@ -224,7 +224,7 @@ module _ (n : Netlist) (config : Config) (ready : IsReady n config) where
   abbrev gap : Gap
   gap = gap_in Edt n config
 
-  input_before : (net : ℕ) → is_input (driver n net) ≡ true → net < gap.before
+  pub input_before : (net : ℕ) → is_input (driver n net) ≡ true → net < gap.before
   input_before net is = input_less n net (driver n net) is (driver_fine n config net ready)
 
   clock_input : (merged : Merged) (e : ℕ) → (capture_vector n config merged).pulsed e ≡ true → is_input (driver n e) ≡ true

@@ -1,9 +1,10 @@
 -- Vectors of a scanned netlist of style Edt that do what compiled patterns list.
-use Rattle.std.specs.Prelude.{ℕ, ◌≡◌, ◌==◌, false, List, [], ◌∷◌, Option}
+use Rattle.std.specs.Prelude.{ℕ, ◌≡◌, ◌==◌, false, not, List, [], ◌∷◌, Option}
 use Rattle.std.specs.List.{list_any}
 use Rattle.dft_base.specs.declared.tri.Tri.{Tri}
 use Rattle.dft_base.specs.declared.tri.Tri.TheVariants.{Zero, One, Unknown}
 use Rattle.dft_netlist.specs.declared.ids.NetId.{NetId}
+use Rattle.dft_netlist.specs.Logic.{Ports}
 use Rattle.dft_netlist.specs.Netlist.{Netlist}
 use Rattle.dft_netlist.specs.Runs.{Vector}
 use Rattle.dft_config.specs.declared.config.Config.{Config}
@@ -15,11 +16,12 @@ use Rattle.dft_patterns.specs.Steadiness.{is_pulse}
 use Rattle.dft_scan_frame.specs.Statements.{IsReady}
 use Rattle.dft_scan_hardware.specs.declared.style.Style.TheVariants.{Edt}
 use Rattle.dft_scan_hardware.specs.Statements.{scanned}
+use Rattle.dft_scan_facts.specs.EdtVectors.{SuitsEdt}
 use Rattle.dft_scan_facts.specs.Facts.{edt_hardware}
 use Rattle.dft_pattern_laws.specs.Given.{Pattern, IsLoadOf, IsCaptureOf}
 use Rattle.dft_vectors.specs.PatternData.{PatternData}
 use Rattle.dft_vectors.specs.Signals.{input_bits}
-use Rattle.dft_vectors.specs.VectorList.{set_up_acts, load_vectors, capture_with}
+use Rattle.dft_vectors.specs.VectorList.{set_up_acts, load_vectors, capture_with, vectors_of}
 
 -- ---- what acts do
 
@@ -66,3 +68,15 @@ LoadsLoad =
 abbrev pub CapturesCapture : Type 0
 CapturesCapture =
     (n : Netlist) (config : Config) (p : Pattern) (outputs : List Tri) (x : Vector) → IsReady n config → Does (scanned Edt n config) (capture_with n config p.merged outputs) x → IsCaptureOf n config p x
+
+-- ---- ports
+
+-- the ports of some vectors: what pulses in one of them is a clock, and all else may be a reset
+abbrev pub ports_by : List Vector → Ports
+ports_by xs = record { is_clock = λ net. list_any (λ x. x.pulsed net) xs; is_reset = λ net. not (list_any (λ x. x.pulsed net) xs) }
+
+-- The ports of the vectors of some patterns suit those of the configuration.
+abbrev pub SetSuits : Type 0
+SetSuits =
+    (n : Netlist) (config : Config) (p : PatternData) (patterns : List PatternData) (xs : List Vector) → IsReady n config →
+    AllDo (scanned Edt n config) (vectors_of n config (plan_of n config) (p ∷ patterns)) xs → SuitsEdt n config (ports_by xs)

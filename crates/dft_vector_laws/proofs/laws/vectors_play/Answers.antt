@@ -1,4 +1,5 @@
 -- Listed vectors play.
+use Rattle.dft_vector_laws.proofs.Clocking.{set_suits}
 use Rattle.dft_vector_laws.proofs.Playing.{set_up_clears, loads_load, captures_capture}
 use Rattle.dft_vector_laws.proofs.laws.vectors_play.Goals as goal
 
@@ -10,3 +11,6 @@ returns-clause-loads c = loads_load
 
 pub returns-clause-captures : goal.returns-clause-captures
 returns-clause-captures c = captures_capture
+
+pub returns-clause-ports : goal.returns-clause-ports
+returns-clause-ports c = set_suits
