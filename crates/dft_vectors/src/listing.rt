@@ -12,9 +12,9 @@ ghost use Rattle.dft_vectors.specs.VectorList as spec;
 
 use crate::layout::{Layout, look_up};
 use crate::loads::{add_load, no_bits};
-use crate::notes::notes;
+use crate::notes::notes_of;
 use crate::pattern::Pattern;
-use crate::signals::signals;
+use crate::signals::signals_of;
 use dft_config::Config;
 use dft_netlist::Design;
 use dft_patterns::{Acts, PatternSet};
@@ -163,8 +163,8 @@ impl<'a> VectorList<'a> {
     {
         self.unload(last)?;
         let alloc = self.layout.alloc;
-        let signals = signals(alloc, written)?;
-        let notes = notes(alloc, self.layout.chains.cycles(), self.count)?;
+        let signals = signals_of(alloc, written)?;
+        let notes = notes_of(alloc, self.layout.chains.cycles(), self.count)?;
         Ok(PatternSet::noted(signals, self.vectors, notes))
     }
 }

@@ -7,7 +7,7 @@ use dft_patterns::{Note, NoteKind};
 use std::alloc::{AllocError, Global};
 
 /// The notes of so many patterns: before the set-up vector, before each load, and before the last load.
-pub(crate) fn notes(alloc: Global, cycles: u16, patterns: u32) -> Result<Vec<Note>, AllocError>
+pub fn notes_of(alloc: Global, cycles: u16, patterns: u32) -> Result<Vec<Note>, AllocError>
     requires cycles { cycles ≤ 4096 }
     requires patterns { patterns ≤ 65536 }
     ensures { IfOk result (λ notes. notes.items ≡ spec.notes_of cycles patterns) }

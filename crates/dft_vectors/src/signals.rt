@@ -11,7 +11,7 @@ use dft_patterns::StilSignal;
 use std::alloc::{AllocError, Global};
 
 /// The bits of the input ports, and behind them those of the output ports.
-pub(crate) fn signals(alloc: Global, design: &Design) -> Result<Vec<StilSignal>, AllocError>
+pub fn signals_of(alloc: Global, design: &Design) -> Result<Vec<StilSignal>, AllocError>
     ensures { IfOk result (λ signals. signals.items ≡ spec.signals_of design.now) }
 {
     let ports = design.ports();

@@ -1,7 +1,7 @@
 use Rattle.std.proofs.Common.{ℕ, arith, ap}
 use Rattle.dft_patterns.specs.declared.notes.NoteKind.TheVariants.{Pattern}
 use Rattle.dft_vectors.proofs.NoteLemmas.{no_notes, note_more, all_notes}
-use Rattle.dft_vectors.proofs.notes.notes.Goals as goal
+use Rattle.dft_vectors.proofs.notes.notes_of.Goals as goal
 
 pub returns-then-patterns-eq0 : goal.returns-then-patterns-eq0
 returns-then-patterns-eq0 c = no_notes c.args.cycles c.args.patterns c.new-notes.result.items c.if-patterns-eq0.true c.new-notes.ensures.items

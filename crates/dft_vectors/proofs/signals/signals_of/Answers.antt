@@ -5,7 +5,7 @@ use Rattle.dft_netlist.specs.declared.ids.NetId.{NetId}
 use Rattle.dft_expect.specs.Captures.{output_bits}
 use Rattle.dft_vectors.specs.Signals.{input_bits}
 use Rattle.dft_vectors.proofs.OwnLemmas.{inputs_live, outputs_live}
-use Rattle.dft_vectors.proofs.signals.signals.Goals as goal
+use Rattle.dft_vectors.proofs.signals.signals_of.Goals as goal
 
 pub push_signals-requires : goal.push_signals-requires
 push_signals-requires c =
