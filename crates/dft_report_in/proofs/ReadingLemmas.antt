@@ -1,13 +1,15 @@
 -- The lines that are left give what all of them give.
-use Rattle.std.proofs.Common.{ℕ, zero, suc, ◌+◌, ◌-◌, ◌≡◌, ◌<◌, ◌≤◌, List, [], ◌∷◌, ◌++◌, length, map, drop, get_or, Option, None, Some, option_map, Result, Ok, Err, refl, sym, ap, arith, ◌∙◌, append_assoc, append-nil}
-use Rattle.std.proofs.lemmas.List.{drop_more}
+use Rattle.std.proofs.Common.{ℕ, zero, suc, ◌+◌, ◌-◌, ◌≡◌, ◌==◌, ◌<◌, ◌≤◌, IfOk, Vec, List, [], ◌∷◌, ◌++◌, length, map, take, drop, get_or, count_by, Option, None, Some, option_map, Result, Ok, Err, refl, sym, ap, arith, ◌∙◌, append_assoc, append-nil}
+use Rattle.std.proofs.lemmas.List.{drop_more, length-map}
+use Rattle.std.proofs.lemmas.List.Splits.{length-slice_split}
+use Rattle.std.proofs.lemmas.List.Sums.{count_by-le-length}
 use Rattle.dft_base.specs.Lexing.{Text}
 use Rattle.dft_report.specs.declared.report.Variable.{Variable}
 use Rattle.dft_report_in.specs.declared.error.ReadError.{ReadError}
-use Rattle.dft_report_in.specs.declared.error.ReadError.TheVariants.{K1}
-use Rattle.dft_report_in.specs.Words.{words_of}
+use Rattle.dft_report_in.specs.declared.error.ReadError.TheVariants.{K1, Memory}
+use Rattle.dft_report_in.specs.Words.{lines_of, words_of}
 use Rattle.dft_report_in.specs.Saying.{said_of, variable_of, and_variable, all_variables}
-use Rattle.dft_report_in.specs.Reading.{Reading, with_said, then_lines, read_lines, place_of_line}
+use Rattle.dft_report_in.specs.Reading.{Reading, IsRefused, nothing_read, with_said, then_lines, read_lines, place_of_line, ended, then_ended, report_by}
 
 none_left : {A : Type 0} (xs : List A) (k : ℕ) → length xs ≤ k → drop k xs ≡ []
 none_left [] zero le = refl
@@ -71,3 +73,54 @@ variable_fails f xs n d front total less is e =
 
 pub variables_end : {X : Type 0} (f : X → Text) (xs : List X) (n : ℕ) (front : List Variable) (total : Option (List Variable)) → length xs ≤ n → with_front front (all_variables (map f (drop n xs))) ≡ total → total ≡ Some front
 variables_end f xs n front total le e = sym e ∙ ap (λ ys. with_front front (all_variables (map f ys))) (none_left xs n le) ∙ ap Some (append-nil front)
+
+-- ---- how many lines there are
+
+line_count : {X : Type 0} (f : X → Text) (text : Text) (xs : List X) → map f xs ≡ lines_of text → length xs ≡ count_by (λ b. b == 10) text + 1
+line_count f text xs e = sym (length-map xs f) ∙ ap length e ∙ length-slice_split (λ b. b == 10) text
+
+pub some_line : {X : Type 0} (f : X → Text) (text : Text) (xs : List X) → map f xs ≡ lines_of text → 0 < length xs
+some_line f text xs e = omega (arith, line_count f text xs e)
+
+pub few_lines : {X : Type 0} (f : X → Text) (text : Text) (xs : List X) → map f xs ≡ lines_of text → length xs ≤ length text + 1
+few_lines f text xs e = omega (arith, line_count f text xs e, count_by-le-length (λ b. b == 10) text)
+
+-- where there is a vector of them
+pub lines_some : {X E : Type 0} (f : X → Text) (text : Text) (o : Result (Vec X) E) → IfOk o (λ lines. map f lines.items ≡ lines_of text) → IfOk o (λ lines. 0 < length lines.items)
+lines_some f text (Ok lines) e = some_line f text lines.items e
+lines_some f text (Err error) e = tt
+
+pub lines_few : {X E : Type 0} (f : X → Text) (text : Text) (o : Result (Vec X) E) → IfOk o (λ lines. map f lines.items ≡ lines_of text) → IfOk o (λ lines. length lines.items ≤ length text + 1)
+lines_few f text (Ok lines) e = few_lines f text lines.items e
+lines_few f text (Err error) e = tt
+
+-- ---- the report of lines
+
+take_map : {X : Type 0} (f : X → Text) (k : ℕ) (xs : List X) → take k (map f xs) ≡ map f (take k xs)
+take_map f zero xs = refl
+take_map f (suc k) [] = refl
+take_map f (suc k) (x ∷ xs) = ap (λ (ys : List Text). f x ∷ ys) (take_map f k xs)
+
+get_map : {X : Type 0} (f : X → Text) (xs : List X) (k : ℕ) (d : X) → k < length xs → get_or (map f xs) k [] ≡ f (get_or xs k d)
+get_map f [] k d less = absurd (omega (arith, less))
+get_map f (x ∷ xs) zero d less = refl
+get_map f (x ∷ xs) (suc k) d less = get_map f xs k d (omega (arith, less))
+
+whole : {X : Type 0} (f : X → Text) (xs : List X) → report_by (map f xs) ≡ then_ended (suc (length xs - 1)) (get_or (map f xs) (length xs - 1) []) (read_lines nothing_read 0 (map f (take (length xs - 1) xs)))
+whole f xs =
+    ap (λ k. then_ended (suc (k - 1)) (get_or (map f xs) (k - 1) []) (read_lines nothing_read 0 (take (k - 1) (map f xs)))) (length-map xs f)
+    ∙ ap (λ ts. then_ended (suc (length xs - 1)) (get_or (map f xs) (length xs - 1) []) (read_lines nothing_read 0 ts)) (take_map f (length xs - 1) xs)
+
+pub report_is : {X : Type 0} (f : X → Text) (xs : List X) (d : X) (r : Reading) (number : ℕ) → 0 < length xs → number ≡ length xs → read_lines nothing_read 0 (map f (take (length xs - 1) xs)) ≡ Ok r →
+    report_by (map f xs) ≡ ended number (f (get_or xs (length xs - 1) d)) r
+report_is f xs d r number some is e =
+    let place : suc (length xs - 1) ≡ number = omega (arith, some, is) in
+    let last = length xs - 1 in
+    whole f xs
+    ∙ ap (then_ended (suc last) (get_or (map f xs) last [])) e
+    ∙ ap (λ t. ended (suc last) t r) (get_map f xs last d (omega (arith, some)))
+    ∙ ap (λ k. ended k (f (get_or xs last d)) r) place
+
+pub report_fails : {X : Type 0} (f : X → Text) (xs : List X) (error : ReadError) → IsRefused (read_lines nothing_read 0 (map f (take (length xs - 1) xs))) error → IsRefused (report_by (map f xs)) error
+report_fails f xs (K1 place) e = whole f xs ∙ ap (then_ended (suc (length xs - 1)) (get_or (map f xs) (length xs - 1) [])) e
+report_fails f xs (Memory error) e = tt

@@ -49,11 +49,21 @@ counts_with (Some cells) None load = None
 counts_with (Some cells) (Some chains) None = None
 counts_with (Some cells) (Some chains) (Some load) = Some (Counts (record { cells = cells; chains = chains; load = Some load }))
 
+-- variables V, behind the cells, the chains and the cycles
+abbrev pub variables_by : (cells chains cycles : Text) → List Text → Option Said
+variables_by cells chains cycles (word ∷ variables ∷ []) =
+    if bytes_eq word (codes "variables") then counts_with (number_of cells) (number_of chains) (load_of (number_of cycles) (number_of variables)) else None
+variables_by cells chains cycles _ = None
+
+-- nothing more, or cycles L
+abbrev pub load_by : (cells chains : Text) → List Text → Option Said
+load_by cells chains [] = with_two plain_counts (number_of cells) (number_of chains)
+load_by cells chains (word ∷ []) = None
+load_by cells chains (word ∷ cycles ∷ rest) = if bytes_eq word (codes "cycles") then variables_by cells chains cycles rest else None
+
 -- N chains C, or N chains C cycles L variables V
 abbrev pub counts_of : List Text → Option Said
-counts_of (cells ∷ word ∷ chains ∷ []) = if bytes_eq word (codes "chains") then with_two plain_counts (number_of cells) (number_of chains) else None
-counts_of (cells ∷ word ∷ chains ∷ of_cycles ∷ cycles ∷ of_variables ∷ variables ∷ []) =
-    if bytes_eq word (codes "chains") && bytes_eq of_cycles (codes "cycles") && bytes_eq of_variables (codes "variables") then counts_with (number_of cells) (number_of chains) (load_of (number_of cycles) (number_of variables)) else None
+counts_of (cells ∷ word ∷ chains ∷ rest) = if bytes_eq word (codes "chains") then load_by cells chains rest else None
 counts_of _ = None
 
 -- c length n
@@ -61,10 +71,19 @@ abbrev pub chain_of : List Text → Option Said
 chain_of (chain ∷ word ∷ length ∷ []) = if bytes_eq word (codes "length") then with_two Chain (number_of chain) (number_of length) else None
 chain_of _ = None
 
+-- place k
+abbrev pub at_place : (name domain chain : Text) → List Text → Option Said
+at_place name domain chain (word ∷ place ∷ []) = if bytes_eq word (codes "place") then with_two (Scanned name domain) (number_of chain) (number_of place) else None
+at_place name domain chain _ = None
+
+-- chain c place k
+abbrev pub in_chain : (name domain : Text) → List Text → Option Said
+in_chain name domain (word ∷ chain ∷ rest) = if bytes_eq word (codes "chain") then at_place name domain chain rest else None
+in_chain name domain _ = None
+
 -- NAME DOMAIN chain c place k
 abbrev pub scanned_of : List Text → Option Said
-scanned_of (name ∷ domain ∷ of_chain ∷ chain ∷ of_place ∷ place ∷ []) =
-    if is_name name && is_name domain && bytes_eq of_chain (codes "chain") && bytes_eq of_place (codes "place") then with_two (Scanned name domain) (number_of chain) (number_of place) else None
+scanned_of (name ∷ domain ∷ rest) = if is_name name && is_name domain then in_chain name domain rest else None
 scanned_of _ = None
 
 abbrev pub rule_of : Text → Option Rule

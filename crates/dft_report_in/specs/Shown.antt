@@ -5,7 +5,6 @@ use Rattle.dft_report_in.specs.declared.heard.Heard.{Heard}
 use Rattle.dft_report_in.specs.declared.heard.Heard.TheVariants as heard
 use Rattle.dft_report_in.specs.declared.draft.Draft.{Draft}
 use Rattle.dft_report_in.specs.declared.draft.Pending.{Pending}
-use Rattle.dft_report_in.specs.declared.error.ReadError.{ReadError}
 use Rattle.dft_report_in.specs.Saying.{Said, Title, Counts, Chain, Scanned, Unscanned, Encoded, Unsolvable, Skipped, Sum}
 use Rattle.dft_report_in.specs.Reading.{Reading, Owing, with_said}
 
@@ -47,7 +46,7 @@ reading_of d = record {
 }
 
 -- where the answer is true this is what is read then, and where it is false there is no such reading; nothing is said where memory runs out
-abbrev pub Takes : Option Reading → Result Bool ReadError → Draft → Type 0
+abbrev pub Takes : {E : Type 0} → Option Reading → Result Bool E → Draft → Type 0
 Takes next (Ok true) new = next ≡ Some (reading_of new)
 Takes next (Ok false) new = next ≡ None
 Takes next (Err error) new = Unit {0}

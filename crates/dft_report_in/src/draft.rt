@@ -6,7 +6,6 @@ ghost use Rattle.dft_report_in.specs.Saying as saying;
 ghost use Rattle.dft_report_in.specs.Words as texts;
 ghost use Rattle.dft_report_in.specs.Shown.{SaysNames, Takes, owing_of, reading_of, said_by};
 
-use crate::error::ReadError;
 use crate::heard::{Heard, heard_of};
 use crate::variables::variables_of;
 use crate::words::words_of;
@@ -14,7 +13,7 @@ use dft_base::{Listed, Name, Rule};
 use dft_report::{
     CubeLine, CubeReport, Header, Report, ScannedLine, SumLine, UnscannedLine, Variable,
 };
-use std::alloc::Global;
+use std::alloc::{AllocError, Global};
 
 /// An unsolvable cube, of which some sums are to come.
 #[derive(Debug, Drop)]
@@ -69,7 +68,7 @@ impl Draft {
         }
     }
 
-    fn title(&mut self) -> Result<bool, ReadError>
+    fn title(&mut self) -> Result<bool, AllocError>
         ensures { Takes (spec.with_title (reading_of self.old)) result self.new }
     {
         if self.stage != 0 {
@@ -79,7 +78,7 @@ impl Draft {
         Ok(true)
     }
 
-    fn counts(&mut self, header: Header) -> Result<bool, ReadError>
+    fn counts(&mut self, header: Header) -> Result<bool, AllocError>
         ensures { Takes (spec.with_counts (reading_of self.old) header) result self.new }
     {
         if self.stage != 1 {
@@ -90,7 +89,7 @@ impl Draft {
         Ok(true)
     }
 
-    fn chain(&mut self, chain: u32, size: u32) -> Result<bool, ReadError>
+    fn chain(&mut self, chain: u32, size: u32) -> Result<bool, AllocError>
         ensures { Takes (spec.with_chain (reading_of self.old) chain size) result self.new }
     {
         if self.stage != 2 || chain as usize != self.chains.len() {
@@ -100,7 +99,7 @@ impl Draft {
         Ok(true)
     }
 
-    fn scanned(&mut self, line: ScannedLine) -> Result<bool, ReadError>
+    fn scanned(&mut self, line: ScannedLine) -> Result<bool, AllocError>
         ensures { Takes (spec.with_scanned (reading_of self.old) line) result self.new }
     {
         if self.stage < 2 || self.stage > 3 {
@@ -111,7 +110,7 @@ impl Draft {
         Ok(true)
     }
 
-    fn unscanned(&mut self, line: UnscannedLine) -> Result<bool, ReadError>
+    fn unscanned(&mut self, line: UnscannedLine) -> Result<bool, AllocError>
         ensures { Takes (spec.with_unscanned (reading_of self.old) line) result self.new }
     {
         if self.stage < 2 || self.stage > 4 {
@@ -128,7 +127,7 @@ impl Draft {
         2 <= self.stage && self.pending.is_none() && self.header.load.is_some()
     }
 
-    fn cube(&mut self, name: Name, outcome: CubeLine) -> Result<bool, ReadError>
+    fn cube(&mut self, name: Name, outcome: CubeLine) -> Result<bool, AllocError>
         ensures { Takes (spec.with_cube (reading_of self.old) name outcome) result self.new }
     {
         if !self.may_be_cube() {
@@ -139,7 +138,7 @@ impl Draft {
         Ok(true)
     }
 
-    fn owing(&mut self, alloc: Global, name: Name, sums: u32) -> Result<bool, ReadError>
+    fn owing(&mut self, alloc: Global, name: Name, sums: u32) -> Result<bool, AllocError>
         ensures { Takes (spec.with_owing (reading_of self.old) name sums) result self.new }
     {
         if !self.may_be_cube() {
@@ -154,7 +153,7 @@ impl Draft {
         Ok(true)
     }
 
-    fn unsolvable(&mut self, alloc: Global, name: Name, sums: u32) -> Result<bool, ReadError>
+    fn unsolvable(&mut self, alloc: Global, name: Name, sums: u32) -> Result<bool, AllocError>
         ensures { Takes (spec.with_unsolvable (reading_of self.old) name sums) result self.new }
     {
         if sums == 0 {
@@ -165,7 +164,7 @@ impl Draft {
     }
 
     // One sum more of the pending cube, and with the last one the cube.
-    fn summed(&mut self, pending: Pending, line: SumLine) -> Result<bool, ReadError>
+    fn summed(&mut self, pending: Pending, line: SumLine) -> Result<bool, AllocError>
         ensures { Takes (Some (spec.summed (reading_of self.old) (owing_of pending) line)) result self.new }
     {
         let Pending {
@@ -193,7 +192,7 @@ impl Draft {
         name: Name,
         bit: bool,
         variables: Option<Vec<Variable>>,
-    ) -> Result<bool, ReadError>
+    ) -> Result<bool, AllocError>
         ensures { Takes (spec.with_sum (reading_of self.old) (reading_of self.old).owing name bit (option_map (λ vs. vs.items) variables)) result self.new }
     {
         let Some(pending) = self.pending.take() else {
@@ -220,7 +219,7 @@ impl Draft {
         domain: &[u8],
         chain: u32,
         place: u32,
-    ) -> Result<bool, ReadError>
+    ) -> Result<bool, AllocError>
         requires name { IsName name.now }
         requires domain { IsName domain.now }
         ensures { Takes (spec.with_scanned (reading_of self.old) (record { name = name.now; domain = domain.now; chain = chain; place = place })) result self.new }
@@ -235,7 +234,7 @@ impl Draft {
         })
     }
 
-    fn take_unscanned(&mut self, alloc: Global, name: &[u8], rule: Rule) -> Result<bool, ReadError>
+    fn take_unscanned(&mut self, alloc: Global, name: &[u8], rule: Rule) -> Result<bool, AllocError>
         requires { IsName name.now }
         ensures { Takes (spec.with_unscanned (reading_of self.old) (record { name = name.now; rule = rule })) result self.new }
     {
@@ -243,7 +242,7 @@ impl Draft {
         self.unscanned(UnscannedLine { name, rule })
     }
 
-    fn take_encoded(&mut self, alloc: Global, name: &[u8], pattern: u32) -> Result<bool, ReadError>
+    fn take_encoded(&mut self, alloc: Global, name: &[u8], pattern: u32) -> Result<bool, AllocError>
         requires { IsName name.now }
         ensures { Takes (spec.with_cube (reading_of self.old) name.now (outcome.Encoded pattern)) result self.new }
     {
@@ -251,7 +250,7 @@ impl Draft {
         self.cube(name, CubeLine::Encoded(pattern))
     }
 
-    fn take_unsolvable(&mut self, alloc: Global, name: &[u8], sums: u32) -> Result<bool, ReadError>
+    fn take_unsolvable(&mut self, alloc: Global, name: &[u8], sums: u32) -> Result<bool, AllocError>
         requires { IsName name.now }
         ensures { Takes (spec.with_unsolvable (reading_of self.old) name.now sums) result self.new }
     {
@@ -259,7 +258,7 @@ impl Draft {
         self.unsolvable(alloc, name, sums)
     }
 
-    fn take_skipped(&mut self, alloc: Global, name: &[u8], cell: &[u8]) -> Result<bool, ReadError>
+    fn take_skipped(&mut self, alloc: Global, name: &[u8], cell: &[u8]) -> Result<bool, AllocError>
         requires name { IsName name.now }
         requires cell { IsName cell.now }
         ensures { Takes (spec.with_cube (reading_of self.old) name.now (outcome.Skipped cell.now)) result self.new }
@@ -275,7 +274,7 @@ impl Draft {
         name: &[u8],
         bit: bool,
         variables: &[&[u8]],
-    ) -> Result<bool, ReadError>
+    ) -> Result<bool, AllocError>
         requires { IsName name.now }
         ensures { Takes (spec.with_sum (reading_of self.old) (reading_of self.old).owing name.now bit (saying.variables_of (map (λ word. word.now) variables.now))) result self.new }
     {
@@ -285,7 +284,7 @@ impl Draft {
     }
 
     /// Takes what a line says; false where it may not stand there.
-    pub(crate) fn take(&mut self, alloc: Global, heard: Heard<'_>) -> Result<bool, ReadError>
+    pub(crate) fn take(&mut self, alloc: Global, heard: Heard<'_>) -> Result<bool, AllocError>
         requires { SaysNames (said_by heard) }
         ensures { Takes (spec.with_said (reading_of self.old) (Some (said_by heard.entry))) result self.new }
     {
@@ -312,7 +311,7 @@ impl Draft {
     }
 
     /// Takes a line; false where it is not of the form, or may not stand there.
-    pub(crate) fn take_line(&mut self, alloc: Global, line: &[u8]) -> Result<bool, ReadError>
+    pub(crate) fn take_line(&mut self, alloc: Global, line: &[u8]) -> Result<bool, AllocError>
         ensures { Takes (spec.with_said (reading_of self.old) (saying.said_of (texts.words_of line.now))) result self.new }
     {
         let words = words_of(alloc, line)?;

@@ -102,25 +102,56 @@ fn counts_with<'a>(cells: &[u8], chains: &[u8], cycles: &[u8], variables: &[u8])
     }))
 }
 
+// `variables V`, behind the cells, the chains and the cycles
+fn variables_by<'a>(
+    cells: &[u8],
+    chains: &[u8],
+    cycles: &[u8],
+    words: &[&[u8]],
+) -> Option<Heard<'a>>
+    ensures said { option_map said_by result ≡ spec.variables_by cells.now chains.now cycles.now (map (λ word. word.now) words.now) }
+    ensures names { IfSome result (λ heard. SaysNames (said_by heard)) }
+{
+    match words {
+        [word, variables] => {
+            if *word == b"variables".as_slice() {
+                counts_with(cells, chains, cycles, variables)
+            } else {
+                None
+            }
+        }
+        [_, _, _, ..] => None,
+        _ => None,
+    }
+}
+
+// nothing more, or `cycles L variables V`
+fn load_by<'a>(cells: &[u8], chains: &[u8], words: &[&[u8]]) -> Option<Heard<'a>>
+    ensures said { option_map said_by result ≡ spec.load_by cells.now chains.now (map (λ word. word.now) words.now) }
+    ensures names { IfSome result (λ heard. SaysNames (said_by heard)) }
+{
+    match words {
+        [] => plain_counts(cells, chains),
+        [word, cycles, rest @ ..] => {
+            if *word == b"cycles".as_slice() {
+                variables_by(cells, chains, cycles, rest)
+            } else {
+                None
+            }
+        }
+        _ => None,
+    }
+}
+
 // `N chains C`, or `N chains C cycles L variables V`
 fn counts_of<'a>(words: &'a [&'a [u8]]) -> Option<Heard<'a>>
     ensures said { option_map said_by result ≡ spec.counts_of (map (λ word. word.now) words.now) }
     ensures names { IfSome result (λ heard. SaysNames (said_by heard)) }
 {
     match words {
-        [cells, word, chains] => {
+        [cells, word, chains, rest @ ..] => {
             if *word == b"chains".as_slice() {
-                plain_counts(cells, chains)
-            } else {
-                None
-            }
-        }
-        [cells, word, chains, of_cycles, cycles, of_variables, variables] => {
-            if *word == b"chains".as_slice()
-                && *of_cycles == b"cycles".as_slice()
-                && *of_variables == b"variables".as_slice()
-            {
-                counts_with(cells, chains, cycles, variables)
+                load_by(cells, chains, rest)
             } else {
                 None
             }
@@ -176,19 +207,58 @@ fn scanned_with<'a>(
     })
 }
 
+// `place k`
+fn at_place<'a>(
+    name: &'a [u8],
+    domain: &'a [u8],
+    chain: &[u8],
+    words: &[&[u8]],
+) -> Option<Heard<'a>>
+    requires name { IsName name.now }
+    requires domain { IsName domain.now }
+    ensures said { option_map said_by result ≡ spec.at_place name.now domain.now chain.now (map (λ word. word.now) words.now) }
+    ensures names { IfSome result (λ heard. SaysNames (said_by heard)) }
+{
+    match words {
+        [word, place] => {
+            if *word == b"place".as_slice() {
+                scanned_with(name, domain, chain, place)
+            } else {
+                None
+            }
+        }
+        _ => None,
+    }
+}
+
+// `chain c place k`
+fn in_chain<'a>(name: &'a [u8], domain: &'a [u8], words: &[&[u8]]) -> Option<Heard<'a>>
+    requires name { IsName name.now }
+    requires domain { IsName domain.now }
+    ensures said { option_map said_by result ≡ spec.in_chain name.now domain.now (map (λ word. word.now) words.now) }
+    ensures names { IfSome result (λ heard. SaysNames (said_by heard)) }
+{
+    match words {
+        [word, chain, rest @ ..] => {
+            if *word == b"chain".as_slice() {
+                at_place(name, domain, chain, rest)
+            } else {
+                None
+            }
+        }
+        _ => None,
+    }
+}
+
 // `NAME DOMAIN chain c place k`
 fn scanned_of<'a>(words: &'a [&'a [u8]]) -> Option<Heard<'a>>
     ensures said { option_map said_by result ≡ spec.scanned_of (map (λ word. word.now) words.now) }
     ensures names { IfSome result (λ heard. SaysNames (said_by heard)) }
 {
     match words {
-        [name, domain, of_chain, chain, of_place, place] => {
-            if is_name(name)
-                && is_name(domain)
-                && *of_chain == b"chain".as_slice()
-                && *of_place == b"place".as_slice()
-            {
-                scanned_with(name, domain, chain, place)
+        [name, domain, rest @ ..] => {
+            if is_name(name) && is_name(domain) {
+                in_chain(name, domain, rest)
             } else {
                 None
             }

@@ -2,7 +2,7 @@
 
 ghost use Rattle.std.specs.Prelude.{◌≡◌, ◌<◌, ◌^◌, Ok, IfErr, IfOk, OnOk, length, map};
 ghost use Rattle.dft_report_in.specs.Reading as spec;
-ghost use Rattle.dft_report_in.specs.Reading.{IsRefused, ended, nothing_read, report_of};
+ghost use Rattle.dft_report_in.specs.Reading.{IsRefused, ended, nothing_read, report_by, report_of};
 ghost use Rattle.dft_report_in.specs.Shown.{reading_of};
 ghost use Rattle.dft_report_in.specs.declared.error.ReadError.TheVariants.{K1};
 
@@ -49,6 +49,19 @@ fn finish(draft: Draft, last: &[u8], number: u32) -> Result<Report, ReadError>
     }
 }
 
+// The report of these lines, of which the last follows the last byte 10.
+fn read_all(alloc: Global, lines: &[&[u8]]) -> Result<Report, ReadError>
+    requires some { 0 < length lines.now }
+    requires few { length lines.now < 2 ^ 32 }
+    ensures report { IfOk result (λ report. report_by (map (λ line. line.now) lines.now) ≡ Ok report) }
+    ensures refused { IfErr result (IsRefused (report_by (map (λ line. line.now) lines.now))) }
+{
+    let last = lines.len() - 1;
+    let mut draft = Draft::new(alloc);
+    read_lines(&mut draft, alloc, &lines[..last])?;
+    finish(draft, lines[last], last as u32 + 1)
+}
+
 /// The report that a text stands for: lines of the one form of reports, each ended by byte 10. It is refused by the first line that
 /// is not of the form, and where the text ends too early by the line behind the last.
 pub fn read(alloc: Global, bytes: &[u8]) -> Result<Report, ReadError>
@@ -57,8 +70,5 @@ pub fn read(alloc: Global, bytes: &[u8]) -> Result<Report, ReadError>
     ensures refused { IfErr result (IsRefused (report_of bytes.now)) }
 {
     let lines = lines_of(alloc, bytes)?;
-    let last = lines.len() - 1;
-    let mut draft = Draft::new(alloc);
-    read_lines(&mut draft, alloc, &lines[..last])?;
-    finish(draft, lines[last], last as u32 + 1)
+    read_all(alloc, &lines)
 }

@@ -1,6 +1,6 @@
 //! Lines, and their words.
 
-ghost use Rattle.std.specs.Prelude.{◌≡◌, true, IfOk, map};
+ghost use Rattle.std.specs.Prelude.{◌≡◌, ◌+◌, ◌<◌, ◌≤◌, true, IfOk, length, map};
 ghost use Rattle.dft_base.specs.Name.{IsName};
 ghost use Rattle.dft_lines.specs.Lines as lines;
 ghost use Rattle.dft_report_in.specs.Words as spec;
@@ -9,7 +9,9 @@ use std::alloc::{AllocError, Global};
 
 /// The lines of a text; behind a last byte 10 there is one more, which is empty.
 pub(crate) fn lines_of(alloc: Global, text: &[u8]) -> Result<Vec<&[u8]>, AllocError>
-    ensures { IfOk result (λ lines. map (λ line. line.now) lines.items ≡ spec.lines_of text.now) }
+    ensures lines { IfOk result (λ lines. map (λ line. line.now) lines.items ≡ spec.lines_of text.now) }
+    ensures some { IfOk result (λ lines. 0 < length lines.items) }
+    ensures few { IfOk result (λ lines. length lines.items ≤ length text.now + 1) }
 {
     text.split(|byte| *byte == b'\n').collect(alloc)
 }
