@@ -1,9 +1,10 @@
 -- The lines that are left give what all of them give.
-use Rattle.std.proofs.Common.{ℕ, zero, suc, ◌+◌, ◌-◌, ◌≡◌, ◌==◌, ◌<◌, ◌≤◌, IfOk, Vec, List, [], ◌∷◌, ◌++◌, length, map, take, drop, get_or, count_by, Option, None, Some, option_map, Result, Ok, Err, refl, sym, ap, arith, ◌∙◌, append_assoc, append-nil}
+use Rattle.std.proofs.Common.{ℕ, zero, suc, ◌+◌, ◌-◌, ◌≡◌, ◌==◌, ◌<◌, ◌≤◌, IfOk, List, [], ◌∷◌, ◌++◌, length, map, take, drop, get_or, count_by, Option, None, Some, option_map, Result, Ok, Err, refl, sym, ap, arith, ◌∙◌, append_assoc, append-nil}
 use Rattle.std.proofs.lemmas.List.{drop_more, length-map}
 use Rattle.std.proofs.lemmas.List.Splits.{length-slice_split}
 use Rattle.std.proofs.lemmas.List.Sums.{count_by-le-length}
 use Rattle.dft_base.specs.Lexing.{Text}
+use Rattle.dft_report.specs.declared.report.Report.{Report}
 use Rattle.dft_report.specs.declared.report.Variable.{Variable}
 use Rattle.dft_report_in.specs.declared.error.ReadError.{ReadError}
 use Rattle.dft_report_in.specs.declared.error.ReadError.TheVariants.{K1, Memory}
@@ -85,14 +86,14 @@ some_line f text xs e = omega (arith, line_count f text xs e)
 pub few_lines : {X : Type 0} (f : X → Text) (text : Text) (xs : List X) → map f xs ≡ lines_of text → length xs ≤ length text + 1
 few_lines f text xs e = omega (arith, line_count f text xs e, count_by-le-length (λ b. b == 10) text)
 
--- where there is a vector of them
-pub lines_some : {X E : Type 0} (f : X → Text) (text : Text) (o : Result (Vec X) E) → IfOk o (λ lines. map f lines.items ≡ lines_of text) → IfOk o (λ lines. 0 < length lines.items)
-lines_some f text (Ok lines) e = some_line f text lines.items e
-lines_some f text (Err error) e = tt
+-- where there are some
+pub lines_some : {X V E : Type 0} (f : X → Text) (items : V → List X) (text : Text) (o : Result V E) → IfOk o (λ lines. map f (items lines) ≡ lines_of text) → IfOk o (λ lines. 0 < length (items lines))
+lines_some f items text (Ok lines) e = some_line f text (items lines) e
+lines_some f items text (Err error) e = tt
 
-pub lines_few : {X E : Type 0} (f : X → Text) (text : Text) (o : Result (Vec X) E) → IfOk o (λ lines. map f lines.items ≡ lines_of text) → IfOk o (λ lines. length lines.items ≤ length text + 1)
-lines_few f text (Ok lines) e = few_lines f text lines.items e
-lines_few f text (Err error) e = tt
+pub lines_few : {X V E : Type 0} (f : X → Text) (items : V → List X) (text : Text) (o : Result V E) → IfOk o (λ lines. map f (items lines) ≡ lines_of text) → IfOk o (λ lines. length (items lines) ≤ length text + 1)
+lines_few f items text (Ok lines) e = few_lines f text (items lines) e
+lines_few f items text (Err error) e = tt
 
 -- ---- the report of lines
 
@@ -124,3 +125,8 @@ report_is f xs d r number some is e =
 pub report_fails : {X : Type 0} (f : X → Text) (xs : List X) (error : ReadError) → IsRefused (read_lines nothing_read 0 (map f (take (length xs - 1) xs))) error → IsRefused (report_by (map f xs)) error
 report_fails f xs (K1 place) e = whole f xs ∙ ap (then_ended (suc (length xs - 1)) (get_or (map f xs) (length xs - 1) [])) e
 report_fails f xs (Memory error) e = tt
+
+-- what is told of one is told of the same
+pub same_report : (told : Result Report ReadError) (a b : Result Report ReadError) → a ≡ b → IfOk told (λ report. b ≡ Ok report) → IfOk told (λ report. a ≡ Ok report)
+same_report (Ok report) a b e h = e ∙ h
+same_report (Err error) a b e h = tt
