@@ -157,7 +157,10 @@ impl Draft {
         ensures { Takes (spec.with_unsolvable (reading_of self.old) name sums) result self.new }
     {
         if sums == 0 {
-            self.cube(name, CubeLine::Unsolvable(Listed::from_vec(Vec::new(alloc))))
+            self.cube(
+                name,
+                CubeLine::Unsolvable(Listed::from_vec(Vec::new(alloc))),
+            )
         } else {
             self.owing(alloc, name, sums)
         }

@@ -88,7 +88,12 @@ fn plain_counts<'a>(cells: &[u8], chains: &[u8]) -> Option<Heard<'a>>
     }))
 }
 
-fn counts_with<'a>(cells: &[u8], chains: &[u8], cycles: &[u8], variables: &[u8]) -> Option<Heard<'a>>
+fn counts_with<'a>(
+    cells: &[u8],
+    chains: &[u8],
+    cycles: &[u8],
+    variables: &[u8],
+) -> Option<Heard<'a>>
     ensures said { option_map said_by result ≡ spec.counts_with (texts.number_of cells.now) (texts.number_of chains.now) (spec.load_of (texts.number_of cycles.now) (texts.number_of variables.now)) }
     ensures names { IfSome result (λ heard. SaysNames (said_by heard)) }
 {

@@ -42,10 +42,7 @@ fn variable_of(alloc: Global, word: &[u8]) -> Result<Option<Variable>, AllocErro
 }
 
 // All of these, if each is a variable.
-fn all_variables(
-    alloc: Global,
-    words: &[&[u8]],
-) -> Result<Option<Vec<Variable>>, AllocError>
+fn all_variables(alloc: Global, words: &[&[u8]]) -> Result<Option<Vec<Variable>>, AllocError>
     ensures { IfOk result (λ variables. option_map (λ vs. vs.items) variables ≡ spec.all_variables (map (λ word. word.now) words.now)) }
 {
     let mut variables = Vec::new(alloc);
