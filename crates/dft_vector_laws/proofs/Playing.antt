@@ -187,12 +187,12 @@ shift_is n config channels masks x ready p = record {
   clock = p.clock;
 }
 
-record AreLoads (n : Netlist) (config : Config) (table : Table) (masks : List Bool) (from size : ℕ) (xs : List Vector) : Type 0 where
+pub record AreLoads (n : Netlist) (config : Config) (table : Table) (masks : List Bool) (from size : ℕ) (xs : List Vector) : Type 0 where
   pub count : length xs ≡ size
   pub carries : CarryTable (ports_in Edt n config) config (chain_nets Edt n config) (edt_hardware n config) table from xs
   pub sends : SendMasks config (edt_hardware n config) (bit_at masks) (plan_of n config).cycles from xs
 
-loads_from : (n : Netlist) (config : Config) (table : Table) (masks : List Bool) (shown : Option PatternData) (from count : ℕ) (xs : List Vector) → IsReady n config →
+pub loads_from : (n : Netlist) (config : Config) (table : Table) (masks : List Bool) (shown : Option PatternData) (from count : ℕ) (xs : List Vector) → IsReady n config →
     AllDo (scanned Edt n config) (map (shift_acts n config (plan_of n config) table masks shown) (range_with_len from count)) xs → AreLoads n config table masks from count xs
 loads_from n config table masks shown from zero [] ready h = record { count = refl; carries = tt; sends = tt }
 loads_from n config table masks shown from zero (x ∷ xs) ready h = absurd h
