@@ -1,5 +1,5 @@
 -- Words that are too few, or too many.
-use Rattle.std.proofs.Common.{ℕ, ◌+◌, ◌≡◌, ◌<◌, ◌≤◌, List, [], ◌∷◌, length, None, refl, arith}
+use Rattle.std.proofs.Common.{◌≡◌, ◌<◌, ◌≤◌, List, [], ◌∷◌, length, None, refl, arith}
 use Rattle.dft_base.specs.Lexing.{Text}
 use Rattle.dft_report_in.specs.Saying.{variables_by, load_by, counts_of}
 

@@ -1,5 +1,5 @@
 -- Digits, one after the other.
-use Rattle.std.proofs.Common.{ℕ, ◌+◌, ◌≡◌, ◌<◌, List, [], ◌∷◌, length, drop, get_or, Option, None, Some, option_and_then, sym, ap, ◌∙◌}
+use Rattle.std.proofs.Common.{ℕ, ◌+◌, ◌≡◌, ◌<◌, length, drop, get_or, Option, None, Some, option_and_then, sym, ap, ◌∙◌}
 use Rattle.std.proofs.lemmas.List.{drop_more}
 use Rattle.dft_base.specs.Lexing.{Text}
 use Rattle.dft_report_in.specs.Words.{next_value, value_from}

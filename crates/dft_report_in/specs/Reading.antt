@@ -1,5 +1,5 @@
 -- Reports as their texts are read: line by line, to the first line that is not of the form.
-use Rattle.std.specs.Prelude.{ℕ, zero, suc, ◌+◌, ◌-◌, ◌==◌, ◌&&◌, ◌≡◌, Bool, true, false, List, [], ◌∷◌, ◌++◌, length, take, get_or, nat_le, is_none, is_some, Option, None, Some, Result, Ok, Err, if◌then◌else◌}
+use Rattle.std.specs.Prelude.{ℕ, suc, ◌-◌, ◌==◌, ◌&&◌, ◌≡◌, Bool, List, [], ◌∷◌, ◌++◌, length, take, get_or, nat_le, is_none, is_some, Option, None, Some, Result, Ok, Err, if◌then◌else◌}
 use Rattle.dft_base.specs.Lexing.{Text}
 use Rattle.dft_base.specs.declared.place.Place.{Place}
 use Rattle.dft_report.specs.declared.report.Header.{Header}

@@ -1,12 +1,12 @@
 -- What the reader hears and holds.
-use Rattle.std.specs.Prelude.{ℕ, ◌≡◌, Bool, true, false, List, map, Option, option_map, Result, Ok, Err, Some, None}
+use Rattle.std.specs.Prelude.{◌≡◌, Bool, true, false, map, Option, option_map, Result, Ok, Err, Some, None}
 use Rattle.dft_base.specs.Name.{IsName}
 use Rattle.dft_report_in.specs.declared.heard.Heard.{Heard}
 use Rattle.dft_report_in.specs.declared.heard.Heard.TheVariants as heard
 use Rattle.dft_report_in.specs.declared.draft.Draft.{Draft}
 use Rattle.dft_report_in.specs.declared.draft.Pending.{Pending}
 use Rattle.dft_report_in.specs.Saying.{Said, Title, Counts, Chain, Scanned, Unscanned, Encoded, Unsolvable, Skipped, Sum}
-use Rattle.dft_report_in.specs.Reading.{Reading, Owing, with_said}
+use Rattle.dft_report_in.specs.Reading.{Reading, Owing}
 
 abbrev pub said_by : Heard → Said
 said_by heard.Title = Title

@@ -1,6 +1,6 @@
 -- The words of a report's lines, and the numbers and names that they write.
-use Rattle.std.specs.Prelude.{ℕ, ◌+◌, ◌-◌, ◌*◌, ◌==◌, ◌&&◌, Bool, true, false, List, [], ◌∷◌, length, Option, None, Some, option_and_then, nat_le, nat_lt, if◌then◌else◌}
-use Rattle.std.specs.List.{slice_split, list_all}
+use Rattle.std.specs.Prelude.{ℕ, ◌+◌, ◌-◌, ◌*◌, ◌==◌, ◌&&◌, Bool, false, List, [], ◌∷◌, length, Option, None, Some, option_and_then, nat_le, nat_lt, if◌then◌else◌}
+use Rattle.std.specs.List.{slice_split}
 use Rattle.dft_base.specs.Lexing.{Text}
 use Rattle.dft_lines.specs.Lines.{is_printed}
 

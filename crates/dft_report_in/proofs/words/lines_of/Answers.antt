@@ -1,4 +1,4 @@
-use Rattle.std.proofs.Common.{rules, tests, arith, length, ap}
+use Rattle.std.proofs.Common.{rules, tests}
 use Rattle.std.proofs.lemmas.Iterator.Consumers.{map_from_collect}
 use Rattle.std.proofs.lemmas.Iterator.Splits.{YieldsList-from_slice_split}
 use Rattle.dft_report_in.proofs.ReadingLemmas.{lines_some, lines_few}
