@@ -3,9 +3,9 @@ pub mod MaskLemmas
 pub mod RingLemmas
 pub mod LoadedLemmas
 pub mod UnloadLemmas
-mod CellNumbers
-mod GivenLemmas
-mod ReadLemmas
-mod ScannedCells
-mod SourceLemmas
-mod SettingLemmas
+pub mod CellNumbers
+pub mod GivenLemmas
+pub mod ReadLemmas
+pub mod ScannedCells
+pub mod SourceLemmas
+pub mod SettingLemmas
