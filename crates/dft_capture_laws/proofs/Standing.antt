@@ -16,27 +16,24 @@ use Rattle.dft_netlist.specs.declared.ids.NetId.{NetId}
 use Rattle.dft_netlist.specs.declared.ids.InstanceId.{InstanceId}
 use Rattle.dft_netlist.specs.declared.port.Port.{Port}
 use Rattle.dft_netlist.specs.Netlist.{Netlist}
-use Rattle.dft_netlist.specs.Drivers.{IsOrdered}
-use Rattle.dft_netlist.specs.Logic.{Logic, flip_flop}
 use Rattle.dft_netlist.specs.NetNumbers.{nets_from}
 use Rattle.dft_netlist.specs.Runs.{Vector}
 use Rattle.dft_netlist.specs.Sound.{IsNetlist, bit_names_of, bits_of}
 use Rattle.dft_netlist.proofs.LiveLemmas.{length-bits}
 use Rattle.dft_netlist.proofs.Ranks.{order_is_rank}
-use Rattle.dft_abstract.specs.Cycle.{AreViews, after_pulse, pulse_of, strobe_sources}
+use Rattle.dft_abstract.specs.Cycle.{after_pulse, pulse_of}
 use Rattle.dft_config.specs.declared.config.Config.{Config}
 use Rattle.dft_rules.specs.Rules.{is_net}
 use Rattle.dft_stitch.specs.Chains.{plan_of}
 use Rattle.dft_chains.specs.ScanOff.{Places}
-use Rattle.dft_edt.specs.Captures.{Covers, StandsOver}
+use Rattle.dft_edt.specs.Captures.{StandsOver}
 use Rattle.dft_edt.proofs.Captures.{capture_law, strobe_law}
 use Rattle.dft_cubes.specs.declared.cube.Merged.{Merged}
-use Rattle.dft_expect.specs.declared.response.Response.{Response}
-use Rattle.dft_expect.specs.Loaded.{all_cells, bit_of_cell, loaded_values, or_unknown}
-use Rattle.dft_expect.specs.Captures.{IsCapture, bits_out, capture_clock, capture_vector, captured_value, config_ports, original, output_bits}
-use Rattle.dft_expect.specs.Capturing.{CanCapture, cells_in}
+use Rattle.dft_expect.specs.Loaded.{bit_of_cell, loaded_values, or_unknown}
+use Rattle.dft_expect.specs.Captures.{bits_out, capture_clock, capture_vector, captured_value, config_ports, original, output_bits}
+use Rattle.dft_expect.specs.Capturing.{cells_in}
 use Rattle.dft_expect.proofs.GivenLemmas.{number_modelled, stays}
-use Rattle.dft_capture_laws.specs.Statements.{AreLoaded, ArePlacesOf, CapturesStandOver, CellsStand, IsCaptureVector, OutputsStand, value_in}
+use Rattle.dft_capture_laws.specs.Statements.{AreLoaded, CapturesStandOver, IsCaptureVector, value_in}
 
 -- ---- the loaded bits
 
@@ -124,8 +121,8 @@ value_at f values xs k x is at = ap (λ (l : List Tri). value_in l k) is ∙ map
 -- ---- a cell
 
 above_if : (b : Bool) (next kept after : Tri) → (b ≡ true → AboveTri next after) → (b ≡ false → AboveTri kept after) → AboveTri (if b then next else kept) after
-above_if true next kept after yes no = yes refl
-above_if false next kept after yes no = no refl
+above_if true next kept after up down = up refl
+above_if false next kept after up down = down refl
 
 swapped : (a b : ℕ) → (a == b) ≡ false → (b == a) ≡ false
 swapped a b e = grind (arith, nat_tests)
@@ -136,8 +133,7 @@ stand_over n rank config merged loaded r written p x old can ordered captured co
     let its : ℕ → Tri = loaded_values (plan_of n config).chains loaded in
     let ranked = order_is_rank n (config_ports n config) rank ordered in
     let over : StandsOver p y x its old = stands_over n config merged loaded p x old vector are in
-    let clock : ℕ = vector.clock.0 in
-    (
+    let clock : ℕ = vector.clock.0 in (
       λ shows settled number net at. subst (λ (t : Tri). AboveTri t (shows (p.moved net.0))) (sym (value_at (λ (k : NetId). captured.values k.0) r.outputs (output_bits n.ports) number net captured.outputs at))
           (strobe_law (original n config) written rank p y x its old captured.values shows ranked covers over captured.settled settled net.0 (subst (λ (k : ℕ). net.0 < k) (sym places.size) (output_live n number net can.netlist at))),
       λ poss view views number cell at. (
