@@ -1,10 +1,11 @@
 //! What patterns capture, which chains are masked and what the outputs show, worked by hand.
 
-ghost use Rattle.std.specs.Prelude.{◌≡◌, ◌<◌, ◌≤◌, None, length};
+ghost use Rattle.std.specs.Prelude.{◌≡◌, ◌<◌, ◌≤◌, ◌*◌, true, None, length, IfOk};
 ghost use Rattle.std.specs.List.{All};
-ghost use Rattle.dft_config.specs.Range.{IsInRange};
+ghost use Rattle.dft_config.specs.Range.{IsInRange, IsRingInRange};
 ghost use Rattle.dft_rules.specs.Refusals.{refusal};
 ghost use Rattle.dft_stitch.specs.Chains.{plan_of};
+ghost use Rattle.dft_expect.specs.Loaded.{all_cells};
 
 use dft_base::{Listed, Tri};
 use dft_cells::Library;
@@ -39,13 +40,11 @@ const TWO_CLOCKS: &str =
     "module s (ca, cb, d, q); input ca, cb, d; output q; DFF f0 (.CK(ca), .D(d), .Q(n0)); DFF f1 (.CK(cb), .D(n0), .Q(n1)); DFF f2 (.CK(ca), .D(n1), .Q(n2)); DFF f3 (.CK(cb), .D(n2), .Q(q)); endmodule";
 
 // A flip-flop that is kept out of the chains is not known.
-const KEPT: &str =
-    "version = 1\ndomains = ['clk']\nkeep = ['f4']\nwarm = 2\nwindow = 4\n";
+const KEPT: &str = "version = 1\ndomains = ['clk']\nkeep = ['f4']\nwarm = 2\nwindow = 4\n";
 
 const ON_CLK: &str = "version = 1\ndomains = ['clk']\nwarm = 2\nwindow = 4\n";
 
-const MASKED: &str =
-    "version = 1\ndomains = ['clk']\nwarm = 2\nwindow = 4\nalways_masked = [1]\n";
+const MASKED: &str = "version = 1\ndomains = ['clk']\nwarm = 2\nwindow = 4\nalways_masked = [1]\n";
 
 const ON_BOTH: &str = "version = 1\ndomains = ['ca', 'cb']\nwarm = 2\nwindow = 4\n";
 
@@ -54,7 +53,7 @@ const RING: &str =
 
 // A netlist, the two parts of a configuration, the patterns as cubes, and their channel bits; then for each pattern the loaded
 // bits, the captured values of the cells and of the outputs, the mask bits, and what the outputs show cycle by cycle.
-static CASES: [(&str, &str, &str, &str, &str, &str); 8] = [
+static CASES: [(&str, &str, &str, &str, &str, &str); 7] = [
     (
         SMALL,
         ON_CLK,
@@ -116,14 +115,6 @@ static CASES: [(&str, &str, &str, &str, &str, &str); 8] = [
         "1101 1011",
         "1101 1001 1 00 11100010 | 0011 0000 1 00 00000000 | ",
     ),
-    (
-        SMALL,
-        ON_CLK,
-        RING,
-        "",
-        "",
-        "",
-    ),
 ];
 
 // The bits of a text of 0 and 1.
@@ -177,12 +168,12 @@ fn push_values(line: &mut String, values: &[Tri]) -> Result<(), AllocError> {
     line.push(' ')
 }
 
-// Whether no chain of a load has more cells than cycles.
-fn fit(chains: &Chains) -> bool
-    ensures { result ≡ true → All (λ cells. length cells ≤ chains.now.cycles) chains.now.chains }
+// Whether no chain has more cells than so many.
+fn are_at_most(chains: &Chains, most: u16) -> bool
+    ensures { result ≡ true → All (λ cells. length cells ≤ most) chains.now.chains }
 {
     for chain in 0..chains.count() {
-        if chains.chain(chain).len() > usize::from(chains.cycles()) {
+        if chains.chain(chain).len() > usize::from(most) {
             return false;
         }
     }
@@ -198,41 +189,78 @@ fn merged_of(alloc: Global, cube: &Cube) -> Result<Merged, AllocError> {
     })
 }
 
-// A design with its chains, which the scan rules pass.
-#[derive(Clone, Copy)]
-struct Bench<'a> {
-    design: &'a Design,
-    config: &'a Config,
-    chains: &'a Chains,
+// Whether a row has the bits of a load.
+fn is_row(config: &Config, chains: &Chains, row: &[u64]) -> bool
+    ensures { result ≡ true → chains.now.cycles * config.now.ring.channels ≤ 64 * length row.now }
+{
+    row.len() == 256 && u32::from(chains.cycles()) * u32::from(config.ring.channels) <= 16_384
+}
+
+// The bits that a row brings to the cells.
+fn load_of(
+    alloc: Global,
+    config: &Config,
+    chains: &Chains,
+    row: &[u64],
+) -> Result<Vec<bool>, AllocError>
+    requires ring { IsRingInRange (length chains.now.chains) config.now.ring }
+    requires cells { All (λ cells. length cells ≤ chains.now.cycles) chains.now.chains }
+{
+    if is_row(config, chains, row) {
+        loaded(alloc, config, chains, row)
+    } else {
+        Ok(Vec::new(alloc))
+    }
+}
+
+// Whether there is a value for each cell of the chains.
+fn is_whole(chains: &Chains, values: &[Tri]) -> bool
+    ensures { result ≡ true → length values.now ≡ length (all_cells chains.now.chains) }
+{
+    let mut left = values.len();
+    for chain in 0..chains.count() {
+        let cells = chains.chain(chain).len();
+        if left < cells {
+            return false;
+        }
+        left -= cells;
+    }
+    left == 0
 }
 
 // The mask bits of a response and what the outputs show.
 fn push_unload(
     alloc: Global,
     line: &mut String,
-    bench: &Bench<'_>,
+    config: &Config,
+    chains: &Chains,
     response: &Response,
     next: &[u64],
 ) -> Result<(), AllocError>
+    requires ring { IsRingInRange (length chains.now.chains) config.now.ring }
+    requires groups { All (λ group. All (λ chain. chain < length chains.now.chains) group) config.now.compactor.groups }
 {
-    let always = always_masked(alloc, bench.config)?;
+    if !is_row(config, chains, next) || !is_whole(chains, response.cells.as_slice()) {
+        return line.push('?');
+    }
+    let always = always_masked(alloc, config, chains.count())?;
     let policy = MaskPolicy::new(
         |chain: u32, unknown: bool| -> bool
             requires { chain < length always.now }
         { unknown || always[chain as usize] },
         &always,
     );
-    let masks = masks(alloc, &policy, bench.chains, response)?;
+    let masks = masks(alloc, &policy, chains, response)?;
     push_bits(line, &masks)?;
-    let expected = expected(alloc, bench.config, bench.chains, response, &masks, next)?;
+    let expected = expected(alloc, config, chains, response, &masks, next)?;
     push_bits(line, &expected)
 }
 
-// For each chain whether it is always masked.
-fn always_masked(alloc: Global, config: &Config) -> Result<Vec<bool>, AllocError>
-    ensures { IfOk result (λ always. length always.items ≡ config.now.chains) }
+// For each of so many chains whether it is always masked.
+fn always_masked(alloc: Global, config: &Config, chains: u16) -> Result<Vec<bool>, AllocError>
+    ensures { IfOk result (λ always. length always.items ≡ chains) }
 {
-    let mut always = vec![in alloc; false; usize::from(config.chains)]?;
+    let mut always = vec![in alloc; false; usize::from(chains)]?;
     for chain in config.always_masked.as_slice() {
         let chain = usize::from(*chain);
         if chain < always.len() {
@@ -242,35 +270,69 @@ fn always_masked(alloc: Global, config: &Config) -> Result<Vec<bool>, AllocError
     Ok(always)
 }
 
+// What some patterns capture.
+fn responses_of(
+    alloc: Global,
+    capturer: &mut Capturer<'_>,
+    merged: &[Merged],
+    loads: &[Vec<bool>],
+) -> Result<Vec<Response>, AllocError> {
+    let mut patterns = Vec::new(alloc);
+    for place in 0..merged.len() {
+        if place < loads.len() && place < 512 {
+            patterns.push(Pattern {
+                merged: &merged[place],
+                loaded: &loads[place],
+            })?;
+        }
+    }
+    if patterns.len() > 512 {
+        return Ok(Vec::new(alloc));
+    }
+    capturer.capture_all(alloc, &patterns)
+}
+
 // What becomes of the patterns of some cubes, loaded by these rows.
 fn captured(
     alloc: Global,
-    bench: &Bench<'_>,
+    design: &Design,
+    config: &Config,
+    chains: &Chains,
     cubes: &[Cube],
     rows: &[Vec<u64>],
-) -> Result<String, AllocError> {
+) -> Result<String, AllocError>
+    requires range { IsInRange config.now }
+    requires passed { refusal design.now config.now ≡ None }
+    requires chains { chains.now ≡ plan_of design.now config.now }
+    requires count { length chains.now.chains ≡ config.now.chains }
+    requires cells { All (λ cells. length cells ≤ chains.now.cycles) chains.now.chains }
+{
     let mut line = String::new(alloc);
     let mut merged = Vec::new(alloc);
     let mut loads = Vec::new(alloc);
     for place in 0..cubes.len() {
-        merged.push(merged_of(alloc, &cubes[place])?)?;
-        loads.push(loaded(alloc, bench.config, bench.chains, &rows[place])?)?;
+        if place < rows.len() {
+            merged.push(merged_of(alloc, &cubes[place])?)?;
+            loads.push(load_of(alloc, config, chains, &rows[place])?)?;
+        }
     }
-    let mut patterns = Vec::new(alloc);
-    for place in 0..merged.len() {
-        patterns.push(Pattern {
-            merged: &merged[place],
-            loaded: &loads[place],
-        })?;
-    }
-    let mut capturer = Capturer::prepare(alloc, bench.design, bench.config, bench.chains)?;
-    let responses = capturer.capture_all(alloc, &patterns)?;
+    let mut capturer = Capturer::prepare(alloc, design, config, chains)?;
+    let responses = responses_of(alloc, &mut capturer, &merged, &loads)?;
     for place in 0..responses.len() {
-        push_bits(&mut line, &loads[place])?;
-        push_values(&mut line, responses[place].cells.as_slice())?;
-        push_values(&mut line, responses[place].outputs.as_slice())?;
-        push_unload(alloc, &mut line, bench, &responses[place], &rows[place + 1])?;
-        line.push_str("| ")?;
+        if place < loads.len() && place + 1 < rows.len() {
+            push_bits(&mut line, &loads[place])?;
+            push_values(&mut line, responses[place].cells.as_slice())?;
+            push_values(&mut line, responses[place].outputs.as_slice())?;
+            push_unload(
+                alloc,
+                &mut line,
+                config,
+                chains,
+                &responses[place],
+                &rows[place + 1],
+            )?;
+            line.push_str("| ")?;
+        }
     }
     Ok(line)
 }
@@ -282,28 +344,43 @@ fn line_for(
     cubes: &str,
     rows: &str,
 ) -> Result<String, AllocError> {
+    if netlist.len() > MAX_TEXT || config.len() > 4096 || cubes.len() > 4096 {
+        return String::from_str(alloc, "too long");
+    }
     let Ok(design) = read_netlist(alloc, netlist.as_bytes(), Library::standard(alloc)?) else {
         return String::from_str(alloc, "no netlist");
     };
     let Ok(config) = Config::read(alloc, config.as_bytes()) else {
         return String::from_str(alloc, "no configuration");
     };
-    let Ok(verdicts) = judge(alloc, &design, &config) else {
+    match read_cubes(alloc, cubes.as_bytes(), &design, &config) {
+        Ok(cubes) => planned(alloc, &design, &config, &cubes, rows),
+        Err(_) => String::from_str(alloc, "no cubes"),
+    }
+}
+
+// The same, over the chains of a design.
+fn planned(
+    alloc: Global,
+    design: &Design,
+    config: &Config,
+    cubes: &[Cube],
+    rows: &str,
+) -> Result<String, AllocError>
+    requires { IsInRange config.now }
+{
+    let Ok(verdicts) = judge(alloc, design, config) else {
         return String::from_str(alloc, "not judged");
     };
-    let Ok(chains) = plan(alloc, &design, &config, &verdicts) else {
+    let Ok(chains) = plan(alloc, design, config, &verdicts) else {
         return String::from_str(alloc, "not planned");
     };
-    let Ok(cubes) = read_cubes(alloc, cubes.as_bytes(), &design, &config) else {
-        return String::from_str(alloc, "no cubes");
-    };
     let rows = rows_of(alloc, rows)?;
-    let bench = Bench {
-        design: &design,
-        config: &config,
-        chains: &chains,
-    };
-    captured(alloc, &bench, &cubes, &rows)
+    if chains.count() == config.chains && are_at_most(&chains, chains.cycles()) {
+        captured(alloc, design, config, &chains, cubes, &rows)
+    } else {
+        String::from_str(alloc, "not loaded")
+    }
 }
 
 #[test]
