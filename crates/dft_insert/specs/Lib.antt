@@ -1,13 +1,3 @@
-pub mod Moves
-pub mod AddedPorts
-pub mod Stitching
-pub mod Written
-pub mod CellTables
-pub mod Growing
-pub mod Pieces
-pub mod Refusals
-pub mod Keeping
-pub mod Statements
-pub mod Tallies
-pub mod NameSetShown
-pub mod TallyShown
+pub use Rattle.dft_scan_hardware.specs.Scanned
+pub use Rattle.dft_scan_hardware.specs.Refusals
+pub mod Counts

@@ -1,38 +1,21 @@
-//! The scanned netlist of a design: its scan cells, its scan chains and their ports, and the laws of shifting and of scan off.
+//! The scanned netlist of a design, plain or behind compression hardware, and the laws of it.
 #![tactic(auto)]
 
-mod adding;
-mod assembling;
-mod building;
-mod carrying;
-mod cell_nets;
-mod counting;
-mod counts;
-mod error;
-mod gap;
-mod growing;
 mod insertion;
 mod laws;
-mod linking;
-mod made_names;
-mod making;
-mod name_set;
-mod outputs;
 mod scanned;
-mod stitching;
-mod style;
-mod tally;
 
-pub use building::port_ids;
-pub use carrying::{carry_joins, carry_nets, carry_ports, moved_pins};
 pub use dft_chains::{chains_shift, scan_off_agrees};
-pub use error::InsertError;
-pub use gap::Gap;
-pub use growing::add_instance;
+pub use dft_scan_facts::{
+    edt_acts, edt_captures, edt_loads, plain_shifts as scanned_shifts, scanned_has,
+};
+pub use dft_scan_frame::{
+    Gap, InsertError, add_instance, carry_joins, carry_nets, carry_ports, domain_net, moved_pins,
+    own_name, own_output, pins_of, pins_taken, port_ids, scan_cell, signal_at,
+};
+pub use dft_scan_hardware::{Style, scanned_keeps};
+pub use dft_scan_laws::scanned_can_finish as scanned_finishes;
+pub use dft_scan_off::scanned_agrees;
 pub use insertion::insert;
-pub use laws::{scanned_agrees, scanned_finishes, scanned_keeps, scanned_shifts};
-pub use linking::domain_net;
-pub use outputs::own_output;
+pub use laws::scanned_counts;
 pub use scanned::Scanned;
-pub use stitching::{own_name, pins_of, pins_taken, scan_cell, signal_at};
-pub use style::Style;

@@ -1,14 +1,16 @@
 //! Times parts of the tool that no command reaches alone. Its words name what is timed, each with sizes behind it:
-//! `equations` with cells a chain, `systems` with columns, `patterns` with vectors, `placements` with chains. With no words
+//! `equations` with cells a chain, `systems` with columns, `patterns` with vectors, `placements` and `insertion` with chains. With no words
 //! it times each once, small. The times go to standard error. It promises nothing.
 #![tactic(auto)]
 
 mod equations_pace;
+mod insertion_pace;
 mod patterns_pace;
 mod placements_pace;
 mod systems_pace;
 
 use equations_pace::time_equations;
+use insertion_pace::time_insertion;
 use patterns_pace::time_patterns;
 use placements_pace::time_placements;
 use std::alloc::Global;
@@ -23,6 +25,7 @@ enum Timed {
     Systems,
     Patterns,
     Placements,
+    Insertion,
 }
 
 fn main(rt: HostRuntime) -> io::Result<()> {
@@ -35,6 +38,7 @@ fn main(rt: HostRuntime) -> io::Result<()> {
             "systems" => timed = Some(Timed::Systems),
             "patterns" => timed = Some(Timed::Patterns),
             "placements" => timed = Some(Timed::Placements),
+            "insertion" => timed = Some(Timed::Insertion),
             size => {
                 if let (Some(timed), Ok(size)) = (timed, size.parse::<u32>()) {
                     time(&rt, rt.alloc(), timed, size)?;
@@ -47,6 +51,7 @@ fn main(rt: HostRuntime) -> io::Result<()> {
         time(&rt, rt.alloc(), Timed::Systems, 256)?;
         time(&rt, rt.alloc(), Timed::Patterns, 1000)?;
         time(&rt, rt.alloc(), Timed::Placements, 16)?;
+        time(&rt, rt.alloc(), Timed::Insertion, 32)?;
     }
     Ok(())
 }
@@ -57,5 +62,6 @@ fn time(rt: &(impl Clock + Eprint), alloc: Global, timed: Timed, size: u32) -> i
         Timed::Systems => time_systems(rt, alloc, size),
         Timed::Patterns => time_patterns(rt, alloc, size),
         Timed::Placements => time_placements(rt, alloc, size),
+        Timed::Insertion => time_insertion(rt, alloc, size),
     }
 }

@@ -31,8 +31,8 @@ const CUBES: u32 = 2000;
 
 const BITS: u32 = 100;
 
-// So many flip-flops on one clock.
-fn netlist(alloc: Global, cells: u32) -> Result<String, AllocError> {
+/// So many flip-flops on one clock.
+pub fn netlist(alloc: Global, cells: u32) -> Result<String, AllocError> {
     let mut text = String::from_str(alloc, "module m (clk, d); input clk, d;\n")?;
     for cell in 0..cells {
         text.push_str(&format!(in alloc; "DFF f{cell} (.CK(clk), .D(d), .Q(q{cell}));\n")?)?;
@@ -54,8 +54,8 @@ fn push_phases(alloc: Global, text: &mut String, chains: u32) -> Result<(), Allo
     Ok(())
 }
 
-// A ring of 128 stages behind a channel for each 32 chains.
-fn configuration(alloc: Global, chains: u32) -> Result<String, AllocError>
+/// A ring of 128 stages behind a channel for each 32 chains.
+pub fn configuration(alloc: Global, chains: u32) -> Result<String, AllocError>
     requires { chains ≤ 1024 }
 {
     let channels = chains / 32;

@@ -87,11 +87,10 @@ cube_lines cube = codes "cube " ++ (cube.name ++ outcome_text cube.outcome)
 
 -- ---- the report
 
+-- all but the lines of cubes
+unfoldable pub lines_before_cubes : Report → Text
+lines_before_cubes report =
+    codes "edt report 1\n" ++ (header_line report.header ++ (chain_lines 0 report.chains ++ (flat_map scanned_line report.scanned ++ flat_map unscanned_line report.unscanned)))
+
 unfoldable pub written : Report → Text
-written report =
-    codes "edt report 1\n"
-    ++ (header_line report.header
-    ++ (chain_lines 0 report.chains
-    ++ (flat_map scanned_line report.scanned
-    ++ (flat_map unscanned_line report.unscanned
-    ++ flat_map cube_lines report.cubes))))
+written report = lines_before_cubes report ++ flat_map cube_lines report.cubes

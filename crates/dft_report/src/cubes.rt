@@ -1,11 +1,11 @@
 //! The lines of cubes.
 
-ghost use Rattle.std.specs.Prelude.{◌≡◌, ◌++◌, OnOk, flat_map};
+ghost use Rattle.std.specs.Prelude.{◌≡◌, ◌++◌, IfOk, OnOk, flat_map, length};
 ghost use Rattle.dft_report.specs.Written as form;
 
 use crate::numbers::add_number;
 use crate::report::{CubeLine, CubeReport, SumLine, Variable};
-use std::alloc::AllocError;
+use std::alloc::{AllocError, Global};
 
 fn bit_text(bit: bool) -> &'static [u8]
     ensures { result.now ≡ form.bit_text bit }
@@ -88,15 +88,31 @@ fn add_outcome(out: &mut Vec<u8>, outcome: &CubeLine) -> Result<(), AllocError>
     }
 }
 
-/// Adds the lines of cubes.
+/// Adds the lines of a cube.
 #[tactic(auto, unfolding(crate::specs::Written::cube_lines))]
+fn add_cube(out: &mut Vec<u8>, cube: &CubeReport) -> Result<(), AllocError>
+    ensures { OnOk result (out.new.items ≡ out.old.items ++ form.cube_lines cube.now) }
+{
+    out.extend_from_slice(b"cube ")?;
+    out.extend_from_slice(cube.name.as_slice())?;
+    add_outcome(out, &cube.outcome)
+}
+
+/// Adds the lines of cubes.
 pub(crate) fn add_cubes(out: &mut Vec<u8>, cubes: &[CubeReport]) -> Result<(), AllocError>
     ensures { OnOk result (out.new.items ≡ out.old.items ++ flat_map form.cube_lines cubes.now) }
 {
     for cube in cubes {
-        out.extend_from_slice(b"cube ")?;
-        out.extend_from_slice(cube.name.as_slice())?;
-        add_outcome(out, &cube.outcome)?;
+        add_cube(out, cube)?;
     }
     Ok(())
+}
+
+/// How many bytes the lines of a cube have.
+pub fn cube_length(alloc: Global, cube: &CubeReport) -> Result<usize, AllocError>
+    ensures { IfOk result (λ bytes. bytes ≡ length (form.cube_lines cube.now)) }
+{
+    let mut lines = Vec::new(alloc);
+    add_cube(&mut lines, cube)?;
+    Ok(lines.len())
 }

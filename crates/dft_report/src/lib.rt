@@ -8,9 +8,10 @@ mod numbers;
 mod report;
 mod writer;
 
+pub use cubes::cube_length;
 pub use error::ReportError;
 pub use limits::MAX_BYTES;
 pub use report::{
     CubeLine, CubeReport, Header, Load, Report, ScannedLine, SumLine, UnscannedLine, Variable,
 };
-pub use writer::write;
+pub use writer::{length_before_cubes, write};

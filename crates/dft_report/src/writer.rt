@@ -130,10 +130,10 @@ fn add_unscanned(out: &mut Vec<u8>, lines: &[UnscannedLine]) -> Result<(), Alloc
     Ok(())
 }
 
-/// The whole text, however long it is.
-#[tactic(auto, unfolding(crate::specs::Written::written))]
-fn text_of(alloc: Global, report: &Report) -> Result<Vec<u8>, AllocError>
-    ensures { IfOk result (λ bytes. bytes.items ≡ form.written report.now) }
+/// All lines before those of cubes.
+#[tactic(auto, unfolding(crate::specs::Written::lines_before_cubes))]
+fn before_cubes(alloc: Global, report: &Report) -> Result<Vec<u8>, AllocError>
+    ensures { IfOk result (λ bytes. bytes.items ≡ form.lines_before_cubes report.now) }
 {
     let mut out = Vec::new(alloc);
     out.extend_from_slice(b"edt report 1\n")?;
@@ -141,8 +141,25 @@ fn text_of(alloc: Global, report: &Report) -> Result<Vec<u8>, AllocError>
     add_chains(&mut out, report.chains.as_slice())?;
     add_scanned(&mut out, report.scanned.as_slice())?;
     add_unscanned(&mut out, report.unscanned.as_slice())?;
+    Ok(out)
+}
+
+/// The whole text, however long it is.
+#[tactic(auto, unfolding(crate::specs::Written::written))]
+fn text_of(alloc: Global, report: &Report) -> Result<Vec<u8>, AllocError>
+    ensures { IfOk result (λ bytes. bytes.items ≡ form.written report.now) }
+{
+    let mut out = before_cubes(alloc, report)?;
     add_cubes(&mut out, report.cubes.as_slice())?;
     Ok(out)
+}
+
+/// How many bytes stand before the lines of cubes. With those of each cube (`cube_length`) they are the whole text, which so need not be
+/// made to tell how long it is.
+pub fn length_before_cubes(alloc: Global, report: &Report) -> Result<usize, AllocError>
+    ensures { IfOk result (λ bytes. bytes ≡ length (form.lines_before_cubes report.now)) }
+{
+    Ok(before_cubes(alloc, report)?.len())
 }
 
 /// The written form of a report, one text for each. It is refused where it is longer than its limit. A report of scan

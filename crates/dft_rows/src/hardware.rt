@@ -1,16 +1,16 @@
 //! Netlists with scan chains and compression hardware, worked by hand to the last made name.
 
-ghost use Rattle.std.specs.Prelude.{◌≡◌};
+ghost use Rattle.std.specs.Prelude.{◌≡◌, None};
 ghost use Rattle.dft_config.specs.Range.{IsInRange};
+ghost use Rattle.dft_rules.specs.Refusals as rules;
 ghost use Rattle.dft_stitch.specs.Chains.{plan_of};
 
 use dft_base::Name;
 use dft_cells::Library;
 use dft_config::Config;
-use dft_insert::InsertError;
-use dft_netlist::{Counted, Design, DesignBuilder};
+use dft_insert::{InsertError, Style, insert};
+use dft_netlist::{Counted, Design};
 use dft_rules::judge;
-use dft_scan_hardware::{Style, make_scanned};
 use dft_stitch::{Chains, plan};
 use dft_verilog::{MAX_TEXT, read};
 use dft_verilog_out::{gates_are_joined, write};
@@ -21,8 +21,8 @@ use std::test::Fail;
 const LOOP: &str =
     "module m (clk, a, y); input clk, a; output y; NAND2 g0 (.A(a), .B(q4), .Y(d0)); DFF f0 (.CK(clk), .D(d0), .Q(q0)); DFF f1 (.CK(clk), .D(q0), .Q(q1)); DFF f2 (.CK(clk), .D(q1), .Q(q2)); DFF f3 (.CK(clk), .D(q2), .Q(q3)); DFF f4 (.CK(clk), .D(q3), .Q(q4)); INV g1 (.A(q4), .Y(y)); endmodule";
 
-// Four stages, one channel and a tap; two chains in one mask segment, of which the second has an output of its own.
-const FOUR_STAGES: &str = "version = 1
+/// Four stages, one channel and a tap; two chains in one mask segment, of which the second has an output of its own.
+pub const FOUR_STAGES: &str = "version = 1
 domains = ['clk']
 chains = 2
 warm = 2
@@ -208,6 +208,108 @@ buf dft_i1 (scan_out0, n);
 endmodule
 ";
 
+// Three flip-flops in three chains of one cell, so that the mask segment is longer than a chain; one output for the first chain alone.
+const THREE: &str =
+    "module t (clk, d); input clk, d; DFF f0 (.CK(clk), .D(d), .Q(q0)); DFF f1 (.CK(clk), .D(d), .Q(q1)); DFF f2 (.CK(clk), .D(d), .Q(q2)); endmodule";
+
+// Phase sets of one stage, and of both.
+const ONE_SEGMENT: &str = "version = 1
+domains = ['clk']
+chains = 3
+warm = 0
+window = 1
+ring = { stages = 2, channels = 1, taps = [[1, 0]], injectors = [[0, 1]], phase = [[0], [1], [0, 1]] }
+compactor = { groups = [[0], [1, 2]], mask_inputs = 1 }
+";
+
+const THREE_MADE: &str =
+    "module t (clk, d, scan_enable, edt_clock, edt_update, edt_in0, edt_mask0, edt_out0, edt_out1);
+input clk;
+input d;
+input scan_enable;
+input edt_clock;
+input edt_update;
+input edt_in0;
+input edt_mask0;
+output edt_out0;
+output edt_out1;
+wire q0;
+wire q1;
+wire q2;
+wire dft_n0;
+wire dft_n1;
+wire dft_n2;
+wire dft_n3;
+wire dft_n4;
+wire dft_n5;
+wire dft_n6;
+wire dft_n7;
+wire dft_n8;
+wire dft_n9;
+wire dft_n10;
+wire dft_n11;
+wire dft_n12;
+wire dft_n13;
+wire dft_n14;
+wire dft_n15;
+wire dft_n16;
+wire dft_n17;
+wire dft_n18;
+wire dft_n19;
+wire dft_n20;
+wire dft_n21;
+wire dft_n22;
+wire dft_n23;
+wire dft_n24;
+wire dft_n25;
+wire dft_n26;
+wire dft_n27;
+wire dft_n28;
+wire dft_n29;
+wire dft_n30;
+wire dft_n31;
+wire dft_n32;
+SDFF f0 (.CK(clk), .D(d), .SI(dft_n8), .SE(scan_enable), .Q(q0));
+SDFF f1 (.CK(clk), .D(d), .SI(dft_n9), .SE(scan_enable), .Q(q1));
+SDFF f2 (.CK(clk), .D(d), .SI(dft_n10), .SE(scan_enable), .Q(q2));
+not dft_i0 (dft_n0, edt_update);
+xor dft_i1 (dft_n3, dft_n2, dft_n2);
+and dft_i2 (dft_n4, dft_n3, dft_n0);
+DFF dft_i3 (.CK(edt_clock), .D(dft_n4), .Q(dft_n1));
+xor dft_i4 (dft_n5, dft_n1, edt_in0);
+and dft_i5 (dft_n6, dft_n5, dft_n0);
+DFF dft_i6 (.CK(edt_clock), .D(dft_n6), .Q(dft_n2));
+xor dft_i7 (dft_n7, dft_n1, dft_n2);
+LOCKUP dft_i8 (.CK(edt_clock), .D(dft_n1), .Q(dft_n8));
+LOCKUP dft_i9 (.CK(edt_clock), .D(dft_n2), .Q(dft_n9));
+LOCKUP dft_i10 (.CK(edt_clock), .D(dft_n7), .Q(dft_n10));
+DFF dft_i11 (.CK(edt_clock), .D(edt_mask0), .Q(dft_n11));
+and dft_i12 (dft_n13, edt_update, dft_n11);
+and dft_i13 (dft_n14, dft_n0, dft_n12);
+or dft_i14 (dft_n15, dft_n13, dft_n14);
+DFF dft_i15 (.CK(edt_clock), .D(dft_n15), .Q(dft_n12));
+DFF dft_i16 (.CK(edt_clock), .D(dft_n11), .Q(dft_n16));
+and dft_i17 (dft_n18, edt_update, dft_n16);
+and dft_i18 (dft_n19, dft_n0, dft_n17);
+or dft_i19 (dft_n20, dft_n18, dft_n19);
+DFF dft_i20 (.CK(edt_clock), .D(dft_n20), .Q(dft_n17));
+DFF dft_i21 (.CK(edt_clock), .D(dft_n16), .Q(dft_n21));
+and dft_i22 (dft_n23, edt_update, dft_n21);
+and dft_i23 (dft_n24, dft_n0, dft_n22);
+or dft_i24 (dft_n25, dft_n23, dft_n24);
+DFF dft_i25 (.CK(edt_clock), .D(dft_n25), .Q(dft_n22));
+not dft_i26 (dft_n26, dft_n12);
+and dft_i27 (dft_n27, dft_n26, q0);
+not dft_i28 (dft_n28, dft_n17);
+and dft_i29 (dft_n29, dft_n28, q1);
+not dft_i30 (dft_n30, dft_n22);
+and dft_i31 (dft_n31, dft_n30, q2);
+buf dft_i32 (edt_out0, dft_n27);
+xor dft_i33 (dft_n32, dft_n29, dft_n31);
+buf dft_i34 (edt_out1, dft_n32);
+endmodule
+";
+
 // Made names that a net deep in the ring and a gate of the compactor would take.
 const NET_TAKEN: &str =
     "module m (clk, a, y); input clk, a; output y; DFF f0 (.CK(clk), .D(a), .Q(dft_n9)); DFF f1 (.CK(clk), .D(dft_n9), .Q(y)); endmodule";
@@ -236,7 +338,8 @@ fn named(alloc: Global, code: &str, name: &Name) -> Result<String, AllocError> {
     Ok(line)
 }
 
-fn refused(alloc: Global, error: InsertError) -> Result<String, AllocError> {
+/// How a refusal of insertion is told here.
+pub fn refused(alloc: Global, error: InsertError) -> Result<String, AllocError> {
     match error {
         InsertError::NameClash { name } => named(alloc, "G6", &name),
         InsertError::TooMany {
@@ -249,14 +352,11 @@ fn refused(alloc: Global, error: InsertError) -> Result<String, AllocError> {
 }
 
 // The text of a netlist that is made.
-fn written(alloc: Global, builder: DesignBuilder) -> Result<String, AllocError> {
-    let Ok(design) = builder.finish() else {
-        return String::from_str(alloc, "not finished");
-    };
-    if !gates_are_joined(&design) {
+fn written(alloc: Global, design: &Design) -> Result<String, AllocError> {
+    if !gates_are_joined(design) {
         return String::from_str(alloc, "open");
     }
-    let bytes = write(alloc, &design)?;
+    let bytes = write(alloc, design)?;
     match std::str::from_utf8(&bytes) {
         Ok(text) => String::from_str(alloc, text),
         Err(_) => String::from_str(alloc, "no text"),
@@ -271,10 +371,11 @@ fn made(
     style: Style,
 ) -> Result<String, AllocError>
     requires range { IsInRange config.now }
+    requires passed { rules.refusal design.now config.now ≡ None }
     requires planned { chains.now ≡ plan_of design.now config.now }
 {
-    match make_scanned(alloc, design, config, chains, style) {
-        Ok(scanned) => written(alloc, scanned.builder),
+    match insert(alloc, design, config, chains, style) {
+        Ok(scanned) => written(alloc, &scanned.design),
         Err(error) => refused(alloc, error),
     }
 }
@@ -311,9 +412,10 @@ fn text_of(alloc: Global, netlist: &str, config: &str, style: Style) -> Result<S
 }
 
 // A netlist, a configuration, and what is made of them in style Edt.
-static MADE: [(&str, &str, &str); 5] = [
+static MADE: [(&str, &str, &str); 6] = [
     (LOOP, FOUR_STAGES, LOOP_MADE),
     (PAIR, TWO_STAGES, PAIR_MADE),
+    (THREE, ONE_SEGMENT, THREE_MADE),
     (NET_TAKEN, FOUR_STAGES, "G6 dft_n9"),
     (GATE_TAKEN, FOUR_STAGES, "G6 dft_i28"),
     (LOOP, PORT_TAKEN, "G6 up0"),

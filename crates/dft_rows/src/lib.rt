@@ -12,6 +12,8 @@ mod files;
 #[cfg(test)]
 mod hardware;
 #[cfg(test)]
+mod large;
+#[cfg(test)]
 mod reports;
 #[cfg(test)]
 mod rows;

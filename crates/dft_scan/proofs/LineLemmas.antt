@@ -27,7 +27,7 @@ use Rattle.dft_base.specs.declared.rule.Rule.{Rule}
 use Rattle.dft_netlist.specs.Connections.{input_net}
 use Rattle.dft_rules.specs.Rules.{judged, judged_by, judgements, place_of_root, place_of_source, may_be_scanned, is_net, domain_of as clock_domain, are_held_at, scan_cell_of, is_kept}
 use Rattle.dft_stitch.specs.Chains.{domain_in}
-use Rattle.dft_insert.specs.Statements.{IsReady}
+use Rattle.dft_scan_frame.specs.Statements.{IsReady}
 use Rattle.dft_scan.specs.Reports.{domain_name, name_of, scanned_as, unscanned_as}
 use Rattle.dft_scan.specs.Laws.{FlipFlopsHaveLines, HasLine}
 

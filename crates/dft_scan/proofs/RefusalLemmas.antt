@@ -15,10 +15,11 @@ use Rattle.dft_stitch.specs.declared.error.StitchError.TheVariants as stitch_err
 use Rattle.dft_stitch.specs.Chains.{plan_of}
 use Rattle.dft_stitch.specs.Plans.{Plan}
 use Rattle.dft_stitch.specs.Limits as stitch
-use Rattle.dft_insert.specs.declared.error.InsertError.{InsertError}
-use Rattle.dft_insert.specs.declared.error.InsertError.TheVariants as insert_error
-use Rattle.dft_insert.specs.declared.style.Style.TheVariants.{Plain}
-use Rattle.dft_insert.specs.Refusals as insert
+use Rattle.dft_scan_frame.specs.declared.error.InsertError.{InsertError}
+use Rattle.dft_scan_frame.specs.declared.error.InsertError.TheVariants as insert_error
+use Rattle.dft_scan_hardware.specs.declared.style.Style.TheVariants.{Plain}
+use Rattle.dft_scan_frame.specs.Refusals as frame
+use Rattle.dft_scan_hardware.specs.Refusals as insert
 use Rattle.dft_report.specs.declared.error.ReportError.{ReportError}
 use Rattle.dft_report.specs.declared.error.ReportError.TheVariants as report_error
 use Rattle.dft_report.specs.declared.limits.TheConstants.{MAX_BYTES}
@@ -56,7 +57,7 @@ pub stitch_refused : (more : List (Option ScanError)) (r : Option StitchError) (
 stitch_refused more r (stitch_error.TooMany what limit) is = stitch_first more r (stitch_error.TooMany what limit) is
 stitch_refused more r (stitch_error.Memory error) is = _
 
-pub insert_refused : (more : List (Option ScanError)) (r : Option InsertError) (e : InsertError) → insert.IsRefusal r e → IsRefusal (first_failing (option_map Insert r ∷ more)) (of_insert e)
+pub insert_refused : (more : List (Option ScanError)) (r : Option InsertError) (e : InsertError) → frame.IsRefusal r e → IsRefusal (first_failing (option_map Insert r ∷ more)) (of_insert e)
 insert_refused more r (insert_error.NameClash name) is = insert_first more r (insert_error.NameClash name) is
 insert_refused more r (insert_error.TooMany what limit) is = insert_first more r (insert_error.TooMany what limit) is
 insert_refused more r (insert_error.Memory error) is = _
@@ -102,7 +103,7 @@ refused_by_stitch n config e r h =
     after_rules (stitch_checks n config) (rules.refusal n config) (of_stitch e) r
     (stitch_refused (insert_checks n config) (stitch.refusal n config) e h)
 
-pub refused_by_insert : (n : Netlist) (config : Config) (e : InsertError) → rules.refusal n config ≡ None → stitch.refusal n config ≡ None → insert.IsRefusal (insert.refusal Plain n config (plan_of n config)) e → IsRefusal (refusal n config) (of_insert e)
+pub refused_by_insert : (n : Netlist) (config : Config) (e : InsertError) → rules.refusal n config ≡ None → stitch.refusal n config ≡ None → frame.IsRefusal (insert.refusal Plain n config (plan_of n config)) e → IsRefusal (refusal n config) (of_insert e)
 refused_by_insert n config e r s h =
     after_rules (stitch_checks n config) (rules.refusal n config) (of_insert e) r
     (after_stitch (insert_checks n config) (stitch.refusal n config) (of_insert e) s

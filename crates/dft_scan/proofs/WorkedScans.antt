@@ -2,23 +2,23 @@
 use Rattle.std.proofs.Common.{◌≡◌, [], ◌∷◌, codes, refl}
 use Rattle.std.specs.Fmt as fmt
 use Rattle.dft_rules.proofs.WorkedRules.{example, example_config, two_clocks}
-use Rattle.dft_report.specs.Written.{header_line, chain_line, place_text, scanned_line, unscanned_line, written}
+use Rattle.dft_report.specs.Written.{header_line, chain_line, place_text, scanned_line, unscanned_line, lines_before_cubes, written}
 use Rattle.dft_scan.specs.declared.texts.Counts.{Counts}
 use Rattle.dft_scan.specs.Scans.{counts_of, report_text}
 
 -- one chain: first the cells of `ca`, then those of `cb`
 all_scanned : report_text (example 1) (example_config two_clocks [] 1) ≡ codes "edt report 1\ncells 4 chains 1\nchain 0 length 4\nscanned f0 ca chain 0 place 0\nscanned f2 ca chain 0 place 1\nscanned f1 cb chain 0 place 2\nscanned f3 cb chain 0 place 3\n"
-unfolding written header_line chain_line place_text scanned_line unscanned_line fmt.digits
+unfolding written lines_before_cubes header_line chain_line place_text scanned_line unscanned_line fmt.digits
 all_scanned = refl
 
 -- a kept flip-flop, in two chains
 one_kept : report_text (example 1) (example_config two_clocks (codes "f2" ∷ []) 2) ≡ codes "edt report 1\ncells 3 chains 2\nchain 0 length 2\nchain 1 length 1\nscanned f0 ca chain 0 place 0\nscanned f1 cb chain 0 place 1\nscanned f3 cb chain 1 place 0\nunscanned f2 S4\n"
-unfolding written header_line chain_line place_text scanned_line unscanned_line fmt.digits
+unfolding written lines_before_cubes header_line chain_line place_text scanned_line unscanned_line fmt.digits
 one_kept = refl
 
 -- a flip-flop behind a clock gate
 behind_a_gate : report_text (example 7) (example_config two_clocks [] 1) ≡ codes "edt report 1\ncells 3 chains 1\nchain 0 length 3\nscanned f0 ca chain 0 place 0\nscanned f2 ca chain 0 place 1\nscanned f1 cb chain 0 place 2\nunscanned f3 S1\n"
-unfolding written header_line chain_line place_text scanned_line unscanned_line fmt.digits
+unfolding written lines_before_cubes header_line chain_line place_text scanned_line unscanned_line fmt.digits
 behind_a_gate = refl
 
 abbrev counts : Counts

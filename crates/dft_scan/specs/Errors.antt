@@ -3,8 +3,8 @@ use Rattle.dft_rules.specs.declared.error.RuleError.{RuleError}
 use Rattle.dft_rules.specs.declared.error.RuleError.TheVariants as rule
 use Rattle.dft_stitch.specs.declared.error.StitchError.{StitchError}
 use Rattle.dft_stitch.specs.declared.error.StitchError.TheVariants as stitch
-use Rattle.dft_insert.specs.declared.error.InsertError.{InsertError}
-use Rattle.dft_insert.specs.declared.error.InsertError.TheVariants as insert
+use Rattle.dft_scan_frame.specs.declared.error.InsertError.{InsertError}
+use Rattle.dft_scan_frame.specs.declared.error.InsertError.TheVariants as insert
 use Rattle.dft_report.specs.declared.error.ReportError.{ReportError}
 use Rattle.dft_report.specs.declared.error.ReportError.TheVariants as report
 use Rattle.dft_scan.specs.declared.error.ScanError.{ScanError}

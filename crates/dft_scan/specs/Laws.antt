@@ -5,7 +5,7 @@ use Rattle.dft_config.specs.declared.config.Config.{Config}
 use Rattle.dft_rules.specs.declared.judged.Judged.{Judged}
 use Rattle.dft_rules.specs.declared.judged.Judged.TheVariants.{Scanned, Unscanned}
 use Rattle.dft_rules.specs.Rules.{judged, judgements}
-use Rattle.dft_insert.specs.Statements.{IsReady}
+use Rattle.dft_scan_frame.specs.Statements.{IsReady}
 use Rattle.dft_scan.specs.Reports.{name_of, scanned_line, unscanned_as}
 
 -- an instance that is judged so has its line: at each place where it may stand, or for the rule that fails

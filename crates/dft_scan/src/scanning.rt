@@ -2,8 +2,9 @@
 
 ghost use Rattle.std.specs.Prelude.{◌≡◌, None, IfErr, IfOk};
 ghost use Rattle.dft_config.specs.Range.{IsInRange};
-ghost use Rattle.dft_insert.specs.Statements.{IsReady, scanned};
-ghost use Rattle.dft_insert.specs.declared.style.Style.TheVariants.{Plain};
+ghost use Rattle.dft_scan_frame.specs.Statements.{IsReady};
+ghost use Rattle.dft_scan_hardware.specs.Statements.{scanned};
+ghost use Rattle.dft_scan_hardware.specs.declared.style.Style.TheVariants.{Plain};
 ghost use Rattle.dft_config.specs.declared.config.Config.{Config};
 ghost use Rattle.dft_rules.specs.Refusals as rules;
 ghost use Rattle.dft_netlist_text.specs.NetlistText.{StandsFor};

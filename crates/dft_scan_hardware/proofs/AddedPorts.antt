@@ -15,14 +15,14 @@ use Rattle.dft_netlist.specs.Names.{is_taken, names_taken, vector_name}
 use Rattle.dft_netlist.specs.Netlist.{Netlist}
 use Rattle.dft_netlist.specs.Sound.{HasOnlyPorts, bits_of}
 use Rattle.dft_netlist.proofs.NamesLemmas.{same_of}
-use Rattle.dft_insert.specs.declared.error.InsertError.{InsertError}
-use Rattle.dft_insert.specs.declared.error.InsertError.TheVariants.{NameClash, TooMany, Memory}
-use Rattle.dft_insert.specs.AddedPorts.{NewPort, port_name, ports_from}
-use Rattle.dft_insert.specs.Growing.{next_port}
-use Rattle.dft_insert.specs.Refusals.{IsRefusal, or_else}
-use Rattle.dft_insert.proofs.AddedNames.{le_by}
-use Rattle.dft_insert.proofs.Additions.{both_none}
-use Rattle.dft_insert.proofs.NamesOnce.{times_named, as_count, named-append, has_never, one_named, taken_times, shown_append}
+use Rattle.dft_scan_frame.specs.declared.error.InsertError.{InsertError}
+use Rattle.dft_scan_frame.specs.declared.error.InsertError.TheVariants.{NameClash, TooMany, Memory}
+use Rattle.dft_scan_frame.specs.AddedPorts.{NewPort, port_name, ports_from}
+use Rattle.dft_scan_frame.specs.Growing.{next_port}
+use Rattle.dft_scan_frame.specs.Refusals.{IsRefusal, or_else}
+use Rattle.dft_scan_frame.proofs.AddedNames.{le_by}
+use Rattle.dft_scan_frame.proofs.Additions.{both_none}
+use Rattle.dft_scan_frame.proofs.NamesOnce.{times_named, as_count, named-append, has_never, one_named, taken_times, shown_append}
 use Rattle.dft_parts.proofs.Runs.{range_on, range_over}
 use Rattle.dft_scan_hardware.specs.Refusals.{as_told, new_port_refusal, ports_refusal, with_port, with_ports}
 

@@ -1,4 +1,4 @@
--- The parts of a scanned netlist's recipe join only scan inputs and outputs of scanned flip-flops.
+-- What holds of every part of a scanned netlist's recipe; and that its parts join only scan inputs and outputs of scanned flip-flops.
 use Rattle.std.proofs.Common.{ℕ, zero, suc, ◌+◌, ◌≡◌, ◌==◌, ◌⊎◌, inl, inr, Bool, true, false, List, [], ◌∷◌, length, map, Option, None, Some, option_and_then, slice_get, refl, ap, ◌∙◌}
 use Rattle.std.specs.Prelude.{slice_index_or, if◌then◌else◌}
 use Rattle.std.specs.List.{range_with_len}
@@ -18,13 +18,12 @@ use Rattle.dft_stitch.specs.Chains.{plan_of}
 use Rattle.dft_stitch.specs.Plans.{Plan, cell_at}
 use Rattle.dft_stitch.proofs.OnceLemmas.{cells_scanned}
 use Rattle.dft_parts.specs.declared.edt_ports.EdtPorts.{EdtPorts}
-use Rattle.dft_parts.specs.Parts.{Part}
+use Rattle.dft_parts.specs.Parts.{Part, APin}
 use Rattle.dft_parts.specs.Recipes.{Recipe, pure, ◌>>◌, each, net_at, a_net, a_lockup, start_of}
 use Rattle.dft_ring.specs.RingRecipe.{a_ring}
 use Rattle.dft_compact.specs.CompactorRecipe.{a_compactor}
-use Rattle.dft_insert.specs.Moves.{Gap, moved}
-use Rattle.dft_insert.specs.Pieces.{domain_in}
-use Rattle.dft_insert.specs.Stitching.{number_of, own_output}
+use Rattle.dft_scan_frame.specs.Moves.{Gap, moved}
+use Rattle.dft_scan_frame.specs.Pins.{domain_in, number_of, own_output}
 use Rattle.dft_scan_hardware.specs.declared.style.Style.{Style}
 use Rattle.dft_scan_hardware.specs.declared.style.Style.TheVariants.{Plain, Edt}
 use Rattle.dft_scan_hardware.specs.Chained.{scan_roles, a_numbered_pin, a_role_pin, a_scan_in, an_open_output, own_or_made, an_output, a_row, rows, a_crossing, crossing_in, a_step, a_chain, a_late_chain, cells_at, row_at, last_net}
@@ -45,31 +44,28 @@ OnChains n config = JoinsAt (IsChainPin n config)
 abbrev Scans : Netlist → Config → InstanceId → Type 0
 Scans n config cell = is_scanned (judged n config cell.0) ≡ true
 
-module _ (n : Netlist) (config : Config) where
-  free : HoldsFree (OnChains n config)
-  free = record { net = tt; instance = λ cell pins. tt }
-
-  output_by : (cell : InstanceId) (net : NetId) (o : Option ℕ) → o ≡ number_of (same_role Output) 0 (scan_roles n cell) → Scans n config cell → Holds (OnChains n config) (a_numbered_pin cell o net)
+module _ (n : Netlist) (config : Config) (P : Part → Type 0) (free : HoldsFree P) (joined : (cell : InstanceId) (pin : ℕ) (net : NetId) → IsChainPin n config cell.0 pin → P (APin cell pin net)) where
+  output_by : (cell : InstanceId) (net : NetId) (o : Option ℕ) → o ≡ number_of (same_role Output) 0 (scan_roles n cell) → Scans n config cell → Holds P (a_numbered_pin cell o net)
   output_by cell net None is scans at = tt
-  output_by cell net (Some pin) is scans at = (record { scanned = scans; role = inl is }, tt)
+  output_by cell net (Some pin) is scans at = (joined cell pin net (record { scanned = scans; role = inl is }), tt)
 
-  input_by : (cell : InstanceId) (net : NetId) (o : Option ℕ) → o ≡ number_of (same_role ScanIn) 0 (scan_roles n cell) → Scans n config cell → Holds (OnChains n config) (a_numbered_pin cell o net)
+  input_by : (cell : InstanceId) (net : NetId) (o : Option ℕ) → o ≡ number_of (same_role ScanIn) 0 (scan_roles n cell) → Scans n config cell → Holds P (a_numbered_pin cell o net)
   input_by cell net None is scans at = tt
-  input_by cell net (Some pin) is scans at = (record { scanned = scans; role = inr is }, tt)
+  input_by cell net (Some pin) is scans at = (joined cell pin net (record { scanned = scans; role = inr is }), tt)
 
-  scan_in_on : (o : Option InstanceId) (net : NetId) → ((cell : InstanceId) → o ≡ Some cell → Scans n config cell) → Holds (OnChains n config) (a_scan_in n o net)
-  scan_in_on None net scans = holds_pure {A = Unit {0}} (OnChains n config) (tt {0})
+  scan_in_on : (o : Option InstanceId) (net : NetId) → ((cell : InstanceId) → o ≡ Some cell → Scans n config cell) → Holds P (a_scan_in n o net)
+  scan_in_on None net scans = holds_pure {A = Unit {0}} P (tt {0})
   scan_in_on (Some cell) net scans = input_by cell net (number_of (same_role ScanIn) 0 (scan_roles n cell)) refl (scans cell refl)
 
-  open_on : (cell : InstanceId) → Scans n config cell → Holds (OnChains n config) (an_open_output n cell)
+  open_on : (cell : InstanceId) → Scans n config cell → Holds P (an_open_output n cell)
   unfolding an_open_output
   open_on cell scans =
-      holds_bind (OnChains n config) a_net (λ net. a_role_pin n cell Output net >> pure net) (net_free (OnChains n config) free)
-      (λ net. holds_bind (OnChains n config) (a_role_pin n cell Output net) (λ _. pure net) (output_by cell net (number_of (same_role Output) 0 (scan_roles n cell)) refl scans) (λ _. holds_pure (OnChains n config) net))
+      holds_bind P a_net (λ net. a_role_pin n cell Output net >> pure net) (net_free P free)
+      (λ net. holds_bind P (a_role_pin n cell Output net) (λ _. pure net) (output_by cell net (number_of (same_role Output) 0 (scan_roles n cell)) refl scans) (λ _. holds_pure P net))
 
-  own_on : (gap : Gap) (cell : InstanceId) (o : Option ℕ) → Scans n config cell → Holds (OnChains n config) (own_or_made n gap cell o)
+  own_on : (gap : Gap) (cell : InstanceId) (o : Option ℕ) → Scans n config cell → Holds P (own_or_made n gap cell o)
   own_on gap cell None scans = open_on cell scans
-  own_on gap cell (Some net) scans = holds_pure {A = NetId} (OnChains n config) (record { 0 = moved gap net })
+  own_on gap cell (Some net) scans = holds_pure {A = NetId} P (record { 0 = moved gap net })
 
   -- ---- cells of the plan
 
@@ -77,10 +73,10 @@ module _ (n : Netlist) (config : Config) where
     at_chain : (chain place : ℕ) (cells : List InstanceId) (cell : InstanceId) → slice_get plan.chains chain ≡ Some cells → slice_get cells place ≡ Some cell → cell_at plan.chains chain place ≡ Some cell
     at_chain chain place cells cell there here = ap (option_and_then (λ (cs : List InstanceId). slice_get cs place)) there ∙ here
 
-    rows_on : (gap : Gap) → Holds (OnChains n config) (rows n gap plan.chains)
+    rows_on : (gap : Gap) → Holds P (rows n gap plan.chains)
     rows_on gap =
-        holds_collect (OnChains n config) (a_row n gap) plan.chains
-        (λ chain cells there. holds_collect (OnChains n config) (an_output n gap) cells
+        holds_collect P (a_row n gap) plan.chains
+        (λ chain cells there. holds_collect P (an_output n gap) cells
         (λ place cell here. own_on gap cell (own_output n cell) (cells_scan chain place cell (at_chain chain place cells cell there here))))
 
     -- the cells of a chain
@@ -92,19 +88,19 @@ module _ (n : Netlist) (config : Config) where
     cells_on : (chain place : ℕ) (cell : InstanceId) → slice_get (cells_at plan.chains chain) place ≡ Some cell → Scans n config cell
     cells_on chain place cell h = cells_scan chain place cell (index_by chain place cell plan.chains h)
 
-    crossing_on : (gap : Gap) (chain : ℕ) (outputs : List NetId) (l : LockupPlace) → Holds (OnChains n config) (a_crossing n config gap (cells_at plan.chains chain) outputs l)
+    crossing_on : (gap : Gap) (chain : ℕ) (outputs : List NetId) (l : LockupPlace) → Holds P (a_crossing n config gap (cells_at plan.chains chain) outputs l)
     unfolding a_crossing
     crossing_on gap chain outputs l =
-        holds_bind (OnChains n config) a_net
+        holds_bind P a_net
         (λ net. a_lockup (record { 0 = domain_in n gap config l.domain }) (net_at outputs l.after) net >> a_scan_in n (slice_get (cells_at plan.chains chain) (l.after + 1)) net)
-        (net_free (OnChains n config) free)
-        (λ net. holds_bind (OnChains n config) (a_lockup (record { 0 = domain_in n gap config l.domain }) (net_at outputs l.after) net) (λ _. a_scan_in n (slice_get (cells_at plan.chains chain) (l.after + 1)) net)
-        (lockup_free (OnChains n config) (record { 0 = domain_in n gap config l.domain }) (net_at outputs l.after) net free)
+        (net_free P free)
+        (λ net. holds_bind P (a_lockup (record { 0 = domain_in n gap config l.domain }) (net_at outputs l.after) net) (λ _. a_scan_in n (slice_get (cells_at plan.chains chain) (l.after + 1)) net)
+        (lockup_free P (record { 0 = domain_in n gap config l.domain }) (net_at outputs l.after) net free)
         (λ _. scan_in_on (slice_get (cells_at plan.chains chain) (l.after + 1)) net (λ cell h. cells_on chain (l.after + 1) cell h)))
 
-    either_on : (b : Bool) (r : Recipe (Unit {0})) → Holds (OnChains n config) r → Holds (OnChains n config) (if b then r else pure tt)
+    either_on : (b : Bool) (r : Recipe (Unit {0})) → Holds P r → Holds P (if b then r else pure tt)
     either_on true r h = h
-    either_on false r h = holds_pure {A = Unit {0}} (OnChains n config) (tt {0})
+    either_on false r h = holds_pure {A = Unit {0}} P (tt {0})
 
     abbrev stepped : (chain : ℕ) → (outputs : List NetId) → Recipe (Unit {0})
     stepped chain outputs = each (a_step n (cells_at plan.chains chain) outputs) (range_with_len 0 (length (cells_at plan.chains chain)))
@@ -112,52 +108,57 @@ module _ (n : Netlist) (config : Config) where
     abbrev crossed : (gap : Gap) → (chain : ℕ) → (outputs : List NetId) → Recipe (Unit {0})
     crossed gap chain outputs = each (crossing_in n config gap chain (cells_at plan.chains chain) outputs) plan.lockups
 
-    chain_on : (gap : Gap) (chain : ℕ) (outputs : List NetId) (entry : NetId) → Holds (OnChains n config) (a_chain n config gap plan.lockups chain (cells_at plan.chains chain) outputs entry)
+    chain_on : (gap : Gap) (chain : ℕ) (outputs : List NetId) (entry : NetId) → Holds P (a_chain n config gap plan.lockups chain (cells_at plan.chains chain) outputs entry)
     unfolding a_chain
     chain_on gap chain outputs entry =
-        holds_bind (OnChains n config) (a_scan_in n (slice_get (cells_at plan.chains chain) 0) entry) (λ _. crossed gap chain outputs >> stepped chain outputs)
+        holds_bind P (a_scan_in n (slice_get (cells_at plan.chains chain) 0) entry) (λ _. crossed gap chain outputs >> stepped chain outputs)
         (scan_in_on (slice_get (cells_at plan.chains chain) 0) entry (λ cell h. cells_on chain 0 cell h))
-        (λ _. holds_bind (OnChains n config) (crossed gap chain outputs) (λ _. stepped chain outputs)
-        (holds_each (OnChains n config) (crossing_in n config gap chain (cells_at plan.chains chain) outputs) plan.lockups (λ k l there. either_on (l.chain == chain) (a_crossing n config gap (cells_at plan.chains chain) outputs l) (crossing_on gap chain outputs l)))
-        (λ _. holds_each (OnChains n config) (a_step n (cells_at plan.chains chain) outputs) (range_with_len 0 (length (cells_at plan.chains chain)))
+        (λ _. holds_bind P (crossed gap chain outputs) (λ _. stepped chain outputs)
+        (holds_each P (crossing_in n config gap chain (cells_at plan.chains chain) outputs) plan.lockups (λ k l there. either_on (l.chain == chain) (a_crossing n config gap (cells_at plan.chains chain) outputs l) (crossing_on gap chain outputs l)))
+        (λ _. holds_each P (a_step n (cells_at plan.chains chain) outputs) (range_with_len 0 (length (cells_at plan.chains chain)))
         (λ k place there. scan_in_on (slice_get (cells_at plan.chains chain) (place + 1)) (net_at outputs place) (λ cell h. cells_on chain (place + 1) cell h))))
 
-    late_on : (gap : Gap) (chain : ℕ) (outputs : List NetId) (clock phase : NetId) → Holds (OnChains n config) (a_late_chain n config gap plan.lockups chain (cells_at plan.chains chain) outputs clock phase)
+    late_on : (gap : Gap) (chain : ℕ) (outputs : List NetId) (clock phase : NetId) → Holds P (a_late_chain n config gap plan.lockups chain (cells_at plan.chains chain) outputs clock phase)
     unfolding a_late_chain
     late_on gap chain outputs clock phase =
-        holds_bind (OnChains n config) a_net (λ entry. a_lockup clock phase entry >> a_chain n config gap plan.lockups chain (cells_at plan.chains chain) outputs entry) (net_free (OnChains n config) free)
-        (λ entry. holds_bind (OnChains n config) (a_lockup clock phase entry) (λ _. a_chain n config gap plan.lockups chain (cells_at plan.chains chain) outputs entry) (lockup_free (OnChains n config) clock phase entry free)
+        holds_bind P a_net (λ entry. a_lockup clock phase entry >> a_chain n config gap plan.lockups chain (cells_at plan.chains chain) outputs entry) (net_free P free)
+        (λ entry. holds_bind P (a_lockup clock phase entry) (λ _. a_chain n config gap plan.lockups chain (cells_at plan.chains chain) outputs entry) (lockup_free P clock phase entry free)
         (λ _. chain_on gap chain outputs entry))
 
-    plain_on : (gap : Gap) → Holds (OnChains n config) (plain_recipe n config plan gap)
+    plain_on : (gap : Gap) → Holds P (plain_recipe n config plan gap)
     unfolding plain_recipe
     plain_on gap =
-        holds_bind (OnChains n config) (rows n gap plan.chains)
+        holds_bind P (rows n gap plan.chains)
         (λ outputs. each (a_plain_chain n config plan gap outputs) (range_with_len 0 (length plan.chains)) >> each (a_plain_end config gap outputs) (range_with_len 0 (length plan.chains)))
         (rows_on gap)
-        (λ outputs. holds_bind (OnChains n config) (each (a_plain_chain n config plan gap outputs) (range_with_len 0 (length plan.chains))) (λ _. each (a_plain_end config gap outputs) (range_with_len 0 (length plan.chains)))
-        (holds_each (OnChains n config) (a_plain_chain n config plan gap outputs) (range_with_len 0 (length plan.chains)) (λ k chain there. chain_on gap chain (row_at outputs chain) (plain_in gap.before chain)))
-        (λ _. holds_each (OnChains n config) (a_plain_end config gap outputs) (range_with_len 0 (length plan.chains)) (λ k chain there. gate_free (OnChains n config) Buf (last_net (row_at outputs chain) ∷ []) (plain_out gap.before config.chains chain) free)))
+        (λ outputs. holds_bind P (each (a_plain_chain n config plan gap outputs) (range_with_len 0 (length plan.chains))) (λ _. each (a_plain_end config gap outputs) (range_with_len 0 (length plan.chains)))
+        (holds_each P (a_plain_chain n config plan gap outputs) (range_with_len 0 (length plan.chains)) (λ k chain there. chain_on gap chain (row_at outputs chain) (plain_in gap.before chain)))
+        (λ _. holds_each P (a_plain_end config gap outputs) (range_with_len 0 (length plan.chains)) (λ k chain there. gate_free P Buf (last_net (row_at outputs chain) ∷ []) (plain_out gap.before config.chains chain) free)))
 
-    behind_on : (gap : Gap) (ports : EdtPorts) (outputs : List (List NetId)) → Holds (OnChains n config) (behind_rows n config plan gap ports outputs)
+    behind_on : (gap : Gap) (ports : EdtPorts) (outputs : List (List NetId)) → Holds P (behind_rows n config plan gap ports outputs)
     unfolding behind_rows
     behind_on gap ports outputs =
-        holds_bind (OnChains n config) (a_ring config ports)
+        holds_bind P (a_ring config ports)
         (λ ring. each (an_edt_chain n config plan gap ports ring.phases outputs) (range_with_len 0 (length plan.chains)) >> a_compactor config ports ring.run (map last_net outputs))
-        (ring_free (OnChains n config) config ports free)
-        (λ ring. holds_bind (OnChains n config) (each (an_edt_chain n config plan gap ports ring.phases outputs) (range_with_len 0 (length plan.chains))) (λ _. a_compactor config ports ring.run (map last_net outputs))
-        (holds_each (OnChains n config) (an_edt_chain n config plan gap ports ring.phases outputs) (range_with_len 0 (length plan.chains)) (λ k chain there. late_on gap chain (row_at outputs chain) ports.edt_clock (net_at ring.phases chain)))
-        (λ _. compactor_free (OnChains n config) config ports ring.run (map last_net outputs) free))
+        (ring_free P config ports free)
+        (λ ring. holds_bind P (each (an_edt_chain n config plan gap ports ring.phases outputs) (range_with_len 0 (length plan.chains))) (λ _. a_compactor config ports ring.run (map last_net outputs))
+        (holds_each P (an_edt_chain n config plan gap ports ring.phases outputs) (range_with_len 0 (length plan.chains)) (λ k chain there. late_on gap chain (row_at outputs chain) ports.edt_clock (net_at ring.phases chain)))
+        (λ _. compactor_free P config ports ring.run (map last_net outputs) free))
 
-    edt_on : (gap : Gap) (ports : EdtPorts) → Holds (OnChains n config) (edt_recipe n config plan gap ports)
+    edt_on : (gap : Gap) (ports : EdtPorts) → Holds P (edt_recipe n config plan gap ports)
     unfolding edt_recipe
-    edt_on gap ports = holds_bind (OnChains n config) (rows n gap plan.chains) (behind_rows n config plan gap ports) (rows_on gap) (λ outputs. behind_on gap ports outputs)
+    edt_on gap ports = holds_bind P (rows n gap plan.chains) (behind_rows n config plan gap ports) (rows_on gap) (λ outputs. behind_on gap ports outputs)
 
-    recipe_on : (style : Style) → Holds (OnChains n config) (recipe style n config plan)
+    recipe_on : (style : Style) → Holds P (recipe style n config plan)
     recipe_on Plain = plain_on (gap_in Plain n config)
     recipe_on Edt = edt_on (gap_in Edt n config) (edt_nets (gap_in Edt n config).before config)
+
+-- what holds of nets, of instances and of such pins holds of all parts
+pub parts_hold : (P : Part → Type 0) (style : Style) (n : Netlist) (config : Config) → HoldsFree P → ((cell : InstanceId) (pin : ℕ) (net : NetId) → IsChainPin n config cell.0 pin → P (APin cell pin net)) → IsInRange config → Each P (parts_of style n config (plan_of n config))
+parts_hold P style n config free joined range =
+    recipe_on n config P free joined (plan_of n config) (λ chain place cell h. ap is_scanned (cells_scanned n config chain place cell range h).is) style (start_of (framed style n config))
 
 -- the parts that are made join only such pins
 pub parts_on : (style : Style) (n : Netlist) (config : Config) → IsInRange config → Each (OnChains n config) (parts_of style n config (plan_of n config))
 parts_on style n config range =
-    recipe_on n config (plan_of n config) (λ chain place cell h. ap is_scanned (cells_scanned n config chain place cell range h).is) style (start_of (framed style n config))
+    parts_hold (OnChains n config) style n config (record { net = tt; cell = λ id pins. tt; gate = λ kind inputs output. tt }) (λ cell pin net h. h) range

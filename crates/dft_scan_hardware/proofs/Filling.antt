@@ -14,8 +14,8 @@ use Rattle.dft_stitch.proofs.BlockLemmas.{chain_count}
 use Rattle.dft_parts.specs.Parts.{Making, parts_refusal}
 use Rattle.dft_parts.specs.Recipes.{Recipe, start_of, unless_refused, outcome}
 use Rattle.dft_parts.specs.Recipes as recipes
-use Rattle.dft_insert.specs.Refusals.{IsRefusal}
-use Rattle.dft_insert.proofs.Kept.{ports_fit}
+use Rattle.dft_scan_frame.specs.Refusals.{IsRefusal}
+use Rattle.dft_scan_frame.proofs.Kept.{ports_fit}
 use Rattle.dft_scan_hardware.specs.declared.style.Style.{Style}
 use Rattle.dft_scan_hardware.specs.declared.style.Style.TheVariants.{Plain, Edt}
 use Rattle.dft_scan_hardware.specs.Bounds.{EdtThere}

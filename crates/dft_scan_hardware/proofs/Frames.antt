@@ -26,26 +26,25 @@ use Rattle.dft_netlist.specs.Sound.{IsNetlist, IsLive, AreLive, IsInstance, IsAJ
 use Rattle.dft_config.specs.declared.config.Config.{Config}
 use Rattle.dft_rules.specs.Refusals.{is_scanned}
 use Rattle.dft_rules.specs.Rules.{judged, scan_cell_in}
-use Rattle.dft_insert.specs.declared.error.InsertError.TheVariants.{TooMany}
+use Rattle.dft_scan_frame.specs.declared.error.InsertError.TheVariants.{TooMany}
 use Rattle.dft_base.specs.declared.dir.Dir.TheVariants as dir
-use Rattle.dft_insert.specs.AddedPorts.{NewPort, numbered_ports, port_name, ports_from}
-use Rattle.dft_insert.specs.Growing.{AllFit, port_things, net_things, instance_things, join_things, with_things}
-use Rattle.dft_insert.specs.Moves.{Gap, moved_signal, moved_join}
-use Rattle.dft_insert.specs.Written.{at_net, map_from}
-use Rattle.dft_insert.proofs.AddedNames.{le_by}
-use Rattle.dft_insert.proofs.Additions.{both_none}
-use Rattle.dft_insert.proofs.Carried.{HasPair, has_pair}
-use Rattle.dft_insert.proofs.Fitting.{IsWhole, ports_fit, nets_fit, instances_fit, joins_fit, with_all_nets, with_all_instances, with_all_joins}
-use Rattle.dft_insert.proofs.Joined.{join_sound}
-use Rattle.dft_insert.proofs.Kept.{numbered_count, ports_count, ports_fit as ports_among}
-use Rattle.dft_insert.proofs.NamesOnce.{times_named, named-append, has_never, taken_times, stands_once}
-use Rattle.dft_insert.proofs.Pairs.{shared_roles}
-use Rattle.dft_insert.proofs.ScanPairs.{ScanPair}
-use Rattle.dft_insert.proofs.SoundParts.{map_at, moved_live, moved_outputs, moved_sound, live_none, live_cons, live_drop, live_first, none_none, none_cons, none_drop, none_first, pair_shared, pair_modelled, there, named_by}
-use Rattle.dft_insert.proofs.Stages.{before_of, numbered_from, front_count, ports_stand}
-use Rattle.dft_insert.proofs.Tabled.{from_at}
-use Rattle.dft_insert.proofs.Whole.{length_map_from}
-use Rattle.dft_insert.proofs.WholeNames.{length_ports, vectors_counted}
+use Rattle.dft_scan_frame.specs.AddedPorts.{NewPort, numbered_ports, port_name, ports_from}
+use Rattle.dft_scan_frame.specs.Growing.{AllFit, port_things, net_things, instance_things, join_things, with_things}
+use Rattle.dft_scan_frame.specs.Moves.{Gap, moved_signal, moved_join, at_net, map_from}
+use Rattle.dft_scan_frame.proofs.AddedNames.{le_by}
+use Rattle.dft_scan_frame.proofs.Additions.{both_none}
+use Rattle.dft_scan_frame.proofs.Carried.{HasPair, has_pair}
+use Rattle.dft_scan_frame.proofs.Fitting.{IsWhole, ports_fit, nets_fit, instances_fit, joins_fit, with_all_nets, with_all_instances, with_all_joins}
+use Rattle.dft_scan_frame.proofs.Joined.{join_sound}
+use Rattle.dft_scan_frame.proofs.Kept.{numbered_count, ports_count, ports_fit as ports_among}
+use Rattle.dft_scan_frame.proofs.NamesOnce.{times_named, named-append, has_never, taken_times, stands_once}
+use Rattle.dft_scan_frame.proofs.Pairs.{shared_roles}
+use Rattle.dft_scan_frame.proofs.ScanPairs.{ScanPair}
+use Rattle.dft_scan_frame.proofs.SoundParts.{map_at, moved_live, moved_outputs, moved_sound, live_none, live_cons, live_drop, live_first, none_none, none_cons, none_drop, none_first, pair_shared, pair_modelled, there, named_by}
+use Rattle.dft_scan_frame.proofs.Stages.{before_of, numbered_from, front_count, ports_stand}
+use Rattle.dft_scan_frame.proofs.Tabled.{from_at}
+use Rattle.dft_scan_frame.proofs.Whole.{length_map_from}
+use Rattle.dft_scan_frame.proofs.WholeNames.{length_ports, vectors_counted}
 use Rattle.dft_scan_hardware.specs.declared.style.Style.{Style}
 use Rattle.dft_scan_hardware.specs.declared.style.Style.TheVariants.{Plain, Edt}
 use Rattle.dft_scan_hardware.specs.Frame.{framed_pins, as_scan_cell, framed_instance, framed_at, frame}

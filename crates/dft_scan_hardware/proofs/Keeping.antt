@@ -29,16 +29,15 @@ use Rattle.dft_parts.specs.Recipes.{nets_in}
 use Rattle.dft_parts.specs.MadeNames.{made_net}
 use Rattle.dft_parts.specs.Growth.{instances_in, made_names, names_of}
 use Rattle.dft_parts.proofs.Growing.{parts_grow}
-use Rattle.dft_insert.specs.AddedPorts.{port_name, ports_from}
-use Rattle.dft_insert.specs.Keeping.{IsJoinedNow, IsScanCellFor}
-use Rattle.dft_insert.specs.Moves.{Gap, moved_signal, moved_instance}
-use Rattle.dft_insert.specs.Statements.{IsReady}
-use Rattle.dft_insert.specs.Stitching.{number_of}
-use Rattle.dft_insert.specs.Written.{at_net, map_from}
-use Rattle.dft_insert.proofs.Pairs.{passes, shared_roles}
-use Rattle.dft_insert.proofs.ScanPairs.{ScanPair}
-use Rattle.dft_insert.proofs.SoundParts.{pair_shared}
-use Rattle.dft_insert.proofs.WholeNames.{length_ports}
+use Rattle.dft_scan_frame.specs.AddedPorts.{port_name, ports_from}
+use Rattle.dft_scan_frame.specs.Keeping.{IsJoinedNow, IsScanCellFor}
+use Rattle.dft_scan_frame.specs.Moves.{Gap, moved_signal, moved_instance, at_net, map_from}
+use Rattle.dft_scan_frame.specs.Statements.{IsReady}
+use Rattle.dft_scan_frame.specs.Pins.{number_of}
+use Rattle.dft_scan_frame.proofs.Pairs.{passes, shared_roles}
+use Rattle.dft_scan_frame.proofs.ScanPairs.{ScanPair}
+use Rattle.dft_scan_frame.proofs.SoundParts.{pair_shared}
+use Rattle.dft_scan_frame.proofs.WholeNames.{length_ports}
 use Rattle.dft_scan_hardware.specs.declared.style.Style.{Style}
 use Rattle.dft_scan_hardware.specs.Chained.{roles_of, scan_roles}
 use Rattle.dft_scan_hardware.specs.Frame.{framed_pins, as_scan_cell, framed_instance, framed_at, frame}

@@ -28,10 +28,9 @@ use Rattle.dft_parts.proofs.Outcomes.{then_ok, then_refused, same_makes, pure_ma
 use Rattle.dft_ring.specs.declared.ring.Ring.{Ring}
 use Rattle.dft_ring.specs.RingRecipe.{a_ring}
 use Rattle.dft_compact.specs.CompactorRecipe.{a_compactor}
-use Rattle.dft_insert.specs.Moves.{Gap, moved}
-use Rattle.dft_insert.specs.Pieces.{domain_in}
-use Rattle.dft_insert.specs.Stitching.{number_of, own_output, moved_or_none}
-use Rattle.dft_insert.proofs.LiveNets.{moved_less, input_live}
+use Rattle.dft_scan_frame.specs.Moves.{Gap, moved}
+use Rattle.dft_scan_frame.specs.Pins.{domain_in, number_of, own_output, moved_or_none}
+use Rattle.dft_scan_frame.proofs.LiveNets.{moved_less, input_live}
 use Rattle.dft_scan_hardware.specs.Bounds.{EdtThere}
 use Rattle.dft_scan_hardware.specs.Chained.{scan_roles, a_numbered_pin, a_role_pin, a_scan_in, an_open_output, own_or_made, an_output, rows, a_crossing, crossing_in, a_step, a_chain, a_late_chain, row_at, last_net}
 use Rattle.dft_scan_hardware.specs.Scanned.{a_plain_chain, a_plain_end, plain_recipe, an_edt_chain, behind_rows, edt_recipe}

@@ -22,8 +22,8 @@ use Rattle.dft_rules.specs.Rules.{judged, scan_cell_in, scan_cell_of}
 use Rattle.dft_stitch.specs.Chains.{plan_of}
 use Rattle.dft_stitch.specs.Plans.{Plan, cell_at}
 use Rattle.dft_stitch.proofs.OnceLemmas.{cells_once, cells_scanned}
-use Rattle.dft_insert.specs.Stitching.{number_of}
-use Rattle.dft_insert.proofs.ScanPairs.{ScanPair, Plain, PlainBoth, Resets, ResetsBoth, Sets, SetsBoth}
+use Rattle.dft_scan_frame.specs.Pins.{number_of}
+use Rattle.dft_scan_frame.proofs.ScanPairs.{ScanPair, Plain, PlainBoth, Resets, ResetsBoth, Sets, SetsBoth}
 use Rattle.dft_scan_hardware.proofs.Frames.{scan_pair}
 
 -- ---- the first pin of a role

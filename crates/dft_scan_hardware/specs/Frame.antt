@@ -14,9 +14,8 @@ use Rattle.dft_netlist.specs.Netlist.{Netlist}
 use Rattle.dft_config.specs.declared.config.Config.{Config}
 use Rattle.dft_rules.specs.Refusals.{is_scanned}
 use Rattle.dft_rules.specs.Rules.{judged, scan_cell_in}
-use Rattle.dft_insert.specs.AddedPorts.{port_name, ports_from}
-use Rattle.dft_insert.specs.Moves.{Gap, moved_signal, moved_instance, moved_join}
-use Rattle.dft_insert.specs.Written.{at_net, map_from}
+use Rattle.dft_scan_frame.specs.AddedPorts.{port_name, ports_from}
+use Rattle.dft_scan_frame.specs.Moves.{Gap, moved_signal, moved_instance, moved_join, at_net, map_from}
 use Rattle.dft_scan_hardware.specs.declared.style.Style.{Style}
 use Rattle.dft_scan_hardware.specs.Ports.{added_ports, gap_in}
 

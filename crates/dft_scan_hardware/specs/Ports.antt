@@ -6,8 +6,8 @@ use Rattle.dft_netlist.specs.NetNumbers.{nets_from}
 use Rattle.dft_netlist.specs.Netlist.{Netlist}
 use Rattle.dft_config.specs.declared.config.Config.{Config}
 use Rattle.dft_parts.specs.declared.edt_ports.EdtPorts.{EdtPorts}
-use Rattle.dft_insert.specs.AddedPorts.{NewPort, new_port, numbered_ports, plain_ports}
-use Rattle.dft_insert.specs.Moves.{Gap, gap_of}
+use Rattle.dft_scan_frame.specs.AddedPorts.{NewPort, new_port, numbered_ports, plain_ports}
+use Rattle.dft_scan_frame.specs.Moves.{Gap, gap_of}
 use Rattle.dft_scan_hardware.specs.declared.style.Style.{Style}
 use Rattle.dft_scan_hardware.specs.declared.style.Style.TheVariants.{Plain, Edt}
 

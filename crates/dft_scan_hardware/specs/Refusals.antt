@@ -11,11 +11,11 @@ use Rattle.dft_netlist.specs.Sound.{bits_of}
 use Rattle.dft_config.specs.declared.config.Config.{Config}
 use Rattle.dft_stitch.specs.Plans.{Plan}
 use Rattle.dft_parts.specs.Parts.{parts_refusal}
-use Rattle.dft_insert.specs.declared.error.InsertError.{InsertError}
-use Rattle.dft_insert.specs.declared.error.InsertError.TheVariants.{NameClash, TooMany, Memory}
-use Rattle.dft_insert.specs.AddedPorts.{NewPort}
-use Rattle.dft_insert.specs.Growing.{APort, next_port, with_thing}
-use Rattle.dft_insert.specs.Refusals.{or_else}
+use Rattle.dft_scan_frame.specs.declared.error.InsertError.{InsertError}
+use Rattle.dft_scan_frame.specs.declared.error.InsertError.TheVariants.{NameClash, TooMany, Memory}
+use Rattle.dft_scan_frame.specs.AddedPorts.{NewPort}
+use Rattle.dft_scan_frame.specs.Growing.{APort, next_port, with_thing}
+use Rattle.dft_scan_frame.specs.Refusals.{or_else}
 use Rattle.dft_scan_hardware.specs.declared.style.Style.{Style}
 use Rattle.dft_scan_hardware.specs.Ports.{added_ports}
 use Rattle.dft_scan_hardware.specs.Scanned.{framed, parts_of}

@@ -12,7 +12,7 @@ use Rattle.dft_parts.specs.Parts.{Part, Making, with_parts}
 use Rattle.dft_parts.specs.Recipes.{Recipe, ◌>>=◌, ◌>>◌, each, net_at, a_gate, start_of}
 use Rattle.dft_ring.specs.RingRecipe.{a_ring}
 use Rattle.dft_compact.specs.CompactorRecipe.{a_compactor}
-use Rattle.dft_insert.specs.Moves.{Gap}
+use Rattle.dft_scan_frame.specs.Moves.{Gap}
 use Rattle.dft_scan_hardware.specs.declared.style.Style.{Style}
 use Rattle.dft_scan_hardware.specs.declared.style.Style.TheVariants.{Plain, Edt}
 use Rattle.dft_scan_hardware.specs.Ports.{added_ports, gap_in, plain_in, plain_out, edt_nets}

@@ -10,9 +10,9 @@ use Rattle.dft_parts.specs.Growth.{instances_in, made_names, names_of}
 use Rattle.dft_parts.specs.MadeNames.{made_net}
 use Rattle.dft_parts.specs.Parts.{Part}
 use Rattle.dft_parts.specs.Recipes.{nets_in}
-use Rattle.dft_insert.specs.AddedPorts.{port_name, ports_from}
-use Rattle.dft_insert.specs.Keeping.{Keeps}
-use Rattle.dft_insert.specs.Statements.{IsReady}
+use Rattle.dft_scan_frame.specs.AddedPorts.{port_name, ports_from}
+use Rattle.dft_scan_frame.specs.Keeping.{Keeps}
+use Rattle.dft_scan_frame.specs.Statements.{IsReady}
 use Rattle.dft_scan_hardware.specs.declared.style.Style.{Style}
 use Rattle.dft_scan_hardware.specs.Ports.{added_ports, gap_in}
 use Rattle.dft_scan_hardware.specs.Scanned.{parts_of, scanned_netlist}

@@ -2,13 +2,13 @@
 
 ghost use Rattle.std.specs.Prelude.{◌≡◌, None, IfErr, OnOk};
 ghost use Rattle.dft_netlist.specs.Sound.{HasOnlyPorts};
-ghost use Rattle.dft_insert.specs.Refusals.{IsRefusal};
+ghost use Rattle.dft_scan_frame.specs.Refusals.{IsRefusal};
 ghost use Rattle.dft_scan_hardware.specs.Refusals.{new_port_refusal, ports_refusal, with_port, with_ports};
 
 use crate::new_port::NewPort;
 use crate::told::told;
-use dft_insert::InsertError;
 use dft_netlist::{Design, DesignBuilder};
+use dft_scan_frame::InsertError;
 use std::alloc::Global;
 
 /// Adds these ports, or refuses the first whose name is taken or that passes a limit. The builder has only ports so far, and the

@@ -9,9 +9,9 @@ ghost use Rattle.dft_scan_hardware.specs.Chained.{a_chain, a_crossing, a_step, c
 use crate::outputs::net_at;
 use crate::pins::{cell_in, join_scan_in};
 use dft_config::Config;
-use dft_insert::{Gap, domain_net};
 use dft_netlist::{Design, InstanceId, NetId, NetlistError};
 use dft_parts::PartsBuilder;
+use dft_scan_frame::{Gap, domain_net};
 use dft_stitch::{Chains, LockupPlace};
 
 /// Links a chain behind an entry: with lock-ups between domains, and elsewhere from cell to cell.

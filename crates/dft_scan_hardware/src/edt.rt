@@ -17,10 +17,10 @@ use crate::outputs::{last_net, make_rows, net_at, row_at};
 use dft_base::Listed;
 use dft_compact::build_compactor;
 use dft_config::Config;
-use dft_insert::Gap;
 use dft_netlist::{Design, NetId, NetlistError};
 use dft_parts::{EdtPorts, PartsBuilder, push_net};
 use dft_ring::build_ring;
+use dft_scan_frame::Gap;
 use dft_stitch::Chains;
 use std::alloc::{AllocError, Global};
 

@@ -4,7 +4,7 @@ ghost use Rattle.std.specs.Prelude.{◌≡◌, ◌≤◌, None, IfErr, IfOk, OnO
 ghost use Rattle.dft_config.specs.Range.{IsInRange};
 ghost use Rattle.dft_netlist.specs.Building.{empty_netlist};
 ghost use Rattle.dft_stitch.specs.Chains.{plan_of};
-ghost use Rattle.dft_insert.specs.Refusals.{IsRefusal};
+ghost use Rattle.dft_scan_frame.specs.Refusals.{IsRefusal};
 ghost use Rattle.dft_scan_hardware.specs.Frame.{frame};
 ghost use Rattle.dft_scan_hardware.specs.Ports as spec;
 ghost use Rattle.dft_scan_hardware.specs.Refusals.{frame_refusal, ports_alone, room_refusal, with_ports};
@@ -14,8 +14,8 @@ use crate::framing::frame_instances;
 use crate::ports::added_ports;
 use crate::style::Style;
 use dft_config::Config;
-use dft_insert::{Gap, InsertError, carry_joins, carry_nets, carry_ports};
 use dft_netlist::{Counted, Design, DesignBuilder, MAX_NETS};
+use dft_scan_frame::{Gap, InsertError, carry_joins, carry_nets, carry_ports};
 use dft_stitch::Chains;
 use std::alloc::{AllocError, Global};
 

@@ -11,18 +11,18 @@ ghost use Rattle.dft_netlist.specs.Sound.{AreLive};
 ghost use Rattle.dft_rules.specs.Refusals as rules;
 ghost use Rattle.dft_rules.specs.Rules.{judged};
 ghost use Rattle.dft_stitch.specs.Chains.{plan_of};
-ghost use Rattle.dft_insert.specs.Growing.{AllFit, instance_things, with_things};
-ghost use Rattle.dft_insert.specs.Written.{map_from};
+ghost use Rattle.dft_scan_frame.specs.Growing.{AllFit, instance_things, with_things};
+ghost use Rattle.dft_scan_frame.specs.Moves.{map_from};
 ghost use Rattle.dft_scan_hardware.specs.Frame.{framed_at, framed_instance};
 ghost use Rattle.dft_scan_hardware.specs.Frame as spec;
 
 use dft_cells::{Library, Pin, Role};
 use dft_config::Config;
-use dft_insert::{
-    Gap, add_instance, moved_pins, own_name, pins_of, pins_taken, scan_cell, signal_at,
-};
 use dft_netlist::{
     CellRef, Design, DesignBuilder, Instance, InstanceId, NetId, PinSignals, Signal,
+};
+use dft_scan_frame::{
+    Gap, add_instance, moved_pins, own_name, pins_of, pins_taken, scan_cell, signal_at,
 };
 use dft_stitch::Chains;
 use std::alloc::{AllocError, Global};

@@ -9,7 +9,7 @@ pub struct NewPort {
 }
 
 impl Model for NewPort {
-    ghost use Rattle.dft_insert.specs.AddedPorts as added;
+    ghost use Rattle.dft_scan_frame.specs.AddedPorts as added;
 
     ghost Value = { added.NewPort };
 

@@ -11,9 +11,9 @@ ghost use Rattle.dft_scan_hardware.specs.Chained as spec;
 use crate::pins::join_role;
 use dft_base::Listed;
 use dft_cells::Role;
-use dft_insert::{Gap, own_output};
 use dft_netlist::{Design, InstanceId, NetId, NetlistError};
 use dft_parts::{PartsBuilder, push_net};
+use dft_scan_frame::{Gap, own_output};
 use dft_stitch::Chains;
 use std::alloc::AllocError;
 

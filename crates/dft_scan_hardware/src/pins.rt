@@ -5,13 +5,13 @@ ghost use Rattle.dft_cells.specs.WellFormed.{role_of};
 ghost use Rattle.dft_netlist.specs.Logic.{same_role};
 ghost use Rattle.dft_rules.specs.Rules.{scan_cell_of};
 ghost use Rattle.dft_parts.specs.Recipes.{outcome};
-ghost use Rattle.dft_insert.specs.Stitching.{number_of};
+ghost use Rattle.dft_scan_frame.specs.Pins.{number_of};
 ghost use Rattle.dft_scan_hardware.specs.Chained.{a_role_pin, a_scan_in, scan_roles};
 
 use dft_cells::{CellId, Pin, Role};
-use dft_insert::{pins_of, scan_cell};
 use dft_netlist::{Design, InstanceId, NetId, is_role};
 use dft_parts::PartsBuilder;
+use dft_scan_frame::{pins_of, scan_cell};
 
 /// Joins the scan input of a cell to this net, if there is such a cell, and where it is open.
 pub(crate) fn join_scan_in(

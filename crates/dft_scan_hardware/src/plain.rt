@@ -11,9 +11,9 @@ use crate::outputs::{last_net, make_rows, row_at};
 use dft_base::Listed;
 use dft_cells::Kind;
 use dft_config::Config;
-use dft_insert::Gap;
 use dft_netlist::{Design, NetId, NetlistError};
 use dft_parts::PartsBuilder;
+use dft_scan_frame::Gap;
 use dft_stitch::Chains;
 
 /// Makes what stands in the frame of style Plain: nets for open outputs, the chains, and the buffers to the scan outputs.

@@ -1,7 +1,7 @@
 //! The ports that are added.
 
 ghost use Rattle.std.specs.Prelude.{◌≡◌, ◌++◌, ◌∷◌, [], IfOk, OnOk};
-ghost use Rattle.dft_insert.specs.AddedPorts.{new_port, numbered_ports, plain_ports};
+ghost use Rattle.dft_scan_frame.specs.AddedPorts.{new_port, numbered_ports, plain_ports};
 ghost use Rattle.dft_scan_hardware.specs.Ports as spec;
 
 use crate::new_port::NewPort;

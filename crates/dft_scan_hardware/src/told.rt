@@ -1,8 +1,8 @@
 ghost use Rattle.std.specs.Prelude.{◌≡◌};
 ghost use Rattle.dft_scan_hardware.specs.Refusals.{as_told};
 
-use dft_insert::InsertError;
 use dft_netlist::NetlistError;
+use dft_scan_frame::InsertError;
 
 /// A refusal of the builder, as it is told.
 pub(crate) fn told(error: NetlistError) -> InsertError

@@ -13,7 +13,7 @@ use Rattle.dft_parts.specs.Ranks.{AreRanked}
 use Rattle.dft_parts.specs.Single.{driven_by_parts, times_in}
 use Rattle.dft_parts.proofs.Ranking as ranks
 use Rattle.dft_parts.proofs.Singles.{stays_single}
-use Rattle.dft_insert.specs.Statements.{IsReady}
+use Rattle.dft_scan_frame.specs.Statements.{IsReady}
 use Rattle.dft_scan_hardware.specs.declared.style.Style.{Style}
 use Rattle.dft_scan_hardware.specs.Frame.{frame}
 use Rattle.dft_scan_hardware.specs.Ports.{gap_in}

@@ -24,11 +24,10 @@ use Rattle.dft_parts.specs.Single.{net_driven, nets_driven}
 use Rattle.dft_parts.proofs.RankedParts.{flip_flop_ranked}
 use Rattle.dft_rules.specs.Refusals.{is_scanned}
 use Rattle.dft_rules.specs.Rules.{judged, scan_cell_in}
-use Rattle.dft_insert.specs.Moves.{Gap, moved, moved_signal, moved_instance, moved_join}
-use Rattle.dft_insert.specs.Statements.{IsReady}
-use Rattle.dft_insert.specs.Written.{map_from}
-use Rattle.dft_insert.proofs.Fine.{is_plain, instance_plain}
-use Rattle.dft_insert.proofs.Mergings.{moved_connections, moved_inputs}
+use Rattle.dft_scan_frame.specs.Moves.{Gap, moved, moved_signal, moved_instance, moved_join, map_from}
+use Rattle.dft_scan_frame.specs.Statements.{IsReady}
+use Rattle.dft_scan_frame.proofs.Fine.{is_plain, instance_plain}
+use Rattle.dft_scan_frame.proofs.Mergings.{moved_connections, moved_inputs}
 use Rattle.dft_scan_hardware.specs.declared.style.Style.{Style}
 use Rattle.dft_scan_hardware.specs.Frame.{as_scan_cell, framed_instance, framed_at, frame}
 use Rattle.dft_scan_hardware.specs.Ports.{gap_in}

@@ -22,21 +22,21 @@ use Rattle.dft_rules.specs.Refusals.{is_scanned}
 use Rattle.dft_rules.specs.Rules.{judged, scan_cell_in, scan_cell_of}
 use Rattle.dft_stitch.specs.Chains.{plan_of}
 use Rattle.dft_stitch.specs.Plans.{cell_at}
-use Rattle.dft_insert.specs.Moves.{Gap, moved}
-use Rattle.dft_insert.specs.Statements.{IsReady}
-use Rattle.dft_insert.specs.Stitching.{moved_or_none}
-use Rattle.dft_insert.specs.Written.{map_from}
-use Rattle.dft_insert.proofs.Kept.{ports_fit}
-use Rattle.dft_insert.proofs.LiveNets.{own_live, input_live}
-use Rattle.dft_insert.proofs.ScanPairs.{ScanPair, Plain as PlainPair, PlainBoth, Resets, ResetsBoth, Sets, SetsBoth}
-use Rattle.dft_insert.proofs.Standing.{stands_scanned}
-use Rattle.dft_insert.proofs.Whole.{moved_front, moved_back}
+use Rattle.dft_scan_frame.specs.Moves.{Gap, moved, map_from}
+use Rattle.dft_scan_frame.specs.Statements.{IsReady}
+use Rattle.dft_scan_frame.specs.Pins.{moved_or_none}
+use Rattle.dft_scan_frame.proofs.Kept.{ports_fit}
+use Rattle.dft_scan_frame.proofs.LiveNets.{own_live, input_live}
+use Rattle.dft_scan_frame.proofs.ScanPairs.{ScanPair, Plain as PlainPair, PlainBoth, Resets, ResetsBoth, Sets, SetsBoth}
+use Rattle.dft_scan_frame.proofs.Standing.{stands_scanned}
+use Rattle.dft_scan_frame.proofs.Whole.{moved_front, moved_back}
 use Rattle.dft_scan_hardware.specs.declared.style.Style.{Style}
 use Rattle.dft_scan_hardware.specs.declared.style.Style.TheVariants.{Plain, Edt}
 use Rattle.dft_scan_hardware.specs.Chained.{roles_of}
 use Rattle.dft_scan_hardware.specs.Frame.{as_scan_cell, framed_instance, framed_at, frame}
 use Rattle.dft_scan_hardware.specs.Ports.{gap_in}
 use Rattle.dft_scan_hardware.proofs.Frames.{scan_pair, plain_count, edt_count}
+use Rattle.dft_scan_hardware.proofs.Keeping.{from_get}
 use Rattle.dft_scan_laws.proofs.Claims.{IsFlopIn}
 use Rattle.dft_scan_laws.proofs.Goods.{IsBelow}
 use Rattle.dft_scan_laws.proofs.GoodChains.{IsScanCell, ChainSetting}
@@ -167,11 +167,6 @@ pair_flop _ _ _ _ Resets = refl
 pair_flop _ _ _ _ ResetsBoth = refl
 pair_flop _ _ _ _ Sets = refl
 pair_flop _ _ _ _ SetsBoth = refl
-
-from_get : {A B : Type 0} (f : ℕ → A → B) (k : ℕ) (xs : List A) (i : ℕ) (x : A) → slice_get xs i ≡ Some x → slice_get (map_from f k xs) i ≡ Some (f (k + i) x)
-from_get f k [] i x h = absurd (none-some x h)
-from_get f k (y ∷ xs) zero x h = let e : k ≡ k + 0 = omega arith in ap (λ z. Some (f k z)) (same_Some y x h) ∙ ap (λ j. Some (f j x)) e
-from_get f k (y ∷ xs) (suc i) x h = let e : suc k + i ≡ k + suc i = omega arith in from_get f (suc k) xs i x h ∙ ap (λ j. Some (f j x)) e
 
 -- an instance of the design stands in the frame
 pub framed_there : (style : Style) (n : Netlist) (config : Config) (i : ℕ) (x : Instance) → slice_get n.instances i ≡ Some x → slice_get (frame style n config).instances i ≡ Some (framed_at n config (gap_in style n config) i x)

@@ -21,18 +21,17 @@ use Rattle.dft_netlist.specs.Sound.{bits_of}
 use Rattle.dft_config.specs.declared.config.Config.{Config}
 use Rattle.dft_rules.specs.Refusals.{is_scanned}
 use Rattle.dft_rules.specs.Rules.{judged, scan_cell_in}
-use Rattle.dft_insert.specs.AddedPorts.{NewPort, new_port, numbered_ports, ports_from}
-use Rattle.dft_insert.specs.Moves.{Gap, moved, moved_signal}
-use Rattle.dft_insert.specs.Statements.{IsReady}
-use Rattle.dft_insert.specs.Written.{map_from, at_net}
-use Rattle.dft_insert.proofs.AddedOnce.{ports_rise, outputs_none, ports_below}
-use Rattle.dft_insert.proofs.Kept.{numbered_count}
-use Rattle.dft_insert.proofs.LiveDriven.{DriveBelow, drives_below}
-use Rattle.dft_insert.proofs.Mergings.{moved_driven, Merges, Nothing, append_merges, all_kept, all_added, NoneAt, times, old_times, moved_instance_drives, moved_joins_drive, ports_append}
-use Rattle.dft_insert.proofs.ScanPairs.{ScanPair, Plain as PlainPair, PlainBoth, Resets, ResetsBoth, Sets, SetsBoth, three, four, five}
-use Rattle.dft_insert.proofs.Single.{IsMovedOrNew, IsMoved, IsNone, moved_or_new}
-use Rattle.dft_insert.proofs.Times.{Rises, rises_once, past_none, added_times_live}
-use Rattle.dft_insert.proofs.Whole.{moved_front, moved_back, moved_apart, AreBefore, nets_before, before_front, before_back}
+use Rattle.dft_scan_frame.specs.AddedPorts.{NewPort, new_port, numbered_ports, ports_from}
+use Rattle.dft_scan_frame.specs.Moves.{Gap, moved, moved_signal, map_from, at_net}
+use Rattle.dft_scan_frame.specs.Statements.{IsReady}
+use Rattle.dft_scan_frame.proofs.AddedOnce.{ports_rise, outputs_none, ports_below}
+use Rattle.dft_scan_frame.proofs.Kept.{numbered_count}
+use Rattle.dft_scan_frame.proofs.LiveDriven.{DriveBelow, drives_below}
+use Rattle.dft_scan_frame.proofs.Mergings.{moved_driven, Merges, Nothing, append_merges, all_kept, all_added, NoneAt, times, old_times, moved_instance_drives, moved_joins_drive, ports_append}
+use Rattle.dft_scan_frame.proofs.ScanPairs.{ScanPair, Plain as PlainPair, PlainBoth, Resets, ResetsBoth, Sets, SetsBoth, three, four, five}
+use Rattle.dft_scan_frame.proofs.Single.{IsMovedOrNew, IsMoved, IsNone, moved_or_new}
+use Rattle.dft_scan_frame.proofs.Times.{Rises, rises_once, past_none, added_times_live}
+use Rattle.dft_scan_frame.proofs.Whole.{moved_front, moved_back, moved_apart, AreBefore, nets_before, before_front, before_back}
 use Rattle.dft_scan_hardware.specs.declared.style.Style.{Style}
 use Rattle.dft_scan_hardware.specs.declared.style.Style.TheVariants.{Plain, Edt}
 use Rattle.dft_scan_hardware.specs.Frame.{framed_pins, as_scan_cell, framed_instance, framed_at, frame}

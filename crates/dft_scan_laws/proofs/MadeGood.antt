@@ -11,13 +11,14 @@ use Rattle.dft_parts.specs.Recipes.{nets_in, net_at, start_of}
 use Rattle.dft_parts.specs.Single.{times_in}
 use Rattle.dft_stitch.specs.Chains.{cells_of, plan_of}
 use Rattle.dft_stitch.proofs.BlockLemmas.{chain_count}
-use Rattle.dft_insert.specs.Statements.{IsReady}
+use Rattle.dft_scan_frame.specs.Statements.{IsReady}
 use Rattle.dft_scan_hardware.specs.declared.style.Style.{Style}
 use Rattle.dft_scan_hardware.specs.declared.style.Style.TheVariants.{Plain, Edt}
 use Rattle.dft_scan_hardware.specs.Frame.{frame}
 use Rattle.dft_scan_hardware.specs.Ports.{gap_in, plain_out, edt_nets}
 use Rattle.dft_scan_hardware.specs.Scanned.{framed}
 use Rattle.dft_scan_hardware.specs.Statements.{made_in}
+use Rattle.dft_scan_hardware.proofs.Filling.{chains_planned}
 use Rattle.dft_scan_hardware.proofs.Frames.{frame_nets, plain_count, edt_count}
 use Rattle.dft_scan_laws.proofs.Claims.{counted_by, claims}
 use Rattle.dft_scan_laws.proofs.Goods.{IsBelow, AreBelow, none, one, IsGood}
@@ -88,9 +89,6 @@ abbrev pub lone : Style → Netlist → Config → ℕ → ℕ
 lone Plain n config = ends_of config (gap_in Plain n config) (length (plan_of n config).chains)
 lone Edt n config = outputs_of config (edt_nets (gap_in Edt n config).before config)
 
-chains_planned : (n : Netlist) (config : Config) → length (plan_of n config).chains ≡ config.chains
-chains_planned n config = chain_count (cells_of n config) config.chains
-
 lone_row : (style : Style) (n : Netlist) (config : Config) (k : ℕ) → IsRow (lone style n config k) (outs_start style n config) ((gap_in style n config).before + (gap_in style n config).width) k
 lone_row Plain n config k =
     let start = outs_start Plain n config in
@@ -98,7 +96,7 @@ lone_row Plain n config k =
     let h = rows_once (λ j. (plain_out (gap_in Plain n config).before config.chains j).0) start 0 count k (λ j past less. refl) in record {
       few = h.few;
       front = λ less. h.front (omega (arith, less));
-      back = λ past. h.back (omega (arith, past, plain_count config, chains_planned n config));
+      back = λ past. h.back (omega (arith, past, plain_count config, chains_planned n config (plan_of n config) refl));
     }
 lone_row Edt n config k =
     let start = outs_start Edt n config in
@@ -144,7 +142,7 @@ module _ (n : Netlist) (config : Config) (r : ℕ → ℕ) (ready : IsReady n co
   made_good Plain =
       plain_good n (frame Plain n config) config (plan_of n config) (gap_in Plain n config) (rank_of Plain) (length n.nets + (gap_in Plain n config).width) (limit_of Plain) (start_of (framed Plain n config))
       (chain_setting Plain n config r (top_of Plain) (laid Plain n config ready) bound ready) (omega (arith, frame_nets Plain n config)) refl (planned_cells Plain n config ready)
-      (λ chain less. above Plain (outs_start Plain n config + chain) (omega arith) (omega (arith, less, plain_count config, chains_planned n config))) (omega arith)
+      (λ chain less. above Plain (outs_start Plain n config + chain) (omega arith) (omega (arith, less, plain_count config, chains_planned n config (plan_of n config) refl))) (omega arith)
   made_good Edt =
       let first : ℕ = (gap_in Edt n config).before in
       let ports : EdtPorts = edt_nets first config in

@@ -13,15 +13,15 @@ use Rattle.dft_netlist.proofs.Ranks.{order_is_rank}
 use Rattle.dft_config.specs.declared.config.Config.{Config}
 use Rattle.dft_chains.specs.ScanOff.{moved_meaning, Contains, KeepsFlop}
 use Rattle.dft_chains.proofs.ScanOffLemmas.{scan_off}
-use Rattle.dft_insert.specs.AddedPorts.{ports_from}
-use Rattle.dft_insert.specs.Moves.{moved, moved_join}
-use Rattle.dft_insert.specs.Statements.{IsReady, config_ports}
-use Rattle.dft_insert.specs.Written.{map_from}
-use Rattle.dft_insert.proofs.Containing.{flop_matched, clock_choice, flop_past, kept_by, reads_by, shows_by, lockup_by, no_clock}
-use Rattle.dft_insert.proofs.Fine.{FineBy, driver_fine}
-use Rattle.dft_insert.proofs.Kept.{reads_inside}
-use Rattle.dft_insert.proofs.Mergings.{moved_driver}
-use Rattle.dft_insert.proofs.Whole.{moved_front, moved_apart}
+use Rattle.dft_scan_frame.specs.AddedPorts.{ports_from}
+use Rattle.dft_scan_frame.specs.Moves.{moved, moved_join, map_from}
+use Rattle.dft_scan_frame.specs.ConfigPorts.{config_ports}
+use Rattle.dft_scan_frame.specs.Statements.{IsReady}
+use Rattle.dft_scan_frame.proofs.Containing.{flop_matched, clock_choice, flop_past, kept_by, reads_by, shows_by, lockup_by, no_clock}
+use Rattle.dft_scan_frame.proofs.Fine.{FineBy, driver_fine}
+use Rattle.dft_scan_frame.proofs.Kept.{reads_inside}
+use Rattle.dft_scan_frame.proofs.Mergings.{moved_driver}
+use Rattle.dft_scan_frame.proofs.Whole.{moved_front, moved_apart}
 use Rattle.dft_scan_hardware.specs.declared.style.Style.{Style}
 use Rattle.dft_scan_hardware.specs.declared.style.Style.TheVariants.{Plain, Edt}
 use Rattle.dft_scan_hardware.specs.Ports.{added_ports, gap_in}
@@ -63,7 +63,7 @@ enable_no_clock : (style : Style) (n : Netlist) (config : Config) → IsReady n 
 enable_no_clock Plain n config ready = no_clock n config config.domains ready
 enable_no_clock Edt n config ready = or_false ((config_ports n config).is_clock (length (bits_of n.ports))) (length (bits_of n.ports) == edt_clock_net n config) (no_clock n config config.domains ready) (not_next (length (bits_of n.ports)))
 
-enable_input : (style : Style) (n : Netlist) (config : Config) → IsReady n config → (logic_of (scanned style n config) (ports_in style n config)).net (gap_in style n config).before ≡ logic.Input
+pub enable_input : (style : Style) (n : Netlist) (config : Config) → IsReady n config → (logic_of (scanned style n config) (ports_in style n config)).net (gap_in style n config).before ≡ logic.Input
 enable_input style n config ready =
     ap (meaning_of (scanned style n config) (ports_in style n config) (gap_in style n config).before) (enable_driven style n config ready)
     ∙ ap (λ b. if b then logic.Clock else logic.Input) (enable_no_clock style n config ready)

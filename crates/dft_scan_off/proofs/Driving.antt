@@ -26,13 +26,12 @@ use Rattle.dft_rules.specs.Rules.{judged, scan_cell_in}
 use Rattle.dft_parts.specs.Parts.{Part}
 use Rattle.dft_parts.specs.Parts as parts
 use Rattle.dft_parts.proofs.Growing.{parts_grow}
-use Rattle.dft_insert.specs.AddedPorts.{NewPort, ports_from}
-use Rattle.dft_insert.specs.Moves.{Gap, moved, moved_signal, moved_instance, moved_join}
-use Rattle.dft_insert.specs.Statements.{IsReady}
-use Rattle.dft_insert.specs.Written.{at_net, map_from}
-use Rattle.dft_insert.proofs.Mergings.{moved_driver, moved_driven, NoneAt, old_driver, moved_instance_drives, moved_joins_drive, ports_append}
-use Rattle.dft_insert.proofs.ScanPairs.{ScanPair, Plain, PlainBoth, Resets, ResetsBoth, Sets, SetsBoth, ListOf3, ListOf4, ListOf5, three, four, five}
-use Rattle.dft_insert.proofs.Whole.{moved_front, moved_apart, AreBefore, nets_before, before_front, before_back, instances_append, length_map_from}
+use Rattle.dft_scan_frame.specs.AddedPorts.{NewPort, ports_from}
+use Rattle.dft_scan_frame.specs.Moves.{Gap, moved, moved_signal, moved_instance, moved_join, at_net, map_from}
+use Rattle.dft_scan_frame.specs.Statements.{IsReady}
+use Rattle.dft_scan_frame.proofs.Mergings.{moved_driver, moved_driven, NoneAt, old_driver, moved_instance_drives, moved_joins_drive, ports_append}
+use Rattle.dft_scan_frame.proofs.ScanPairs.{ScanPair, Plain, PlainBoth, Resets, ResetsBoth, Sets, SetsBoth, ListOf3, ListOf4, ListOf5, three, four, five}
+use Rattle.dft_scan_frame.proofs.Whole.{moved_front, moved_apart, AreBefore, nets_before, before_front, before_back, instances_append, length_map_from}
 use Rattle.dft_scan_hardware.specs.declared.style.Style.{Style}
 use Rattle.dft_scan_hardware.specs.Frame.{framed_pins, as_scan_cell, framed_instance, framed_at, frame}
 use Rattle.dft_scan_hardware.specs.Ports.{added_ports, gap_in}

@@ -24,18 +24,18 @@ use Rattle.dft_parts.specs.MadeNames.{made_net}
 use Rattle.dft_parts.specs.Parts.{Part}
 use Rattle.dft_parts.specs.Recipes.{nets_in}
 use Rattle.dft_parts.proofs.Growing.{parts_grow}
-use Rattle.dft_insert.specs.Moves.{Gap, moved, moved_signal, moved_instance}
-use Rattle.dft_insert.specs.Statements.{IsReady, config_ports}
-use Rattle.dft_insert.specs.Stitching.{number_of}
-use Rattle.dft_insert.specs.Written.{at_net}
-use Rattle.dft_insert.proofs.Contained.{RootsKept, SamePins, IsPinWithin, AreMatched, modelled_kept, pin_inside, pin_moved}
-use Rattle.dft_insert.proofs.Containing.{no_pin, ref_no_role, flop_in, match_if, scan_kinds}
-use Rattle.dft_insert.proofs.Fine.{instance_plain}
-use Rattle.dft_insert.proofs.Kept.{reads_inside, root_stays, design_ports_few}
-use Rattle.dft_insert.proofs.Mergings.{moved_connection, moved_connections}
-use Rattle.dft_insert.proofs.MovedRoots.{moved_root, AreDriversKept, root_moved}
-use Rattle.dft_insert.proofs.ScanPairs.{ScanPair}
-use Rattle.dft_insert.proofs.Whole.{moved_front}
+use Rattle.dft_scan_frame.specs.Moves.{Gap, moved, moved_signal, moved_instance, at_net}
+use Rattle.dft_scan_frame.specs.ConfigPorts.{config_ports}
+use Rattle.dft_scan_frame.specs.Statements.{IsReady}
+use Rattle.dft_scan_frame.specs.Pins.{number_of}
+use Rattle.dft_scan_frame.proofs.Contained.{RootsKept, SamePins, IsPinWithin, AreMatched, modelled_kept, pin_inside, pin_moved}
+use Rattle.dft_scan_frame.proofs.Containing.{no_pin, ref_no_role, flop_in, match_if, scan_kinds}
+use Rattle.dft_scan_frame.proofs.Fine.{instance_plain}
+use Rattle.dft_scan_frame.proofs.Kept.{reads_inside, root_among, design_ports_few}
+use Rattle.dft_scan_frame.proofs.Mergings.{moved_connection, moved_connections}
+use Rattle.dft_scan_frame.proofs.MovedRoots.{moved_root, AreDriversKept, root_moved}
+use Rattle.dft_scan_frame.proofs.ScanPairs.{ScanPair}
+use Rattle.dft_scan_frame.proofs.Whole.{moved_front}
 use Rattle.dft_scan_hardware.specs.declared.style.Style.{Style}
 use Rattle.dft_scan_hardware.specs.declared.style.Style.TheVariants.{Plain, Edt}
 use Rattle.dft_scan_hardware.specs.Chained.{roles_of, scan_roles}
@@ -72,8 +72,8 @@ root_kept style n config source ready spared inside =
 pub roots_kept : (style : Style) (n : Netlist) (config : Config) → IsReady n config → AreSpared style n config → RootsKept n (scanned style n config) (moved (gap_in style n config)) (length n.nets)
 roots_kept style n config ready spared = record {
   roots = λ source inside. root_kept style n config source ready spared inside;
-  stays = λ source net is. moved_front (gap_in style n config) net (root_stays n config source net ready is).1;
-  inside = λ source net is. design_ports_few n config net ready (root_stays n config source net ready is).1;
+  stays = λ source net is. moved_front (gap_in style n config) net (root_among n config source net ready is);
+  inside = λ source net is. design_ports_few n config net ready (root_among n config source net ready is);
 }
 
 -- ---- clocks and resets
@@ -159,7 +159,7 @@ module _ (style : Style) (n : Netlist) (config : Config) (ready : IsReady n conf
   kept = roots_kept style n config ready spared
 
   first : AreFirst n (length (bits_of n.ports))
-  first source net is = (root_stays n config source net ready is).1
+  first source net is = root_among n config source net ready is
 
   same_library : w.library ≡ n.library
   same_library = (parts_grow (framed style n config) its).library

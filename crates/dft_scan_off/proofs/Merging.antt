@@ -15,11 +15,10 @@ use Rattle.dft_netlist.specs.Drivers.{Source, Driver, Flop, Driven, connections_
 use Rattle.dft_netlist.specs.Sound.{is_output}
 use Rattle.dft_parts.specs.MadeNames.{made_instance}
 use Rattle.dft_parts.specs.Parts.{Part, ANet, AnInstance, APin, Making, pin_joined, instance_joined, with_part, with_parts}
-use Rattle.dft_insert.specs.Written.{map_from}
-use Rattle.dft_insert.specs.Moves.{Gap, moved, moved_signal}
-use Rattle.dft_insert.proofs.Mergings.{Merges, moved_driver, moved_driven, append_merges, all_kept, all_added, NoneAt}
-use Rattle.dft_insert.proofs.ScanPairs.{ScanPair, Plain, PlainBoth, Resets, ResetsBoth, Sets, SetsBoth, ListOf3, ListOf4, ListOf5, three, four, five}
-use Rattle.dft_insert.proofs.Tabled.{map_from_same}
+use Rattle.dft_scan_frame.specs.Moves.{map_from, Gap, moved, moved_signal}
+use Rattle.dft_scan_frame.proofs.Mergings.{Merges, moved_driver, moved_driven, append_merges, all_kept, all_added, NoneAt}
+use Rattle.dft_scan_frame.proofs.ScanPairs.{ScanPair, Plain, PlainBoth, Resets, ResetsBoth, Sets, SetsBoth, ListOf3, ListOf4, ListOf5, three, four, five}
+use Rattle.dft_scan_frame.proofs.Tabled.{map_from_same}
 use Rattle.dft_scan_hardware.proofs.Joins.{Each, joined_in, stays_joined}
 
 -- ---- the instances of a netlist that grew

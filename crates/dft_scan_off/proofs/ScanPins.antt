@@ -10,12 +10,11 @@ use Rattle.dft_netlist.specs.declared.instance.Signal.TheVariants.{Unconnected}
 use Rattle.dft_netlist.specs.Drivers.{Source, Connection, connections_from, source_of}
 use Rattle.dft_netlist.specs.Logic.{same_role, pin_of, scan_of}
 use Rattle.dft_chains.specs.ScanOff.{moved_source, IsEnabledBy}
-use Rattle.dft_insert.specs.Moves.{Gap, moved, moved_signal}
-use Rattle.dft_insert.specs.Stitching.{number_of}
-use Rattle.dft_insert.specs.Written.{at_net}
-use Rattle.dft_insert.proofs.Contained.{SamePins}
-use Rattle.dft_insert.proofs.Mergings.{moved_source_of}
-use Rattle.dft_insert.proofs.ScanPairs.{ScanPair, Plain, PlainBoth, Resets, ResetsBoth, Sets, SetsBoth, ListOf3, ListOf4, ListOf5, three, four, five}
+use Rattle.dft_scan_frame.specs.Moves.{Gap, moved, moved_signal, at_net}
+use Rattle.dft_scan_frame.specs.Pins.{number_of}
+use Rattle.dft_scan_frame.proofs.Contained.{SamePins}
+use Rattle.dft_scan_frame.proofs.Mergings.{moved_source_of}
+use Rattle.dft_scan_frame.proofs.ScanPairs.{ScanPair, Plain, PlainBoth, Resets, ResetsBoth, Sets, SetsBoth, ListOf3, ListOf4, ListOf5, three, four, five}
 use Rattle.dft_scan_hardware.specs.Frame.{framed_pins}
 use Rattle.dft_scan_hardware.proofs.Keeping.{at_by, past}
 use Rattle.dft_scan_off.proofs.Merging.{ListOf6, ListOf7, six, seven}

@@ -14,7 +14,7 @@ use Rattle.dft_netlist.specs.Netlist.{Netlist}
 use Rattle.dft_parts.specs.MadeNames.{made_instance}
 use Rattle.dft_parts.specs.Parts.{Part, ANet, AnInstance, APin}
 use Rattle.dft_parts.specs.Single.{net_driven, nets_driven, times_in}
-use Rattle.dft_insert.proofs.Mergings.{NoneAt}
+use Rattle.dft_scan_frame.proofs.Mergings.{NoneAt}
 use Rattle.dft_scan_hardware.proofs.Joins.{Each}
 use Rattle.dft_scan_off.proofs.Merging.{news, JoinsWith, none_append, is_output_at}
 

@@ -7,8 +7,9 @@ use Rattle.dft_netlist.specs.Logic.{Ports, logic_of, flip_flop}
 use Rattle.dft_netlist.specs.Runs.{Now, Moment, Step, next_now, AreSteps, AreLow}
 use Rattle.dft_config.specs.declared.config.Config.{Config}
 use Rattle.dft_chains.specs.ScanOff.{Places, Contains, AreFreeAlike, AreSameSteps, AllAgree, set_to}
-use Rattle.dft_insert.specs.Moves.{moved}
-use Rattle.dft_insert.specs.Statements.{IsReady, config_ports}
+use Rattle.dft_scan_frame.specs.Moves.{moved}
+use Rattle.dft_scan_frame.specs.ConfigPorts.{config_ports}
+use Rattle.dft_scan_frame.specs.Statements.{IsReady}
 use Rattle.dft_scan_hardware.specs.declared.style.Style.{Style}
 use Rattle.dft_scan_hardware.specs.declared.style.Style.TheVariants.{Plain, Edt}
 use Rattle.dft_scan_hardware.specs.Ports.{gap_in}

@@ -1,3 +1,3 @@
 pub use Rattle.dft_scan_hardware.specs.Scanned
-pub use Rattle.dft_insert.specs.Statements
+pub use Rattle.dft_scan_frame.specs.Statements
 pub mod Agreeing

@@ -3,11 +3,6 @@ use Rattle.std.proofs.Common.{ℕ, ◌≡◌, ◌∙◌, inl, inr, List, [], ◌
 use Rattle.dft_files.specs.Outside.{Held, Told, ToldChange, file_at}
 use Rattle.dft_cells.specs.declared.cell.Cell.{Cell}
 use Rattle.dft_config.specs.declared.config.Config.{Config}
-use Rattle.dft_insert.proofs.Containing.{agrees}
-use Rattle.dft_insert.proofs.KeepingLemmas.{keeps_design}
-use Rattle.dft_insert.proofs.Shifted.{scanned_shifts, scanned_shows}
-use Rattle.dft_insert.specs.declared.style.Style.TheVariants.{Plain}
-use Rattle.dft_insert.specs.Statements.{scanned}
 use Rattle.dft_netlist.specs.Netlist.{Netlist}
 use Rattle.dft_netlist_text.specs.NetlistText.{StandsFor}
 use Rattle.dft_netlist.proofs.RankLemmas.{order_ranks}
@@ -17,6 +12,11 @@ use Rattle.dft_replay.specs.declared.verdict.Verdict.TheVariants as verdict
 use Rattle.dft_replay.specs.Fits.{first_misfit}
 use Rattle.dft_replay.specs.Verdicts.{HasVerdict}
 use Rattle.dft_replay.proofs.Soundness.{pass_sound}
+use Rattle.dft_scan_facts.proofs.PlainShifts.{scanned_shifts, scanned_shows}
+use Rattle.dft_scan_hardware.proofs.Keeping.{keeps_design}
+use Rattle.dft_scan_hardware.specs.declared.style.Style.TheVariants.{Plain}
+use Rattle.dft_scan_hardware.specs.Statements.{scanned}
+use Rattle.dft_scan_off.proofs.Agreed.{agrees_off}
 use Rattle.dft_scan.specs.declared.error.ScanError.{ScanError}
 use Rattle.dft_scan.specs.Refusals.{refusal}
 use Rattle.dft_scan.specs.Scans.{netlist_text, report_text}
@@ -123,7 +123,7 @@ scans files old new o done h saved =
       others = λ name a b. left.others name (differ files.out name (λ e. a (sym e)), (differ files.report name (λ e. b (sym e)), tt));
       reads = subst (λ (cells : List Cell). StandsFor cells (netlist_text n c) (scanned Plain n c)) (library_kept x.0 design.0 n design.1.stands) done_scan.reads;
       keeps = keeps_design Plain n c ready;
-      agrees = agrees Plain n c ready;
+      agrees = agrees_off Plain n c ready;
       shifts = scanned_shifts n c ready;
       shows = scanned_shows n c ready;
     }

@@ -3,8 +3,6 @@ use Rattle.std.specs.Prelude.{ℕ, ◌≡◌, List, None, Some, Ok}
 use Rattle.dft_files.specs.Outside.{Held, file_at}
 use Rattle.dft_cells.specs.declared.cell.Cell.{Cell}
 use Rattle.dft_config.specs.declared.config.Config.{Config}
-use Rattle.dft_insert.specs.declared.style.Style.TheVariants.{Plain}
-use Rattle.dft_insert.specs.Statements.{ChainsShift, ChainsShow, IsKept, IsReady, IsSameWhileOff, scanned}
 use Rattle.dft_netlist.specs.Netlist.{Netlist}
 use Rattle.dft_netlist_text.specs.NetlistText.{StandsFor}
 use Rattle.dft_netlist.specs.Runs.{Now, Turn}
@@ -14,6 +12,11 @@ use Rattle.dft_replay.specs.Fits.{first_misfit}
 use Rattle.dft_replay.specs.Rows.{rows_of}
 use Rattle.dft_replay.specs.Verdicts.{HasVerdict}
 use Rattle.dft_replay.specs.Laws.{IsRunOf, AllShow}
+use Rattle.dft_scan_facts.specs.PlainLaws.{ChainsShift, ChainsShow}
+use Rattle.dft_scan_frame.specs.Statements.{IsReady}
+use Rattle.dft_scan_hardware.specs.declared.style.Style.TheVariants.{Plain}
+use Rattle.dft_scan_hardware.specs.Statements.{IsKept, scanned}
+use Rattle.dft_scan_off.specs.Agreeing.{IsSameWhileOff}
 use Rattle.dft_scan.specs.Scans.{netlist_text, report_text}
 use Rattle.dft_words.specs.Words.{ReplayFiles, ScanFiles}
 use Rattle.dft_top.specs.Checks.{LibraryGives, ConfigGives, NetlistGives, PatternsGive}

@@ -1,13 +1,18 @@
 use Rattle.std.proofs.Common.{◌≤◌, ◌<◌, ◌^◌, ◌∙◌, List, ap, length, subst, sym}
 use Rattle.std.specs.List.{All}
 use Rattle.std.proofs.lemmas.Result.{err_from_is_err_and}
+use Rattle.dft_cells.specs.declared.cell.Cell.{Cell}
+use Rattle.dft_netlist.specs.Netlist.{Netlist}
 use Rattle.dft_netlist.specs.declared.ids.InstanceId.{InstanceId}
 use Rattle.dft_rules.specs.Rules.{judgements}
 use Rattle.dft_stitch.specs.Chains.{plan_of}
 use Rattle.dft_stitch.specs.Plans.{Plan}
-use Rattle.dft_insert.specs.declared.style.Style.TheVariants.{Plain}
-use Rattle.dft_insert.specs.Refusals as insert
-use Rattle.dft_insert.specs.Written.{scanned_netlist}
+use Rattle.dft_scan_hardware.specs.declared.style.Style.TheVariants.{Plain}
+use Rattle.dft_scan_hardware.specs.Refusals as insert
+use Rattle.dft_scan_hardware.specs.Scanned.{framed, parts_of, scanned_netlist}
+use Rattle.dft_scan_hardware.specs.Statements.{scanned}
+use Rattle.dft_netlist_text.specs.NetlistText.{StandsFor}
+use Rattle.dft_parts.proofs.Growing.{parts_grow}
 use Rattle.dft_report.specs.declared.limits.TheConstants.{MAX_BYTES}
 use Rattle.dft_report.specs.declared.report.Report.{Report}
 use Rattle.dft_report.specs.Refusals.{IsTooLong}
@@ -53,7 +58,7 @@ write-requires-2 c =
     let n = c.args.design.now in
     let config = c.args.config.now in
     let is = c.in_ok-scanned.ensures.design ∙ ap (scanned_netlist Plain n config) c.in_ok-chains.ensures.plan in
-    subst GatesAreJoined (sym is) (scanned_joined n config c.requires.joined)
+    subst GatesAreJoined (sym is) (scanned_joined Plain n config c.requires.range c.requires.joined)
 
 pub returns-in_err-netlist-clause-refused : goal.returns-in_err-netlist-clause-refused
 returns-in_err-netlist-clause-refused c =
@@ -71,3 +76,12 @@ returns-clause-accepted c =
     let P : Report → Type 0 = λ r. length (written r) ≤ MAX_BYTES in
     let inserted = ap (insert.refusal Plain n config) (sym c.in_ok-chains.ensures.plan) ∙ c.in_ok-scanned.ensures.accepted in
     passed n config c.in_ok-verdicts.ensures.accepted c.in_ok-chains.ensures.fits inserted (subst P is c.in_ok-report-2.ensures.fits)
+
+pub returns-clause-reads : goal.returns-clause-reads
+returns-clause-reads c =
+    let n = c.args.design.now in
+    let config = c.args.config.now in
+    let text = c.in_ok-netlist.netlist.items in
+    let is = c.in_ok-scanned.ensures.design ∙ ap (scanned_netlist Plain n config) c.in_ok-chains.ensures.plan in
+    subst (λ (library : List Cell). StandsFor library text (scanned Plain n config)) (parts_grow (framed Plain n config) (parts_of Plain n config (plan_of n config))).library
+    (subst (λ (w : Netlist). StandsFor w.library text w) is c.in_ok-netlist.ensures.reads)

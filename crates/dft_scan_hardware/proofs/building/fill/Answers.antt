@@ -1,6 +1,6 @@
 use Rattle.std.proofs.Common.{◌≡◌, length, sym, subst, ap, arith, ◌∙◌}
 use Rattle.dft_netlist.specs.Netlist.{Netlist}
-use Rattle.dft_insert.specs.Moves.{gap_of}
+use Rattle.dft_scan_frame.specs.Moves.{gap_of}
 use Rattle.dft_parts.specs.Parts.{Making}
 use Rattle.dft_parts.specs.Recipes.{outcome}
 use Rattle.dft_parts.specs.Recipes as recipes

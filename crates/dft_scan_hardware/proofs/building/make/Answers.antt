@@ -1,6 +1,6 @@
 use Rattle.std.proofs.Common.{◌≡◌, length, sym, subst, ap, arith, ◌∙◌}
 use Rattle.dft_netlist.specs.Netlist.{Netlist}
-use Rattle.dft_insert.specs.Moves.{Gap}
+use Rattle.dft_scan_frame.specs.Moves.{Gap}
 use Rattle.dft_scan_hardware.specs.declared.style.Style.{Style}
 use Rattle.dft_scan_hardware.specs.declared.style.Style.TheVariants.{Plain, Edt}
 use Rattle.dft_scan_hardware.specs.Bounds.{EdtThere}

@@ -4,7 +4,7 @@ use Rattle.std.specs.List.{range_with_len}
 use Rattle.std.proofs.lemmas.Result.{err_from_is_err_and}
 use Rattle.dft_netlist.specs.Netlist.{Netlist}
 use Rattle.dft_parts.specs.Parts.{parts_refusal}
-use Rattle.dft_insert.specs.Refusals.{or_else}
+use Rattle.dft_scan_frame.specs.Refusals.{or_else}
 use Rattle.dft_scan_hardware.specs.Refusals.{as_told, frame_refusal, refusal}
 use Rattle.dft_scan_hardware.specs.Scanned.{framed, parts_of}
 use Rattle.dft_scan_hardware.proofs.AddedPorts.{first_refused, later_refused}

@@ -1,6 +1,6 @@
 use Rattle.std.proofs.Common.{List, ◌∙◌, ap, sym, subst}
 use Rattle.dft_netlist.specs.declared.port.Port.{Port}
-use Rattle.dft_insert.specs.Growing.{AllFit, port_things, with_things}
+use Rattle.dft_scan_frame.specs.Growing.{AllFit, port_things, with_things}
 use Rattle.dft_scan_hardware.proofs.Frames.{ports_pass, ports_done}
 use Rattle.dft_scan_hardware.proofs.frame.bare_ports.Goals as goal
 

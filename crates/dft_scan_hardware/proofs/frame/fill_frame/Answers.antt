@@ -2,7 +2,7 @@ use Rattle.std.proofs.Common.{◌≡◌, None, length, sym, subst, ap, arith}
 use Rattle.std.proofs.lemmas.Result.{err_from_is_err_and}
 use Rattle.dft_netlist.specs.Netlist.{Netlist}
 use Rattle.dft_netlist.specs.Sound.{HasOnlyPorts}
-use Rattle.dft_insert.specs.Refusals.{IsRefusal}
+use Rattle.dft_scan_frame.specs.Refusals.{IsRefusal}
 use Rattle.dft_scan_hardware.specs.Ports.{added_ports}
 use Rattle.dft_scan_hardware.specs.Refusals.{ports_alone, ports_refusal, room_refusal}
 use Rattle.dft_scan_hardware.proofs.AddedPorts.{first_refused, later_refused}

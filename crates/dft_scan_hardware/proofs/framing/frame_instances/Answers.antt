@@ -1,6 +1,6 @@
 use Rattle.std.proofs.Common.{◌∙◌, ap, sym, refl, slice_get, length}
 use Rattle.std.proofs.lemmas.Option.{slice_get_read}
-use Rattle.dft_insert.proofs.LiveNets.{pins_live}
+use Rattle.dft_scan_frame.proofs.LiveNets.{pins_live}
 use Rattle.dft_scan_hardware.proofs.framing.frame_instances.Goals as goal
 
 pub framed-requires-clause-live : goal.framed-requires-clause-live

@@ -1,7 +1,7 @@
 use Rattle.std.proofs.Common.{drop}
-use Rattle.dft_insert.specs.Growing.{instance_things, with_things}
-use Rattle.dft_insert.specs.Written.{map_from}
-use Rattle.dft_insert.proofs.Completing.{Completes}
+use Rattle.dft_scan_frame.specs.Growing.{instance_things, with_things}
+use Rattle.dft_scan_frame.specs.Moves.{map_from}
+use Rattle.dft_scan_frame.proofs.Completing.{Completes}
 use Rattle.dft_scan_hardware.specs.Frame.{framed_at}
 use Rattle.dft_scan_hardware.proofs.framing.frame_instances.Given as goal
 

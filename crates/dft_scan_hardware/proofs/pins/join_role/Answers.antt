@@ -1,6 +1,6 @@
 use Rattle.std.proofs.Common.{◌∙◌, ap}
 use Rattle.dft_netlist.specs.Logic.{same_role}
-use Rattle.dft_insert.specs.Stitching.{number_of}
+use Rattle.dft_scan_frame.specs.Pins.{number_of}
 use Rattle.dft_scan_hardware.proofs.MadeParts.{role_pin_made, role_pin_none}
 use Rattle.dft_scan_hardware.proofs.pins.join_role.Goals as goal
 

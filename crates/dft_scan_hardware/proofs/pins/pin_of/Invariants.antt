@@ -1,7 +1,7 @@
 use Rattle.std.proofs.Common.{◌≡◌, drop, map}
 use Rattle.dft_cells.specs.WellFormed.{role_of}
 use Rattle.dft_netlist.specs.Logic.{same_role}
-use Rattle.dft_insert.specs.Stitching.{number_of}
+use Rattle.dft_scan_frame.specs.Pins.{number_of}
 use Rattle.dft_scan_hardware.proofs.pins.pin_of.Given as goal
 
 abbrev pub invariant-loop-number : goal.invariant-loop-number

@@ -1,6 +1,6 @@
 use Rattle.std.proofs.Common.{ℕ, ◌++◌, ◌∷◌, [], ap, ◌∙◌}
 use Rattle.dft_base.specs.Lexing.{Text}
-use Rattle.dft_insert.specs.AddedPorts.{NewPort, new_port, numbered, numbered_ports}
+use Rattle.dft_scan_frame.specs.AddedPorts.{NewPort, new_port, numbered, numbered_ports}
 use Rattle.dft_scan_hardware.proofs.AddedPorts.{mapped_on}
 use Rattle.dft_scan_hardware.proofs.ports.push_numbered.Goals as goal
 

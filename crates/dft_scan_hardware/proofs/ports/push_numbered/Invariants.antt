@@ -1,6 +1,6 @@
 use Rattle.std.proofs.Common.{◌≡◌, ◌-◌, ◌++◌, map}
 use Rattle.std.specs.List.{range_with_len}
-use Rattle.dft_insert.specs.AddedPorts.{new_port, numbered, numbered_ports}
+use Rattle.dft_scan_frame.specs.AddedPorts.{new_port, numbered, numbered_ports}
 use Rattle.dft_scan_hardware.proofs.ports.push_numbered.Given as goal
 
 abbrev pub invariant-loop-number : goal.invariant-loop-number

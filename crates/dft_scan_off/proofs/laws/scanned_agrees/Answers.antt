@@ -1,11 +1,6 @@
-use Rattle.dft_scan_off.proofs.Containing as containing
-use Rattle.dft_scan_off.proofs.Good.{spared}
+-- See the lemmas.
+use Rattle.dft_scan_off.proofs.Agreed.{contains_design, agrees_off}
 use Rattle.dft_scan_off.proofs.laws.scanned_agrees.Goals as goal
 
--- src/laws.rt:6:1
-pub returns-clause-contains : goal.returns-clause-contains
-returns-clause-contains c style n config ready = containing.contains style n config ready (spared style n config ready)
-
--- src/laws.rt:6:1
-pub returns-clause-agrees : goal.returns-clause-agrees
-returns-clause-agrees c style n config ready = containing.agrees style n config ready (spared style n config ready)
+pub returns : goal.returns
+returns c = record { contains = contains_design; agrees = agrees_off }

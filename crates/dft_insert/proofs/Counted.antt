@@ -1,0 +1,178 @@
+-- A scanned netlist adds as many flip-flops and lock-ups as its style has.
+use Rattle.std.proofs.Common.{ℕ, zero, suc, ◌+◌, ◌≡◌, ◌==◌, ◌<◌, ◌≤◌, Bool, true, false, List, [], ◌∷◌, ◌++◌, length, drop, cond, Option, None, Some, refl, sym, subst, ap, arith, ◌∙◌}
+use Rattle.std.specs.Prelude.{count_by, flat_map, slice_index_or, if◌then◌else◌}
+use Rattle.std.specs.List.{AllByRecursion, cons_option, filter_map, range_with_len}
+use Rattle.std.proofs.lemmas.List.Sums.{sum_by-cons}
+use Rattle.std.proofs.lemmas.Option.{none-some, same_Some}
+use Rattle.std.proofs.Math.Seq.{drop-append_seam}
+use Rattle.dft_cells.specs.declared.kind.Kind.{Kind}
+use Rattle.dft_cells.specs.declared.kind.Kind.TheVariants.{Dff, Lockup}
+use Rattle.dft_cells.specs.declared.cell.Cell.{Cell}
+use Rattle.dft_cells.specs.FlipFlops.{is_flip_flop}
+use Rattle.dft_netlist.specs.declared.ids.InstanceId.{InstanceId}
+use Rattle.dft_netlist.specs.declared.instance.Instance.{Instance}
+use Rattle.dft_netlist.specs.Drivers.{shape_of}
+use Rattle.dft_netlist.specs.Netlist.{Netlist}
+use Rattle.dft_config.specs.declared.config.Config.{Config}
+use Rattle.dft_rules.specs.declared.judged.Judged.{Judged}
+use Rattle.dft_rules.specs.Rules.{judgements}
+use Rattle.dft_stitch.specs.declared.places.LockupPlace.{LockupPlace}
+use Rattle.dft_stitch.specs.Chains.{domain_at, lockup_between, lockup_after, lockups_of, plan_of}
+use Rattle.dft_stitch.specs.Chains as stitch
+use Rattle.dft_edt.specs.Hardware.{segment_length, segment_start}
+use Rattle.dft_edt.proofs.Steps.{all_segments}
+use Rattle.dft_parts.specs.Cells.{is_lockup}
+use Rattle.dft_parts.specs.MadeNames.{made_instance}
+use Rattle.dft_parts.specs.Parts.{Part, ANet, AnInstance, APin}
+use Rattle.dft_parts.specs.Recipes.{start_of}
+use Rattle.dft_parts.proofs.Growing.{parts_grow}
+use Rattle.dft_scan_frame.specs.Moves.{Gap, map_from}
+use Rattle.dft_scan_frame.specs.Statements.{IsReady}
+use Rattle.dft_scan_frame.proofs.Whole.{length_map_from}
+use Rattle.dft_scan_hardware.specs.declared.style.Style.{Style}
+use Rattle.dft_scan_hardware.specs.declared.style.Style.TheVariants.{Plain, Edt}
+use Rattle.dft_scan_hardware.specs.Ports.{gap_in, edt_nets}
+use Rattle.dft_scan_hardware.specs.Scanned.{framed}
+use Rattle.dft_scan_hardware.specs.Statements.{made_in, scanned}
+use Rattle.dft_scan_hardware.proofs.Filling.{chains_planned}
+use Rattle.dft_scan_off.proofs.Driving.{now_at, now_instances}
+use Rattle.dft_scan_off.proofs.Merging.{news}
+use Rattle.dft_insert.specs.Counts.{count_behind, flip_flops_in, lockups_in, CountsAdded}
+use Rattle.dft_insert.proofs.Weights.{times, times_zero, times_one, times_two, sum_of, sum_add, sum_same, total}
+use Rattle.dft_insert.proofs.WeighedRecipes.{PassesNoGate, bit_weight, weight, plain_has, edt_has, crossings_all, segments_all}
+
+-- ---- made instances
+
+abbrev kind_passes : (Kind → Bool) → List Cell → Instance → Bool
+kind_passes test library x = test (shape_of library x.cell).kind
+
+-- the made instances that pass are those parts that weigh
+news_counted : (test : Kind → Bool) (library : List Cell) (number : ℕ) (parts : List Part) → count_by (kind_passes test library) (news number parts) ≡ total (weight test library) parts
+news_counted test library number [] = refl
+news_counted test library number (ANet ∷ parts) = omega (arith, news_counted test library number parts)
+news_counted test library number (AnInstance cell pins ∷ parts) =
+    omega (arith, sum_by-cons (λ (x : Instance). cond (kind_passes test library x) 1 0) (record { name = Some (made_instance number); cell = cell; pins = pins }) (news (number + 1) parts), news_counted test library (number + 1) parts)
+news_counted test library number (APin i pin net ∷ parts) = omega (arith, news_counted test library number parts)
+
+-- ---- behind the design's instances
+
+behind_is : (style : Style) (n : Netlist) (config : Config) → IsReady n config → drop (length n.instances) (scanned style n config).instances ≡ news 0 (made_in style n config)
+behind_is style n config ready =
+    let its : List Instance = map_from (now_at style n config) 0 n.instances in
+    ap (drop (length n.instances)) (now_instances style n config ready)
+    ∙ ap (λ k. drop k (its ++ news 0 (made_in style n config))) (sym (length_map_from (now_at style n config) 0 n.instances))
+    ∙ drop-append_seam its (news 0 (made_in style n config))
+
+counted : (test : Kind → Bool) (style : Style) (n : Netlist) (config : Config) → IsReady n config → count_behind test (length n.instances) (scanned style n config) ≡ total (weight test n.library) (made_in style n config)
+counted test style n config ready =
+    let grown = parts_grow (framed style n config) (made_in style n config) in
+    ap (λ (l : List Cell). count_by (kind_passes test l) (drop (length n.instances) (scanned style n config).instances)) grown.library
+    ∙ ap (count_by (kind_passes test n.library)) (behind_is style n config ready)
+    ∙ news_counted test n.library 0 (made_in style n config)
+
+-- ---- the plan's lock-ups
+
+abbrev pub InChains : (chains : ℕ) → List LockupPlace → Type 0
+InChains chains ls = AllByRecursion (λ l. l.chain < chains) ls
+
+in_both : (chains : ℕ) (xs ys : List LockupPlace) → InChains chains xs → InChains chains ys → InChains chains (xs ++ ys)
+in_both chains [] ys h k = k
+in_both chains (x ∷ xs) ys h k = (h.0, in_both chains xs ys h.1 k)
+
+between_in : (chains chain after d e : ℕ) (b : Bool) (l : LockupPlace) → chain < chains → (if b then None else Some (record { chain = chain; after = after; domain = d })) ≡ Some l → l.chain < chains
+between_in chains chain after d e true l less is = absurd (none-some l is)
+between_in chains chain after d e false l less is = subst (λ (z : LockupPlace). z.chain < chains) (same_Some (record { chain = chain; after = after; domain = d }) l is) less
+
+lockup_in : (chains chain after : ℕ) (o next : Option ℕ) (l : LockupPlace) → chain < chains → lockup_between chain after o next ≡ Some l → l.chain < chains
+lockup_in chains chain after (Some d) (Some e) l less is = between_in chains chain after d e (d == e) l less is
+lockup_in chains chain after (Some d) None l less is = absurd (none-some l is)
+lockup_in chains chain after None next l less is = absurd (none-some l is)
+
+kept_in : (chains : ℕ) (o : Option LockupPlace) (rest : List LockupPlace) → ((l : LockupPlace) → o ≡ Some l → l.chain < chains) → InChains chains rest → InChains chains (cons_option o rest)
+kept_in chains None rest each more = more
+kept_in chains (Some l) rest each more = (each l refl, more)
+
+filtered_in : (chains : ℕ) (f : ℕ → Option LockupPlace) (xs : List ℕ) → ((x : ℕ) (l : LockupPlace) → f x ≡ Some l → l.chain < chains) → InChains chains (filter_map f xs)
+filtered_in chains f [] each = tt
+filtered_in chains f (x ∷ xs) each = kept_in chains (f x) (filter_map f xs) (each x) (filtered_in chains f xs each)
+
+chain_in : (chains : ℕ) (v : List (Option Judged)) (cs : List (List InstanceId)) (chain : ℕ) → chain < chains → InChains chains (stitch.lockups_in v cs chain)
+chain_in chains v cs chain less =
+    let cells : List InstanceId = slice_index_or cs chain [] in
+    filtered_in chains (lockup_after v chain cells) (range_with_len 0 (length cells)) (λ place l is. lockup_in chains chain place (domain_at v cells place) (domain_at v cells (place + 1)) l less is)
+
+chains_in : (chains : ℕ) (v : List (Option Judged)) (cs : List (List InstanceId)) (from count : ℕ) → from + count ≤ chains → InChains chains (flat_map (stitch.lockups_in v cs) (range_with_len from count))
+chains_in chains v cs from zero le = tt
+chains_in chains v cs from (suc count) le =
+    in_both chains (stitch.lockups_in v cs from) (flat_map (stitch.lockups_in v cs) (range_with_len (from + 1) count)) (chain_in chains v cs from (omega (arith, le))) (chains_in chains v cs (from + 1) count (omega (arith, le)))
+
+planned_in : (n : Netlist) (config : Config) → InChains (length (plan_of n config).chains) (plan_of n config).lockups
+planned_in n config = chains_in (length (plan_of n config).chains) (judgements n config) (plan_of n config).chains 0 (length (plan_of n config).chains) (omega arith)
+
+-- ---- the weights of the recipes
+
+range_count : (from count : ℕ) → length (range_with_len from count) ≡ count
+range_count from zero = refl
+range_count from (suc count) = ap suc (range_count (from + 1) count)
+
+module _ (test : Kind → Bool) (none : PassesNoGate test) (n : Netlist) (config : Config) (ready : IsReady n config) where
+  abbrev a_flop : ℕ
+  a_flop = bit_weight (test Dff)
+
+  abbrev a_lock : ℕ
+  a_lock = bit_weight (test Lockup)
+
+  abbrev crossed : ℕ → ℕ
+  crossed c = sum_of (λ (l : LockupPlace). if l.chain == c then a_lock else 0) (plan_of n config).lockups
+
+  abbrev numbers : List ℕ
+  numbers = range_with_len 0 (length (plan_of n config).chains)
+
+  crossings_are : sum_of crossed numbers ≡ times (length (plan_of n config).lockups) a_lock
+  crossings_are = crossings_all a_lock (length (plan_of n config).chains) (plan_of n config).lockups (planned_in n config)
+
+  plain_is : total (weight test n.library) (made_in Plain n config) ≡ times (length (plan_of n config).lockups) a_lock
+  plain_is = plain_has test n.library ready.library none n config (plan_of n config) (gap_in Plain n config) (start_of (framed Plain n config)) refl ∙ crossings_are
+
+  late_are : sum_of (λ c. a_lock + crossed c) numbers ≡ times config.chains a_lock + times (length (plan_of n config).lockups) a_lock
+  late_are =
+      sum_add (λ (c : ℕ). a_lock) crossed numbers
+      ∙ omega (arith, sum_same a_lock numbers ∙ ap (λ k. times k a_lock) (range_count 0 (length (plan_of n config).chains) ∙ chains_planned n config (plan_of n config) refl), crossings_are)
+
+  masks_are : sum_of (λ s. times (segment_length config s) (a_flop + a_flop)) (range_with_len 0 config.compactor.mask_inputs) ≡ times config.chains (a_flop + a_flop)
+  masks_are =
+      let m = config.compactor.mask_inputs in
+      let from : 0 + m ≡ m = omega arith in
+      omega (arith, segments_all config (a_flop + a_flop) 0 m, ap (λ k. times (segment_start config k) (a_flop + a_flop)) from ∙ ap (λ k. times k (a_flop + a_flop)) (all_segments config ready.range.compactor.mask_inputs.0))
+
+  edt_is : total (weight test n.library) (made_in Edt n config) ≡ times config.ring.stages a_flop + (times config.chains a_lock + times (length (plan_of n config).lockups) a_lock + times config.chains (a_flop + a_flop))
+  edt_is =
+      let gap : Gap = gap_in Edt n config in
+      edt_has test n.library ready.library none n config (plan_of n config) gap (edt_nets gap.before config) (start_of (framed Edt n config)) refl
+      ∙ omega (arith, late_are, masks_are)
+
+-- ---- the law
+
+flip_flops_none : PassesNoGate is_flip_flop
+flip_flops_none = record { and = refl; or = refl; inv = refl; xor = refl; buf = refl }
+
+lockups_none : PassesNoGate is_lockup
+lockups_none = record { and = refl; or = refl; inv = refl; xor = refl; buf = refl }
+
+flip_flops_are : (style : Style) (n : Netlist) (config : Config) → IsReady n config → total (weight is_flip_flop n.library) (made_in style n config) ≡ flip_flops_in style config
+flip_flops_are Plain n config ready = plain_is is_flip_flop flip_flops_none n config ready ∙ times_zero (length (plan_of n config).lockups)
+flip_flops_are Edt n config ready =
+    edt_is is_flip_flop flip_flops_none n config ready
+    ∙ omega (arith, times_one config.ring.stages, times_zero config.chains, times_zero (length (plan_of n config).lockups), times_two config.chains)
+
+lockups_are : (style : Style) (n : Netlist) (config : Config) → IsReady n config → total (weight is_lockup n.library) (made_in style n config) ≡ lockups_in style n config
+lockups_are Plain n config ready = plain_is is_lockup lockups_none n config ready ∙ times_one (length (plan_of n config).lockups)
+lockups_are Edt n config ready =
+    edt_is is_lockup lockups_none n config ready
+    ∙ omega (arith, times_zero config.ring.stages, times_one config.chains, times_one (length (plan_of n config).lockups), times_zero config.chains)
+
+pub counts_added : CountsAdded
+counts_added style n config ready = record {
+  flip_flops = counted is_flip_flop style n config ready ∙ flip_flops_are style n config ready;
+  lockups = counted is_lockup style n config ready ∙ lockups_are style n config ready;
+}

@@ -1,5 +1,0 @@
-use Rattle.dft_insert.proofs.Endings.{memory_alone}
-use Rattle.dft_insert.proofs.assembling.finish.Goals as goal
-
-pub memory-requires : goal.memory-requires
-memory-requires c = memory_alone c.args.builder c.in-Err.error c.requires c.in-Err.ensures.refused

@@ -1,6 +1,0 @@
--- See the lemmas.
-use Rattle.dft_insert.proofs.Containing.{contains_design, agrees}
-use Rattle.dft_insert.proofs.laws.scanned_agrees.Goals as goal
-
-pub returns : goal.returns
-returns c = record { contains = contains_design; agrees = agrees }

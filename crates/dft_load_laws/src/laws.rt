@@ -1,0 +1,18 @@
+//! Laws of loads, as contracts of functions that do nothing.
+
+ghost use Rattle.dft_load_laws.specs.Loading.{BitsLoad, ChainsFit, LoadsRun, UnsolvableInRuns};
+ghost use Rattle.dft_load_laws.specs.Sums.{SumsAreLoads};
+
+/// Each chain that is planned for a design fits a load, and the sums of placement are what a load brings to the cells.
+pub fn loads_bring()
+    ensures fit { ChainsFit }
+    ensures sums { SumsAreLoads }
+{}
+
+/// In every run channel bits load the cells whose equations they solve; and a cube of scanned cells is unsolvable exactly where no
+/// table loads it in any run, of which each table has one.
+pub fn cubes_load()
+    ensures bits { BitsLoad }
+    ensures run { LoadsRun }
+    ensures exact { UnsolvableInRuns }
+{}

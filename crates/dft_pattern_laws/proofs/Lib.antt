@@ -1,0 +1,7 @@
+pub mod Clocks
+pub mod Lengths
+pub mod Lists
+pub mod Loaded
+pub mod Unloading
+pub mod Capturing
+pub mod Patterns

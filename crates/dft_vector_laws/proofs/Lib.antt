@@ -1,0 +1,5 @@
+pub mod Listed
+pub mod Places
+pub mod Playing
+pub mod Clocking
+pub mod Splitting

@@ -1,0 +1,14 @@
+pub use Rattle.dft_patterns.specs.Patterns
+pub use Rattle.dft_stitch.specs.Plans
+pub use Rattle.dft_expect.specs.Captures
+pub use Rattle.dft_expect.specs.Expected
+pub mod Signals
+pub mod OwnPorts
+pub mod AddedPorts
+pub mod PatternData
+pub mod VectorList
+pub mod Tables
+pub mod Segments
+pub mod Listing
+pub mod ListSteps
+pub mod Shown

@@ -1,0 +1,170 @@
+//! Lists of vectors, pattern after pattern.
+
+ghost use Rattle.std.specs.Prelude.{◌≡◌, ◌+◌, ◌<◌, ◌≤◌, ◌++◌, ◌∷◌, [], List, None, length, replicate, IfSome, IfOk, OnOk};
+ghost use Rattle.dft_config.specs.Range.{IsInRange};
+ghost use Rattle.dft_vectors.specs.Listing.{Lists};
+ghost use Rattle.dft_vectors.specs.ListSteps.{begun_by, ended_by};
+ghost use Rattle.dft_base.specs.Packed.{packed_bit};
+ghost use Rattle.dft_lanes.specs.Rows.{words_for};
+ghost use Rattle.dft_expect.specs.Loaded.{table_of};
+ghost use Rattle.dft_vectors.specs.PatternData.{Fits, PatternData, columns_of, data_of, data_if_any};
+ghost use Rattle.dft_vectors.specs.VectorList as spec;
+
+use crate::layout::{Layout, look_up};
+use crate::loads::{add_load, no_bits};
+use crate::notes::notes_of;
+use crate::pattern::Pattern;
+use crate::signals::signals_of;
+use dft_config::Config;
+use dft_netlist::Design;
+use dft_patterns::{Acts, PatternSet};
+use dft_stitch::Chains;
+use std::alloc::{AllocError, Global};
+use std::marker::Model;
+
+/// The vectors of patterns of a design behind compression hardware (Rajski and others, 2004), pattern after pattern. A clause sees
+/// the design, the configuration, the chains, the vectors so far and how many patterns they are of.
+#[derive(Drop)]
+pub struct VectorList<'a> {
+    layout: Layout<'a>,
+    vectors: Vec<Acts>,
+    count: u32,
+}
+
+impl<'a> Model for VectorList<'a> {
+    ghost use Rattle.dft_vectors.specs.Listing.{Listing};
+
+    ghost Value = { Listing };
+
+    ghost use Rattle.dft_vectors.specs.Shown.{listing_of, IsVectorList};
+
+    ghost view = { listing_of };
+
+    ghost invariant = { IsVectorList };
+}
+
+impl<'a> VectorList<'a> {
+    /// No vector yet.
+    pub fn new(
+        alloc: Global,
+        design: &'a Design,
+        config: &'a Config,
+        chains: &'a Chains,
+    ) -> Result<VectorList<'a>, AllocError>
+        requires range { IsInRange config.now }
+        requires chains { length chains.now.chains ≡ config.now.chains }
+        requires cycles { chains.now.cycles ≤ 4096 }
+        ensures { IfOk result (λ list. list ≡ record { design = design.entry.now; config = config.entry.now; plan = chains.entry.now; vectors = []; count = 0 }) }
+    {
+        Ok(VectorList {
+            layout: look_up(alloc, design, config, chains)?,
+            vectors: Vec::new(alloc),
+            count: 0,
+        })
+    }
+
+    /// Adds the set-up vector, where there is no pattern yet.
+    fn set_up(&mut self) -> Result<(), AllocError>
+        ensures { OnOk result (self.new ≡ record self.old { vectors = begun_by self.old }) }
+    {
+        if self.count == 0 {
+            let mut acts = Vec::new(self.layout.alloc);
+            self.layout.push_set_up(&mut acts)?;
+            self.vectors.push(Acts::copied(self.layout.alloc, &acts)?)?;
+        }
+        Ok(())
+    }
+
+    /// Adds the load of a pattern.
+    fn load(&mut self, last: Option<Pattern<'_>>, pattern: Pattern<'_>) -> Result<(), AllocError>
+        requires last { IfSome last (Fits self.old.config self.old.plan) }
+        requires pattern { Fits self.old.config self.old.plan pattern }
+        ensures { OnOk result (self.new ≡ record self.old {
+          vectors = self.old.vectors
+              ++ spec.load_vectors self.old.design self.old.config self.old.plan (table_of self.old.config.ring (packed_bit pattern.entry.bits.now)) pattern.entry.masks.now (data_if_any self.old.config self.old.plan last.entry);
+        }) }
+    {
+        add_load(
+            &mut self.vectors,
+            &self.layout,
+            last,
+            pattern.bits,
+            pattern.masks,
+        )?;
+        Ok(())
+    }
+
+    /// Adds the capture vector of a pattern.
+    fn capture(&mut self, pattern: Pattern<'_>) -> Result<(), AllocError>
+        ensures { OnOk result (self.new ≡ record self.old {
+          vectors = self.old.vectors
+              ++ spec.capture_with self.old.design self.old.config pattern.entry.merged.now pattern.entry.response.now.outputs ∷ [];
+        }) }
+    {
+        let mut acts = Vec::new(self.layout.alloc);
+        let outputs = pattern.response.outputs.as_slice();
+        self.layout
+            .push_capture(&mut acts, pattern.merged, outputs)?;
+        self.vectors.push(Acts::copied(self.layout.alloc, &acts)?)?;
+        Ok(())
+    }
+
+    /// Adds the load and the capture of a pattern behind the last one, and before the first the set-up vector.
+    pub fn add(&mut self, last: Option<Pattern<'_>>, pattern: Pattern<'_>) -> Result<(), AllocError>
+        requires few { self.old.count < 65536 }
+        requires last { IfSome last (Fits self.old.config self.old.plan) }
+        requires pattern { Fits self.old.config self.old.plan pattern }
+        ensures same { OnOk result (self.new ≡ record self.old { vectors = self.new.vectors; count = self.old.count + 1 }) }
+        ensures added { OnOk result ((patterns : List PatternData) → Lists self.old patterns → data_if_any self.old.config self.old.plan last.entry ≡ spec.last_of None patterns
+            → Lists self.new (patterns ++ data_of self.old.config self.old.plan pattern.entry ∷ [])) }
+    {
+        self.set_up()?;
+        self.load(last, pattern)?;
+        self.capture(pattern)?;
+        self.count += 1;
+        Ok(())
+    }
+
+    /// Adds a load without a channel bit or a mask.
+    fn last_load(&mut self, last: Option<Pattern<'_>>) -> Result<(), AllocError>
+        requires last { IfSome last (Fits self.old.config self.old.plan) }
+        ensures { OnOk result (self.new ≡ record self.old {
+          vectors = self.old.vectors
+              ++ spec.load_vectors self.old.design self.old.config self.old.plan (table_of self.old.config.ring (packed_bit (replicate (words_for (columns_of self.old.config self.old.plan)) 0))) [] (data_if_any self.old.config self.old.plan last.entry);
+        }) }
+    {
+        let bits = no_bits(&self.layout)?;
+        add_load(&mut self.vectors, &self.layout, last, &bits, &[])?;
+        Ok(())
+    }
+
+    /// Adds the last load, where there is a pattern.
+    fn unload(&mut self, last: Option<Pattern<'_>>) -> Result<(), AllocError>
+        requires last { IfSome last (Fits self.old.config self.old.plan) }
+        ensures { OnOk result (self.new ≡ record self.old { vectors = ended_by self.old (table_of self.old.config.ring (packed_bit (replicate (words_for (columns_of self.old.config self.old.plan)) 0))) (data_if_any self.old.config self.old.plan last.entry) }) }
+    {
+        if self.count == 0 {
+            return Ok(());
+        }
+        self.last_load(last)?;
+        Ok(())
+    }
+
+    /// The patterns, in the signals of the written netlist. A load whose channel and mask bits are 0 unloads the last pattern, and notes
+    /// stand before the set-up vector, before each load, and before the last one.
+    pub fn finish(
+        mut self,
+        written: &Design,
+        last: Option<Pattern<'_>>,
+    ) -> Result<PatternSet, AllocError>
+        requires last { IfSome last (Fits self.config self.plan) }
+        ensures { IfOk result (λ set. (patterns : List PatternData) → Lists self.entry patterns → data_if_any self.entry.config self.entry.plan last.entry ≡ spec.last_of None patterns
+            → set ≡ spec.patterns_of written.now self.entry.design self.entry.config self.entry.plan patterns) }
+    {
+        self.unload(last)?;
+        let alloc = self.layout.alloc;
+        let signals = signals_of(alloc, written)?;
+        let notes = notes_of(alloc, self.layout.chains.cycles(), self.count)?;
+        Ok(PatternSet::noted(signals, self.vectors, notes))
+    }
+}
