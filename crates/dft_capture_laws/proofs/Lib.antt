@@ -1,1 +1,3 @@
+mod Inputs
+mod Named
 mod Standing

@@ -15,6 +15,8 @@ use Rattle.dft_cells.proofs.Completions.{above_self}
 use Rattle.dft_netlist.specs.declared.ids.NetId.{NetId}
 use Rattle.dft_netlist.specs.declared.ids.InstanceId.{InstanceId}
 use Rattle.dft_netlist.specs.declared.port.Port.{Port}
+use Rattle.dft_netlist.specs.Connections.{is_input}
+use Rattle.dft_netlist.specs.Drivers.{driver}
 use Rattle.dft_netlist.specs.Netlist.{Netlist}
 use Rattle.dft_netlist.specs.NetNumbers.{nets_from}
 use Rattle.dft_netlist.specs.Runs.{Vector}
@@ -32,8 +34,9 @@ use Rattle.dft_cubes.specs.declared.cube.Merged.{Merged}
 use Rattle.dft_expect.specs.Loaded.{bit_of_cell, loaded_values, or_unknown}
 use Rattle.dft_expect.specs.Captures.{bits_out, capture_clock, capture_vector, captured_value, config_ports, original, output_bits}
 use Rattle.dft_expect.specs.Capturing.{cells_in}
-use Rattle.dft_expect.proofs.GivenLemmas.{number_modelled, stays}
+use Rattle.dft_expect.proofs.GivenLemmas.{number_modelled}
 use Rattle.dft_capture_laws.specs.Statements.{AreLoaded, CapturesStandOver, IsCaptureVector, value_in}
+use Rattle.dft_capture_laws.proofs.Inputs.{data_above, data_next, data_settled, data_stays, data_vector}
 
 -- ---- the loaded bits
 
@@ -63,8 +66,11 @@ loaded_over : (n : Netlist) (config : Config) (loaded : List Bool) (old : ℕ �
 loaded_over n config loaded old c are = over_by n config loaded old c (bit_of_cell (cells_in n config) loaded c) are refl
 
 stands_over : (n : Netlist) (config : Config) (merged : Merged) (loaded : List Bool) (p : Places) (x : Vector) (old : ℕ → Tri) → IsCaptureVector n config merged p x → AreLoaded n config loaded old
-    → StandsOver p (capture_vector n config merged) x (loaded_values (plan_of n config).chains loaded) old
-stands_over n config merged loaded p x old vector are = record { ports = vector.ports; flops = λ cell is. loaded_over n config loaded old cell are }
+    → StandsOver p (data_vector n config merged) x (loaded_values (plan_of n config).chains loaded) old
+stands_over n config merged loaded p x old vector are = record {
+  ports = λ net less. data_above (is_input (driver n net)) ((config_ports n config).is_clock net) ((capture_vector n config merged).ports net) (x.ports (p.moved net)) (λ input own. vector.ports net less input own);
+  flops = λ cell is. loaded_over n config loaded old cell are;
+}
 
 -- ---- the bits of output ports are nets
 
@@ -129,21 +135,22 @@ swapped a b e = grind (arith, nat_tests)
 
 pub stand_over : CapturesStandOver
 stand_over n rank config merged loaded r written p x old can ordered captured covers places vector are =
-    let y : Vector = capture_vector n config merged in
+    let y : Vector = data_vector n config merged in
     let its : ℕ → Tri = loaded_values (plan_of n config).chains loaded in
     let ranked = order_is_rank n (config_ports n config) rank ordered in
     let over : StandsOver p y x its old = stands_over n config merged loaded p x old vector are in
+    let settled_over = data_settled n config merged its captured.values can.range captured.settled in
     let clock : ℕ = vector.clock.0 in (
       λ shows settled number net at. subst (λ (t : Tri). AboveTri t (shows (p.moved net.0))) (sym (value_at (λ (k : NetId). captured.values k.0) r.outputs (output_bits n.ports) number net captured.outputs at))
-          (strobe_law (original n config) written rank p y x its old captured.values shows ranked covers over captured.settled settled net.0 (subst (λ (k : ℕ). net.0 < k) (sym places.size) (output_live n number net can.netlist at))),
+          (strobe_law (original n config) written rank p y x its old captured.values shows ranked covers over settled_over settled net.0 (subst (λ (k : ℕ). net.0 < k) (sym places.size) (output_live n number net can.netlist at))),
       λ poss view views number cell at. (
           let domain : ℕ = ((original n config).cell cell.0).domain in
           let flop : p.is_flop cell.0 ≡ true = places.flops cell.0 ∙ ap is_some (number_modelled n config number cell.0 can at).flop in
-          let law = capture_law (original n config) written rank p clock y x its old poss view captured.values ranked covers vector.pulses over captured.settled views cell.0 flop in
+          let law = capture_law (original n config) written rank p clock y x its old poss view captured.values ranked covers vector.pulses over settled_over views cell.0 flop in
           let pulsed : is_net domain (capture_clock n config merged.domain) ≡ (clock == domain) = ap (is_net domain) vector.captures in
           let after : Tri = after_pulse written (pulse_of written x old) view cell.0 in
           subst (λ (t : Tri). AboveTri t after) (sym (value_at (λ (c : InstanceId). captured_value n config (plan_of n config).chains merged loaded captured.values c.0) r.cells (cells_in n config) number cell captured.cells at))
           (above_if (is_net domain (capture_clock n config merged.domain)) _ (its cell.0) after
-          (λ up. law.0 (sym (eqb-true clock domain (sym pulsed ∙ up))))
-          (λ down. subst (λ (t : Tri). AboveTri t after) (stays n config merged cell.0 (its cell.0)) (law.1 (swapped clock domain (sym pulsed ∙ down)))))),
+          (λ up. subst (λ (t : Tri). AboveTri t after) (data_next n config merged captured.values cell.0 can.range) (law.0 (sym (eqb-true clock domain (sym pulsed ∙ up)))))
+          (λ down. subst (λ (t : Tri). AboveTri t after) (data_stays n config merged cell.0 (its cell.0) can.range) (law.1 (swapped clock domain (sym pulsed ∙ down)))))),
     )

@@ -1,12 +1,13 @@
 -- What a capture knows stands above what a netlist that covers the design does, as a scanned one under the ports of a pattern set.
-use Rattle.std.specs.Prelude.{ℕ, Bool, ◌≡◌, ◌<◌, List, length, Some, is_some, slice_get, slice_index_or}
+use Rattle.std.specs.Prelude.{ℕ, Bool, true, false, ◌≡◌, ◌<◌, List, length, Some, is_some, slice_get, slice_index_or}
 use Rattle.dft_base.specs.declared.tri.Tri.{Tri}
 use Rattle.dft_base.specs.declared.tri.Tri.TheVariants.{Unknown}
 use Rattle.dft_base.specs.Tri.{known, AboveTri}
 use Rattle.dft_netlist.specs.declared.ids.NetId.{NetId}
 use Rattle.dft_netlist.specs.declared.ids.InstanceId.{InstanceId}
 use Rattle.dft_netlist.specs.Netlist.{Netlist}
-use Rattle.dft_netlist.specs.Drivers.{IsOrdered}
+use Rattle.dft_netlist.specs.Connections.{is_input}
+use Rattle.dft_netlist.specs.Drivers.{IsOrdered, driver}
 use Rattle.dft_netlist.specs.Logic.{Logic, flip_flop}
 use Rattle.dft_netlist.specs.Settled.{IsTriSettled}
 use Rattle.dft_netlist.specs.Runs.{Vector}
@@ -25,12 +26,13 @@ pub record ArePlacesOf (n : Netlist) (config : Config) (p : Places) : Type 0 whe
   pub size : p.size ≡ length n.nets
   pub flops : (i : ℕ) → p.is_flop i ≡ is_some (flip_flop n (config_ports n config) i)
 
--- the vector is the capture of a pattern: of the design's clocks the pattern's pulses alone, scan_enable is 0, and the design's ports have their values
+-- the vector is the capture of a pattern: of the design's clocks the pattern's pulses alone, scan_enable is 0, and the design's input ports have
+-- their values; nothing is said of what clock ports are set to, nor of nets that are no input ports
 pub record IsCaptureVector (n : Netlist) (config : Config) (merged : Merged) (p : Places) (x : Vector) : Type 0 where
   pub clock : NetId
   pub captures : capture_clock n config merged.domain ≡ Some clock
   pub pulses : IsCaptureOf p clock.0 x
-  pub ports : (net : ℕ) → net < p.size → AboveTri ((capture_vector n config merged).ports net) (x.ports (p.moved net))
+  pub ports : (net : ℕ) → net < p.size → is_input (driver n net) ≡ true → (config_ports n config).is_clock net ≡ false → AboveTri ((capture_vector n config merged).ports net) (x.ports (p.moved net))
 
 -- the cells of the chains have their loaded bits; nothing is said of other flip-flops
 abbrev pub AreLoaded : Netlist → Config → (loaded : List Bool) → (old : ℕ → Tri) → Type 0
