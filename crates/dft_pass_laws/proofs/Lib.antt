@@ -1,0 +1,5 @@
+pub mod Rows
+pub mod Fine
+pub mod Listing
+pub mod Deciding
+pub mod Fitting

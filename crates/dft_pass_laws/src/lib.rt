@@ -1,0 +1,6 @@
+//! Laws of replayed pattern sets: the rows that a replay makes of compiled patterns do what these list.
+#![tactic(auto)]
+
+mod laws;
+
+pub use laws::rows_play;
