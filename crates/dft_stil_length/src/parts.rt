@@ -1,6 +1,6 @@
 //! The lengths of parts of the written form. None where a number of 64 bits does not hold it.
 
-ghost use Rattle.std.specs.Prelude.{◌≡◌, ◌<◌, ◌^◌, length, IfSome};
+ghost use Rattle.std.specs.Prelude.{◌≡◌, ◌<◌, ◌≤◌, ◌^◌, length, IfSome, None};
 ghost use Rattle.std.specs.List.{sum_by};
 ghost use Rattle.dft_stil_out.specs.Written as form;
 ghost use Rattle.dft_stil_length.specs.WrittenLength as spec;
@@ -11,7 +11,8 @@ use itoa::Buffer;
 
 /// The bytes of names.
 pub(crate) fn name_bytes(signals: &[StilSignal]) -> Option<u64>
-    ensures { IfSome result (λ n. n ≡ spec.name_bytes signals.now) }
+    ensures length { IfSome result (λ n. n ≡ spec.name_bytes signals.now) }
+    ensures large { result ≡ None → 2 ^ 64 ≤ spec.name_bytes signals.now }
 {
     let mut bytes: u64 = 0;
     for signal in signals {
@@ -21,7 +22,8 @@ pub(crate) fn name_bytes(signals: &[StilSignal]) -> Option<u64>
 }
 
 fn declaration_length(signal: &StilSignal) -> Option<u64>
-    ensures { IfSome result (λ n. n ≡ length (form.declaration signal.now)) }
+    ensures length { IfSome result (λ n. n ≡ length (form.declaration signal.now)) }
+    ensures large { result ≡ None → 2 ^ 64 ≤ length (form.declaration signal.now) }
 {
     let name = signal.name.as_slice().len() as u64;
     match signal.dir {
@@ -32,7 +34,8 @@ fn declaration_length(signal: &StilSignal) -> Option<u64>
 
 /// The lines that declare signals.
 pub(crate) fn declarations_length(signals: &[StilSignal]) -> Option<u64>
-    ensures { IfSome result (λ n. n ≡ spec.declarations_length signals.now) }
+    ensures length { IfSome result (λ n. n ≡ spec.declarations_length signals.now) }
+    ensures large { result ≡ None → 2 ^ 64 ≤ spec.declarations_length signals.now }
 {
     let mut bytes: u64 = 0;
     for signal in signals {
@@ -44,7 +47,8 @@ pub(crate) fn declarations_length(signals: &[StilSignal]) -> Option<u64>
 /// The line of a group of signals, with a label of so many letters.
 pub(crate) fn group_length(label: u64, signals: &[StilSignal]) -> Option<u64>
     requires label { label < 10 }
-    ensures { IfSome result (λ n. n ≡ spec.group_length label (length signals.now) (spec.name_bytes signals.now)) }
+    ensures length { IfSome result (λ n. n ≡ spec.group_length label (length signals.now) (spec.name_bytes signals.now)) }
+    ensures large { result ≡ None → 2 ^ 64 ≤ spec.group_length label (length signals.now) (spec.name_bytes signals.now) }
 {
     let [_, others @ ..] = signals else {
         return Some(0);
@@ -63,7 +67,8 @@ pub(crate) fn waves_length(signals: &[StilSignal], bytes: u64) -> u64
 }
 
 fn assignment_length(label: u64, signals: usize) -> Option<u64>
-    ensures { IfSome result (λ n. n ≡ spec.assignment_length label signals) }
+    ensures length { IfSome result (λ n. n ≡ spec.assignment_length label signals) }
+    ensures large { result ≡ None → 2 ^ 64 ≤ spec.assignment_length label signals }
 {
     if signals == 0 {
         Some(0)
@@ -74,7 +79,8 @@ fn assignment_length(label: u64, signals: usize) -> Option<u64>
 
 /// The line of a vector.
 pub(crate) fn line_length(inputs: usize, outputs: usize) -> Option<u64>
-    ensures { IfSome result (λ n. n ≡ spec.line_length inputs outputs) }
+    ensures length { IfSome result (λ n. n ≡ spec.line_length inputs outputs) }
+    ensures large { result ≡ None → 2 ^ 64 ≤ spec.line_length inputs outputs }
 {
     let inputs = assignment_length(6, inputs)?;
     let outputs = assignment_length(9, outputs)?;
@@ -94,7 +100,8 @@ fn note_length(note: Note) -> u64
 
 /// The lines of notes.
 pub(crate) fn notes_length(notes: &[Note]) -> Option<u64>
-    ensures { IfSome result (λ n. n ≡ spec.notes_length notes.now) }
+    ensures length { IfSome result (λ n. n ≡ spec.notes_length notes.now) }
+    ensures large { result ≡ None → 2 ^ 64 ≤ spec.notes_length notes.now }
 {
     let mut bytes: u64 = 0;
     for note in notes {
