@@ -1,0 +1,4 @@
+pub mod PlacingLemmas
+pub mod PlanLemmas
+pub mod FillingLemmas
+pub mod WidthLemmas
