@@ -9,7 +9,9 @@ use Rattle.dft_cubes.specs.declared.cube.Merged.{Merged}
 use Rattle.dft_merge.specs.declared.placed.Placed.{Placed}
 use Rattle.dft_vectors.specs.PatternData.{PatternData}
 use Rattle.dft_encode.specs.Compiled.{ArePatterns, Placing}
+use Rattle.dft_encode.specs.Counts.{masked_in}
 use Rattle.dft_compile.specs.declared.texts.CompileTexts.{CompileTexts}
+use Rattle.dft_compile.specs.declared.writing.PatternText.{PatternText}
 use Rattle.dft_compile.specs.Refusals.{late_refusal}
 use Rattle.dft_compile.specs.Texts.{counts_of, netlist_text, pattern_text, report_text}
 
@@ -28,3 +30,10 @@ pub record AreTextsOf (n : Netlist) (config : Config) (cubes : List Cube) (rows 
 pub record IsCompileOf (n : Netlist) (config : Config) (cubes : List Cube) (t : CompileTexts) : Type 0 where
   pub placing : Placing config (plan_of n config) cubes
   pub texts : AreTextsOf n config cubes placing.rows placing.placed placing.merged t
+
+-- the text of the patterns of these merged cubes, and how many chains are masked in them
+pub record IsPatternText (n : Netlist) (config : Config) (rows : LoadRows) (merged : List Merged) (p : PatternText) : Type 0 where
+  pub list : List PatternData
+  pub are : ArePatterns n config (plan_of n config) rows merged list
+  pub text : p.text.items ≡ pattern_text n config list
+  pub masked : p.masked ≡ masked_in list

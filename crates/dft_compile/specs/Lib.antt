@@ -7,4 +7,5 @@ pub mod Texts
 pub mod Refusals
 pub mod Compilation
 pub mod Prepared
+pub mod Working
 pub mod Laws

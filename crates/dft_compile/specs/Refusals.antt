@@ -57,18 +57,23 @@ IsRefusal refused (Memory error) = Unit {0}
 
 -- ---- behind the cubes
 
--- the bytes of the text of so many patterns, which are told before any of them is made
+-- the bytes of the text of so many patterns in the signals of this netlist, which are told before any pattern is made
+abbrev pub set_bytes : (written : Netlist) → (cycles patterns : ℕ) → ℕ
+set_bytes written cycles patterns = written_length (signals_of written) (vectors_in cycles patterns) (notes_of cycles patterns)
+
 abbrev pub pattern_bytes : Netlist → Config → (patterns : ℕ) → ℕ
-pattern_bytes n config patterns =
-    let cycles = (plan_of n config).cycles in written_length (signals_of (scanned Edt n config)) (vectors_in cycles patterns) (notes_of cycles patterns)
+pattern_bytes n config patterns = set_bytes (scanned Edt n config) (plan_of n config).cycles patterns
 
 -- a pattern text of so many bytes is too long
 abbrev pub too_many : (bytes : ℕ) → Option WriteError
 too_many bytes = if nat_lt MAX_TEXT bytes then Some (P6 bytes) else None
 
--- a report is too long
+-- a report of so many bytes is too long
+abbrev pub of_length : (bytes : ℕ) → Option ReportError
+of_length bytes = if nat_lt MAX_BYTES bytes then Some (K6 (pos bytes)) else None
+
 abbrev pub too_long : Text → Option ReportError
-too_long text = if nat_lt MAX_BYTES (length text) then Some (K6 (pos (length text))) else None
+too_long text = of_length (length text)
 
 -- the checks where this became of the cubes, and there are so many patterns
 abbrev pub late_checks : Netlist → Config → List Cube → LoadRows → List Placed → (patterns : ℕ) → List (Option CompileError)

@@ -1,5 +1,5 @@
 -- The texts of a compilation, and what is counted.
-use Rattle.std.specs.Prelude.{Bool, true, false, List, length, count_by}
+use Rattle.std.specs.Prelude.{ℕ, Bool, true, false, List, length, count_by}
 use Rattle.dft_base.specs.Lexing.{Text}
 use Rattle.dft_netlist.specs.Netlist.{Netlist}
 use Rattle.dft_config.specs.declared.config.Config.{Config}
@@ -19,7 +19,8 @@ use Rattle.dft_scan_hardware.specs.declared.style.Style.TheVariants.{Edt}
 use Rattle.dft_scan_hardware.specs.Statements.{scanned}
 use Rattle.dft_vectors.specs.PatternData.{PatternData}
 use Rattle.dft_vectors.specs.VectorList.{patterns_of}
-use Rattle.dft_encode.specs.Finding.{masked_in}
+use Rattle.dft_encode.specs.Counts.{masked_in}
+use Rattle.dft_encode.specs.Laws.{vectors_in}
 use Rattle.dft_compile.specs.declared.texts.Counts.{Counts}
 use Rattle.dft_compile.specs.Reports.{compile_report}
 
@@ -58,16 +59,20 @@ is_skipped (Into pattern) = false
 is_skipped (Unsolvable positions) = false
 is_skipped (Skipped cell) = true
 
--- what is counted, where this became of the cubes and these are the patterns; a masked chain counts once for each pattern
-abbrev pub counts_of : Netlist → Config → List Placed → List PatternData → Counts
-counts_of n config placed list = record {
+-- what is counted, where this became of the cubes, there are so many patterns, and so many chains are masked in them
+abbrev pub counts_by : Netlist → Config → List Placed → (patterns masked : ℕ) → Counts
+counts_by n config placed patterns masked = record {
   cells = scanned_count (judgements n config);
   chains = length (plan_of n config).chains;
   cycles = (plan_of n config).cycles;
-  patterns = length list;
+  patterns = patterns;
   encoded = count_by is_encoded placed;
   unsolvable = count_by is_unsolvable placed;
   skipped = count_by is_skipped placed;
-  masked = masked_in list;
-  vectors = length (pattern_set n config list).vectors;
+  masked = masked;
+  vectors = vectors_in (plan_of n config).cycles patterns;
 }
+
+-- the same of these patterns; a masked chain counts once for each pattern, and the vectors are those of the pattern set
+abbrev pub counts_of : Netlist → Config → List Placed → List PatternData → Counts
+counts_of n config placed list = record (counts_by n config placed (length list) (masked_in list)) { vectors = length (pattern_set n config list).vectors }

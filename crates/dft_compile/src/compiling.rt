@@ -42,7 +42,7 @@ pub fn compile(
     ensures refused { IfErr result (IsLate design.now config.now cubes.now) }
 {
     let chains = &prepared.chains;
-    let equations = load_equations(alloc, config, chains)?;
+    let equations = load_equations(alloc, design, config, chains)?;
     let mut merger = Merger::new(alloc, config, chains, &equations)?;
     let placed = place_all(alloc, &mut merger, cubes)?;
     let work = Work {

@@ -4,5 +4,7 @@ pub use Rattle.dft_expect.specs.Captures
 pub use Rattle.dft_vectors.specs.VectorList
 pub use Rattle.dft_vectors.specs.Listing
 pub mod Compiled
+pub mod Counts
+pub mod Encoding
 pub mod Finding
 pub mod Laws

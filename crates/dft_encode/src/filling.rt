@@ -1,22 +1,29 @@
 //! The vectors of all patterns.
 
-ghost use Rattle.std.specs.Prelude.{◌≡◌, ◌+◌, ◌*◌, ◌<◌, ◌≤◌, ◌++◌, ◌∷◌, [], List, None, length, count_by, take, IfOk, IfSome, OnOk};
+ghost use Rattle.std.specs.Prelude.{ℕ, ◌≡◌, ◌+◌, ◌<◌, ◌≤◌, ◌++◌, ◌∷◌, [], List, None, Some, length, count_by, slice_get, IfOk, IfSome, OnOk};
+ghost use Rattle.dft_cubes.specs.declared.cube.Merged.{Merged};
+ghost use Rattle.dft_expect.specs.Captures.{IsCapture};
 ghost use Rattle.dft_vectors.specs.Listing.{Lists};
 ghost use Rattle.dft_vectors.specs.PatternData.{PatternData};
 ghost use Rattle.dft_vectors.specs.VectorList.{last_of};
-ghost use Rattle.dft_encode.specs.Finding.{FitsFound, HasPatterns, IsFinder, data_found, is_set, last_found};
+ghost use Rattle.dft_encode.specs.Finding.{AreLoads, Captured, FitsFound, HasPatterns, IsFinder, IsLoad, data_found, is_set, last_found};
 
-use crate::finding::{Finder, find};
-use crate::found::Found;
-use dft_expect::Capturer;
+use crate::captures::captures;
+use crate::finder::Finder;
+use crate::found::{Found, found};
+use crate::loads::{Load, loads};
+use dft_expect::{Capturer, Response};
 use dft_vectors::VectorList;
 use std::alloc::AllocError;
 
+/// So many patterns are captured at once.
+const GROUP: usize = 512;
+
 /// What was found of the last pattern, and how many chains are masked, each once for each pattern.
 #[derive(Debug, Drop)]
-pub struct Filled {
-    pub last: Option<Found>,
-    pub masked: u64,
+pub(crate) struct Filled {
+    pub(crate) last: Option<Found>,
+    pub(crate) masked: u64,
 }
 
 /// How many chains are masked.
@@ -42,50 +49,95 @@ fn add(list: &mut VectorList<'_>, last: &Option<Found>, found: &Found) -> Result
     }
 }
 
-/// Adds the pattern of the next number.
+/// Adds the pattern of this number, which is the next one.
 fn step(
     finder: &Finder<'_>,
-    capturer: &mut Capturer<'_>,
     list: &mut VectorList<'_>,
     filled: &mut Filled,
     number: usize,
+    load: &Load,
+    response: &Response,
 ) -> Result<(), AllocError>
-    requires finder { IsFinder capturer.old.design finder.now }
-    requires config { capturer.old.config ≡ finder.now.config.now }
+    requires finder { IsFinder finder.now }
     requires number { number < length finder.now.merger.now.patterns }
-    requires few { length finder.now.merger.now.patterns ≤ 65536 }
-    requires list { (list.old.design ≡ capturer.old.design) × (list.old.config ≡ finder.now.config.now) × (list.old.plan ≡ finder.now.chains.now) }
-    requires before { HasPatterns finder.now.merger.now.rows (take number finder.now.merger.now.patterns) filled.old list.old }
-    ensures capturer { capturer.new ≡ capturer.old }
-    ensures list { OnOk result ((list.new.design ≡ list.old.design) × (list.new.config ≡ list.old.config) × (list.new.plan ≡ list.old.plan)) }
-    ensures after { OnOk result (HasPatterns finder.now.merger.now.rows (take (number + 1) finder.now.merger.now.patterns) filled.new list.new) }
+    requires load { IsLoad finder.now number load.now }
+    requires captured { (merged : Merged) → slice_get finder.now.merger.now.patterns number ≡ Some merged →
+        IsCapture finder.now.design.now finder.now.config.now finder.now.chains.now.chains merged load.now.cells response.now }
+    requires before { HasPatterns finder.now number filled.old list.old }
+    ensures { OnOk result (HasPatterns finder.now (number + 1) filled.new list.new) }
 {
-    let found = find(finder, capturer, number as u32)?;
+    let found = found(finder, number, load, response)?;
     add(list, &filled.last, &found)?;
     filled.masked += masked(found.masks.as_slice()) as u64;
     filled.last = Some(found);
     Ok(())
 }
 
+/// Adds the patterns from this number on, with these loads and responses.
+fn steps(
+    finder: &Finder<'_>,
+    list: &mut VectorList<'_>,
+    filled: &mut Filled,
+    first: usize,
+    loads: &[Load],
+    responses: &[Response],
+) -> Result<(), AllocError>
+    requires finder { IsFinder finder.now }
+    requires count { first + length loads.now ≤ length finder.now.merger.now.patterns }
+    requires loads { AreLoads finder.now first loads.now }
+    requires captured { Captured finder.now first loads.now responses.now }
+    requires before { HasPatterns finder.now first filled.old list.old }
+    ensures { OnOk result (HasPatterns finder.now (first + length loads.now) filled.new list.new) }
+{
+    for k in 0..loads.len() {
+        step(finder, list, filled, first + k, &loads[k], &responses[k])?;
+    }
+    Ok(())
+}
+
+/// Adds the next patterns, so many, which are captured at once.
+fn group(
+    finder: &Finder<'_>,
+    capturer: &mut Capturer<'_>,
+    list: &mut VectorList<'_>,
+    filled: &mut Filled,
+    first: usize,
+    count: usize,
+) -> Result<(), AllocError>
+    requires finder { IsFinder finder.now }
+    requires capturer { capturer.old ≡ record { design = finder.now.design.now; config = finder.now.config.now } }
+    requires few { count ≤ 512 }
+    requires count { first + count ≤ length finder.now.merger.now.patterns }
+    requires before { HasPatterns finder.now first filled.old list.old }
+    ensures same { capturer.new ≡ capturer.old }
+    ensures after { OnOk result (HasPatterns finder.now (first + count) filled.new list.new) }
+{
+    let loads = loads(finder, first, count)?;
+    let responses = captures(finder, capturer, first, &loads)?;
+    steps(finder, list, filled, first, &loads, &responses)
+}
+
 /// Adds all patterns to a list of vectors that has none.
-pub fn fill(
+pub(crate) fn fill(
     finder: &Finder<'_>,
     capturer: &mut Capturer<'_>,
     list: &mut VectorList<'_>,
 ) -> Result<Filled, AllocError>
-    requires finder { IsFinder capturer.old.design finder.now }
-    requires config { capturer.old.config ≡ finder.now.config.now }
-    requires few { length finder.now.merger.now.patterns ≤ 65536 }
-    requires list { list.old ≡ record { design = capturer.old.design; config = finder.now.config.now; plan = finder.now.chains.now; vectors = []; count = 0 } }
-    ensures list { OnOk result ((list.new.design ≡ list.old.design) × (list.new.config ≡ list.old.config) × (list.new.plan ≡ list.old.plan)) }
-    ensures filled { IfOk result (λ filled. HasPatterns finder.now.merger.now.rows finder.now.merger.now.patterns filled list.new) }
+    requires finder { IsFinder finder.now }
+    requires capturer { capturer.old ≡ record { design = finder.now.design.now; config = finder.now.config.now } }
+    requires list { list.old ≡ record { design = finder.now.design.now; config = finder.now.config.now; plan = finder.now.chains.now; vectors = []; count = 0 } }
+    ensures { IfOk result (λ filled. HasPatterns finder.now (length finder.now.merger.now.patterns) filled list.new) }
 {
     let mut filled = Filled {
         last: None,
         masked: 0,
     };
-    for number in 0..finder.merger.patterns().len() {
-        step(finder, capturer, list, &mut filled, number)?;
+    let all = finder.merger.patterns().len();
+    let mut first = 0;
+    while first < all {
+        let count = (all - first).min(GROUP);
+        group(finder, capturer, list, &mut filled, first, count)?;
+        first += count;
     }
     Ok(filled)
 }

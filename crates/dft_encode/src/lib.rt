@@ -2,16 +2,17 @@
 #![tactic(auto)]
 
 mod bits;
+mod captures;
+mod encoding;
 mod filling;
-mod finding;
+mod finder;
 mod found;
 mod laws;
+mod loads;
 mod placing;
 mod settings;
 
-pub use filling::{Filled, fill};
-pub use finding::Finder;
-pub use found::Found;
+pub use encoding::{Encoded, encode};
 pub use laws::vectors_have_width;
 pub use placing::place_all;
-pub use settings::{always_masked, lengths_of};
+pub use settings::lengths_of;

@@ -34,7 +34,7 @@ fn is_listed(chains: &[u16], chain: u16) -> bool
 }
 
 /// For each chain whether the configuration always masks it.
-pub fn always_masked(alloc: Global, config: &Config) -> Result<Vec<bool>, AllocError>
+pub(crate) fn always_masked(alloc: Global, config: &Config) -> Result<Vec<bool>, AllocError>
     ensures { IfOk result (λ always. always.items ≡ always_of config.now) }
 {
     let mut always = Vec::with_capacity(alloc, usize::from(config.chains))?;
