@@ -2,6 +2,7 @@
 use Rattle.std.specs.Prelude.{◌≡◌, List, length}
 use Rattle.dft_netlist.specs.Netlist.{Netlist}
 use Rattle.dft_config.specs.declared.config.Config.{Config}
+use Rattle.dft_config.specs.Range.{IsInRange}
 use Rattle.dft_equations.specs.LoadRows.{LoadRows}
 use Rattle.dft_stitch.specs.Chains.{plan_of}
 use Rattle.dft_cubes.specs.declared.cube.Merged.{Merged}
@@ -13,5 +14,5 @@ use Rattle.dft_compile.specs.Texts.{pattern_text}
 -- The bytes that are told before any pattern is made are those of the text of the patterns.
 abbrev pub BytesAreTold : Type 0
 BytesAreTold =
-    (n : Netlist) (config : Config) (rows : LoadRows) (merged : List Merged) (list : List PatternData) → ArePatterns n config (plan_of n config) rows merged list →
+    (n : Netlist) (config : Config) (rows : LoadRows) (merged : List Merged) (list : List PatternData) → IsInRange config → ArePatterns n config (plan_of n config) rows merged list →
     length (pattern_text n config list) ≡ pattern_bytes n config (length merged)
