@@ -91,7 +91,7 @@ sum_is n ring row cells position names less =
     let at = cell_at cells position less in
     let name = some_name (cell_name n at.0.0) (names position at.0 at.1) in
     let sum = sum_as ring (unwrap_or (row at.0.0) []) at.0.1 name.0 in
-    (sum, (rw (at.1, name.1) refl, record { given = at.0; at = at.1; name = name.0; named = name.1; is = refl }))
+    (sum, rw (at.1, name.1) refl, record { given = at.0; at = at.1; name = name.0; named = name.1; is = refl })
 
 sums_more : (n : Netlist) (ring : RingConfig) (row : CellRows) (cells : List (InstanceId × Bool)) (position : ℕ) (positions : List ℕ) (sums : List SumLine) (sum : SumLine) → IsSumAt n ring row cells position sum → AreSumsAt n ring row cells positions sums →
     AreSumsAt n ring row cells (position ∷ positions) (sum ∷ sums)
@@ -100,7 +100,7 @@ sums_more n ring row cells position positions sums sum is are = record {
   each = each_sum;
 } where
   each_sum : (k other : ℕ) → slice_get (position ∷ positions) k ≡ Some other → (s : SumLine) × (slice_get (sum ∷ sums) k ≡ Some s) × IsSumAt n ring row cells other s
-  each_sum zero other at = (sum, (refl, subst (λ (p : ℕ). IsSumAt n ring row cells p sum) (same_Some position other at) is))
+  each_sum zero other at = (sum, refl, subst (λ (p : ℕ). IsSumAt n ring row cells p sum) (same_Some position other at) is)
   each_sum (suc k) other at = are.each k other at
 
 all_sums : (n : Netlist) (ring : RingConfig) (row : CellRows) (cells : List (InstanceId × Bool)) (positions : List ℕ) → ((k : ℕ) (given : InstanceId × Bool) → slice_get cells k ≡ Some given → IsSome (cell_name n given.0)) → Below (length cells) positions →
@@ -109,8 +109,8 @@ all_sums n ring row cells [] names below = record { count = refl; each = λ k ot
 all_sums n ring row cells (position ∷ positions) names below =
     let one = sum_is n ring row cells position names below.0 in
     let rest = all_sums n ring row cells positions names below.1 in
-    subst (λ (o : Option SumLine). AreSumsAt n ring row cells (position ∷ positions) (cons_option o (sums_of n ring row cells positions))) (sym one.1.0)
-    (sums_more n ring row cells position positions (sums_of n ring row cells positions) one.0 one.1.1 rest)
+    subst (λ (o : Option SumLine). AreSumsAt n ring row cells (position ∷ positions) (cons_option o (sums_of n ring row cells positions))) (sym one.1)
+    (sums_more n ring row cells position positions (sums_of n ring row cells positions) one.0 one.2 rest)
 
 -- ---- cubes
 
@@ -124,7 +124,7 @@ unscanned_named n row (given ∷ cells) cell names is = unscanned_case (is_none 
 
 report_by : (n : Netlist) (ring : RingConfig) (row : CellRows) (cube : Cube) (placed : Placed) (outcome : CubeLine) → outcome_of n ring row cube placed ≡ Some outcome → Says n ring row cube placed outcome →
     (r : CubeReport) × (cube_report n ring row cube placed ≡ Some r) × IsReportOf n ring row cube placed r
-report_by n ring row cube placed outcome is says = (record { name = cube.name; outcome = outcome }, (rw is refl, record { name = refl; says = says }))
+report_by n ring row cube placed outcome is says = (record { name = cube.name; outcome = outcome }, rw is refl, record { name = refl; says = says })
 
 -- a cube that is placed has its entry
 one_report : (n : Netlist) (ring : RingConfig) (columns : ℕ) (row : CellRows) (window : ℕ) (old new : List Merged) (cube : Cube) (placed : Placed) → HasNames n cube → Places columns row window old cube placed new →
@@ -132,10 +132,10 @@ one_report : (n : Netlist) (ring : RingConfig) (columns : ℕ) (row : CellRows) 
 one_report n ring columns row window old new cube (Into pattern) names places = report_by n ring row cube (Into pattern) (line.Encoded pattern) refl refl
 one_report n ring columns row window old new cube (Unsolvable positions) names places =
     report_by n ring row cube (Unsolvable positions) (line.Unsolvable (sums_of n ring row cube.cells positions)) refl
-    (sums_of n ring row cube.cells positions, (refl, all_sums n ring row cube.cells positions names (certificate_below columns row cube.cells positions places.1)))
+    (sums_of n ring row cube.cells positions, refl, all_sums n ring row cube.cells positions names (certificate_below columns row cube.cells positions places.1))
 one_report n ring columns row window old new cube (Skipped cell) names places =
     let name = some_name (cell_name n cell) (unscanned_named n row cube.cells cell names places.0) in
-    report_by n ring row cube (Skipped cell) (line.Skipped name.0) (rw name.1 refl) (name.0, (refl, name.1))
+    report_by n ring row cube (Skipped cell) (line.Skipped name.0) (rw name.1 refl) (name.0, refl, name.1)
 
 reports_more : (n : Netlist) (ring : RingConfig) (row : CellRows) (cube : Cube) (cubes : List Cube) (place : Placed) (placed : List Placed) (r : CubeReport) (reports : List CubeReport) → IsReportOf n ring row cube place r → AreReportsOf n ring row cubes placed reports →
     AreReportsOf n ring row (cube ∷ cubes) (place ∷ placed) (r ∷ reports)
@@ -145,7 +145,7 @@ reports_more n ring row cube cubes place placed r reports is are = record {
 } where
   each_report : (c : ℕ) (other : Cube) (p : Placed) → slice_get (cube ∷ cubes) c ≡ Some other → slice_get (place ∷ placed) c ≡ Some p → (s : CubeReport) × (slice_get (r ∷ reports) c ≡ Some s) × IsReportOf n ring row other p s
   each_report zero other p at there =
-      (r, (refl, subst (λ (x : Cube). IsReportOf n ring row x p r) (same_Some cube other at) (subst (λ (q : Placed). IsReportOf n ring row cube q r) (same_Some place p there) is)))
+      (r, refl, subst (λ (x : Cube). IsReportOf n ring row x p r) (same_Some cube other at) (subst (λ (q : Placed). IsReportOf n ring row cube q r) (same_Some place p there) is))
   each_report (suc c) other p at there = are.each c other p at there
 
 pub all_reports : CubesHaveLines
@@ -155,5 +155,5 @@ all_reports n ring columns row window old new (cube ∷ cubes) [] names places =
 all_reports n ring columns row window old new (cube ∷ cubes) (place ∷ placed) names places =
     let one = one_report n ring columns row window old places.0 cube place (names zero cube refl) places.1.0 in
     let rest = all_reports n ring columns row window places.0 new cubes placed (λ c. names (suc c)) places.1.1 in
-    subst (λ (o : Option CubeReport). AreReportsOf n ring row (cube ∷ cubes) (place ∷ placed) (cons_option o (cube_reports n ring row cubes placed))) (sym one.1.0)
-    (reports_more n ring row cube cubes place placed one.0 (cube_reports n ring row cubes placed) one.1.1 rest)
+    subst (λ (o : Option CubeReport). AreReportsOf n ring row (cube ∷ cubes) (place ∷ placed) (cons_option o (cube_reports n ring row cubes placed))) (sym one.1)
+    (reports_more n ring row cube cubes place placed one.0 (cube_reports n ring row cubes placed) one.2 rest)
