@@ -8,6 +8,7 @@ ghost use Rattle.dft_stitch.specs.Chains.{plan_of};
 ghost use Rattle.dft_merge.specs.Merging.{columns_in};
 ghost use Rattle.dft_merge.specs.Rows.{StandApart};
 
+use crate::netlist_written::ring_of_forty;
 use dft_cells::Library;
 use dft_config::Config;
 use dft_cubes::{Cube, read as read_cubes};
@@ -369,5 +370,33 @@ fn a_seed_fills_by_the_words_of_its_generator(rt: HostRuntime) -> Result<(), Fai
         word = word << 1 | u64::from(*bit);
     }
     assert_eq!(rt; word, 0x7b47_f409_a15c_02b7u64);
+    Ok(())
+}
+
+// Forty flip-flops in eight chains; the cells of the cubes stand first in the first chain.
+const WIDE: &str =
+    "version = 1\ndomains = ['clk']\nresets = ['rst_n']\nchains = 8\nwarm = 8\nwindow = 16\nring = { stages = 8, channels = 2, taps = [[2, 5]], injectors = [[0, 7], [1, 3]], phase = [[7], [3], [1, 7], [3, 6], [0, 7], [2, 3], [0, 5, 7], [1, 3]] }\ncompactor = { groups = [[0, 2, 4, 6], [1, 3, 5, 7]], mask_inputs = 1 }\n";
+
+// Eleven cubes that give four cells the digits of a number, lowest first, and one that gives a port alone.
+fn wide_cubes(alloc: Global) -> Result<String, AllocError> {
+    let mut text = String::new(alloc);
+    for number in 0..11u32 {
+        text.push_str(&format!(in alloc; "cube k{number} clk\n")?)?;
+        for cell in 0..4u32 {
+            let digit = number >> cell & 1;
+            text.push_str(&format!(in alloc; "cell r_reg[{cell}] {digit}\n")?)?;
+        }
+        text.push_str("end\n")?;
+    }
+    text.push_str("cube k11 clk\nport en 1\nend\n")?;
+    Ok(text)
+}
+
+#[test]
+fn a_cube_of_a_port_alone_joins_the_oldest_pattern(rt: HostRuntime) -> Result<(), Fail> {
+    let netlist = ring_of_forty(rt.alloc())?;
+    let cubes = wide_cubes(rt.alloc())?;
+    let line = line_for(rt.alloc(), netlist.as_str(), WIDE, cubes.as_str())?;
+    assert!(rt; line.as_str().starts_with("0 1 2 3 4 5 6 7 8 9 10 0 | "), "{line}");
     Ok(())
 }
