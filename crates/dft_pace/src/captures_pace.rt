@@ -9,6 +9,7 @@ use dft_base::Listed;
 use dft_cells::Library;
 use dft_config::Config;
 use dft_cubes::Merged;
+use dft_evaluator::Evaluator;
 use dft_expect::{Capturer, Pattern};
 use dft_netlist::Design;
 use dft_rules::judge;
@@ -111,6 +112,23 @@ fn time_captures(
     print_pace(rt, gates, count, start.elapsed(rt)?.as_micros())
 }
 
+// Settles all nets for 512 patterns, from sources that nothing has set.
+fn time_sweeps(
+    rt: &(impl Clock + Eprint),
+    alloc: Global,
+    design: &Design,
+    gates: u32,
+) -> io::Result<()> {
+    let mut evaluator = Evaluator::prepare(alloc, design)?;
+    for _turn in 0..5 {
+        let start = Instant::now(rt)?;
+        evaluator.settle();
+        eprint!(rt; "one sweep: ")?;
+        print_pace(rt, gates, ALL, start.elapsed(rt)?.as_micros())?;
+    }
+    Ok(())
+}
+
 // Patterns times gates in a microsecond are as many millions in a second.
 fn print_pace(
     rt: &impl Eprint,
@@ -151,7 +169,8 @@ fn time_planned(
             loaded: load,
         })?;
     }
-    time_captures(rt, alloc, &mut capturer, &patterns, gates)
+    time_captures(rt, alloc, &mut capturer, &patterns, gates)?;
+    time_sweeps(rt, alloc, design, gates)
 }
 
 /// Captures 512 patterns of a netlist of so many gates, with a flip-flop for each ten of them, and times it.
