@@ -6,6 +6,7 @@ use Rattle.dft_base.specs.Lexing.{Text}
 use Rattle.dft_base.specs.Solutions.{Equation, StatesCertificate, StatesFrom, equation_at, ids_to}
 use Rattle.dft_netlist.specs.declared.ids.InstanceId.{InstanceId}
 use Rattle.dft_netlist.specs.Netlist.{Netlist}
+use Rattle.dft_config.specs.declared.config.Config.{Config}
 use Rattle.dft_config.specs.declared.config.RingConfig.{RingConfig}
 use Rattle.dft_cubes.specs.declared.cube.Cube.{Cube}
 use Rattle.dft_cubes.specs.declared.cube.Merged.{Merged}
@@ -17,7 +18,7 @@ use Rattle.dft_report.specs.declared.report.CubeLine.{CubeLine}
 use Rattle.dft_report.specs.declared.report.CubeLine.TheVariants as line
 use Rattle.dft_report.specs.declared.report.CubeReport.{CubeReport}
 use Rattle.dft_report.specs.declared.report.SumLine.{SumLine}
-use Rattle.dft_outcomes.specs.Laws.{AreReportsOf, AreSumsAt, CubesHaveLines, HasNames, HaveNames, IsReportOf, IsSumAt, Says}
+use Rattle.dft_outcomes.specs.Laws.{AreReportsOf, AreSumsAt, CubesHaveLines, IsReportOf, IsSumAt, Says}
 use Rattle.dft_outcomes.specs.Outcomes.{cell_name, cube_report, cube_reports, outcome_of, sum_as, sum_at, sums_of}
 
 same_Some : {X : Type 0} (x y : X) → Some x ≡ Some y → x ≡ y
@@ -114,6 +115,13 @@ all_sums n ring row cells (position ∷ positions) names below =
 
 -- ---- cubes
 
+-- each cell that a cube gives has a name
+abbrev HasNames : Netlist → Cube → Type 0
+HasNames n cube = (k : ℕ) (given : InstanceId × Bool) → slice_get cube.cells k ≡ Some given → IsSome (cell_name n given.0)
+
+abbrev HaveNames : Netlist → List Cube → Type 0
+HaveNames n cubes = (c : ℕ) (cube : Cube) → slice_get cubes c ≡ Some cube → HasNames n cube
+
 -- the first cell that is not scanned is one of the cube's
 unscanned_named : (n : Netlist) (row : CellRows) (cells : List (InstanceId × Bool)) (cell : InstanceId) → ((k : ℕ) (given : InstanceId × Bool) → slice_get cells k ≡ Some given → IsSome (cell_name n given.0)) → first_unscanned row cells ≡ Some cell → IsSome (cell_name n cell)
 unscanned_named n row [] cell names is = absurd (none_Some cell is)
@@ -148,12 +156,16 @@ reports_more n ring row cube cubes place placed r reports is are = record {
       (r, refl, subst (λ (x : Cube). IsReportOf n ring row x p r) (same_Some cube other at) (subst (λ (q : Placed). IsReportOf n ring row cube q r) (same_Some place p there) is))
   each_report (suc c) other p at there = are.each c other p at there
 
-pub all_reports : CubesHaveLines
-all_reports n ring columns row window old new [] [] names places = record { count = refl; each = λ c cube p at there. absurd (none_Some cube at) }
-all_reports n ring columns row window old new [] (place ∷ placed) names places = absurd places
-all_reports n ring columns row window old new (cube ∷ cubes) [] names places = absurd places
-all_reports n ring columns row window old new (cube ∷ cubes) (place ∷ placed) names places =
+reports_of : (n : Netlist) (ring : RingConfig) (columns : ℕ) (row : CellRows) (window : ℕ) (old new : List Merged) (cubes : List Cube) (placed : List Placed) → HaveNames n cubes → PlacesAll columns row window old cubes placed new →
+    AreReportsOf n ring row cubes placed (cube_reports n ring row cubes placed)
+reports_of n ring columns row window old new [] [] names places = record { count = refl; each = λ c cube p at there. absurd (none_Some cube at) }
+reports_of n ring columns row window old new [] (place ∷ placed) names places = absurd places
+reports_of n ring columns row window old new (cube ∷ cubes) [] names places = absurd places
+reports_of n ring columns row window old new (cube ∷ cubes) (place ∷ placed) names places =
     let one = one_report n ring columns row window old places.0 cube place (names zero cube refl) places.1.0 in
-    let rest = all_reports n ring columns row window places.0 new cubes placed (λ c. names (suc c)) places.1.1 in
+    let rest = reports_of n ring columns row window places.0 new cubes placed (λ c. names (suc c)) places.1.1 in
     subst (λ (o : Option CubeReport). AreReportsOf n ring row (cube ∷ cubes) (place ∷ placed) (cons_option o (cube_reports n ring row cubes placed))) (sym one.1)
     (reports_more n ring row cube cubes place placed one.0 (cube_reports n ring row cubes placed) one.2 rest)
+
+pub all_reports : CubesHaveLines
+all_reports n config columns row window old new cubes placed are places = reports_of n config.ring columns row window old new cubes placed (λ c cube at. (are.each c cube at).cells.named) places
