@@ -1,2 +1,4 @@
 pub mod Passing
 pub mod Agreeing
+pub mod Written
+pub mod Formed
