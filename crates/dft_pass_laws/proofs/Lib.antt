@@ -14,4 +14,5 @@ pub mod WrittenPassing
 pub mod Full
 pub mod Steady
 pub mod Naming
+pub mod Quoting
 pub mod Forming
