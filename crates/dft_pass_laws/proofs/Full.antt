@@ -55,8 +55,7 @@ each_from P f from zero h = tt
 each_from P f from (suc count) h = (h from, each_from P f (from + 1) count h)
 
 -- what holds of set-up vectors, shift vectors and capture vectors holds of all listed vectors
-module _ (n : Netlist) (config : Config) (P : List Act → Type 0) (Given : PatternData → Type 0) (set_up : P (set_up_acts n config))
-    (shift : (table : Table) (masks : List Bool) (before : Option PatternData) (t : ℕ) → P (shift_acts n config (plan_of n config) table masks before t)) (capture : (p : PatternData) → Given p → P (capture_acts n config p)) where
+module _ (n : Netlist) (config : Config) (P : List Act → Type 0) (Given : PatternData → Type 0) (set_up : P (set_up_acts n config)) (shift : (table : Table) (masks : List Bool) (before : Option PatternData) (t : ℕ) → P (shift_acts n config (plan_of n config) table masks before t)) (capture : (p : PatternData) → Given p → P (capture_acts n config p)) where
   each_load : (table : Table) (masks : List Bool) (before : Option PatternData) → Each P (load_vectors n config (plan_of n config) table masks before)
   each_load table masks before = each_from P (shift_acts n config (plan_of n config) table masks before) 0 (plan_of n config).cycles (λ t. shift table masks before t)
 

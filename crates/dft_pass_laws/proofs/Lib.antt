@@ -14,5 +14,6 @@ pub mod WrittenPassing
 pub mod Full
 pub mod Steady
 pub mod Naming
+pub mod Standing
 pub mod Quoting
 pub mod Forming

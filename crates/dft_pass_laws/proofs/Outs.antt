@@ -81,7 +81,7 @@ quiet_agree values (net ∷ nets) (suc count) = (tt, quiet_agree values nets cou
 quiet_count : (nets : List ℕ) (count : ℕ) → compared_in nets (ignored count) ≡ 0
 quiet_count [] count = refl
 quiet_count (net ∷ nets) zero = refl
-quiet_count (net ∷ nets) (suc count) = quiet_count nets count
+quiet_count (net ∷ nets) (suc count) = let rest = quiet_count nets count in omega (arith, rest)
 
 own_width : (n : Netlist) → length (outputs_ignored n) ≡ length (numbers (output_bits n.ports))
 own_width n = ignored_length (length (output_bits n.ports)) ∙ sym (numbers_length (output_bits n.ports))

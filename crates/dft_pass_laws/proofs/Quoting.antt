@@ -1,6 +1,6 @@
 -- The names of the bits of a scanned netlist's ports can be quoted.
-use Rattle.std.proofs.Common.{ℕ, zero, suc, ◌+◌, ◌-◌, ◌<◌, ◌≤◌, ◌^◌, ◌≡◌, ◌==◌, ◌&&◌, ◌||◌, Bool, true, false, not, List, [], ◌∷◌, ◌++◌, length, map, get_or, Option, None, Some, slice_get, refl, sym, ap, subst, arith, ◌∙◌}
-use Rattle.std.specs.Prelude.{IsTrue, ◌≢◌, if◌then◌else◌, nat_le, option_map}
+use Rattle.std.proofs.Common.{ℕ, zero, suc, ◌+◌, ◌-◌, ◌<◌, ◌≤◌, ◌^◌, ◌≡◌, ◌==◌, ◌&&◌, ◌||◌, Bool, true, false, cond, not, List, [], ◌∷◌, ◌++◌, length, map, get_or, Option, None, Some, slice_get, refl, sym, ap, subst, arith, ◌∙◌}
+use Rattle.std.specs.Prelude.{IsTrue, ◌≢◌, nat_le, option_map}
 use Rattle.std.specs.Fmt.{decimal}
 use Rattle.std.specs.List.{All, find, list_all, list_any, range_with_len}
 use Rattle.std.proofs.lemmas.Bool.{eq-eqb}
@@ -23,9 +23,9 @@ use Rattle.dft_netlist.proofs.BitLemmas.{cases_le, falling_at, is_bit_name, risi
 use Rattle.dft_config.specs.declared.config.Config.{Config}
 use Rattle.dft_config.specs.Range.{IsInRange, names_of}
 use Rattle.dft_parts.proofs.NameBytes.{is_numbered}
-use Rattle.dft_rules.specs.declared.error.RuleError.{RuleError}
 use Rattle.dft_rules.specs.declared.error.RuleError.TheVariants.{PortName}
-use Rattle.dft_rules.specs.Refusals.{checks, first_failing, has_quote, quoted_port, refusal}
+use Rattle.dft_rules.specs.Refusals.{clock_as_data, first_present, has_quote, quoted_port, refusal, unknown_cell, unknown_port}
+use Rattle.dft_rules.proofs.CheckLemmas.{from_clocks, from_count, from_keep, from_ports, from_present, from_resets}
 use Rattle.dft_scan_frame.specs.AddedPorts.{NewPort, new_port, numbered, ports_from}
 use Rattle.dft_scan_frame.specs.Statements.{IsReady}
 use Rattle.dft_scan_hardware.specs.declared.style.Style.TheVariants.{Edt}
@@ -35,6 +35,7 @@ use Rattle.dft_scan_hardware.proofs.Keeping.{adds_in_order}
 use Rattle.dft_stil_out.specs.Writable.{IsQuotable}
 use Rattle.dft_pass_laws.specs.Formed.{ArePortsNamed, HasQuotableBits, IsShortRange}
 use Rattle.dft_pass_laws.proofs.Full.{Each}
+use Rattle.dft_pass_laws.proofs.Standing.{first_passes}
 
 each_both : {X : Type 0} (P : X → Type 0) (xs ys : List X) → Each P xs → Each P ys → Each P (xs ++ ys)
 each_both P [] ys h k = k
@@ -94,21 +95,17 @@ ports_quoted (port ∷ ports) h = each_both IsQuotable (bit_names port.name port
 
 -- the design's
 
-first_passes : (check : Option RuleError) (rest : List (Option RuleError)) → first_failing (check ∷ rest) ≡ None → (check ≡ None) × (first_failing rest ≡ None)
-first_passes None rest h = (refl, h)
-first_passes (Some error) rest h = absurd (none-some error (sym h))
-
 no_quoted_port : (n : Netlist) (config : Config) → refusal n config ≡ None → quoted_port n.ports ≡ None
 unfolding refusal
 no_quoted_port n config passed =
-    let a = first_passes _ _ passed in
-    let b = first_passes _ _ a.1 in
-    let c = first_passes _ _ b.1 in
-    let d = first_passes _ _ c.1 in
-    let e = first_passes _ _ d.1 in
-    (first_passes _ _ e.1).0
+    let a = first_passes (unknown_port n config.domains) (from_resets n config) passed in
+    let b = first_passes (unknown_port n config.resets) (from_keep n config) a.1 in
+    let c = first_passes (unknown_cell n config.keep) (from_present n config) b.1 in
+    let d = first_passes (first_present n.library n.instances) (from_clocks n config) c.1 in
+    let e = first_passes (clock_as_data n config.domains) (from_ports n config) d.1 in
+    (first_passes (quoted_port n.ports) (from_count n config) e.1).0
 
-found_by : (t : Bool) (port : design_port.Port) (rest : Option design_port.Port) → option_map (λ p. PortName p.name) (if t then Some port else rest) ≡ None → (t ≡ false) × (option_map (λ p. PortName p.name) rest ≡ None)
+found_by : (t : Bool) (port : design_port.Port) (rest : Option design_port.Port) → option_map (λ p. PortName p.name) (cond t (Some port) rest) ≡ None → (t ≡ false) × (option_map (λ p. PortName p.name) rest ≡ None)
 found_by true port rest h = absurd (none-some (PortName port.name) (sym h))
 found_by false port rest h = (refl, h)
 

@@ -3,6 +3,7 @@
 ghost use Rattle.dft_pass_laws.specs.Agreeing.{AgreedGoesOn};
 ghost use Rattle.dft_pass_laws.specs.Formed.{WrittenFormed};
 ghost use Rattle.dft_pass_laws.specs.Passing.{RowsDo, SignalsFit, SignalsStand};
+ghost use Rattle.dft_pass_laws.specs.Standing.{PatternsStand};
 ghost use Rattle.dft_pass_laws.specs.Written.{WrittenPass};
 
 /// The signals of a netlist stand for the bits of its ports, in order, and fit it; and the rows that a replay makes of a compiled set do the acts
@@ -12,6 +13,12 @@ pub fn rows_play()
     ensures fits { SignalsFit }
     ensures rows { RowsDo }
     ensures agreed { AgreedGoesOn }
+{}
+
+/// Patterns of which each captures what its load leaves, by a domain of the configuration, and masks what is unknown in it, are patterns as the
+/// laws of vectors ask: in a ready design each domain has a clock.
+pub fn patterns_stand()
+    ensures { PatternsStand }
 {}
 
 /// What is compiled passes: a replay of compiled patterns on the scanned netlist finds each compared bit known and as printed. It compares,
