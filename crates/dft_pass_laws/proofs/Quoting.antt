@@ -168,12 +168,8 @@ word_quotable (b ∷ bytes) h =
 
 simple_quotable : (bytes : Text) → IsTrue (is_simple_name bytes && not (is_later_reserved bytes)) → IsQuotable bytes
 simple_quotable bytes h =
-    let outer = both_true (is_simple_name bytes) (not (is_later_reserved bytes)) (true_is (is_simple_name bytes && not (is_later_reserved bytes)) h) in
+    let outer = both_true (is_simple_name bytes) (not (is_later_reserved bytes)) h in
     word_quotable bytes (both_true (is_word bytes) (not (is_reserved bytes)) outer.0).0
-  where
-    true_is : (t : Bool) → IsTrue t → t ≡ true
-    true_is true h = refl
-    true_is false h = absurd h
 
 abbrev IsQuotableNew : NewPort → Type 0
 IsQuotableNew port = IsQuotable port.name

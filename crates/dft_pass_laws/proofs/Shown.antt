@@ -62,11 +62,11 @@ load_agrees : (n : Netlist) (config : Config) (table : Table) (masks : List Bool
 load_agrees n config table masks before rs count h =
     agree_from (signal_nets n config) (shift_acts n config (plan_of n config) table masks before) 0 (plan_of n config).cycles rs count
     (λ t r at. let same : t ≡ 0 + t = omega arith in
-        subst (λ (k : ℕ). Agrees r.strobe (signal_nets n config) (shift_acts n config (plan_of n config) table masks before k)) same (shift_agrees n config table masks before t r.strobe (unloads_at n config table before rs h t r at)))
+    subst (λ (k : ℕ). Agrees r.strobe (signal_nets n config) (shift_acts n config (plan_of n config) table masks before k)) same (shift_agrees n config table masks before t r.strobe (unloads_at n config table before rs h t r at)))
 
 -- a capture knows as many values as there are output bits
 pub outputs_width : (n : Netlist) (config : Config) (p : PatternData) → IsPattern n config (pattern_of config p) → length p.response.outputs ≡ length (output_bits n.ports)
-outputs_width n config p is = ap (λ (ts : List Tri). length ts) is.captured.outputs ∙ length-map (λ (net : NetId). is.captured.values net.0) (output_bits n.ports)
+outputs_width n config p is = ap (λ (ts : List Tri). length ts) is.captured.outputs ∙ length-map (output_bits n.ports) (λ (net : NetId). is.captured.values net.0)
 
 -- ---- patterns
 

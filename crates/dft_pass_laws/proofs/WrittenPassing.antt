@@ -1,5 +1,5 @@
 -- Compiled patterns pass on their scanned netlist.
-use Rattle.std.proofs.Common.{ℕ, ◌+◌, ◌≡◌, List, [], ◌∷◌, ◌++◌, length, map, None, refl, sym, ap, subst, arith, ◌∙◌}
+use Rattle.std.proofs.Common.{ℕ, ◌+◌, ◌≡◌, ◌||◌, List, [], ◌∷◌, ◌++◌, length, map, None, refl, sym, ap, subst, arith, ◌∙◌}
 use Rattle.std.specs.Prelude.{not}
 use Rattle.std.specs.List.{list_any}
 use Rattle.std.proofs.lemmas.List.{map-append}
@@ -8,7 +8,9 @@ use Rattle.dft_netlist.specs.declared.ids.NetId.{NetId}
 use Rattle.dft_netlist.specs.Drivers.{IsOrdered}
 use Rattle.dft_netlist.specs.Logic.{Ports, logic_of}
 use Rattle.dft_netlist.specs.Netlist.{Netlist}
+use Rattle.dft_netlist.specs.Orders.{IsOrder}
 use Rattle.dft_netlist.specs.Runs.{Vector}
+use Rattle.dft_netlist.specs.Sound.{IsNetlist}
 use Rattle.dft_netlist.proofs.RankLemmas.{order_ranks}
 use Rattle.dft_abstract.specs.Cycle.{Round, all_unknown}
 use Rattle.dft_config.specs.declared.config.Config.{Config}
@@ -75,10 +77,10 @@ verdict_of n config (p ∷ ps) order ready sound ordered are =
     let ranked = order_ranks w order sound ordered in
     let found = rounds_exist w ranked.0 set ranked.1 in
     let xs : List Vector = vectors_by (rows_of w set) in
-    let do : AllDo w vectors xs = rows_play n config (p ∷ ps) sound in
-    let suits : SuitsEdt n config (ports_of w set) = subst (SuitsEdt n config) (ports_same nets all_unknown vectors) (set_suits n config p ps xs ready do) in
+    let does : AllDo w vectors xs = rows_play n config (p ∷ ps) sound in
+    let suits : SuitsEdt n config (ports_of w set) = subst (SuitsEdt n config) (ports_same nets all_unknown vectors) (set_suits n config p ps xs ready does) in
     let agree : AllAgree nets vectors found.0 =
-    subst (λ (ks : List ℕ). AllAgree ks vectors found.0) (sym same) (listed_agree n config (ports_of w set) p ps all_unknown xs found.0 ready suits are do found.1) in
+    subst (λ (ks : List ℕ). AllAgree ks vectors found.0) (sym same) (listed_agree n config (ports_of w set) p ps all_unknown xs found.0 ready suits are does found.1) in
     let count : 0 + all_compared_in nets vectors ≡ all_compared config (plan_of n config) (p ∷ ps) =
     (let of_set = ap (λ (ks : List ℕ). all_compared_in ks vectors) same ∙ listed_count n config p ps are in omega (arith, of_set)) in
     subst (λ (m : ℕ). HasVerdict w set (Pass m)) count (passes_from (logic_of w (ports_of w set)) nets all_unknown all_unknown 0 0 vectors found.0 found.1 agree)
