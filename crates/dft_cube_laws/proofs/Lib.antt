@@ -1,0 +1,4 @@
+mod Played
+mod Turns
+mod Brought
+mod Replayed
