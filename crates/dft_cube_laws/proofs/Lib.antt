@@ -2,3 +2,4 @@ mod Played
 mod Turns
 mod Brought
 mod Replayed
+mod Reported
