@@ -22,7 +22,7 @@ use Rattle.dft_pattern_laws.specs.Rounds.{ArePlayed, AreShown, LastLoad, Played,
 use Rattle.dft_pattern_laws.proofs.Patterns.{patterns_show}
 use Rattle.dft_vectors.specs.PatternData.{PatternData, load_of}
 use Rattle.dft_vectors.specs.VectorList.{capture_acts, load_vectors, no_table, last_of, pattern_vectors, set_up_acts, shift_acts, vectors_of}
-use Rattle.dft_vector_laws.specs.Doing.{Does, AllDo}
+use Rattle.dft_vector_laws.specs.Doing.{AllDo}
 use Rattle.dft_vector_laws.specs.Listed.{ArePatterns, pattern_of}
 use Rattle.dft_vector_laws.proofs.Splitting.{first_do, split_do}
 use Rattle.dft_vector_laws.proofs.Playing.{captures_capture, loads_from, loads_load, set_up_clears}
