@@ -1,0 +1,5 @@
+pub mod RefusalLemmas
+pub mod BytesLemmas
+pub mod ReportLemmas
+pub mod LateLemmas
+pub mod WorkLemmas
