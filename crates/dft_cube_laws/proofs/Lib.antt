@@ -1,5 +1,5 @@
-mod Played
-mod Turns
-mod Brought
-mod Replayed
-mod Reported
+pub mod Played
+pub mod Turns
+pub mod Brought
+pub mod Replayed
+pub mod Reported
