@@ -1,5 +1,5 @@
 -- Where all compared bits of all vectors agree with their rounds, the verdict is Pass.
-use Rattle.std.proofs.Common.{ℕ, zero, suc, ◌+◌, ◌≡◌, List, [], ◌∷◌, ◌++◌, length, map, Option, None, refl, sym, ap, subst, arith, ◌∙◌}
+use Rattle.std.proofs.Common.{ℕ, zero, suc, ◌+◌, ◌≡◌, List, [], ◌∷◌, ◌++◌, length, map, Option, refl, sym, ap, subst, arith, ◌∙◌}
 use Rattle.std.specs.List.{range_with_len}
 use Rattle.dft_base.specs.declared.tri.Tri.{Tri}
 use Rattle.dft_netlist.specs.Logic.{Logic}
@@ -10,7 +10,7 @@ use Rattle.dft_patterns.specs.declared.act.Act.TheVariants.{Unset, Low, High, Pu
 use Rattle.dft_replay.specs.declared.verdict.Verdict.{Verdict}
 use Rattle.dft_replay.specs.declared.verdict.Verdict.TheVariants.{Pass}
 use Rattle.dft_replay.specs.Rows.{Compared, Row, compared_at, compared_from, row_of, rows_from}
-use Rattle.dft_replay.specs.Verdicts.{HasVerdictFrom, Stops, decided}
+use Rattle.dft_replay.specs.Verdicts.{HasVerdictFrom, Stops}
 use Rattle.dft_pass_laws.specs.Agreeing.{Agrees}
 use Rattle.dft_pass_laws.proofs.Deciding.{agreed_goes_on}
 use Rattle.dft_pass_laws.proofs.Muting.{vectors_by}

@@ -1,6 +1,6 @@
 -- How many bits listed vectors compare.
-use Rattle.std.proofs.Common.{ℕ, zero, suc, ◌+◌, ◌*◌, ◌≡◌, Bool, List, [], ◌∷◌, ◌++◌, length, map, Option, None, Some, refl, sym, ap, arith, ◌∙◌}
-use Rattle.std.specs.Prelude.{count_by, sum_by}
+use Rattle.std.proofs.Common.{ℕ, zero, suc, ◌+◌, ◌*◌, ◌≡◌, Bool, List, [], ◌∷◌, ◌++◌, map, Option, None, Some, ap, arith, ◌∙◌}
+use Rattle.std.specs.Prelude.{count_by}
 use Rattle.std.specs.List.{range_with_len}
 use Rattle.std.proofs.lemmas.List.{append_assoc}
 use Rattle.std.proofs.lemmas.List.Sums.{sum_by-cons}
@@ -10,7 +10,7 @@ use Rattle.dft_config.specs.Ring.{Table}
 use Rattle.dft_stitch.specs.Chains.{plan_of}
 use Rattle.dft_patterns.specs.declared.act.Act.{Act}
 use Rattle.dft_vectors.specs.PatternData.{PatternData, load_of}
-use Rattle.dft_vectors.specs.VectorList.{capture_acts, load_vectors, no_table, last_of, pattern_vectors, set_up_acts, shift_acts, vectors_of}
+use Rattle.dft_vectors.specs.VectorList.{capture_acts, load_vectors, no_table, last_of, pattern_vectors, shift_acts, vectors_of}
 use Rattle.dft_vector_laws.specs.Listed.{ArePatterns}
 use Rattle.dft_pass_laws.specs.Written.{all_compared, compared_of, is_known}
 use Rattle.dft_pass_laws.proofs.Agreements.{all_compared_in, compared_in}

@@ -1,6 +1,5 @@
 -- Compiled patterns are well formed and can be written.
-use Rattle.std.proofs.Common.{ℕ, suc, ◌≡◌, inr, Bool, false, List, [], ◌∷◌, Some, slice_get, refl}
-use Rattle.dft_netlist.specs.declared.ids.NetId.{NetId}
+use Rattle.std.proofs.Common.{suc, inr, List, [], ◌∷◌, refl}
 use Rattle.dft_netlist.specs.Netlist.{Netlist}
 use Rattle.dft_config.specs.declared.config.Config.{Config}
 use Rattle.dft_stitch.specs.Chains.{plan_of}

@@ -1,5 +1,5 @@
 -- Each listed vector sets each input and compares, or passes over, each output.
-use Rattle.std.proofs.Common.{ℕ, zero, suc, ◌+◌, ◌≡◌, Bool, true, false, List, [], ◌∷◌, ◌++◌, length, map, Option, None, Some, refl, sym, ap, subst, arith, ◌∙◌}
+use Rattle.std.proofs.Common.{ℕ, zero, suc, ◌+◌, ◌≡◌, Bool, true, false, List, [], ◌∷◌, ◌++◌, length, map, Option, None, Some, sym, ap, subst, arith, ◌∙◌}
 use Rattle.std.specs.List.{All, AllZip, range_with_len}
 use Rattle.std.proofs.lemmas.List.{map-append}
 use Rattle.std.proofs.lemmas.List.Elements.{All-cons, All-nil}
@@ -28,7 +28,7 @@ use Rattle.dft_vectors.specs.Signals.{input_bits, signal_of, signals_of}
 use Rattle.dft_vectors.specs.VectorList.{capture_acts, load_vectors, no_table, last_of, pattern_vectors, set_up_acts, shift_acts, unloaded, vectors_of}
 use Rattle.dft_pass_laws.proofs.OutPlaces.{added_outs, all_outputs, outs_start}
 use Rattle.dft_pass_laws.proofs.Rows.{Sets}
-use Rattle.dft_pass_laws.proofs.Sides.{by_capture, by_set_up, by_shift, capture_outs, no_outs, shift_outs}
+use Rattle.dft_pass_laws.proofs.Sides.{by_capture, by_set_up, by_shift}
 
 pub zip_append : {A B : Type 0} (R : A → B → Type 0) (xs us : List A) (ys vs : List B) → AllZip R xs ys → AllZip R us vs → AllZip R (xs ++ us) (ys ++ vs)
 zip_append R [] us [] vs h k = k

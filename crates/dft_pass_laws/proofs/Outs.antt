@@ -38,7 +38,7 @@ use Rattle.dft_pass_laws.specs.Written.{is_known}
 use Rattle.dft_pass_laws.proofs.Agreements.{compared_in, compares}
 use Rattle.dft_pass_laws.proofs.OutPlaces.{added_outs, outputs_kept, outs_start}
 use Rattle.dft_pass_laws.proofs.Rows.{Sets, numbers}
-use Rattle.dft_pass_laws.proofs.Sides.{by_capture, by_set_up, by_shift, capture_outs, no_outs, shift_outs}
+use Rattle.dft_pass_laws.proofs.Sides.{by_capture, by_set_up, by_shift}
 
 -- ---- nets
 

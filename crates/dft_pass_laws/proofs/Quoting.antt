@@ -1,8 +1,8 @@
 -- The names of the bits of a scanned netlist's ports can be quoted.
-use Rattle.std.proofs.Common.{ℕ, zero, suc, ◌+◌, ◌-◌, ◌<◌, ◌≤◌, ◌^◌, ◌≡◌, ◌==◌, ◌&&◌, ◌||◌, Bool, true, false, cond, not, List, [], ◌∷◌, ◌++◌, length, map, get_or, Option, None, Some, slice_get, refl, sym, ap, subst, arith, ◌∙◌}
+use Rattle.std.proofs.Common.{ℕ, zero, suc, ◌+◌, ◌-◌, ◌<◌, ◌≤◌, ◌^◌, ◌≡◌, ◌==◌, ◌&&◌, ◌||◌, Bool, true, false, cond, not, List, [], ◌∷◌, ◌++◌, length, map, get_or, Option, None, Some, slice_get, refl, sym, subst, arith, ◌∙◌}
 use Rattle.std.specs.Prelude.{IsTrue, ◌≢◌, nat_le, option_map}
 use Rattle.std.specs.Fmt.{decimal}
-use Rattle.std.specs.List.{All, find, list_all, list_any, range_with_len}
+use Rattle.std.specs.List.{All, find, list_all, range_with_len}
 use Rattle.std.proofs.lemmas.Bool.{eq-eqb}
 use Rattle.std.proofs.lemmas.Bool.Decides.{nat_tests}
 use Rattle.std.proofs.lemmas.Fmt.{digits_decimal}
@@ -29,7 +29,7 @@ use Rattle.dft_rules.proofs.CheckLemmas.{from_clocks, from_count, from_keep, fro
 use Rattle.dft_scan_frame.specs.AddedPorts.{NewPort, new_port, numbered, ports_from}
 use Rattle.dft_scan_frame.specs.Statements.{IsReady}
 use Rattle.dft_scan_hardware.specs.declared.style.Style.TheVariants.{Edt}
-use Rattle.dft_scan_hardware.specs.Ports.{added_ports, compression_ports, gap_in}
+use Rattle.dft_scan_hardware.specs.Ports.{added_ports, gap_in}
 use Rattle.dft_scan_hardware.specs.Statements.{scanned}
 use Rattle.dft_scan_hardware.proofs.Keeping.{adds_in_order}
 use Rattle.dft_stil_out.specs.Writable.{IsQuotable}

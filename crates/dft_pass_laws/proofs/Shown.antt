@@ -1,5 +1,5 @@
 -- All compared bits of listed vectors agree with their rounds.
-use Rattle.std.proofs.Common.{ℕ, suc, ◌+◌, ◌≡◌, Bool, List, [], ◌∷◌, ◌++◌, length, map, Option, None, Some, refl, sym, ap, subst, arith, ◌∙◌}
+use Rattle.std.proofs.Common.{ℕ, suc, ◌+◌, ◌≡◌, Bool, List, [], ◌∷◌, ◌++◌, length, Option, None, Some, refl, sym, ap, subst, arith, ◌∙◌}
 use Rattle.std.proofs.lemmas.List.{append_assoc, length-map}
 use Rattle.dft_base.specs.declared.tri.Tri.{Tri}
 use Rattle.dft_netlist.specs.declared.ids.NetId.{NetId}
@@ -24,21 +24,13 @@ use Rattle.dft_vectors.specs.PatternData.{PatternData, load_of}
 use Rattle.dft_vectors.specs.VectorList.{capture_acts, load_vectors, no_table, last_of, pattern_vectors, set_up_acts, shift_acts, vectors_of}
 use Rattle.dft_vector_laws.specs.Doing.{Does, AllDo}
 use Rattle.dft_vector_laws.specs.Listed.{ArePatterns, pattern_of}
+use Rattle.dft_vector_laws.proofs.Splitting.{first_do, split_do}
 use Rattle.dft_vector_laws.proofs.Playing.{captures_capture, loads_from, loads_load, set_up_clears}
 use Rattle.dft_pass_laws.specs.Agreeing.{Agrees}
 use Rattle.dft_pass_laws.proofs.Agreements.{AllAgree, agree_append, agree_from}
 use Rattle.dft_pass_laws.proofs.Outs.{capture_agrees, set_up_agrees, shift_agrees, shown_of, signal_nets, unloads_at}
 
 -- ---- lists of vectors and rounds
-
-split_do : (w : Netlist) (a b : List (List Act)) (xs : List Vector) → AllDo w (a ++ b) xs → (ys : List Vector) × (zs : List Vector) × (xs ≡ ys ++ zs) × AllDo w a ys × AllDo w b zs
-split_do w [] b xs h = ([], xs, refl, tt, h)
-split_do w (acts ∷ a) b [] h = absurd h
-split_do w (acts ∷ a) b (x ∷ xs) h = let r = split_do w a b xs h.1 in (x ∷ r.0, r.1, ap (λ (v : List Vector). x ∷ v) r.2, (h.0, r.3), r.4)
-
-first_do : (w : Netlist) (acts : List Act) (a : List (List Act)) (xs : List Vector) → AllDo w (acts ∷ a) xs → (z : Vector) × (zs : List Vector) × (xs ≡ z ∷ zs) × Does w acts z × AllDo w a zs
-first_do w acts a [] h = absurd h
-first_do w acts a (z ∷ zs) h = (z, zs, refl, h.0, h.1)
 
 split_rounds : (l : Logic) (old : ℕ → Tri) (ys zs : List Vector) (rs : List Round) → AreRounds l old (ys ++ zs) rs → (us : List Round) × (vs : List Round) × (rs ≡ us ++ vs) × AreRounds l old ys us × AreRounds l (after_rounds l old ys us) zs vs
 split_rounds l old [] zs rs h = ([], rs, refl, tt, h)

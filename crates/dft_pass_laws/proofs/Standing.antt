@@ -13,8 +13,6 @@ use Rattle.dft_rules.specs.declared.error.RuleError.{RuleError}
 use Rattle.dft_rules.specs.declared.error.RuleError.TheVariants.{UnknownName}
 use Rattle.dft_rules.specs.Refusals.{first_failing, refusal, unknown_port}
 use Rattle.dft_rules.proofs.CheckLemmas.{from_resets}
-use Rattle.dft_vectors.specs.PatternData.{PatternData}
-use Rattle.dft_vector_laws.specs.Listed.{ArePatterns}
 use Rattle.dft_pass_laws.specs.Standing.{Captures, PatternsStand}
 
 -- where no check fails the first does not, and none behind it

@@ -1,7 +1,7 @@
 -- A signal that pulses in some listed vector is low or pulses in each.
 use Rattle.std.proofs.Common.{ℕ, zero, suc, ◌+◌, ◌≡◌, ◌==◌, Bool, true, false, List, [], ◌∷◌, ◌++◌, length, map, get_or, Option, None, Some, slice_get, refl, sym, ap, subst, ◌∙◌}
 use Rattle.std.specs.Prelude.{if◌then◌else◌, replicate, ◌≢◌}
-use Rattle.std.specs.List.{AllZip, range_with_len}
+use Rattle.std.specs.List.{AllZip}
 use Rattle.std.proofs.lemmas.Bool.{eqb-true}
 use Rattle.std.proofs.lemmas.List.{append_assoc}
 use Rattle.dft_base.specs.declared.tri.Tri.{Tri}
@@ -16,13 +16,12 @@ use Rattle.dft_config.specs.Ring.{Table}
 use Rattle.dft_stitch.specs.Chains.{plan_of}
 use Rattle.dft_edt.specs.Unloads.{sent_mask}
 use Rattle.dft_cubes.specs.declared.cube.Merged.{Merged}
-use Rattle.dft_expect.specs.Captures.{bit_of_port, capture_clock, capture_vector, config_ports, output_bits, port_value}
+use Rattle.dft_expect.specs.Captures.{bit_of_port, capture_vector, config_ports, output_bits, port_value}
 use Rattle.dft_expect.specs.Expected.{output_bit}
 use Rattle.dft_expect.specs.Masks.{by_chain}
-use Rattle.dft_patterns.specs.Patterns.{IsSteady, Patterns, act_at}
+use Rattle.dft_patterns.specs.Patterns.{IsSteady, Patterns}
 use Rattle.dft_patterns.specs.declared.act.Act.{Act}
 use Rattle.dft_patterns.specs.declared.act.Act.TheVariants.{Unset, Low, High, Pulse, ExpectLow, ExpectHigh, Ignore}
-use Rattle.dft_replay.specs.Rows.{is_pulse}
 use Rattle.dft_pattern_laws.proofs.Clocks.{pulsed_clock, reset_rests, true_false}
 use Rattle.dft_vectors.specs.AddedPorts.{added_inputs, no_bits, set_all, shifting}
 use Rattle.dft_vectors.specs.OwnPorts.{compare, driven, expect, ignored, inputs_by, outputs_ignored, pulsing_vector, quiet_vector, set_to}

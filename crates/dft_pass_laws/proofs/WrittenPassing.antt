@@ -1,18 +1,17 @@
 -- Compiled patterns pass on their scanned netlist.
-use Rattle.std.proofs.Common.{ℕ, ◌+◌, ◌≡◌, ◌||◌, List, [], ◌∷◌, ◌++◌, length, map, None, refl, sym, ap, subst, arith, ◌∙◌}
+use Rattle.std.proofs.Common.{ℕ, ◌+◌, ◌≡◌, ◌||◌, List, [], ◌∷◌, ◌++◌, refl, sym, ap, subst, arith, ◌∙◌}
 use Rattle.std.specs.Prelude.{not}
 use Rattle.std.specs.List.{list_any}
 use Rattle.std.proofs.lemmas.List.{map-append}
 use Rattle.dft_base.specs.declared.tri.Tri.{Tri}
 use Rattle.dft_netlist.specs.declared.ids.NetId.{NetId}
-use Rattle.dft_netlist.specs.Drivers.{IsOrdered}
-use Rattle.dft_netlist.specs.Logic.{Ports, logic_of}
+use Rattle.dft_netlist.specs.Logic.{logic_of}
 use Rattle.dft_netlist.specs.Netlist.{Netlist}
 use Rattle.dft_netlist.specs.Orders.{IsOrder}
 use Rattle.dft_netlist.specs.Runs.{Vector}
 use Rattle.dft_netlist.specs.Sound.{IsNetlist}
 use Rattle.dft_netlist.proofs.RankLemmas.{order_ranks}
-use Rattle.dft_abstract.specs.Cycle.{Round, all_unknown}
+use Rattle.dft_abstract.specs.Cycle.{all_unknown}
 use Rattle.dft_config.specs.declared.config.Config.{Config}
 use Rattle.dft_stitch.specs.Chains.{plan_of}
 use Rattle.dft_expect.specs.Captures.{output_bits}
@@ -20,7 +19,7 @@ use Rattle.dft_patterns.specs.declared.act.Act.{Act}
 use Rattle.dft_patterns.specs.Patterns.{Patterns}
 use Rattle.dft_replay.specs.declared.verdict.Verdict.TheVariants.{Pass}
 use Rattle.dft_replay.specs.Rows.{act_on, is_pulse, nets_of, ports_in, ports_of, pulses, row_of, rows_from, rows_of}
-use Rattle.dft_replay.specs.Verdicts.{HasVerdict, HasVerdictFrom}
+use Rattle.dft_replay.specs.Verdicts.{HasVerdict}
 use Rattle.dft_replay.proofs.Soundness.{pass_sound}
 use Rattle.dft_scan_frame.specs.Statements.{IsReady}
 use Rattle.dft_scan_hardware.specs.declared.style.Style.TheVariants.{Edt}
@@ -33,7 +32,7 @@ use Rattle.dft_vector_laws.specs.Doing.{AllDo, ports_by}
 use Rattle.dft_vector_laws.specs.Listed.{ArePatterns}
 use Rattle.dft_vector_laws.proofs.Clocking.{set_suits}
 use Rattle.dft_pass_laws.specs.Passing.{set_of}
-use Rattle.dft_pass_laws.specs.Written.{Passes, WrittenPass, all_compared}
+use Rattle.dft_pass_laws.specs.Written.{WrittenPass, all_compared}
 use Rattle.dft_pass_laws.proofs.Agreements.{AllAgree, all_compared_in, passes_from}
 use Rattle.dft_pass_laws.proofs.Counting.{listed_count}
 use Rattle.dft_pass_laws.proofs.Fitting.{signals_fit}
