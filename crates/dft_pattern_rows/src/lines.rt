@@ -20,6 +20,7 @@ use std::alloc::{AllocError, Global};
 const LONGEST: usize = 4096;
 
 /// A netlist, a configuration and cubes.
+#[derive(Clone, Copy)]
 pub(crate) struct Texts<'a> {
     pub(crate) netlist: &'a str,
     pub(crate) config: &'a str,
