@@ -1,7 +1,6 @@
 -- The bytes of the patterns' text are those that are told before any pattern is made.
 use Rattle.std.proofs.Common.{◌≡◌, ℕ, zero, suc, ◌+◌, ◌*◌, ◌/◌, ◌<◌, ◌≤◌, List, [], ◌∷◌, ◌++◌, length, map, refl, sym, subst, ap, ◌∙◌, length-append, arith}
 use Rattle.std.specs.List.{All, range_with_len}
-use Rattle.std.specs.Prelude.{slice_get, Some}
 use Rattle.std.proofs.lemmas.Grind.{flat_map-append}
 use Rattle.std.proofs.lemmas.List.{length-map}
 use Rattle.std.proofs.lemmas.List.Elements.{All-nil, All-cons, All-append}
@@ -39,7 +38,7 @@ use Rattle.dft_encode.specs.Laws.{vectors_in, width}
 use Rattle.dft_encode.proofs.WidthLemmas.{vectors_wide}
 use Rattle.dft_compile.specs.Laws.{BytesAreTold}
 use Rattle.dft_compile.specs.Refusals.{pattern_bytes}
-use Rattle.dft_compile.specs.Texts.{pattern_set, pattern_text}
+use Rattle.dft_compile.specs.Texts.{pattern_set}
 
 -- ---- how many ports are added
 

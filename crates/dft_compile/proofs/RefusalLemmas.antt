@@ -1,5 +1,5 @@
 -- The refusal of a step is the refusal of the compilation, where the steps before it pass.
-use Rattle.std.proofs.Common.{◌≡◌, List, [], ◌∷◌, Option, None, Some, refl, sym, ◌∙◌, ap, subst}
+use Rattle.std.proofs.Common.{◌≡◌, List, [], ◌∷◌, Option, None, Some, refl, sym, ap, subst}
 use Rattle.std.specs.Prelude.{option_map}
 use Rattle.dft_netlist.specs.Netlist.{Netlist}
 use Rattle.dft_config.specs.declared.config.Config.{Config}
@@ -16,7 +16,7 @@ use Rattle.dft_scan_hardware.specs.declared.style.Style.TheVariants.{Edt}
 use Rattle.dft_scan_frame.specs.Refusals as frame
 use Rattle.dft_scan_hardware.specs.Refusals as insert
 use Rattle.dft_compile.specs.declared.error.CompileError.{CompileError}
-use Rattle.dft_compile.specs.declared.error.CompileError.TheVariants.{Rules, Stitch, Insert, Memory}
+use Rattle.dft_compile.specs.declared.error.CompileError.TheVariants.{Rules, Stitch, Insert}
 use Rattle.dft_compile.specs.Errors.{of_rules, of_stitch, of_insert}
 use Rattle.dft_compile.specs.Refusals.{IsRefusal, first_failing, first_refusal}
 

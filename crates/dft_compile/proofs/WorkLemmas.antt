@@ -1,5 +1,5 @@
 -- A compilation whose cubes are placed.
-use Rattle.std.proofs.Common.{◌≡◌, ◌≤◌, ◌<◌, ◌*◌, ◌^◌, ℕ, suc, List, [], ◌∷◌, length, map, None, refl, sym, subst, ap, ◌∙◌, arith}
+use Rattle.std.proofs.Common.{◌≡◌, ◌≤◌, ℕ, suc, List, [], ◌∷◌, length, map, refl, sym, subst, ap, ◌∙◌, arith}
 use Rattle.dft_netlist.specs.declared.ids.InstanceId.{InstanceId}
 use Rattle.dft_netlist.specs.Netlist.{Netlist}
 use Rattle.dft_config.specs.declared.config.Config.{Config}
@@ -14,8 +14,6 @@ use Rattle.dft_merge.specs.Placement.{PlacesAll}
 use Rattle.dft_merge.specs.Rows.{CellRows, cell_row}
 use Rattle.dft_report.specs.declared.limits.TheConstants.{MAX_BYTES}
 use Rattle.dft_stil_tokens.specs.declared.blanks.TheConstants.{MAX_TEXT}
-use Rattle.dft_vectors.specs.PatternData.{PatternData}
-use Rattle.dft_vectors.specs.VectorList.{vectors_of}
 use Rattle.dft_config.specs.Range.{IsInRange}
 use Rattle.dft_patterns.specs.Patterns.{Patterns}
 use Rattle.dft_scan_hardware.specs.declared.style.Style.TheVariants.{Edt}
@@ -25,7 +23,6 @@ use Rattle.dft_encode.specs.declared.encoding.Encoded.{Encoded}
 use Rattle.dft_encode.specs.Compiled.{Placing}
 use Rattle.dft_encode.specs.Encoding.{IsEncoded}
 use Rattle.dft_encode.specs.Counts.{masked_in}
-use Rattle.dft_encode.specs.Laws.{vectors_in}
 use Rattle.dft_compile.specs.declared.texts.CompileTexts.{CompileTexts}
 use Rattle.dft_compile.specs.declared.texts.Counts.{Counts}
 use Rattle.dft_compile.specs.declared.writing.PatternText.{PatternText}

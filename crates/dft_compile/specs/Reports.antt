@@ -1,5 +1,5 @@
 -- The report of a compilation: what the report of a scan says, the load, and what became of each cube.
-use Rattle.std.specs.Prelude.{ℕ, ◌*◌, List, Some}
+use Rattle.std.specs.Prelude.{◌*◌, List, Some}
 use Rattle.dft_netlist.specs.Netlist.{Netlist}
 use Rattle.dft_config.specs.declared.config.Config.{Config}
 use Rattle.dft_stitch.specs.Chains.{plan_of}

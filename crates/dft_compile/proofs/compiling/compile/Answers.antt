@@ -1,14 +1,10 @@
 -- The cubes are placed, and the texts are made of that.
-use Rattle.std.proofs.Common.{◌≡◌, ◌≤◌, ◌+◌, ◌∙◌, List, [], ap, arith, length, map, subst, sym}
+use Rattle.std.proofs.Common.{◌∙◌, List, ap, arith, length, subst, sym}
 use Rattle.std.proofs.lemmas.Result.{IfErr-weaker, IfOk-weaker}
-use Rattle.dft_cubes.specs.declared.cube.Merged.{Merged}
-use Rattle.dft_equations.specs.LoadRows.{AreLoadEquations}
 use Rattle.dft_merge.specs.declared.placed.Placed.{Placed}
 use Rattle.dft_merge.specs.Merging.{Merging, columns_in, rows_in}
 use Rattle.dft_merge.specs.Placement.{PlacesAll}
 use Rattle.dft_merge.specs.Rows.{StandApart}
-use Rattle.dft_netlist.specs.declared.ids.InstanceId.{InstanceId}
-use Rattle.dft_stitch.specs.Chains.{plan_of}
 use Rattle.dft_stitch.specs.Plans.{Plan}
 use Rattle.dft_compile.specs.Compilation.{AreTextsOf, IsCompileOf}
 use Rattle.dft_compile.specs.Refusals.{IsLate, IsRefusal, late_refusal}
