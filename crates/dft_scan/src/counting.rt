@@ -11,7 +11,7 @@ use dft_rules::{Judged, Verdicts};
 use dft_stitch::Chains;
 
 /// Counts what is judged so, of so many instances, and planned so.
-pub(crate) fn counts_of(instances: u32, verdicts: &Verdicts, chains: &Chains) -> Counts
+pub fn counts_of(instances: u32, verdicts: &Verdicts, chains: &Chains) -> Counts
     requires instances { length verdicts.now ≡ instances }
     requires few { length chains.now.lockups < 2 ^ 32 }
     ensures { result ≡ counts_with verdicts.now chains.now }

@@ -9,7 +9,9 @@ mod reporting;
 mod scanning;
 mod texts;
 
+pub use counting::counts_of;
 pub use error::ScanError;
 pub use laws::flip_flops_have_lines;
+pub use reporting::report_of;
 pub use scanning::scan;
 pub use texts::{Counts, ScanTexts};

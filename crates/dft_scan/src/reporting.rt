@@ -15,7 +15,7 @@ use dft_stitch::Chains;
 use std::alloc::{AllocError, Global};
 
 /// The report of a design that is judged so, with these chains, where this is counted.
-pub(crate) fn report_of(
+pub fn report_of(
     alloc: Global,
     design: &Design,
     config: &Config,

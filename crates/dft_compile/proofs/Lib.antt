@@ -1,0 +1,4 @@
+pub mod RefusalLemmas
+pub mod BytesLemmas
+pub mod ReportLemmas
+pub mod LateLemmas

@@ -1,0 +1,5 @@
+pub mod PlacingLemmas
+pub mod PlanLemmas
+pub mod FillingLemmas
+pub mod FindingLemmas
+pub mod WidthLemmas
