@@ -1,2 +1,3 @@
 pub mod VariableLemmas
 pub mod ReportLemmas
+pub mod LineLemmas

@@ -4,3 +4,4 @@ pub use Rattle.dft_report.specs.Written
 pub mod Outcomes
 pub mod Lengths
 pub mod Sums
+pub mod Laws

@@ -2,8 +2,10 @@
 #![tactic(auto)]
 
 mod cell_sums;
+mod laws;
 mod outcomes;
 mod reports;
 
 pub use cell_sums::CellSums;
+pub use laws::cubes_have_lines;
 pub use reports::{cube_reports, lines_length};
