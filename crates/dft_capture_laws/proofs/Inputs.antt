@@ -22,7 +22,7 @@ use Rattle.dft_config.specs.Range.{IsInRange}
 use Rattle.dft_cubes.specs.declared.cube.Merged.{Merged}
 use Rattle.dft_expect.specs.Captures.{capture_vector, config_ports, original}
 use Rattle.dft_expect.proofs.GivenLemmas.{stays}
-use Rattle.dft_capture_laws.proofs.Named.{named_input, reset_rests}
+use Rattle.dft_rules.proofs.NamedPorts.{named_input, reset_rests}
 
 -- ---- inputs of the design
 

@@ -1,3 +1,2 @@
 mod Inputs
-mod Named
 mod Standing

@@ -1,6 +1,6 @@
 -- The cubes of every text are sound: what is added was not there.
 use Rattle.std.proofs.Common.{ℕ, zero, suc, ◌≡◌, ◌<◌, ◌==◌, ◌||◌, ◌⊎◌, inl, inr, Bool, true, false, List, [], ◌∷◌, ◌++◌, length, Option, None, Some, is_none, option_and_then, slice_get, Result, Ok, refl, sym, subst, ap, ◌∙◌}
-use Rattle.std.specs.Prelude.{if◌then◌else◌}
+use Rattle.std.specs.Prelude.{IsSome, if◌then◌else◌}
 use Rattle.std.specs.List.{list_any}
 use Rattle.std.specs.Str.{bytes_eq}
 use Rattle.std.proofs.lemmas.List.Quantifiers.{position-Some}
@@ -13,16 +13,19 @@ use Rattle.dft_netlist.specs.declared.ids.NetId.{NetId}
 use Rattle.dft_netlist.specs.declared.ids.InstanceId.{InstanceId}
 use Rattle.dft_netlist.specs.Netlist.{Netlist}
 use Rattle.dft_netlist.specs.Drivers.{driver}
-use Rattle.dft_netlist.specs.Names.{find_net}
 use Rattle.dft_netlist.specs.Connections.{input_net, is_input}
+use Rattle.dft_netlist.specs.Names.{instance_name}
 use Rattle.dft_netlist.proofs.LookUpLemmas.{net_there}
+use Rattle.dft_rules.specs.ConfigPorts.{config_ports}
 use Rattle.dft_rules.specs.Rules.{flip_flop_named}
 use Rattle.dft_rules.proofs.NameLemmas.{flip_flop_there}
+use Rattle.dft_rules.proofs.NamedPorts.{input_there, not_among}
 use Rattle.dft_lines.specs.Lines.{are_printed, lines_of, words_of}
 use Rattle.dft_cubes.specs.declared.cube.Cube.{Cube}
 use Rattle.dft_cubes.specs.declared.error.CubeError.{CubeError}
-use Rattle.dft_cubes.specs.Cubes.{Line, Begin, SetCell, SetPort, End, Reading, begun, cell_refusal, cubes_from, cubes_of, domain_named, ended, line_of, line_refusal, names_of, or_refused, or_zero, place_of_line, port_refusal, said_refusal, with_cell, with_line, with_port, with_said}
+use Rattle.dft_cubes.specs.Cubes.{Line, Begin, SetCell, SetPort, End, Reading, begun, cell_refusal, cubes_from, cubes_of, domain_named, ended, is_among, line_of, line_refusal, names_of, or_refused, or_zero, place_of_line, port_refusal, said_refusal, with_cell, with_line, with_port, with_said}
 use Rattle.dft_cubes.specs.Laws.{AreCubes, IsCube}
+use Rattle.dft_cubes.proofs.CellNames.{has_name_of}
 use Rattle.dft_cubes.proofs.TextLemmas.{same_number}
 
 -- ---- one more at the end of a list
@@ -111,8 +114,14 @@ domain_less config clock (Some k) is some = (position-Some (λ (name : Text). by
 begun_sound : (n : Netlist) (config : Config) (name clock : Text) → is_none (domain_named config clock) ≡ false → IsCube n config (begun config name clock)
 begun_sound n config name clock some = record {
   domain = domain_less config clock (domain_named config clock) refl some;
-  cells = record { once = λ j k a b at_j at_k same. absurd (nothing_at j a at_j); live = λ k a at_k. absurd (nothing_at k a at_k) };
-  ports = record { once = λ j k a b at_j at_k same. absurd (nothing_at j a at_j); live = λ k a at_k. absurd (nothing_at k a at_k) };
+  cells = record { once = λ j k a b at_j at_k same. absurd (nothing_at j a at_j); live = λ k a at_k. absurd (nothing_at k a at_k); named = λ k a at_k. absurd (nothing_at k a at_k) };
+  ports = record {
+    once = λ j k a b at_j at_k same. absurd (nothing_at j a at_j);
+    live = λ k a at_k. absurd (nothing_at k a at_k);
+    input = λ k a at_k. absurd (nothing_at k a at_k);
+    no_clock = λ k a at_k. absurd (nothing_at k a at_k);
+    no_reset = λ k a at_k. absurd (nothing_at k a at_k);
+  };
 }
 
 -- a cell and a port are given
@@ -127,32 +136,31 @@ with_cell_sound n config cubes cube place name bit (Some cell) is passed pending
         cells = record {
           once = own_push (λ (g : InstanceId × Bool). g.0.0) cube.cells (cell, bit) pending.0.cells.once (λ j a there same. none_has test cube.cells absent j a there (same_number a.0.0 cell.0 same));
           live = each_push (λ (g : InstanceId × Bool). g.0.0 < length n.instances) cube.cells (cell, bit) pending.0.cells.live (flip_flop_there n name cell is);
+          named = each_push (λ (g : InstanceId × Bool). IsSome (option_and_then instance_name (slice_get n.instances g.0.0))) cube.cells (cell, bit) pending.0.cells.named (has_name_of n name cell is);
         };
         ports = pending.0.ports;
       },
       pending.1,
     )
 
-if_there : (t : Bool) (id k : NetId) → (if t then Some id else None) ≡ Some k → id ≡ k
-if_there true id k h = some_is id k h
-if_there false id k h = absurd (let f : ⊥ = cc in f)
-
-input_by : (n : Netlist) (name : Text) (k : NetId) (o : Option NetId) → find_net n name ≡ o → option_and_then (λ (net : NetId). if is_input (driver n net.0) then Some net else None) o ≡ Some k → k.0 < length n.nets
-input_by n name k None is h = absurd (let f : ⊥ = cc in f)
-input_by n name k (Some id) is h = subst (λ (net : NetId). net.0 < length n.nets) (if_there (is_input (driver n id.0)) id k h) (net_there n name id is)
-
 with_port_sound : (n : Netlist) (config : Config) (cubes : List Cube) (cube : Cube) (place : Place) (name : Text) (bit : Bool) (found : Option NetId) → input_net n name ≡ found →
     port_refusal config cube place name found ≡ None → IsPending n config cubes (Some cube) → IsPending n config cubes (Some (with_port cube found bit))
 with_port_sound n config cubes cube place name bit None is passed pending = absurd (let f : ⊥ = cc in f)
 with_port_sound n config cubes cube place name bit (Some port) is passed pending =
     let test = λ (g : NetId × Bool). g.0.0 == port.0 in
-    let absent : list_any test cube.ports ≡ false = (one_passes (list_any test cube.ports) _ _ passed).0 in (
+    let first = one_passes (list_any test cube.ports) _ _ passed in
+    let absent : list_any test cube.ports ≡ false = first.0 in
+    let apart = or_none (is_among config.domains name) (is_among config.resets name) (one_passes (is_among config.domains name || is_among config.resets name) _ _ first.1).0 in
+    let there = input_there n name port is in (
       record {
         domain = pending.0.domain;
         cells = pending.0.cells;
         ports = record {
           once = own_push (λ (g : NetId × Bool). g.0.0) cube.ports (port, bit) pending.0.ports.once (λ j a there same. none_has test cube.ports absent j a there (same_number a.0.0 port.0 same));
-          live = each_push (λ (g : NetId × Bool). g.0.0 < length n.nets) cube.ports (port, bit) pending.0.ports.live (input_by n name port (find_net n name) refl is);
+          live = each_push (λ (g : NetId × Bool). g.0.0 < length n.nets) cube.ports (port, bit) pending.0.ports.live (net_there n name port there.0);
+          input = each_push (λ (g : NetId × Bool). is_input (driver n g.0.0) ≡ true) cube.ports (port, bit) pending.0.ports.input there.1;
+          no_clock = each_push (λ (g : NetId × Bool). (config_ports n config).is_clock g.0.0 ≡ false) cube.ports (port, bit) pending.0.ports.no_clock (not_among n config.domains name port is apart.0);
+          no_reset = each_push (λ (g : NetId × Bool). (config_ports n config).is_reset g.0.0 ≡ false) cube.ports (port, bit) pending.0.ports.no_reset (not_among n config.resets name port is apart.1);
         };
       },
       pending.1,

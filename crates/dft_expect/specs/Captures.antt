@@ -1,6 +1,5 @@
 -- What a pattern captures: the settled values of the original design with the loaded cells, and the next values of the cells whose clock pulses.
 use Rattle.std.specs.Prelude.{ℕ, Bool, true, false, ◌≡◌, ◌==◌, List, [], ◌∷◌, map, flat_map, Option, None, Some, option_and_then, slice_get, if◌then◌else◌}
-use Rattle.std.specs.List.{list_any}
 use Rattle.dft_base.specs.declared.tri.Tri.{Tri}
 use Rattle.dft_base.specs.declared.tri.Tri.TheVariants.{Zero, One}
 use Rattle.dft_base.specs.declared.dir.Dir.{Dir}
@@ -11,23 +10,17 @@ use Rattle.dft_netlist.specs.declared.ids.InstanceId.{InstanceId}
 use Rattle.dft_netlist.specs.declared.port.Port.{Port}
 use Rattle.dft_netlist.specs.Netlist.{Netlist}
 use Rattle.dft_netlist.specs.Connections.{input_net}
-use Rattle.dft_netlist.specs.Logic.{Logic, Ports, logic_of}
+use Rattle.dft_netlist.specs.Logic.{Logic, logic_of}
 use Rattle.dft_netlist.specs.Settled.{IsTriSettled}
 use Rattle.dft_netlist.specs.Runs.{Vector}
 use Rattle.dft_abstract.specs.Cycle.{strobe_sources}
 use Rattle.dft_abstract.specs.Laws.{next_from}
 use Rattle.dft_config.specs.declared.config.Config.{Config}
 use Rattle.dft_rules.specs.Rules.{is_net}
+pub use Rattle.dft_rules.specs.ConfigPorts.{config_ports}
 use Rattle.dft_cubes.specs.declared.cube.Merged.{Merged}
 use Rattle.dft_expect.specs.declared.response.Response.{Response}
 use Rattle.dft_expect.specs.Loaded.{all_cells, loaded_values}
-
--- the clock ports and the reset ports of a configuration
-abbrev pub config_ports : Netlist → Config → Ports
-config_ports n config = record {
-  is_clock = λ net. list_any (λ name. is_net net (input_net n name)) config.domains;
-  is_reset = λ net. list_any (λ name. is_net net (input_net n name)) config.resets;
-}
 
 -- ---- the capture vector
 

@@ -26,7 +26,7 @@ use Rattle.dft_scan_facts.specs.EdtVectors.{SuitsEdt}
 use Rattle.dft_scan_facts.proofs.Outputs.{one_place}
 use Rattle.dft_scan_facts.proofs.Reaching.{loads_reach}
 use Rattle.dft_load_laws.specs.Loading.{LoadRun, after_load, LoadsAlways, LoadsOnce, AreRows, rows_of, BitsLoad, UnsolvableInRuns}
-use Rattle.dft_pattern_laws.proofs.Lengths.{chains_fit}
+use Rattle.dft_stitch.proofs.LengthLemmas.{chains_fit}
 use Rattle.dft_load_laws.proofs.Running.{loads_run}
 use Rattle.dft_load_laws.proofs.Sums.{row_bit, row_is}
 

@@ -1,14 +1,15 @@
 -- Which cubes a load brings to the cells of a scanned netlist of style Edt (Rajski and others, 2004).
-use Rattle.std.specs.Prelude.{ℕ, ◌≤◌, ◌≡◌, ◌↔◌, Bool, List, length, map, None, Some, slice_get}
+use Rattle.std.specs.Prelude.{ℕ, ◌≡◌, ◌↔◌, Bool, List, length, None, Some, slice_get}
 use Rattle.dft_netlist.specs.declared.ids.InstanceId.{InstanceId}
 use Rattle.dft_netlist.specs.Logic.{Ports}
 use Rattle.dft_netlist.specs.Netlist.{Netlist}
 use Rattle.dft_netlist.specs.Runs.{Now, Vector, Turn, IsTurn, after_turn, AreTurns, IsRun}
 use Rattle.dft_config.specs.declared.config.Config.{Config}
-use Rattle.dft_config.specs.Range.{IsInRange}
 use Rattle.dft_config.specs.Ring.{Table}
 use Rattle.dft_equations.specs.LoadRows.{LoadRows, AreLoadEquations}
 use Rattle.dft_stitch.specs.Chains.{plan_of}
+use Rattle.dft_stitch.specs.Plans.{lengths_of}
+pub use Rattle.dft_stitch.specs.Laws.{ChainsFit}
 use Rattle.dft_runs.specs.Passes.{after_turns}
 use Rattle.dft_edt.specs.Vectors.{IsClearing}
 use Rattle.dft_cubes.specs.declared.cube.Cube.{Cube}
@@ -22,12 +23,6 @@ use Rattle.dft_scan_frame.specs.Statements.{IsReady}
 use Rattle.dft_scan_facts.specs.EdtVectors.{SuitsEdt, edt_logic}
 use Rattle.dft_scan_facts.specs.Experiments.{Carry}
 use Rattle.dft_scan_facts.specs.Facts.{edt_hardware}
-
--- ---- lengths
-
--- No planned chain is longer than a load.
-abbrev pub ChainsFit : Type 0
-ChainsFit = (n : Netlist) (config : Config) (chain : ℕ) (cells : List InstanceId) → IsInRange config → slice_get (plan_of n config).chains chain ≡ Some cells → length cells ≤ (plan_of n config).cycles
 
 -- ---- runs of a load
 
@@ -72,7 +67,7 @@ LoadsRun = (n : Netlist) (config : Config) (ports : Ports) (table : Table) → I
 
 -- the load equations of the planned chains
 abbrev pub AreRows : Netlist → Config → LoadRows → Type 0
-AreRows n config rows = AreLoadEquations config.ring (map length (plan_of n config).chains) (plan_of n config).cycles rows
+AreRows n config rows = AreLoadEquations config.ring (lengths_of (plan_of n config).chains) (plan_of n config).cycles rows
 
 -- by the cell
 abbrev pub rows_of : Netlist → Config → LoadRows → CellRows

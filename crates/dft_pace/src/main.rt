@@ -1,14 +1,16 @@
 //! Times parts of the tool that no command reaches alone. Its words name what is timed, each with sizes behind it:
-//! `equations` with cells a chain, `systems` with columns, `patterns` with vectors, `placements` and `insertion` with chains. With no words
-//! it times each once, small. The times go to standard error. It promises nothing.
+//! `equations` with cells a chain, `systems` with columns, `patterns` with vectors, `placements` and `insertion` with chains, `captures`
+//! with gates. With no words it times each once, small. The times go to standard error. It promises nothing.
 #![tactic(auto)]
 
+mod captures_pace;
 mod equations_pace;
 mod insertion_pace;
 mod patterns_pace;
 mod placements_pace;
 mod systems_pace;
 
+use captures_pace::time_sweep;
 use equations_pace::time_equations;
 use insertion_pace::time_insertion;
 use patterns_pace::time_patterns;
@@ -26,6 +28,7 @@ enum Timed {
     Patterns,
     Placements,
     Insertion,
+    Captures,
 }
 
 fn main(rt: HostRuntime) -> io::Result<()> {
@@ -39,6 +42,7 @@ fn main(rt: HostRuntime) -> io::Result<()> {
             "patterns" => timed = Some(Timed::Patterns),
             "placements" => timed = Some(Timed::Placements),
             "insertion" => timed = Some(Timed::Insertion),
+            "captures" => timed = Some(Timed::Captures),
             size => {
                 if let (Some(timed), Ok(size)) = (timed, size.parse::<u32>()) {
                     time(&rt, rt.alloc(), timed, size)?;
@@ -50,8 +54,9 @@ fn main(rt: HostRuntime) -> io::Result<()> {
         time(&rt, rt.alloc(), Timed::Equations, 64)?;
         time(&rt, rt.alloc(), Timed::Systems, 256)?;
         time(&rt, rt.alloc(), Timed::Patterns, 1000)?;
-        time(&rt, rt.alloc(), Timed::Placements, 16)?;
+        time(&rt, rt.alloc(), Timed::Placements, 32)?;
         time(&rt, rt.alloc(), Timed::Insertion, 32)?;
+        time(&rt, rt.alloc(), Timed::Captures, 1000)?;
     }
     Ok(())
 }
@@ -63,5 +68,6 @@ fn time(rt: &(impl Clock + Eprint), alloc: Global, timed: Timed, size: u32) -> i
         Timed::Patterns => time_patterns(rt, alloc, size),
         Timed::Placements => time_placements(rt, alloc, size),
         Timed::Insertion => time_insertion(rt, alloc, size),
+        Timed::Captures => time_sweep(rt, alloc, size),
     }
 }

@@ -57,7 +57,7 @@ use Rattle.dft_scan_facts.specs.Facts.{edt_hardware}
 use Rattle.dft_scan_facts.proofs.Captured.{captures_follow, strobes_follow}
 use Rattle.dft_scan_facts.proofs.Planned.{planned}
 use Rattle.dft_scan_facts.proofs.Reaching.{loads_reach, unloads_show}
-use Rattle.dft_pattern_laws.proofs.Lengths.{chains_fit}
+use Rattle.dft_stitch.proofs.LengthLemmas.{chains_fit}
 use Rattle.dft_pattern_laws.specs.Given.{Pattern, IsPattern, IsLoadOf, IsCaptureOf}
 use Rattle.dft_pattern_laws.specs.Rounds.{ShowsCapture}
 use Rattle.dft_pattern_laws.proofs.Clocks.{named_input, pulsed_rests, reset_rests}

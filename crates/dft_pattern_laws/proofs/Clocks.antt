@@ -1,92 +1,13 @@
--- Ports that a configuration names: inputs, clocks and resets.
-use Rattle.std.proofs.Common.{ℕ, zero, suc, ◌+◌, ◌≡◌, ◌||◌, Bool, true, false, cond, List, [], ◌∷◌, Option, None, Some, option_and_then, slice_get, refl, sym, ap, arith, ◌∙◌}
-use Rattle.std.specs.Prelude.{if◌then◌else◌}
-use Rattle.std.specs.List.{list_any}
-use Rattle.std.specs.Str.{bytes_eq}
-use Rattle.std.proofs.lemmas.Bool.{eqb-true}
-use Rattle.std.proofs.lemmas.Option.{none-some, same_Some, get_or_from_slice_get, slice_get_within}
+-- The clock that captures is a clock of the configuration.
+use Rattle.std.proofs.Common.{ℕ, ◌≡◌, Bool, true, false, Option, None, Some, option_and_then, slice_get, refl}
 use Rattle.dft_base.specs.Lexing.{Text}
-use Rattle.dft_netlist.specs.declared.ids.NetId.{NetId}
-use Rattle.dft_netlist.specs.Connections.{is_input, input_net}
-use Rattle.dft_netlist.specs.Drivers.{driver}
-use Rattle.dft_netlist.specs.Names.{find_net, find_net_from}
+use Rattle.dft_netlist.specs.Connections.{input_net}
 use Rattle.dft_netlist.specs.Netlist.{Netlist}
-use Rattle.dft_netlist.proofs.NamesLemmas.{same_of, bytes_eq-same}
 use Rattle.dft_config.specs.declared.config.Config.{Config}
-use Rattle.dft_config.specs.Range.{IsInRange, has}
 use Rattle.dft_rules.specs.Rules.{is_net}
+pub use Rattle.dft_rules.proofs.NamedPorts.{any_at, named_input, not_both, reset_rests, true_false}
 use Rattle.dft_expect.specs.Captures.{capture_clock}
 use Rattle.dft_scan_frame.specs.ConfigPorts.{config_ports}
-
-pub true_false : (b : Bool) → b ≡ true → b ≡ false → ⊥
-true_false true e f = cc
-true_false false e f = cc
-
--- ---- the net of a name
-
-by_first : (t : Bool) (from : ℕ) (x : Text) (nets : List Text) (q : Text) (k : NetId) → bytes_eq x q ≡ t → (find_net_from (suc from) nets q ≡ Some k → (j : ℕ) × (k.0 ≡ suc from + j) × (slice_get nets j ≡ Some q)) →
-    cond t (Some (record { 0 = from })) (find_net_from (suc from) nets q) ≡ Some k → (j : ℕ) × (k.0 ≡ from + j) × (slice_get (x ∷ nets) j ≡ Some q)
-by_first true from x nets q k is more h = (0, sym (ap (λ (i : NetId). i.0) (same_Some (record { 0 = from }) k h)) ∙ omega arith, ap Some (same_of x q is))
-by_first false from x nets q k is more h = let r = more h in (suc r.0, r.1 ∙ omega arith, r.2)
-
-found_at : (from : ℕ) (nets : List Text) (q : Text) (k : NetId) → find_net_from from nets q ≡ Some k → (j : ℕ) × (k.0 ≡ from + j) × (slice_get nets j ≡ Some q)
-found_at from [] q k h = absurd (none-some k h)
-found_at from (x ∷ nets) q k h = by_first (bytes_eq x q) from x nets q k refl (found_at (suc from) nets q k) h
-
-name_at : (n : Netlist) (q : Text) (net : ℕ) → find_net n q ≡ Some (record { 0 = net }) → slice_get n.nets net ≡ Some q
-name_at n q net h = let r = found_at 0 n.nets q (record { 0 = net }) h in let at : net ≡ r.0 = r.1 ∙ omega arith in ap (slice_get n.nets) at ∙ r.2
-
--- a name whose input net this is
-this_or : (n : Netlist) (net : ℕ) (other : NetId) (b : Bool) → is_input (driver n other.0) ≡ b → is_net net (if b then Some other else None) ≡ true → (Some other ≡ Some (record { 0 = net })) × (is_input (driver n net) ≡ true)
-this_or n net other true is h = let same : other.0 ≡ net = eqb-true other.0 net h in (ap (λ k. Some (record { 0 = k })) same, ap (λ k. is_input (driver n k)) (sym same) ∙ is)
-this_or n net other false is h = absurd (true_false false h refl)
-
-input_by : (n : Netlist) (net : ℕ) (o : Option NetId) → is_net net (option_and_then (λ (k : NetId). if is_input (driver n k.0) then Some k else None) o) ≡ true → (o ≡ Some (record { 0 = net })) × (is_input (driver n net) ≡ true)
-input_by n net None h = absurd (true_false false h refl)
-input_by n net (Some other) h = this_or n net other (is_input (driver n other.0)) refl h
-
--- ---- named nets
-
-or_left : (a b : Bool) → a ≡ true → (a || b) ≡ true
-or_left true b e = refl
-or_left false b e = absurd (true_false false e refl)
-
-or_right : (a b : Bool) → b ≡ true → (a || b) ≡ true
-or_right true b e = refl
-or_right false b e = e
-
-any_by : {X : Type 0} (q : X → Bool) (x : X) (xs : List X) (t : Bool) → q x ≡ t → (t || list_any q xs) ≡ true → (list_any q xs ≡ true → (k : ℕ) × (y : X) × (slice_get xs k ≡ Some y) × (q y ≡ true)) →
-    (k : ℕ) × (y : X) × (slice_get (x ∷ xs) k ≡ Some y) × (q y ≡ true)
-any_by q x xs true is h more = (zero, x, refl, is)
-any_by q x xs false is h more = let r = more h in (suc r.0, r.1, r.2, r.3)
-
-any_there : {X : Type 0} (q : X → Bool) (xs : List X) → list_any q xs ≡ true → (k : ℕ) × (y : X) × (slice_get xs k ≡ Some y) × (q y ≡ true)
-any_there q [] h = absurd (true_false false h refl)
-any_there q (x ∷ xs) h = any_by q x xs (q x) refl h (any_there q xs)
-
-pub any_at : {X : Type 0} (q : X → Bool) (xs : List X) (k : ℕ) (y : X) → slice_get xs k ≡ Some y → q y ≡ true → list_any q xs ≡ true
-any_at q [] k y at is = absurd (none-some y at)
-any_at q (x ∷ xs) zero y at is = or_left (q x) (list_any q xs) (ap q (same_Some x y at) ∙ is)
-any_at q (x ∷ xs) (suc k) y at is = or_right (q x) (list_any q xs) (any_at q xs k y at is)
-
-has_at : (xs : List Text) (k : ℕ) (y : Text) → slice_get xs k ≡ Some y → has bytes_eq xs y ≡ true
-has_at [] k y at = absurd (none-some y at)
-has_at (x ∷ xs) zero y at = or_left (bytes_eq x y) (has bytes_eq xs y) (ap (λ z. bytes_eq z y) (same_Some x y at) ∙ bytes_eq-same y)
-has_at (x ∷ xs) (suc k) y at = or_right (bytes_eq x y) (has bytes_eq xs y) (has_at xs k y at)
-
--- a name of these, with its net
-named : (n : Netlist) (net : ℕ) (names : List Text) → list_any (λ name. is_net net (input_net n name)) names ≡ true →
-    (k : ℕ) × (name : Text) × (slice_get names k ≡ Some name) × (find_net n name ≡ Some (record { 0 = net })) × (is_input (driver n net) ≡ true)
-named n net names h =
-    let r = any_there (λ name. is_net net (input_net n name)) names h in
-    let is = input_by n net (find_net n r.1) r.3 in
-    (r.0, r.1, r.2, is.0, is.1)
-
--- a net that a configuration names is an input
-pub named_input : (n : Netlist) (net : ℕ) (names : List Text) → list_any (λ name. is_net net (input_net n name)) names ≡ true → is_input (driver n net) ≡ true
-named_input n net names h = (named n net names h).4
-
--- ---- clocks and resets
 
 clock_by : (n : Netlist) (config : Config) (net domain : ℕ) (o : Option Text) → slice_get config.domains domain ≡ o → is_net net (option_and_then (input_net n) o) ≡ true → (config_ports n config).is_clock net ≡ true
 clock_by n config net domain None at h = absurd (true_false false h refl)
@@ -95,21 +16,6 @@ clock_by n config net domain (Some name) at h = any_at (λ (name : Text). is_net
 -- the clock that captures is a clock
 pub pulsed_clock : (n : Netlist) (config : Config) (net domain : ℕ) → is_net net (capture_clock n config domain) ≡ true → (config_ports n config).is_clock net ≡ true
 pulsed_clock n config net domain h = clock_by n config net domain (slice_get config.domains domain) refl h
-
-not_both : (b : Bool) → (b ≡ true → ⊥) → b ≡ false
-not_both true never = absurd (never refl)
-not_both false never = refl
-
--- no reset is a clock
-pub reset_rests : (n : Netlist) (config : Config) (net : ℕ) → IsInRange config → (config_ports n config).is_reset net ≡ true → (config_ports n config).is_clock net ≡ false
-reset_rests n config net range reset = not_both ((config_ports n config).is_clock net) (λ clock.
-    let r = named n net config.resets reset in
-    let d = named n net config.domains clock in
-    let same : d.1 ≡ r.1 = same_Some d.1 r.1 (sym (name_at n d.1 net d.3) ∙ name_at n r.1 net r.3) in
-    true_false (has bytes_eq config.domains r.1) (has_at config.domains d.0 r.1 (d.2 ∙ ap Some same)) (apart_at r.0 r.1 r.2))
-  where
-    apart_at : (k : ℕ) (name : Text) → slice_get config.resets k ≡ Some name → has bytes_eq config.domains name ≡ false
-    apart_at k name at = ap (λ (t : Text). has bytes_eq config.domains t) (sym (get_or_from_slice_get config.resets k name name at)) ∙ range.apart k name (slice_get_within config.resets k name at)
 
 pub pulsed_rests : (n : Netlist) (config : Config) (net domain : ℕ) → (config_ports n config).is_clock net ≡ false → is_net net (capture_clock n config domain) ≡ false
 pulsed_rests n config net domain rests = not_both (is_net net (capture_clock n config domain)) (λ pulse. true_false ((config_ports n config).is_clock net) (pulsed_clock n config net domain pulse) rests)

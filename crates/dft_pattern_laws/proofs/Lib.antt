@@ -1,5 +1,4 @@
 pub mod Clocks
-pub mod Lengths
 pub mod Lists
 pub mod Loaded
 pub mod Unloading

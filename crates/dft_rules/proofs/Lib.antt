@@ -4,6 +4,7 @@ pub mod JudgeLemmas
 pub mod CheckLemmas
 pub mod PinLemmas
 pub mod NameLemmas
+pub mod NamedPorts
 pub mod MarkLemmas
 pub mod PlaceLemmas
 pub mod WorkedRules

@@ -1,6 +1,6 @@
 -- The report of a scan: how many cells and chains there are, how long the chains are, where each cell stands, and why the other
 -- flip-flops are not scanned.
-use Rattle.std.specs.Prelude.{ℕ, Bool, true, false, List, [], length, map, flat_map, count_by, Option, None, Some, option_and_then, slice_get, slice_index_or}
+use Rattle.std.specs.Prelude.{ℕ, Bool, true, false, List, [], length, flat_map, count_by, Option, None, Some, option_and_then, slice_get, slice_index_or}
 use Rattle.std.specs.List.{filter_map, enumerate_from}
 use Rattle.dft_base.specs.Lexing.{Text}
 use Rattle.dft_netlist.specs.declared.ids.InstanceId.{InstanceId}
@@ -13,6 +13,7 @@ use Rattle.dft_rules.specs.declared.judged.Judged.TheVariants.{Scanned, Unscanne
 use Rattle.dft_rules.specs.Rules.{judgements}
 use Rattle.dft_rules.specs.Refusals.{is_scanned}
 use Rattle.dft_stitch.specs.Chains.{domain_of, plan_of}
+pub use Rattle.dft_stitch.specs.Plans.{lengths_of}
 use Rattle.dft_report.specs.declared.report.ScannedLine.{ScannedLine}
 use Rattle.dft_report.specs.declared.report.UnscannedLine.{UnscannedLine}
 use Rattle.dft_report.specs.declared.report.Report.{Report}
@@ -71,9 +72,6 @@ scanned_count verdicts = count_by is_scanned verdicts
 
 abbrev pub unscanned_count : List (Option Judged) → ℕ
 unscanned_count verdicts = count_by is_unscanned verdicts
-
-abbrev pub lengths_of : List (List InstanceId) → List ℕ
-lengths_of chains = map (λ cells. length cells) chains
 
 -- No patterns are made, so there is no load, and there are no cubes.
 abbrev pub report_with : Netlist → Config → List (Option Judged) → (chains : List (List InstanceId)) → Report

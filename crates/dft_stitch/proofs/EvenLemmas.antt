@@ -9,7 +9,7 @@ use Rattle.dft_stitch.specs.Laws.{ChainsHoldCells, ChainsAreEven}
 
 -- ---- the lengths of parts come to the whole
 
-abbrev total : List ℕ → ℕ
+abbrev pub total : List ℕ → ℕ
 total [] = 0
 total (x ∷ xs) = x + total xs
 
@@ -21,7 +21,7 @@ parts_total : (each r k m : ℕ) → total (map (λ c. each + cond (nat_lt c r) 
 parts_total each r k zero = omega arith
 parts_total each r k (suc m) = extra (nat_lt k r) each r k m (total (map (λ c. each + cond (nat_lt c r) 1 0) (range_with_len (k + 1) m))) refl (parts_total each r (k + 1) m)
 
-lengths_total : (cells chains : ℕ) → 1 ≤ chains → total (chain_lengths cells chains) ≡ cells
+pub lengths_total : (cells chains : ℕ) → 1 ≤ chains → total (chain_lengths cells chains) ≡ cells
 lengths_total cells chains some =
     let all = parts_total (cells / chains) (cells % chains) 0 chains in
     let less : cells % chains < chains = omega arith in
@@ -37,7 +37,7 @@ joined {T = T} (l ∷ lengths) items e =
     let left = length-drop l items in
     ap (λ (rest : List T). take l items ++ rest) (joined lengths (drop l items) (omega arith)) ∙ take-append-drop l items
 
-at_block : {T : Type 0} (lengths : List ℕ) (items : List T) (k : ℕ) (block : List T) → total lengths ≡ length items → slice_get (blocks lengths items) k ≡ Some block → slice_get lengths k ≡ Some (length block)
+pub at_block : {T : Type 0} (lengths : List ℕ) (items : List T) (k : ℕ) (block : List T) → total lengths ≡ length items → slice_get (blocks lengths items) k ≡ Some block → slice_get lengths k ≡ Some (length block)
 at_block {T = T} [] items k block e at = absurd (let f : ⊥ = cc in f)
 at_block {T = T} (l ∷ lengths) items zero block e at =
     let is : take l items ≡ block = cc in

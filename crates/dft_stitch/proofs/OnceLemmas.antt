@@ -231,7 +231,7 @@ source_within_names : (n : Netlist) (names : List Text) (o : Option Source) (d :
 source_within_names n names None d h = absurd (let f : ⊥ = cc in f)
 source_within_names n names (Some source) d h = root_within_names n names (root_of n source) d h
 
-domain_within : (n : Netlist) (config : Config) (i d : ℕ) → judged n config i ≡ Some (Scanned d) → d < length config.domains
+pub domain_within : (n : Netlist) (config : Config) (i d : ℕ) → judged n config i ≡ Some (Scanned d) → d < length config.domains
 domain_within n config i d h =
     source_within_names n config.domains (pin_of Clock i (pins_of n i)) d
     (scanned_in (may_be_scanned (kind_at n i)) (clock_domain n config i) (are_held_at n config i) (is_some (scan_cell_of n i)) (is_kept n config.keep i) d h)

@@ -41,3 +41,7 @@ pub record IsScanned (n : Netlist) (config : Config) (i : ℕ) : Type 0 where
 abbrev pub CellsAreScanned : Type 0
 CellsAreScanned =
     (n : Netlist) (config : Config) (chain place : ℕ) (cell : InstanceId) → IsInRange config → cell_at (plan_of n config).chains chain place ≡ Some cell → IsScanned n config cell.0
+
+-- No planned chain is longer than a load.
+abbrev pub ChainsFit : Type 0
+ChainsFit = (n : Netlist) (config : Config) (chain : ℕ) (cells : List InstanceId) → IsInRange config → slice_get (plan_of n config).chains chain ≡ Some cells → length cells ≤ (plan_of n config).cycles

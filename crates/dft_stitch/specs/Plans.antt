@@ -1,5 +1,5 @@
 -- What is planned for a design: its chains, its lock-ups and the cycles of a load.
-use Rattle.std.specs.Prelude.{ℕ, List, Option, slice_get, option_and_then}
+use Rattle.std.specs.Prelude.{ℕ, List, length, map, Option, slice_get, option_and_then}
 use Rattle.dft_netlist.specs.declared.ids.InstanceId.{InstanceId}
 use Rattle.dft_stitch.specs.declared.places.LockupPlace.{LockupPlace}
 
@@ -12,3 +12,7 @@ pub record Plan : Type 0 where
 -- the cell at a place of a chain
 abbrev pub cell_at : List (List InstanceId) → (chain place : ℕ) → Option InstanceId
 cell_at chains chain place = option_and_then (λ cells. slice_get cells place) (slice_get chains chain)
+
+-- the lengths of chains
+abbrev pub lengths_of : List (List InstanceId) → List ℕ
+lengths_of chains = map length chains

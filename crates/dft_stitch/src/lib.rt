@@ -16,7 +16,9 @@ pub use cells::Cells;
 pub use chains::Chains;
 pub use cutting::domain_of;
 pub use error::{Counted, StitchError};
-pub use laws::{cells_are_scanned, cells_stand_once, chains_are_even, chains_hold_cells};
+pub use laws::{
+    cells_are_scanned, cells_stand_once, chains_are_even, chains_fit_loads, chains_hold_cells,
+};
 pub use limits::{MAX_CELLS, MAX_CYCLES, MAX_VARIABLES};
 pub use places::{CellPlace, LockupPlace};
 pub use planning::plan;

@@ -1,6 +1,8 @@
 //! Texts worked by hand, as tests of the readers: they call what the readers' crates offer to everybody.
 #![tactic(auto)]
 
+mod designs;
+
 #[cfg(test)]
 mod cube_files;
 #[cfg(test)]
@@ -17,5 +19,5 @@ mod netlist_written;
 mod pattern_lines;
 #[cfg(test)]
 mod patterns;
-#[cfg(test)]
-mod placements;
+
+pub use designs::ring_of_forty;

@@ -1,5 +1,5 @@
 -- Chains fit loads, and sums are loads.
-use Rattle.dft_pattern_laws.proofs.Lengths.{chains_fit}
+use Rattle.dft_stitch.proofs.LengthLemmas.{chains_fit}
 use Rattle.dft_load_laws.proofs.Sums.{sums_are_loads}
 use Rattle.dft_load_laws.proofs.laws.loads_bring.Goals as goal
 

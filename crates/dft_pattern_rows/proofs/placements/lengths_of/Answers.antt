@@ -2,7 +2,7 @@ use Rattle.std.proofs.Common.{◌≡◌, ◌++◌, ◌∷◌, ◌∙◌, List, [
 use Rattle.std.proofs.lemmas.List.{map_more}
 use Rattle.std.proofs.lemmas.Option.{get_or_from_slice_get, slice_get_within}
 use Rattle.dft_netlist.specs.declared.ids.InstanceId.{InstanceId}
-use Rattle.dft_texts.proofs.placements.lengths_of.Goals as goal
+use Rattle.dft_pattern_rows.proofs.placements.lengths_of.Goals as goal
 
 pub loop-chain-preserved : goal.loop-chain-preserved
 loop-chain-preserved c =

@@ -15,9 +15,9 @@ use Rattle.dft_netlist.proofs.NamesLemmas.{same_of, bytes_eq-same}
 use Rattle.dft_config.specs.declared.config.Config.{Config}
 use Rattle.dft_config.specs.Range.{IsInRange, has}
 use Rattle.dft_rules.specs.Rules.{is_net}
-use Rattle.dft_expect.specs.Captures.{config_ports}
+use Rattle.dft_rules.specs.ConfigPorts.{config_ports}
 
-true_false : (b : Bool) → b ≡ true → b ≡ false → ⊥
+pub true_false : (b : Bool) → b ≡ true → b ≡ false → ⊥
 true_false true e f = cc
 true_false false e f = cc
 
@@ -32,7 +32,7 @@ found_at : (from : ℕ) (nets : List Text) (q : Text) (k : NetId) → find_net_f
 found_at from [] q k h = absurd (none-some k h)
 found_at from (x ∷ nets) q k h = by_first (bytes_eq x q) from x nets q k refl (found_at (suc from) nets q k) h
 
-name_at : (n : Netlist) (q : Text) (net : ℕ) → find_net n q ≡ Some (record { 0 = net }) → slice_get n.nets net ≡ Some q
+pub name_at : (n : Netlist) (q : Text) (net : ℕ) → find_net n q ≡ Some (record { 0 = net }) → slice_get n.nets net ≡ Some q
 name_at n q net h = let r = found_at 0 n.nets q (record { 0 = net }) h in let at : net ≡ r.0 = r.1 ∙ omega arith in ap (slice_get n.nets) at ∙ r.2
 
 -- a name whose input net this is
@@ -63,13 +63,18 @@ any_there : {X : Type 0} (q : X → Bool) (xs : List X) → list_any q xs ≡ tr
 any_there q [] h = absurd (true_false false h refl)
 any_there q (x ∷ xs) h = any_by q x xs (q x) refl h (any_there q xs)
 
+pub any_at : {X : Type 0} (q : X → Bool) (xs : List X) (k : ℕ) (y : X) → slice_get xs k ≡ Some y → q y ≡ true → list_any q xs ≡ true
+any_at q [] k y at is = absurd (none-some y at)
+any_at q (x ∷ xs) zero y at is = or_left (q x) (list_any q xs) (ap q (same_Some x y at) ∙ is)
+any_at q (x ∷ xs) (suc k) y at is = or_right (q x) (list_any q xs) (any_at q xs k y at is)
+
 has_at : (xs : List Text) (k : ℕ) (y : Text) → slice_get xs k ≡ Some y → has bytes_eq xs y ≡ true
 has_at [] k y at = absurd (none-some y at)
 has_at (x ∷ xs) zero y at = or_left (bytes_eq x y) (has bytes_eq xs y) (ap (λ z. bytes_eq z y) (same_Some x y at) ∙ bytes_eq-same y)
 has_at (x ∷ xs) (suc k) y at = or_right (bytes_eq x y) (has bytes_eq xs y) (has_at xs k y at)
 
 -- a name of these, with its net
-named : (n : Netlist) (net : ℕ) (names : List Text) → list_any (λ name. is_net net (input_net n name)) names ≡ true →
+pub named : (n : Netlist) (net : ℕ) (names : List Text) → list_any (λ name. is_net net (input_net n name)) names ≡ true →
     (k : ℕ) × (name : Text) × (slice_get names k ≡ Some name) × (find_net n name ≡ Some (record { 0 = net })) × (is_input (driver n net) ≡ true)
 named n net names h =
     let r = any_there (λ name. is_net net (input_net n name)) names h in
@@ -82,7 +87,7 @@ named_input n net names h = (named n net names h).4
 
 -- ---- clocks and resets
 
-not_both : (b : Bool) → (b ≡ true → ⊥) → b ≡ false
+pub not_both : (b : Bool) → (b ≡ true → ⊥) → b ≡ false
 not_both true never = absurd (never refl)
 not_both false never = refl
 
@@ -96,3 +101,24 @@ reset_rests n config net range reset = not_both ((config_ports n config).is_cloc
   where
     apart_at : (k : ℕ) (name : Text) → slice_get config.resets k ≡ Some name → has bytes_eq config.domains name ≡ false
     apart_at k name at = ap (λ (t : Text). has bytes_eq config.domains t) (sym (get_or_from_slice_get config.resets k name name at)) ∙ range.apart k name (slice_get_within config.resets k name at)
+
+-- ---- an input that a name stands for
+
+found_or : (n : Netlist) (other net : NetId) (b : Bool) → is_input (driver n other.0) ≡ b → (if b then Some other else None) ≡ Some net → (Some other ≡ Some net) × (is_input (driver n net.0) ≡ true)
+found_or n other net true is h = (h, ap (λ (k : NetId). is_input (driver n k.0)) (sym (same_Some other net h)) ∙ is)
+found_or n other net false is h = absurd (none-some net h)
+
+found_by : (n : Netlist) (net : NetId) (o : Option NetId) → option_and_then (λ (k : NetId). if is_input (driver n k.0) then Some k else None) o ≡ Some net → (o ≡ Some net) × (is_input (driver n net.0) ≡ true)
+found_by n net None h = absurd (none-some net h)
+found_by n net (Some other) h = found_or n other net (is_input (driver n other.0)) refl h
+
+-- it is the net of this name, and an input
+pub input_there : (n : Netlist) (name : Text) (net : NetId) → input_net n name ≡ Some net → (find_net n name ≡ Some net) × (is_input (driver n net.0) ≡ true)
+input_there n name net h = found_by n net (find_net n name) h
+
+-- where its name is none of these, it is the net of none of these
+pub not_among : (n : Netlist) (names : List Text) (name : Text) (net : NetId) → input_net n name ≡ Some net → list_any (λ other. bytes_eq other name) names ≡ false → list_any (λ other. is_net net.0 (input_net n other)) names ≡ false
+not_among n names name net is none = not_both (list_any (λ (other : Text). is_net net.0 (input_net n other)) names) (λ among.
+    let r = named n net.0 names among in
+    let same : r.1 ≡ name = same_Some r.1 name (sym (name_at n r.1 net.0 r.3) ∙ name_at n name net.0 (input_there n name net is).0) in
+    true_false (list_any (λ (other : Text). bytes_eq other name) names) (any_at (λ (other : Text). bytes_eq other name) names r.0 r.1 r.2 (ap (λ (x : Text). bytes_eq x name) same ∙ bytes_eq-same name)) none)

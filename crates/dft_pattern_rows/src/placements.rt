@@ -8,31 +8,17 @@ ghost use Rattle.dft_stitch.specs.Chains.{plan_of};
 ghost use Rattle.dft_merge.specs.Merging.{columns_in};
 ghost use Rattle.dft_merge.specs.Rows.{StandApart};
 
-use dft_cells::Library;
+use crate::job::{chains_of, job_of};
+use crate::texts::{ON_CLK, RING, SMALL, TWO_CLOCKS, WIDE, wide_cubes};
 use dft_config::Config;
-use dft_cubes::{Cube, read as read_cubes};
+use dft_cubes::Cube;
 use dft_equations::{Equations, equations};
 use dft_gf2::Fill;
 use dft_merge::{Merger, Placed, fill_bits, plans_stand_apart};
-use dft_netlist::Design;
-use dft_rules::judge;
-use dft_stitch::{Chains, plan};
-use dft_verilog::{MAX_TEXT, read as read_netlist};
+use dft_stitch::Chains;
+use dft_texts::ring_of_forty;
 use std::alloc::{AllocError, Global};
 use std::test::Fail;
-
-// Five flip-flops in two chains, f0 f1 f2 and f3 f4. Instances: g0 0, f0 1, f1 2, f2 3, f3 4, f4 5, g1 6.
-const SMALL: &str =
-    "module m (clk, a, y); input clk, a; output y; NAND2 g0 (.A(a), .B(q4), .Y(d0)); DFF f0 (.CK(clk), .D(d0), .Q(q0)); DFF f1 (.CK(clk), .D(q0), .Q(q1)); DFF f2 (.CK(clk), .D(q1), .Q(q2)); DFF f3 (.CK(clk), .D(q2), .Q(q3)); DFF f4 (.CK(clk), .D(q3), .Q(q4)); INV g1 (.A(q4), .Y(y)); endmodule";
-
-// Four flip-flops on two clocks.
-const TWO_CLOCKS: &str =
-    "module s (ca, cb, d, q); input ca, cb, d; output q; DFF f0 (.CK(ca), .D(d), .Q(n0)); DFF f1 (.CK(cb), .D(n0), .Q(n1)); DFF f2 (.CK(ca), .D(n1), .Q(n2)); DFF f3 (.CK(cb), .D(n2), .Q(q)); endmodule";
-
-const RING: &str =
-    "chains = 2\nring = { stages = 4, channels = 1, taps = [[2, 0]], injectors = [[0, 3]], phase = [[0, 3], [1, 2]] }\ncompactor = { groups = [[0, 1], [1]], mask_inputs = 1 }\n";
-
-const ON_CLK: &str = "version = 1\ndomains = ['clk']\nwarm = 2\nwindow = 4\n";
 
 // Without warm cycles a load has three: the equations are f0 x1, f1 x0, f2 empty, f3 x0, f4 empty.
 const COLD: &str = "version = 1\ndomains = ['clk']\nwarm = 0\nwindow = 4\n";
@@ -301,42 +287,18 @@ fn loaded(
     merged(alloc, config, chains, &equations, cubes)
 }
 
-// The same, over the chains of a design.
-fn planned(
-    alloc: Global,
-    design: &Design,
-    config: &Config,
-    cubes: &[Cube],
-) -> Result<String, AllocError>
-    requires { IsInRange config.now }
-{
-    let Ok(verdicts) = judge(alloc, design, config) else {
-        return String::from_str(alloc, "not judged");
+// What becomes of the cubes of a text, over a netlist and a configuration.
+fn line_for(alloc: Global, netlist: &str, config: &str, cubes: &str) -> Result<String, AllocError> {
+    let Some(job) = job_of(alloc, netlist, config, cubes)? else {
+        return String::from_str(alloc, "not read");
     };
-    let Ok(chains) = plan(alloc, design, config, &verdicts) else {
+    let Some(chains) = chains_of(alloc, &job)? else {
         return String::from_str(alloc, "not planned");
     };
     plans_stand_apart();
     match lengths_of(alloc, &chains, chains.cycles())? {
-        Some(lengths) => loaded(alloc, config, &chains, &lengths, cubes),
+        Some(lengths) => loaded(alloc, &job.config, &chains, &lengths, job.cubes.as_slice()),
         None => String::from_str(alloc, "too long"),
-    }
-}
-
-// What becomes of the cubes of a text, over a netlist and a configuration.
-fn line_for(alloc: Global, netlist: &str, config: &str, cubes: &str) -> Result<String, AllocError> {
-    if netlist.len() > MAX_TEXT || config.len() > 4096 || cubes.len() > 4096 {
-        return String::from_str(alloc, "too long");
-    }
-    let Ok(design) = read_netlist(alloc, netlist.as_bytes(), Library::standard(alloc)?) else {
-        return String::from_str(alloc, "no netlist");
-    };
-    let Ok(config) = Config::read(alloc, config.as_bytes()) else {
-        return String::from_str(alloc, "no configuration");
-    };
-    match read_cubes(alloc, cubes.as_bytes(), &design, &config) {
-        Ok(cubes) => planned(alloc, &design, &config, &cubes),
-        Err(_) => String::from_str(alloc, "no cubes"),
     }
 }
 
@@ -369,5 +331,14 @@ fn a_seed_fills_by_the_words_of_its_generator(rt: HostRuntime) -> Result<(), Fai
         word = word << 1 | u64::from(*bit);
     }
     assert_eq!(rt; word, 0x7b47_f409_a15c_02b7u64);
+    Ok(())
+}
+
+#[test]
+fn a_cube_of_a_port_alone_joins_the_oldest_pattern(rt: HostRuntime) -> Result<(), Fail> {
+    let netlist = ring_of_forty(rt.alloc())?;
+    let cubes = wide_cubes(rt.alloc())?;
+    let line = line_for(rt.alloc(), netlist.as_str(), WIDE, cubes.as_str())?;
+    assert!(rt; line.as_str().starts_with("0 1 2 3 4 5 6 7 8 9 10 0 | "), "{line}");
     Ok(())
 }

@@ -1,0 +1,114 @@
+//! The captures of a whole group of patterns and a further one, and those of the same patterns one by one.
+
+ghost use Rattle.std.specs.Prelude.{◌≡◌, None};
+ghost use Rattle.dft_config.specs.Range.{IsInRange};
+ghost use Rattle.dft_rules.specs.Refusals.{refusal};
+ghost use Rattle.dft_stitch.specs.Chains.{plan_of};
+
+use crate::captures::{all_merged, push_values};
+use crate::job::{Job, chains_of, job_of};
+use crate::texts::{WIDE, wide_patterns};
+use dft_cubes::Merged;
+use dft_expect::{Capturer, Pattern, Response};
+use dft_stitch::Chains;
+use dft_texts::ring_of_forty;
+use std::alloc::{AllocError, Global};
+use std::test::Fail;
+
+// One more than a sweep takes.
+const PATTERNS: usize = 513;
+
+// Random bits of a load.
+fn draw(alloc: Global, cells: usize, seed: u64) -> Result<Vec<bool>, AllocError> {
+    let mut bits = Vec::with_capacity(alloc, cells)?;
+    let mut state = seed.wrapping_mul(0x9e37_79b9_7f4a_7c15);
+    for _cell in 0..cells {
+        state = state
+            .wrapping_mul(6_364_136_223_846_793_005)
+            .wrapping_add(1_442_695_040_888_963_407);
+        bits.push(state >> 63 == 1)?;
+    }
+    Ok(bits)
+}
+
+fn loads(alloc: Global) -> Result<Vec<Vec<bool>>, AllocError> {
+    let mut loads = Vec::new(alloc);
+    for number in 0..PATTERNS {
+        loads.push(draw(alloc, 40, number as u64)?)?;
+    }
+    Ok(loads)
+}
+
+// The loads by turns with what the cubes set.
+fn patterns_of<'a>(
+    alloc: Global,
+    merged: &'a [Merged],
+    loads: &'a [Vec<bool>],
+) -> Result<Vec<Pattern<'a>>, AllocError> {
+    let mut patterns = Vec::new(alloc);
+    for (number, loaded) in loads.iter().enumerate() {
+        if let Some(merged) = merged.get(number % 11) {
+            patterns.push(Pattern { merged, loaded })?;
+        }
+    }
+    Ok(patterns)
+}
+
+// The values of a response.
+fn push_response(line: &mut String, response: &Response) -> Result<(), AllocError> {
+    push_values(line, response.cells.as_slice())?;
+    push_values(line, response.outputs.as_slice())
+}
+
+fn push_group(
+    alloc: Global,
+    line: &mut String,
+    capturer: &mut Capturer<'_>,
+    patterns: &[Pattern<'_>],
+) -> Result<(), AllocError> {
+    if patterns.len() <= 512 {
+        for response in &capturer.capture_all(alloc, patterns)? {
+            push_response(line, response)?;
+        }
+    }
+    Ok(())
+}
+
+// All responses by groups, and one by one.
+fn both(alloc: Global, job: &Job, chains: &Chains) -> Result<(String, String), AllocError>
+    requires range { IsInRange job.now.config }
+    requires passed { refusal job.now.design job.now.config ≡ None }
+    requires chains { chains.now ≡ plan_of job.now.design job.now.config }
+{
+    let merged = all_merged(alloc, job.cubes.as_slice())?;
+    let loads = loads(alloc)?;
+    let patterns = patterns_of(alloc, &merged, &loads)?;
+    let mut capturer = Capturer::prepare(alloc, &job.design, &job.config, chains)?;
+    let mut grouped = String::new(alloc);
+    let (first, second) = patterns.split_at(patterns.len().min(512));
+    push_group(alloc, &mut grouped, &mut capturer, first)?;
+    push_group(alloc, &mut grouped, &mut capturer, second)?;
+    let mut single = String::new(alloc);
+    for pattern in &patterns {
+        push_response(&mut single, &capturer.capture(alloc, pattern)?)?;
+    }
+    Ok((grouped, single))
+}
+
+#[test]
+fn groups_capture_as_their_patterns_one_by_one(rt: HostRuntime) -> Result<(), Fail> {
+    let netlist = ring_of_forty(rt.alloc())?;
+    let cubes = wide_patterns(rt.alloc())?;
+    let Some(job) = job_of(rt.alloc(), netlist.as_str(), WIDE, cubes.as_str())? else {
+        assert!(rt; false, "the job is read");
+        return Ok(());
+    };
+    let Some(chains) = chains_of(rt.alloc(), &job)? else {
+        assert!(rt; false, "chains are planned");
+        return Ok(());
+    };
+    let (grouped, single) = both(rt.alloc(), &job, &chains)?;
+    assert_eq!(rt; grouped.as_str(), single.as_str());
+    assert_eq!(rt; grouped.len(), PATTERNS * 47);
+    Ok(())
+}
