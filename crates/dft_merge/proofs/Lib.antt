@@ -7,3 +7,5 @@ pub mod OneLemmas
 pub mod SlotLemmas
 pub mod WordLemmas
 pub mod MergerLemmas
+pub mod StayLemmas
+pub mod MergedLemmas

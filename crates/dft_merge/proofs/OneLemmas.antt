@@ -49,7 +49,7 @@ into_one n row window old cube p q new more (inr one) (inl other) = absurd (not_
 into_one n row window old cube p q new more (inr one) (inr other) = (one.number ∙ sym other.number, one.patterns ∙ sym other.patterns)
 
 -- a cube in a pattern is loaded by some channel bits
-into_solvable : (n : ℕ) (row : CellRows) (window : ℕ) (old : List Merged) (cube : Cube) (p : ℕ) (new : List Merged) → Joins n row window old cube p new ⊎ Begins n row window old cube p new → IsSolvable n (equations_of row cube.cells)
+pub into_solvable : (n : ℕ) (row : CellRows) (window : ℕ) (old : List Merged) (cube : Cube) (p : ℕ) (new : List Merged) → Joins n row window old cube p new ⊎ Begins n row window old cube p new → IsSolvable n (equations_of row cube.cells)
 into_solvable n row window old cube p new (inl joins) =
     let solved = joins.fits.solvable in (solved.0, solves_right n solved.0 (equations_of row joins.pattern.cells) (equations_of row cube.cells) solved.1)
 into_solvable n row window old cube p new (inr begins) = begins.solvable

@@ -7,4 +7,5 @@ pub mod Tables
 pub mod Slots
 pub mod Shown
 pub mod Laws
+pub mod Staying
 pub use Rattle.dft_base.specs.Solutions

@@ -14,6 +14,8 @@ mod tables;
 
 pub use dft_cubes::Merged;
 pub use fills::fill_bits;
-pub use laws::{placement_is_one, plans_stand_apart, unsolvable_is_exact};
+pub use laws::{
+    cubes_stay, patterns_are_sound, placement_is_one, plans_stand_apart, unsolvable_is_exact,
+};
 pub use merger::Merger;
 pub use placed::Placed;

@@ -130,14 +130,11 @@ fn time_sweeps(
 }
 
 // Patterns times gates in a microsecond are as many millions in a second.
-fn print_pace(
-    rt: &impl Eprint,
-    gates: u32,
-    patterns: usize,
-    micros: u128,
-) -> io::Result<()> {
+fn print_pace(rt: &impl Eprint, gates: u32, patterns: usize, micros: u128) -> io::Result<()> {
     let pace = (patterns as u128).wrapping_mul(u128::from(gates)) / micros.max(1);
-    eprintln!(rt; "{gates} gates, {patterns} patterns in {micros} us: {pace} million patterns times gates a second")
+    eprintln!(rt;
+        "{gates} gates, {patterns} patterns in {micros} us: {pace} million patterns times gates a second"
+    )
 }
 
 fn time_planned(

@@ -167,12 +167,7 @@ fn is_row(config: &Config, chains: &Chains, row: &[u64]) -> bool
 }
 
 // The bits that a row brings to the cells.
-fn load_of(
-    alloc: Global,
-    job: &Job,
-    chains: &Chains,
-    row: &[u64],
-) -> Result<Vec<bool>, AllocError>
+fn load_of(alloc: Global, job: &Job, chains: &Chains, row: &[u64]) -> Result<Vec<bool>, AllocError>
     requires range { IsInRange job.now.config }
     requires passed { refusal job.now.design job.now.config ≡ None }
     requires chains { chains.now ≡ plan_of job.now.design job.now.config }

@@ -339,6 +339,9 @@ fn a_cube_of_a_port_alone_joins_the_oldest_pattern(rt: HostRuntime) -> Result<()
     let netlist = ring_of_forty(rt.alloc())?;
     let cubes = wide_cubes(rt.alloc())?;
     let line = line_for(rt.alloc(), netlist.as_str(), WIDE, cubes.as_str())?;
-    assert!(rt; line.as_str().starts_with("0 1 2 3 4 5 6 7 8 9 10 0 | "), "{line}");
+    assert!(rt;
+        line.as_str().starts_with("0 1 2 3 4 5 6 7 8 9 10 0 | "),
+        "{line}"
+    );
     Ok(())
 }

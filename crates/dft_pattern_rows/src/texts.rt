@@ -21,7 +21,12 @@ pub(crate) const WIDE: &str =
     "version = 1\ndomains = ['clk']\nresets = ['rst_n']\nchains = 8\nwarm = 8\nwindow = 16\nring = { stages = 8, channels = 2, taps = [[2, 5]], injectors = [[0, 7], [1, 3]], phase = [[7], [3], [1, 7], [3, 6], [0, 7], [2, 3], [0, 5, 7], [1, 3]] }\ncompactor = { groups = [[0, 2, 4, 6], [1, 3, 5, 7]], mask_inputs = 1 }\n";
 
 // A cube that gives four cells the digits of a number, lowest first, and a port where it is to.
-fn push_number(alloc: Global, text: &mut String, number: u32, port: &str) -> Result<(), AllocError> {
+fn push_number(
+    alloc: Global,
+    text: &mut String,
+    number: u32,
+    port: &str,
+) -> Result<(), AllocError> {
     text.push_str(&format!(in alloc; "cube k{number} clk\n")?)?;
     for cell in 0..4u32 {
         let digit = number >> cell & 1;

@@ -1,28 +1,26 @@
 -- Each planned chain of a design that the rules pass has a cell.
-use Rattle.std.proofs.Common.{ℕ, zero, suc, ◌+◌, ◌-◌, ◌*◌, ◌/◌, ◌%◌, ◌<◌, ◌≤◌, ◌≡◌, ◌==◌, min, Bool, true, false, cond, List, [], ◌∷◌, ◌++◌, length, take, drop, map, flat_map, filter_map, count_by, Option, None, Some, option_map, slice_get, refl, sym, subst, ap, arith, ◌∙◌}
+use Rattle.std.proofs.Common.{ℕ, zero, suc, ◌+◌, ◌*◌, ◌/◌, ◌%◌, ◌<◌, ◌≤◌, ◌≡◌, ◌==◌, Bool, true, false, cond, List, [], ◌∷◌, ◌++◌, length, map, flat_map, filter_map, count_by, Option, None, Some, option_map, slice_get, refl, sym, subst, ap, arith, ◌∙◌}
 use Rattle.std.specs.Prelude.{nat_lt, if◌then◌else◌}
 use Rattle.std.specs.List.{cons_option, range_with_len}
 use Rattle.std.proofs.lemmas.Bool.Decides.{nat_tests}
-use Rattle.std.proofs.lemmas.List.{length-append, length-take, length-drop}
+use Rattle.std.proofs.lemmas.List.{length-append}
 use Rattle.std.proofs.lemmas.List.FromFn.{get_or-map-range_with_len, length-map-range_with_len}
 use Rattle.std.proofs.lemmas.List.Sums.{sum_by-cons}
-use Rattle.std.proofs.lemmas.Option.{none-some, same_Some, slice_get-map, slice_get_within}
+use Rattle.std.proofs.lemmas.Option.{none-some, same_Some, slice_get-map}
 use Rattle.dft_netlist.specs.declared.ids.InstanceId.{InstanceId}
 use Rattle.dft_netlist.specs.Netlist.{Netlist}
-use Rattle.dft_netlist.specs.Drivers.{kind_at}
 use Rattle.dft_config.specs.declared.config.Config.{Config}
 use Rattle.dft_config.specs.Cycles.{part_length}
 use Rattle.dft_rules.specs.declared.error.RuleError.{RuleError}
 use Rattle.dft_rules.specs.declared.judged.Judged.{Judged}
 use Rattle.dft_rules.specs.declared.judged.Judged.TheVariants.{Scanned, Unscanned}
 use Rattle.dft_rules.specs.Refusals.{unknown_port, unknown_cell, first_present, clock_as_data, quoted_port, too_few, first_failing, is_scanned, refusal}
-use Rattle.dft_rules.specs.Rules.{judged, judged_by, judgements, may_be_scanned, domain_of, are_held_at, is_kept, scan_cell_of}
-use Rattle.dft_stitch.specs.Chains.{domain_in, if_domain, cell_in, cells_in, blocks, chain_lengths, cells_of, plan_of}
+use Rattle.dft_rules.specs.Rules.{judged, judgements}
+use Rattle.dft_stitch.specs.Chains.{domain_in, if_domain, cell_in, cells_in, chain_lengths, cells_of, plan_of}
 use Rattle.dft_stitch.specs.Chains as chains
+use Rattle.dft_stitch.proofs.EvenLemmas.{at_block, lengths_total}
+use Rattle.dft_stitch.proofs.OnceLemmas.{domain_within}
 use Rattle.dft_scan_frame.specs.Statements.{IsReady}
-use Rattle.dft_scan_frame.proofs.Pairs.{passes}
-use Rattle.std.specs.Prelude.{is_some}
-use Rattle.dft_scan_facts.proofs.Clocks.{clocked}
 use Rattle.dft_scan_facts.proofs.Lockups.{get_range}
 
 -- ---- how often a cell is in domains
@@ -74,15 +72,6 @@ hits_some e from (suc count) low high =
 
 -- ---- scanned flip-flops are cells
 
-scanned_if : (n : Netlist) (config : Config) (i d : ℕ) (b : Bool) →
-    (if b then judged_by (domain_of n config i) (are_held_at n config i) (is_some (scan_cell_of n i)) (is_kept n config.keep i) else None) ≡ Some (Scanned d) → domain_of n config i ≡ Some d
-scanned_if n config i d true e = (passes (domain_of n config i) (are_held_at n config i) (is_some (scan_cell_of n i)) (is_kept n config.keep i) d e).is_domain
-scanned_if n config i d false e = absurd (none-some (Scanned d) e)
-
-domain_within : (n : Netlist) (config : Config) (i d : ℕ) → judged n config i ≡ Some (Scanned d) → d < length config.domains
-domain_within n config i d e =
-    let c = clocked n config i d (scanned_if n config i d (may_be_scanned (kind_at n i)) e) in slice_get_within config.domains d c.name c.named
-
 hit_by : (n : Netlist) (config : Config) (i : ℕ) (o : Option Judged) → judged n config i ≡ o → cond (is_scanned o) 1 0 ≤ hits (domain_in o) (range_with_len 0 (length config.domains))
 hit_by n config i None is = omega arith
 hit_by n config i (Some (Scanned d)) is = hits_some d 0 (length config.domains) (omega arith) (let less = domain_within n config i d is in omega (arith, less))
@@ -126,35 +115,6 @@ cells_enough n config ready =
     omega (arith, some, all, same)
 
 -- ---- blocks
-
-abbrev total : List ℕ → ℕ
-total [] = 0
-total (x ∷ xs) = x + total xs
-
-extra : (t : Bool) (each r k m rest : ℕ) → nat_lt k r ≡ t → rest ≡ m * each + min (r - (k + 1)) m → (each + cond t 1 0) + rest ≡ suc m * each + min (r - k) (suc m)
-extra true each r k m rest is h = let less : k < r = grind (arith, nat_tests) in let more : suc m * each ≡ each + m * each = omega arith in omega arith
-extra false each r k m rest is h = let past : r ≤ k = grind (arith, nat_tests) in let more : suc m * each ≡ each + m * each = omega arith in omega arith
-
-parts_total : (each r k m : ℕ) → total (map (λ c. each + cond (nat_lt c r) 1 0) (range_with_len k m)) ≡ m * each + min (r - k) m
-parts_total each r k zero = omega arith
-parts_total each r k (suc m) = extra (nat_lt k r) each r k m (total (map (λ c. each + cond (nat_lt c r) 1 0) (range_with_len (k + 1) m))) refl (parts_total each r (k + 1) m)
-
-lengths_total : (cells chains : ℕ) → 1 ≤ chains → total (chain_lengths cells chains) ≡ cells
-lengths_total cells chains some =
-    let all = parts_total (cells / chains) (cells % chains) 0 chains in
-    let less : cells % chains < chains = omega arith in
-    let whole : chains * (cells / chains) + cells % chains ≡ cells = omega arith in
-    let few : min (cells % chains - 0) chains ≡ cells % chains = omega arith in
-    all ∙ omega (arith, few, whole)
-
-at_block : {T : Type 0} (lengths : List ℕ) (items : List T) (k : ℕ) (block : List T) → total lengths ≡ length items → slice_get (blocks lengths items) k ≡ Some block → slice_get lengths k ≡ Some (length block)
-at_block {T = T} [] items k block e at = absurd (let f : ⊥ = cc in f)
-at_block {T = T} (l ∷ lengths) items zero block e at =
-    let is : take l items ≡ block = cc in
-    let long = length-take l items in
-    let same : l ≡ length (take l items) = omega arith in
-    ap Some (same ∙ ap (λ (xs : List T). length xs) is)
-at_block {T = T} (l ∷ lengths) items (suc k) block e at = let left = length-drop l items in at_block lengths (drop l items) k block (omega arith) at
 
 some_each : (cells chains q : ℕ) → cells / chains ≡ q → 1 ≤ chains → chains ≤ cells → 1 ≤ cells / chains
 some_each cells chains zero is some few =

@@ -18,15 +18,15 @@ use Rattle.dft_chains.specs.Hardware.{ChainNets}
 use Rattle.dft_chains.specs.Shifts.{at_strobe}
 use Rattle.dft_parts.specs.SumTrees.{tri_sum}
 use Rattle.dft_edt.specs.Feeds.{at_feed, feeds}
-use Rattle.dft_edt.specs.Hardware.{EdtNets, IsEdt, chain_in, before_in}
+use Rattle.dft_edt.specs.Hardware.{EdtNets, IsEdt, chain_in}
 use Rattle.dft_edt.specs.Vectors.{Carries, Shifts}
-use Rattle.dft_edt.proofs.Loads.{shift_in_runs, masks_in_runs, holds_in_runs}
+use Rattle.dft_edt.proofs.Loads.{shift_in_runs, holds_in_runs}
 use Rattle.dft_edt.proofs.Steps.{clear_law, shift_law, mask_law, hold_law, rest_law, output_law, output_in_runs, feeds_there, phase_below}
 use Rattle.dft_edt.proofs.Sums.{known_feeds, known_sum, feeds_step}
 use Rattle.dft_scan_frame.specs.Statements.{IsReady}
 use Rattle.dft_scan_hardware.specs.declared.style.Style.TheVariants.{Edt}
 use Rattle.dft_scan_off.specs.Agreeing.{ports_in}
-use Rattle.dft_scan_facts.specs.EdtVectors.{SuitsEdt, edt_logic, IsShift, AreShifted, last_cell, VectorsActInRuns, VectorsAct}
+use Rattle.dft_scan_facts.specs.EdtVectors.{SuitsEdt, edt_logic, IsShift, AreShifted, AreStepped, last_cell, VectorsActInRuns, VectorsAct}
 use Rattle.dft_scan_facts.specs.Facts.{chain_nets, edt_hardware}
 use Rattle.dft_scan_facts.proofs.EdtUnder.{edt_under, edt_rank}
 use Rattle.dft_scan_facts.proofs.Outputs.{has_chain}
@@ -46,10 +46,6 @@ stage_known config i row s range less =
 
 phase_known : (config : Config) (chain : ℕ) (s : ℕ → Bool) → IsInRange config → tri_sum (map (λ k. known (s k)) (phase_of config.ring chain)) ≡ known (phase_sum config.ring chain s)
 phase_known config chain s range = known_sum config.ring.stages (λ k. known (s k)) s (phase_of config.ring chain) (phase_below config chain range) (λ k inside. refl)
-
-before_known : (config : Config) (sent s : ℕ → Bool) (m k : ℕ) → before_in config (λ i. known (sent i)) (λ chain. known (s chain)) m k ≡ known (before_in config sent s m k)
-before_known config sent s m zero = refl
-before_known config sent s m (suc k) = refl
 
 -- the last cell of a chain is the one behind which no other stands
 last_is : (chains : List (List InstanceId)) (chain place : ℕ) (cell : InstanceId) → cell_at chains chain place ≡ Some cell → cell_at chains chain (suc place) ≡ None → last_cell chains chain ≡ cell
@@ -82,14 +78,20 @@ module _ (n : Netlist) (config : Config) (ports : Ports) (ready : IsReady n conf
   rank : (rank : ℕ → ℕ) × IsRanked l rank
   rank = edt_rank n config ports ready
 
-  shifted : (row : ℕ → Bool) (x : Vector) (now : Now) (t : Turn) → IsShift n config x → Carries config hw row x → AreLow now.state → IsTurn l x now t → AreShifted n config row now.state.flops (after_turn l x now t).state.flops
-  shifted row x now t shift carries low turn =
+  stepped : (row : ℕ → Bool) (x : Vector) (now : Now) (t : Turn) → IsShift n config x → Carries config hw row x → AreLow now.state → IsTurn l x now t → AreStepped n config row now.state.flops (after_turn l x now t).state.flops
+  stepped row x now t shift carries low turn i less =
       let its : Shifts config chains hw (λ j. known (row j)) (bits now.state) (bits (after_turn l x now t).state) = shift_in_runs l rank.0 q config chains w hw row x now t rank.1 has.ring ready.range shift carries low turn in
       let s : ℕ → Bool = λ k. now.state.flops (hw.stage k) in
+      known_same ((after_turn l x now t).state.flops (hw.stage i)) (step config.ring row s i) (its.stages i less ∙ stage_known config i row s ready.range less)
+
+  shifted : (x : Vector) (now : Now) (t : Turn) → IsShift n config x → AreLow now.state → IsTurn l x now t → AreShifted n config now.state.flops (after_turn l x now t).state.flops
+  shifted x now t shift low turn =
+      let s : ℕ → Bool = λ k. now.state.flops (hw.stage k) in
       record {
-        stages = λ i less. known_same ((after_turn l x now t).state.flops (hw.stage i)) (step config.ring row s i) (its.stages i less ∙ stage_known config i row s ready.range less);
-        firsts = λ chain cell stands. known_same ((after_turn l x now t).state.flops cell.0) (phase_sum config.ring chain s) (its.firsts chain cell stands ∙ phase_known config chain s ready.range);
-        others = λ chain place cell next stands follows. known_same ((after_turn l x now t).state.flops next.0) (now.state.flops cell.0) (its.others chain place cell next stands follows);
+        firsts = λ chain cell stands. known_after_turn l rank.0 x now t rank.1 low turn cell.0 (phase_sum config.ring chain s)
+            (λ poss view views. (shift_law l q config chains w hw x (bits now.state) poss view has.ring ready.range shift views).firsts chain cell stands ∙ phase_known config chain s ready.range);
+        others = λ chain place cell next stands follows. known_after_turn l rank.0 x now t rank.1 low turn next.0 (now.state.flops cell.0)
+            (λ poss view views. (shift_law l q config chains w hw x (bits now.state) poss view has.ring ready.range shift views).others chain place cell next stands follows);
       }
 
 pub vectors_act_in_runs : VectorsActInRuns
@@ -103,9 +105,12 @@ vectors_act_in_runs n config ports ready suits =
     let r = edt_rank n config ports ready in
     record {
       shift = shifted n config ports ready suits;
+      step = stepped n config ports ready suits;
       clear = λ x now t clearing low turn i less. known_after_turn l r.0 x now t r.1 low turn (hw.stage i) false (λ poss view views. clear_law l q config chains w hw x (bits now.state) poss view its.ring clearing views i less);
-      masks = λ sent x now t pulsed sends low turn m k m_less k_less. known_same ((after_turn l x now t).state.flops (hw.mask (chain_in config m k))) (before_in config sent (λ chain. now.state.flops (hw.mask chain)) m k)
-          (masks_in_runs l r.0 config chains hw sent x now t r.1 its.compactor pulsed sends low turn m k m_less k_less ∙ before_known config sent (λ chain. now.state.flops (hw.mask chain)) m k);
+      masks = λ x now t pulsed low turn m k m_less k_less. known_after_turn l r.0 x now t r.1 low turn (hw.mask (chain_in config m (suc k))) (now.state.flops (hw.mask (chain_in config m k)))
+          (λ poss view views. mask_law l config chains hw x (bits now.state) poss view its.compactor pulsed views m (suc k) m_less k_less);
+      sent = λ m bit x now t pulsed given low turn m_less some. known_after_turn l r.0 x now t r.1 low turn (hw.mask (chain_in config m zero)) bit
+          (λ poss view views. mask_law l config chains hw x (bits now.state) poss view its.compactor pulsed views m zero m_less some ∙ given);
       stay = λ x now t pulsed off low turn chain less. known_same ((after_turn l x now t).state.flops (hw.hold chain)) (now.state.flops (hw.hold chain))
           ((holds_in_runs l r.0 q config chains w hw x now t r.1 its.ring its.compactor ready.range pulsed low turn).0 off chain less);
       take = λ x now t pulsed on low turn chain less. known_same ((after_turn l x now t).state.flops (hw.hold chain)) (now.state.flops (hw.mask chain))

@@ -1,4 +1,5 @@
--- What one capture vector does to a scanned netlist of style Edt, beside its design.
+-- What one capture vector does to a scanned netlist of style Edt, beside its design. Where it is a clearing vector too, `Acts` says
+-- besides that the ring is 0 then, and that each hold bit is its chain's mask bit of before.
 use Rattle.std.specs.Prelude.{ℕ, ◌<◌, ◌≡◌, ◌==◌, true, false}
 use Rattle.dft_base.specs.declared.tri.Tri.{Tri}
 use Rattle.dft_base.specs.Tri.{AboveTri}
@@ -10,12 +11,10 @@ use Rattle.dft_abstract.specs.Cycle.{AreViews, after_pulse, pulse_of, strobe_sou
 use Rattle.dft_abstract.specs.Laws.{next_from}
 use Rattle.dft_config.specs.declared.config.Config.{Config}
 use Rattle.dft_edt.specs.Captures.{StandsOver, IsCapture}
-use Rattle.dft_edt.specs.Vectors.{IsClearing, Clears, HoldsTake}
 use Rattle.dft_scan_frame.specs.ConfigPorts.{config_ports}
 use Rattle.dft_scan_frame.specs.Statements.{IsReady}
 use Rattle.dft_scan_hardware.specs.declared.style.Style.TheVariants.{Edt}
 use Rattle.dft_scan_off.specs.Agreeing.{places_in}
-use Rattle.dft_scan_facts.specs.Facts.{edt_hardware}
 use Rattle.dft_scan_facts.specs.EdtVectors.{SuitsEdt, edt_logic}
 
 -- the design alone, under the configuration's ports
@@ -42,14 +41,6 @@ CapturesStand n config ports =
     (((design_logic n config).cell cell).domain ≡ d → AboveTri (next_from (design_logic n config) y values cell) (after_pulse l (pulse_of l x old) view cell))
     × ((((design_logic n config).cell cell).domain == d) ≡ false → AboveTri ((pulse_of (design_logic n config) y its).old cell) (after_pulse l (pulse_of l x old) view cell))
 
--- where it is a clearing vector too the ring is 0 then, and each hold bit is its chain's mask bit of before
-abbrev pub CapturesClear : Netlist → Config → Ports → Type 0
-CapturesClear n config ports =
-    (x : Vector) (old poss : ℕ → Tri) (view : ℕ → ℕ → Tri) →
-    let l = edt_logic n config ports in
-    IsClearing (edt_hardware n config) x → AreViews l (pulse_of l x old) poss view →
-    Clears config (edt_hardware n config) (after_pulse l (pulse_of l x old) view) × HoldsTake config (edt_hardware n config) old (after_pulse l (pulse_of l x old) view)
-
 -- ---- for every ready design, under all ports that suit
 
 abbrev pub StrobesFollow : Type 0
@@ -57,6 +48,3 @@ StrobesFollow = (n : Netlist) (config : Config) (ports : Ports) → IsReady n co
 
 abbrev pub CapturesFollow : Type 0
 CapturesFollow = (n : Netlist) (config : Config) (ports : Ports) → IsReady n config → SuitsEdt n config ports → CapturesStand n config ports
-
-abbrev pub CapturesClearAll : Type 0
-CapturesClearAll = (n : Netlist) (config : Config) (ports : Ports) → IsReady n config → SuitsEdt n config ports → CapturesClear n config ports

@@ -1,6 +1,6 @@
 //! Laws of scanned netlists, as contracts of functions that do nothing.
 
-ghost use Rattle.dft_scan_facts.specs.Capturing.{CapturesClearAll, CapturesFollow, StrobesFollow};
+ghost use Rattle.dft_scan_facts.specs.Capturing.{CapturesFollow, StrobesFollow};
 ghost use Rattle.dft_scan_facts.specs.EdtVectors.{HasEdtUnder, VectorsAct, VectorsActInRuns};
 ghost use Rattle.dft_scan_facts.specs.Experiments.{LoadsReach, UnloadsShow};
 ghost use Rattle.dft_scan_facts.specs.Facts.{HasEdtHardware, HasPlainHardware, HasScanChains};
@@ -37,9 +37,9 @@ pub fn edt_loads()
     ensures unloads { UnloadsShow }
 {}
 
-/// In style Edt, what one capture vector does beside the design alone.
+/// In style Edt, what one capture vector does beside the design alone. That one which clears leaves the ring 0, and takes the mask
+/// bits into the hold bits, is told by edt_acts.
 pub fn edt_captures()
     ensures strobes { StrobesFollow }
     ensures captures { CapturesFollow }
-    ensures clears { CapturesClearAll }
 {}

@@ -1,10 +1,9 @@
 //! Texts worked by hand, as tests of the readers: they call what the readers' crates offer to everybody.
 #![tactic(auto)]
 
-mod designs;
-
 #[cfg(test)]
 mod cube_files;
+mod designs;
 #[cfg(test)]
 mod netlist_items;
 #[cfg(test)]

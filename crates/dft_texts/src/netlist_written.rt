@@ -1,5 +1,6 @@
 //! Netlists that are read, written, and read back.
 
+use crate::designs::ring_of_forty;
 use crate::netlist_lines::line_of;
 use dft_cells::Library;
 use dft_verilog::{MAX_TEXT, read};
