@@ -5,6 +5,7 @@ use Rattle.std.specs.Prelude.{slice_get, Some}
 use Rattle.std.proofs.lemmas.Grind.{flat_map-append}
 use Rattle.std.proofs.lemmas.List.{length-map}
 use Rattle.std.proofs.lemmas.List.Elements.{All-nil, All-cons, All-append}
+use Rattle.std.proofs.Math.Nat.{mul-le-mul_right}
 use Rattle.std.proofs.lemmas.Nat.{le-div}
 use Rattle.std.proofs.lemmas.Option.{slice_get-get_or}
 use Rattle.dft_base.specs.Lexing.{Text}
@@ -162,7 +163,7 @@ pattern_before : (cycles from count all : ℕ) → from + count ≤ all → 1 �
 pattern_before cycles from zero all fits some = All-nil (Before (1 + all * suc cycles + cycles))
 pattern_before cycles from (suc count) all fits some =
     All-cons (Before (1 + all * suc cycles + cycles)) (pattern_note cycles from) (map (pattern_note cycles) (range_with_len (from + 1) count))
-    (let less : from * suc cycles ≤ all * suc cycles = grind (arith, fits) in omega (arith, less, some)) (pattern_before cycles (from + 1) count all (omega (arith, fits)) some)
+    (let within : from ≤ all = omega (arith, fits) in let less : from * suc cycles ≤ all * suc cycles = mul-le-mul_right (suc cycles) within in omega (arith, less, some)) (pattern_before cycles (from + 1) count all (omega (arith, fits)) some)
 
 notes_before : (cycles patterns : ℕ) → 1 ≤ cycles → All (Before (vectors_in cycles patterns)) (notes_of cycles patterns)
 notes_before cycles zero some = All-nil (Before 0)

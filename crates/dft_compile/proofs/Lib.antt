@@ -2,3 +2,4 @@ pub mod RefusalLemmas
 pub mod BytesLemmas
 pub mod ReportLemmas
 pub mod LateLemmas
+pub mod WorkLemmas

@@ -18,7 +18,7 @@ use crate::work::{Work, load_equations};
 use dft_config::Config;
 use dft_cubes::Cube;
 use dft_encode::place_all;
-use dft_merge::Merger;
+use dft_merge::{Merger, plans_stand_apart};
 use dft_netlist::Design;
 use std::alloc::Global;
 
@@ -43,6 +43,7 @@ pub fn compile(
 {
     let chains = &prepared.chains;
     let equations = load_equations(alloc, design, config, chains)?;
+    plans_stand_apart();
     let mut merger = Merger::new(alloc, config, chains, &equations)?;
     let placed = place_all(alloc, &mut merger, cubes)?;
     let work = Work {

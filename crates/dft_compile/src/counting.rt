@@ -15,7 +15,7 @@ pub(crate) struct Fates {
 }
 
 /// Counts what became of cubes.
-pub(crate) fn fates(placed: &[Placed]) -> Fates
+pub(crate) fn fates_of(placed: &[Placed]) -> Fates
     requires { length placed.now ≤ 65536 }
     ensures encoded { result.encoded ≡ count_by spec.is_encoded placed.now }
     ensures unsolvable { result.unsolvable ≡ count_by spec.is_unsolvable placed.now }

@@ -16,7 +16,7 @@ ghost use Rattle.dft_compile.specs.Texts as texts;
 ghost use Rattle.dft_compile.specs.Texts.{counts_by};
 ghost use Rattle.dft_compile.specs.Working.{IsWork};
 
-use crate::counting::{fates, vectors_in};
+use crate::counting::{fates_of, vectors_in};
 use crate::error::CompileError;
 use crate::lengths::check_length;
 use crate::prepared::Prepared;
@@ -115,7 +115,7 @@ impl<'a> Work<'a> {
         let chains = &self.prepared.chains;
         let instances = self.design.instances().len() as u32;
         let patterns = self.merger.patterns().len() as u32;
-        let fates = fates(self.placed);
+        let fates = fates_of(self.placed);
         Counts {
             cells: counts_of(instances, &self.prepared.verdicts, chains).cells,
             chains: u32::from(chains.count()),

@@ -2,4 +2,5 @@ pub mod PlacingLemmas
 pub mod PlanLemmas
 pub mod FillingLemmas
 pub mod FindingLemmas
+pub mod EncodingLemmas
 pub mod WidthLemmas

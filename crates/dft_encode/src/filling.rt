@@ -10,7 +10,7 @@ ghost use Rattle.dft_encode.specs.Finding.{AreLoads, Captured, FitsFound, HasPat
 
 use crate::captures::captures;
 use crate::finder::Finder;
-use crate::found::{Found, found};
+use crate::found::{Found, find};
 use crate::loads::{Load, loads};
 use dft_expect::{Capturer, Response};
 use dft_vectors::VectorList;
@@ -66,7 +66,7 @@ fn step(
     requires before { HasPatterns finder.now number filled.old list.old }
     ensures { OnOk result (HasPatterns finder.now (number + 1) filled.new list.new) }
 {
-    let found = found(finder, number, load, response)?;
+    let found = find(finder, number, load, response)?;
     add(list, &filled.last, &found)?;
     filled.masked += masked(found.masks.as_slice()) as u64;
     filled.last = Some(found);

@@ -91,7 +91,7 @@ fn mask_bits(
 }
 
 /// The pattern of this number, where this is its load, and it captures this.
-pub(crate) fn found(
+pub(crate) fn find(
     finder: &Finder<'_>,
     number: usize,
     load: &Load,

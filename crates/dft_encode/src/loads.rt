@@ -20,7 +20,7 @@ pub(crate) struct Load {
 }
 
 /// The load of the pattern of this number.
-fn load(finder: &Finder<'_>, number: u32) -> Result<Load, AllocError>
+fn load_of(finder: &Finder<'_>, number: u32) -> Result<Load, AllocError>
     requires finder { IsFinder finder.now }
     requires number { number < length finder.now.merger.now.patterns }
     ensures { IfOk result (IsLoad finder.now number) }
@@ -47,7 +47,7 @@ pub(crate) fn loads(
 {
     let mut loads = Vec::with_capacity(finder.alloc, count)?;
     for k in 0..count {
-        loads.push(load(finder, (first + k) as u32)?)?;
+        loads.push(load_of(finder, (first + k) as u32)?)?;
     }
     Ok(loads)
 }

@@ -6,6 +6,7 @@ use Rattle.dft_base.specs.Lexing.{Text}
 use Rattle.dft_base.specs.Solutions.{Equation, StatesCertificate, StatesFrom, equation_at, ids_to}
 use Rattle.dft_netlist.specs.declared.ids.InstanceId.{InstanceId}
 use Rattle.dft_netlist.specs.Netlist.{Netlist}
+use Rattle.dft_config.specs.declared.config.Config.{Config}
 use Rattle.dft_config.specs.declared.config.RingConfig.{RingConfig}
 use Rattle.dft_cubes.specs.declared.cube.Cube.{Cube}
 use Rattle.dft_cubes.specs.declared.cube.Merged.{Merged}
@@ -17,7 +18,7 @@ use Rattle.dft_report.specs.declared.report.CubeLine.{CubeLine}
 use Rattle.dft_report.specs.declared.report.CubeLine.TheVariants as line
 use Rattle.dft_report.specs.declared.report.CubeReport.{CubeReport}
 use Rattle.dft_report.specs.declared.report.SumLine.{SumLine}
-use Rattle.dft_outcomes.specs.Laws.{AreReportsOf, AreSumsAt, CubesHaveLines, HasNames, HaveNames, IsReportOf, IsSumAt, Says}
+use Rattle.dft_outcomes.specs.Laws.{AreReportsOf, AreSumsAt, CubesHaveLines, IsReportOf, IsSumAt, Says}
 use Rattle.dft_outcomes.specs.Outcomes.{cell_name, cube_report, cube_reports, outcome_of, sum_as, sum_at, sums_of}
 
 same_Some : {X : Type 0} (x y : X) → Some x ≡ Some y → x ≡ y
@@ -91,7 +92,7 @@ sum_is n ring row cells position names less =
     let at = cell_at cells position less in
     let name = some_name (cell_name n at.0.0) (names position at.0 at.1) in
     let sum = sum_as ring (unwrap_or (row at.0.0) []) at.0.1 name.0 in
-    (sum, (rw (at.1, name.1) refl, record { given = at.0; at = at.1; name = name.0; named = name.1; is = refl }))
+    (sum, rw (at.1, name.1) refl, record { given = at.0; at = at.1; name = name.0; named = name.1; is = refl })
 
 sums_more : (n : Netlist) (ring : RingConfig) (row : CellRows) (cells : List (InstanceId × Bool)) (position : ℕ) (positions : List ℕ) (sums : List SumLine) (sum : SumLine) → IsSumAt n ring row cells position sum → AreSumsAt n ring row cells positions sums →
     AreSumsAt n ring row cells (position ∷ positions) (sum ∷ sums)
@@ -100,7 +101,7 @@ sums_more n ring row cells position positions sums sum is are = record {
   each = each_sum;
 } where
   each_sum : (k other : ℕ) → slice_get (position ∷ positions) k ≡ Some other → (s : SumLine) × (slice_get (sum ∷ sums) k ≡ Some s) × IsSumAt n ring row cells other s
-  each_sum zero other at = (sum, (refl, subst (λ (p : ℕ). IsSumAt n ring row cells p sum) (same_Some position other at) is))
+  each_sum zero other at = (sum, refl, subst (λ (p : ℕ). IsSumAt n ring row cells p sum) (same_Some position other at) is)
   each_sum (suc k) other at = are.each k other at
 
 all_sums : (n : Netlist) (ring : RingConfig) (row : CellRows) (cells : List (InstanceId × Bool)) (positions : List ℕ) → ((k : ℕ) (given : InstanceId × Bool) → slice_get cells k ≡ Some given → IsSome (cell_name n given.0)) → Below (length cells) positions →
@@ -109,10 +110,17 @@ all_sums n ring row cells [] names below = record { count = refl; each = λ k ot
 all_sums n ring row cells (position ∷ positions) names below =
     let one = sum_is n ring row cells position names below.0 in
     let rest = all_sums n ring row cells positions names below.1 in
-    subst (λ (o : Option SumLine). AreSumsAt n ring row cells (position ∷ positions) (cons_option o (sums_of n ring row cells positions))) (sym one.1.0)
-    (sums_more n ring row cells position positions (sums_of n ring row cells positions) one.0 one.1.1 rest)
+    subst (λ (o : Option SumLine). AreSumsAt n ring row cells (position ∷ positions) (cons_option o (sums_of n ring row cells positions))) (sym one.1)
+    (sums_more n ring row cells position positions (sums_of n ring row cells positions) one.0 one.2 rest)
 
 -- ---- cubes
+
+-- each cell that a cube gives has a name
+abbrev HasNames : Netlist → Cube → Type 0
+HasNames n cube = (k : ℕ) (given : InstanceId × Bool) → slice_get cube.cells k ≡ Some given → IsSome (cell_name n given.0)
+
+abbrev HaveNames : Netlist → List Cube → Type 0
+HaveNames n cubes = (c : ℕ) (cube : Cube) → slice_get cubes c ≡ Some cube → HasNames n cube
 
 -- the first cell that is not scanned is one of the cube's
 unscanned_named : (n : Netlist) (row : CellRows) (cells : List (InstanceId × Bool)) (cell : InstanceId) → ((k : ℕ) (given : InstanceId × Bool) → slice_get cells k ≡ Some given → IsSome (cell_name n given.0)) → first_unscanned row cells ≡ Some cell → IsSome (cell_name n cell)
@@ -124,7 +132,7 @@ unscanned_named n row (given ∷ cells) cell names is = unscanned_case (is_none 
 
 report_by : (n : Netlist) (ring : RingConfig) (row : CellRows) (cube : Cube) (placed : Placed) (outcome : CubeLine) → outcome_of n ring row cube placed ≡ Some outcome → Says n ring row cube placed outcome →
     (r : CubeReport) × (cube_report n ring row cube placed ≡ Some r) × IsReportOf n ring row cube placed r
-report_by n ring row cube placed outcome is says = (record { name = cube.name; outcome = outcome }, (rw is refl, record { name = refl; says = says }))
+report_by n ring row cube placed outcome is says = (record { name = cube.name; outcome = outcome }, rw is refl, record { name = refl; says = says })
 
 -- a cube that is placed has its entry
 one_report : (n : Netlist) (ring : RingConfig) (columns : ℕ) (row : CellRows) (window : ℕ) (old new : List Merged) (cube : Cube) (placed : Placed) → HasNames n cube → Places columns row window old cube placed new →
@@ -132,10 +140,10 @@ one_report : (n : Netlist) (ring : RingConfig) (columns : ℕ) (row : CellRows) 
 one_report n ring columns row window old new cube (Into pattern) names places = report_by n ring row cube (Into pattern) (line.Encoded pattern) refl refl
 one_report n ring columns row window old new cube (Unsolvable positions) names places =
     report_by n ring row cube (Unsolvable positions) (line.Unsolvable (sums_of n ring row cube.cells positions)) refl
-    (sums_of n ring row cube.cells positions, (refl, all_sums n ring row cube.cells positions names (certificate_below columns row cube.cells positions places.1)))
+    (sums_of n ring row cube.cells positions, refl, all_sums n ring row cube.cells positions names (certificate_below columns row cube.cells positions places.1))
 one_report n ring columns row window old new cube (Skipped cell) names places =
     let name = some_name (cell_name n cell) (unscanned_named n row cube.cells cell names places.0) in
-    report_by n ring row cube (Skipped cell) (line.Skipped name.0) (rw name.1 refl) (name.0, (refl, name.1))
+    report_by n ring row cube (Skipped cell) (line.Skipped name.0) (rw name.1 refl) (name.0, refl, name.1)
 
 reports_more : (n : Netlist) (ring : RingConfig) (row : CellRows) (cube : Cube) (cubes : List Cube) (place : Placed) (placed : List Placed) (r : CubeReport) (reports : List CubeReport) → IsReportOf n ring row cube place r → AreReportsOf n ring row cubes placed reports →
     AreReportsOf n ring row (cube ∷ cubes) (place ∷ placed) (r ∷ reports)
@@ -145,15 +153,19 @@ reports_more n ring row cube cubes place placed r reports is are = record {
 } where
   each_report : (c : ℕ) (other : Cube) (p : Placed) → slice_get (cube ∷ cubes) c ≡ Some other → slice_get (place ∷ placed) c ≡ Some p → (s : CubeReport) × (slice_get (r ∷ reports) c ≡ Some s) × IsReportOf n ring row other p s
   each_report zero other p at there =
-      (r, (refl, subst (λ (x : Cube). IsReportOf n ring row x p r) (same_Some cube other at) (subst (λ (q : Placed). IsReportOf n ring row cube q r) (same_Some place p there) is)))
+      (r, refl, subst (λ (x : Cube). IsReportOf n ring row x p r) (same_Some cube other at) (subst (λ (q : Placed). IsReportOf n ring row cube q r) (same_Some place p there) is))
   each_report (suc c) other p at there = are.each c other p at there
 
-pub all_reports : CubesHaveLines
-all_reports n ring columns row window old new [] [] names places = record { count = refl; each = λ c cube p at there. absurd (none_Some cube at) }
-all_reports n ring columns row window old new [] (place ∷ placed) names places = absurd places
-all_reports n ring columns row window old new (cube ∷ cubes) [] names places = absurd places
-all_reports n ring columns row window old new (cube ∷ cubes) (place ∷ placed) names places =
+reports_of : (n : Netlist) (ring : RingConfig) (columns : ℕ) (row : CellRows) (window : ℕ) (old new : List Merged) (cubes : List Cube) (placed : List Placed) → HaveNames n cubes → PlacesAll columns row window old cubes placed new →
+    AreReportsOf n ring row cubes placed (cube_reports n ring row cubes placed)
+reports_of n ring columns row window old new [] [] names places = record { count = refl; each = λ c cube p at there. absurd (none_Some cube at) }
+reports_of n ring columns row window old new [] (place ∷ placed) names places = absurd places
+reports_of n ring columns row window old new (cube ∷ cubes) [] names places = absurd places
+reports_of n ring columns row window old new (cube ∷ cubes) (place ∷ placed) names places =
     let one = one_report n ring columns row window old places.0 cube place (names zero cube refl) places.1.0 in
-    let rest = all_reports n ring columns row window places.0 new cubes placed (λ c. names (suc c)) places.1.1 in
-    subst (λ (o : Option CubeReport). AreReportsOf n ring row (cube ∷ cubes) (place ∷ placed) (cons_option o (cube_reports n ring row cubes placed))) (sym one.1.0)
-    (reports_more n ring row cube cubes place placed one.0 (cube_reports n ring row cubes placed) one.1.1 rest)
+    let rest = reports_of n ring columns row window places.0 new cubes placed (λ c. names (suc c)) places.1.1 in
+    subst (λ (o : Option CubeReport). AreReportsOf n ring row (cube ∷ cubes) (place ∷ placed) (cons_option o (cube_reports n ring row cubes placed))) (sym one.1)
+    (reports_more n ring row cube cubes place placed one.0 (cube_reports n ring row cubes placed) one.2 rest)
+
+pub all_reports : CubesHaveLines
+all_reports n config columns row window old new cubes placed are places = reports_of n config.ring columns row window old new cubes placed (λ c cube at. (are.each c cube at).cells.named) places

@@ -1,11 +1,13 @@
 -- That each cube has its lines.
-use Rattle.std.specs.Prelude.{ℕ, ◌≡◌, Bool, List, [], length, Some, IsSome, slice_get, unwrap_or}
+use Rattle.std.specs.Prelude.{ℕ, ◌≡◌, Bool, List, [], length, Some, slice_get, unwrap_or}
 use Rattle.dft_base.specs.Lexing.{Text}
 use Rattle.dft_netlist.specs.declared.ids.InstanceId.{InstanceId}
 use Rattle.dft_netlist.specs.Netlist.{Netlist}
+use Rattle.dft_config.specs.declared.config.Config.{Config}
 use Rattle.dft_config.specs.declared.config.RingConfig.{RingConfig}
 use Rattle.dft_cubes.specs.declared.cube.Cube.{Cube}
 use Rattle.dft_cubes.specs.declared.cube.Merged.{Merged}
+use Rattle.dft_cubes.specs.Laws.{AreCubes}
 use Rattle.dft_merge.specs.declared.placed.Placed.{Placed}
 use Rattle.dft_merge.specs.declared.placed.Placed.TheVariants.{Into, Unsolvable, Skipped}
 use Rattle.dft_merge.specs.Placement.{PlacesAll}
@@ -15,13 +17,6 @@ use Rattle.dft_report.specs.declared.report.CubeLine.TheVariants as line
 use Rattle.dft_report.specs.declared.report.CubeReport.{CubeReport}
 use Rattle.dft_report.specs.declared.report.SumLine.{SumLine}
 use Rattle.dft_outcomes.specs.Outcomes.{cell_name, cube_reports, sum_as}
-
--- each cell that a cube gives has a name, as cells have that were read by their names
-abbrev pub HasNames : Netlist → Cube → Type 0
-HasNames n cube = (k : ℕ) (given : InstanceId × Bool) → slice_get cube.cells k ≡ Some given → IsSome (cell_name n given.0)
-
-abbrev pub HaveNames : Netlist → List Cube → Type 0
-HaveNames n cubes = (c : ℕ) (cube : Cube) → slice_get cubes c ≡ Some cube → HasNames n cube
 
 -- this is the sum that the cell at a position takes, under its name
 pub record IsSumAt (n : Netlist) (ring : RingConfig) (row : CellRows) (cells : List (InstanceId × Bool)) (position : ℕ) (sum : SumLine) : Type 0 where
@@ -47,12 +42,13 @@ pub record IsReportOf (n : Netlist) (ring : RingConfig) (row : CellRows) (cube :
   pub name : r.name ≡ cube.name
   pub says : Says n ring row cube placed r.outcome
 
--- Of cubes that are placed, and whose cells have names, there is an entry for each, in order, and no line is left out.
+-- there is an entry for each cube, in order
 pub record AreReportsOf (n : Netlist) (ring : RingConfig) (row : CellRows) (cubes : List Cube) (placed : List Placed) (reports : List CubeReport) : Type 0 where
   pub count : length reports ≡ length cubes
   pub each : (c : ℕ) (cube : Cube) (p : Placed) → slice_get cubes c ≡ Some cube → slice_get placed c ≡ Some p → (r : CubeReport) × (slice_get reports c ≡ Some r) × IsReportOf n ring row cube p r
 
+-- Of the cubes of a text that are placed there is an entry for each, and no line of it is left out.
 abbrev pub CubesHaveLines : Type 0
 CubesHaveLines =
-    (n : Netlist) (ring : RingConfig) (columns : ℕ) (row : CellRows) (window : ℕ) (old new : List Merged) (cubes : List Cube) (placed : List Placed) → HaveNames n cubes → PlacesAll columns row window old cubes placed new →
-    AreReportsOf n ring row cubes placed (cube_reports n ring row cubes placed)
+    (n : Netlist) (config : Config) (columns : ℕ) (row : CellRows) (window : ℕ) (old new : List Merged) (cubes : List Cube) (placed : List Placed) → AreCubes n config cubes → PlacesAll columns row window old cubes placed new →
+    AreReportsOf n config.ring row cubes placed (cube_reports n config.ring row cubes placed)

@@ -2,8 +2,8 @@
 
 ghost use Rattle.dft_outcomes.specs.Laws.{CubesHaveLines};
 
-/// Of cubes that are placed, and whose cells have names, each has its lines in order, and none is left out: under its name its pattern, all
-/// sums of its certificate, or the name of the cell that is not scanned.
+/// Of the cubes of a text that are placed each has its lines in order, and none is left out: under its name its pattern, all sums of its
+/// certificate, or the name of the cell that is not scanned.
 pub fn cubes_have_lines()
     ensures { CubesHaveLines }
 {}

@@ -8,5 +8,5 @@ loop-k-preserved c =
     let before = c.loop-k.invariant in
     record {
       count = ap length c.in_ok-push.ensures.items ∙ length-append c.loop-k.loads.items _ ∙ omega (arith, before.count);
-      each = loads_more c.args.finder.now c.args.first c.loop-k.k c.loop-k.loads.items c.push.new.self.items _ before.count before.each c.in_ok-load.ensures c.in_ok-push.ensures.items;
+      each = loads_more c.args.finder.now c.args.first c.loop-k.k c.loop-k.loads.items c.push.new.self.items _ before.count before.each c.in_ok-load_of.ensures c.in_ok-push.ensures.items;
     }
