@@ -1,5 +1,5 @@
 -- Which cubes loads bring.
-use Rattle.std.proofs.Common.{ℕ, zero, suc, ◌*◌, ◌≡◌, ◌==◌, ◌⊎◌, inl, inr, Bool, true, false, List, [], ◌∷◌, Option, None, Some, is_none, option_and_then, slice_get, unwrap_or, refl, sym, ap, ap₂, arith, ◌∙◌}
+use Rattle.std.proofs.Common.{ℕ, zero, suc, ◌*◌, ◌≡◌, ◌==◌, ◌⊎◌, inl, inr, Bool, true, false, List, [], ◌∷◌, Option, None, Some, is_none, option_and_then, slice_get, unwrap_or, refl, sym, ap, ap₂, subst, arith, ◌∙◌}
 use Rattle.std.specs.Prelude.{◌&&◌, if◌then◌else◌}
 use Rattle.std.proofs.lemmas.Bool.{eqb-true}
 use Rattle.std.proofs.lemmas.Nat.{div-add-mod'}
@@ -17,15 +17,22 @@ use Rattle.dft_stitch.specs.Chains.{plan_of}
 use Rattle.dft_stitch.specs.Plans.{cell_at}
 use Rattle.dft_edt.specs.Loads.{load_sum}
 use Rattle.dft_expect.specs.Loaded.{table_of}
-use Rattle.dft_merge.specs.Placement.{Loads, first_unscanned}
-use Rattle.dft_merge.specs.Rows.{StandApart, cell_row}
-use Rattle.dft_merge.proofs.OneLemmas.{unsolvable_exact}
+use Rattle.dft_cubes.specs.declared.cube.Cube.{Cube}
+use Rattle.dft_cubes.specs.declared.cube.Merged.{Merged}
+use Rattle.dft_merge.specs.declared.placed.Placed.{Placed}
+use Rattle.dft_merge.specs.declared.placed.Placed.TheVariants.{Into, Skipped, Unsolvable}
+use Rattle.dft_merge.specs.Laws.{IsUnsolvable}
+use Rattle.dft_merge.specs.Placement.{Loads, Places, first_unscanned}
+use Rattle.dft_merge.specs.Rows.{CellRows, StandApart, cell_row}
+use Rattle.dft_merge.proofs.EquationLemmas.{solves_loads}
+use Rattle.dft_merge.proofs.OneLemmas.{into_solvable, unsolvable_exact}
 use Rattle.dft_merge.proofs.PlaceLemmas.{row_found, row_nowhere}
+use Rattle.dft_merge.proofs.StayLemmas.{cubes_stay}
 use Rattle.dft_scan_frame.specs.Statements.{IsReady}
 use Rattle.dft_scan_facts.specs.EdtVectors.{SuitsEdt}
 use Rattle.dft_scan_facts.proofs.Outputs.{one_place}
 use Rattle.dft_scan_facts.proofs.Reaching.{loads_reach}
-use Rattle.dft_load_laws.specs.Loading.{LoadRun, after_load, LoadsAlways, LoadsOnce, AreRows, rows_of, BitsLoad, UnsolvableInRuns}
+use Rattle.dft_load_laws.specs.Loading.{LoadRun, after_load, LoadsAlways, LoadsOnce, AreRows, rows_of, BitsLoad, IsInto, LoadsSolve, PatternsLoad, PlacedInRuns, UnsolvableInRuns}
 use Rattle.dft_stitch.proofs.LengthLemmas.{chains_fit}
 use Rattle.dft_load_laws.proofs.Running.{loads_run}
 use Rattle.dft_load_laws.proofs.Sums.{row_bit, row_is}
@@ -160,3 +167,36 @@ unsolvable_in_runs n config ports rows window old new cube placed ready suits ar
         bits_load n config ports rows bits cube.cells ready suits are scanned loads (loads_run n config ports (table_of config.ring bits) ready suits),
       )),
     )
+
+pub loads_solve : LoadsSolve
+loads_solve n config ports rows table cells ready suits are scanned once = table_loads n config ports rows ready suits are table cells scanned once
+
+-- ---- cubes in patterns
+
+-- some table loads a cube that is placed in a pattern
+into_loaded : (n : Netlist) (config : Config) (ports : Ports) (rows : LoadRows) (window : ℕ) (old new : List Merged) (cube : Cube) (placed : Placed) → IsReady n config → SuitsEdt n config ports → AreRows n config rows →
+    first_unscanned (rows_of n config rows) cube.cells ≡ None → Places rows.columns (rows_of n config rows) window old cube placed new → IsInto placed → (table : Table) × LoadsAlways n config ports table cube.cells
+into_loaded n config ports rows window old new cube placed ready suits are scanned places into =
+    let row = rows_of n config rows in
+    let solved = into_solvable rows.columns row window old cube into.0 new (subst (λ (word : Placed). Places rows.columns row window old cube word new) into.1 places).1 in
+    (table_of config.ring solved.0, bits_load n config ports rows solved.0 cube.cells ready suits are scanned (solves_loads rows.columns row solved.0 cube.cells solved.1))
+
+-- one that is neither skipped nor unsolvable is placed in a pattern
+into_by : (columns : ℕ) (row : CellRows) (window : ℕ) (old new : List Merged) (cube : Cube) (placed : Placed) → first_unscanned row cube.cells ≡ None → Places columns row window old cube placed new → (IsUnsolvable placed → ⊥) → IsInto placed
+into_by columns row window old new cube (Skipped cell) scanned places other = absurd (none-some cell (sym scanned ∙ places.0))
+into_by columns row window old new cube (Into p) scanned places other = (p, refl)
+into_by columns row window old new cube (Unsolvable ids) scanned places other = absurd (other (ids, refl))
+
+pub placed_in_runs : PlacedInRuns
+placed_in_runs n config ports rows window old new cube placed ready suits are scanned places = (
+  into_loaded n config ports rows window old new cube placed ready suits are scanned places,
+  λ some. into_by rows.columns (rows_of n config rows) window old new cube placed scanned places (λ unsolvable.
+      (unsolvable_in_runs n config ports rows window old new cube placed ready suits are scanned places).0 unsolvable some.0 (loads_run n config ports some.0 ready suits, some.1 (loads_run n config ports some.0 ready suits))),
+)
+
+pub patterns_load : PatternsLoad
+patterns_load n config ports rows window cubes placed patterns bits ready suits are places given c p cube at word =
+    let row = rows_of n config rows in
+    let it = cubes_stay rows.columns row window cubes placed patterns places c p cube at word in
+    let loads = given p it.pattern it.is in
+    bits_load n config ports rows (bits p) cube.cells ready suits are it.scanned (λ k own there. (let place = it.holds.cells k own there in loads place.0 own place.1))

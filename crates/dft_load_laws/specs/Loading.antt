@@ -1,11 +1,12 @@
 -- Which cubes a load brings to the cells of a scanned netlist of style Edt (Rajski and others, 2004).
-use Rattle.std.specs.Prelude.{ℕ, ◌≡◌, ◌↔◌, Bool, List, length, None, Some, slice_get}
+use Rattle.std.specs.Prelude.{ℕ, ◌≡◌, ◌↔◌, Bool, List, [], length, None, Some, slice_get}
 use Rattle.dft_netlist.specs.declared.ids.InstanceId.{InstanceId}
 use Rattle.dft_netlist.specs.Logic.{Ports}
 use Rattle.dft_netlist.specs.Netlist.{Netlist}
 use Rattle.dft_netlist.specs.Runs.{Now, Vector, Turn, IsTurn, after_turn, AreTurns, IsRun}
 use Rattle.dft_config.specs.declared.config.Config.{Config}
 use Rattle.dft_config.specs.Ring.{Table}
+use Rattle.dft_config.specs.Loads.{bit_of_column}
 use Rattle.dft_equations.specs.LoadRows.{LoadRows, AreLoadEquations}
 use Rattle.dft_stitch.specs.Chains.{plan_of}
 use Rattle.dft_stitch.specs.Plans.{lengths_of}
@@ -16,8 +17,9 @@ use Rattle.dft_cubes.specs.declared.cube.Cube.{Cube}
 use Rattle.dft_cubes.specs.declared.cube.Merged.{Merged}
 use Rattle.dft_expect.specs.Loaded.{table_of}
 use Rattle.dft_merge.specs.declared.placed.Placed.{Placed}
+use Rattle.dft_merge.specs.declared.placed.Placed.TheVariants.{Into}
 use Rattle.dft_merge.specs.Laws.{IsUnsolvable}
-use Rattle.dft_merge.specs.Placement.{Loads, Places, first_unscanned}
+use Rattle.dft_merge.specs.Placement.{Loads, Places, PlacesAll, first_unscanned}
 use Rattle.dft_merge.specs.Rows.{CellRows, cell_row}
 use Rattle.dft_scan_frame.specs.Statements.{IsReady}
 use Rattle.dft_scan_facts.specs.EdtVectors.{SuitsEdt, edt_logic}
@@ -85,3 +87,33 @@ UnsolvableInRuns =
     (n : Netlist) (config : Config) (ports : Ports) (rows : LoadRows) (window : ℕ) (old new : List Merged) (cube : Cube) (placed : Placed) → IsReady n config → SuitsEdt n config ports → AreRows n config rows →
     first_unscanned (rows_of n config rows) cube.cells ≡ None → Places rows.columns (rows_of n config rows) window old cube placed new →
     IsUnsolvable placed ↔ ((table : Table) → LoadsOnce n config ports table cube.cells → ⊥)
+
+-- And a table that loads scanned cells in one run solves their load equations.
+abbrev pub LoadsSolve : Type 0
+LoadsSolve =
+    (n : Netlist) (config : Config) (ports : Ports) (rows : LoadRows) (table : Table) (cells : List (InstanceId × Bool)) → IsReady n config → SuitsEdt n config ports → AreRows n config rows →
+    first_unscanned (rows_of n config rows) cells ≡ None → LoadsOnce n config ports table cells → Loads rows.columns (rows_of n config rows) (bit_of_column config.ring table) cells
+
+-- the word is that a cube is in a pattern
+abbrev pub IsInto : Placed → Type 0
+IsInto placed = (p : ℕ) × (placed ≡ Into p)
+
+-- A cube of scanned cells is placed in a pattern exactly where some table loads it in every run.
+abbrev pub PlacedInRuns : Type 0
+PlacedInRuns =
+    (n : Netlist) (config : Config) (ports : Ports) (rows : LoadRows) (window : ℕ) (old new : List Merged) (cube : Cube) (placed : Placed) → IsReady n config → SuitsEdt n config ports → AreRows n config rows →
+    first_unscanned (rows_of n config rows) cube.cells ≡ None → Places rows.columns (rows_of n config rows) window old cube placed new →
+    IsInto placed ↔ ((table : Table) × LoadsAlways n config ports table cube.cells)
+
+-- ---- the bits of patterns
+
+-- channel bits, for each pattern by its number, that give each of its cells its bit by the sum over the cell's load equation
+abbrev pub BitsOf : Netlist → Config → LoadRows → List Merged → (bits : ℕ → ℕ → Bool) → Type 0
+BitsOf n config rows patterns bits = (p : ℕ) (pattern : Merged) → slice_get patterns p ≡ Some pattern → Loads rows.columns (rows_of n config rows) (bits p) pattern.cells
+
+-- The bits of a pattern load, in every run, each cube that was placed in it.
+abbrev pub PatternsLoad : Type 0
+PatternsLoad =
+    (n : Netlist) (config : Config) (ports : Ports) (rows : LoadRows) (window : ℕ) (cubes : List Cube) (placed : List Placed) (patterns : List Merged) (bits : ℕ → ℕ → Bool) → IsReady n config → SuitsEdt n config ports → AreRows n config rows →
+    PlacesAll rows.columns (rows_of n config rows) window [] cubes placed patterns → BitsOf n config rows patterns bits →
+    (c p : ℕ) (cube : Cube) → slice_get cubes c ≡ Some cube → slice_get placed c ≡ Some (Into p) → LoadsAlways n config ports (table_of config.ring (bits p)) cube.cells

@@ -1,12 +1,11 @@
 -- Each cube has its lines.
-use Rattle.std.proofs.Common.{◌≡◌, ℕ, zero, suc, ◌+◌, ◌<◌, ◌≤◌, ◌⊎◌, inl, inr, Bool, true, false, cond, List, [], ◌∷◌, ◌++◌, length, Option, None, Some, slice_get, unwrap_or, refl, sym, subst, ap, ◌∙◌, length-append, arith}
-use Rattle.std.specs.Prelude.{IsSome, is_none}
-use Rattle.std.specs.List.{cons_option, filter_map}
+use Rattle.std.proofs.Common.{◌≡◌, ℕ, zero, suc, ◌+◌, ◌<◌, ◌≤◌, inl, inr, Bool, true, false, cond, List, [], ◌∷◌, ◌++◌, length, Option, None, Some, slice_get, unwrap_or, refl, sym, subst, ap, arith}
+use Rattle.std.specs.Prelude.{IsSome, is_none, option_map}
+use Rattle.std.specs.List.{cons_option}
 use Rattle.dft_base.specs.Lexing.{Text}
 use Rattle.dft_base.specs.Solutions.{Equation, StatesCertificate, StatesFrom, equation_at, ids_to}
 use Rattle.dft_netlist.specs.declared.ids.InstanceId.{InstanceId}
 use Rattle.dft_netlist.specs.Netlist.{Netlist}
-use Rattle.dft_config.specs.declared.config.Config.{Config}
 use Rattle.dft_config.specs.declared.config.RingConfig.{RingConfig}
 use Rattle.dft_cubes.specs.declared.cube.Cube.{Cube}
 use Rattle.dft_cubes.specs.declared.cube.Merged.{Merged}
@@ -85,14 +84,17 @@ some_name : (o : Option Text) → IsSome o → (name : Text) × (o ≡ Some name
 some_name None is = absurd (let f : ⊥ = cc in f)
 some_name (Some name) is = (name, refl)
 
+sum_with : (n : Netlist) (ring : RingConfig) (row : CellRows) (cells : List (InstanceId × Bool)) (position : ℕ) (given : InstanceId × Bool) (name : Text) → slice_get cells position ≡ Some given → cell_name n given.0 ≡ Some name →
+    (sum : SumLine) × (sum_at n ring row cells position ≡ Some sum) × IsSumAt n ring row cells position sum
+sum_with n ring row cells position given name at named = (sum_as ring (unwrap_or (row given.0) []) given.1 name, rw (at, named) refl, record { given = given; at = at; name = name; named = named; is = refl })
+
 -- the sum at a position
 sum_is : (n : Netlist) (ring : RingConfig) (row : CellRows) (cells : List (InstanceId × Bool)) (position : ℕ) → ((k : ℕ) (given : InstanceId × Bool) → slice_get cells k ≡ Some given → IsSome (cell_name n given.0)) → position < length cells →
     (sum : SumLine) × (sum_at n ring row cells position ≡ Some sum) × IsSumAt n ring row cells position sum
 sum_is n ring row cells position names less =
     let at = cell_at cells position less in
     let name = some_name (cell_name n at.0.0) (names position at.0 at.1) in
-    let sum = sum_as ring (unwrap_or (row at.0.0) []) at.0.1 name.0 in
-    (sum, rw (at.1, name.1) refl, record { given = at.0; at = at.1; name = name.0; named = name.1; is = refl })
+    sum_with n ring row cells position at.0 name.0 at.1 name.1
 
 sums_more : (n : Netlist) (ring : RingConfig) (row : CellRows) (cells : List (InstanceId × Bool)) (position : ℕ) (positions : List ℕ) (sums : List SumLine) (sum : SumLine) → IsSumAt n ring row cells position sum → AreSumsAt n ring row cells positions sums →
     AreSumsAt n ring row cells (position ∷ positions) (sum ∷ sums)
@@ -122,13 +124,15 @@ HasNames n cube = (k : ℕ) (given : InstanceId × Bool) → slice_get cube.cell
 abbrev HaveNames : Netlist → List Cube → Type 0
 HaveNames n cubes = (c : ℕ) (cube : Cube) → slice_get cubes c ≡ Some cube → HasNames n cube
 
+unscanned_case : (n : Netlist) (row : CellRows) (given : InstanceId × Bool) (cells : List (InstanceId × Bool)) (cell : InstanceId) (t : Bool) → IsSome (cell_name n given.0) → (first_unscanned row cells ≡ Some cell → IsSome (cell_name n cell)) →
+    cond t (Some given.0) (first_unscanned row cells) ≡ Some cell → IsSome (cell_name n cell)
+unscanned_case n row given cells cell true here later is = subst (λ (c : InstanceId). IsSome (cell_name n c)) (same_Some given.0 cell is) here
+unscanned_case n row given cells cell false here later is = later is
+
 -- the first cell that is not scanned is one of the cube's
 unscanned_named : (n : Netlist) (row : CellRows) (cells : List (InstanceId × Bool)) (cell : InstanceId) → ((k : ℕ) (given : InstanceId × Bool) → slice_get cells k ≡ Some given → IsSome (cell_name n given.0)) → first_unscanned row cells ≡ Some cell → IsSome (cell_name n cell)
 unscanned_named n row [] cell names is = absurd (none_Some cell is)
-unscanned_named n row (given ∷ cells) cell names is = unscanned_case (is_none (row given.0)) is where
-  unscanned_case : (t : Bool) → cond t (Some given.0) (first_unscanned row cells) ≡ Some cell → IsSome (cell_name n cell)
-  unscanned_case true here = subst (λ (c : InstanceId). IsSome (cell_name n c)) (same_Some given.0 cell here) (names zero given refl)
-  unscanned_case false later = unscanned_named n row cells cell (λ k. names (suc k)) later
+unscanned_named n row (given ∷ cells) cell names is = unscanned_case n row given cells cell (is_none (row given.0)) (names zero given refl) (unscanned_named n row cells cell (λ k. names (suc k))) is
 
 report_by : (n : Netlist) (ring : RingConfig) (row : CellRows) (cube : Cube) (placed : Placed) (outcome : CubeLine) → outcome_of n ring row cube placed ≡ Some outcome → Says n ring row cube placed outcome →
     (r : CubeReport) × (cube_report n ring row cube placed ≡ Some r) × IsReportOf n ring row cube placed r
@@ -143,7 +147,7 @@ one_report n ring columns row window old new cube (Unsolvable positions) names p
     (sums_of n ring row cube.cells positions, refl, all_sums n ring row cube.cells positions names (certificate_below columns row cube.cells positions places.1))
 one_report n ring columns row window old new cube (Skipped cell) names places =
     let name = some_name (cell_name n cell) (unscanned_named n row cube.cells cell names places.0) in
-    report_by n ring row cube (Skipped cell) (line.Skipped name.0) (rw name.1 refl) (name.0, refl, name.1)
+    report_by n ring row cube (Skipped cell) (line.Skipped name.0) (ap (option_map line.Skipped) name.1) (name.0, refl, name.1)
 
 reports_more : (n : Netlist) (ring : RingConfig) (row : CellRows) (cube : Cube) (cubes : List Cube) (place : Placed) (placed : List Placed) (r : CubeReport) (reports : List CubeReport) → IsReportOf n ring row cube place r → AreReportsOf n ring row cubes placed reports →
     AreReportsOf n ring row (cube ∷ cubes) (place ∷ placed) (r ∷ reports)

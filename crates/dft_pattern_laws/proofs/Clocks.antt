@@ -1,5 +1,5 @@
 -- The clock that captures is a clock of the configuration.
-use Rattle.std.proofs.Common.{ℕ, ◌≡◌, Bool, true, false, Option, None, Some, option_and_then, slice_get, refl}
+use Rattle.std.proofs.Common.{ℕ, ◌≡◌, true, false, Option, None, Some, option_and_then, slice_get, refl}
 use Rattle.dft_base.specs.Lexing.{Text}
 use Rattle.dft_netlist.specs.Connections.{input_net}
 use Rattle.dft_netlist.specs.Netlist.{Netlist}

@@ -23,12 +23,12 @@ use Rattle.dft_vector_laws.specs.Doing.{Does, AllDo}
 use Rattle.dft_vector_laws.specs.Listed.{ArePatterns, ListedShow, pattern_of, rounds_in, vectors_in}
 use Rattle.dft_vector_laws.proofs.Playing.{captures_capture, loads_from, loads_load, set_up_clears}
 
-split_do : (w : Netlist) (a b : List (List Act)) (xs : List Vector) → AllDo w (a ++ b) xs → (ys : List Vector) × (zs : List Vector) × (xs ≡ ys ++ zs) × AllDo w a ys × AllDo w b zs
+pub split_do : (w : Netlist) (a b : List (List Act)) (xs : List Vector) → AllDo w (a ++ b) xs → (ys : List Vector) × (zs : List Vector) × (xs ≡ ys ++ zs) × AllDo w a ys × AllDo w b zs
 split_do w [] b xs h = ([], xs, refl, tt, h)
 split_do w (acts ∷ a) b [] h = absurd h
 split_do w (acts ∷ a) b (x ∷ xs) h = let r = split_do w a b xs h.1 in (x ∷ r.0, r.1, ap (λ (v : List Vector). x ∷ v) r.2, (h.0, r.3), r.4)
 
-first_do : (w : Netlist) (acts : List Act) (a : List (List Act)) (xs : List Vector) → AllDo w (acts ∷ a) xs → (z : Vector) × (zs : List Vector) × (xs ≡ z ∷ zs) × Does w acts z × AllDo w a zs
+pub first_do : (w : Netlist) (acts : List Act) (a : List (List Act)) (xs : List Vector) → AllDo w (acts ∷ a) xs → (z : Vector) × (zs : List Vector) × (xs ≡ z ∷ zs) × Does w acts z × AllDo w a zs
 first_do w acts a [] h = absurd h
 first_do w acts a (z ∷ zs) h = (z, zs, refl, h.0, h.1)
 
