@@ -19,7 +19,9 @@ use Rattle.dft_report.specs.Refusals as report
 use Rattle.dft_compile.specs.declared.error.CompileError.{CompileError}
 use Rattle.dft_compile.specs.declared.error.CompileError.TheVariants.{Rules, Stitch, Insert, Patterns, Report, Memory}
 use Rattle.dft_compile.specs.Errors.{of_report, of_write}
-use Rattle.dft_compile.specs.Refusals.{IsRefusal, first_failing, late_refusal, of_length, pattern_bytes, too_long, too_many}
+use Rattle.dft_stitch.specs.Chains.{plan_of}
+use Rattle.dft_encode.specs.Compiled.{Placing}
+use Rattle.dft_compile.specs.Refusals.{IsLate, IsRefusal, first_failing, late_refusal, of_length, pattern_bytes, too_long, too_many}
 use Rattle.dft_compile.specs.Texts.{report_text}
 
 -- ---- lengths
@@ -82,6 +84,15 @@ late_passed n config cubes rows placed patterns short few =
     let P : Option WriteError → Type 0 = λ o. first_failing (option_map Patterns o ∷ option_map Report (too_long (report_text n config rows cubes placed)) ∷ []) ≡ None in
     let Q : Option ReportError → Type 0 = λ o. first_failing (option_map Report o ∷ []) ≡ None in
     subst P (sym (not_many (pattern_bytes n config patterns) short)) (subst Q (sym (not_long (length (report_text n config rows cubes placed)) few)) refl)
+
+-- a refusal of a placement
+pub is_late : (n : Netlist) (config : Config) (cubes : List Cube) (p : Placing config (plan_of n config) cubes) (e : CompileError) → IsRefusal (late_refusal n config cubes p.rows p.placed (length p.merged)) e → IsLate n config cubes e
+is_late n config cubes p (Rules error) is = record { placing = p; first = is }
+is_late n config cubes p (Stitch error) is = record { placing = p; first = is }
+is_late n config cubes p (Insert error) is = record { placing = p; first = is }
+is_late n config cubes p (Patterns error) is = record { placing = p; first = is }
+is_late n config cubes p (Report error) is = record { placing = p; first = is }
+is_late n config cubes p (Memory error) is = _
 
 -- for want of memory alone nothing is said of the checks
 pub memory_alone : (refused : Option CompileError) (e : CompileError) → IsRefusal None e → IsRefusal refused e

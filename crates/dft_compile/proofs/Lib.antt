@@ -3,3 +3,4 @@ pub mod BytesLemmas
 pub mod ReportLemmas
 pub mod LateLemmas
 pub mod WorkLemmas
+pub mod EachLemmas

@@ -140,7 +140,13 @@ impl<'a> Work<'a> {
         self.check_patterns()?;
         let report = self.report()?;
         let netlist = self.netlist()?;
-        let patterns = pattern_text(self.alloc, self.design, self.config, self.prepared, self.merger)?;
+        let patterns = pattern_text(
+            self.alloc,
+            self.design,
+            self.config,
+            self.prepared,
+            self.merger,
+        )?;
         Ok(CompileTexts {
             netlist,
             patterns: patterns.text,

@@ -1,5 +1,5 @@
 -- What patterns are found by, and the set of all patterns.
-use Rattle.std.proofs.Common.{◌≡◌, ◌≤◌, ◌*◌, ℕ, List, length, None, refl, sym, subst, ap, ◌∙◌, arith}
+use Rattle.std.proofs.Common.{◌≡◌, ◌≤◌, List, length, None, sym, subst, ap, ◌∙◌, arith}
 use Rattle.std.specs.List.{All}
 use Rattle.std.proofs.lemmas.List.{take_all}
 use Rattle.dft_netlist.specs.declared.ids.InstanceId.{InstanceId}
@@ -53,8 +53,8 @@ is_encoded f written g l e has set masked =
       list = list;
       are = subst (λ (ms : List Merged). ArePatterns f.design.now f.config.now f.chains.now f.merger.now.rows ms list) (take_all (length merged) merged (omega arith)) has.are;
       set = set list has.lists last
-      ∙ ap (λ (n : Netlist). patterns_of written n l.config l.plan list) has.design
-      ∙ ap (λ (c : Config). patterns_of written f.design.now c l.plan list) has.config
-      ∙ ap (λ (p : Plan). patterns_of written f.design.now f.config.now p list) has.plan;
+          ∙ ap (λ (n : Netlist). patterns_of written n l.config l.plan list) has.design
+          ∙ ap (λ (c : Config). patterns_of written f.design.now c l.plan list) has.config
+          ∙ ap (λ (p : Plan). patterns_of written f.design.now f.config.now p list) has.plan;
       masked = masked ∙ has.masked;
     }

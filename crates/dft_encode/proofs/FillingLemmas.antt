@@ -1,5 +1,5 @@
 -- One pattern more.
-use Rattle.std.proofs.Common.{◌≡◌, ℕ, zero, suc, ◌+◌, ◌*◌, ◌<◌, ◌≤◌, ◌⊎◌, inl, inr, List, [], ◌∷◌, ◌++◌, length, map, take, get_or, Option, None, Some, refl, sym, subst, ap, ◌∙◌, length-append, length-take, arith}
+use Rattle.std.proofs.Common.{◌≡◌, ℕ, zero, suc, ◌+◌, ◌<◌, ◌≤◌, ◌⊎◌, inl, inr, List, [], ◌∷◌, ◌++◌, length, take, Option, None, Some, refl, sym, subst, ap, ◌∙◌, length-take, zero-add, arith}
 use Rattle.std.specs.Prelude.{slice_get, count_by, IfSome}
 use Rattle.std.proofs.lemmas.List.{take_more, map_push, length-map}
 use Rattle.std.proofs.lemmas.List.Sums.{sum_by-append}
@@ -16,7 +16,7 @@ use Rattle.dft_encode.specs.declared.filling.Filled.{Filled}
 use Rattle.dft_encode.specs.declared.finder.Finder.{Finder}
 use Rattle.dft_encode.specs.declared.found.Found.{Found}
 use Rattle.dft_encode.specs.Compiled.{IsPattern, merged_of}
-use Rattle.dft_encode.specs.Counts.{is_set}
+use Rattle.dft_encode.specs.Counts.{is_set, masked_in}
 use Rattle.dft_encode.specs.Finding.{HasPatterns, FitsFound, data_found, last_found}
 
 same_Some : {X : Type 0} (x y : X) → Some x ≡ Some y → x ≡ y
@@ -80,6 +80,8 @@ one_found f number g h l m found has at is fits small same added last masked =
     let p = data_found f.config.now f.chains.now found in
     let less = slice_get_within merged number found.merged at in
     let length_is : length has.patterns ≡ number = sym has.lists.count ∙ count_is f number g l has less in
+    let more_masked : masked_in (has.patterns ++ p ∷ []) ≡ masked_in has.patterns + count_by is_set found.masks =
+    sum_by-append (λ (q : PatternData). count_by is_set q.masks) has.patterns (p ∷ []) ∙ ap (λ (m : ℕ). masked_in has.patterns + m) (zero-add (count_by is_set found.masks)) in
     let more : take (number + 1) merged ≡ take number merged ++ found.merged ∷ [] =
     take_more merged number found.merged less ∙ ap (λ (m : Merged). take number merged ++ m ∷ []) (get_or_from_slice_get merged number found.merged found.merged at) in record {
       design = ap (λ (k : Listing). k.design) same ∙ has.design;
@@ -93,7 +95,7 @@ one_found f number g h l m found has at is fits small same added last masked =
       lists = in_list l.config f.config.now l.plan f.chains.now g.last l m found has.patterns has.config has.plan (added has.patterns) has.lists has.last;
       last = ap (last_found f.config.now f.chains.now) last ∙ sym (last_push None has.patterns p);
       fits = subst (λ (o : Option Found). IfSome o (FitsFound f.config.now f.chains.now)) (sym last) fits;
-      masked = masked ∙ ap (λ (m : ℕ). m + count_by is_set found.masks) has.masked ∙ sym (sum_by-append (λ (q : PatternData). count_by is_set q.masks) has.patterns (p ∷ []));
+      masked = masked ∙ ap (λ (m : ℕ). m + count_by is_set found.masks) has.masked ∙ sym more_masked;
       few = omega (arith, masked, has.few, small);
     }
 

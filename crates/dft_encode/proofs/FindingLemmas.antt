@@ -1,34 +1,30 @@
 -- Loads, captures and masks are those of a pattern.
-use Rattle.std.proofs.Common.{◌≡◌, ℕ, zero, suc, ◌+◌, ◌<◌, ◌≤◌, ◌⊎◌, inl, inr, Bool, false, true, List, [], ◌∷◌, ◌++◌, length, map, Some, refl, sym, subst, ap, ◌∙◌, length-append, arith}
+use Rattle.std.proofs.Common.{◌≡◌, ℕ, zero, suc, ◌+◌, ◌<◌, ◌⊎◌, inl, inr, Bool, false, true, List, [], ◌∷◌, ◌++◌, length, map, get_or, Some, refl, sym, subst, ap, ◌∙◌, arith}
 use Rattle.std.specs.Prelude.{slice_get}
 use Rattle.std.proofs.lemmas.List.{length-map, length-replicate}
 use Rattle.std.specs.List.{enumerate_from}
 use Rattle.std.proofs.lemmas.List.FromFn.{length-enumerate_from, length-map-range_with_len}
 use Rattle.std.proofs.lemmas.Option.{slice_get_within}
 use Rattle.dft_base.specs.declared.tri.Tri.{Tri}
-use Rattle.dft_base.specs.Packed.{packed_bit}
 use Rattle.dft_base.specs.Solutions.{bit_at, IsChosen}
 use Rattle.dft_netlist.specs.declared.ids.InstanceId.{InstanceId}
 use Rattle.dft_netlist.specs.Netlist.{Netlist}
+use Rattle.dft_netlist.proofs.NotesLemmas.{item_at}
 use Rattle.dft_config.specs.declared.config.Config.{Config}
 use Rattle.dft_config.specs.declared.config.FillRule.{FillRule}
 use Rattle.dft_config.specs.declared.config.FillRule.TheVariants.{Zeros, Ones, Seed}
 use Rattle.dft_config.specs.Ring.{Table}
 use Rattle.dft_config.specs.Range.{has, same_number}
-use Rattle.dft_equations.specs.LoadRows.{LoadRows}
 use Rattle.dft_lanes.specs.Rows.{bits_of, IsPacked}
-use Rattle.dft_stitch.specs.Chains.{plan_of}
 use Rattle.dft_stitch.specs.Plans.{Plan}
 use Rattle.dft_cubes.specs.declared.cube.Merged.{Merged}
-use Rattle.rand_core.specs.Steps.{first_words}
-use Rattle.rand_pcg.specs.Pcg.{pcg32}
 use Rattle.dft_expect.specs.declared.pattern.Pattern.{Pattern}
 use Rattle.dft_expect.specs.declared.response.Response.{Response}
 use Rattle.dft_expect.specs.Captures.{IsCapture, captured_value}
 use Rattle.dft_expect.specs.Capturing.{AreCaptures, Captures}
 use Rattle.dft_expect.specs.Loaded.{all_cells, loaded_of, table_of}
-use Rattle.dft_expect.specs.Masks.{always_of, by_chain, is_masked, masks_of}
-use Rattle.dft_merge.specs.Fills.{bit_of_column, fill_of, generator, words_of_32}
+use Rattle.dft_expect.specs.Masks.{by_chain, is_masked, masks_of}
+use Rattle.dft_merge.specs.Fills.{fill_of}
 use Rattle.dft_merge.specs.Placement.{Loads, equations_of}
 use Rattle.dft_merge.specs.Rows.{cell_row}
 use Rattle.dft_vectors.specs.PatternData.{columns_of}
@@ -47,7 +43,7 @@ use Rattle.dft_encode.proofs.PlanLemmas.{blocks_count}
 pub fill_length : (rule : FillRule) (pattern columns : ℕ) → length (fill_of rule pattern columns) ≡ columns
 fill_length Zeros pattern columns = length-replicate columns false
 fill_length Ones pattern columns = length-replicate columns true
-fill_length (Seed seed) pattern columns = length-map-range_with_len (bit_of_column (first_words pcg32 (words_of_32 columns) (generator seed pattern))) 0 columns
+fill_length (Seed seed) pattern columns = length-map-range_with_len _ 0 columns
 
 -- ---- loads
 
@@ -102,6 +98,10 @@ all_captured f first loads patterns responses finder are h = record {
 }
 
 -- ---- what is found
+
+-- the pattern at a number, where a list that is these patterns was read there
+pub pattern_there : (patterns read : List Merged) (number : ℕ) (merged : Merged) → read ≡ patterns → number < length patterns → merged ≡ get_or read number merged → slice_get patterns number ≡ Some merged
+pattern_there patterns read number merged same less is = item_at patterns number merged less (is ∙ ap (λ (ms : List Merged). get_or ms number merged) same)
 
 -- there is a captured value for each cell
 pub captured_count : (n : Netlist) (config : Config) (chains : List (List InstanceId)) (merged : Merged) (loaded : List Bool) (r : Response) → IsCapture n config chains merged loaded r → length r.cells ≡ length (all_cells chains)

@@ -1,20 +1,19 @@
 -- Planned chains: there are as many as configured, none is longer than a load, and a load has its limits.
-use Rattle.std.proofs.Common.{◌≡◌, ℕ, zero, suc, ◌+◌, ◌*◌, ◌/◌, ◌%◌, ◌≤◌, ◌<◌, Bool, true, false, cond, List, [], ◌∷◌, length, map, take, drop, min, Option, None, Some, pos, refl, ap, ◌∙◌, length-take, arith}
+use Rattle.std.proofs.Common.{◌≡◌, ℕ, suc, ◌+◌, ◌*◌, ◌/◌, ◌%◌, ◌≤◌, Bool, true, false, cond, List, [], ◌∷◌, length, take, drop, None, Some, pos, refl, ap, ◌∙◌, length-take, arith}
 use Rattle.std.specs.Prelude.{nat_lt, if◌then◌else◌, max, slice_index_or}
 use Rattle.std.specs.List.{All, range_with_len}
 use Rattle.std.proofs.lemmas.Bool.Decides.{nat_tests}
 use Rattle.std.proofs.lemmas.List.Elements.{All-nil, All-cons, All-head, All-tail, All-map}
 use Rattle.std.proofs.lemmas.List.FromFn.{length-map-range_with_len}
-use Rattle.dft_netlist.specs.declared.ids.InstanceId.{InstanceId}
 use Rattle.dft_netlist.specs.Netlist.{Netlist}
 use Rattle.dft_config.specs.declared.config.Config.{Config}
-use Rattle.dft_config.specs.Cycles.{part_length, load_cycles, longest_segment}
+use Rattle.dft_config.specs.Cycles.{part_length, longest_segment}
 use Rattle.dft_stitch.specs.declared.error.Counted.TheVariants.{Cells, Cycles, Variables}
 use Rattle.dft_stitch.specs.declared.error.StitchError.{StitchError}
 use Rattle.dft_stitch.specs.declared.error.StitchError.TheVariants.{TooMany}
 use Rattle.dft_stitch.specs.declared.limits.TheConstants.{MAX_CELLS, MAX_CYCLES, MAX_VARIABLES}
 use Rattle.dft_stitch.specs.Limits.{refusal}
-use Rattle.dft_stitch.specs.Chains.{blocks, chain_lengths, chains_of, cells_of, cycles_of, longest_chain, plan_of}
+use Rattle.dft_stitch.specs.Chains.{blocks, chain_lengths, cells_of, cycles_of, longest_chain, plan_of}
 
 blocks_short : {X : Type 0} (bound : ℕ) (lengths : List ℕ) (items : List X) → All (λ l. l ≤ bound) lengths → All (λ block. length block ≤ bound) (blocks lengths items)
 blocks_short {X} bound [] items all = All-nil (λ (block : List X). length block ≤ bound)
@@ -56,7 +55,7 @@ none_passed false false true x y z none = absurd (let f : ⊥ = cc in f)
 none_passed false false false x y z none = (refl, refl)
 
 within : (limit n : ℕ) → nat_lt limit n ≡ false → n ≤ limit
-within limit n no = grind (arith, nat_tests)
+within limit n is = grind (arith, nat_tests)
 
 -- a plan that is accepted has no more cycles and variables than their limits
 pub limits : (n : Netlist) (config : Config) → refusal n config ≡ None → ((plan_of n config).cycles ≤ MAX_CYCLES) × ((plan_of n config).cycles * config.ring.channels ≤ MAX_VARIABLES)

@@ -21,7 +21,7 @@ use Rattle.dft_vectors.specs.Signals.{input_bits}
 use Rattle.dft_vectors.specs.OwnPorts.{set_to, driven, expect, compare, ignored, inputs_by, outputs_ignored, quiet_vector, pulsing_vector}
 use Rattle.dft_vectors.specs.AddedPorts.{added_inputs, controls, set_all, clearing, shifting, no_bits}
 use Rattle.dft_vectors.specs.PatternData.{PatternData, load_of}
-use Rattle.dft_vectors.specs.VectorList.{set_up_acts, unloaded, shift_acts, shift_inputs, load_vectors, capture_acts, pattern_vectors, vectors_before_end, last_load, vectors_of, last_of, no_table}
+use Rattle.dft_vectors.specs.VectorList.{set_up_acts, unloaded, shift_acts, load_vectors, capture_acts, pattern_vectors, vectors_before_end, last_load, vectors_of, last_of, no_table}
 use Rattle.dft_encode.specs.Laws.{width, vectors_in, VectorsHaveWidth}
 
 added_width : (config : Config) (enable update : Bool) (channels masks : ℕ → Bool) → length (added_inputs config enable update channels masks) ≡ 3 + (config.ring.channels + config.compactor.mask_inputs)

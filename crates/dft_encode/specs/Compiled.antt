@@ -41,6 +41,6 @@ abbrev pub merged_of : PatternData → Merged
 merged_of p = p.merged
 
 -- the patterns are those of these merged cubes, one after another
-pub record ArePatterns (n : Netlist) (config : Config) (plan : Plan) (rows : LoadRows) (merged : List Merged) (patterns : List PatternData) : Type 0 where
-  pub merged : map merged_of patterns ≡ merged
+pub record ArePatterns (n : Netlist) (config : Config) (plan : Plan) (rows : LoadRows) (joined : List Merged) (patterns : List PatternData) : Type 0 where
+  pub merged : map merged_of patterns ≡ joined
   pub each : (number : ℕ) (p : PatternData) → slice_get patterns number ≡ Some p → IsPattern n config plan rows number p

@@ -61,15 +61,15 @@ abbrev pub AreLoads : Finder → (first : ℕ) → List Load → Type 0
 AreLoads f first loads = (k : ℕ) (l : Load) → slice_get loads k ≡ Some l → IsLoad f (first + k) l
 
 -- the pattern at a place behind this number, with its load
-pub record IsLoaded (merged : List Merged) (first : ℕ) (loads : List Load) (k : ℕ) (p : Pattern) : Type 0 where
-  pub merged : slice_get merged (first + k) ≡ Some p.merged.now
+pub record IsLoaded (all : List Merged) (first : ℕ) (loads : List Load) (k : ℕ) (p : Pattern) : Type 0 where
+  pub merged : slice_get all (first + k) ≡ Some p.merged.now
   pub load : Load
   pub at : slice_get loads k ≡ Some load
   pub loaded : p.loaded.now ≡ load.cells
 
-pub record AreLoaded (merged : List Merged) (first : ℕ) (loads : List Load) (patterns : List Pattern) : Type 0 where
+pub record AreLoaded (all : List Merged) (first : ℕ) (loads : List Load) (patterns : List Pattern) : Type 0 where
   pub count : length patterns ≡ length loads
-  pub each : (k : ℕ) (p : Pattern) → slice_get patterns k ≡ Some p → IsLoaded merged first loads k p
+  pub each : (k : ℕ) (p : Pattern) → slice_get patterns k ≡ Some p → IsLoaded all first loads k p
 
 -- what the patterns from this number on capture, with these loads
 pub record Captured (f : Finder) (first : ℕ) (loads : List Load) (responses : List Response) : Type 0 where

@@ -10,9 +10,9 @@ ghost use Rattle.dft_encode.specs.declared.loads.Load.{Load};
 
 use crate::finder::Finder;
 use crate::loads::Load;
+use dft_cubes::Merged;
 use dft_expect::{Capturer, Pattern, Response};
 use std::alloc::{AllocError, Global};
-use dft_cubes::Merged;
 
 /// These patterns with their loads.
 fn loaded<'a>(

@@ -38,8 +38,12 @@ fn fill_all(finder: &Finder<'_>, list: &mut VectorList<'_>) -> Result<Filled, Al
     requires list { list.old ≡ record { design = finder.now.design.now; config = finder.now.config.now; plan = finder.now.chains.now; vectors = []; count = 0 } }
     ensures { IfOk result (λ filled. HasPatterns finder.now (length finder.now.merger.now.patterns) filled list.new) }
 {
-    let mut capturer =
-        Capturer::prepare(finder.alloc, finder.design, finder.config, finder.chains)?;
+    let mut capturer = Capturer::prepare(
+        finder.alloc,
+        finder.design,
+        finder.config,
+        finder.chains,
+    )?;
     fill(finder, &mut capturer, list)
 }
 

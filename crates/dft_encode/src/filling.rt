@@ -6,7 +6,8 @@ ghost use Rattle.dft_expect.specs.Captures.{IsCapture};
 ghost use Rattle.dft_vectors.specs.Listing.{Lists};
 ghost use Rattle.dft_vectors.specs.PatternData.{PatternData};
 ghost use Rattle.dft_vectors.specs.VectorList.{last_of};
-ghost use Rattle.dft_encode.specs.Finding.{AreLoads, Captured, FitsFound, HasPatterns, IsFinder, IsLoad, data_found, is_set, last_found};
+ghost use Rattle.dft_encode.specs.Counts.{is_set};
+ghost use Rattle.dft_encode.specs.Finding.{AreLoads, Captured, FitsFound, HasPatterns, IsFinder, IsLoad, data_found, last_found};
 
 use crate::captures::captures;
 use crate::finder::Finder;

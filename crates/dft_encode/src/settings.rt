@@ -11,7 +11,8 @@ use std::alloc::{AllocError, Global};
 
 /// How many cells each chain has.
 pub fn lengths_of(alloc: Global, chains: &Chains) -> Result<Vec<u16>, AllocError>
-    requires { All (λ cells. length cells ≤ chains.now.cycles) chains.now.chains }
+    requires cells { All (λ cells. length cells ≤ chains.now.cycles) chains.now.chains }
+    requires cycles { chains.now.cycles ≤ 4096 }
     ensures { IfOk result (λ lengths. lengths.items ≡ map length chains.now.chains) }
 {
     let mut lengths = Vec::with_capacity(alloc, usize::from(chains.count()))?;

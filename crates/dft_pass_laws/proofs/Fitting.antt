@@ -38,10 +38,10 @@ head_is b bits from count e = let same : b ≡ record { 0 = from } = cc in ap (�
 tail_is : (b : NetId) (bits : List NetId) (from count : ℕ) → b ∷ bits ≡ nets_from from (suc count) → bits ≡ nets_from (suc from) count
 tail_is b bits from count e = cc
 
-abbrev HasDir : (whole : List Dir) → Dir → (k : ℕ) → Type 0
+abbrev pub HasDir : (whole : List Dir) → Dir → (k : ℕ) → Type 0
 HasDir whole d k = slice_get whole k ≡ Some d
 
-abbrev Behind : (whole dirs : List Dir) → (from : ℕ) → Type 0
+abbrev pub Behind : (whole dirs : List Dir) → (from : ℕ) → Type 0
 Behind whole dirs from = (j : ℕ) → slice_get whole (from + j) ≡ slice_get dirs j
 
 behind_next : (whole dirs : List Dir) (d : Dir) (from : ℕ) → Behind whole (d ∷ dirs) from → Behind whole dirs (suc from)
@@ -63,7 +63,7 @@ in_dirs whole dir.Input (b ∷ bits) rest ins dirs from (suc count) e h more = (
   in_dirs whole dir.Input bits rest ins dirs (suc from) count (tail_is b (bits ++ rest) from count e) (behind_next whole (map (λ (k : NetId). dir.Input) bits ++ dirs) dir.Input from h) more,
 )
 
-ports_in_dirs : (whole : List Dir) (ports : List design_port.Port) (from count : ℕ) → bits_of ports ≡ nets_from from count → Behind whole (dirs_of ports) from → AllNets (HasDir whole dir.Input) (input_bits ports)
+pub ports_in_dirs : (whole : List Dir) (ports : List design_port.Port) (from count : ℕ) → bits_of ports ≡ nets_from from count → Behind whole (dirs_of ports) from → AllNets (HasDir whole dir.Input) (input_bits ports)
 ports_in_dirs whole [] from count e h = tt
 ports_in_dirs whole (p ∷ ps) from count e h = in_dirs whole p.dir p.bits (bits_of ps) (input_bits ps) (dirs_of ps) from count e h (λ f c its far. ports_in_dirs whole ps f c its far)
 
@@ -80,7 +80,7 @@ out_dirs whole dir.Output (b ∷ bits) rest outs dirs from (suc count) e h more 
   out_dirs whole dir.Output bits rest outs dirs (suc from) count (tail_is b (bits ++ rest) from count e) (behind_next whole (map (λ (k : NetId). dir.Output) bits ++ dirs) dir.Output from h) more,
 )
 
-ports_out_dirs : (whole : List Dir) (ports : List design_port.Port) (from count : ℕ) → bits_of ports ≡ nets_from from count → Behind whole (dirs_of ports) from → AllNets (HasDir whole dir.Output) (output_bits ports)
+pub ports_out_dirs : (whole : List Dir) (ports : List design_port.Port) (from count : ℕ) → bits_of ports ≡ nets_from from count → Behind whole (dirs_of ports) from → AllNets (HasDir whole dir.Output) (output_bits ports)
 ports_out_dirs whole [] from count e h = tt
 ports_out_dirs whole (p ∷ ps) from count e h = out_dirs whole p.dir p.bits (bits_of ps) (output_bits ps) (dirs_of ps) from count e h (λ f c its far. ports_out_dirs whole ps f c its far)
 

@@ -62,7 +62,7 @@ nets_are n d (x ∷ xs) sound h =
 
 -- ---- the bits of ports differ
 
-abbrev Rises : (low : ℕ) → List NetId → Type 0
+abbrev pub Rises : (low : ℕ) → List NetId → Type 0
 Rises low [] = Unit {0}
 Rises low (net ∷ nets) = (low ≤ net.0) × Rises (suc net.0) nets
 
@@ -70,11 +70,11 @@ weaken : (low high : ℕ) (xs : List NetId) → low ≤ high → Rises high xs �
 weaken low high [] h r = tt
 weaken low high (x ∷ xs) h r = ((let its = r.0 in omega (arith, h, its)), r.1)
 
-rises_from : (low from count : ℕ) → low ≤ from → Rises low (nets_from from count)
+pub rises_from : (low from count : ℕ) → low ≤ from → Rises low (nets_from from count)
 rises_from low from zero h = tt
 rises_from low from (suc count) h = (h, rises_from (suc from) (suc from) count (omega arith))
 
-rises_drop : (low : ℕ) (bits rest : List NetId) → Rises low (bits ++ rest) → Rises low rest
+pub rises_drop : (low : ℕ) (bits rest : List NetId) → Rises low (bits ++ rest) → Rises low rest
 rises_drop low [] rest h = h
 rises_drop low (b ∷ bits) rest h = weaken low (suc b.0) rest (let its = h.0 in omega (arith, its)) (rises_drop (suc b.0) bits rest h.1)
 
@@ -83,7 +83,7 @@ rises_in low dir.Output bits rest ins h f = f low (rises_drop low bits rest h)
 rises_in low dir.Input [] rest ins h f = f low h
 rises_in low dir.Input (b ∷ bits) rest ins h f = (h.0, rises_in (suc b.0) dir.Input bits rest ins h.1 f)
 
-rises_ports : (low : ℕ) (ports : List design_port.Port) → Rises low (bits_of ports) → Rises low (input_bits ports)
+pub rises_ports : (low : ℕ) (ports : List design_port.Port) → Rises low (bits_of ports) → Rises low (input_bits ports)
 rises_ports low [] h = tt
 rises_ports low (p ∷ ps) h = rises_in low p.dir p.bits (bits_of ps) (input_bits ps) h (λ l its. rises_ports l ps its)
 
@@ -91,7 +91,7 @@ abbrev pub Apart : List NetId → Type 0
 Apart [] = Unit {0}
 Apart (x ∷ xs) = (is_in xs x.0 ≡ false) × Apart xs
 
-all_above : (base low : ℕ) (xs : List NetId) → base ≤ low → Rises low xs → AllNets (λ k. base ≤ k) xs
+pub all_above : (base low : ℕ) (xs : List NetId) → base ≤ low → Rises low xs → AllNets (λ k. base ≤ k) xs
 all_above base low [] h r = tt
 all_above base low (x ∷ xs) h r = ((let its = r.0 in omega (arith, h, its)), all_above base (suc x.0) xs (let its = r.0 in omega (arith, h, its)) r.1)
 

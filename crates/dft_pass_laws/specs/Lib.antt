@@ -1,2 +1,5 @@
 pub mod Passing
 pub mod Agreeing
+pub mod Written
+pub mod Formed
+pub mod Standing

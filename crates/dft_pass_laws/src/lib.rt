@@ -3,4 +3,4 @@
 
 mod laws;
 
-pub use laws::rows_play;
+pub use laws::{patterns_stand, rows_play, written_formed, written_pass};

@@ -1,5 +1,5 @@
 -- What a compilation of cubes comes to.
-use Rattle.std.proofs.Common.{◌≡◌, List, length, Option, None, Some, refl, sym, ap, ◌∙◌, subst, ℕ}
+use Rattle.std.proofs.Common.{◌≡◌, List, length, Option, None, Some, refl, sym, ◌∙◌, subst, ℕ}
 use Rattle.dft_config.specs.declared.config.Config.{Config}
 use Rattle.dft_netlist.specs.Drivers.{IsOrdered}
 use Rattle.dft_netlist.specs.Netlist.{Netlist}

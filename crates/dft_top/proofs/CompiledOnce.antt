@@ -1,5 +1,5 @@
 -- A compilation is one: cubes have one placement over the load equations, and a placement has one list of patterns.
-use Rattle.std.proofs.Common.{ℕ, zero, suc, ◌≡◌, ◌<◌, Bool, List, [], ◌∷◌, length, map, Option, Some, refl, sym, ap, ◌∙◌, subst, arith}
+use Rattle.std.proofs.Common.{ℕ, zero, suc, ◌≡◌, ◌<◌, Bool, List, [], ◌∷◌, length, map, Some, refl, sym, ap, ◌∙◌, subst, arith}
 use Rattle.std.specs.Prelude.{slice_get, option_map}
 use Rattle.std.specs.List.{slice_index}
 use Rattle.std.proofs.lemmas.List.{ext_get_or, length-map}
@@ -19,7 +19,6 @@ use Rattle.dft_expect.specs.Captures.{IsCapture}
 use Rattle.dft_expect.specs.Loaded.{loaded_of, table_of}
 use Rattle.dft_expect.specs.Masks.{always_of, by_chain, masks_of}
 use Rattle.dft_expect.proofs.CaptureLemmas.{one_capture}
-use Rattle.dft_merge.specs.declared.placed.Placed.{Placed}
 use Rattle.dft_merge.specs.Fills.{fill_of}
 use Rattle.dft_merge.specs.Placement.{PlacesAll, equations_of}
 use Rattle.dft_merge.specs.Rows.{cell_row}
@@ -52,7 +51,7 @@ pub placing_one : (config : Config) (plan : Plan) (cubes : List Cube) (p q : Pla
 placing_one config plan cubes p q =
     let rows = equations_one config.ring (map (λ cells. length cells) plan.chains) plan.cycles p.rows q.rows p.equations q.equations in
     let is : PlacesAll p.rows.columns (cell_row plan.chains p.rows) config.window [] cubes q.placed q.merged =
-        subst (λ (r : LoadRows). PlacesAll r.columns (cell_row plan.chains r) config.window [] cubes q.placed q.merged) (sym rows) q.is in
+    subst (λ (r : LoadRows). PlacesAll r.columns (cell_row plan.chains r) config.window [] cubes q.placed q.merged) (sym rows) q.is in
     let one = placement_one p.rows.columns (cell_row plan.chains p.rows) config.window cubes p.placed q.placed p.merged q.merged p.is is in
     record { rows = rows; placed = one.0; merged = one.1 }
 
@@ -66,9 +65,9 @@ pattern_one n rank config plan rows number p q ordered merged x y =
     let chosen : IsChosen rows.columns (equations_of row p.merged.cells) fill q.bits = subst (λ (m : Merged). IsChosen rows.columns (equations_of row m.cells) fill q.bits) (sym merged) y.bits in
     let bits : p.bits ≡ q.bits = chosen_one rows.columns (equations_of row p.merged.cells) fill p.bits q.bits x.bits chosen in
     let by_merged : IsCapture n config plan.chains p.merged (loaded_of config.ring (table_of config.ring (bit_at q.bits)) plan.cycles plan.chains) q.response =
-        subst (λ (m : Merged). IsCapture n config plan.chains m (loaded_of config.ring (table_of config.ring (bit_at q.bits)) plan.cycles plan.chains) q.response) (sym merged) y.captured in
+    subst (λ (m : Merged). IsCapture n config plan.chains m (loaded_of config.ring (table_of config.ring (bit_at q.bits)) plan.cycles plan.chains) q.response) (sym merged) y.captured in
     let captured : IsCapture n config plan.chains p.merged (loaded_of config.ring (table_of config.ring (bit_at p.bits)) plan.cycles plan.chains) q.response =
-        subst (λ (b : List Bool). IsCapture n config plan.chains p.merged (loaded_of config.ring (table_of config.ring (bit_at b)) plan.cycles plan.chains) q.response) (sym bits) by_merged in
+    subst (λ (b : List Bool). IsCapture n config plan.chains p.merged (loaded_of config.ring (table_of config.ring (bit_at b)) plan.cycles plan.chains) q.response) (sym bits) by_merged in
     let response : p.response ≡ q.response = one_capture n rank config plan.chains p.merged (loaded_of config.ring (load_of config p) plan.cycles plan.chains) p.response q.response ordered x.captured captured in
     let masks : p.masks ≡ q.masks = x.masks ∙ ap (λ (r : Response). masks_of (always_of config) (by_chain plan.chains r.cells)) response ∙ sym y.masks in
     λ i. record { merged = merged i; bits = bits i; masks = masks i; response = response i }

@@ -183,7 +183,7 @@ compiles files old new o done h saved =
       out_patterns = left.whole.1.0;
       out_report = left.whole.1.1.0;
       others = λ name a b e. left.others name
-        (differ files.out_netlist name (λ q. a (sym q)), (differ files.out_patterns name (λ q. b (sym q)), (differ files.out_report name (λ q. e (sym q)), tt)));
+          (differ files.out_netlist name (λ q. a (sym q)), (differ files.out_patterns name (λ q. b (sym q)), (differ files.out_report name (λ q. e (sym q)), tt)));
       reads = subst (λ (cells : List Cell). StandsFor cells (compiled.netlist_text n c) (scanned Edt n c)) (library_kept x.0 design.0 n design.1.stands) is.reads;
       keeps = keeps_design Edt n c ready;
       adds = adds_in_order Edt n c;

@@ -34,7 +34,7 @@ use Rattle.dft_cubes.specs.Cubes as cubes
 use Rattle.dft_compile.specs.declared.error.CompileError.{CompileError}
 use Rattle.dft_compile.specs.declared.prepared.Prepared.{Prepared}
 use Rattle.dft_compile.specs.Prepared.{IsPrepared}
-use Rattle.dft_compile.specs.Refusals.{first_refusal}
+use Rattle.dft_compile.specs.Refusals.{first_refusal as design_refusal}
 use Rattle.dft_stil_text.specs.PatternText.{patterns_of}
 use Rattle.dft_stil_text.specs.PatternText as PatternText
 use Rattle.dft_stil.specs.Refusals as StilRefusals
@@ -281,9 +281,9 @@ compile_error_one refused a b x y = let e : Some a ≡ Some b = sym x ∙ y in c
 
 pub design_gives_one : (n : Netlist) (c : Config) (r s : Result Prepared Refusal) → DesignGives n c r → DesignGives n c s → r ≡ s
 design_gives_one n c (Ok p) (Ok q) x y = ap Ok (prepared_one n c p q x.is y.is)
-design_gives_one n c (Ok p) (Err refusal) x y = absurd (accepted_or_refused (first_refusal n c) y.0 x.accepted y.1.0)
-design_gives_one n c (Err refusal) (Ok p) x y = absurd (accepted_or_refused (first_refusal n c) x.0 y.accepted x.1.0)
-design_gives_one n c (Err a) (Err b) x y = ap Err (told_one _ _ a b (ap compile_refusal (compile_error_one (first_refusal n c) x.0 y.0 x.1.0 y.1.0)) x.1.1 y.1.1)
+design_gives_one n c (Ok p) (Err refusal) x y = absurd (accepted_or_refused (design_refusal n c) y.0 x.accepted y.1.0)
+design_gives_one n c (Err refusal) (Ok p) x y = absurd (accepted_or_refused (design_refusal n c) x.0 y.accepted x.1.0)
+design_gives_one n c (Err a) (Err b) x y = ap Err (told_one _ _ a b (ap compile_refusal (compile_error_one (design_refusal n c) x.0 y.0 x.1.0 y.1.0)) x.1.1 y.1.1)
 
 -- ---- the cubes
 

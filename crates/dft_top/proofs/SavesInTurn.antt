@@ -6,7 +6,7 @@ use Rattle.std.proofs.lemmas.List.{append-nil, drop_more}
 use Rattle.std.proofs.lemmas.Slice.Eq.{bytes_eq-Decides}
 use Rattle.dft_files.specs.Outside.{Held, LeavesPart, Rose, Told, ToldChange, file_at}
 use Rattle.dft_files.specs.Outside as base
-use Rattle.dft_top.specs.Saves.{Saving, AreApart, AreSaved, AreSavedBut, HaveSaved, HaveSavedSome, KeepsOthers, SaveFailed, Stand}
+use Rattle.dft_top.specs.Saves.{Saving, AreApart, AreSavedBut, HaveSaved, HaveSavedSome, SaveFailed, Stand}
 
 -- ---- lists
 

@@ -1,28 +1,23 @@
 -- A placement tells cubes right: unsolvable exactly where no table loads them, and a cube in a pattern is one that some table loads.
-use Rattle.std.proofs.Common.{ℕ, zero, suc, ◌≡◌, ◌⊎◌, inl, inr, Bool, List, [], ◌∷◌, Option, None, Some, sym, subst}
+use Rattle.std.proofs.Common.{ℕ, zero, suc, ◌≡◌, ◌⊎◌, inl, inr, Bool, List, [], ◌∷◌, Some, subst}
 use Rattle.std.specs.Prelude.{slice_get}
 use Rattle.std.proofs.lemmas.Option.{same_Some}
-use Rattle.dft_base.specs.Solutions.{Solves}
 use Rattle.dft_config.specs.declared.config.Config.{Config}
-use Rattle.dft_config.specs.Ring.{Table}
-use Rattle.dft_netlist.specs.Logic.{Ports}
 use Rattle.dft_netlist.specs.Netlist.{Netlist}
 use Rattle.dft_stitch.specs.Chains.{plan_of}
 use Rattle.dft_cubes.specs.declared.cube.Cube.{Cube}
 use Rattle.dft_cubes.specs.declared.cube.Merged.{Merged}
-use Rattle.dft_equations.specs.LoadRows.{LoadRows}
 use Rattle.dft_expect.specs.Loaded.{table_of}
 use Rattle.dft_merge.specs.declared.placed.Placed.{Placed}
 use Rattle.dft_merge.specs.declared.placed.Placed.TheVariants.{Into}
-use Rattle.dft_merge.specs.Placement.{Begins, Joins, Loads, Places, PlacesAll, equations_of, first_unscanned}
+use Rattle.dft_merge.specs.Placement.{Begins, Joins, Loads, Places, PlacesAll, equations_of}
 use Rattle.dft_merge.specs.Rows.{CellRows}
 use Rattle.dft_merge.proofs.EquationLemmas.{solves_loads, solves_right}
-use Rattle.dft_scan_facts.specs.EdtVectors.{SuitsEdt}
 use Rattle.dft_scan_frame.specs.Statements.{IsReady}
-use Rattle.dft_load_laws.specs.Loading.{AreRows, LoadsAlways, rows_of}
+use Rattle.dft_load_laws.specs.Loading.{AreRows, rows_of}
 use Rattle.dft_load_laws.proofs.Bringing.{bits_load, unsolvable_in_runs}
 use Rattle.dft_encode.specs.Compiled.{Placing}
-use Rattle.dft_top.specs.Promises.{CubesAreToldRight, IsToldRight}
+use Rattle.dft_top.specs.Promises.{CubesAreToldRight}
 
 -- what becomes of a cube, behind some patterns
 record IsPlaced (n : ℕ) (row : CellRows) (window : ℕ) (cube : Cube) (place : Placed) : Type 0 where
@@ -57,7 +52,7 @@ told_right n config cubes placing ready ports k cube place suits at here =
     let are : AreRows n config rows = placing.equations in record {
       unsolvable = λ scanned. unsolvable_in_runs n config ports rows config.window placed.old placed.new cube place ready suits are scanned placed.is;
       loaded = λ pattern into.
-        let is : Places rows.columns row config.window placed.old cube (Into pattern) placed.new = subst (λ (place : Placed). Places rows.columns row config.window placed.old cube place placed.new) into placed.is in
-        let bits = bits_of rows.columns row config.window placed.old cube pattern placed.new is.1 in
-        (table_of config.ring bits.0, bits_load n config ports rows bits.0 cube.cells ready suits are is.0 bits.1);
+          let is : Places rows.columns row config.window placed.old cube (Into pattern) placed.new = subst (λ (place : Placed). Places rows.columns row config.window placed.old cube place placed.new) into placed.is in
+          let bits = bits_of rows.columns row config.window placed.old cube pattern placed.new is.1 in
+          (table_of config.ring bits.0, bits_load n config ports rows bits.0 cube.cells ready suits are is.0 bits.1);
     }

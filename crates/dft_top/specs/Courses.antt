@@ -1,5 +1,5 @@
 -- What a command does up to its outcome: it loads one file after another, each of which gives a value by its checks or is refused.
-use Rattle.std.specs.Prelude.{ℕ, ◌≡◌, ◌⊎◌, List, Option, Some, Result, Ok, Err}
+use Rattle.std.specs.Prelude.{ℕ, ◌≡◌, ◌⊎◌, List, Option, Some, Result}
 use Rattle.dft_files.specs.Outside.{Held}
 use Rattle.dft_top.specs.declared.answer.Refusal.{Refusal}
 use Rattle.dft_top.specs.declared.outcome.Outcome.{Outcome}

@@ -103,11 +103,21 @@ abbrev pub scanned_line : Counts → List ℕ
 scanned_line counts =
     codes "scanned cells " ++ (decimal counts.cells ++ (codes " unscanned " ++ (decimal counts.unscanned ++ (codes " chains " ++ (decimal counts.chains ++ (codes " lockups " ++ (decimal counts.lockups ++ codes "\n")))))))
 
+-- the cells, the chains, the cycles of a load, the patterns
+abbrev pub load_part : compiled.Counts → List ℕ
+load_part counts =
+    codes "compiled cells " ++ (decimal counts.cells ++ (codes " chains " ++ (decimal counts.chains ++ (codes " cycles " ++ (decimal counts.cycles ++ (codes " patterns " ++ decimal counts.patterns))))))
+
+-- what became of the cubes
+abbrev pub fate_part : compiled.Counts → List ℕ
+fate_part counts = codes " encoded " ++ (decimal counts.encoded ++ (codes " unsolvable " ++ (decimal counts.unsolvable ++ (codes " skipped " ++ decimal counts.skipped))))
+
+-- the masked chains, and the vectors
+abbrev pub vector_part : compiled.Counts → List ℕ
+vector_part counts = codes " masked " ++ (decimal counts.masked ++ (codes " vectors " ++ decimal counts.vectors))
+
 abbrev pub compiled_line : compiled.Counts → List ℕ
-compiled_line counts =
-    codes "compiled cells " ++ (decimal counts.cells ++ (codes " chains " ++ (decimal counts.chains ++ (codes " cycles " ++ (decimal counts.cycles
-    ++ (codes " patterns " ++ (decimal counts.patterns ++ (codes " encoded " ++ (decimal counts.encoded ++ (codes " unsolvable " ++ (decimal counts.unsolvable
-    ++ (codes " skipped " ++ (decimal counts.skipped ++ (codes " masked " ++ (decimal counts.masked ++ (codes " vectors " ++ (decimal counts.vectors ++ codes "\n")))))))))))))))))
+compiled_line counts = load_part counts ++ (fate_part counts ++ (vector_part counts ++ codes "\n"))
 
 abbrev pub line_of : Outcome → List ℕ
 line_of Usage = usage_line

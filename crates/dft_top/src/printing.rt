@@ -167,10 +167,38 @@ fn scanned_line(alloc: Global, counts: Counts) -> Result<Vec<u8>, AllocError>
 fn compiled_line(alloc: Global, counts: CompileCounts) -> Result<Vec<u8>, AllocError>
     ensures { IfOk result (λ line. line.items ≡ spec.compiled_line counts) }
 {
-    let line = format!(in alloc;
-        "compiled cells {} chains {} cycles {} patterns {} encoded {} unsolvable {} skipped {} masked {} vectors {}\n",
-        counts.cells, counts.chains, counts.cycles, counts.patterns, counts.encoded,
-        counts.unsolvable, counts.skipped, counts.masked, counts.vectors
+    let mut line = load_part(alloc, counts)?;
+    add_fates(alloc, &mut line, counts)?;
+    add_vectors(alloc, &mut line, counts)?;
+    line.push(b'\n')?;
+    Ok(line)
+}
+
+fn load_part(alloc: Global, counts: CompileCounts) -> Result<Vec<u8>, AllocError>
+    ensures { IfOk result (λ line. line.items ≡ spec.load_part counts) }
+{
+    let part = format!(in alloc;
+        "compiled cells {} chains {} cycles {} patterns {}",
+        counts.cells, counts.chains, counts.cycles, counts.patterns
     )?;
-    Ok(line.into_bytes())
+    Ok(part.into_bytes())
+}
+
+fn add_fates(alloc: Global, line: &mut Vec<u8>, counts: CompileCounts) -> Result<(), AllocError>
+    ensures { OnOk result (line.new.items ≡ line.old.items ++ spec.fate_part counts) }
+{
+    let part = format!(in alloc;
+        " encoded {} unsolvable {} skipped {}",
+        counts.encoded, counts.unsolvable, counts.skipped
+    )?;
+    line.extend_from_slice(part.as_bytes())?;
+    Ok(())
+}
+
+fn add_vectors(alloc: Global, line: &mut Vec<u8>, counts: CompileCounts) -> Result<(), AllocError>
+    ensures { OnOk result (line.new.items ≡ line.old.items ++ spec.vector_part counts) }
+{
+    let part = format!(in alloc; " masked {} vectors {}", counts.masked, counts.vectors)?;
+    line.extend_from_slice(part.as_bytes())?;
+    Ok(())
 }

@@ -1,5 +1,5 @@
 -- The patterns so far.
-use Rattle.std.proofs.Common.{◌≡◌, ◌≤◌, ◌-◌, length}
+use Rattle.std.proofs.Common.{◌≡◌, ◌≤◌, ◌-◌}
 use Rattle.dft_encode.specs.Finding.{HasPatterns}
 use Rattle.dft_encode.proofs.filling.fill.Given as goal
 

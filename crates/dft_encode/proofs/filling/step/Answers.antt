@@ -1,5 +1,5 @@
 -- One pattern more.
-use Rattle.std.proofs.Common.{◌≡◌, ◌+◌, ◌≤◌, ◌∙◌, ℕ, length, ap, refl, arith}
+use Rattle.std.proofs.Common.{◌+◌, ◌≤◌, ◌∙◌, ℕ, length, ap, refl, arith}
 use Rattle.std.specs.Prelude.{count_by}
 use Rattle.dft_encode.specs.Counts.{is_set}
 use Rattle.dft_encode.proofs.FillingLemmas.{count_is, fits_list, last_fits, one_found}

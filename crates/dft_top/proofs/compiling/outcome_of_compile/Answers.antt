@@ -1,9 +1,12 @@
-use Rattle.std.proofs.Common.{◌≡◌, ◌∙◌, inl, inr, Err, Option, Some, refl, rules, subst}
+use Rattle.std.proofs.Common.{◌≡◌, ◌∙◌, inl, inr, Err, List, Option, Some, refl, rules, subst}
 use Rattle.dft_files.specs.Outside.{Held, Told}
 use Rattle.dft_top.specs.declared.stop.Stop.TheVariants.{ReadFault}
 use Rattle.dft_words.specs.Named.{compile_files_of}
 use Rattle.dft_top.specs.Checks.{ConfigGives, LibraryGives, NetlistGives}
-use Rattle.dft_top.specs.Courses.{Reaches, TurnComes}
+use Rattle.dft_cells.specs.declared.cell.Cell.{Cell}
+use Rattle.dft_config.specs.declared.config.Config.{Config}
+use Rattle.dft_netlist.specs.Netlist.{Netlist}
+use Rattle.dft_top.specs.Courses.{Reaches, Step, TurnComes}
 use Rattle.dft_top.specs.Outcomes.{course_of_design}
 use Rattle.dft_top.specs.Stops.{ComesTo}
 use Rattle.dft_top.proofs.Steps.{CompileOf, CompileOn, CompileOver, value_then, stop_then, turn_then}
@@ -53,12 +56,15 @@ returns-clause-loaded g c = λ is. inr (c.in_ok-library.library, inr (c.in_ok-co
 pub returns-clause-turn : goal.returns-clause-turn
 returns-clause-turn g c = λ is.
     let held = g.F.Files.held c.args.files.now in
+    let failed = g.F.Files.failed c.outcome_of_design.new.files in
     let files = compile_files_of c.args.names in
     let cells = c.in_ok-library.library in
     let config = c.in_ok-config.config in
     let design = c.in_ok-design.design in
-    turn_then files.library (LibraryGives files.library) _ held held cells _ refl c.in_ok-library.ensures.gives
-    (turn_then (Some files.config) (ConfigGives files.config) _ held _ config _ c.load_library.ensures.held c.in_ok-config.ensures.gives
-    (turn_then (Some files.netlist) (NetlistGives cells files.netlist) _ held _ design _ (c.load_config.ensures.held ∙ c.load_library.ensures.held) c.in_ok-design.ensures.gives
-    (subst (λ (now : Option Held). Told (λ h. TurnComes (course_of_design design config files.cubes) h _) now)
+    let on = λ (config : Config) (n : Netlist). course_of_design n config files.cubes in
+    let over = λ (cells : List Cell) (config : Config). Step (Some files.netlist) (NetlistGives cells files.netlist) (on config) in
+    turn_then files.library (LibraryGives files.library) (λ cells. Step (Some files.config) (ConfigGives files.config) (over cells)) held held cells failed refl c.in_ok-library.ensures.gives
+    (turn_then (Some files.config) (ConfigGives files.config) (over cells) held _ config failed c.load_library.ensures.held c.in_ok-config.ensures.gives
+    (turn_then (Some files.netlist) (NetlistGives cells files.netlist) (on config) held _ design failed (c.load_config.ensures.held ∙ c.load_library.ensures.held) c.in_ok-design.ensures.gives
+    (subst (λ (now : Option Held). Told (λ h. TurnComes (course_of_design design config files.cubes) h failed) now)
     (c.load_netlist.ensures.held ∙ c.load_config.ensures.held ∙ c.load_library.ensures.held) (c.outcome_of_design.ensures.turn is))))

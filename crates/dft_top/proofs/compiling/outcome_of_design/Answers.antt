@@ -1,4 +1,4 @@
-use Rattle.std.proofs.Common.{◌≡◌, inl, inr, ap, Err, Some, None, refl, rules}
+use Rattle.std.proofs.Common.{◌≡◌, inl, inr, ap, Err, Ok, Some, None, refl, rules}
 use Rattle.dft_top.specs.Checks.{DesignGives}
 use Rattle.dft_top.specs.Outcomes.{course_of_cubes}
 use Rattle.dft_top.proofs.Steps.{CompileWith, given_told, stop_then, told_of_all, turn_then, value_then}
@@ -19,7 +19,7 @@ returns-clause-outcome g c =
     let n = c.args.design.now in
     let config = c.args.config.now in
     value_then (λ h. DesignGives n config) (CompileWith n config c.args.cubes.now) held held c.in_ok-prepared.prepared _ refl
-    (given_told (DesignGives n config) held _ c.in_ok-prepared.ensures) c.outcome_with.ensures.outcome
+    (given_told (DesignGives n config) held (Ok c.in_ok-prepared.prepared) c.in_ok-prepared.ensures) c.outcome_with.ensures.outcome
 
 pub returns-clause-loaded : goal.returns-clause-loaded
 returns-clause-loaded g c = λ is. inr (c.in_ok-prepared.prepared, inl (ap Some (c.outcome_with.ensures.loaded is)))
@@ -30,4 +30,4 @@ returns-clause-turn g c = λ is.
     let n = c.args.design.now in
     let config = c.args.config.now in
     turn_then None (λ h. DesignGives n config) (λ prepared. course_of_cubes n config c.args.cubes.now) held held c.in_ok-prepared.prepared _ refl
-    (given_told (DesignGives n config) held _ c.in_ok-prepared.ensures) (told_of_all _ held (λ h. inl (ap Some (c.outcome_with.ensures.loaded is))))
+    (given_told (DesignGives n config) held (Ok c.in_ok-prepared.prepared) c.in_ok-prepared.ensures) (told_of_all _ held (λ h. inl (ap Some (c.outcome_with.ensures.loaded is))))

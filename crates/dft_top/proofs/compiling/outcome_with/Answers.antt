@@ -21,6 +21,6 @@ returns-clause-outcome g c =
     let config = c.args.config.now in
     let cubes = c.in_ok-cubes.cubes in
     let comes : ComesTo (IsOutcomeOfCubes n config cubes) c.outcome_of_cubes.result =
-        subst (λ (given : List Cube). ComesTo (IsOutcomeOfCubes n config given) c.outcome_of_cubes.result) c.as_slice.ensures c.outcome_of_cubes.ensures.outcome in
+    subst (λ (given : List Cube). ComesTo (IsOutcomeOfCubes n config given) c.outcome_of_cubes.result) c.as_slice.ensures c.outcome_of_cubes.ensures.outcome in
     value_then (CubesGive n config c.args.cubes.now) (λ h given. IsOutcomeOfCubes n config given) held held cubes _ refl c.in_ok-cubes.ensures.gives
     (comes_told (IsOutcomeOfCubes n config cubes) held _ comes)
