@@ -28,11 +28,7 @@ fn play<R: AllocGlobal + Print + std::rt::Files>(rt: &R, line: &str) -> io::Resu
         if is_saved {
             show(rt, word.as_str())?;
         }
-<<<<<<< HEAD
-        is_saved = word.as_str() == "--report" || word.as_str().starts_with("--out");
-=======
         is_saved = word.as_str().starts_with("--out") || word.as_str() == "--report";
->>>>>>> 2beb534263ef8bebe5a82882a53d270812c3dbf8
     }
     Ok(())
 }
