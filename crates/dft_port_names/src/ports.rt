@@ -8,14 +8,10 @@ ghost use Rattle.dft_pass_laws.specs.Formed.{ArePortsNamed, IsShortRange};
 use dft_base::Range;
 use dft_netlist::{Design, Port};
 
-// A range, if there is one, is of 16-bit numbers.
+// A range, if there is one, is of 16-bit numbers, as its type keeps.
 fn range_is_short(range: Option<Range>)
     ensures { IsShortRange range }
-{
-    if let Some(range) = range {
-        let _ = range.left;
-    }
-}
+{}
 
 // A port has a name, and a short range if any.
 fn port_is_named(port: &Port)
