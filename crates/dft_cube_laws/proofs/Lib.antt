@@ -1,4 +1,5 @@
-mod Played
-mod Turns
-mod Brought
-mod Replayed
+pub mod Played
+pub mod Turns
+pub mod Brought
+pub mod Replayed
+pub mod Reported

@@ -3,4 +3,4 @@
 
 mod laws;
 
-pub use laws::cubes_are_brought;
+pub use laws::{cubes_are_brought, reports_are_true};

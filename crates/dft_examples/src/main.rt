@@ -28,7 +28,7 @@ fn play<R: AllocGlobal + Print + std::rt::Files>(rt: &R, line: &str) -> io::Resu
         if is_saved {
             show(rt, word.as_str())?;
         }
-        is_saved = word.as_str() == "--out" || word.as_str() == "--report";
+        is_saved = word.as_str().starts_with("--out") || word.as_str() == "--report";
     }
     Ok(())
 }

@@ -103,11 +103,10 @@ fn time_captures(
         print_pace(rt, gates, responses.len(), start.elapsed(rt)?.as_micros())?;
     }
     let start = Instant::now(rt)?;
-    let mut count = 0;
     for pattern in patterns.iter().take(SINGLE) {
         let _response = capturer.capture(alloc, pattern)?;
-        count += 1;
     }
+    let count = patterns.len().min(SINGLE);
     eprint!(rt; "one by one: ")?;
     print_pace(rt, gates, count, start.elapsed(rt)?.as_micros())
 }

@@ -7,7 +7,7 @@ ghost use Rattle.dft_stitch.specs.Chains.{plan_of};
 ghost use Rattle.dft_expect.specs.Loaded.{all_cells};
 ghost use Rattle.dft_expect.specs.declared.response.Response.{Response};
 
-use crate::job::{Job, chains_of, job_of};
+use crate::lines::{Job, Texts, Told, line_for};
 use crate::texts::{ON_CLK, RING, SMALL, TWO_CLOCKS, WIDE, wide_patterns};
 use dft_base::{Listed, Tri};
 use dft_config::Config;
@@ -167,13 +167,13 @@ fn is_row(config: &Config, chains: &Chains, row: &[u64]) -> bool
 }
 
 // The bits that a row brings to the cells.
-fn load_of(alloc: Global, job: &Job, chains: &Chains, row: &[u64]) -> Result<Vec<bool>, AllocError>
-    requires range { IsInRange job.now.config }
-    requires passed { refusal job.now.design job.now.config ≡ None }
-    requires chains { chains.now ≡ plan_of job.now.design job.now.config }
+fn load_of(alloc: Global, job: &Job<'_>, row: &[u64]) -> Result<Vec<bool>, AllocError>
+    requires range { IsInRange job.now.config.now }
+    requires passed { refusal job.now.design.now job.now.config.now ≡ None }
+    requires chains { job.now.chains.now ≡ plan_of job.now.design.now job.now.config.now }
 {
-    if is_row(&job.config, chains, row) {
-        loaded(alloc, &job.config, chains, row)
+    if is_row(job.config, job.chains, row) {
+        loaded(alloc, job.config, job.chains, row)
     } else {
         Ok(Vec::new(alloc))
     }
@@ -196,20 +196,19 @@ fn always_masked(alloc: Global, config: &Config, chains: u16) -> Result<Vec<bool
 fn push_unload(
     alloc: Global,
     line: &mut String,
-    job: &Job,
-    chains: &Chains,
+    job: &Job<'_>,
     response: &Response,
     next: &[u64],
 ) -> Result<(), AllocError>
-    requires range { IsInRange job.now.config }
-    requires passed { refusal job.now.design job.now.config ≡ None }
-    requires chains { chains.now ≡ plan_of job.now.design job.now.config }
-    requires cells { length response.now.cells ≡ length (all_cells chains.now.chains) }
+    requires range { IsInRange job.now.config.now }
+    requires passed { refusal job.now.design.now job.now.config.now ≡ None }
+    requires chains { job.now.chains.now ≡ plan_of job.now.design.now job.now.config.now }
+    requires cells { length response.now.cells ≡ length (all_cells job.now.chains.now.chains) }
 {
-    if !is_row(&job.config, chains, next) {
+    if !is_row(job.config, job.chains, next) {
         return line.push('?');
     }
-    let always = always_masked(alloc, &job.config, chains.count())?;
+    let always = always_masked(alloc, job.config, job.chains.count())?;
     let always = always.as_slice();
     let policy = MaskPolicy::new(
         |chain: u32, unknown: bool| -> bool
@@ -217,81 +216,68 @@ fn push_unload(
         { unknown || always[chain as usize] },
         always,
     );
-    let masks = masks(alloc, &policy, chains, response)?;
+    let masks = masks(alloc, &policy, job.chains, response)?;
     push_bits(line, &masks)?;
-    let expected = expected(alloc, &job.config, chains, response, &masks, next)?;
+    let expected = expected(alloc, job.config, job.chains, response, &masks, next)?;
     push_bits(line, &expected)
 }
 
 // What patterns capture, where they are no more than one sweep takes.
 fn responses_of(
     alloc: Global,
-    job: &Job,
-    chains: &Chains,
+    job: &Job<'_>,
     patterns: &[Pattern<'_>],
 ) -> Result<Vec<Response>, AllocError>
-    requires range { IsInRange job.now.config }
-    requires passed { refusal job.now.design job.now.config ≡ None }
-    requires chains { chains.now ≡ plan_of job.now.design job.now.config }
-    ensures { IfOk result (λ found. (place : ℕ) (r : Response) → slice_get found.items place ≡ Some r → length r.cells ≡ length (all_cells chains.now.chains)) }
+    requires range { IsInRange job.now.config.now }
+    requires passed { refusal job.now.design.now job.now.config.now ≡ None }
+    requires chains { job.now.chains.now ≡ plan_of job.now.design.now job.now.config.now }
+    ensures { IfOk result (λ found. (place : ℕ) (r : Response) → slice_get found.items place ≡ Some r → length r.cells ≡ length (all_cells job.now.chains.now.chains)) }
 {
     if patterns.len() > 512 {
         return Ok(Vec::new(alloc));
     }
-    let mut capturer = Capturer::prepare(alloc, &job.design, &job.config, chains)?;
+    let mut capturer = Capturer::prepare(alloc, job.design, job.config, job.chains)?;
     capturer.capture_all(alloc, patterns)
 }
 
 // What becomes of the patterns of the cubes, loaded by these rows.
-fn captured(
-    alloc: Global,
-    job: &Job,
-    chains: &Chains,
-    rows: &[Vec<u64>],
-) -> Result<String, AllocError>
-    requires range { IsInRange job.now.config }
-    requires passed { refusal job.now.design job.now.config ≡ None }
-    requires chains { chains.now ≡ plan_of job.now.design job.now.config }
+fn captured(alloc: Global, job: &Job<'_>, rows: &[Vec<u64>]) -> Result<String, AllocError>
+    requires range { IsInRange job.now.config.now }
+    requires passed { refusal job.now.design.now job.now.config.now ≡ None }
+    requires chains { job.now.chains.now ≡ plan_of job.now.design.now job.now.config.now }
 {
     let mut line = String::new(alloc);
-    let merged = all_merged(alloc, job.cubes.as_slice())?;
+    let merged = all_merged(alloc, job.cubes)?;
     let mut loads = Vec::new(alloc);
     for row in rows {
-        loads.push(load_of(alloc, job, chains, row)?)?;
+        loads.push(load_of(alloc, job, row)?)?;
     }
     let mut patterns = Vec::new(alloc);
     for (merged, loaded) in merged.iter().zip(&loads) {
         patterns.push(Pattern { merged, loaded })?;
     }
-    let responses = responses_of(alloc, job, chains, &patterns)?;
+    let responses = responses_of(alloc, job, &patterns)?;
     for place in 0..responses.len() {
         if place < loads.len() && place + 1 < rows.len() {
             let response = &responses[place];
             push_bits(&mut line, &loads[place])?;
             push_values(&mut line, response.cells.as_slice())?;
             push_values(&mut line, response.outputs.as_slice())?;
-            push_unload(alloc, &mut line, job, chains, response, &rows[place + 1])?;
+            push_unload(alloc, &mut line, job, response, &rows[place + 1])?;
             line.push_str("| ")?;
         }
     }
     Ok(line)
 }
 
-fn line_for(
-    alloc: Global,
-    netlist: &str,
-    config: &str,
-    cubes: &str,
-    rows: &str,
-) -> Result<String, AllocError> {
-    let Some(job) = job_of(alloc, netlist, config, cubes)? else {
-        return String::from_str(alloc, "not read");
-    };
-    let Some(chains) = chains_of(alloc, &job)? else {
-        return String::from_str(alloc, "not planned");
-    };
+/// What the cubes capture as patterns, loaded by these rows of channel bits.
+pub(crate) fn line(alloc: Global, job: &Job<'_>, rows: &str) -> Result<String, AllocError>
+    requires range { IsInRange job.now.config.now }
+    requires passed { refusal job.now.design.now job.now.config.now ≡ None }
+    requires chains { job.now.chains.now ≡ plan_of job.now.design.now job.now.config.now }
+{
     let rows = rows_of(alloc, rows)?;
-    captured(alloc, &job, &chains, &rows)
+    captured(alloc, job, &rows)
 }
 
 #[test]
@@ -299,7 +285,12 @@ fn patterns_capture_and_are_unloaded(rt: HostRuntime) -> Result<(), Fail> {
     for (netlist, head, rest, cubes, rows, wanted) in &CASES {
         let mut config = String::from_str(rt.alloc(), *head)?;
         config.push_str(*rest)?;
-        let line = line_for(rt.alloc(), *netlist, config.as_str(), *cubes, *rows)?;
+        let texts = Texts {
+            netlist: *netlist,
+            config: config.as_str(),
+            cubes: *cubes,
+        };
+        let line = line_for(rt.alloc(), &texts, Told::Captures(*rows))?;
         assert_eq!(rt; line.as_str(), *wanted, "{cubes} under {config}");
     }
     Ok(())
@@ -328,13 +319,12 @@ static WIDE_LINES: [&str; 11] = [
 fn eight_chains_capture_and_are_unloaded(rt: HostRuntime) -> Result<(), Fail> {
     let netlist = ring_of_forty(rt.alloc())?;
     let patterns = wide_patterns(rt.alloc())?;
-    let line = line_for(
-        rt.alloc(),
-        netlist.as_str(),
-        WIDE,
-        patterns.as_str(),
-        WIDE_ROWS,
-    )?;
+    let texts = Texts {
+        netlist: netlist.as_str(),
+        config: WIDE,
+        cubes: patterns.as_str(),
+    };
+    let line = line_for(rt.alloc(), &texts, Told::Captures(WIDE_ROWS))?;
     let mut wanted = String::new(rt.alloc());
     for line in &WIDE_LINES {
         wanted.push_str(*line)?;

@@ -6,11 +6,10 @@ ghost use Rattle.dft_rules.specs.Refusals.{refusal};
 ghost use Rattle.dft_stitch.specs.Chains.{plan_of};
 
 use crate::captures::{all_merged, push_values};
-use crate::job::{Job, chains_of, job_of};
+use crate::lines::{Job, Texts, Told, line_for};
 use crate::texts::{WIDE, wide_patterns};
 use dft_cubes::Merged;
 use dft_expect::{Capturer, Pattern, Response};
-use dft_stitch::Chains;
 use dft_texts::ring_of_forty;
 use std::alloc::{AllocError, Global};
 use std::test::Fail;
@@ -74,41 +73,71 @@ fn push_group(
     Ok(())
 }
 
-// All responses by groups, and one by one.
-fn both(alloc: Global, job: &Job, chains: &Chains) -> Result<(String, String), AllocError>
-    requires range { IsInRange job.now.config }
-    requires passed { refusal job.now.design job.now.config ≡ None }
-    requires chains { chains.now ≡ plan_of job.now.design job.now.config }
+// All responses by groups.
+fn grouped(
+    alloc: Global,
+    capturer: &mut Capturer<'_>,
+    patterns: &[Pattern<'_>],
+) -> Result<String, AllocError> {
+    let mut line = String::new(alloc);
+    let (first, second) = patterns.split_at(patterns.len().min(512));
+    push_group(alloc, &mut line, capturer, first)?;
+    push_group(alloc, &mut line, capturer, second)?;
+    Ok(line)
+}
+
+// And one by one.
+fn single(
+    alloc: Global,
+    capturer: &mut Capturer<'_>,
+    patterns: &[Pattern<'_>],
+) -> Result<String, AllocError> {
+    let mut line = String::new(alloc);
+    for pattern in patterns {
+        push_response(&mut line, &capturer.capture(alloc, pattern)?)?;
+    }
+    Ok(line)
+}
+
+// How long the values of all responses are, where both are the same.
+fn compared(
+    alloc: Global,
+    capturer: &mut Capturer<'_>,
+    patterns: &[Pattern<'_>],
+) -> Result<String, AllocError> {
+    let grouped = grouped(alloc, capturer, patterns)?;
+    let single = single(alloc, capturer, patterns)?;
+    if grouped.as_str() == single.as_str() {
+        format!(in alloc; "{} alike", grouped.len())
+    } else {
+        String::from_str(alloc, "not alike")
+    }
+}
+
+/// Whether the cubes, by turns and with random loads, capture the same in groups and one by one.
+pub(crate) fn line(alloc: Global, job: &Job<'_>) -> Result<String, AllocError>
+    requires range { IsInRange job.now.config.now }
+    requires passed { refusal job.now.design.now job.now.config.now ≡ None }
+    requires chains { job.now.chains.now ≡ plan_of job.now.design.now job.now.config.now }
 {
-    let merged = all_merged(alloc, job.cubes.as_slice())?;
+    let merged = all_merged(alloc, job.cubes)?;
     let loads = loads(alloc)?;
     let patterns = patterns_of(alloc, &merged, &loads)?;
-    let mut capturer = Capturer::prepare(alloc, &job.design, &job.config, chains)?;
-    let mut grouped = String::new(alloc);
-    let (first, second) = patterns.split_at(patterns.len().min(512));
-    push_group(alloc, &mut grouped, &mut capturer, first)?;
-    push_group(alloc, &mut grouped, &mut capturer, second)?;
-    let mut single = String::new(alloc);
-    for pattern in &patterns {
-        push_response(&mut single, &capturer.capture(alloc, pattern)?)?;
-    }
-    Ok((grouped, single))
+    let mut capturer = Capturer::prepare(alloc, job.design, job.config, job.chains)?;
+    compared(alloc, &mut capturer, &patterns)
 }
 
 #[test]
 fn groups_capture_as_their_patterns_one_by_one(rt: HostRuntime) -> Result<(), Fail> {
     let netlist = ring_of_forty(rt.alloc())?;
     let cubes = wide_patterns(rt.alloc())?;
-    let Some(job) = job_of(rt.alloc(), netlist.as_str(), WIDE, cubes.as_str())? else {
-        assert!(rt; false, "the job is read");
-        return Ok(());
+    let texts = Texts {
+        netlist: netlist.as_str(),
+        config: WIDE,
+        cubes: cubes.as_str(),
     };
-    let Some(chains) = chains_of(rt.alloc(), &job)? else {
-        assert!(rt; false, "chains are planned");
-        return Ok(());
-    };
-    let (grouped, single) = both(rt.alloc(), &job, &chains)?;
-    assert_eq!(rt; grouped.as_str(), single.as_str());
-    assert_eq!(rt; grouped.len(), PATTERNS * 47);
+    let line = line_for(rt.alloc(), &texts, Told::Groups)?;
+    // forty cells and five outputs, with two blanks
+    assert_eq!(rt; line.as_str(), "24111 alike");
     Ok(())
 }

@@ -6,7 +6,7 @@ mod captures;
 #[cfg(test)]
 mod groups;
 #[cfg(test)]
-mod job;
+mod lines;
 #[cfg(test)]
 mod placements;
 #[cfg(test)]

@@ -8,7 +8,7 @@ ghost use Rattle.dft_stitch.specs.Chains.{plan_of};
 ghost use Rattle.dft_merge.specs.Merging.{columns_in};
 ghost use Rattle.dft_merge.specs.Rows.{StandApart};
 
-use crate::job::{chains_of, job_of};
+use crate::lines::{Job, Texts, Told, line_for};
 use crate::texts::{ON_CLK, RING, SMALL, TWO_CLOCKS, WIDE, wide_cubes};
 use dft_config::Config;
 use dft_cubes::Cube;
@@ -287,17 +287,14 @@ fn loaded(
     merged(alloc, config, chains, &equations, cubes)
 }
 
-// What becomes of the cubes of a text, over a netlist and a configuration.
-fn line_for(alloc: Global, netlist: &str, config: &str, cubes: &str) -> Result<String, AllocError> {
-    let Some(job) = job_of(alloc, netlist, config, cubes)? else {
-        return String::from_str(alloc, "not read");
-    };
-    let Some(chains) = chains_of(alloc, &job)? else {
-        return String::from_str(alloc, "not planned");
-    };
+/// What becomes of the cubes of a job.
+pub(crate) fn line(alloc: Global, job: &Job<'_>) -> Result<String, AllocError>
+    requires range { IsInRange job.now.config.now }
+    requires chains { job.now.chains.now ≡ plan_of job.now.design.now job.now.config.now }
+{
     plans_stand_apart();
-    match lengths_of(alloc, &chains, chains.cycles())? {
-        Some(lengths) => loaded(alloc, &job.config, &chains, &lengths, job.cubes.as_slice()),
+    match lengths_of(alloc, job.chains, job.chains.cycles())? {
+        Some(lengths) => loaded(alloc, job.config, job.chains, &lengths, job.cubes),
         None => String::from_str(alloc, "too long"),
     }
 }
@@ -307,7 +304,12 @@ fn cubes_go_where_they_fit(rt: HostRuntime) -> Result<(), Fail> {
     for (netlist, head, rest, cubes, wanted) in &CASES {
         let mut config = String::from_str(rt.alloc(), *head)?;
         config.push_str(*rest)?;
-        let line = line_for(rt.alloc(), *netlist, config.as_str(), *cubes)?;
+        let texts = Texts {
+            netlist: *netlist,
+            config: config.as_str(),
+            cubes: *cubes,
+        };
+        let line = line_for(rt.alloc(), &texts, Told::Placements)?;
         assert_eq!(rt; line.as_str(), *wanted, "{cubes} under {config}");
     }
     Ok(())
@@ -338,7 +340,12 @@ fn a_seed_fills_by_the_words_of_its_generator(rt: HostRuntime) -> Result<(), Fai
 fn a_cube_of_a_port_alone_joins_the_oldest_pattern(rt: HostRuntime) -> Result<(), Fail> {
     let netlist = ring_of_forty(rt.alloc())?;
     let cubes = wide_cubes(rt.alloc())?;
-    let line = line_for(rt.alloc(), netlist.as_str(), WIDE, cubes.as_str())?;
+    let texts = Texts {
+        netlist: netlist.as_str(),
+        config: WIDE,
+        cubes: cubes.as_str(),
+    };
+    let line = line_for(rt.alloc(), &texts, Told::Placements)?;
     assert!(rt;
         line.as_str().starts_with("0 1 2 3 4 5 6 7 8 9 10 0 | "),
         "{line}"

@@ -1,0 +1,201 @@
+-- The bytes of the patterns' text are those that are told before any pattern is made.
+use Rattle.std.proofs.Common.{◌≡◌, ℕ, zero, suc, ◌+◌, ◌*◌, ◌/◌, ◌<◌, ◌≤◌, List, [], ◌∷◌, ◌++◌, length, map, refl, sym, subst, ap, ◌∙◌, length-append, arith}
+use Rattle.std.specs.List.{All, range_with_len}
+use Rattle.std.proofs.lemmas.Grind.{flat_map-append}
+use Rattle.std.proofs.lemmas.List.{length-map}
+use Rattle.std.proofs.lemmas.List.Elements.{All-nil, All-cons, All-append}
+use Rattle.std.proofs.Math.Nat.{mul-le-mul_right}
+use Rattle.std.proofs.lemmas.Nat.{le-div}
+use Rattle.std.proofs.lemmas.Option.{slice_get-get_or}
+use Rattle.dft_base.specs.Lexing.{Text}
+use Rattle.dft_base.specs.declared.dir.Dir.{Dir}
+use Rattle.dft_base.specs.declared.dir.Dir.TheVariants.{Input, Output}
+use Rattle.dft_netlist.specs.declared.ids.NetId.{NetId}
+use Rattle.dft_netlist.specs.declared.port.Port.{Port}
+use Rattle.dft_netlist.specs.Netlist.{Netlist}
+use Rattle.dft_config.specs.declared.config.Config.{Config}
+use Rattle.dft_config.specs.Cycles.{longest_segment}
+use Rattle.dft_config.specs.Range.{IsInRange}
+use Rattle.dft_equations.specs.LoadRows.{LoadRows}
+use Rattle.dft_stitch.specs.Chains.{plan_of}
+use Rattle.dft_cubes.specs.declared.cube.Merged.{Merged}
+use Rattle.dft_expect.specs.Captures.{bits_out, output_bits}
+use Rattle.dft_patterns.specs.declared.notes.Note.{Note}
+use Rattle.dft_patterns.specs.declared.notes.NoteKind.TheVariants.{SetUp, Unload}
+use Rattle.dft_patterns.specs.Steadiness.{HaveLength}
+use Rattle.dft_scan_frame.specs.AddedPorts.{NewPort, new_port, numbered, numbered_ports, ports_from}
+use Rattle.dft_scan_hardware.specs.declared.style.Style.TheVariants.{Edt}
+use Rattle.dft_scan_hardware.specs.Ports.{added_ports, gap_in}
+use Rattle.dft_scan_hardware.specs.Statements.{scanned}
+use Rattle.dft_scan_hardware.proofs.Keeping.{adds_in_order}
+use Rattle.dft_stil_length.specs.WrittenLength.{written_length}
+use Rattle.dft_stil_length.proofs.LengthLemmas.{written_has_length}
+use Rattle.dft_vectors.specs.PatternData.{PatternData}
+use Rattle.dft_vectors.specs.Signals.{bits_in, input_bits, signal_of, signals_of}
+use Rattle.dft_vectors.specs.VectorList.{first_vector, notes_of, pattern_note, vectors_of}
+use Rattle.dft_encode.specs.Compiled.{ArePatterns, merged_of}
+use Rattle.dft_encode.specs.Laws.{vectors_in, width}
+use Rattle.dft_encode.proofs.WidthLemmas.{vectors_wide}
+use Rattle.dft_compile.specs.Laws.{BytesAreTold}
+use Rattle.dft_compile.specs.Refusals.{pattern_bytes}
+use Rattle.dft_compile.specs.Texts.{pattern_set}
+
+-- ---- how many ports are added
+
+abbrev one_in : Dir → ℕ
+one_in Input = 1
+one_in Output = 0
+
+abbrev one_out : Dir → ℕ
+one_out Input = 0
+one_out Output = 1
+
+abbrev ins : List NewPort → ℕ
+ins [] = 0
+ins (port ∷ ports) = one_in port.dir + ins ports
+
+abbrev outs : List NewPort → ℕ
+outs [] = 0
+outs (port ∷ ports) = one_out port.dir + outs ports
+
+in_step : (d : Dir) (net : NetId) (rest : List NetId) (count : ℕ) → length rest ≡ count → length (bits_in d (net ∷ []) ++ rest) ≡ one_in d + count
+in_step Input net rest count h = omega (arith, h)
+in_step Output net rest count h = omega (arith, h)
+
+out_step : (d : Dir) (net : NetId) (rest : List NetId) (count : ℕ) → length rest ≡ count → length (bits_out d (net ∷ []) ++ rest) ≡ one_out d + count
+out_step Input net rest count h = omega (arith, h)
+out_step Output net rest count h = omega (arith, h)
+
+ins_are : (net : ℕ) (ports : List NewPort) → length (input_bits (ports_from net ports)) ≡ ins ports
+ins_are net [] = refl
+ins_are net (port ∷ ports) = in_step port.dir (record { 0 = net }) (input_bits (ports_from (suc net) ports)) (ins ports) (ins_are (suc net) ports)
+
+outs_are : (net : ℕ) (ports : List NewPort) → length (output_bits (ports_from net ports)) ≡ outs ports
+outs_are net [] = refl
+outs_are net (port ∷ ports) = out_step port.dir (record { 0 = net }) (output_bits (ports_from (suc net) ports)) (outs ports) (outs_are (suc net) ports)
+
+ins_both : (a b : List NewPort) → ins (a ++ b) ≡ ins a + ins b
+ins_both [] b = omega arith
+ins_both (port ∷ a) b = omega (arith, ins_both a b)
+
+outs_both : (a b : List NewPort) → outs (a ++ b) ≡ outs a + outs b
+outs_both [] b = omega arith
+outs_both (port ∷ a) b = omega (arith, outs_both a b)
+
+ins_some : (d : Dir) (name : Text) (from count : ℕ) → ins (map (λ number. new_port d (numbered name number)) (range_with_len from count)) ≡ count * one_in d
+ins_some d name from zero = omega arith
+ins_some d name from (suc count) = let more : suc count * one_in d ≡ one_in d + count * one_in d = grind arith in omega (arith, more, ins_some d name (from + 1) count)
+
+outs_some : (d : Dir) (name : Text) (from count : ℕ) → outs (map (λ number. new_port d (numbered name number)) (range_with_len from count)) ≡ count * one_out d
+outs_some d name from zero = omega arith
+outs_some d name from (suc count) = let more : suc count * one_out d ≡ one_out d + count * one_out d = grind arith in omega (arith, more, outs_some d name (from + 1) count)
+
+added_ins : (config : Config) → ins (added_ports Edt config) ≡ 3 + (config.ring.channels + config.compactor.mask_inputs)
+added_ins config =
+    let channels = numbered_ports Input config.names.channel config.ring.channels in
+    let masks = numbered_ports Input config.names.mask config.compactor.mask_inputs in
+    let shown = numbered_ports Output config.names.output (length config.compactor.groups) in
+    omega (
+      arith,
+      ins_both channels (masks ++ shown),
+      ins_both masks shown,
+      ins_some Input config.names.channel 0 config.ring.channels,
+      ins_some Input config.names.mask 0 config.compactor.mask_inputs,
+      ins_some Output config.names.output 0 (length config.compactor.groups),
+    )
+
+added_outs : (config : Config) → outs (added_ports Edt config) ≡ length config.compactor.groups
+added_outs config =
+    let channels = numbered_ports Input config.names.channel config.ring.channels in
+    let masks = numbered_ports Input config.names.mask config.compactor.mask_inputs in
+    let shown = numbered_ports Output config.names.output (length config.compactor.groups) in
+    omega (
+      arith,
+      outs_both channels (masks ++ shown),
+      outs_both masks shown,
+      outs_some Input config.names.channel 0 config.ring.channels,
+      outs_some Input config.names.mask 0 config.compactor.mask_inputs,
+      outs_some Output config.names.output 0 (length config.compactor.groups),
+    )
+
+-- ---- signals
+
+all_ins : (n : Netlist) (config : Config) → length (input_bits (scanned Edt n config).ports) ≡ length (input_bits n.ports) + (3 + (config.ring.channels + config.compactor.mask_inputs))
+all_ins n config =
+    let added : List Port = ports_from (gap_in Edt n config).before (added_ports Edt config) in
+    ap (λ (ports : List Port). length (input_bits ports)) (adds_in_order Edt n config).ports
+    ∙ ap length (flat_map-append (λ (port : Port). bits_in port.dir port.bits) n.ports added)
+    ∙ length-append (input_bits n.ports) (input_bits added)
+    ∙ ap (λ k. length (input_bits n.ports) + k) (ins_are (gap_in Edt n config).before (added_ports Edt config) ∙ added_ins config)
+
+all_outs : (n : Netlist) (config : Config) → length (output_bits (scanned Edt n config).ports) ≡ length (output_bits n.ports) + length config.compactor.groups
+all_outs n config =
+    let added : List Port = ports_from (gap_in Edt n config).before (added_ports Edt config) in
+    ap (λ (ports : List Port). length (output_bits ports)) (adds_in_order Edt n config).ports
+    ∙ ap length (flat_map-append (λ (port : Port). bits_out port.dir port.bits) n.ports added)
+    ∙ length-append (output_bits n.ports) (output_bits added)
+    ∙ ap (λ k. length (output_bits n.ports) + k) (outs_are (gap_in Edt n config).before (added_ports Edt config) ∙ added_outs config)
+
+-- there is an act for each signal
+signal_count : (n : Netlist) (config : Config) → width n config ≡ length (signals_of (scanned Edt n config))
+signal_count n config =
+    let w = scanned Edt n config in
+    let inputs = map (signal_of w Input) (input_bits w.ports) in
+    let outputs = map (signal_of w Output) (output_bits w.ports) in
+    omega (arith, all_ins n config, all_outs n config, length-append inputs outputs, length-map (input_bits w.ports) (signal_of w Input), length-map (output_bits w.ports) (signal_of w Output))
+
+-- ---- notes
+
+some_cycle : (n : Netlist) (config : Config) → IsInRange config → 1 ≤ (plan_of n config).cycles
+some_cycle n config range =
+    let masks : ℕ = config.compactor.mask_inputs in
+    let some : 0 < masks = (let least = range.compactor.mask_inputs.0 in omega (arith, least)) in
+    let fits : 1 * masks ≤ config.chains = (let most = range.compactor.mask_inputs.2 in omega (arith, most)) in
+    let one : 1 ≤ config.chains / masks = le-div 1 config.chains masks some fits in
+    let longest : 1 ≤ longest_segment config = omega (arith, one) in
+    omega (arith, longest)
+
+abbrev Before : ℕ → Note → Type 0
+Before vectors note = note.before < vectors
+
+pattern_before : (cycles from count all : ℕ) → from + count ≤ all → 1 ≤ cycles → All (Before (1 + all * suc cycles + cycles)) (map (pattern_note cycles) (range_with_len from count))
+pattern_before cycles from zero all fits some = All-nil (Before (1 + all * suc cycles + cycles))
+pattern_before cycles from (suc count) all fits some =
+    All-cons (Before (1 + all * suc cycles + cycles)) (pattern_note cycles from) (map (pattern_note cycles) (range_with_len (from + 1) count))
+    (let within : from ≤ all = omega (arith, fits) in let less : from * suc cycles ≤ all * suc cycles = mul-le-mul_right (suc cycles) within in omega (arith, less, some)) (pattern_before cycles (from + 1) count all (omega (arith, fits)) some)
+
+notes_before : (cycles patterns : ℕ) → 1 ≤ cycles → All (Before (vectors_in cycles patterns)) (notes_of cycles patterns)
+notes_before cycles zero some = All-nil (Before 0)
+notes_before cycles (suc patterns) some =
+    let Fits = Before (1 + suc patterns * suc cycles + cycles) in
+    let last : Note = record { before = first_vector cycles (suc patterns); what = Unload } in
+    let middle = map (pattern_note cycles) (range_with_len 0 (suc patterns)) in
+    All-cons Fits (record { before = 0; what = SetUp }) (middle ++ last ∷ []) (omega arith)
+    (All-append Fits middle (last ∷ []) (pattern_before cycles 0 (suc patterns) (suc patterns) (omega arith) some) (All-cons Fits last [] (omega (arith, some)) (All-nil Fits)))
+
+-- ---- the text
+
+-- a pattern captures a value for each bit of the design's outputs
+outputs_fit : (n : Netlist) (config : Config) (rows : LoadRows) (merged : List Merged) (list : List PatternData) → ArePatterns n config (plan_of n config) rows merged list → All (λ p. length p.response.outputs ≡ length (output_bits n.ports)) list
+outputs_fit n config rows merged list are =
+    λ k d less. (let captured = (are.each k _ (slice_get-get_or list k d less)).captured in ap length captured.outputs ∙ length-map (output_bits n.ports) (λ (net : NetId). captured.values net.0))
+
+pub list_count : (n : Netlist) (config : Config) (rows : LoadRows) (merged : List Merged) (list : List PatternData) → ArePatterns n config (plan_of n config) rows merged list → length list ≡ length merged
+list_count n config rows merged list are = sym (length-map list merged_of) ∙ ap length are.merged
+
+pub vector_count : (n : Netlist) (config : Config) (rows : LoadRows) (merged : List Merged) (list : List PatternData) → ArePatterns n config (plan_of n config) rows merged list →
+    length (vectors_of n config (plan_of n config) list) ≡ vectors_in (plan_of n config).cycles (length list)
+vector_count n config rows merged list are = (vectors_wide n config (plan_of n config) list (outputs_fit n config rows merged list are)).1
+
+pub bytes_told : BytesAreTold
+bytes_told n config rows merged list range are =
+    let plan = plan_of n config in
+    let vectors = vectors_of n config plan list in
+    let signals = signals_of (scanned Edt n config) in
+    let wide = vectors_wide n config plan list (outputs_fit n config rows merged list are) in
+    let fits : HaveLength (length signals) vectors = subst (λ (k : ℕ). HaveLength k vectors) (signal_count n config) wide.0 in
+    let notes : All (λ note. note.before < length vectors) (notes_of plan.cycles (length list)) =
+    subst (λ (k : ℕ). All (Before k) (notes_of plan.cycles (length list))) (sym wide.1) (notes_before plan.cycles (length list) (some_cycle n config range)) in
+    written_has_length (pattern_set n config list) fits notes
+    ∙ ap (λ k. written_length signals k (notes_of plan.cycles (length list))) wide.1
+    ∙ ap (pattern_bytes n config) (list_count n config rows merged list are)

@@ -1,0 +1,6 @@
+pub mod RefusalLemmas
+pub mod BytesLemmas
+pub mod ReportLemmas
+pub mod LateLemmas
+pub mod WorkLemmas
+pub mod EachLemmas

@@ -1,0 +1,122 @@
+-- A compilation whose cubes are placed.
+use Rattle.std.proofs.Common.{◌≡◌, ◌≤◌, ℕ, suc, List, [], ◌∷◌, length, map, refl, sym, subst, ap, ◌∙◌, arith}
+use Rattle.dft_netlist.specs.declared.ids.InstanceId.{InstanceId}
+use Rattle.dft_netlist.specs.Netlist.{Netlist}
+use Rattle.dft_config.specs.declared.config.Config.{Config}
+use Rattle.dft_equations.specs.LoadRows.{LoadRows, AreLoadEquations}
+use Rattle.dft_stitch.specs.Chains.{plan_of}
+use Rattle.dft_stitch.specs.Plans.{Plan}
+use Rattle.dft_cubes.specs.declared.cube.Cube.{Cube}
+use Rattle.dft_cubes.specs.declared.cube.Merged.{Merged}
+use Rattle.dft_merge.specs.declared.placed.Placed.{Placed}
+use Rattle.dft_merge.specs.Merging.{Merging, columns_in, rows_in}
+use Rattle.dft_merge.specs.Placement.{PlacesAll}
+use Rattle.dft_merge.specs.Rows.{CellRows, cell_row}
+use Rattle.dft_report.specs.declared.limits.TheConstants.{MAX_BYTES}
+use Rattle.dft_stil_tokens.specs.declared.blanks.TheConstants.{MAX_TEXT}
+use Rattle.dft_config.specs.Range.{IsInRange}
+use Rattle.dft_patterns.specs.Patterns.{Patterns}
+use Rattle.dft_scan_hardware.specs.declared.style.Style.TheVariants.{Edt}
+use Rattle.dft_scan_hardware.specs.Statements.{scanned}
+use Rattle.dft_stil_out.specs.Written.{noted}
+use Rattle.dft_encode.specs.declared.encoding.Encoded.{Encoded}
+use Rattle.dft_encode.specs.Compiled.{Placing}
+use Rattle.dft_encode.specs.Encoding.{IsEncoded}
+use Rattle.dft_encode.specs.Counts.{masked_in}
+use Rattle.dft_compile.specs.declared.texts.CompileTexts.{CompileTexts}
+use Rattle.dft_compile.specs.declared.texts.Counts.{Counts}
+use Rattle.dft_compile.specs.declared.writing.PatternText.{PatternText}
+use Rattle.dft_compile.specs.declared.error.CompileError.{CompileError}
+use Rattle.dft_compile.specs.Compilation.{AreTextsOf, IsCompileOf, IsPatternText}
+use Rattle.dft_compile.specs.Refusals.{IsLate, IsRefusal, late_refusal, pattern_bytes}
+use Rattle.dft_compile.specs.Texts.{counts_by, counts_of, netlist_text, report_text}
+use Rattle.dft_compile.proofs.BytesLemmas.{bytes_told, list_count, vector_count}
+use Rattle.dft_compile.proofs.LateLemmas.{is_late, late_passed}
+
+-- ---- placements
+
+-- there is a word for each cube
+pub placed_count : (n : ℕ) (row : CellRows) (window : ℕ) (old new : List Merged) (cubes : List Cube) (placed : List Placed) → PlacesAll n row window old cubes placed new → length placed ≡ length cubes
+placed_count n row window old new [] [] places = refl
+placed_count n row window old new [] (place ∷ placed) places = absurd places
+placed_count n row window old new (cube ∷ cubes) [] places = absurd places
+placed_count n row window old new (cube ∷ cubes) (place ∷ placed) places = ap suc (placed_count n row window places.0 new cubes placed places.1.1)
+
+-- what a new merger places is placed over the planned chains
+pub places_of : (n : Netlist) (config : Config) (plan : Plan) (rows : LoadRows) (m : Merging) (cubes : List Cube) (placed : List Placed) (new : List Merged) → plan ≡ plan_of n config →
+    m ≡ record { chains = plan.chains; rows = rows; window = config.window; patterns = [] } → PlacesAll (columns_in m) (rows_in m) m.window m.patterns cubes placed new →
+    PlacesAll rows.columns (cell_row (plan_of n config).chains rows) config.window [] cubes placed new
+places_of n config plan rows m cubes placed new planned is places =
+    subst (λ (p : Plan). PlacesAll rows.columns (cell_row p.chains rows) config.window [] cubes placed new) planned
+    (subst (λ (k : Merging). PlacesAll (columns_in k) (rows_in k) k.window k.patterns cubes placed new) is places)
+
+-- ---- texts
+
+-- the patterns' text is short enough, where its bytes as they are told are few enough
+pub short_text : (n : Netlist) (config : Config) (made : Netlist) (plan : Plan) (rows : LoadRows) (merged : List Merged) (e : Encoded) → IsInRange config → made ≡ scanned Edt n config → plan ≡ plan_of n config → IsEncoded made n config plan rows merged e →
+    pattern_bytes n config (length merged) ≤ MAX_TEXT → length (noted e.set) ≤ MAX_TEXT
+short_text n config made plan rows merged e range is planned h short =
+    let g : IsEncoded (scanned Edt n config) n config (plan_of n config) rows merged e =
+    subst (λ (p : Plan). IsEncoded (scanned Edt n config) n config p rows merged e) planned (subst (λ (w : Netlist). IsEncoded w n config plan rows merged e) is h) in
+    let bytes : length (noted e.set) ≡ pattern_bytes n config (length merged) = ap (λ (p : Patterns). length (noted p)) g.set ∙ bytes_told n config rows merged g.list range g.are in
+    omega (arith, bytes, short)
+
+counts_are : (n : Netlist) (config : Config) (rows : LoadRows) (placed : List Placed) (merged : List Merged) (p : PatternText) (h : IsPatternText n config rows merged p) → counts_by n config placed (length merged) p.masked ≡ counts_of n config placed h.list
+counts_are n config rows placed merged p h =
+    let list = h.list in
+    let by : ℕ → ℕ → Counts = counts_by n config placed in
+    ap (λ k. by k p.masked) (sym (list_count n config rows merged list h.are))
+    ∙ ap (by (length list)) h.masked
+    ∙ ap (λ (v : ℕ). record (by (length list) (masked_in list)) { vectors = v }) (sym (vector_count n config rows merged list h.are))
+
+pub are_texts : (n : Netlist) (config : Config) (cubes : List Cube) (rows : LoadRows) (placed : List Placed) (merged : List Merged) (t : CompileTexts) (p : PatternText) → pattern_bytes n config (length merged) ≤ MAX_TEXT → length (report_text n config rows cubes placed) ≤ MAX_BYTES →
+    IsPatternText n config rows merged p → t.netlist.items ≡ netlist_text n config → t.patterns.items ≡ p.text.items → t.report.items ≡ report_text n config rows cubes placed → t.counts ≡ counts_by n config placed (length merged) p.masked →
+    AreTextsOf n config cubes rows placed merged t
+are_texts n config cubes rows placed merged t p short few h netlist patterns report counts = record {
+  accepted = late_passed n config cubes rows placed (length merged) short few;
+  list = h.list;
+  are = h.are;
+  netlist = netlist;
+  patterns = patterns ∙ h.text;
+  report = report;
+  counts = counts ∙ counts_are n config rows placed merged p h;
+}
+
+-- ---- the compilation
+
+placing_of : (n : Netlist) (config : Config) (cubes : List Cube) (plan : Plan) (rows : LoadRows) (m : Merging) (placed : List Placed) (new : List Merged) → plan ≡ plan_of n config → AreLoadEquations config.ring (map (λ cells. length cells) plan.chains) plan.cycles rows →
+    m ≡ record { chains = plan.chains; rows = rows; window = config.window; patterns = [] } → PlacesAll (columns_in m) (rows_in m) m.window m.patterns cubes placed new →
+    (p : Placing config (plan_of n config) cubes) × (p.rows ≡ rows) × (p.placed ≡ placed) × (p.merged ≡ new)
+placing_of n config cubes plan rows m placed new planned equations is places = (
+  record {
+    rows = rows;
+    equations = subst (λ (p : Plan). AreLoadEquations config.ring (map (λ (cells : List InstanceId). length cells) p.chains) p.cycles rows) planned equations;
+    placed = placed;
+    merged = new;
+    is = places_of n config plan rows m cubes placed new planned is places;
+  },
+  refl,
+  refl,
+  refl,
+)
+
+-- texts of a placement are a compilation
+pub compiled_of : (n : Netlist) (config : Config) (cubes : List Cube) (plan : Plan) (rows : LoadRows) (m : Merging) (placed : List Placed) (new : List Merged) (t : CompileTexts) → plan ≡ plan_of n config →
+    AreLoadEquations config.ring (map (λ cells. length cells) plan.chains) plan.cycles rows → m ≡ record { chains = plan.chains; rows = rows; window = config.window; patterns = [] } → PlacesAll (columns_in m) (rows_in m) m.window m.patterns cubes placed new →
+    AreTextsOf n config cubes rows placed new t → IsCompileOf n config cubes t
+compiled_of n config cubes plan rows m placed new t planned equations is places h =
+    let p = placing_of n config cubes plan rows m placed new planned equations is places in record {
+      placing = p.0;
+      texts = subst (λ (x : LoadRows). AreTextsOf n config cubes x p.0.placed p.0.merged t) (sym p.1)
+          (subst (λ (x : List Placed). AreTextsOf n config cubes rows x p.0.merged t) (sym p.2) (subst (λ (x : List Merged). AreTextsOf n config cubes rows placed x t) (sym p.3) h));
+    }
+
+-- refusals behind a placement are late ones
+pub refused_of : (n : Netlist) (config : Config) (cubes : List Cube) (plan : Plan) (rows : LoadRows) (m : Merging) (placed : List Placed) (new : List Merged) (e : CompileError) → plan ≡ plan_of n config →
+    AreLoadEquations config.ring (map (λ cells. length cells) plan.chains) plan.cycles rows → m ≡ record { chains = plan.chains; rows = rows; window = config.window; patterns = [] } → PlacesAll (columns_in m) (rows_in m) m.window m.patterns cubes placed new →
+    IsRefusal (late_refusal n config cubes rows placed (length new)) e → IsLate n config cubes e
+refused_of n config cubes plan rows m placed new e planned equations is places h =
+    let p = placing_of n config cubes plan rows m placed new planned equations is places in
+    is_late n config cubes p.0 e
+    (subst (λ (x : LoadRows). IsRefusal (late_refusal n config cubes x p.0.placed (length p.0.merged)) e) (sym p.1)
+    (subst (λ (x : List Placed). IsRefusal (late_refusal n config cubes rows x (length p.0.merged)) e) (sym p.2) (subst (λ (x : List Merged). IsRefusal (late_refusal n config cubes rows placed (length x)) e) (sym p.3) h)))

@@ -1,0 +1,60 @@
+-- The cubes are placed, and the texts are made of that.
+use Rattle.std.proofs.Common.{◌∙◌, List, ap, arith, length, subst, sym}
+use Rattle.std.proofs.lemmas.Result.{IfErr-weaker, IfOk-weaker}
+use Rattle.dft_merge.specs.declared.placed.Placed.{Placed}
+use Rattle.dft_merge.specs.Merging.{Merging, columns_in, rows_in}
+use Rattle.dft_merge.specs.Placement.{PlacesAll}
+use Rattle.dft_merge.specs.Rows.{StandApart}
+use Rattle.dft_stitch.specs.Plans.{Plan}
+use Rattle.dft_compile.specs.Compilation.{AreTextsOf, IsCompileOf}
+use Rattle.dft_compile.specs.Refusals.{IsLate, IsRefusal, late_refusal}
+use Rattle.dft_compile.proofs.WorkLemmas.{compiled_of, placed_count, refused_of}
+use Rattle.dft_compile.proofs.compiling.compile.Goals as goal
+
+pub new-requires-clause-apart : goal.new-requires-clause-apart
+new-requires-clause-apart c = subst (λ (p : Plan). StandApart p.chains) (sym c.requires.prepared.chains) (c.plans_stand_apart.ensures c.args.design.now c.args.config.now c.requires.range)
+
+pub texts-requires : goal.texts-requires
+texts-requires c =
+    let same = c.in_ok-placed.ensures.same in
+    let new = c.in_ok-merger.ensures in
+    let none = ap (λ (m : Merging). length m.patterns) new in
+    record {
+      range = c.requires.range;
+      joined = c.requires.joined;
+      prepared = c.requires.prepared;
+      equations = c.in_ok-equations.ensures;
+      apart = subst (λ (p : Plan). StandApart p.chains) (sym c.requires.prepared.chains) (c.plans_stand_apart.ensures c.args.design.now c.args.config.now c.requires.range);
+      chains = ap (λ (m : Merging). m.chains) same ∙ ap (λ (m : Merging). m.chains) new;
+      rows = ap (λ (m : Merging). m.rows) same ∙ ap (λ (m : Merging). m.rows) new;
+      few = omega (arith, c.in_ok-placed.ensures.few, none, c.requires.cubes);
+      cubes = c.requires.cubes;
+      placed = ap length c.deref.ensures.value
+          ∙ placed_count (columns_in c.in_ok-merger.merger) (rows_in c.in_ok-merger.merger) c.in_ok-merger.merger.window c.in_ok-merger.merger.patterns c.place_all.new.merger.patterns c.args.cubes.now c.in_ok-placed.placed.items c.in_ok-placed.ensures.placed;
+    }
+
+pub returns-clause-compile : goal.returns-clause-compile
+returns-clause-compile c =
+    let n = c.args.design.now in
+    let config = c.args.config.now in
+    let cubes = c.args.cubes.now in
+    let m = c.in_ok-merger.merger in
+    let rows = c.in_ok-equations.equations in
+    let placed = c.deref.result.now in
+    let merged = c.place_all.new.merger.patterns in
+    let places : PlacesAll (columns_in m) (rows_in m) m.window m.patterns cubes placed merged = subst (λ (ps : List Placed). PlacesAll (columns_in m) (rows_in m) m.window m.patterns cubes ps merged) (sym c.deref.ensures.value) c.in_ok-placed.ensures.placed in
+    IfOk-weaker c.texts.result (AreTextsOf n config cubes rows placed merged) (IsCompileOf n config cubes)
+    (λ t h. compiled_of n config cubes c.args.prepared.now.chains rows m placed merged t c.requires.prepared.chains c.in_ok-equations.ensures c.in_ok-merger.ensures places h) c.texts.ensures.texts
+
+pub returns-clause-refused : goal.returns-clause-refused
+returns-clause-refused c =
+    let n = c.args.design.now in
+    let config = c.args.config.now in
+    let cubes = c.args.cubes.now in
+    let m = c.in_ok-merger.merger in
+    let rows = c.in_ok-equations.equations in
+    let placed = c.deref.result.now in
+    let merged = c.place_all.new.merger.patterns in
+    let places : PlacesAll (columns_in m) (rows_in m) m.window m.patterns cubes placed merged = subst (λ (ps : List Placed). PlacesAll (columns_in m) (rows_in m) m.window m.patterns cubes ps merged) (sym c.deref.ensures.value) c.in_ok-placed.ensures.placed in
+    IfErr-weaker c.texts.result (IsRefusal (late_refusal n config cubes rows placed (length merged))) (IsLate n config cubes)
+    (λ e h. refused_of n config cubes c.args.prepared.now.chains rows m placed merged e c.requires.prepared.chains c.in_ok-equations.ensures c.in_ok-merger.ensures places h) c.texts.ensures.refused

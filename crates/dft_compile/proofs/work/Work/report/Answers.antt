@@ -1,0 +1,9 @@
+-- The sums of the report.
+use Rattle.dft_merge.proofs.MergerLemmas.{rows_are}
+use Rattle.dft_compile.proofs.work.Work.report.Goals as goal
+
+pub report_text-requires-clause-sums : goal.report_text-requires-clause-sums
+report_text-requires-clause-sums c =
+    let w = c.args.self.now in
+    let plan = w.prepared.now.chains in
+    record { rows = rows_are w.config.now.ring plan.chains plan.cycles w.equations.now c.requires.equations c.requires.apart; channels = c.requires.range.ring.channels.0 }

@@ -1,0 +1,78 @@
+-- Compilations hold.
+use Rattle.std.proofs.Common.{ℕ, ◌≡◌, ◌<◌, ◌≤◌, List, [], length, map, Some, option_map, slice_get, sym, ap, subst, arith, ◌∙◌}
+use Rattle.std.specs.Prelude.{◌^◌}
+use Rattle.std.proofs.lemmas.Option.{slice_get-map}
+use Rattle.dft_netlist.specs.Netlist.{Netlist}
+use Rattle.dft_netlist.specs.Sound.{IsNetlist}
+use Rattle.dft_config.specs.declared.config.Config.{Config}
+use Rattle.dft_stitch.specs.Chains.{plan_of}
+use Rattle.dft_cubes.specs.declared.cube.Cube.{Cube}
+use Rattle.dft_cubes.specs.declared.cube.Merged.{Merged}
+use Rattle.dft_cubes.specs.Laws.{AreCubes}
+use Rattle.dft_merge.specs.declared.placed.Placed.TheVariants.{Into}
+use Rattle.dft_merge.specs.Placement.{PlacesAll}
+use Rattle.dft_merge.specs.Staying.{IsMerged}
+use Rattle.dft_merge.proofs.MergedLemmas.{patterns_sound}
+use Rattle.dft_stil_text.specs.declared.limits.TheConstants.{MAX_VECTORS}
+use Rattle.dft_stil_out.proofs.WrittenStands.{written_stands}
+use Rattle.dft_scan_frame.specs.Statements.{IsReady}
+use Rattle.dft_scan_hardware.specs.declared.style.Style.TheVariants.{Edt}
+use Rattle.dft_scan_hardware.specs.Statements.{scanned}
+use Rattle.dft_vectors.specs.PatternData.{PatternData}
+use Rattle.dft_vector_laws.specs.Listed as listed
+use Rattle.dft_pass_laws.specs.Formed.{GiveNoClock}
+use Rattle.dft_pass_laws.specs.Passing.{set_of}
+use Rattle.dft_pass_laws.proofs.Forming.{written_formed}
+use Rattle.dft_pass_laws.proofs.Listing.{rows_play}
+use Rattle.dft_pass_laws.proofs.Standing.{patterns_stand}
+use Rattle.dft_pass_laws.proofs.WrittenPassing.{written_pass}
+use Rattle.dft_load_laws.specs.Loading.{rows_of}
+use Rattle.dft_cube_laws.specs.Bringing.{AreCompiled, merged_of}
+use Rattle.dft_cube_laws.proofs.Brought.{cubes_captured}
+use Rattle.dft_cube_laws.proofs.Replayed.{cubes_replayed}
+use Rattle.dft_cube_laws.proofs.Reported.{entries_exact}
+use Rattle.dft_encode.specs.Compiled.{ArePatterns, Placing}
+use Rattle.dft_compile_laws.specs.Holding.{CompilationsHold, IsBrought, played}
+
+module _ (n : Netlist) (config : Config) (cubes : List Cube) (placing : Placing config (plan_of n config) cubes) (list : List PatternData) (ready : IsReady n config) (sound : AreCubes n config cubes) (are : ArePatterns n config (plan_of n config) placing.rows placing.merged list) where
+  places : PlacesAll placing.rows.columns (rows_of n config placing.rows) config.window [] cubes placing.placed (map merged_of list)
+  places = subst (λ (merged : List Merged). PlacesAll placing.rows.columns (rows_of n config placing.rows) config.window [] cubes placing.placed merged) (sym are.merged) placing.is
+
+  compiled : AreCompiled n config placing.rows config.window cubes placing.placed list
+  compiled = record { equations = placing.equations; places = places; loads = λ p d at. (are.each p d at).loads }
+
+  -- what each pattern asks is sound
+  merged_sound : (number : ℕ) (p : PatternData) → slice_get list number ≡ Some p → IsMerged n config p.merged
+  merged_sound number p at =
+      patterns_sound n config placing.rows.columns (rows_of n config placing.rows) config.window cubes placing.placed (map merged_of list) sound places number p.merged (slice_get-map merged_of list number ∙ ap (option_map merged_of) at)
+
+  stand : listed.ArePatterns n config list
+  stand = patterns_stand n config list ready (λ number p at. record { captured = (are.each number p at).captured; masks = (are.each number p at).masks; domain = (merged_sound number p at).domain })
+
+  gives : GiveNoClock n config list
+  gives number k p given at there = (merged_sound number p at).ports.no_clock k given there
+
+  brought : IsNetlist (scanned Edt n config) → (c p : ℕ) (cube : Cube) → slice_get cubes c ≡ Some cube → slice_get placing.placed c ≡ Some (Into p) → IsBrought n config list cube p
+  brought netlist c p cube at word =
+      let it = cubes_captured n config placing.rows config.window cubes placing.placed list (played n config list) ready sound compiled (rows_play n config list netlist) c p cube at word in
+      record {
+        loaded = λ start turns run. cubes_replayed n config placing.rows config.window cubes placing.placed list start turns ready netlist compiled run c p cube at word;
+        capture = it.0;
+        at = it.1;
+        captures = it.2;
+      }
+
+few_enough : (count : ℕ) → count ≤ MAX_VECTORS → count < 2 ^ 32
+few_enough count few = omega (arith, few)
+
+pub compilations_hold : CompilationsHold
+compilations_hold n config order cubes placing list ready netlist ordered named sound are =
+    let stands = stand n config cubes placing list ready sound are in
+    record {
+      loads = brought n config cubes placing list ready sound are netlist;
+      tells = λ ports suits c cube at scanned. entries_exact n config ports placing.rows config.window cubes placing.placed placing.merged ready suits placing.equations sound placing.is c cube at scanned;
+      passes = written_pass n config list order ready netlist ordered stands;
+      reads = (λ few.
+          let formed = written_formed n config list ready netlist named stands (gives n config cubes placing list ready sound are) (few_enough (length (set_of n config list).vectors) few) in
+          written_stands (set_of n config list) formed.well formed.writable few);
+    }

@@ -1,0 +1,6 @@
+pub mod PlacingLemmas
+pub mod PlanLemmas
+pub mod FillingLemmas
+pub mod FindingLemmas
+pub mod EncodingLemmas
+pub mod WidthLemmas

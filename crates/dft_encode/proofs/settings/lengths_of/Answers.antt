@@ -1,0 +1,19 @@
+use Rattle.std.proofs.Common.{◌≡◌, ◌++◌, ◌∷◌, ◌∙◌, List, [], ap, arith, get_or, length, sym}
+use Rattle.std.proofs.lemmas.List.{map_more}
+use Rattle.std.proofs.lemmas.Option.{get_or_from_slice_get, slice_get_within}
+use Rattle.dft_netlist.specs.declared.ids.InstanceId.{InstanceId}
+use Rattle.dft_expect.proofs.LoadedLemmas.{chain_fits}
+use Rattle.dft_encode.proofs.settings.lengths_of.Goals as goal
+
+pub loop-chain-preserved : goal.loop-chain-preserved
+loop-chain-preserved c =
+    let chains : List (List InstanceId) = c.args.chains.now.chains in
+    let cells : List InstanceId = c.chain-cells.result.now in
+    let same : length cells ≡ length (get_or chains c.loop-chain.chain cells) = ap length (sym (get_or_from_slice_get chains c.loop-chain.chain cells cells c.chain-cells.ensures)) in
+    c.in_ok-push.ensures.items ∙ (λ i. c.loop-chain.invariant i ++ same i ∷ [])
+    ∙ sym (map_more (length {A = InstanceId}) chains c.loop-chain.chain cells (slice_get_within chains c.loop-chain.chain cells c.chain-cells.ensures))
+
+pub overflow_cast-cells : goal.overflow_cast-cells
+overflow_cast-cells c =
+    let fits = chain_fits c.args.chains.now.cycles c.args.chains.now.chains c.loop-chain.chain c.chain-cells.result.now c.requires.cells c.chain-cells.ensures in
+    omega (arith, fits, c.requires.cycles)

@@ -1,0 +1,46 @@
+//! What patterns are found by.
+
+ghost use Rattle.std.specs.Prelude.{◌≡◌, ◌≤◌, length, map, IfOk};
+ghost use Rattle.std.specs.List.{All};
+ghost use Rattle.dft_config.specs.Range.{has, same_number};
+ghost use Rattle.dft_expect.specs.Masks.{always_of};
+
+use dft_config::Config;
+use dft_stitch::Chains;
+use std::alloc::{AllocError, Global};
+
+/// How many cells each chain has.
+pub fn lengths_of(alloc: Global, chains: &Chains) -> Result<Vec<u16>, AllocError>
+    requires cells { All (λ cells. length cells ≤ chains.now.cycles) chains.now.chains }
+    requires cycles { chains.now.cycles ≤ 4096 }
+    ensures { IfOk result (λ lengths. lengths.items ≡ map length chains.now.chains) }
+{
+    let mut lengths = Vec::with_capacity(alloc, usize::from(chains.count()))?;
+    for chain in 0..chains.count() {
+        let cells = chains.chain(chain).len();
+        lengths.push(cells as u16)?;
+    }
+    Ok(lengths)
+}
+
+fn is_listed(chains: &[u16], chain: u16) -> bool
+    ensures { result ≡ has same_number chains.now chain }
+{
+    for other in chains {
+        if *other == chain {
+            return true;
+        }
+    }
+    false
+}
+
+/// For each chain whether the configuration always masks it.
+pub(crate) fn always_masked(alloc: Global, config: &Config) -> Result<Vec<bool>, AllocError>
+    ensures { IfOk result (λ always. always.items ≡ always_of config.now) }
+{
+    let mut always = Vec::with_capacity(alloc, usize::from(config.chains))?;
+    for chain in 0..config.chains {
+        always.push(is_listed(config.always_masked.as_slice(), chain))?;
+    }
+    Ok(always)
+}
