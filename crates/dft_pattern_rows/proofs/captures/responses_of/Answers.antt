@@ -29,7 +29,7 @@ returns c =
     let plan : c.args.job.now.chains.now ≡ plan_of c.args.job.now.design.now c.args.job.now.config.now = c.requires.chains in
     let capturing : c.in_ok-capturer.capturer ≡ record { design = c.args.job.now.design.now; config = c.args.job.now.config.now } = c.in_ok-capturer.ensures in
     IfOk-weaker c.capture_all.result _ _
-      (λ found are place r at. each_whole c.in_ok-capturer.capturer c.args.patterns.now found.items are place r at
-        ∙ ap (λ (x : Capturing). length (cells_in x.design x.config)) capturing
-        ∙ sym (ap (λ (p : Plan). length (all_cells p.chains)) plan))
-      c.capture_all.ensures.captures
+    (λ found are place r at. each_whole c.in_ok-capturer.capturer c.args.patterns.now found.items are place r at
+    ∙ ap (λ (x : Capturing). length (cells_in x.design x.config)) capturing
+    ∙ sym (ap (λ (p : Plan). length (all_cells p.chains)) plan))
+    c.capture_all.ensures.captures
