@@ -1,0 +1,15 @@
+-- The configuration of a generated job: two domains, sixteen chains, a ring of sixteen stages on two channels. The phase sum of chain c is
+-- over the stages c, c + 5 and c + 11, by 16; one output sums the even chains, another the odd ones.
+use Rattle.std.specs.Prelude.{◌++◌, codes}
+use Rattle.dft_base.specs.Lexing.{Text}
+
+unfoldable pub configuration_text : Text
+configuration_text =
+    codes "version = 1\ndomains = [\"clk0\", \"clk1\"]\n"
+    ++ (codes "chains = 16\nwarm = 16\nwindow = 8\nfill = \"zeros\"\n"
+    ++ (codes "\n[ring]\nstages = 16\nchannels = 2\n"
+    ++ (codes "taps = [[3, 12], [6, 9]]\ninjectors = [[0, 0], [1, 8]]\n"
+    ++ (codes "phase = [[0, 5, 11], [1, 6, 12], [2, 7, 13], [3, 8, 14], "
+    ++ (codes "[4, 9, 15], [5, 10, 0], [6, 11, 1], [7, 12, 2], "
+    ++ (codes "[8, 13, 3], [9, 14, 4], [10, 15, 5], [11, 0, 6], "
+    ++ (codes "[12, 1, 7], [13, 2, 8], [14, 3, 9], [15, 4, 10]]\n" ++ (codes "\n[compactor]\ngroups = [[0, 2, 4, 6, 8, 10, 12, 14], " ++ codes "[1, 3, 5, 7, 9, 11, 13, 15]]\nmask_inputs = 2\n"))))))))

@@ -1,0 +1,5 @@
+pub mod Words
+pub mod Netlists
+pub mod Cubes
+pub mod Configurations
+pub mod Jobs

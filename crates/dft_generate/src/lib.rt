@@ -1,0 +1,11 @@
+//! The generated job: a netlist, a configuration and cubes of any size, from a seed.
+#![tactic(auto)]
+
+mod configuration;
+mod cubes;
+mod job;
+mod netlist;
+mod numbers;
+mod words;
+
+pub use job::{Job, generate, is_size};
