@@ -1,3 +1,4 @@
 pub mod Running
 pub mod Stated
 pub mod Writing
+pub mod Compiling

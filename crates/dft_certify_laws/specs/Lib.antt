@@ -1,2 +1,3 @@
 pub mod InRuns
 pub mod Written
+pub mod Compiled

@@ -1,5 +1,6 @@
 //! Laws of certified reports, as contracts of functions that do nothing.
 
+ghost use Rattle.dft_certify_laws.specs.Compiled.{CompiledCertifies};
 ghost use Rattle.dft_certify_laws.specs.InRuns.{CertifiedInRuns};
 ghost use Rattle.dft_certify_laws.specs.Written.{WrittenCertifies};
 
@@ -11,4 +12,9 @@ pub fn certified_in_runs()
 /// A report whose entries are those of the cubes of a text, placed as a compilation places them, passes every check.
 pub fn written_certifies()
     ensures { WrittenCertifies }
+{}
+
+/// The report of a compilation passes every check against the same design, configuration and cubes.
+pub fn compiled_certifies()
+    ensures { CompiledCertifies }
 {}

@@ -3,4 +3,4 @@
 
 mod laws;
 
-pub use laws::{certified_in_runs, written_certifies};
+pub use laws::{certified_in_runs, compiled_certifies, written_certifies};
