@@ -183,11 +183,14 @@ fn load_of(alloc: Global, job: &Job<'_>, row: &[u64]) -> Result<Vec<bool>, Alloc
 fn always_masked(alloc: Global, config: &Config, chains: u16) -> Result<Vec<bool>, AllocError>
     ensures { IfOk result (λ always. length always.items ≡ chains) }
 {
-    let mut always = vec![in alloc; false; usize::from(chains)]?;
-    for chain in config.always_masked.as_slice() {
-        if let Some(masked) = always.get_mut(usize::from(*chain)) {
-            *masked = true;
-        }
+    let mut always = Vec::with_capacity(alloc, usize::from(chains))?;
+    for chain in 0..chains {
+        let masked = config
+            .always_masked
+            .as_slice()
+            .iter()
+            .any(|masked| *masked == chain);
+        always.push(masked)?;
     }
     Ok(always)
 }

@@ -4,6 +4,8 @@
 #[cfg(test)]
 mod chains;
 #[cfg(test)]
+mod compiles;
+#[cfg(test)]
 mod cycles;
 #[cfg(test)]
 mod designs;

@@ -1,12 +1,12 @@
 -- Where there is nothing to save, no file is changed.
 use Rattle.std.proofs.Common.{ℕ, ◌≡◌, ◌⊎◌, ◌∙◌, inl, inr, List, [], ◌∷◌, ◌++◌, refl, sym, subst, Option, None, Some}
 use Rattle.dft_files.specs.Outside.{Held}
-use Rattle.dft_words.specs.Words.{Command, Replay, Scan, ScanFiles, AreFor, IsScan}
+use Rattle.dft_words.specs.Words.{Command, Replay, Scan, Compile, AreFor}
 use Rattle.dft_top.specs.declared.answer.Answer.{Answer}
 use Rattle.dft_top.specs.declared.outcome.Outcome.{Outcome}
-use Rattle.dft_top.specs.declared.outcome.Outcome.TheVariants.{Usage, Refused, Passed, Mismatch, Undetermined, Scanned}
+use Rattle.dft_top.specs.declared.outcome.Outcome.TheVariants.{Usage, Refused, Passed, Mismatch, Undetermined, Scanned, Compiled}
 use Rattle.dft_top.specs.Answers.{status_of}
-use Rattle.dft_top.specs.Run.{EndsFor, IsDelivered, IsQuiet, KeepsFiles, Seen}
+use Rattle.dft_top.specs.Run.{AreSaving, EndsFor, IsDelivered, IsQuiet, KeepsFiles, Seen}
 use Rattle.dft_top.specs.Saves.{CountsSaves, HaveSaved, Saving, savings}
 
 -- ---- nothing to save
@@ -39,6 +39,14 @@ quiet_saves (Some (Scan files)) (Passed vectors compared) quiet = refl
 quiet_saves (Some (Scan files)) (Mismatch vector signal) quiet = refl
 quiet_saves (Some (Scan files)) (Undetermined vector signal) quiet = refl
 quiet_saves (Some (Scan files)) (Scanned counts netlist report) quiet = absurd quiet
+quiet_saves (Some (Scan files)) (Compiled counts netlist patterns report) quiet = refl
+quiet_saves (Some (Compile files)) Usage quiet = refl
+quiet_saves (Some (Compile files)) (Refused refusal) quiet = refl
+quiet_saves (Some (Compile files)) (Passed vectors compared) quiet = refl
+quiet_saves (Some (Compile files)) (Mismatch vector signal) quiet = refl
+quiet_saves (Some (Compile files)) (Undetermined vector signal) quiet = refl
+quiet_saves (Some (Compile files)) (Scanned counts netlist report) quiet = refl
+quiet_saves (Some (Compile files)) (Compiled counts netlist patterns report) quiet = absurd quiet
 
 quiet_of : (a b : Answer) → a ≡ b → IsQuiet a.status → IsQuiet b.status
 quiet_of a b same quiet = subst (λ (c : Answer). IsQuiet c.status) same quiet
@@ -50,15 +58,16 @@ quiet_delivers command o before after answer (inr (inl x)) quiet = absurd (quiet
 quiet_delivers command o before after answer (inr (inr (inl x))) quiet = absurd (quiet_of answer _ x.answers quiet)
 quiet_delivers command o before after answer (inr (inr (inr x))) quiet = absurd (quiet_of answer _ x.answers quiet)
 
-other_saves : (words : List (List ℕ)) (command : Option Command) (o : Outcome) → AreFor words command → ((files : ScanFiles) → IsScan words files → ⊥) → savings command o ≡ []
-other_saves words None o are no_scan = refl
-other_saves words (Some (Replay files)) o are no_scan = refl
-other_saves words (Some (Scan files)) o are no_scan = absurd (no_scan files are)
+other_saves : (words : List (List ℕ)) (command : Option Command) (o : Outcome) → AreFor words command → (AreSaving words → ⊥) → savings command o ≡ []
+other_saves words None o are none = refl
+other_saves words (Some (Replay files)) o are none = refl
+other_saves words (Some (Scan files)) o are none = absurd (none (inl (files, are)))
+other_saves words (Some (Compile files)) o are none = absurd (none (inr (files, are)))
 
 saves_none : (words : List (List ℕ)) (command : Option Command) (o : Outcome) (before after : Seen) (answer : Answer) → AreFor words command → IsDelivered command o before after answer →
-    IsQuiet answer.status ⊎ ((files : ScanFiles) → IsScan words files → ⊥) → savings command o ≡ []
+    IsQuiet answer.status ⊎ (AreSaving words → ⊥) → savings command o ≡ []
 saves_none words command o before after answer are delivered (inl quiet) = quiet_delivers command o before after answer delivered quiet
-saves_none words command o before after answer are delivered (inr no_scan) = other_saves words command o are no_scan
+saves_none words command o before after answer are delivered (inr none) = other_saves words command o are none
 
 -- ---- of words that are for a command
 

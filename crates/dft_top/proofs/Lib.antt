@@ -1,7 +1,11 @@
 pub mod Steps
-pub mod TwoSaves
+pub mod SavesInTurn
 pub mod NetlistRefusals
 pub mod Readings
+pub mod CubeCounts
+pub mod CompiledOnce
+pub mod CompileLemmas
+pub mod ToldRight
 pub mod OneOutcome
 pub mod PassingFiles
 pub mod Promised

@@ -1,5 +1,5 @@
 -- Files that pass all checks are never refused.
-use Rattle.std.proofs.Common.{◌≡◌, List, codes, Option, None, Some, Ok, subst}
+use Rattle.std.proofs.Common.{◌≡◌, ◌∙◌, inl, inr, sym, List, codes, Option, None, Some, Ok, subst}
 use Rattle.dft_files.specs.Outside.{Held, file_at}
 use Rattle.dft_cells.specs.declared.cell.Cell.{Cell}
 use Rattle.dft_config.specs.declared.config.Config.{Config}
@@ -9,31 +9,58 @@ use Rattle.dft_replay.specs.Fits.{first_misfit}
 use Rattle.dft_scan.specs.declared.error.ScanError.{ScanError}
 use Rattle.dft_scan.specs.Refusals.{refusal}
 use Rattle.dft_scan.specs.Scans.{counts_of, netlist_text, report_text}
-use Rattle.dft_words.specs.Words.{Command, Replay, Scan, ReplayFiles, ScanFiles}
+use Rattle.dft_stitch.specs.Chains.{plan_of}
+use Rattle.dft_cubes.specs.declared.cube.Cube.{Cube}
+use Rattle.dft_encode.specs.Compiled.{Placing}
+use Rattle.dft_compile.specs.declared.error.CompileError.{CompileError}
+use Rattle.dft_compile.specs.declared.prepared.Prepared.{Prepared}
+use Rattle.dft_compile.specs.Refusals.{first_refusal}
+use Rattle.dft_words.specs.Words.{Command, Replay, Scan, Compile, ReplayFiles, ScanFiles, CompileFiles}
 use Rattle.dft_words.proofs.Understood.{for_once}
 use Rattle.dft_top.specs.declared.outcome.Outcome.{Outcome}
 use Rattle.dft_top.specs.declared.outcome.Outcome.TheVariants.{Scanned}
-use Rattle.dft_top.specs.declared.limits.TheConstants.{MAX_CONFIG_BYTES, MAX_NETLIST_BYTES, MAX_PATTERN_BYTES}
-use Rattle.dft_top.specs.Checks.{ConfigGives, ConfigText, LibraryGives, NetlistGives, NetlistText, PatternText, PatternsGive}
-use Rattle.dft_top.specs.Outcomes.{IsOutcomeFor, IsOutcomeOfReplay, IsOutcomeOfScan, IsOutcomeOfScanOf, IsOutcomeOn}
-use Rattle.dft_top.specs.Laws.{PassingIsReplayed, PassingIsScanned}
-use Rattle.dft_top.proofs.Readings.{config_text_one, file_one, given_next, library_gives_one, netlist_text_one, pattern_text_one}
-use Rattle.dft_top.proofs.Steps.{ReplayOn, ReplayOver, ScanOn, ScanOver}
+use Rattle.dft_top.specs.declared.limits.TheConstants.{MAX_CONFIG_BYTES, MAX_CUBE_BYTES, MAX_NETLIST_BYTES, MAX_PATTERN_BYTES}
+use Rattle.dft_top.specs.Checks.{ConfigGives, ConfigText, CubeText, CubesGive, DesignGives, LibraryGives, NetlistGives, NetlistText, PatternText, PatternsGive, Then}
+use Rattle.dft_top.specs.Courses.{Reaches}
+use Rattle.dft_top.specs.Outcomes.{IsCompiled, IsOutcomeFor, course_of_compile, course_of_replay, course_of_scan, IsOutcomeOfCubes, IsOutcomeOfScanOf, refusal_of, IsOutcomeOn}
+use Rattle.dft_top.specs.Laws.{PassingIsCompiled, PassingIsReplayed, PassingIsScanned}
+use Rattle.dft_top.proofs.CompileLemmas.{compiled_due}
+use Rattle.dft_top.proofs.Readings.{config_text_one, cube_text_one, file_one, given_next, library_gives_one, netlist_text_one, pattern_text_one}
+use Rattle.dft_top.proofs.Steps.{CompileOf, CompileOn, CompileOver, CompileWith, ReplayOn, ReplayOver, ScanOn, ScanOver}
 
 replay_due : (files : ReplayFiles) (held : Held) (cells : List Cell) (n : Netlist) (p : Patterns) (o : Outcome) → LibraryGives files.library held (Ok cells) → NetlistGives cells files.netlist held (Ok n) →
-    PatternsGive files.patterns held (Ok p) → IsOutcomeOfReplay files held o → IsOutcomeOn n p (first_misfit n p.signals) o
+    PatternsGive files.patterns held (Ok p) → Reaches (course_of_replay files) held o → IsOutcomeOn n p (first_misfit n p.signals) o
 replay_due files held cells n p o library netlist patterns is =
     let over = given_next (LibraryGives files.library held) (ReplayOver files held) o cells (library_gives_one files.library held) library is in
     let on = given_next (NetlistGives cells files.netlist held) (ReplayOn files held) o n (file_one MAX_NETLIST_BYTES (codes "netlist") (NetlistText cells) (netlist_text_one cells) (file_at files.netlist held)) netlist over in
     given_next (PatternsGive files.patterns held) (λ p. IsOutcomeOn n p (first_misfit n p.signals)) o p (file_one MAX_PATTERN_BYTES (codes "patterns") PatternText pattern_text_one (file_at files.patterns held)) patterns on
 
 scan_due : (files : ScanFiles) (held : Held) (cells : List Cell) (c : Config) (n : Netlist) (o : Outcome) → LibraryGives files.library held (Ok cells) → ConfigGives files.config held (Ok c) →
-    NetlistGives cells files.netlist held (Ok n) → refusal n c ≡ None → IsOutcomeOfScan files held o → o ≡ Scanned (counts_of n c) (netlist_text n c) (report_text n c)
+    NetlistGives cells files.netlist held (Ok n) → refusal n c ≡ None → Reaches (course_of_scan files) held o → o ≡ Scanned (counts_of n c) (netlist_text n c) (report_text n c)
 scan_due files held cells c n o library config netlist none is =
     let over = given_next (LibraryGives files.library held) (ScanOver files held) o cells (library_gives_one files.library held) library is in
     let on = given_next (ConfigGives files.config held) (ScanOn files cells held) o c (file_one MAX_CONFIG_BYTES (codes "config") ConfigText config_text_one (file_at files.config held)) config over in
     let scan = given_next (NetlistGives cells files.netlist held) (λ n. IsOutcomeOfScanOf n c (refusal n c)) o n (file_one MAX_NETLIST_BYTES (codes "netlist") (NetlistText cells) (netlist_text_one cells) (file_at files.netlist held)) netlist on in
     (subst (λ (refused : Option ScanError). IsOutcomeOfScanOf n c refused o) none scan).is
+
+no_error : (refused : Option CompileError) (error : CompileError) → refused ≡ None → refused ≡ Some error → ⊥
+no_error refused error none some = let e : None ≡ Some error = sym none ∙ some in cc
+
+-- where no check of the design fails, what comes behind gives the outcome
+design_next : (n : Netlist) (c : Config) (next : Prepared → Outcome → Type 0) (o : Outcome) → first_refusal n c ≡ None → Then (DesignGives n c) next o → (prepared : Prepared) × next prepared o
+design_next n c next o none (inl x) = (x.0, x.1.1)
+design_next n c next o none (inr x) = absurd (no_error (first_refusal n c) x.1.0.0 none x.1.0.1.0)
+
+compile_due : (files : CompileFiles) (held : Held) (cells : List Cell) (c : Config) (n : Netlist) (cubes : List Cube) (placing : Placing c (plan_of n c) cubes) (o : Outcome) → LibraryGives files.library held (Ok cells) →
+    ConfigGives files.config held (Ok c) → NetlistGives cells files.netlist held (Ok n) → first_refusal n c ≡ None → CubesGive n c files.cubes held (Ok cubes) → refusal_of n c cubes placing ≡ None →
+    Reaches (course_of_compile files) held o → IsCompiled n c cubes placing o
+compile_due files held cells c n cubes placing o library config netlist first given late is =
+    let over = given_next (LibraryGives files.library held) (CompileOver files held) o cells (library_gives_one files.library held) library is in
+    let on = given_next (ConfigGives files.config held) (CompileOn files cells held) o c (file_one MAX_CONFIG_BYTES (codes "config") ConfigText config_text_one (file_at files.config held)) config over in
+    let of = given_next (NetlistGives cells files.netlist held) (CompileOf files c held) o n (file_one MAX_NETLIST_BYTES (codes "netlist") (NetlistText cells) (netlist_text_one cells) (file_at files.netlist held)) netlist on in
+    let with = design_next n c (CompileWith n c files.cubes held) o first of in
+    compiled_due n c cubes placing o late
+    (given_next (CubesGive n c files.cubes held) (λ cubes. IsOutcomeOfCubes n c cubes) o cubes (file_one MAX_CUBE_BYTES (codes "cubes") (CubeText n c) (cube_text_one n c) (file_at files.cubes held)) given with.1)
 
 pub passing_replayed : PassingIsReplayed
 passing_replayed words files held cells n p o is library netlist patterns x =
@@ -42,3 +69,8 @@ passing_replayed words files held cells n p o is library netlist patterns x =
 pub passing_scanned : PassingIsScanned
 passing_scanned words files held cells c n o is library config netlist none x =
     scan_due files held cells c n o library config netlist none (subst (λ (command : Option Command). IsOutcomeFor command held o) (for_once words x.0 (Some (Scan files)) x.1.0 is) x.1.1)
+
+pub passing_compiled : PassingIsCompiled
+passing_compiled words files held cells c n cubes placing o is library config netlist first given late x =
+    compile_due files held cells c n cubes placing o library config netlist first given late
+    (subst (λ (command : Option Command). IsOutcomeFor command held o) (for_once words x.0 (Some (Compile files)) x.1.0 is) x.1.1)

@@ -13,15 +13,22 @@ use Rattle.dft_replay.specs.Fits.{first_misfit}
 use Rattle.dft_replay.specs.Verdicts.{HasVerdict}
 use Rattle.dft_replay.proofs.Soundness.{pass_sound}
 use Rattle.dft_scan_facts.proofs.PlainShifts.{scanned_shifts, scanned_shows}
-use Rattle.dft_scan_hardware.proofs.Keeping.{keeps_design}
-use Rattle.dft_scan_hardware.specs.declared.style.Style.TheVariants.{Plain}
+use Rattle.dft_scan_facts.proofs.Reaching.{loads_reach, unloads_show}
+use Rattle.dft_scan_hardware.proofs.Keeping.{adds_in_order, keeps_design}
+use Rattle.dft_scan_hardware.specs.declared.style.Style.TheVariants.{Plain, Edt}
 use Rattle.dft_scan_hardware.specs.Statements.{scanned}
 use Rattle.dft_scan_off.proofs.Agreed.{agrees_off}
 use Rattle.dft_scan.specs.declared.error.ScanError.{ScanError}
 use Rattle.dft_scan.specs.Refusals.{refusal}
 use Rattle.dft_scan.specs.Scans.{netlist_text, report_text}
+use Rattle.dft_stitch.specs.Chains.{plan_of}
+use Rattle.dft_cubes.specs.declared.cube.Cube.{Cube}
+use Rattle.dft_vectors.specs.PatternData.{PatternData}
+use Rattle.dft_encode.specs.Compiled.{Placing}
+use Rattle.dft_compile.specs.declared.error.CompileError.{CompileError}
+use Rattle.dft_compile.specs.Texts as compiled
 use Rattle.dft_verilog_out.proofs.JoinedTexts.{library_kept}
-use Rattle.dft_words.specs.Words.{Command, Replay, Scan, ReplayFiles, ScanFiles, AreFor}
+use Rattle.dft_words.specs.Words.{Command, Replay, Scan, Compile, ReplayFiles, ScanFiles, CompileFiles, AreFor}
 use Rattle.dft_words.proofs.Understood.{for_once}
 use Rattle.dft_top.specs.declared.answer.Answer.{Answer}
 use Rattle.dft_top.specs.declared.answer.Refusal.{Refusal}
@@ -30,15 +37,17 @@ use Rattle.dft_top.specs.declared.outcome.Outcome.{Outcome}
 use Rattle.dft_top.specs.declared.outcome.Outcome.TheVariants as outcome
 use Rattle.dft_top.specs.declared.limits.TheConstants.{MAX_NETLIST_BYTES}
 use Rattle.dft_top.specs.Answers.{status_of}
-use Rattle.dft_top.specs.Refusals.{scan_refusal}
-use Rattle.dft_top.specs.Checks.{After, ConfigGives, IsDesignOf, LibraryGives, NetlistGives, NetlistText, PatternsGive, Then}
-use Rattle.dft_top.specs.Outcomes.{IsOutcomeOfReplay, IsOutcomeOfScan, IsOutcomeOfScanOf, IsOutcomeOn, IsRefusal, IsScanned, outcome_of}
-use Rattle.dft_top.specs.Promises.{EveryRunShows, Passes, Scans}
-use Rattle.dft_top.specs.Run.{EndsFor, IsDelivered, IsOfScan, IsOutcomeTold, PassesTold, ScansTold, Seen}
-use Rattle.dft_top.specs.Saves.{AreSaved, HaveSaved, Saving, savings, scan_savings}
+use Rattle.dft_top.specs.Refusals.{compile_refusal, scan_refusal}
+use Rattle.dft_top.specs.Checks.{After, ConfigGives, CubesGive, DesignGives, IsDesignOf, LibraryGives, NetlistGives, NetlistText, PatternsGive, Then}
+use Rattle.dft_top.specs.Courses.{Reaches}
+use Rattle.dft_top.specs.Outcomes.{course_of_compile, course_of_replay, course_of_scan, IsCompiled, IsOutcomeOfCubes, IsOutcomeOfPlacing, IsOutcomeOfScanOf, IsOutcomeOn, IsRefusal, IsScanned, outcome_of, refusal_of}
+use Rattle.dft_top.specs.Promises.{Compiles, EveryRunShows, Passes, Scans}
+use Rattle.dft_top.specs.Run.{CompilesTold, EndsFor, IsDelivered, IsOfCompile, IsOfScan, IsOutcomeTold, PassesTold, ScansTold, Seen}
+use Rattle.dft_top.specs.Saves.{AreSaved, HaveSaved, Saving, compile_savings, savings, scan_savings}
 use Rattle.dft_top.proofs.Readings.{text_of}
-use Rattle.dft_top.proofs.Steps.{ReplayOn, ReplayOver, ScanOn, ScanOver}
-use Rattle.dft_top.proofs.TwoSaves.{differ}
+use Rattle.dft_top.proofs.Steps.{CompileOf, CompileOn, CompileOver, CompileWith, ReplayOn, ReplayOver, ScanOn, ScanOver}
+use Rattle.dft_top.proofs.SavesInTurn.{differ}
+use Rattle.dft_top.proofs.ToldRight.{told_right}
 
 not_done : (refusal : Refusal) (o : Outcome) → o ≡ outcome.Refused refusal → status_of o ≡ Done → ⊥
 not_done refusal o is done = let e = ap status_of is in cc
@@ -67,7 +76,7 @@ every_run cells text n p design passed =
     let ranked = order_ranks n design.order design.sound design.ordered in
     λ start turns run. pass_sound n ranked.0 p passed.0 start turns ranked.1 passed.1 run
 
-passes : (files : ReplayFiles) (held : Held) (o : Outcome) → status_of o ≡ Done → IsOutcomeOfReplay files held o → Passes files held
+passes : (files : ReplayFiles) (held : Held) (o : Outcome) → status_of o ≡ Done → Reaches (course_of_replay files) held o → Passes files held
 passes files held o done h =
     let x = then_done (LibraryGives files.library held) (ReplayOver files held) o done h in
     let y = then_done (NetlistGives x.0 files.netlist held) (ReplayOn files held) o done x.1.1 in
@@ -100,7 +109,7 @@ scan_done n c None o done h = h
 abbrev two_savings : (files : ScanFiles) → Netlist → Config → List Saving
 two_savings files n c = record { name = files.out; bytes = netlist_text n c } ∷ record { name = files.report; bytes = report_text n c } ∷ []
 
-scans : (files : ScanFiles) (old new : Held) (o : Outcome) → status_of o ≡ Done → IsOutcomeOfScan files old o → HaveSaved (scan_savings files o) (Some old) (Some new) → Scans files old new
+scans : (files : ScanFiles) (old new : Held) (o : Outcome) → status_of o ≡ Done → Reaches (course_of_scan files) old o → HaveSaved (scan_savings files o) (Some old) (Some new) → Scans files old new
 scans files old new o done h saved =
     let x = then_done (LibraryGives files.library old) (ScanOver files old) o done h in
     let y = then_done (ConfigGives files.config old) (ScanOn files x.0 old) o done x.1.1 in
@@ -128,6 +137,62 @@ scans files old new o done h saved =
       shows = scanned_shows n c ready;
     }
 
+-- ---- a compilation
+
+placed_done : (n : Netlist) (c : Config) (cubes : List Cube) (placing : Placing c (plan_of n c) cubes) (refused : Option CompileError) (o : Outcome) → status_of o ≡ Done → IsOutcomeOfPlacing n c cubes placing refused o →
+    IsCompiled n c cubes placing o
+placed_done n c cubes placing (Some error) o done h = absurd (refusal_not_done (compile_refusal error) o h done)
+placed_done n c cubes placing None o done h = h
+
+-- what is saved of a compilation
+abbrev three_savings : (files : CompileFiles) (n : Netlist) (c : Config) (cubes : List Cube) → Placing c (plan_of n c) cubes → List PatternData → List Saving
+three_savings files n c cubes placing list =
+    record { name = files.out_netlist; bytes = compiled.netlist_text n c }
+    ∷ record { name = files.out_patterns; bytes = compiled.pattern_text n c list }
+    ∷ record { name = files.out_report; bytes = compiled.report_text n c placing.rows cubes placing.placed }
+    ∷ []
+
+compiles : (files : CompileFiles) (old new : Held) (o : Outcome) → status_of o ≡ Done → Reaches (course_of_compile files) old o → HaveSaved (compile_savings files o) (Some old) (Some new) → Compiles files old new
+compiles files old new o done h saved =
+    let x = then_done (LibraryGives files.library old) (CompileOver files old) o done h in
+    let y = then_done (ConfigGives files.config old) (CompileOn files x.0 old) o done x.1.1 in
+    let c = y.0 in
+    let z = then_done (NetlistGives x.0 files.netlist old) (CompileOf files c old) o done y.1.1 in
+    let n = z.0 in
+    let p = then_done (DesignGives n c) (CompileWith n c files.cubes old) o done z.1.1 in
+    let u = then_done (CubesGive n c files.cubes old) (λ cubes. IsOutcomeOfCubes n c cubes) o done p.1.1 in
+    let cubes = u.0 in
+    let placing = u.1.1.0 in
+    let is = placed_done n c cubes placing (refusal_of n c cubes placing) o done u.1.1.1 in
+    let ready = p.1.0.ready in
+    let left : AreSaved (three_savings files n c cubes placing is.list) old new = subst (λ (end : Outcome). HaveSaved (compile_savings files end) (Some old) (Some new)) is.is saved in
+    let design = design_of x.0 files.netlist old n z.1.0 in record {
+      cells = x.0;
+      library = x.1.0;
+      config = c;
+      settings = y.1.0;
+      netlist = n;
+      design = z.1.0;
+      ready = ready;
+      cubes = cubes;
+      given = u.1.0;
+      placing = placing;
+      list = is.list;
+      are = is.are;
+      out_netlist = left.whole.0;
+      out_patterns = left.whole.1.0;
+      out_report = left.whole.1.1.0;
+      others = λ name a b e. left.others name
+          (differ files.out_netlist name (λ q. a (sym q)), (differ files.out_patterns name (λ q. b (sym q)), (differ files.out_report name (λ q. e (sym q)), tt)));
+      reads = subst (λ (cells : List Cell). StandsFor cells (compiled.netlist_text n c) (scanned Edt n c)) (library_kept x.0 design.0 n design.1.stands) is.reads;
+      keeps = keeps_design Edt n c ready;
+      adds = adds_in_order Edt n c;
+      agrees = agrees_off Edt n c ready;
+      loads = λ ports suits. (loads_reach n c ports ready suits).0;
+      unloads = λ ports suits. (unloads_show n c ports ready suits).0;
+      told = told_right n c cubes placing ready;
+    }
+
 -- ---- of a run
 
 -- what a run that answers Done came to
@@ -148,7 +213,7 @@ ends_done command before after answer (inl x) done = delivered_done command x.o 
 ends_done command before after answer (inr (inl x)) done = absurd (let e = ap (λ (a : Answer). a.status) x.answers in cc)
 ends_done command before after answer (inr (inr x)) done = absurd (let e = ap (λ (a : Answer). a.status) x.1 in cc)
 
-told_passes : (files : ReplayFiles) (held : Option Held) (o : Outcome) → status_of o ≡ Done → Told (λ h. IsOutcomeOfReplay files h o) held → Told (Passes files) held
+told_passes : (files : ReplayFiles) (held : Option Held) (o : Outcome) → status_of o ≡ Done → Told (λ h. Reaches (course_of_replay files) h o) held → Told (Passes files) held
 told_passes files None o done told = tt
 told_passes files (Some held) o done told = passes files held o done told
 
@@ -160,6 +225,7 @@ untold files held' (outcome.Passed vectors compared) done suits saved = absurd s
 untold files held' (outcome.Mismatch vector signal) done suits saved = absurd suits
 untold files held' (outcome.Undetermined vector signal) done suits saved = absurd suits
 untold files held' (outcome.Scanned counts netlist report) done suits saved = saved
+untold files held' (outcome.Compiled counts netlist patterns report) done suits saved = absurd suits
 
 lost : (files : ScanFiles) (old : Held) (o : Outcome) → status_of o ≡ Done → IsOfScan o → HaveSaved (scan_savings files o) (Some old) None → ⊥
 lost files old outcome.Usage done suits saved = suits
@@ -168,11 +234,35 @@ lost files old (outcome.Passed vectors compared) done suits saved = suits
 lost files old (outcome.Mismatch vector signal) done suits saved = suits
 lost files old (outcome.Undetermined vector signal) done suits saved = suits
 lost files old (outcome.Scanned counts netlist report) done suits saved = saved
+lost files old (outcome.Compiled counts netlist patterns report) done suits saved = suits
 
-told_scans : (files : ScanFiles) (held held' : Option Held) (o : Outcome) → status_of o ≡ Done → Told (λ h. IsOutcomeOfScan files h o) held → IsOfScan o → HaveSaved (scan_savings files o) held held' → ToldChange (Scans files) held held'
+told_scans : (files : ScanFiles) (held held' : Option Held) (o : Outcome) → status_of o ≡ Done → Told (λ h. Reaches (course_of_scan files) h o) held → IsOfScan o → HaveSaved (scan_savings files o) held held' → ToldChange (Scans files) held held'
 told_scans files None held' o done told suits saved = untold files held' o done suits saved
 told_scans files (Some old) None o done told suits saved = lost files old o done suits saved
 told_scans files (Some old) (Some new) o done told suits saved = scans files old new o done told saved
+
+compile_untold : (files : CompileFiles) (held' : Option Held) (o : Outcome) → status_of o ≡ Done → IsOfCompile o → HaveSaved (compile_savings files o) None held' → held' ≡ None
+compile_untold files held' outcome.Usage done suits saved = absurd suits
+compile_untold files held' (outcome.Refused refusal) done suits saved = absurd cc
+compile_untold files held' (outcome.Passed vectors compared) done suits saved = absurd suits
+compile_untold files held' (outcome.Mismatch vector signal) done suits saved = absurd suits
+compile_untold files held' (outcome.Undetermined vector signal) done suits saved = absurd suits
+compile_untold files held' (outcome.Scanned counts netlist report) done suits saved = absurd suits
+compile_untold files held' (outcome.Compiled counts netlist patterns report) done suits saved = saved
+
+compile_lost : (files : CompileFiles) (old : Held) (o : Outcome) → status_of o ≡ Done → IsOfCompile o → HaveSaved (compile_savings files o) (Some old) None → ⊥
+compile_lost files old outcome.Usage done suits saved = suits
+compile_lost files old (outcome.Refused refusal) done suits saved = cc
+compile_lost files old (outcome.Passed vectors compared) done suits saved = suits
+compile_lost files old (outcome.Mismatch vector signal) done suits saved = suits
+compile_lost files old (outcome.Undetermined vector signal) done suits saved = suits
+compile_lost files old (outcome.Scanned counts netlist report) done suits saved = suits
+compile_lost files old (outcome.Compiled counts netlist patterns report) done suits saved = saved
+
+told_compiles : (files : CompileFiles) (held held' : Option Held) (o : Outcome) → status_of o ≡ Done → Told (λ h. Reaches (course_of_compile files) h o) held → IsOfCompile o → HaveSaved (compile_savings files o) held held' → ToldChange (Compiles files) held held'
+told_compiles files None held' o done told suits saved = compile_untold files held' o done suits saved
+told_compiles files (Some old) None o done told suits saved = compile_lost files old o done suits saved
+told_compiles files (Some old) (Some new) o done told suits saved = compiles files old new o done told saved
 
 -- of words that are for a command
 pub passes_for : (words : List (List ℕ)) (command : Option Command) (before after : Seen) (answer : Answer) → AreFor words command → EndsFor command before after answer → PassesTold words before.held answer
@@ -186,3 +276,9 @@ scans_for words command before after answer are ended files is done =
     let ends = subst (λ (command : Option Command). EndsFor command before after answer) (for_once words command (Some (Scan files)) are is) ended in
     let d = ends_done (Some (Scan files)) before after answer ends done in
     told_scans files before.held after.held d.o d.done d.told.told d.told.suits d.saved
+
+pub compiles_for : (words : List (List ℕ)) (command : Option Command) (before after : Seen) (answer : Answer) → AreFor words command → EndsFor command before after answer → CompilesTold words before.held after.held answer
+compiles_for words command before after answer are ended files is done =
+    let ends = subst (λ (command : Option Command). EndsFor command before after answer) (for_once words command (Some (Compile files)) are is) ended in
+    let d = ends_done (Some (Compile files)) before after answer ends done in
+    told_compiles files before.held after.held d.o d.done d.told.told d.told.suits d.saved

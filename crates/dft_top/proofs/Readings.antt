@@ -27,6 +27,14 @@ use Rattle.dft_base.specs.Lexing.{place_of}
 use Rattle.dft_stil.specs.declared.error.StilError.{StilError}
 use Rattle.dft_stil.specs.declared.error.StilError.TheVariants as stil
 use Rattle.dft_patterns.specs.Patterns.{Patterns}
+use Rattle.dft_cubes.specs.declared.cube.Cube.{Cube}
+use Rattle.dft_cubes.specs.declared.error.CubeError.{CubeError}
+use Rattle.dft_cubes.specs.declared.error.CubeError.TheVariants as cube
+use Rattle.dft_cubes.specs.Cubes as cubes
+use Rattle.dft_compile.specs.declared.error.CompileError.{CompileError}
+use Rattle.dft_compile.specs.declared.prepared.Prepared.{Prepared}
+use Rattle.dft_compile.specs.Prepared.{IsPrepared}
+use Rattle.dft_compile.specs.Refusals.{first_refusal as design_refusal}
 use Rattle.dft_stil_text.specs.PatternText.{patterns_of}
 use Rattle.dft_stil_text.specs.PatternText as PatternText
 use Rattle.dft_stil.specs.Refusals as StilRefusals
@@ -36,8 +44,8 @@ use Rattle.dft_top.specs.declared.answer.Refusal.{Refusal}
 use Rattle.dft_top.specs.declared.outcome.Outcome.{Outcome}
 use Rattle.dft_top.specs.declared.outcome.Outcome.TheVariants.{Refused}
 use Rattle.dft_top.specs.declared.limits.TheConstants.{MAX_LIBRARY_BYTES}
-use Rattle.dft_top.specs.Refusals.{config_refusal, library_refusal, stil_refusal, verilog_refusal}
-use Rattle.dft_top.specs.Checks.{ConfigText, FileGives, LibraryGives, LibraryText, NetlistText, PatternText, Then}
+use Rattle.dft_top.specs.Refusals.{compile_refusal, config_refusal, cube_refusal, library_refusal, stil_refusal, verilog_refusal}
+use Rattle.dft_top.specs.Checks.{ConfigText, CubeText, DesignGives, FileGives, LibraryGives, LibraryText, NetlistText, PatternText, Then}
 use Rattle.dft_top.proofs.NetlistRefusals.{IsReason, reason_one, finished_or_refused}
 
 err_same : {A E : Type 0} (r : Result A E) (a b : E) → r ≡ Err a → r ≡ Err b → a ≡ b
@@ -255,3 +263,48 @@ pattern_text_one text (Ok a) (Ok b) x y = ap Ok (patterns_one text a b x.stands 
 pattern_text_one text (Ok p) (Err refusal) x y = absurd (patterns_or_refused text p y.0 x.stands (first_refusal text y.0 refusal y.1.0 y.1.1))
 pattern_text_one text (Err refusal) (Ok p) x y = absurd (patterns_or_refused text p x.0 y.stands (first_refusal text x.0 refusal x.1.0 x.1.1))
 pattern_text_one text (Err a) (Err b) x y = ap Err (told_one _ _ a b (ap stil_refusal (stil_one text x.0 y.0 (first_refusal text x.0 a x.1.0 x.1.1) (first_refusal text y.0 b y.1.0 y.1.1))) x.1.1 y.1.1)
+
+-- ---- the design of a compilation
+
+prepared_one : (n : Netlist) (c : Config) (p q : Prepared) → IsPrepared n c p → IsPrepared n c q → p ≡ q
+prepared_one n c p q x y =
+    let verdicts : p.verdicts ≡ q.verdicts = x.verdicts ∙ sym y.verdicts in
+    let chains : p.chains ≡ q.chains = x.chains ∙ sym y.chains in
+    let scanned : p.scanned ≡ q.scanned = x.scanned ∙ sym y.scanned in
+    λ i. record { verdicts = verdicts i; chains = chains i; scanned = scanned i }
+
+accepted_or_refused : (refused : Option CompileError) (error : CompileError) → refused ≡ None → refused ≡ Some error → ⊥
+accepted_or_refused refused error x y = let e : None ≡ Some error = sym x ∙ y in cc
+
+compile_error_one : (refused : Option CompileError) (a b : CompileError) → refused ≡ Some a → refused ≡ Some b → a ≡ b
+compile_error_one refused a b x y = let e : Some a ≡ Some b = sym x ∙ y in cc
+
+pub design_gives_one : (n : Netlist) (c : Config) (r s : Result Prepared Refusal) → DesignGives n c r → DesignGives n c s → r ≡ s
+design_gives_one n c (Ok p) (Ok q) x y = ap Ok (prepared_one n c p q x.is y.is)
+design_gives_one n c (Ok p) (Err refusal) x y = absurd (accepted_or_refused (design_refusal n c) y.0 x.accepted y.1.0)
+design_gives_one n c (Err refusal) (Ok p) x y = absurd (accepted_or_refused (design_refusal n c) x.0 y.accepted x.1.0)
+design_gives_one n c (Err a) (Err b) x y = ap Err (told_one _ _ a b (ap compile_refusal (compile_error_one (design_refusal n c) x.0 y.0 x.1.0 y.1.0)) x.1.1 y.1.1)
+
+-- ---- the cubes
+
+cube_told : (told : Result (List Cube) CubeError) (error : CubeError) (refusal : Refusal) → cubes.IsRefused told error → cube_refusal error ≡ Some refusal → told ≡ Err error
+cube_told told (cube.Q1 place) refusal refused is = refused
+cube_told told (cube.Q2 place name) refusal refused is = refused
+cube_told told (cube.Q3 place name) refusal refused is = refused
+cube_told told (cube.Q4 place name) refusal refused is = refused
+cube_told told (cube.Q5 place name) refusal refused is = refused
+cube_told told (cube.Q6 place name) refusal refused is = refused
+cube_told told (cube.Q7 place) refusal refused is = refused
+cube_told told (cube.Q8 place name) refusal refused is = refused
+cube_told told (cube.Q9 place) refusal refused is = refused
+cube_told told (cube.Memory error) refusal refused is = absurd cc
+
+cubes_or_refused : (told : Result (List Cube) CubeError) (given : List Cube) (error : CubeError) → told ≡ Ok given → told ≡ Err error → ⊥
+cubes_or_refused told given error x y = let e : Ok given ≡ Err error = sym x ∙ y in cc
+
+pub cube_text_one : (n : Netlist) (c : Config) (text : List ℕ) (r s : Result (List Cube) Refusal) → CubeText n c text r → CubeText n c text s → r ≡ s
+cube_text_one n c text (Ok a) (Ok b) x y = ap Ok (ok_same (cubes.cubes_of n c text) a b x y)
+cube_text_one n c text (Ok given) (Err refusal) x y = absurd (cubes_or_refused (cubes.cubes_of n c text) given y.0 x (cube_told (cubes.cubes_of n c text) y.0 refusal y.1.0 y.1.1))
+cube_text_one n c text (Err refusal) (Ok given) x y = absurd (cubes_or_refused (cubes.cubes_of n c text) given x.0 y (cube_told (cubes.cubes_of n c text) x.0 refusal x.1.0 x.1.1))
+cube_text_one n c text (Err a) (Err b) x y =
+    ap Err (told_one _ _ a b (ap cube_refusal (err_same (cubes.cubes_of n c text) x.0 y.0 (cube_told (cubes.cubes_of n c text) x.0 a x.1.0 x.1.1) (cube_told (cubes.cubes_of n c text) y.0 b y.1.0 y.1.1))) x.1.1 y.1.1)

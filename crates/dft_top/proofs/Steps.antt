@@ -10,9 +10,11 @@ use Rattle.dft_top.specs.declared.answer.Refusal.{Refusal}
 use Rattle.dft_top.specs.declared.outcome.Outcome.{Outcome}
 use Rattle.dft_top.specs.declared.stop.Stop.{Stop}
 use Rattle.dft_top.specs.declared.stop.Stop.TheVariants.{Refused, ReadFault, OutOfMemory}
-use Rattle.dft_words.specs.Words.{ReplayFiles, ScanFiles}
+use Rattle.dft_compile.specs.declared.prepared.Prepared.{Prepared}
+use Rattle.dft_words.specs.Words.{ReplayFiles, ScanFiles, CompileFiles}
 use Rattle.dft_top.specs.Checks.{ConfigGives, FileGives, NetlistGives, PatternsGive, Then}
-use Rattle.dft_top.specs.Outcomes.{IsOutcomeOn, IsOutcomeOfScanOf}
+use Rattle.dft_top.specs.Courses.{Course, Reaches, Step, TurnComes}
+use Rattle.dft_top.specs.Outcomes.{IsOutcomeOn, IsOutcomeOfScanOf, course_of_cubes, course_of_design}
 use Rattle.dft_top.specs.Stops.{ComesTo, IsGiven, IsGivenTold}
 
 -- what all comes to: a step, and what comes behind
@@ -60,6 +62,28 @@ comes_told is (Some h) (Err (Refused refusal)) comes = comes
 comes_told is (Some h) (Err ReadFault) comes = tt
 comes_told is (Some h) (Err OutOfMemory) comes = tt
 
+-- behind a value comes the turn of a file whose turn comes there
+pub turn_then : {A : Type 0} (name : Option (List ℕ)) (gives : Held → Result A Refusal → Type 0) (next : A → Course) (held now : Option Held) (value : A) (failed : List ℕ) → now ≡ held →
+    IsGivenTold gives now (Ok value) → Told (λ h. TurnComes (next value) h failed) held → Told (λ h. TurnComes (Step name gives next) h failed) held
+turn_then name gives next None now value failed same given turn = tt
+turn_then name gives next (Some h) now value failed same given turn = inr (value, (subst (λ (files : Option Held). IsGivenTold gives files (Ok value)) same given, turn))
+
+-- what holds of all files holds of those that are told
+pub told_of_all : (P : Held → Type 0) (held : Option Held) → ((h : Held) → P h) → Told P held
+told_of_all P None all = tt
+told_of_all P (Some h) all = all h
+
+-- a step that loads nothing gives what it gives whatever is held
+pub given_told : {A : Type 0} (gives : Result A Refusal → Type 0) (held : Option Held) (r : Result A Stop) → IsGiven gives r → IsGivenTold (λ h. gives) held r
+given_told gives None (Ok value) given = tt
+given_told gives None (Err (Refused refusal)) given = tt
+given_told gives None (Err ReadFault) given = tt
+given_told gives None (Err OutOfMemory) given = tt
+given_told gives (Some h) (Ok value) given = given
+given_told gives (Some h) (Err (Refused refusal)) given = given
+given_told gives (Some h) (Err ReadFault) given = tt
+given_told gives (Some h) (Err OutOfMemory) given = tt
+
 -- what a text gives, the file gives, where it is told
 pub text_told : {A : Type 0} (limit : ℕ) (option : List ℕ) (text_gives : List ℕ → Result A Refusal → Type 0) (name text : List ℕ) (held : Option Held) (r : Result A Stop) →
     Told (λ h. file_at name h ≡ Some text) held → length text ≤ limit → IsGiven (text_gives text) r → IsGivenTold (λ h. FileGives limit option text_gives (file_at name h)) held r
@@ -87,3 +111,18 @@ ScanOn files cells h config = Then (NetlistGives cells files.netlist h) (λ n. I
 
 abbrev pub ScanOver : ScanFiles → Held → List Cell → Outcome → Type 0
 ScanOver files h cells = Then (ConfigGives files.config h) (ScanOn files cells h)
+
+-- ---- behind each file of a compilation
+
+abbrev pub CompileOf : CompileFiles → Config → Held → Netlist → Outcome → Type 0
+CompileOf files config h n = Reaches (course_of_design n config files.cubes) h
+
+abbrev pub CompileOn : CompileFiles → List Cell → Held → Config → Outcome → Type 0
+CompileOn files cells h config = Then (NetlistGives cells files.netlist h) (CompileOf files config h)
+
+abbrev pub CompileOver : CompileFiles → Held → List Cell → Outcome → Type 0
+CompileOver files h cells = Then (ConfigGives files.config h) (CompileOn files cells h)
+
+-- behind the checks of the design
+abbrev pub CompileWith : Netlist → Config → (cubes : List ℕ) → Held → Prepared → Outcome → Type 0
+CompileWith n config cubes h prepared = Reaches (course_of_cubes n config cubes) h

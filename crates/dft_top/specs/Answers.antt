@@ -14,6 +14,7 @@ status_of (outcome.Passed vectors compared) = Done
 status_of (outcome.Mismatch vector signal) = NotPassed
 status_of (outcome.Undetermined vector signal) = NotPassed
 status_of (outcome.Scanned counts netlist report) = Done
+status_of (outcome.Compiled counts netlist patterns report) = Done
 
 abbrev pub refusal_of : Outcome → Option Refusal
 refusal_of outcome.Usage = None
@@ -22,6 +23,7 @@ refusal_of (outcome.Passed vectors compared) = None
 refusal_of (outcome.Mismatch vector signal) = None
 refusal_of (outcome.Undetermined vector signal) = None
 refusal_of (outcome.Scanned counts netlist report) = None
+refusal_of (outcome.Compiled counts netlist patterns report) = None
 
 -- the answer of an outcome
 abbrev pub answer_of : Outcome → Answer

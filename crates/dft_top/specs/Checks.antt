@@ -1,5 +1,6 @@
 -- What the files of a command give, each by its checks: a value, or the refusal of the first check that fails.
-use Rattle.std.specs.Prelude.{ℕ, ◌<◌, ◌≤◌, ◌≡◌, ◌⊎◌, List, codes, length, Option, None, Some, Result, Ok, Err}
+use Rattle.std.specs.List.{All}
+use Rattle.std.specs.Prelude.{ℕ, ◌<◌, ◌≤◌, ◌^◌, ◌≡◌, ◌⊎◌, List, codes, length, Option, None, Some, Result, Ok, Err}
 use Rattle.dft_files.specs.Outside.{Held, file_at}
 use Rattle.dft_cells.specs.declared.cell.Cell.{Cell}
 use Rattle.dft_cells.specs.declared.refusal.LibraryError.{LibraryError}
@@ -20,12 +21,21 @@ use Rattle.dft_stil.specs.declared.error.StilError.{StilError}
 use Rattle.dft_patterns.specs.Patterns.{Patterns, IsWellFormed}
 use Rattle.dft_stil_text.specs.PatternText as pattern
 use Rattle.dft_stil.specs.Refusals as stil
+use Rattle.dft_cubes.specs.declared.cube.Cube.{Cube}
+use Rattle.dft_cubes.specs.declared.error.CubeError.{CubeError}
+use Rattle.dft_cubes.specs.Cubes.{cubes_of}
+use Rattle.dft_cubes.specs.Cubes as cubes
+use Rattle.dft_scan_frame.specs.Statements.{IsReady}
+use Rattle.dft_compile.specs.declared.error.CompileError.{CompileError}
+use Rattle.dft_compile.specs.declared.prepared.Prepared.{Prepared}
+use Rattle.dft_compile.specs.Prepared.{IsPrepared}
+use Rattle.dft_compile.specs.Refusals.{first_refusal}
 use Rattle.dft_top.specs.declared.answer.Code.TheVariants.{F1}
 use Rattle.dft_top.specs.declared.answer.Refusal.{Refusal}
 use Rattle.dft_top.specs.declared.outcome.Outcome.{Outcome}
 use Rattle.dft_top.specs.declared.outcome.Outcome.TheVariants.{Refused}
-use Rattle.dft_top.specs.declared.limits.TheConstants.{MAX_LIBRARY_BYTES, MAX_CONFIG_BYTES, MAX_NETLIST_BYTES, MAX_PATTERN_BYTES}
-use Rattle.dft_top.specs.Refusals.{named, library_refusal, config_refusal, verilog_refusal, stil_refusal}
+use Rattle.dft_top.specs.declared.limits.TheConstants.{MAX_LIBRARY_BYTES, MAX_CONFIG_BYTES, MAX_NETLIST_BYTES, MAX_PATTERN_BYTES, MAX_CUBE_BYTES}
+use Rattle.dft_top.specs.Refusals.{named, library_refusal, config_refusal, verilog_refusal, stil_refusal, cube_refusal, compile_refusal}
 
 -- ---- one file
 
@@ -95,6 +105,32 @@ PatternText text (Err refusal) = (error : StilError) × (stil.IsRefused text err
 
 abbrev pub PatternsGive : (name : List ℕ) → Held → Result Patterns Refusal → Type 0
 PatternsGive name held r = FileGives MAX_PATTERN_BYTES (codes "patterns") PatternText (file_at name held) r
+
+-- ---- a design, before its cubes are read
+
+-- the design as it is prepared, which no check refuses; a refusal is that of the first check that fails
+pub record IsReadied (n : Netlist) (config : Config) (p : Prepared) : Type 0 where
+  pub is : IsPrepared n config p
+  pub ready : IsReady n config
+  pub accepted : first_refusal n config ≡ None
+
+abbrev pub DesignGives : Netlist → Config → Result Prepared Refusal → Type 0
+DesignGives n config (Ok p) = IsReadied n config p
+DesignGives n config (Err refusal) = (error : CompileError) × ((first_refusal n config ≡ Some error) × (compile_refusal error ≡ Some refusal))
+
+-- ---- the cubes
+
+abbrev pub CubeText : Netlist → Config → (text : List ℕ) → Result (List Cube) Refusal → Type 0
+CubeText n config text (Ok given) = cubes_of n config text ≡ Ok given
+CubeText n config text (Err refusal) = (error : CubeError) × (cubes.IsRefused (cubes_of n config text) error × (cube_refusal error ≡ Some refusal))
+
+-- there are no more cubes than a file may have, and each gives fewer cells than a number of 32 bits counts
+pub record AreFew (given : List Cube) : Type 0 where
+  pub count : length given ≤ 65536
+  pub cells : All (λ cube. length cube.cells < 2 ^ 32) given
+
+abbrev pub CubesGive : Netlist → Config → (name : List ℕ) → Held → Result (List Cube) Refusal → Type 0
+CubesGive n config name held r = FileGives MAX_CUBE_BYTES (codes "cubes") (CubeText n config) (file_at name held) r
 
 -- ---- one file after another
 

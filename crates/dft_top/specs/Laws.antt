@@ -8,11 +8,15 @@ use Rattle.dft_patterns.specs.Patterns.{Patterns}
 use Rattle.dft_replay.specs.Fits.{first_misfit}
 use Rattle.dft_scan.specs.Refusals.{refusal}
 use Rattle.dft_scan.specs.Scans.{counts_of, netlist_text, report_text}
-use Rattle.dft_words.specs.Words.{ReplayFiles, ScanFiles, IsReplay, IsScan}
+use Rattle.dft_stitch.specs.Chains.{plan_of}
+use Rattle.dft_cubes.specs.declared.cube.Cube.{Cube}
+use Rattle.dft_encode.specs.Compiled.{Placing}
+use Rattle.dft_compile.specs.Refusals.{first_refusal}
+use Rattle.dft_words.specs.Words.{ReplayFiles, ScanFiles, CompileFiles, IsReplay, IsScan, IsCompile}
 use Rattle.dft_top.specs.declared.outcome.Outcome.{Outcome}
 use Rattle.dft_top.specs.declared.outcome.Outcome.TheVariants.{Scanned}
-use Rattle.dft_top.specs.Checks.{ConfigGives, LibraryGives, NetlistGives, PatternsGive}
-use Rattle.dft_top.specs.Outcomes.{IsOutcome, IsOutcomeOn}
+use Rattle.dft_top.specs.Checks.{ConfigGives, CubesGive, LibraryGives, NetlistGives, PatternsGive}
+use Rattle.dft_top.specs.Outcomes.{IsCompiled, IsOutcome, IsOutcomeOn, refusal_of}
 
 abbrev pub OutcomeIsOne : Type 0
 OutcomeIsOne = (words : List (List ℕ)) (held : Held) (a b : Outcome) → IsOutcome words held a → IsOutcome words held b → a ≡ b
@@ -30,3 +34,10 @@ PassingIsScanned =
     (words : List (List ℕ)) (files : ScanFiles) (held : Held) (cells : List Cell) (config : Config) (n : Netlist) (o : Outcome) → IsScan words files →
     LibraryGives files.library held (Ok cells) → ConfigGives files.config held (Ok config) → NetlistGives cells files.netlist held (Ok n) → refusal n config ≡ None →
     IsOutcome words held o → o ≡ Scanned (counts_of n config) (netlist_text n config) (report_text n config)
+
+-- where each file of a compilation passes its checks, and no check of the design and of its placed cubes fails, the cubes are compiled
+abbrev pub PassingIsCompiled : Type 0
+PassingIsCompiled =
+    (words : List (List ℕ)) (files : CompileFiles) (held : Held) (cells : List Cell) (config : Config) (n : Netlist) (cubes : List Cube) (placing : Placing config (plan_of n config) cubes) (o : Outcome) → IsCompile words files →
+    LibraryGives files.library held (Ok cells) → ConfigGives files.config held (Ok config) → NetlistGives cells files.netlist held (Ok n) → first_refusal n config ≡ None →
+    CubesGive n config files.cubes held (Ok cubes) → refusal_of n config cubes placing ≡ None → IsOutcome words held o → IsCompiled n config cubes placing o

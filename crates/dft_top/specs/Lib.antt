@@ -1,5 +1,6 @@
 pub mod Refusals
 pub mod Checks
+pub mod Courses
 pub mod Outcomes
 pub mod Lines
 pub mod Answers

@@ -3,11 +3,12 @@ use Rattle.std.specs.Prelude.{ℕ, ℤ, List, [], ◌∷◌, ◌++◌, codes, Op
 use Rattle.std.specs.Fmt.{decimal, signed_decimal}
 use Rattle.dft_base.specs.declared.place.Place.{Place}
 use Rattle.dft_scan.specs.declared.texts.Counts.{Counts}
+use Rattle.dft_compile.specs.declared.texts.Counts as compiled
 use Rattle.dft_top.specs.declared.answer.Code.{Code}
-use Rattle.dft_top.specs.declared.answer.Code.TheVariants.{F1, L1, L2, L3, L4, L5, L6, L7, C1, C2, C3, C4, C5, C6, V1, V2, V3, V4, V5, V6, V7, V8, V9, V10, V11, V12, N1, N2, N3, N4, G1, G2, G3, G4, G5, G6, G7, P1, P2, P3, P4, P5, P7, P8, P9, P10, K6}
+use Rattle.dft_top.specs.declared.answer.Code.TheVariants.{F1, L1, L2, L3, L4, L5, L6, L7, C1, C2, C3, C4, C5, C6, V1, V2, V3, V4, V5, V6, V7, V8, V9, V10, V11, V12, N1, N2, N3, N4, G1, G2, G3, G4, G5, G6, G7, P1, P2, P3, P4, P5, P6, P7, P8, P9, P10, Q1, Q2, Q3, Q4, Q5, Q6, Q7, Q8, Q9, K6}
 use Rattle.dft_top.specs.declared.answer.Refusal.{Refusal}
 use Rattle.dft_top.specs.declared.outcome.Outcome.{Outcome}
-use Rattle.dft_top.specs.declared.outcome.Outcome.TheVariants.{Usage, Refused, Passed, Mismatch, Undetermined, Scanned}
+use Rattle.dft_top.specs.declared.outcome.Outcome.TheVariants.{Usage, Refused, Passed, Mismatch, Undetermined, Scanned, Compiled}
 
 abbrev pub code_text : Code → List ℕ
 code_text F1 = codes "F1"
@@ -52,10 +53,20 @@ code_text P2 = codes "P2"
 code_text P3 = codes "P3"
 code_text P4 = codes "P4"
 code_text P5 = codes "P5"
+code_text P6 = codes "P6"
 code_text P7 = codes "P7"
 code_text P8 = codes "P8"
 code_text P9 = codes "P9"
 code_text P10 = codes "P10"
+code_text Q1 = codes "Q1"
+code_text Q2 = codes "Q2"
+code_text Q3 = codes "Q3"
+code_text Q4 = codes "Q4"
+code_text Q5 = codes "Q5"
+code_text Q6 = codes "Q6"
+code_text Q7 = codes "Q7"
+code_text Q8 = codes "Q8"
+code_text Q9 = codes "Q9"
 code_text K6 = codes "K6"
 
 -- ---- the parts of a refusal, each behind a blank
@@ -92,6 +103,22 @@ abbrev pub scanned_line : Counts → List ℕ
 scanned_line counts =
     codes "scanned cells " ++ (decimal counts.cells ++ (codes " unscanned " ++ (decimal counts.unscanned ++ (codes " chains " ++ (decimal counts.chains ++ (codes " lockups " ++ (decimal counts.lockups ++ codes "\n")))))))
 
+-- the cells, the chains, the cycles of a load, the patterns
+abbrev pub load_part : compiled.Counts → List ℕ
+load_part counts =
+    codes "compiled cells " ++ (decimal counts.cells ++ (codes " chains " ++ (decimal counts.chains ++ (codes " cycles " ++ (decimal counts.cycles ++ (codes " patterns " ++ decimal counts.patterns))))))
+
+-- what became of the cubes
+abbrev pub fate_part : compiled.Counts → List ℕ
+fate_part counts = codes " encoded " ++ (decimal counts.encoded ++ (codes " unsolvable " ++ (decimal counts.unsolvable ++ (codes " skipped " ++ decimal counts.skipped))))
+
+-- the masked chains, and the vectors
+abbrev pub vector_part : compiled.Counts → List ℕ
+vector_part counts = codes " masked " ++ (decimal counts.masked ++ (codes " vectors " ++ decimal counts.vectors))
+
+abbrev pub compiled_line : compiled.Counts → List ℕ
+compiled_line counts = load_part counts ++ (fate_part counts ++ (vector_part counts ++ codes "\n"))
+
 abbrev pub line_of : Outcome → List ℕ
 line_of Usage = usage_line
 line_of (Refused refusal) = refused_line refusal
@@ -99,3 +126,4 @@ line_of (Passed vectors compared) = passed_line vectors compared
 line_of (Mismatch vector signal) = failed_line (codes "mismatch") vector signal
 line_of (Undetermined vector signal) = failed_line (codes "undetermined") vector signal
 line_of (Scanned counts netlist report) = scanned_line counts
+line_of (Compiled counts netlist patterns report) = compiled_line counts

@@ -1,10 +1,10 @@
 -- What a command comes to, from its words and the files that are held.
-use Rattle.std.specs.Prelude.{ℕ, ◌≡◌, ◌⊎◌, List, [], length, Option, None, Some, slice_get}
+use Rattle.std.specs.Prelude.{ℕ, ◌≡◌, List, [], length, Option, None, Some, slice_get}
 use Rattle.dft_files.specs.Outside.{Held}
 use Rattle.dft_config.specs.declared.config.Config.{Config}
 use Rattle.dft_scan_frame.specs.Statements.{IsReady}
 use Rattle.dft_scan_hardware.specs.Statements.{scanned}
-use Rattle.dft_scan_hardware.specs.declared.style.Style.TheVariants.{Plain}
+use Rattle.dft_scan_hardware.specs.declared.style.Style.TheVariants.{Plain, Edt}
 use Rattle.dft_netlist.specs.Netlist.{Netlist}
 use Rattle.dft_netlist_text.specs.NetlistText.{StandsFor}
 use Rattle.dft_patterns.specs.declared.signal.StilSignal.{StilSignal}
@@ -16,13 +16,21 @@ use Rattle.dft_replay.specs.Verdicts.{HasVerdict}
 use Rattle.dft_scan.specs.declared.error.ScanError.{ScanError}
 use Rattle.dft_scan.specs.Refusals.{refusal}
 use Rattle.dft_scan.specs.Scans.{counts_of, netlist_text, report_text}
-use Rattle.dft_words.specs.Words.{Command, Replay, Scan, ReplayFiles, ScanFiles, AreFor}
+use Rattle.dft_stitch.specs.Chains.{plan_of}
+use Rattle.dft_cubes.specs.declared.cube.Cube.{Cube}
+use Rattle.dft_vectors.specs.PatternData.{PatternData}
+use Rattle.dft_encode.specs.Compiled.{Placing, ArePatterns}
+use Rattle.dft_compile.specs.declared.error.CompileError.{CompileError}
+use Rattle.dft_compile.specs.Refusals.{late_refusal}
+use Rattle.dft_compile.specs.Texts as compiled
+use Rattle.dft_words.specs.Words.{Command, Replay, Scan, Compile, ReplayFiles, ScanFiles, CompileFiles, AreFor}
 use Rattle.dft_top.specs.declared.answer.Code.TheVariants.{P7}
 use Rattle.dft_top.specs.declared.answer.Refusal.{Refusal}
 use Rattle.dft_top.specs.declared.outcome.Outcome.{Outcome}
-use Rattle.dft_top.specs.declared.outcome.Outcome.TheVariants.{Usage, Refused, Passed, Mismatch, Undetermined, Scanned}
-use Rattle.dft_top.specs.Refusals.{named, scan_refusal}
-use Rattle.dft_top.specs.Checks.{LibraryGives, ConfigGives, NetlistGives, PatternsGive, Then, After}
+use Rattle.dft_top.specs.declared.outcome.Outcome.TheVariants.{Usage, Refused, Passed, Mismatch, Undetermined, Scanned, Compiled}
+use Rattle.dft_top.specs.Refusals.{named, scan_refusal, compile_refusal}
+use Rattle.dft_top.specs.Checks.{LibraryGives, ConfigGives, NetlistGives, PatternsGive, DesignGives, CubesGive}
+use Rattle.dft_top.specs.Courses.{Course, Step, End, Reaches, Loads, TurnComes}
 
 -- ---- a replay
 
@@ -45,12 +53,12 @@ IsOutcomeOn n p (Some name) o = o ≡ Refused (named P7 name)
 IsOutcomeOn n p None o = (v : Verdict) × (HasVerdict n p v × (o ≡ outcome_of p v))
 
 -- the library, then the netlist, then the patterns, and then the verdict
-abbrev pub IsOutcomeOfReplay : ReplayFiles → Held → Outcome → Type 0
-IsOutcomeOfReplay files held o =
-    Then (LibraryGives files.library held) (λ cells.
-    Then (NetlistGives cells files.netlist held) (λ n.
-    Then (PatternsGive files.patterns held) (λ p.
-    IsOutcomeOn n p (first_misfit n p.signals)))) o
+abbrev pub course_of_replay : ReplayFiles → Course
+course_of_replay files =
+    Step files.library (LibraryGives files.library) (λ cells.
+    Step (Some files.netlist) (NetlistGives cells files.netlist) (λ n.
+    Step (Some files.patterns) (PatternsGive files.patterns) (λ p.
+    End (IsOutcomeOn n p (first_misfit n p.signals)))))
 
 -- ---- a scan
 
@@ -71,20 +79,64 @@ IsOutcomeOfScanOf n config (Some error) o = IsRefusal (scan_refusal error) o
 IsOutcomeOfScanOf n config None o = IsScanned n config o
 
 -- the library, then the configuration, then the netlist, and then the scan
-abbrev pub IsOutcomeOfScan : ScanFiles → Held → Outcome → Type 0
-IsOutcomeOfScan files held o =
-    Then (LibraryGives files.library held) (λ cells.
-    Then (ConfigGives files.config held) (λ config.
-    Then (NetlistGives cells files.netlist held) (λ n.
-    IsOutcomeOfScanOf n config (refusal n config)))) o
+abbrev pub course_of_scan : ScanFiles → Course
+course_of_scan files =
+    Step files.library (LibraryGives files.library) (λ cells.
+    Step (Some files.config) (ConfigGives files.config) (λ config.
+    Step (Some files.netlist) (NetlistGives cells files.netlist) (λ n.
+    End (IsOutcomeOfScanOf n config (refusal n config)))))
+
+-- ---- a compilation
+
+-- The cubes are compiled: the patterns are those of their placement, and the outcome has the written forms of the scanned netlist, of the
+-- patterns and of the report. The netlist's text stands for it.
+pub record IsCompiled (n : Netlist) (config : Config) (cubes : List Cube) (placing : Placing config (plan_of n config) cubes) (o : Outcome) : Type 0 where
+  pub list : List PatternData
+  pub are : ArePatterns n config (plan_of n config) placing.rows placing.merged list
+  pub is : o ≡ Compiled (compiled.counts_of n config placing.placed list) (compiled.netlist_text n config) (compiled.pattern_text n config list)
+      (compiled.report_text n config placing.rows cubes placing.placed)
+  pub reads : StandsFor n.library (compiled.netlist_text n config) (scanned Edt n config)
+
+-- the first check that fails on the placed cubes is refused: the length of the patterns, that of the report; and else they are compiled
+abbrev pub IsOutcomeOfPlacing : (n : Netlist) (config : Config) (cubes : List Cube) → Placing config (plan_of n config) cubes → Option CompileError → Outcome → Type 0
+IsOutcomeOfPlacing n config cubes placing (Some error) o = IsRefusal (compile_refusal error) o
+IsOutcomeOfPlacing n config cubes placing None o = IsCompiled n config cubes placing o
+
+-- the refusal of placed cubes, if there is one
+abbrev pub refusal_of : (n : Netlist) (config : Config) (cubes : List Cube) → Placing config (plan_of n config) cubes → Option CompileError
+refusal_of n config cubes placing = late_refusal n config cubes placing.rows placing.placed (length placing.merged)
+
+-- the cubes are placed, and it is the outcome of that
+abbrev pub IsOutcomeOfCubes : Netlist → Config → List Cube → Outcome → Type 0
+IsOutcomeOfCubes n config cubes o = (placing : Placing config (plan_of n config) cubes) × IsOutcomeOfPlacing n config cubes placing (refusal_of n config cubes placing) o
+
+-- the cubes, and then their placement
+abbrev pub course_of_cubes : Netlist → Config → (cubes : List ℕ) → Course
+course_of_cubes n config cubes = Step (Some cubes) (CubesGive n config cubes) (λ given. End (IsOutcomeOfCubes n config given))
+
+-- the checks of the scan rules, of the plan and of the insertion, and then the cubes
+abbrev pub course_of_design : Netlist → Config → (cubes : List ℕ) → Course
+course_of_design n config cubes = Step None (λ held. DesignGives n config) (λ prepared. course_of_cubes n config cubes)
+
+-- the library, then the configuration, then the netlist, and then the design
+abbrev pub course_of_compile : CompileFiles → Course
+course_of_compile files =
+    Step files.library (LibraryGives files.library) (λ cells.
+    Step (Some files.config) (ConfigGives files.config) (λ config.
+    Step (Some files.netlist) (NetlistGives cells files.netlist) (λ n.
+    course_of_design n config files.cubes)))
 
 -- ---- of words
 
--- of what words are for: Usage, or what the command's files come to
+-- what words are for: Usage, or what the command's files come to
+abbrev pub course_of : Option Command → Course
+course_of None = End (λ o. o ≡ Usage)
+course_of (Some (Replay files)) = course_of_replay files
+course_of (Some (Scan files)) = course_of_scan files
+course_of (Some (Compile files)) = course_of_compile files
+
 abbrev pub IsOutcomeFor : Option Command → Held → Outcome → Type 0
-IsOutcomeFor None held o = o ≡ Usage
-IsOutcomeFor (Some (Replay files)) held o = IsOutcomeOfReplay files held o
-IsOutcomeFor (Some (Scan files)) held o = IsOutcomeOfScan files held o
+IsOutcomeFor command held o = Reaches (course_of command) held o
 
 abbrev pub IsOutcome : List (List ℕ) → Held → Outcome → Type 0
 IsOutcome words held o = (command : Option Command) × (AreFor words command × IsOutcomeFor command held o)
@@ -93,18 +145,8 @@ IsOutcome words held o = (command : Option Command) × (AreFor words command × 
 
 -- the name is one that the words give for a file that the command loads
 abbrev pub IsLoaded : Option Command → (name : List ℕ) → Type 0
-IsLoaded None name = ⊥
-IsLoaded (Some (Replay files)) name = (files.library ≡ Some name) ⊎ ((name ≡ files.netlist) ⊎ (name ≡ files.patterns))
-IsLoaded (Some (Scan files)) name = (files.library ≡ Some name) ⊎ ((name ≡ files.config) ⊎ (name ≡ files.netlist))
+IsLoaded command name = Loads (course_of command) name
 
 -- The turn of the file with this name comes: no check before its load fails.
 abbrev pub HasTurn : Option Command → Held → (name : List ℕ) → Type 0
-HasTurn None held name = ⊥
-HasTurn (Some (Replay files)) held name =
-    (files.library ≡ Some name)
-    ⊎ After (LibraryGives files.library held) (λ cells. (name ≡ files.netlist)
-    ⊎ After (NetlistGives cells files.netlist held) (λ n. name ≡ files.patterns))
-HasTurn (Some (Scan files)) held name =
-    (files.library ≡ Some name)
-    ⊎ After (LibraryGives files.library held) (λ cells. (name ≡ files.config)
-    ⊎ After (ConfigGives files.config held) (λ config. name ≡ files.netlist))
+HasTurn command held name = TurnComes (course_of command) held name

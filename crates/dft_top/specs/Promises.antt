@@ -1,9 +1,11 @@
 -- What Done promises of a command.
-use Rattle.std.specs.Prelude.{ℕ, ◌≡◌, List, None, Some, Ok}
+use Rattle.std.specs.Prelude.{ℕ, ◌≡◌, ◌↔◌, List, None, Some, Ok, slice_get}
 use Rattle.dft_files.specs.Outside.{Held, file_at}
 use Rattle.dft_cells.specs.declared.cell.Cell.{Cell}
 use Rattle.dft_config.specs.declared.config.Config.{Config}
+use Rattle.dft_config.specs.Ring.{Table}
 use Rattle.dft_netlist.specs.Netlist.{Netlist}
+use Rattle.dft_netlist.specs.Logic.{Ports}
 use Rattle.dft_netlist_text.specs.NetlistText.{StandsFor}
 use Rattle.dft_netlist.specs.Runs.{Now, Turn}
 use Rattle.dft_patterns.specs.Patterns.{Patterns}
@@ -14,12 +16,25 @@ use Rattle.dft_replay.specs.Verdicts.{HasVerdict}
 use Rattle.dft_replay.specs.Laws.{IsRunOf, AllShow}
 use Rattle.dft_scan_facts.specs.PlainLaws.{ChainsShift, ChainsShow}
 use Rattle.dft_scan_frame.specs.Statements.{IsReady}
-use Rattle.dft_scan_hardware.specs.declared.style.Style.TheVariants.{Plain}
-use Rattle.dft_scan_hardware.specs.Statements.{IsKept, scanned}
+use Rattle.dft_scan_hardware.specs.declared.style.Style.TheVariants.{Plain, Edt}
+use Rattle.dft_scan_hardware.specs.Statements.{IsAdded, IsKept, scanned}
 use Rattle.dft_scan_off.specs.Agreeing.{IsSameWhileOff}
 use Rattle.dft_scan.specs.Scans.{netlist_text, report_text}
-use Rattle.dft_words.specs.Words.{ReplayFiles, ScanFiles}
-use Rattle.dft_top.specs.Checks.{LibraryGives, ConfigGives, NetlistGives, PatternsGive}
+use Rattle.dft_scan_facts.specs.EdtVectors.{SuitsEdt}
+use Rattle.dft_scan_facts.specs.Experiments.{LoadsInRuns, UnloadsInRuns}
+use Rattle.dft_stitch.specs.Chains.{plan_of}
+use Rattle.dft_cubes.specs.declared.cube.Cube.{Cube}
+use Rattle.dft_merge.specs.declared.placed.Placed.{Placed}
+use Rattle.dft_merge.specs.declared.placed.Placed.TheVariants.{Into}
+use Rattle.dft_merge.specs.Laws.{IsUnsolvable}
+use Rattle.dft_merge.specs.Placement.{first_unscanned}
+use Rattle.dft_vectors.specs.PatternData.{PatternData}
+use Rattle.dft_equations.specs.LoadRows.{LoadRows}
+use Rattle.dft_encode.specs.Compiled.{ArePatterns, Placing}
+use Rattle.dft_load_laws.specs.Loading.{LoadsAlways, LoadsOnce, rows_of as rows_in}
+use Rattle.dft_compile.specs.Texts as compiled
+use Rattle.dft_words.specs.Words.{ReplayFiles, ScanFiles, CompileFiles}
+use Rattle.dft_top.specs.Checks.{LibraryGives, ConfigGives, NetlistGives, PatternsGive, CubesGive}
 
 -- every run of the netlist over the patterns shows each compared bit as printed
 abbrev pub EveryRunShows : Netlist → Patterns → Type 0
@@ -58,3 +73,48 @@ pub record Scans (files : ScanFiles) (old new : Held) : Type 0 where
   pub agrees : IsSameWhileOff Plain netlist config
   pub shifts : ChainsShift netlist config
   pub shows : ChainsShow netlist config
+
+-- ---- a compilation
+
+-- A cube of scanned cells is told unsolvable exactly where no table of channel bits loads it, in any run; and some table loads one that goes
+-- into a pattern, in every run. Clocks and resets are those of the configuration, with edt_clock, or any that suit them.
+pub record IsToldRight (n : Netlist) (config : Config) (rows : LoadRows) (ports : Ports) (cube : Cube) (placed : Placed) : Type 0 where
+  pub unsolvable : first_unscanned (rows_in n config rows) cube.cells ≡ None → IsUnsolvable placed ↔ ((table : Table) → LoadsOnce n config ports table cube.cells → ⊥)
+  pub loaded : (pattern : ℕ) → placed ≡ Into pattern → (table : Table) × LoadsAlways n config ports table cube.cells
+
+-- so are all cubes
+abbrev pub CubesAreToldRight : Netlist → Config → LoadRows → List Cube → List Placed → Type 0
+CubesAreToldRight n config rows cubes placed =
+    (ports : Ports) (k : ℕ) (cube : Cube) (place : Placed) → SuitsEdt n config ports → slice_get cubes k ≡ Some cube → slice_get placed k ≡ Some place → IsToldRight n config rows ports cube place
+
+-- The netlist, the configuration and the cubes are those of the held texts, over the cells of the library, and the checks pass. The cubes are
+-- placed, and the scanned netlist, the patterns of the placement and its report are saved; no other file is changed. The netlist's text that
+-- is saved stands for the scanned netlist, which keeps the design, behaves as it while scan is off, and loads and unloads every table in
+-- every run; and cubes are told right.
+pub record Compiles (files : CompileFiles) (old new : Held) : Type 0 where
+  pub cells : List Cell
+  pub library : LibraryGives files.library old (Ok cells)
+  pub config : Config
+  pub settings : ConfigGives files.config old (Ok config)
+  pub netlist : Netlist
+  pub design : NetlistGives cells files.netlist old (Ok netlist)
+  pub ready : IsReady netlist config
+  pub cubes : List Cube
+  pub given : CubesGive netlist config files.cubes old (Ok cubes)
+  -- what is made of them
+  pub placing : Placing config (plan_of netlist config) cubes
+  pub list : List PatternData
+  pub are : ArePatterns netlist config (plan_of netlist config) placing.rows placing.merged list
+  -- what is saved
+  pub out_netlist : file_at files.out_netlist new ≡ Some (compiled.netlist_text netlist config)
+  pub out_patterns : file_at files.out_patterns new ≡ Some (compiled.pattern_text netlist config list)
+  pub out_report : file_at files.out_report new ≡ Some (compiled.report_text netlist config placing.rows cubes placing.placed)
+  pub others : (name : List ℕ) → (name ≡ files.out_netlist → ⊥) → (name ≡ files.out_patterns → ⊥) → (name ≡ files.out_report → ⊥) → file_at name new ≡ file_at name old
+  pub reads : StandsFor cells (compiled.netlist_text netlist config) (scanned Edt netlist config)
+  -- what holds of it
+  pub keeps : IsKept Edt netlist config
+  pub adds : IsAdded Edt netlist config
+  pub agrees : IsSameWhileOff Edt netlist config
+  pub loads : (ports : Ports) → SuitsEdt netlist config ports → LoadsInRuns netlist config ports
+  pub unloads : (ports : Ports) → SuitsEdt netlist config ports → UnloadsInRuns netlist config ports
+  pub told : CubesAreToldRight netlist config placing.rows cubes placing.placed

@@ -1,5 +1,5 @@
--- Refusals, and what the errors of readers and of a scan come to.
-use Rattle.std.specs.Prelude.{ℕ, ℤ, List, codes, Option, None, Some}
+-- Refusals, and what the errors of readers, of a scan and of a compilation come to.
+use Rattle.std.specs.Prelude.{ℕ, ℤ, pos, List, codes, Option, None, Some}
 use Rattle.dft_base.specs.declared.place.Place.{Place}
 use Rattle.dft_cells.specs.declared.refusal.LibraryError.{LibraryError}
 use Rattle.dft_cells.specs.declared.refusal.LibraryError.TheVariants as library
@@ -25,8 +25,14 @@ use Rattle.dft_report.specs.declared.error.ReportError.{ReportError}
 use Rattle.dft_report.specs.declared.error.ReportError.TheVariants as report
 use Rattle.dft_scan.specs.declared.error.ScanError.{ScanError}
 use Rattle.dft_scan.specs.declared.error.ScanError.TheVariants as scan
+use Rattle.dft_cubes.specs.declared.error.CubeError.{CubeError}
+use Rattle.dft_cubes.specs.declared.error.CubeError.TheVariants as cube
+use Rattle.dft_stil_out.specs.declared.write_error.WriteError.{WriteError}
+use Rattle.dft_stil_out.specs.declared.write_error.WriteError.TheVariants as write
+use Rattle.dft_compile.specs.declared.error.CompileError.{CompileError}
+use Rattle.dft_compile.specs.declared.error.CompileError.TheVariants as compile
 use Rattle.dft_top.specs.declared.answer.Code.{Code}
-use Rattle.dft_top.specs.declared.answer.Code.TheVariants.{L1, L2, L3, L4, L5, L6, L7, C1, C2, C3, C4, C5, C6, V1, V2, V3, V4, V5, V6, V7, V8, V9, V10, V11, V12, N1, N2, N3, N4, G1, G2, G3, G4, G5, G6, G7, P1, P2, P3, P4, P5, P8, P9, P10, K6}
+use Rattle.dft_top.specs.declared.answer.Code.TheVariants.{L1, L2, L3, L4, L5, L6, L7, C1, C2, C3, C4, C5, C6, V1, V2, V3, V4, V5, V6, V7, V8, V9, V10, V11, V12, N1, N2, N3, N4, G1, G2, G3, G4, G5, G6, G7, P1, P2, P3, P4, P5, P6, P8, P9, P10, Q1, Q2, Q3, Q4, Q5, Q6, Q7, Q8, Q9, K6}
 use Rattle.dft_top.specs.declared.answer.Refusal.{Refusal}
 
 -- ---- refusals by their parts
@@ -147,3 +153,29 @@ scan_refusal (scan.Stitch error) = stitch_refusal error
 scan_refusal (scan.Insert error) = insert_refusal error
 scan_refusal (scan.Report error) = report_refusal error
 scan_refusal (scan.Memory error) = None
+
+-- ---- the refusal of a compilation
+
+abbrev pub cube_refusal : CubeError → Option Refusal
+cube_refusal (cube.Q1 place) = Some (placed Q1 place)
+cube_refusal (cube.Q2 place name) = Some (worded Q2 place name)
+cube_refusal (cube.Q3 place name) = Some (worded Q3 place name)
+cube_refusal (cube.Q4 place name) = Some (worded Q4 place name)
+cube_refusal (cube.Q5 place name) = Some (worded Q5 place name)
+cube_refusal (cube.Q6 place name) = Some (worded Q6 place name)
+cube_refusal (cube.Q7 place) = Some (placed Q7 place)
+cube_refusal (cube.Q8 place name) = Some (worded Q8 place name)
+cube_refusal (cube.Q9 place) = Some (placed Q9 place)
+cube_refusal (cube.Memory error) = None
+
+abbrev pub write_refusal : WriteError → Option Refusal
+write_refusal (write.P6 bytes) = Some (measured P6 (pos bytes))
+write_refusal (write.Memory error) = None
+
+abbrev pub compile_refusal : CompileError → Option Refusal
+compile_refusal (compile.Rules error) = rule_refusal error
+compile_refusal (compile.Stitch error) = stitch_refusal error
+compile_refusal (compile.Insert error) = insert_refusal error
+compile_refusal (compile.Patterns error) = write_refusal error
+compile_refusal (compile.Report error) = report_refusal error
+compile_refusal (compile.Memory error) = None

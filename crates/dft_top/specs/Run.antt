@@ -7,11 +7,11 @@ use Rattle.dft_top.specs.declared.answer.Status.TheVariants.{Done, NotPassed, Us
 use Rattle.dft_top.specs.declared.answer.Answer.{Answer}
 use Rattle.dft_top.specs.declared.outcome.Outcome.{Outcome}
 use Rattle.dft_top.specs.declared.outcome.Outcome.TheVariants as outcome
-use Rattle.dft_words.specs.Words.{Command, Replay, Scan, ReplayFiles, ScanFiles, AreFor, IsReplay, IsScan}
+use Rattle.dft_words.specs.Words.{Command, Replay, Scan, Compile, ReplayFiles, ScanFiles, CompileFiles, AreFor, IsReplay, IsScan, IsCompile}
 use Rattle.dft_top.specs.Answers.{answer_of, stopped}
 use Rattle.dft_top.specs.Lines.{line_of}
 use Rattle.dft_top.specs.Outcomes.{IsOutcomeFor, IsLoaded, HasTurn}
-use Rattle.dft_top.specs.Promises.{Passes, Scans}
+use Rattle.dft_top.specs.Promises.{Passes, Scans, Compiles}
 use Rattle.dft_top.specs.Saves.{savings, HaveSaved, HaveSavedSome, SaveFailed, CountsSaves}
 
 -- what is seen of the files and of the output: what files are held, the name in the last call that failed, how many loads and saves
@@ -36,7 +36,8 @@ seen held failed read_faults write_faults printed put_faults = record {
 
 -- ---- the outcome
 
--- a replay comes to a refusal or a verdict, a scan to a refusal or a scan, and Usage is the outcome of exactly the words that are no command
+-- a replay comes to a refusal or a verdict, a scan to a refusal or a scan, a compilation to a refusal or a compilation, and Usage is the outcome
+-- of exactly the words that are no command
 abbrev pub IsOfReplay : Outcome → Type 0
 IsOfReplay outcome.Usage = ⊥
 IsOfReplay (outcome.Refused refusal) = Unit {0}
@@ -44,6 +45,7 @@ IsOfReplay (outcome.Passed vectors compared) = Unit {0}
 IsOfReplay (outcome.Mismatch vector signal) = Unit {0}
 IsOfReplay (outcome.Undetermined vector signal) = Unit {0}
 IsOfReplay (outcome.Scanned counts netlist report) = ⊥
+IsOfReplay (outcome.Compiled counts netlist patterns report) = ⊥
 
 abbrev pub IsOfScan : Outcome → Type 0
 IsOfScan outcome.Usage = ⊥
@@ -52,11 +54,22 @@ IsOfScan (outcome.Passed vectors compared) = ⊥
 IsOfScan (outcome.Mismatch vector signal) = ⊥
 IsOfScan (outcome.Undetermined vector signal) = ⊥
 IsOfScan (outcome.Scanned counts netlist report) = Unit {0}
+IsOfScan (outcome.Compiled counts netlist patterns report) = ⊥
+
+abbrev pub IsOfCompile : Outcome → Type 0
+IsOfCompile outcome.Usage = ⊥
+IsOfCompile (outcome.Refused refusal) = Unit {0}
+IsOfCompile (outcome.Passed vectors compared) = ⊥
+IsOfCompile (outcome.Mismatch vector signal) = ⊥
+IsOfCompile (outcome.Undetermined vector signal) = ⊥
+IsOfCompile (outcome.Scanned counts netlist report) = ⊥
+IsOfCompile (outcome.Compiled counts netlist patterns report) = Unit {0}
 
 abbrev pub Suits : Option Command → Outcome → Type 0
 Suits None o = o ≡ outcome.Usage
 Suits (Some (Replay files)) o = IsOfReplay o
 Suits (Some (Scan files)) o = IsOfScan o
+Suits (Some (Compile files)) o = IsOfCompile o
 
 -- the outcome is one of the command, and that of the held files where they are told
 pub record IsOutcomeTold (command : Option Command) (held : Option Held) (o : Outcome) : Type 0 where
@@ -153,6 +166,11 @@ PassesTold words held answer = (files : ReplayFiles) → IsReplay words files �
 abbrev pub ScansTold : List (List ℕ) → (held held' : Option Held) → Answer → Type 0
 ScansTold words held held' answer = (files : ScanFiles) → IsScan words files → answer.status ≡ Done → ToldChange (Scans files) held held'
 
+-- where the words are a compilation, the scanned netlist, the patterns and the report are saved: scan off it is the same design, and cubes are
+-- told unsolvable exactly where no channel bits load them
+abbrev pub CompilesTold : List (List ℕ) → (held held' : Option Held) → Answer → Type 0
+CompilesTold words held held' answer = (files : CompileFiles) → IsCompile words files → answer.status ≡ Done → ToldChange (Compiles files) held held'
+
 -- ---- what is not saved
 
 -- a status that no save comes before
@@ -165,7 +183,12 @@ IsQuiet ReadFault = Unit {0}
 IsQuiet WriteFault = ⊥
 IsQuiet OutOfMemory = ⊥
 
--- where the status is Usage, Refused, NotPassed or ReadFault, or the words are no scan, no file is changed, and no save has failed
+-- the words are a scan or a compilation
+abbrev pub AreSaving : List (List ℕ) → Type 0
+AreSaving words = ((files : ScanFiles) × IsScan words files) ⊎ ((files : CompileFiles) × IsCompile words files)
+
+-- where the status is Usage, Refused, NotPassed or ReadFault, or the words are neither a scan nor a compilation, no file is changed, and no save has
+-- failed
 abbrev pub KeepsFiles : List (List ℕ) → (held held' : Option Held) → (write_faults write_faults' : ℕ) → Answer → Type 0
 KeepsFiles words held held' write_faults write_faults' answer =
-    IsQuiet answer.status ⊎ ((files : ScanFiles) → IsScan words files → ⊥) → (held' ≡ held) × (write_faults' ≡ write_faults)
+    IsQuiet answer.status ⊎ (AreSaving words → ⊥) → (held' ≡ held) × (write_faults' ≡ write_faults)

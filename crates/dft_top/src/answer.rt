@@ -7,7 +7,7 @@ use dft_base::{Name, Place};
 /// How a command ended.
 #[derive(Clone, Copy, Debug, PartialEq, Eq)]
 pub enum Status {
-    /// It did what it is for: patterns passed, or the files of a scan are saved.
+    /// It did what it is for: patterns passed, or the files of a scan or of a compilation are saved.
     Done,
     /// The patterns do not pass: a bit differs, or is not determined.
     NotPassed,
@@ -112,6 +112,8 @@ pub enum Code {
     P4,
     /// A character or an act in a pattern text that its signal has not.
     P5,
+    /// The patterns of a compilation would be longer than their limit. Its part is how many bytes they would have.
+    P6,
     /// A signal is no bit of a port with its direction. Its part is the signal's name.
     P7,
     /// Times of a pattern text that do not fit.
@@ -120,6 +122,24 @@ pub enum Code {
     P9,
     /// A signal that pulses in a vector is high or unset in another. Its parts are the signal's name and the vector.
     P10,
+    /// A line of a cube file that is none of those that may stand there. Its part is the place, as at Q7 and Q9.
+    Q1,
+    /// A cell of a cube that is no flip-flop. Its parts are the place and the name, as at Q3 to Q6 and Q8.
+    Q2,
+    /// A port of a cube that is no bit of an input.
+    Q3,
+    /// A clock of a cube that is no domain.
+    Q4,
+    /// A name of a cube that was given before.
+    Q5,
+    /// A cell or a port that was given before in its cube.
+    Q6,
+    /// A cube file that ends inside of a cube.
+    Q7,
+    /// A port of a cube that is a domain or a reset.
+    Q8,
+    /// One cube more than a file may have.
+    Q9,
     /// A report is longer than its limit. Its part is how many bytes it would have.
     K6,
 }
@@ -163,7 +183,9 @@ impl Answer {
                 status: Status::Refused,
                 refusal: Some(refusal),
             },
-            Outcome::Passed { .. } | Outcome::Scanned { .. } => Answer::stopped(Status::Done),
+            Outcome::Passed { .. } | Outcome::Scanned { .. } | Outcome::Compiled { .. } => {
+                Answer::stopped(Status::Done)
+            }
             Outcome::Mismatch { .. } | Outcome::Undetermined { .. } => {
                 Answer::stopped(Status::NotPassed)
             }

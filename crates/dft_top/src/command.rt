@@ -5,11 +5,12 @@ ghost use Rattle.dft_files.specs.Outside.{Rose, Told};
 ghost use Rattle.dft_words.specs.Named.{command_of};
 ghost use Rattle.dft_top.specs.Lines.{line_of};
 ghost use Rattle.dft_top.specs.Outcomes.{HasTurn, IsLoaded};
-ghost use Rattle.dft_top.specs.Run.{Ends, EndsFor, IsDelivered, IsOutcomeTold, KeepsFiles, PassesTold, Prints, ScansTold, seen};
+ghost use Rattle.dft_top.specs.Run.{Ends, EndsFor, IsDelivered, CompilesTold, IsOutcomeTold, KeepsFiles, PassesTold, Prints, ScansTold, seen};
 ghost use Rattle.dft_top.specs.Saves.{CountsSaves, SavesApart, savings};
 ghost use Rattle.dft_top.specs.Stops.{ComesTo};
 
 use crate::answer::{Answer, Status};
+use crate::compiling::outcome_of_compile;
 use crate::outcome::Outcome;
 use crate::printing::line;
 use crate::replaying::outcome_of_replay;
@@ -22,17 +23,21 @@ use std::alloc::Global;
 
 /// Runs a command. `replay --netlist FILE --patterns FILE` replays the patterns on the netlist. `scan --netlist FILE
 /// --config FILE --out FILE --report FILE` inserts scan chains into the netlist as the configuration says, and saves the
-/// scanned netlist and a report. Both take `--library FILE` for the cells. Files are loaded in their turn, and each passes
-/// its checks before the next is loaded; a scan makes its texts before it saves the first; and one line is printed.
+/// scanned netlist and a report. `compile --netlist FILE --config FILE --cubes FILE --out-netlist FILE --out-patterns FILE
+/// --out-report FILE` inserts them behind compression hardware, and saves the scanned netlist, patterns that load the test
+/// cubes, and a report. All take `--library FILE` for the cells. Files are loaded in their turn, and each passes its checks
+/// before the next is loaded; all texts are made before the first is saved; and one line is printed.
 ///
 /// A run ends in one of five ways. It answers what the words and the files come to, all is saved, and its line is put:
 /// Done, NotPassed, Refused with the first check that fails, or Usage. Or a load of a file whose turn came failed
 /// (ReadFault). Or a save failed, and nothing is printed; or the line could not be put whole (WriteFault). Or memory ran
-/// out. Only a scan that passes all checks changes files.
+/// out. Only a scan or a compilation that passes all checks changes files.
 ///
 /// Where a replay answers Done and the files are told, every run of the netlist over the patterns, whatever the starting
 /// bits, the order of clock edges and the free bits, shows each compared bit as printed. Where a scan does, the netlist
-/// that is saved keeps the design and behaves as it while scan is off, and its chains shift in every run.
+/// that is saved keeps the design and behaves as it while scan is off, and its chains shift in every run. Where a compilation does, so
+/// does the netlist that is saved, a load brings to each cell in every run what its equation says, and a cube is reported
+/// unsolvable exactly where no channel bits load it in any run.
 pub fn run<F: Files, O: Sink>(alloc: Global, words: &[String], files: &mut F, out: &mut O) -> Answer
     ensures ends { Ends (map string_bytes words.entry.now)
         (seen (F.held files.old) (F.failed files.old) (F.read_faults files.old) (F.write_faults files.old) (O.told out.old) (O.faults out.old))
@@ -42,6 +47,7 @@ pub fn run<F: Files, O: Sink>(alloc: Global, words: &[String], files: &mut F, ou
         (F.write_faults files.new) result }
     ensures passes { PassesTold (map string_bytes words.entry.now) (F.held files.old) result }
     ensures scans { ScansTold (map string_bytes words.entry.now) (F.held files.old) (F.held files.new) result }
+    ensures compiles { CompilesTold (map string_bytes words.entry.now) (F.held files.old) (F.held files.new) result }
 {
     match command(alloc, words) {
         Ok(command) => run_command(alloc, command, files, out),
@@ -89,6 +95,7 @@ fn outcome_of<F: Files>(
         None => Ok(Outcome::Usage),
         Some(Command::Replay(names)) => outcome_of_replay(alloc, names, files),
         Some(Command::Scan(names)) => outcome_of_scan(alloc, names, files),
+        Some(Command::Compile(names)) => outcome_of_compile(alloc, names, files),
     }
 }
 

@@ -3,6 +3,7 @@
 
 mod answer;
 mod command;
+mod compiling;
 mod laws;
 mod limits;
 mod loading;
@@ -18,5 +19,7 @@ mod stop;
 pub use answer::{Answer, Code, Refusal, Status};
 pub use command::run;
 pub use laws::{outcome_is_one, passing_files_are_answered};
-pub use limits::{MAX_CONFIG_BYTES, MAX_LIBRARY_BYTES, MAX_NETLIST_BYTES, MAX_PATTERN_BYTES};
+pub use limits::{
+    MAX_CONFIG_BYTES, MAX_CUBE_BYTES, MAX_LIBRARY_BYTES, MAX_NETLIST_BYTES, MAX_PATTERN_BYTES,
+};
 pub use outcome::Outcome;

@@ -6,16 +6,19 @@ ghost use Rattle.dft_files.specs.Outside.{Told, file_at};
 ghost use Rattle.dft_config.specs.Range.{IsInRange};
 ghost use Rattle.dft_patterns.specs.Patterns.{IsWellFormed};
 ghost use Rattle.dft_verilog_out.specs.Named.{GatesAreJoined};
-ghost use Rattle.dft_top.specs.Checks.{too_long, LibraryGives, ConfigGives, NetlistGives, PatternsGive};
+ghost use Rattle.dft_top.specs.Checks.{too_long, AreFew, LibraryGives, ConfigGives, CubesGive, NetlistGives, PatternsGive};
 ghost use Rattle.dft_top.specs.Stops.{IsGivenTold, LoadFails, OnRefused};
 
 use crate::answer::{Code, Refusal};
-use crate::limits::{MAX_CONFIG_BYTES, MAX_LIBRARY_BYTES, MAX_NETLIST_BYTES, MAX_PATTERN_BYTES};
-use crate::reading::{config_in, design_in, library_in, patterns_in};
+use crate::limits::{
+    MAX_CONFIG_BYTES, MAX_CUBE_BYTES, MAX_LIBRARY_BYTES, MAX_NETLIST_BYTES, MAX_PATTERN_BYTES,
+};
+use crate::reading::{config_in, cubes_in, design_in, library_in, patterns_in};
 use crate::stop::Stop;
 use dft_base::Name;
 use dft_cells::Library;
-use dft_config::Config;
+use dft_config::{Config, Listed};
+use dft_cubes::Cube;
 use dft_files::{Files, LoadError};
 use dft_netlist::Design;
 use dft_stil::PatternSet;
@@ -97,6 +100,27 @@ pub fn load_patterns<F: Files>(alloc: Global, files: &mut F, name: &str) -> Resu
 {
     let text = load_text(alloc, files, name, b"patterns", MAX_PATTERN_BYTES)?;
     patterns_in(alloc, text.as_slice())
+}
+
+/// The cubes with this name, for the design and the configuration.
+pub fn load_cubes<F: Files>(
+    alloc: Global,
+    files: &mut F,
+    name: &str,
+    design: &Design,
+    config: &Config,
+) -> Result<Listed<Cube>, Stop>
+    requires { IsInRange config.now }
+    ensures gives { IsGivenTold (CubesGive design.now config.now name.now) (F.held files.old) result }
+    ensures few { IfOk result AreFew }
+    ensures fault { result ≡ Err Stop.ReadFault → LoadFails (Some name.now) (F.failed files.new)
+        (F.read_faults files.old) (F.read_faults files.new) }
+    ensures held { F.held files.new ≡ F.held files.old }
+    ensures faults { F.read_faults files.old ≤ F.read_faults files.new }
+    ensures saves { F.write_faults files.new ≡ F.write_faults files.old }
+{
+    let text = load_text(alloc, files, name, b"cubes", MAX_CUBE_BYTES)?;
+    cubes_in(alloc, text.as_slice(), design, config)
 }
 
 /// The bytes of a file that is named by an option of the command.

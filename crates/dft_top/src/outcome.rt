@@ -1,5 +1,6 @@
 use crate::answer::Refusal;
 use dft_base::Name;
+use dft_compile::Counts as CompileCounts;
 use dft_config::Listed;
 use dft_scan::Counts;
 
@@ -29,6 +30,14 @@ pub enum Outcome {
     Scanned {
         counts: Counts,
         netlist: Listed<u8>,
+        report: Listed<u8>,
+    },
+    /// The cubes are compiled: what is counted, and the texts of the scanned netlist, of the patterns and of the report, to be
+    /// saved.
+    Compiled {
+        counts: CompileCounts,
+        netlist: Listed<u8>,
+        patterns: Listed<u8>,
         report: Listed<u8>,
     },
 }

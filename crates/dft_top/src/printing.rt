@@ -6,6 +6,7 @@ ghost use Rattle.dft_top.specs.Lines as spec;
 use crate::answer::{Code, Refusal};
 use crate::outcome::Outcome;
 use dft_base::{Name, Place};
+use dft_compile::Counts as CompileCounts;
 use dft_scan::Counts;
 use std::alloc::{AllocError, Global};
 
@@ -58,10 +59,20 @@ fn code_text(code: Code) -> &'static str
         Code::P3 => "P3",
         Code::P4 => "P4",
         Code::P5 => "P5",
+        Code::P6 => "P6",
         Code::P7 => "P7",
         Code::P8 => "P8",
         Code::P9 => "P9",
         Code::P10 => "P10",
+        Code::Q1 => "Q1",
+        Code::Q2 => "Q2",
+        Code::Q3 => "Q3",
+        Code::Q4 => "Q4",
+        Code::Q5 => "Q5",
+        Code::Q6 => "Q6",
+        Code::Q7 => "Q7",
+        Code::Q8 => "Q8",
+        Code::Q9 => "Q9",
         Code::K6 => "K6",
     }
 }
@@ -79,6 +90,7 @@ pub fn line(alloc: Global, outcome: &Outcome) -> Result<Vec<u8>, AllocError>
             failed_line(alloc, "undetermined", *vector, signal)
         }
         Outcome::Scanned { counts, .. } => scanned_line(alloc, *counts),
+        Outcome::Compiled { counts, .. } => compiled_line(alloc, *counts),
     }
 }
 
@@ -150,4 +162,43 @@ fn scanned_line(alloc: Global, counts: Counts) -> Result<Vec<u8>, AllocError>
         counts.cells, counts.unscanned, counts.chains, counts.lockups
     )?;
     Ok(line.into_bytes())
+}
+
+fn compiled_line(alloc: Global, counts: CompileCounts) -> Result<Vec<u8>, AllocError>
+    ensures { IfOk result (λ line. line.items ≡ spec.compiled_line counts) }
+{
+    let mut line = load_part(alloc, counts)?;
+    add_fates(alloc, &mut line, counts)?;
+    add_vectors(alloc, &mut line, counts)?;
+    line.push(b'\n')?;
+    Ok(line)
+}
+
+fn load_part(alloc: Global, counts: CompileCounts) -> Result<Vec<u8>, AllocError>
+    ensures { IfOk result (λ line. line.items ≡ spec.load_part counts) }
+{
+    let part = format!(in alloc;
+        "compiled cells {} chains {} cycles {} patterns {}",
+        counts.cells, counts.chains, counts.cycles, counts.patterns
+    )?;
+    Ok(part.into_bytes())
+}
+
+fn add_fates(alloc: Global, line: &mut Vec<u8>, counts: CompileCounts) -> Result<(), AllocError>
+    ensures { OnOk result (line.new.items ≡ line.old.items ++ spec.fate_part counts) }
+{
+    let part = format!(in alloc;
+        " encoded {} unsolvable {} skipped {}",
+        counts.encoded, counts.unsolvable, counts.skipped
+    )?;
+    line.extend_from_slice(part.as_bytes())?;
+    Ok(())
+}
+
+fn add_vectors(alloc: Global, line: &mut Vec<u8>, counts: CompileCounts) -> Result<(), AllocError>
+    ensures { OnOk result (line.new.items ≡ line.old.items ++ spec.vector_part counts) }
+{
+    let part = format!(in alloc; " masked {} vectors {}", counts.masked, counts.vectors)?;
+    line.extend_from_slice(part.as_bytes())?;
+    Ok(())
 }

@@ -5,14 +5,17 @@ ghost use Rattle.dft_config.specs.Range.{IsInRange};
 ghost use Rattle.dft_patterns.specs.Patterns.{IsWellFormed};
 ghost use Rattle.dft_verilog.specs.Refusals.{IsRefused};
 ghost use Rattle.dft_verilog_out.specs.Named.{GatesAreJoined};
-ghost use Rattle.dft_top.specs.Checks.{ConfigText, IsDesignOf, LibraryText, NetlistText, PatternText};
+ghost use Rattle.dft_top.specs.Checks.{AreFew, ConfigText, CubeText, IsDesignOf, LibraryText, NetlistText, PatternText};
 ghost use Rattle.dft_top.specs.Stops.{IsGiven};
-ghost use Rattle.dft_top.specs.declared.limits.TheConstants.{MAX_CONFIG_BYTES, MAX_LIBRARY_BYTES, MAX_NETLIST_BYTES, MAX_PATTERN_BYTES};
+ghost use Rattle.dft_top.specs.declared.limits.TheConstants.{MAX_CONFIG_BYTES, MAX_CUBE_BYTES, MAX_LIBRARY_BYTES, MAX_NETLIST_BYTES, MAX_PATTERN_BYTES};
 
-use crate::refusing::{config_refusal, library_refusal, stil_refusal, verilog_refusal};
+use crate::refusing::{
+    config_refusal, cube_refusal, library_refusal, stil_refusal, verilog_refusal,
+};
 use crate::stop::Stop;
 use dft_cells::Library;
-use dft_config::Config;
+use dft_config::{Config, Listed};
+use dft_cubes::Cube;
 use dft_netlist::Design;
 use dft_stil::PatternSet;
 use dft_verilog::VerilogError;
@@ -74,5 +77,23 @@ pub fn patterns_in(alloc: Global, text: &[u8]) -> Result<PatternSet, Stop>
     match dft_stil::read(alloc, text) {
         Ok(patterns) => Ok(patterns),
         Err(error) => Err(Stop::Refused(stil_refusal(error)?)),
+    }
+}
+
+/// The cubes of a text, for the design and the configuration.
+pub fn cubes_in(
+    alloc: Global,
+    text: &[u8],
+    design: &Design,
+    config: &Config,
+) -> Result<Listed<Cube>, Stop>
+    requires short { length text.now ≤ MAX_CUBE_BYTES }
+    requires range { IsInRange config.now }
+    ensures given { IsGiven (CubeText design.now config.now text.now) result }
+    ensures few { IfOk result AreFew }
+{
+    match dft_cubes::read(alloc, text, design, config) {
+        Ok(cubes) => Ok(Listed::from_vec(cubes)),
+        Err(error) => Err(Stop::Refused(cube_refusal(error)?)),
     }
 }

@@ -1,4 +1,4 @@
-//! What the errors of readers and of a scan come to.
+//! What the errors of readers, of a scan and of a compilation come to.
 
 ghost use Rattle.std.specs.Prelude.{◌≡◌, IfOk, Some};
 ghost use Rattle.dft_top.specs.Refusals as spec;
@@ -6,13 +6,16 @@ ghost use Rattle.dft_top.specs.Refusals as spec;
 use crate::answer::{Code, Refusal};
 use dft_base::{Name, Place};
 use dft_cells::LibraryError;
+use dft_compile::CompileError;
 use dft_config::ConfigError;
+use dft_cubes::CubeError;
 use dft_insert::InsertError;
 use dft_netlist::{Counted, NetlistError};
 use dft_report::ReportError;
 use dft_rules::RuleError;
 use dft_scan::ScanError;
 use dft_stil::StilError;
+use dft_stil_out::WriteError;
 use dft_stitch::{Counted as Planned, StitchError};
 use dft_verilog::VerilogError;
 use std::alloc::{AllocError, Global};
@@ -192,6 +195,51 @@ pub fn scan_refusal(alloc: Global, error: ScanError) -> Result<Refusal, AllocErr
         ScanError::Insert(error) => insert_refusal(alloc, error),
         ScanError::Report(error) => report_refusal(error),
         ScanError::Memory(error) => Err(error),
+    }
+}
+
+/// The refusal of a cube file.
+pub fn cube_refusal(error: CubeError) -> Result<Refusal, AllocError>
+    ensures { IfOk result (λ refusal. spec.cube_refusal error ≡ Some refusal) }
+{
+    Ok(match error {
+        CubeError::Q1 { place } => Refusal::placed(Code::Q1, place),
+        CubeError::Q2 { place, name } => Refusal::worded(Code::Q2, place, name),
+        CubeError::Q3 { place, name } => Refusal::worded(Code::Q3, place, name),
+        CubeError::Q4 { place, name } => Refusal::worded(Code::Q4, place, name),
+        CubeError::Q5 { place, name } => Refusal::worded(Code::Q5, place, name),
+        CubeError::Q6 { place, name } => Refusal::worded(Code::Q6, place, name),
+        CubeError::Q7 { place } => Refusal::placed(Code::Q7, place),
+        CubeError::Q8 { place, name } => Refusal::worded(Code::Q8, place, name),
+        CubeError::Q9 { place } => Refusal::placed(Code::Q9, place),
+        CubeError::Memory(error) => return Err(error),
+    })
+}
+
+/// The refusal of a compilation.
+pub fn compile_refusal(alloc: Global, error: CompileError) -> Result<Refusal, AllocError>
+    ensures { IfOk result (λ refusal. spec.compile_refusal error ≡ Some refusal) }
+{
+    match error {
+        CompileError::Rules(error) => rule_refusal(error),
+        CompileError::Stitch(error) => stitch_refusal(alloc, error),
+        CompileError::Insert(error) => insert_refusal(alloc, error),
+        CompileError::Patterns(error) => write_refusal(error),
+        CompileError::Report(error) => report_refusal(error),
+        CompileError::Memory(error) => Err(error),
+    }
+}
+
+/// The refusal of patterns that are too long; 2^63 bytes and more are more than any memory holds.
+fn write_refusal(error: WriteError) -> Result<Refusal, AllocError>
+    ensures { IfOk result (λ refusal. spec.write_refusal error ≡ Some refusal) }
+{
+    match error {
+        WriteError::P6 { first } => match i64::try_from(first) {
+            Ok(first) => Ok(Refusal::measured(Code::P6, first)),
+            Err(_) => Err(AllocError),
+        },
+        WriteError::Memory(error) => Err(error),
     }
 }
 

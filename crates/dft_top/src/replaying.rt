@@ -8,7 +8,8 @@ ghost use Rattle.dft_patterns.specs.Patterns.{IsWellFormed};
 ghost use Rattle.dft_words.specs.Named.{replay_files_of};
 ghost use Rattle.dft_words.specs.Words as words;
 ghost use Rattle.dft_top.specs.Outcomes as spec;
-ghost use Rattle.dft_top.specs.Outcomes.{HasTurn, IsLoaded, IsOutcomeOfReplay, IsOutcomeOn};
+ghost use Rattle.dft_top.specs.Courses.{Reaches};
+ghost use Rattle.dft_top.specs.Outcomes.{HasTurn, IsLoaded, course_of_replay, IsOutcomeOn};
 ghost use Rattle.dft_top.specs.Run.{IsOfReplay};
 ghost use Rattle.dft_top.specs.Stops.{ComesTo};
 
@@ -31,7 +32,7 @@ pub fn outcome_of_replay<F: Files>(
     names: ReplayFiles<'_>,
     files: &mut F,
 ) -> Result<Outcome, Stop>
-    ensures outcome { ComesTo (λ o. Told (λ h. IsOutcomeOfReplay (replay_files_of names.entry) h o) (F.held files.old)) result }
+    ensures outcome { ComesTo (λ o. Told (λ h. Reaches (course_of_replay (replay_files_of names.entry)) h o) (F.held files.old)) result }
     ensures suits { ComesTo IsOfReplay result }
     ensures rose { result ≡ Err Stop.ReadFault → Rose (F.read_faults files.old) (F.read_faults files.new) }
     ensures loaded { result ≡ Err Stop.ReadFault → IsLoaded (Some (words.Replay (replay_files_of names.entry))) (F.failed files.new) }

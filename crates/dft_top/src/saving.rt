@@ -1,8 +1,9 @@
 //! The saves of an outcome.
 
-ghost use Rattle.std.specs.Prelude.{◌≡◌, ◌≢◌, [], ◌∷◌, Err, OnErr, OnOk, option_map};
+ghost use Rattle.std.specs.Prelude.{◌≡◌, ◌≢◌, ◌≤◌, Err, OnErr, OnOk, Some, map, option_map};
+ghost use Rattle.dft_files.specs.Outside.{KeepsOthers, LeavesPart, Rose, Told, ToldChange, file_at};
 ghost use Rattle.dft_words.specs.Named.{command_of};
-ghost use Rattle.dft_top.specs.Saves.{CountsSaves, HaveSaved, HaveSavedSome, SaveFailed, SavesApart, savings};
+ghost use Rattle.dft_top.specs.Saves.{AreApart, CountsSaves, HaveSaved, HaveSavedSome, SaveFailed, SavesApart, savings};
 ghost use Rattle.dft_top.specs.Named.{saving_of};
 
 use crate::outcome::Outcome;
@@ -17,7 +18,8 @@ pub struct Saving<'a> {
     pub bytes: &'a [u8],
 }
 
-/// Saves what a command saves of its outcome, in order: of a scan the scanned netlist, and then the report.
+/// Saves what a command saves of its outcome, in order: of a scan the scanned netlist, and then the report; of a compilation the scanned
+/// netlist, the patterns, and then the report.
 pub fn save_outcome<F: Files>(
     alloc: Global,
     command: Option<Command<'_>>,
@@ -40,36 +42,75 @@ pub fn save_outcome<F: Files>(
                 report,
                 ..
             },
-        ) => save_both(
+        ) => save_all(
             alloc,
-            Saving {
-                name: names.out,
-                bytes: netlist.as_slice(),
+            &[
+                Saving {
+                    name: names.out,
+                    bytes: netlist.as_slice(),
+                },
+                Saving {
+                    name: names.report,
+                    bytes: report.as_slice(),
+                },
+            ],
+            files,
+        ),
+        (
+            Some(Command::Compile(names)),
+            Outcome::Compiled {
+                netlist,
+                patterns,
+                report,
+                ..
             },
-            Saving {
-                name: names.report,
-                bytes: report.as_slice(),
-            },
+        ) => save_all(
+            alloc,
+            &[
+                Saving {
+                    name: names.out_netlist,
+                    bytes: netlist.as_slice(),
+                },
+                Saving {
+                    name: names.out_patterns,
+                    bytes: patterns.as_slice(),
+                },
+                Saving {
+                    name: names.out_report,
+                    bytes: report.as_slice(),
+                },
+            ],
             files,
         ),
         _ => Ok(()),
     }
 }
 
-/// Saves one file, and then another.
-fn save_both<F: Files>(
-    alloc: Global,
-    first: Saving<'_>,
-    second: Saving<'_>,
-    files: &mut F,
-) -> Result<(), SaveError>
-    requires { first.name.now ≡ second.name.now → ⊥ }
-    ensures saved { OnOk result (HaveSaved (saving_of first.entry ∷ saving_of second.entry ∷ []) (F.held files.old) (F.held files.new)) }
-    ensures failed { result ≡ Err SaveError.Failed → SaveFailed (saving_of first.entry ∷ saving_of second.entry ∷ [])
+/// Saves these files, in order.
+fn save_all<F: Files>(alloc: Global, savings: &[Saving<'_>], files: &mut F) -> Result<(), SaveError>
+    requires { AreApart (map saving_of savings.now) }
+    ensures saved { OnOk result (HaveSaved (map saving_of savings.now) (F.held files.old) (F.held files.new)) }
+    ensures failed { result ≡ Err SaveError.Failed → SaveFailed (map saving_of savings.now)
         (F.held files.old) (F.held files.new) (F.failed files.new) (F.write_faults files.old) (F.write_faults files.new) }
     ensures memory { OnErr result (result ≢ Err SaveError.Failed →
-        HaveSavedSome (saving_of first.entry ∷ saving_of second.entry ∷ []) (F.held files.old) (F.held files.new)) }
+        HaveSavedSome (map saving_of savings.now) (F.held files.old) (F.held files.new)) }
 {
-    files.save(alloc, first.name, first.bytes)?;
-    files.save(alloc, second.name, second.bytes)
+    for saving in savings {
+        save_one(alloc, saving, files)?;
+    }
+    Ok(())
+}
+
+/// Saves a file.
+fn save_one<F: Files>(alloc: Global, saving: &Saving<'_>, files: &mut F) -> Result<(), SaveError>
+    ensures saved { OnOk result (Told (λ h. file_at (saving_of saving.now).name h ≡ Some (saving_of saving.now).bytes) (F.held files.new)) }
+    ensures others { ToldChange (KeepsOthers (saving_of saving.now).name) (F.held files.old) (F.held files.new) }
+    ensures part { result ≡ Err SaveError.Failed → ToldChange (λ old new. LeavesPart (saving_of saving.now).bytes
+        (file_at (saving_of saving.now).name old) (file_at (saving_of saving.now).name new)) (F.held files.old) (F.held files.new) }
+    ensures memory { OnErr result (result ≢ Err SaveError.Failed → F.held files.new ≡ F.held files.old) }
+    ensures fault { result ≡ Err SaveError.Failed → Rose (F.write_faults files.old) (F.write_faults files.new) }
+    ensures failed { result ≡ Err SaveError.Failed → F.failed files.new ≡ (saving_of saving.now).name }
+    ensures more { F.write_faults files.old ≤ F.write_faults files.new }
+{
+    files.save(alloc, saving.name, saving.bytes)
 }

@@ -7,7 +7,8 @@ ghost use Rattle.dft_scan.specs.Refusals.{refusal};
 ghost use Rattle.dft_verilog_out.specs.Named.{GatesAreJoined};
 ghost use Rattle.dft_words.specs.Named.{scan_files_of};
 ghost use Rattle.dft_words.specs.Words as words;
-ghost use Rattle.dft_top.specs.Outcomes.{HasTurn, IsLoaded, IsOutcomeOfScan, IsOutcomeOfScanOf};
+ghost use Rattle.dft_top.specs.Courses.{Reaches};
+ghost use Rattle.dft_top.specs.Outcomes.{HasTurn, IsLoaded, course_of_scan, IsOutcomeOfScanOf};
 ghost use Rattle.dft_top.specs.Run.{IsOfScan};
 ghost use Rattle.dft_top.specs.Stops.{ComesTo};
 
@@ -29,7 +30,7 @@ pub fn outcome_of_scan<F: Files>(
     names: ScanFiles<'_>,
     files: &mut F,
 ) -> Result<Outcome, Stop>
-    ensures outcome { ComesTo (λ o. Told (λ h. IsOutcomeOfScan (scan_files_of names.entry) h o) (F.held files.old)) result }
+    ensures outcome { ComesTo (λ o. Told (λ h. Reaches (course_of_scan (scan_files_of names.entry)) h o) (F.held files.old)) result }
     ensures suits { ComesTo IsOfScan result }
     ensures rose { result ≡ Err Stop.ReadFault → Rose (F.read_faults files.old) (F.read_faults files.new) }
     ensures loaded { result ≡ Err Stop.ReadFault → IsLoaded (Some (words.Scan (scan_files_of names.entry))) (F.failed files.new) }

@@ -1,5 +1,5 @@
 -- What `clap` makes of a command line is what the words are for.
-use Rattle.std.proofs.Common.{◌≡◌, Bool, true, false, true≢false, List, [], ◌∷◌, Option, Some, None, option_map, if◌then◌else◌, codes, bytes_eq, refl, sym, ap, ◌∙◌, subst, ⊎_elim}
+use Rattle.std.proofs.Common.{◌≡◌, Bool, true, false, true≢false, not, List, [], ◌∷◌, Option, Some, None, option_map, if◌then◌else◌, codes, bytes_eq, refl, sym, ap, ◌∙◌, subst, ⊎_elim}
 use Rattle.std.specs.List.{AllByRecursion, list_all}
 use Rattle.std.proofs.lemmas.Slice.Eq.{bytes_eq-Decides}
 use Rattle.clap.specs.Faults.{fault_of}
@@ -9,8 +9,8 @@ use Rattle.clap.specs.declared.error.Error.{Error}
 use Rattle.clap.specs.declared.error.kind.ErrorKind.TheVariants as kind
 use Rattle.clap.specs.Simple.{subcommand_of}
 use Rattle.clap.specs.Walk.{Row, first_of}
-use Rattle.dft_words.specs.Words.{AreFor, Command, IsCommand, IsFor, Replay, ReplayFiles, Scan, ScanFiles, Text, Valued, list_of, replay_options, scan_options}
-use Rattle.dft_words.specs.CommandLine.{Form, command_from, command_in, dft_app, is_empty, may_stand, perhaps_from, perhaps_in, replay_form, replay_from, replay_in, scan_form, scan_from, scan_in, value_from, value_in}
+use Rattle.dft_words.specs.Words.{AreFor, Command, Compile, CompileFiles, IsCommand, IsFor, OutputsDiffer, Replay, ReplayFiles, Scan, ScanFiles, Text, Valued, compile_options, list_of, replay_options, scan_options}
+use Rattle.dft_words.specs.CommandLine.{Form, command_from, command_in, compile_form, compile_from, compile_in, dft_app, is_empty, may_stand, outputs_differ, perhaps_from, perhaps_in, replay_form, replay_from, replay_in, scan_form, scan_from, scan_in, value_from, value_in}
 use Rattle.dft_words.proofs.Options.{names}
 use Rattle.dft_words.proofs.FirstWords.{find_form}
 use Rattle.dft_words.proofs.Rows.{rows}
@@ -133,6 +133,116 @@ scan_shows rs files e =
       other = parts.other;
     }
 
+-- ---- compile
+
+no_then : (b : Bool) (P : Type 0) → (b ≡ true → P) → (P → ⊥) → b ≡ false
+no_then true P same other = absurd (other (same refl))
+no_then false P same other = refl
+
+differ_tests : (a b c : Bool) → a ≡ false → b ≡ false → c ≡ false → (if a then false else (if b then false else not c)) ≡ true
+differ_tests a b c p q r = ap (λ (t : Bool). if t then false else (if b then false else not c)) p ∙ ap (λ (t : Bool). if t then false else not c) q ∙ ap not r
+
+they_differ : (files : CompileFiles) → OutputsDiffer files → outputs_differ files ≡ true
+they_differ files other =
+    differ_tests (bytes_eq files.out_netlist files.out_patterns) (bytes_eq files.out_netlist files.out_report) (bytes_eq files.out_patterns files.out_report)
+    (no_then _ _ (bytes_eq-Decides files.out_netlist files.out_patterns).0 other.patterns)
+    (no_then _ _ (bytes_eq-Decides files.out_netlist files.out_report).0 other.report)
+    (no_then _ _ (bytes_eq-Decides files.out_patterns files.out_report).0 other.both)
+
+shows_compile : (rs : List Row) (files : CompileFiles) → AllByRecursion (Shows rs) (compile_options files) → OutputsDiffer files → compile_in rs ≡ Some files
+shows_compile rs files all other =
+    (λ i. compile_from (perhaps_shown rs (codes "library") files.library all.1.1.1.1.1.1.0 i) (value_shown rs (codes "netlist") files.netlist all.0 i) (value_shown rs (codes "config") files.config all.1.0 i)
+    (value_shown rs (codes "cubes") files.cubes all.1.1.0 i) (value_shown rs (codes "out-netlist") files.out_netlist all.1.1.1.0 i)
+    (value_shown rs (codes "out-patterns") files.out_patterns all.1.1.1.1.0 i) (value_shown rs (codes "out-report") files.out_report all.1.1.1.1.1.0 i))
+    ∙ ap (λ b. if b then Some files else None) (they_differ files other)
+
+record CompileParts (l : Option (Option Text)) (n c u on op or : Option Text) (files : CompileFiles) : Type 0 where
+  library_is : l ≡ Some files.library
+  netlist_is : n ≡ Some files.netlist
+  config_is : c ≡ Some files.config
+  cubes_is : u ≡ Some files.cubes
+  out_netlist_is : on ≡ Some files.out_netlist
+  out_patterns_is : op ≡ Some files.out_patterns
+  out_report_is : or ≡ Some files.out_report
+  other : OutputsDiffer files
+
+test_apart : (a b c : Bool) → (if a then false else (if b then false else not c)) ≡ true → (a ≡ false) × (b ≡ false) × (c ≡ false)
+test_apart true b c e = absurd cc
+test_apart false true c e = absurd cc
+test_apart false false true e = absurd cc
+test_apart false false false e = (refl, refl, refl)
+
+apart_of : (a b : Text) → bytes_eq a b ≡ false → a ≡ b → ⊥
+apart_of a b test same = true≢false (sym ((bytes_eq-Decides a b).1 same) ∙ test)
+
+outputs_apart : (files : CompileFiles) → outputs_differ files ≡ true → OutputsDiffer files
+outputs_apart files e =
+    let tests = test_apart (bytes_eq files.out_netlist files.out_patterns) (bytes_eq files.out_netlist files.out_report) (bytes_eq files.out_patterns files.out_report) e in
+    record {
+      patterns = apart_of files.out_netlist files.out_patterns tests.0;
+      report = apart_of files.out_netlist files.out_report tests.1;
+      both = apart_of files.out_patterns files.out_report tests.2;
+    }
+
+compile_parts_of : (all files : CompileFiles) (b : Bool) → outputs_differ all ≡ b → (if b then Some all else None) ≡ Some files →
+    CompileParts (Some all.library) (Some all.netlist) (Some all.config) (Some all.cubes) (Some all.out_netlist) (Some all.out_patterns) (Some all.out_report) files
+compile_parts_of all files false test e = absurd cc
+compile_parts_of all files true test e =
+    subst (CompileParts (Some all.library) (Some all.netlist) (Some all.config) (Some all.cubes) (Some all.out_netlist) (Some all.out_patterns) (Some all.out_report)) (some_same all files e)
+    (record {
+      library_is = refl;
+      netlist_is = refl;
+      config_is = refl;
+      cubes_is = refl;
+      out_netlist_is = refl;
+      out_patterns_is = refl;
+      out_report_is = refl;
+      other = outputs_apart all test;
+    })
+
+compile_parts : (l : Option (Option Text)) (n c u on op or : Option Text) (files : CompileFiles) → compile_from l n c u on op or ≡ Some files → CompileParts l n c u on op or files
+compile_parts None n c u on op or files e = absurd cc
+compile_parts (Some l) None c u on op or files e = absurd cc
+compile_parts (Some l) (Some n) None u on op or files e = absurd cc
+compile_parts (Some l) (Some n) (Some c) None on op or files e = absurd cc
+compile_parts (Some l) (Some n) (Some c) (Some u) None op or files e = absurd cc
+compile_parts (Some l) (Some n) (Some c) (Some u) (Some on) None or files e = absurd cc
+compile_parts (Some l) (Some n) (Some c) (Some u) (Some on) (Some op) None files e = absurd cc
+compile_parts (Some l) (Some n) (Some c) (Some u) (Some on) (Some op) (Some or) files e =
+    let all : CompileFiles = record { library = l; netlist = n; config = c; cubes = u; out_netlist = on; out_patterns = op; out_report = or } in
+    compile_parts_of all files (outputs_differ all) refl e
+
+record CompileShows (rs : List Row) (files : CompileFiles) : Type 0 where
+  shows : AllByRecursion (Shows rs) (compile_options files)
+  other : OutputsDiffer files
+
+compile_shows : (rs : List Row) (files : CompileFiles) → compile_in rs ≡ Some files → CompileShows rs files
+compile_shows rs files e =
+    let parts = compile_parts (perhaps_in (codes "library") rs) (value_in (codes "netlist") rs) (value_in (codes "config") rs) (value_in (codes "cubes") rs)
+    (value_in (codes "out-netlist") rs) (value_in (codes "out-patterns") rs) (value_in (codes "out-report") rs) files e in
+    record {
+      shows = (
+        shown_value rs (codes "netlist") files.netlist parts.netlist_is,
+        (
+          shown_value rs (codes "config") files.config parts.config_is,
+          (
+            shown_value rs (codes "cubes") files.cubes parts.cubes_is,
+            (
+              shown_value rs (codes "out-netlist") files.out_netlist parts.out_netlist_is,
+              (
+                shown_value rs (codes "out-patterns") files.out_patterns parts.out_patterns_is,
+                (
+                  shown_value rs (codes "out-report") files.out_report parts.out_report_is,
+                  (shown_perhaps rs (codes "library") files.library parts.library_is, tt),
+                ),
+              ),
+            ),
+          ),
+        ),
+      );
+      other = parts.other;
+    }
+
 -- ---- every command
 
 record IsTaken (words : List Text) (command : Command) : Type 0 where
@@ -149,6 +259,8 @@ for_taken words (Replay files) r =
     is_taken (codes "replay") (replay_options files) words (Replay files) (takes_command replay_form (replay_options files) words refl refl r) (λ rs all. ap (option_map Replay) (shows_replay rs files all))
 for_taken words (Scan files) s =
     is_taken (codes "scan") (scan_options files) words (Scan files) (takes_command scan_form (scan_options files) words refl refl s.0) (λ rs all. ap (option_map Scan) (shows_scan rs files all s.1))
+for_taken words (Compile files) s =
+    is_taken (codes "compile") (compile_options files) words (Compile files) (takes_command compile_form (compile_options files) words refl refl s.0) (λ rs all. ap (option_map Compile) (shows_compile rs files all s.1))
 
 -- a command that is found by its name has the form of that name
 form_named : (words : List Text) (t : Taken words) (f : Form) → find_form f.command ≡ Some f → t.form.command ≡ f.command → t.form ≡ f
@@ -169,17 +281,34 @@ found_scan words t c (Some files) same is e =
     let found = scan_shows (rows t.given) files is in
     subst (IsFor words) (some_same (Scan files) c e) (as_form words t scan_form (scan_options files) same refl found.shows, found.other)
 
-found_is : (words : List Text) (t : Taken words) (c : Command) (replay scan : Bool) → (replay ≡ true → t.form ≡ replay_form) → (scan ≡ true → t.form ≡ scan_form) →
-    (if replay then option_map Replay (replay_in (rows t.given)) else (if scan then option_map Scan (scan_in (rows t.given)) else None)) ≡ Some c → IsFor words c
-found_is words t c true scan is_replay is_scan e = found_replay words t c (replay_in (rows t.given)) (is_replay refl) refl e
-found_is words t c false true is_replay is_scan e = found_scan words t c (scan_in (rows t.given)) (is_scan refl) refl e
-found_is words t c false false is_replay is_scan e = absurd cc
+found_compile : (words : List Text) (t : Taken words) (c : Command) (q : Option CompileFiles) → t.form ≡ compile_form → compile_in (rows t.given) ≡ q → option_map Compile q ≡ Some c → IsFor words c
+found_compile words t c None same is e = absurd cc
+found_compile words t c (Some files) same is e =
+    let found = compile_shows (rows t.given) files is in
+    subst (IsFor words) (some_same (Compile files) c e) (as_form words t compile_form (compile_options files) same refl found.shows, found.other)
+
+-- by the tests of the names
+record Named (t_form : Form) (replay scan compile : Bool) : Type 0 where
+  is_replay : replay ≡ true → t_form ≡ replay_form
+  is_scan : scan ≡ true → t_form ≡ scan_form
+  is_compile : compile ≡ true → t_form ≡ compile_form
+
+found_is : (words : List Text) (t : Taken words) (c : Command) (replay scan compile : Bool) → Named t.form replay scan compile →
+    (if replay then option_map Replay (replay_in (rows t.given)) else (if scan then option_map Scan (scan_in (rows t.given)) else (if compile then option_map Compile (compile_in (rows t.given)) else None))) ≡ Some c → IsFor words c
+found_is words t c true scan compile named e = found_replay words t c (replay_in (rows t.given)) (named.is_replay refl) refl e
+found_is words t c false true compile named e = found_scan words t c (scan_in (rows t.given)) (named.is_scan refl) refl e
+found_is words t c false false true named e = found_compile words t c (compile_in (rows t.given)) (named.is_compile refl) refl e
+found_is words t c false false false named e = absurd cc
 
 -- words that are taken are those of the command that is found
 taken_for : (words : List Text) (c : Command) → Taken words → command_in (subcommand_of dft_app words) ≡ Some c → IsFor words c
 taken_for words c t is =
-    found_is words t c (bytes_eq t.form.command (codes "replay")) (bytes_eq t.form.command (codes "scan"))
-    (λ e. form_named words t replay_form refl ((bytes_eq-Decides t.form.command (codes "replay")).0 e)) (λ e. form_named words t scan_form refl ((bytes_eq-Decides t.form.command (codes "scan")).0 e))
+    found_is words t c (bytes_eq t.form.command (codes "replay")) (bytes_eq t.form.command (codes "scan")) (bytes_eq t.form.command (codes "compile"))
+    (record {
+      is_replay = λ e. form_named words t replay_form refl ((bytes_eq-Decides t.form.command (codes "replay")).0 e);
+      is_scan = λ e. form_named words t scan_form refl ((bytes_eq-Decides t.form.command (codes "scan")).0 e);
+      is_compile = λ e. form_named words t compile_form refl ((bytes_eq-Decides t.form.command (codes "compile")).0 e);
+    })
     (ap command_in (sym t.shown) ∙ is)
 
 -- ---- what words are for

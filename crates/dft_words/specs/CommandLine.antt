@@ -1,10 +1,10 @@
 -- What `clap` is told of the command line, and what it is not told.
-use Rattle.std.specs.Prelude.{Bool, true, false, ◌==◌, List, [], ◌∷◌, codes, fold, length, map, if◌then◌else◌, Some, Option, None, option_map}
+use Rattle.std.specs.Prelude.{Bool, true, false, not, ◌==◌, List, [], ◌∷◌, codes, fold, length, map, if◌then◌else◌, Some, Option, None, option_map}
 use Rattle.std.specs.Str.{bytes_eq}
 use Rattle.clap.specs.Words.{App, Rule, Shape, new_app, new_rule, with_rule, with_subcommand}
 use Rattle.clap.specs.Simple.{new_shape, on_top}
 use Rattle.clap.specs.Walk.{Row, first_of}
-use Rattle.dft_words.specs.Words.{Text, ReplayFiles, ScanFiles, Command, Replay, Scan}
+use Rattle.dft_words.specs.Words.{Text, ReplayFiles, ScanFiles, CompileFiles, Command, Replay, Scan, Compile}
 
 -- ---- the forms of commands
 
@@ -32,8 +32,17 @@ scan_form = record {
   options = needed (codes "netlist") ∷ needed (codes "config") ∷ needed (codes "out") ∷ needed (codes "report") ∷ optional (codes "library") ∷ [];
 }
 
+abbrev pub compile_form : Form
+compile_form = record {
+  command = codes "compile";
+  options =
+      needed (codes "netlist") ∷ needed (codes "config") ∷ needed (codes "cubes")
+      ∷ needed (codes "out-netlist") ∷ needed (codes "out-patterns") ∷ needed (codes "out-report")
+      ∷ optional (codes "library") ∷ [];
+}
+
 abbrev pub forms : List Form
-forms = replay_form ∷ scan_form ∷ []
+forms = replay_form ∷ scan_form ∷ compile_form ∷ []
 
 -- ---- what `clap` is told
 
@@ -107,10 +116,37 @@ scan_from _ _ _ _ _ = None
 abbrev pub scan_in : List Row → Option ScanFiles
 scan_in rows = scan_from (perhaps_in (codes "library") rows) (value_in (codes "netlist") rows) (value_in (codes "config") rows) (value_in (codes "out") rows) (value_in (codes "report") rows)
 
+abbrev pub outputs_differ : CompileFiles → Bool
+outputs_differ files =
+    if bytes_eq files.out_netlist files.out_patterns then false
+    else (if bytes_eq files.out_netlist files.out_report then false else not (bytes_eq files.out_patterns files.out_report))
+
+abbrev pub where_outputs_differ : CompileFiles → Option CompileFiles
+where_outputs_differ files = if outputs_differ files then Some files else None
+
+-- the files that a compilation loads, and those that it saves
+abbrev pub compile_from : (library : Option (Option Text)) → (netlist config cubes out_netlist out_patterns out_report : Option Text) → Option CompileFiles
+compile_from (Some library) (Some netlist) (Some config) (Some cubes) (Some out_netlist) (Some out_patterns) (Some out_report) = where_outputs_differ (record {
+  library = library;
+  netlist = netlist;
+  config = config;
+  cubes = cubes;
+  out_netlist = out_netlist;
+  out_patterns = out_patterns;
+  out_report = out_report;
+})
+compile_from _ _ _ _ _ _ _ = None
+
+abbrev pub compile_in : List Row → Option CompileFiles
+compile_in rows =
+    compile_from (perhaps_in (codes "library") rows) (value_in (codes "netlist") rows) (value_in (codes "config") rows) (value_in (codes "cubes") rows)
+    (value_in (codes "out-netlist") rows) (value_in (codes "out-patterns") rows) (value_in (codes "out-report") rows)
+
 abbrev pub command_from : (name : Text) → List Row → Option Command
 command_from name rows =
     if bytes_eq name (codes "replay") then option_map Replay (replay_in rows)
-    else (if bytes_eq name (codes "scan") then option_map Scan (scan_in rows) else None)
+    else (if bytes_eq name (codes "scan") then option_map Scan (scan_in rows)
+    else (if bytes_eq name (codes "compile") then option_map Compile (compile_in rows) else None))
 
 abbrev pub command_in : Option (Text × List Row) → Option Command
 command_in None = None

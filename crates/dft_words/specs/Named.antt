@@ -4,6 +4,7 @@ use Rattle.dft_words.specs.declared.commands.Command.{Command}
 use Rattle.dft_words.specs.declared.commands.Command.TheVariants as command
 use Rattle.dft_words.specs.declared.commands.ReplayFiles.{ReplayFiles}
 use Rattle.dft_words.specs.declared.commands.ScanFiles.{ScanFiles}
+use Rattle.dft_words.specs.declared.commands.CompileFiles.{CompileFiles}
 use Rattle.dft_words.specs.Words as words
 
 abbrev pub replay_files_of : ReplayFiles → words.ReplayFiles
@@ -18,6 +19,18 @@ scan_files_of files = record {
   report = files.report.now;
 }
 
+abbrev pub compile_files_of : CompileFiles → words.CompileFiles
+compile_files_of files = record {
+  library = option_map (λ name. name.now) files.library;
+  netlist = files.netlist.now;
+  config = files.config.now;
+  cubes = files.cubes.now;
+  out_netlist = files.out_netlist.now;
+  out_patterns = files.out_patterns.now;
+  out_report = files.out_report.now;
+}
+
 abbrev pub command_of : Command → words.Command
 command_of (command.Replay files) = words.Replay (replay_files_of files)
 command_of (command.Scan files) = words.Scan (scan_files_of files)
+command_of (command.Compile files) = words.Compile (compile_files_of files)

@@ -91,13 +91,40 @@ scan_options files =
 abbrev pub IsScan : List Text → ScanFiles → Type 0
 IsScan words files = IsCommand (codes "scan") (scan_options files) words × (files.out ≡ files.report → ⊥)
 
+-- the files of a compilation
+pub record CompileFiles : Type 0 where
+  pub library : Option Text
+  pub netlist : Text
+  pub config : Text
+  pub cubes : Text
+  pub out_netlist : Text
+  pub out_patterns : Text
+  pub out_report : Text
+
+abbrev pub compile_options : CompileFiles → List Valued
+compile_options files =
+    (codes "netlist", Some files.netlist) ∷ (codes "config", Some files.config) ∷ (codes "cubes", Some files.cubes)
+    ∷ (codes "out-netlist", Some files.out_netlist) ∷ (codes "out-patterns", Some files.out_patterns) ∷ (codes "out-report", Some files.out_report)
+    ∷ (codes "library", files.library) ∷ []
+
+-- the three files that a compilation saves have different names
+pub record OutputsDiffer (files : CompileFiles) : Type 0 where
+  pub patterns : files.out_netlist ≡ files.out_patterns → ⊥
+  pub report : files.out_netlist ≡ files.out_report → ⊥
+  pub both : files.out_patterns ≡ files.out_report → ⊥
+
+abbrev pub IsCompile : List Text → CompileFiles → Type 0
+IsCompile words files = IsCommand (codes "compile") (compile_options files) words × OutputsDiffer files
+
 pub data Command : Type 0 where
   Replay : ReplayFiles → Command
   Scan : ScanFiles → Command
+  Compile : CompileFiles → Command
 
 abbrev pub IsFor : List Text → Command → Type 0
 IsFor words (Replay files) = IsReplay words files
 IsFor words (Scan files) = IsScan words files
+IsFor words (Compile files) = IsCompile words files
 
 -- what words are: a command on these files, or no command
 abbrev pub AreFor : List Text → Option Command → Type 0

@@ -18,9 +18,22 @@ pub struct ScanFiles<'a> {
     pub report: &'a str,
 }
 
+/// The files that the words of a compilation name: four that are read, and three that are saved.
+#[derive(Clone, Copy, Debug)]
+pub struct CompileFiles<'a> {
+    pub library: Option<&'a str>,
+    pub netlist: &'a str,
+    pub config: &'a str,
+    pub cubes: &'a str,
+    pub out_netlist: &'a str,
+    pub out_patterns: &'a str,
+    pub out_report: &'a str,
+}
+
 /// A command with its files.
 #[derive(Clone, Copy, Debug)]
 pub enum Command<'a> {
     Replay(ReplayFiles<'a>),
     Scan(ScanFiles<'a>),
+    Compile(CompileFiles<'a>),
 }

@@ -4,10 +4,11 @@ ghost use Rattle.std.specs.Prelude.{◌≡◌, option_map};
 ghost use Rattle.clap.specs.Words.{subcommand_rows_of};
 ghost use Rattle.clap.specs.Matches.{found_of};
 ghost use Rattle.clap.specs.Walk.{first_of, rows_of};
-ghost use Rattle.dft_words.specs.CommandLine.{command_in, perhaps_in, replay_in, scan_in, value_in};
-ghost use Rattle.dft_words.specs.Named.{command_of, replay_files_of, scan_files_of};
+ghost use Rattle.dft_words.specs.CommandLine as spec;
+ghost use Rattle.dft_words.specs.CommandLine.{command_in, compile_in, perhaps_in, replay_in, scan_in, value_in};
+ghost use Rattle.dft_words.specs.Named.{command_of, compile_files_of, replay_files_of, scan_files_of};
 
-use crate::commands::{Command, ReplayFiles, ScanFiles};
+use crate::commands::{Command, CompileFiles, ReplayFiles, ScanFiles};
 use clap::ArgMatches;
 
 /// The command with its files, where no value is empty and the outputs differ.
@@ -20,6 +21,8 @@ pub(crate) fn command_found<'a>(found: &ArgMatches<'a>) -> Option<Command<'a>>
                 Some(Command::Replay(replay_found(options)?))
             } else if name == "scan" {
                 Some(Command::Scan(scan_found(options)?))
+            } else if name == "compile" {
+                Some(Command::Compile(compile_found(options)?))
             } else {
                 None
             }
@@ -53,6 +56,35 @@ fn scan_found<'a>(found: &ArgMatches<'a>) -> Option<ScanFiles<'a>>
     } else {
         Some(files)
     }
+}
+
+fn compile_found<'a>(found: &ArgMatches<'a>) -> Option<CompileFiles<'a>>
+    ensures { option_map compile_files_of result ≡ compile_in (rows_of (found_of found.now)) }
+{
+    let files = CompileFiles {
+        library: perhaps(found, "library")?,
+        netlist: value(found, "netlist")?,
+        config: value(found, "config")?,
+        cubes: value(found, "cubes")?,
+        out_netlist: value(found, "out-netlist")?,
+        out_patterns: value(found, "out-patterns")?,
+        out_report: value(found, "out-report")?,
+    };
+    if outputs_differ(&files) {
+        Some(files)
+    } else {
+        None
+    }
+}
+
+/// The three files that are saved have different names.
+fn outputs_differ(files: &CompileFiles<'_>) -> bool
+    ensures { result ≡ spec.outputs_differ (compile_files_of files.now) }
+{
+    if files.out_netlist == files.out_patterns || files.out_netlist == files.out_report {
+        return false;
+    }
+    files.out_patterns != files.out_report
 }
 
 /// The value of an option, where it is given and not empty.

@@ -6,5 +6,5 @@ mod found;
 mod syntax;
 mod words;
 
-pub use commands::{Command, ReplayFiles, ScanFiles};
+pub use commands::{Command, CompileFiles, ReplayFiles, ScanFiles};
 pub use words::command;

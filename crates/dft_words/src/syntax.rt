@@ -24,6 +24,19 @@ pub(crate) fn matches<'a>(alloc: Global, words: &'a [String]) -> Result<ArgMatch
             "scan",
             &["netlist", "config", "out", "report"],
             &["library"],
+        )?)?
+        .subcommand(form(
+            alloc,
+            "compile",
+            &[
+                "netlist",
+                "config",
+                "cubes",
+                "out-netlist",
+                "out-patterns",
+                "out-report",
+            ],
+            &["library"],
         )?)?;
     dft.try_get_matches_from(words)
 }

@@ -1,5 +1,5 @@
 use Rattle.dft_top.proofs.Kept.{kept_for}
-use Rattle.dft_top.proofs.Promised.{passes_for, scans_for}
+use Rattle.dft_top.proofs.Promised.{compiles_for, passes_for, scans_for}
 use Rattle.dft_top.proofs.command.run.Goals as goal
 
 pub returns-in-Ok-clause-passes : goal.returns-in-Ok-clause-passes
@@ -7,6 +7,9 @@ returns-in-Ok-clause-passes g c = passes_for _ _ _ _ _ c.in-Ok.ensures c.run_com
 
 pub returns-in-Ok-clause-scans : goal.returns-in-Ok-clause-scans
 returns-in-Ok-clause-scans g c = scans_for _ _ _ _ _ c.in-Ok.ensures c.run_command.ensures
+
+pub returns-in-Ok-clause-compiles : goal.returns-in-Ok-clause-compiles
+returns-in-Ok-clause-compiles g c = compiles_for _ _ _ _ _ c.in-Ok.ensures c.run_command.ensures
 
 pub returns-in-Ok-clause-kept : goal.returns-in-Ok-clause-kept
 returns-in-Ok-clause-kept g c = kept_for _ _ _ _ _ c.in-Ok.ensures c.run_command.ensures

@@ -1,4 +1,4 @@
-use Rattle.dft_top.proofs.PassingFiles.{passing_replayed, passing_scanned}
+use Rattle.dft_top.proofs.PassingFiles.{passing_compiled, passing_replayed, passing_scanned}
 use Rattle.dft_top.proofs.laws.passing_files_are_answered.Goals as goal
 
 pub returns-clause-replayed : goal.returns-clause-replayed
@@ -6,3 +6,6 @@ returns-clause-replayed c = passing_replayed
 
 pub returns-clause-scanned : goal.returns-clause-scanned
 returns-clause-scanned c = passing_scanned
+
+pub returns-clause-compiled : goal.returns-clause-compiled
+returns-clause-compiled c = passing_compiled

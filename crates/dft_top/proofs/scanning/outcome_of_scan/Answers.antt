@@ -1,4 +1,5 @@
-use Rattle.std.proofs.Common.{◌≡◌, ◌∙◌, Err, refl, rules}
+use Rattle.std.proofs.Common.{◌≡◌, ◌∙◌, inl, inr, Err, refl, rules}
+use Rattle.dft_top.specs.declared.stop.Stop.TheVariants.{ReadFault}
 use Rattle.dft_words.specs.Named.{scan_files_of}
 use Rattle.dft_scan.specs.Refusals.{refusal}
 use Rattle.dft_top.specs.Checks.{ConfigGives, LibraryGives, NetlistGives}
@@ -37,3 +38,8 @@ returns-clause-outcome g c =
     (value_then (ConfigGives files.config) (ScanOn files cells) held _ config _ c.load_library.ensures.held c.in_ok-config.ensures.gives
     (value_then (λ h. NetlistGives cells files.netlist h) (λ h n. IsOutcomeOfScanOf n config (refusal n config)) held _ design _ (c.load_config.ensures.held ∙ c.load_library.ensures.held) c.in_ok-design.ensures.gives
     (comes_told (IsOutcomeOfScanOf design config (refusal design config)) held _ c.outcome_of_design.ensures.outcome)))
+
+pub returns-in_err-design-clause-loaded : goal.returns-in_err-design-clause-loaded
+returns-in_err-design-clause-loaded g c = λ is.
+    let fails : c.load_netlist.result ≡ Err ReadFault = search rules in
+    inr (c.in_ok-library.library, inr (c.in_ok-config.config, inl (c.load_netlist.ensures.fault fails).1))

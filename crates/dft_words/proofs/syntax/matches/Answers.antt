@@ -8,8 +8,10 @@ use Rattle.dft_words.proofs.syntax.matches.Goals as goal
 pub returns : goal.returns
 returns c =
     let plain_is : app_of c.subcommand_required.result ≡ plain_app = search rules in
-    let dft_is : app_of c.in_ok-dft.dft ≡ dft_app = c.in_ok-dft.ensures.shape c.in_ok-form-2.ensures.local
-    ∙ ap₂ with_subcommand (c.in_ok-subcommand.ensures.shape c.in_ok-form.ensures.local ∙ ap₂ with_subcommand plain_is (ap (λ (a : App). a.top) c.in_ok-form.ensures.app)) (ap (λ (a : App). a.top) c.in_ok-form-2.ensures.app) in
+    let dft_is : app_of c.in_ok-dft.dft ≡ dft_app = c.in_ok-dft.ensures.shape c.in_ok-form-3.ensures.local
+    ∙ ap₂ with_subcommand (c.in_ok-subcommand-2.ensures.shape c.in_ok-form-2.ensures.local
+    ∙ ap₂ with_subcommand (c.in_ok-subcommand.ensures.shape c.in_ok-form.ensures.local ∙ ap₂ with_subcommand plain_is (ap (λ (a : App). a.top) c.in_ok-form.ensures.app)) (ap (λ (a : App). a.top) c.in_ok-form-2.ensures.app))
+    (ap (λ (a : App). a.top) c.in_ok-form-3.ensures.app) in
     let texts : List Text = map (string_bytes {Z = Global}) c.args.words.now in
     let parse = c.try_get_matches_from in
     record {

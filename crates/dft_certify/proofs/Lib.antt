@@ -1,0 +1,5 @@
+pub mod ParityLemmas
+pub mod ListLemmas
+pub mod SumLemmas
+pub mod ExactLemmas
+pub mod NeverLemmas

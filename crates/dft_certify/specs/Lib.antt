@@ -1,0 +1,4 @@
+pub use Rattle.dft_outcomes.specs.Outcomes
+pub use Rattle.dft_outcomes.specs.Sums
+pub mod Certifying
+pub mod Laws

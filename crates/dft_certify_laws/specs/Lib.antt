@@ -1,0 +1,2 @@
+pub mod InRuns
+pub mod Written

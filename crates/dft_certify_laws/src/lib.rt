@@ -1,0 +1,6 @@
+//! Laws of certified reports in runs, and of the reports that compilations write.
+#![tactic(auto)]
+
+mod laws;
+
+pub use laws::{certified_in_runs, written_certifies};

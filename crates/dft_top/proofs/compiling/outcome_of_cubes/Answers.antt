@@ -1,0 +1,15 @@
+use Rattle.std.proofs.Common.{subst, sym}
+use Rattle.dft_top.specs.Outcomes.{IsOutcomeOfCubes}
+use Rattle.dft_top.proofs.CompileLemmas.{compiled_is, refused_is}
+use Rattle.dft_top.proofs.compiling.outcome_of_cubes.Goals as goal
+
+pub returns-in-Ok-clause-outcome : goal.returns-in-Ok-clause-outcome
+returns-in-Ok-clause-outcome c =
+    let n = c.args.design.now in
+    let config = c.args.config.now in
+    let cubes = c.args.cubes.now in
+    subst (IsOutcomeOfCubes n config cubes) (sym c.outcome_of.ensures) (compiled_is n config cubes c.in-Ok.texts c.in-Ok.ensures.compile c.in-Ok.ensures.reads)
+
+pub returns-in_ok-compile_refusal-in-Err-clause-outcome : goal.returns-in_ok-compile_refusal-in-Err-clause-outcome
+returns-in_ok-compile_refusal-in-Err-clause-outcome c =
+    refused_is c.args.design.now c.args.config.now c.args.cubes.now c.in-Err.error c.in_ok-compile_refusal-in-Err.field-0 c.in-Err.ensures.refused c.in_ok-compile_refusal-in-Err.ensures

@@ -1,0 +1,139 @@
+//! The outcome of a compilation: the texts of a scanned netlist behind compression hardware, of its patterns and of its report.
+
+ghost use Rattle.std.specs.Prelude.{◌≡◌, Err, Some};
+ghost use Rattle.dft_files.specs.Outside.{Rose, Told};
+ghost use Rattle.dft_config.specs.Range.{IsInRange};
+ghost use Rattle.dft_compile.specs.Prepared.{IsPrepared};
+ghost use Rattle.dft_verilog_out.specs.Named.{GatesAreJoined};
+ghost use Rattle.dft_words.specs.Named.{compile_files_of};
+ghost use Rattle.dft_words.specs.Words as words;
+ghost use Rattle.dft_top.specs.Checks.{AreFew, DesignGives};
+ghost use Rattle.dft_top.specs.Courses.{Loads, Reaches, TurnComes};
+ghost use Rattle.dft_top.specs.Outcomes.{HasTurn, IsLoaded, course_of_compile, course_of_cubes, course_of_design, IsOutcomeOfCubes};
+ghost use Rattle.dft_top.specs.Run.{IsOfCompile};
+ghost use Rattle.dft_top.specs.Stops.{ComesTo, IsGiven};
+
+use crate::loading::{load_config, load_cubes, load_library, load_netlist};
+use crate::outcome::Outcome;
+use crate::refusing::compile_refusal;
+use crate::stop::Stop;
+use dft_compile::{CompileTexts, Prepared, compile, prepare};
+use dft_config::{Config, Listed};
+use dft_cubes::Cube;
+use dft_files::Files;
+use dft_netlist::Design;
+use dft_words::CompileFiles;
+use std::alloc::Global;
+
+/// What a compilation of the named files comes to: the library comes first, where one is named, then the configuration, then the
+/// netlist with the checks of its design, then the cubes, and then the checks of what is made of them.
+pub fn outcome_of_compile<F: Files>(
+    alloc: Global,
+    names: CompileFiles<'_>,
+    files: &mut F,
+) -> Result<Outcome, Stop>
+    ensures outcome { ComesTo (λ o. Told (λ h. Reaches (course_of_compile (compile_files_of names.entry)) h o) (F.held files.old)) result }
+    ensures suits { ComesTo IsOfCompile result }
+    ensures rose { result ≡ Err Stop.ReadFault → Rose (F.read_faults files.old) (F.read_faults files.new) }
+    ensures loaded { result ≡ Err Stop.ReadFault → IsLoaded (Some (words.Compile (compile_files_of names.entry))) (F.failed files.new) }
+    ensures turn { result ≡ Err Stop.ReadFault → Told (λ h. HasTurn (Some (words.Compile (compile_files_of names.entry))) h
+        (F.failed files.new)) (F.held files.old) }
+    ensures held { F.held files.new ≡ F.held files.old }
+    ensures saves { F.write_faults files.new ≡ F.write_faults files.old }
+{
+    let library = load_library(alloc, files, names.library)?;
+    let config = load_config(alloc, files, names.config)?;
+    let design = load_netlist(alloc, files, names.netlist, library)?;
+    outcome_of_design(alloc, &design, &config, names.cubes, files)
+}
+
+/// The outcome of a compilation of the design: it is prepared, and then the named cubes are loaded.
+fn outcome_of_design<F: Files>(
+    alloc: Global,
+    design: &Design,
+    config: &Config,
+    cubes: &str,
+    files: &mut F,
+) -> Result<Outcome, Stop>
+    requires range { IsInRange config.now }
+    requires joined { GatesAreJoined design.now }
+    ensures outcome { ComesTo (λ o. Told (λ h. Reaches (course_of_design design.now config.now cubes.now) h o) (F.held files.old)) result }
+    ensures suits { ComesTo IsOfCompile result }
+    ensures rose { result ≡ Err Stop.ReadFault → Rose (F.read_faults files.old) (F.read_faults files.new) }
+    ensures loaded { result ≡ Err Stop.ReadFault → Loads (course_of_design design.now config.now cubes.now) (F.failed files.new) }
+    ensures turn { result ≡ Err Stop.ReadFault → Told (λ h. TurnComes (course_of_design design.now config.now cubes.now) h
+        (F.failed files.new)) (F.held files.old) }
+    ensures held { F.held files.new ≡ F.held files.old }
+    ensures saves { F.write_faults files.new ≡ F.write_faults files.old }
+{
+    let prepared = prepared(alloc, design, config)?;
+    outcome_with(alloc, design, config, &prepared, cubes, files)
+}
+
+/// The design with its chains, behind compression hardware, where no check refuses it.
+fn prepared(alloc: Global, design: &Design, config: &Config) -> Result<Prepared, Stop>
+    requires { IsInRange config.now }
+    ensures { IsGiven (DesignGives design.now config.now) result }
+{
+    match prepare(alloc, design, config) {
+        Ok(prepared) => Ok(prepared),
+        Err(error) => Err(Stop::Refused(compile_refusal(alloc, error)?)),
+    }
+}
+
+/// The outcome of a compilation of the named cubes, for a design that is prepared.
+fn outcome_with<F: Files>(
+    alloc: Global,
+    design: &Design,
+    config: &Config,
+    prepared: &Prepared,
+    cubes: &str,
+    files: &mut F,
+) -> Result<Outcome, Stop>
+    requires range { IsInRange config.now }
+    requires joined { GatesAreJoined design.now }
+    requires prepared { IsPrepared design.now config.now prepared.now }
+    ensures outcome { ComesTo (λ o. Told (λ h. Reaches (course_of_cubes design.now config.now cubes.now) h o) (F.held files.old)) result }
+    ensures suits { ComesTo IsOfCompile result }
+    ensures rose { result ≡ Err Stop.ReadFault → Rose (F.read_faults files.old) (F.read_faults files.new) }
+    ensures loaded { result ≡ Err Stop.ReadFault → cubes.now ≡ F.failed files.new }
+    ensures held { F.held files.new ≡ F.held files.old }
+    ensures saves { F.write_faults files.new ≡ F.write_faults files.old }
+{
+    let cubes = load_cubes(alloc, files, cubes, design, config)?;
+    outcome_of_cubes(alloc, design, config, prepared, cubes.as_slice())
+}
+
+/// The outcome of a compilation of cubes.
+fn outcome_of_cubes(
+    alloc: Global,
+    design: &Design,
+    config: &Config,
+    prepared: &Prepared,
+    cubes: &[Cube],
+) -> Result<Outcome, Stop>
+    requires range { IsInRange config.now }
+    requires joined { GatesAreJoined design.now }
+    requires prepared { IsPrepared design.now config.now prepared.now }
+    requires few { AreFew cubes.now }
+    ensures outcome { ComesTo (IsOutcomeOfCubes design.now config.now cubes.now) result }
+    ensures suits { ComesTo IsOfCompile result }
+    ensures quiet { result ≡ Err Stop.ReadFault → ⊥ }
+{
+    match compile(alloc, design, config, prepared, cubes) {
+        Ok(texts) => Ok(outcome_of(texts)),
+        Err(error) => Err(Stop::Refused(compile_refusal(alloc, error)?)),
+    }
+}
+
+/// The outcome with these texts and counts.
+fn outcome_of(texts: CompileTexts) -> Outcome
+    ensures { result ≡ Outcome.Compiled texts.counts texts.netlist.items texts.patterns.items texts.report.items }
+{
+    Outcome::Compiled {
+        counts: texts.counts,
+        netlist: Listed::from_vec(texts.netlist),
+        patterns: Listed::from_vec(texts.patterns),
+        report: Listed::from_vec(texts.report),
+    }
+}
