@@ -179,10 +179,12 @@ fn load_of(alloc: Global, job: &Job<'_>, row: &[u64]) -> Result<Vec<bool>, Alloc
     }
 }
 
+fn is_listed(chains: &[u16], chain: u16) -> bool {
+    chains.iter().any(|other| *other == chain)
+}
+
 // For each of the chains whether it is always masked.
-fn always_masked(alloc: Global, config: &Config, chains: u16) -> Result<Vec<bool>, AllocError>
-    ensures { IfOk result (λ always. length always.items ≡ chains) }
-{
+fn always_masked(alloc: Global, config: &Config, chains: u16) -> Result<Vec<bool>, AllocError> {
     let mut always = Vec::with_capacity(alloc, usize::from(chains))?;
     for chain in 0..chains {
         let masked = config
@@ -213,6 +215,9 @@ fn push_unload(
     }
     let always = always_masked(alloc, job.config, job.chains.count())?;
     let always = always.as_slice();
+    if always.len() != usize::from(job.chains.count()) {
+        return line.push('?');
+    }
     let policy = MaskPolicy::new(
         |chain: u32, unknown: bool| -> bool
             requires { chain < length always.now }
@@ -221,6 +226,9 @@ fn push_unload(
     );
     let masks = masks(alloc, &policy, job.chains, response)?;
     push_bits(line, &masks)?;
+    if masks.len() != usize::from(job.chains.count()) {
+        return line.push('?');
+    }
     let expected = expected(alloc, job.config, job.chains, response, &masks, next)?;
     push_bits(line, &expected)
 }

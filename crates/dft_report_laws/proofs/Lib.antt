@@ -1,0 +1,5 @@
+pub mod Numbers
+pub mod Lines
+pub mod Saying
+pub mod Bringing
+pub mod Whole

@@ -1,0 +1,6 @@
+//! Laws of reports.
+#![tactic(auto)]
+
+mod laws;
+
+pub use laws::written_is_read;
