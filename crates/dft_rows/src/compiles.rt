@@ -160,15 +160,7 @@ static COMPILED: [(&str, &str, &str, &str, &str, &str, &str); 10] = [
         "edt report 1\ncells 3 chains 3 cycles 3 variables 3\nchain 0 length 1\nchain 1 length 1\nchain 2 length 1\n",
         "scanned f0 clk chain 0 place 0\nscanned f1 clk chain 1 place 0\nscanned f2 clk chain 2 place 0\n",
     ),
-    (
-        TWO,
-        COLD,
-        THREE_CHAINS,
-        "",
-        "refused G3 2 3\n",
-        "-",
-        "",
-    ),
+    (TWO, COLD, THREE_CHAINS, "", "refused G3 2 3\n", "-", ""),
 ];
 
 // The bytes of a file, or a stroke where there is none.
@@ -189,7 +181,11 @@ fn compilations_are_told_by_a_line_and_a_report(rt: HostRuntime) -> Result<(), F
         let texts = ("", *netlist, config.as_str(), *cubes);
         let mut files = shelf(rt.alloc(), texts, Vec::new(rt.alloc()))?;
         let end = ran(rt.alloc(), &COMPILE, &mut files, None)?;
-        assert_eq!(rt; end.line.as_slice(), line.as_bytes(), "at {cubes} under {config}");
+        assert_eq!(rt;
+            end.line.as_slice(),
+            line.as_bytes(),
+            "at {cubes} under {config}"
+        );
         assert_eq!(rt;
             text_of(&files, "r"),
             report.as_bytes(),
@@ -205,10 +201,16 @@ static REFUSED: [(&str, &str); 12] = [
     ("cube k clk\ncell f2 2\n", "refused Q1 2:1\n"),
     ("cube k clk\ncell g0 1\nend\n", "refused Q2 2:1 g0\n"),
     ("cube k clk\nport y 1\nend\n", "refused Q3 2:1 y\n"),
-    ("cube k clk\nport edt_in0 1\nend\n", "refused Q3 2:1 edt_in0\n"),
+    (
+        "cube k clk\nport edt_in0 1\nend\n",
+        "refused Q3 2:1 edt_in0\n",
+    ),
     ("cube k a\nend\n", "refused Q4 1:1 a\n"),
     ("cube k clk\nend\n\ncube k clk\n", "refused Q5 4:1 k\n"),
-    ("cube k clk\ncell f2 1\ncell f2 0\nend\n", "refused Q6 3:1 f2\n"),
+    (
+        "cube k clk\ncell f2 1\ncell f2 0\nend\n",
+        "refused Q6 3:1 f2\n",
+    ),
     ("cube k clk\nport a 1\nport a 1\n", "refused Q6 3:1 a\n"),
     ("cube k clk\ncell f2 1\n", "refused Q7 3:1\n"),
     ("cube k clk", "refused Q7 1:1\n"),
@@ -317,9 +319,18 @@ fn faults_of_a_compilation_leave_whole_files_and_a_prefix(rt: HostRuntime) -> Re
         let end = ran(rt.alloc(), &COMPILE, &mut files, Some(*put))?;
         assert_eq!(rt; end.status, *status, "at call {call} and put {put}");
         assert!(rt; end.line.is_empty(), "at call {call} and put {put}");
-        assert!(rt; is_left(text_of(&files, "o"), *netlist, text_of(&whole, "o")), "at call {call}");
-        assert!(rt; is_left(text_of(&files, "v"), *vectors, text_of(&whole, "v")), "at call {call}");
-        assert!(rt; is_left(text_of(&files, "r"), *report, text_of(&whole, "r")), "at call {call}");
+        assert!(rt;
+            is_left(text_of(&files, "o"), *netlist, text_of(&whole, "o")),
+            "at call {call}"
+        );
+        assert!(rt;
+            is_left(text_of(&files, "v"), *vectors, text_of(&whole, "v")),
+            "at call {call}"
+        );
+        assert!(rt;
+            is_left(text_of(&files, "r"), *report, text_of(&whole, "r")),
+            "at call {call}"
+        );
     }
     Ok(())
 }
