@@ -5,7 +5,6 @@ pub mod Readings
 pub mod CubeCounts
 pub mod CompiledOnce
 pub mod CompileLemmas
-pub mod ToldRight
 pub mod OneOutcome
 pub mod PassingFiles
 pub mod Promised

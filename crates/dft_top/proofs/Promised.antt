@@ -23,6 +23,9 @@ use Rattle.dft_scan.specs.Refusals.{refusal}
 use Rattle.dft_scan.specs.Scans.{netlist_text, report_text}
 use Rattle.dft_stitch.specs.Chains.{plan_of}
 use Rattle.dft_cubes.specs.declared.cube.Cube.{Cube}
+use Rattle.dft_cubes.specs.Laws.{AreCubes}
+use Rattle.dft_cubes.proofs.SoundLemmas.{cubes_sound}
+use Rattle.dft_compile_laws.specs.Holding.{CompilationsHold}
 use Rattle.dft_vectors.specs.PatternData.{PatternData}
 use Rattle.dft_encode.specs.Compiled.{Placing}
 use Rattle.dft_compile.specs.declared.error.CompileError.{CompileError}
@@ -35,10 +38,10 @@ use Rattle.dft_top.specs.declared.answer.Refusal.{Refusal}
 use Rattle.dft_top.specs.declared.answer.Status.TheVariants.{Done}
 use Rattle.dft_top.specs.declared.outcome.Outcome.{Outcome}
 use Rattle.dft_top.specs.declared.outcome.Outcome.TheVariants as outcome
-use Rattle.dft_top.specs.declared.limits.TheConstants.{MAX_NETLIST_BYTES}
+use Rattle.dft_top.specs.declared.limits.TheConstants.{MAX_CUBE_BYTES, MAX_NETLIST_BYTES}
 use Rattle.dft_top.specs.Answers.{status_of}
 use Rattle.dft_top.specs.Refusals.{compile_refusal, scan_refusal}
-use Rattle.dft_top.specs.Checks.{After, ConfigGives, CubesGive, DesignGives, IsDesignOf, LibraryGives, NetlistGives, NetlistText, PatternsGive, Then}
+use Rattle.dft_top.specs.Checks.{After, ConfigGives, CubeText, CubesGive, DesignGives, IsDesignOf, LibraryGives, NetlistGives, NetlistText, PatternsGive, Then}
 use Rattle.dft_top.specs.Courses.{Reaches}
 use Rattle.dft_top.specs.Outcomes.{course_of_compile, course_of_replay, course_of_scan, IsCompiled, IsOutcomeOfCubes, IsOutcomeOfPlacing, IsOutcomeOfScanOf, IsOutcomeOn, IsRefusal, IsScanned, outcome_of, refusal_of}
 use Rattle.dft_top.specs.Promises.{Compiles, EveryRunShows, Passes, Scans}
@@ -47,7 +50,6 @@ use Rattle.dft_top.specs.Saves.{AreSaved, HaveSaved, Saving, compile_savings, sa
 use Rattle.dft_top.proofs.Readings.{text_of}
 use Rattle.dft_top.proofs.Steps.{CompileOf, CompileOn, CompileOver, CompileWith, ReplayOn, ReplayOver, ScanOn, ScanOver}
 use Rattle.dft_top.proofs.SavesInTurn.{differ}
-use Rattle.dft_top.proofs.ToldRight.{told_right}
 
 not_done : (refusal : Refusal) (o : Outcome) → o ≡ outcome.Refused refusal → status_of o ≡ Done → ⊥
 not_done refusal o is done = let e = ap status_of is in cc
@@ -139,6 +141,10 @@ scans files old new o done h saved =
 
 -- ---- a compilation
 
+-- the cubes of a held text
+are_cubes : (n : Netlist) (c : Config) (name : List ℕ) (held : Held) (cubes : List Cube) → CubesGive n c name held (Ok cubes) → AreCubes n c cubes
+are_cubes n c name held cubes given = let text = text_of MAX_CUBE_BYTES (codes "cubes") (CubeText n c) (file_at name held) cubes given in cubes_sound n c text.0 cubes text.1
+
 placed_done : (n : Netlist) (c : Config) (cubes : List Cube) (placing : Placing c (plan_of n c) cubes) (refused : Option CompileError) (o : Outcome) → status_of o ≡ Done → IsOutcomeOfPlacing n c cubes placing refused o →
     IsCompiled n c cubes placing o
 placed_done n c cubes placing (Some error) o done h = absurd (refusal_not_done (compile_refusal error) o h done)
@@ -152,8 +158,8 @@ three_savings files n c cubes placing list =
     ∷ record { name = files.out_report; bytes = compiled.report_text n c placing.rows cubes placing.placed }
     ∷ []
 
-compiles : (files : CompileFiles) (old new : Held) (o : Outcome) → status_of o ≡ Done → Reaches (course_of_compile files) old o → HaveSaved (compile_savings files o) (Some old) (Some new) → Compiles files old new
-compiles files old new o done h saved =
+compiles : CompilationsHold → (files : CompileFiles) (old new : Held) (o : Outcome) → status_of o ≡ Done → Reaches (course_of_compile files) old o → HaveSaved (compile_savings files o) (Some old) (Some new) → Compiles files old new
+compiles hold files old new o done h saved =
     let x = then_done (LibraryGives files.library old) (CompileOver files old) o done h in
     let y = then_done (ConfigGives files.config old) (CompileOn files x.0 old) o done x.1.1 in
     let c = y.0 in
@@ -190,7 +196,7 @@ compiles files old new o done h saved =
       agrees = agrees_off Edt n c ready;
       loads = λ ports suits. (loads_reach n c ports ready suits).0;
       unloads = λ ports suits. (unloads_show n c ports ready suits).0;
-      told = told_right n c cubes placing ready;
+      holds = hold n c p.1.0.order cubes placing is.list ready p.1.0.sound p.1.0.ordered p.1.0.named (are_cubes n c files.cubes old cubes u.1.0) is.are;
     }
 
 -- ---- of a run
@@ -259,10 +265,10 @@ compile_lost files old (outcome.Undetermined vector signal) done suits saved = s
 compile_lost files old (outcome.Scanned counts netlist report) done suits saved = suits
 compile_lost files old (outcome.Compiled counts netlist patterns report) done suits saved = saved
 
-told_compiles : (files : CompileFiles) (held held' : Option Held) (o : Outcome) → status_of o ≡ Done → Told (λ h. Reaches (course_of_compile files) h o) held → IsOfCompile o → HaveSaved (compile_savings files o) held held' → ToldChange (Compiles files) held held'
-told_compiles files None held' o done told suits saved = compile_untold files held' o done suits saved
-told_compiles files (Some old) None o done told suits saved = compile_lost files old o done suits saved
-told_compiles files (Some old) (Some new) o done told suits saved = compiles files old new o done told saved
+told_compiles : CompilationsHold → (files : CompileFiles) (held held' : Option Held) (o : Outcome) → status_of o ≡ Done → Told (λ h. Reaches (course_of_compile files) h o) held → IsOfCompile o → HaveSaved (compile_savings files o) held held' → ToldChange (Compiles files) held held'
+told_compiles hold files None held' o done told suits saved = compile_untold files held' o done suits saved
+told_compiles hold files (Some old) None o done told suits saved = compile_lost files old o done suits saved
+told_compiles hold files (Some old) (Some new) o done told suits saved = compiles hold files old new o done told saved
 
 -- of words that are for a command
 pub passes_for : (words : List (List ℕ)) (command : Option Command) (before after : Seen) (answer : Answer) → AreFor words command → EndsFor command before after answer → PassesTold words before.held answer
@@ -277,8 +283,8 @@ scans_for words command before after answer are ended files is done =
     let d = ends_done (Some (Scan files)) before after answer ends done in
     told_scans files before.held after.held d.o d.done d.told.told d.told.suits d.saved
 
-pub compiles_for : (words : List (List ℕ)) (command : Option Command) (before after : Seen) (answer : Answer) → AreFor words command → EndsFor command before after answer → CompilesTold words before.held after.held answer
-compiles_for words command before after answer are ended files is done =
+pub compiles_for : CompilationsHold → (words : List (List ℕ)) (command : Option Command) (before after : Seen) (answer : Answer) → AreFor words command → EndsFor command before after answer → CompilesTold words before.held after.held answer
+compiles_for hold words command before after answer are ended files is done =
     let ends = subst (λ (command : Option Command). EndsFor command before after answer) (for_once words command (Some (Compile files)) are is) ended in
     let d = ends_done (Some (Compile files)) before after answer ends done in
-    told_compiles files before.held after.held d.o d.done d.told.told d.told.suits d.saved
+    told_compiles hold files before.held after.held d.o d.done d.told.told d.told.suits d.saved

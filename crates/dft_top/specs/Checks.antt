@@ -26,6 +26,9 @@ use Rattle.dft_cubes.specs.declared.error.CubeError.{CubeError}
 use Rattle.dft_cubes.specs.Cubes.{cubes_of}
 use Rattle.dft_cubes.specs.Cubes as cubes
 use Rattle.dft_scan_frame.specs.Statements.{IsReady}
+use Rattle.dft_scan_hardware.specs.declared.style.Style.TheVariants.{Edt}
+use Rattle.dft_scan_hardware.specs.Statements.{scanned}
+use Rattle.dft_pass_laws.specs.Formed.{ArePortsNamed}
 use Rattle.dft_compile.specs.declared.error.CompileError.{CompileError}
 use Rattle.dft_compile.specs.declared.prepared.Prepared.{Prepared}
 use Rattle.dft_compile.specs.Prepared.{IsPrepared}
@@ -108,12 +111,17 @@ PatternsGive name held r = FileGives MAX_PATTERN_BYTES (codes "patterns") Patter
 
 -- ---- a design, before its cubes are read
 
--- the design as it is prepared, which no check refuses; a refusal is that of the first check that fails
+-- the design as it is prepared, which no check refuses, and whose ports have names; the nets of its scanned netlist have an order
 pub record IsReadied (n : Netlist) (config : Config) (p : Prepared) : Type 0 where
   pub is : IsPrepared n config p
   pub ready : IsReady n config
+  pub named : ArePortsNamed n
   pub accepted : first_refusal n config ≡ None
+  pub sound : IsNetlist (scanned Edt n config)
+  pub order : List ℕ
+  pub ordered : IsOrder (scanned Edt n config) order
 
+-- a refusal is that of the first check that fails
 abbrev pub DesignGives : Netlist → Config → Result Prepared Refusal → Type 0
 DesignGives n config (Ok p) = IsReadied n config p
 DesignGives n config (Err refusal) = (error : CompileError) × ((first_refusal n config ≡ Some error) × (compile_refusal error ≡ Some refusal))

@@ -1,9 +1,8 @@
 -- What Done promises of a command.
-use Rattle.std.specs.Prelude.{ℕ, ◌≡◌, ◌↔◌, List, None, Some, Ok, slice_get}
+use Rattle.std.specs.Prelude.{ℕ, ◌≡◌, List, None, Some, Ok}
 use Rattle.dft_files.specs.Outside.{Held, file_at}
 use Rattle.dft_cells.specs.declared.cell.Cell.{Cell}
 use Rattle.dft_config.specs.declared.config.Config.{Config}
-use Rattle.dft_config.specs.Ring.{Table}
 use Rattle.dft_netlist.specs.Netlist.{Netlist}
 use Rattle.dft_netlist.specs.Logic.{Ports}
 use Rattle.dft_netlist_text.specs.NetlistText.{StandsFor}
@@ -24,15 +23,10 @@ use Rattle.dft_scan_facts.specs.EdtVectors.{SuitsEdt}
 use Rattle.dft_scan_facts.specs.Experiments.{LoadsInRuns, UnloadsInRuns}
 use Rattle.dft_stitch.specs.Chains.{plan_of}
 use Rattle.dft_cubes.specs.declared.cube.Cube.{Cube}
-use Rattle.dft_merge.specs.declared.placed.Placed.{Placed}
-use Rattle.dft_merge.specs.declared.placed.Placed.TheVariants.{Into}
-use Rattle.dft_merge.specs.Laws.{IsUnsolvable}
-use Rattle.dft_merge.specs.Placement.{first_unscanned}
 use Rattle.dft_vectors.specs.PatternData.{PatternData}
-use Rattle.dft_equations.specs.LoadRows.{LoadRows}
 use Rattle.dft_encode.specs.Compiled.{ArePatterns, Placing}
-use Rattle.dft_load_laws.specs.Loading.{LoadsAlways, LoadsOnce, rows_of as rows_in}
 use Rattle.dft_compile.specs.Texts as compiled
+use Rattle.dft_compile_laws.specs.Holding.{HoldsOf}
 use Rattle.dft_words.specs.Words.{ReplayFiles, ScanFiles, CompileFiles}
 use Rattle.dft_top.specs.Checks.{LibraryGives, ConfigGives, NetlistGives, PatternsGive, CubesGive}
 
@@ -76,21 +70,11 @@ pub record Scans (files : ScanFiles) (old new : Held) : Type 0 where
 
 -- ---- a compilation
 
--- A cube of scanned cells is told unsolvable exactly where no table of channel bits loads it, in any run; and some table loads one that goes
--- into a pattern, in every run. Clocks and resets are those of the configuration, with edt_clock, or any that suit them.
-pub record IsToldRight (n : Netlist) (config : Config) (rows : LoadRows) (ports : Ports) (cube : Cube) (placed : Placed) : Type 0 where
-  pub unsolvable : first_unscanned (rows_in n config rows) cube.cells ≡ None → IsUnsolvable placed ↔ ((table : Table) → LoadsOnce n config ports table cube.cells → ⊥)
-  pub loaded : (pattern : ℕ) → placed ≡ Into pattern → (table : Table) × LoadsAlways n config ports table cube.cells
-
--- so are all cubes
-abbrev pub CubesAreToldRight : Netlist → Config → LoadRows → List Cube → List Placed → Type 0
-CubesAreToldRight n config rows cubes placed =
-    (ports : Ports) (k : ℕ) (cube : Cube) (place : Placed) → SuitsEdt n config ports → slice_get cubes k ≡ Some cube → slice_get placed k ≡ Some place → IsToldRight n config rows ports cube place
-
 -- The netlist, the configuration and the cubes are those of the held texts, over the cells of the library, and the checks pass. The cubes are
 -- placed, and the scanned netlist, the patterns of the placement and its report are saved; no other file is changed. The netlist's text that
 -- is saved stands for the scanned netlist, which keeps the design, behaves as it while scan is off, and loads and unloads every table in
--- every run; and cubes are told right.
+-- every run. The patterns pass on it, and in every run each cube that is reported encoded is loaded; a cube is reported unsolvable exactly
+-- where no table of channel bits loads it in any run.
 pub record Compiles (files : CompileFiles) (old new : Held) : Type 0 where
   pub cells : List Cell
   pub library : LibraryGives files.library old (Ok cells)
@@ -117,4 +101,4 @@ pub record Compiles (files : CompileFiles) (old new : Held) : Type 0 where
   pub agrees : IsSameWhileOff Edt netlist config
   pub loads : (ports : Ports) → SuitsEdt netlist config ports → LoadsInRuns netlist config ports
   pub unloads : (ports : Ports) → SuitsEdt netlist config ports → UnloadsInRuns netlist config ports
-  pub told : CubesAreToldRight netlist config placing.rows cubes placing.placed
+  pub holds : HoldsOf netlist config cubes placing list

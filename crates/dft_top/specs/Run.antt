@@ -166,8 +166,8 @@ PassesTold words held answer = (files : ReplayFiles) → IsReplay words files �
 abbrev pub ScansTold : List (List ℕ) → (held held' : Option Held) → Answer → Type 0
 ScansTold words held held' answer = (files : ScanFiles) → IsScan words files → answer.status ≡ Done → ToldChange (Scans files) held held'
 
--- where the words are a compilation, the scanned netlist, the patterns and the report are saved: scan off it is the same design, and cubes are
--- told unsolvable exactly where no channel bits load them
+-- where the words are a compilation, the scanned netlist, the patterns and the report are saved: scan off it is the same design, the patterns pass
+-- and load the cubes that are reported encoded, and cubes are reported unsolvable exactly where no channel bits load them
 abbrev pub CompilesTold : List (List ℕ) → (held held' : Option Held) → Answer → Type 0
 CompilesTold words held held' answer = (files : CompileFiles) → IsCompile words files → answer.status ≡ Done → ToldChange (Compiles files) held held'
 

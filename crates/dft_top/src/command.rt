@@ -17,6 +17,7 @@ use crate::replaying::outcome_of_replay;
 use crate::saving::save_outcome;
 use crate::scanning::outcome_of_scan;
 use crate::stop::Stop;
+use dft_compile_laws::compilations_hold;
 use dft_files::{Files, PutError, SaveError, Sink};
 use dft_words::{Command, command};
 use std::alloc::Global;
@@ -36,8 +37,8 @@ use std::alloc::Global;
 /// Where a replay answers Done and the files are told, every run of the netlist over the patterns, whatever the starting
 /// bits, the order of clock edges and the free bits, shows each compared bit as printed. Where a scan does, the netlist
 /// that is saved keeps the design and behaves as it while scan is off, and its chains shift in every run. Where a compilation does, so
-/// does the netlist that is saved, a load brings to each cell in every run what its equation says, and a cube is reported
-/// unsolvable exactly where no channel bits load it in any run.
+/// does the netlist that is saved; the patterns that are saved pass on it, and every run over them loads each cube that is
+/// reported encoded; and a cube is reported unsolvable exactly where no channel bits load it in any run.
 pub fn run<F: Files, O: Sink>(alloc: Global, words: &[String], files: &mut F, out: &mut O) -> Answer
     ensures ends { Ends (map string_bytes words.entry.now)
         (seen (F.held files.old) (F.failed files.old) (F.read_faults files.old) (F.write_faults files.old) (O.told out.old) (O.faults out.old))
@@ -49,6 +50,7 @@ pub fn run<F: Files, O: Sink>(alloc: Global, words: &[String], files: &mut F, ou
     ensures scans { ScansTold (map string_bytes words.entry.now) (F.held files.old) (F.held files.new) result }
     ensures compiles { CompilesTold (map string_bytes words.entry.now) (F.held files.old) (F.held files.new) result }
 {
+    compilations_hold();
     match command(alloc, words) {
         Ok(command) => run_command(alloc, command, files, out),
         Err(_) => Answer::stopped(Status::OutOfMemory),

@@ -76,7 +76,10 @@ fn prepared(alloc: Global, design: &Design, config: &Config) -> Result<Prepared,
     ensures { IsGiven (DesignGives design.now config.now) result }
 {
     match prepare(alloc, design, config) {
-        Ok(prepared) => Ok(prepared),
+        Ok(prepared) => {
+            prepared.scanned.soundness();
+            Ok(prepared)
+        }
         Err(error) => Err(Stop::Refused(compile_refusal(alloc, error)?)),
     }
 }

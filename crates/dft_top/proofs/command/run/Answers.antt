@@ -9,7 +9,7 @@ pub returns-in-Ok-clause-scans : goal.returns-in-Ok-clause-scans
 returns-in-Ok-clause-scans g c = scans_for _ _ _ _ _ c.in-Ok.ensures c.run_command.ensures
 
 pub returns-in-Ok-clause-compiles : goal.returns-in-Ok-clause-compiles
-returns-in-Ok-clause-compiles g c = compiles_for _ _ _ _ _ c.in-Ok.ensures c.run_command.ensures
+returns-in-Ok-clause-compiles g c = compiles_for c.compilations_hold.ensures _ _ _ _ _ c.in-Ok.ensures c.run_command.ensures
 
 pub returns-in-Ok-clause-kept : goal.returns-in-Ok-clause-kept
 returns-in-Ok-clause-kept g c = kept_for _ _ _ _ _ c.in-Ok.ensures c.run_command.ensures
