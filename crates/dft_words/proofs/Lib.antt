@@ -6,4 +6,6 @@ pub mod Rows
 pub mod Walks
 pub mod FirstWords
 pub mod Taken
+pub mod Values
+pub mod JobWords
 pub mod Understood

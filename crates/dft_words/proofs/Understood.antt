@@ -1,5 +1,5 @@
 -- What `clap` makes of a command line is what the words are for.
-use Rattle.std.proofs.Common.{◌≡◌, Bool, true, false, true≢false, not, List, [], ◌∷◌, Option, Some, None, option_map, if◌then◌else◌, codes, bytes_eq, refl, sym, ap, ◌∙◌, subst, ⊎_elim}
+use Rattle.std.proofs.Common.{◌≡◌, Bool, true, false, true≢false, not, List, [], Option, Some, None, option_map, if◌then◌else◌, codes, bytes_eq, refl, sym, ap, ◌∙◌, subst, ⊎_elim}
 use Rattle.std.specs.List.{AllByRecursion, list_all}
 use Rattle.std.proofs.lemmas.Slice.Eq.{bytes_eq-Decides}
 use Rattle.clap.specs.Faults.{fault_of}
@@ -8,51 +8,15 @@ use Rattle.clap.specs.Values.{kind_of}
 use Rattle.clap.specs.declared.error.Error.{Error}
 use Rattle.clap.specs.declared.error.kind.ErrorKind.TheVariants as kind
 use Rattle.clap.specs.Simple.{subcommand_of}
-use Rattle.clap.specs.Walk.{Row, first_of}
-use Rattle.dft_words.specs.Words.{AreFor, Command, Compile, CompileFiles, IsCommand, IsFor, OutputsDiffer, Replay, ReplayFiles, Scan, ScanFiles, Text, Valued, compile_options, list_of, replay_options, scan_options}
-use Rattle.dft_words.specs.CommandLine.{Form, command_from, command_in, compile_form, compile_from, compile_in, dft_app, is_empty, may_stand, outputs_differ, perhaps_from, perhaps_in, replay_form, replay_from, replay_in, scan_form, scan_from, scan_in, value_from, value_in}
+use Rattle.clap.specs.Walk.{Row}
+use Rattle.dft_words.specs.Words.{AreFor, Certify, CertifyFiles, Command, Compile, CompileFiles, Generate, IsCommand, IsFor, JobNumbers, OutputsDiffer, Replay, ReplayFiles, Scan, ScanFiles, Text, Valued, certify_options, compile_options, generate_options, replay_options, scan_options}
+use Rattle.dft_words.specs.CommandLine.{Form, certify_form, certify_in, command_from, command_in, compile_form, compile_from, compile_in, dft_app, generate_form, generate_in, may_stand, outputs_differ, perhaps_in, replay_form, replay_from, replay_in, scan_form, scan_from, scan_in, value_in}
 use Rattle.dft_words.proofs.Options.{names}
 use Rattle.dft_words.proofs.FirstWords.{find_form}
 use Rattle.dft_words.proofs.Rows.{rows}
 use Rattle.dft_words.proofs.Taken.{Shows, Taken, TakesOptions, command_taken, labels, taken, takes_command}
-
--- ---- values
-
-some_same : {X : Type 0} (x y : X) → Some x ≡ Some y → x ≡ y
-some_same x y e = cc
-
-value_shown : (rs : List Row) (name v : Text) → Shows rs (name, Some v) → value_in name rs ≡ Some v
-value_shown rs name v shows = ap value_from shows.0 ∙ ap (λ b. if b then None else Some v) shows.1.0
-
-perhaps_shown : (rs : List Row) (name : Text) (q : Option Text) → Shows rs (name, q) → perhaps_in name rs ≡ Some q
-perhaps_shown rs name None shows = ap perhaps_from shows.0
-perhaps_shown rs name (Some v) shows = ap perhaps_from shows.0 ∙ ap (λ b. if b then None else Some (Some v)) shows.1.0
-
-shown_value : (rs : List Row) (name v : Text) → value_in name rs ≡ Some v → Shows rs (name, Some v)
-shown_value rs name v is = go (first_of name rs) is
-  where
-    some : (t : Text) (b : Bool) → is_empty t ≡ b → (if b then None else Some t) ≡ Some v → (Some t ≡ Some v) × AllByRecursion (λ w. is_empty w ≡ false) (v ∷ [])
-    some t true empty e = absurd cc
-    some t false full e = (e, (ap is_empty (sym (some_same t v e)) ∙ full, tt))
-
-    go : (q : Option Text) → value_from q ≡ Some v → (q ≡ Some v) × AllByRecursion (λ w. is_empty w ≡ false) (v ∷ [])
-    go None e = absurd cc
-    go (Some t) e = some t (is_empty t) refl e
-
-shown_perhaps : (rs : List Row) (name : Text) (q : Option Text) → perhaps_in name rs ≡ Some q → Shows rs (name, q)
-shown_perhaps rs name q is = go (first_of name rs) is
-  where
-    some : (t : Text) (b : Bool) → is_empty t ≡ b → (if b then None else Some (Some t)) ≡ Some q → (Some t ≡ q) × AllByRecursion (λ w. is_empty w ≡ false) (list_of q)
-    some t true empty e = absurd cc
-    some t false full e =
-        let same : Some t ≡ q = some_same (Some t) q e in
-        (same, subst (λ (r : Option Text). AllByRecursion (λ w. is_empty w ≡ false) (list_of r)) same (full, tt))
-
-    go : (r : Option Text) → perhaps_from r ≡ Some q → (r ≡ q) × AllByRecursion (λ w. is_empty w ≡ false) (list_of q)
-    go None e =
-        let same : None ≡ q = some_same None q e in
-        (same, subst (λ (r : Option Text). AllByRecursion (λ w. is_empty w ≡ false) (list_of r)) same tt)
-    go (Some t) e = some t (is_empty t) refl e
+use Rattle.dft_words.proofs.Values.{perhaps_shown, shown_perhaps, shown_value, some_same, value_shown}
+use Rattle.dft_words.proofs.JobWords.{certify_shows, generate_shows, shows_certify, shows_generate}
 
 -- ---- replay
 
@@ -261,6 +225,11 @@ for_taken words (Scan files) s =
     is_taken (codes "scan") (scan_options files) words (Scan files) (takes_command scan_form (scan_options files) words refl refl s.0) (λ rs all. ap (option_map Scan) (shows_scan rs files all s.1))
 for_taken words (Compile files) s =
     is_taken (codes "compile") (compile_options files) words (Compile files) (takes_command compile_form (compile_options files) words refl refl s.0) (λ rs all. ap (option_map Compile) (shows_compile rs files all s.1))
+for_taken words (Certify files) s =
+    is_taken (codes "certify") (certify_options files) words (Certify files) (takes_command certify_form (certify_options files) words refl refl s) (λ rs all. ap (option_map Certify) (shows_certify rs files all))
+for_taken words (Generate job) s =
+    is_taken (codes "generate") (generate_options s.seed s.size) words (Generate job) (takes_command generate_form (generate_options s.seed s.size) words refl refl s.written)
+    (λ rs all. ap (option_map Generate) (shows_generate rs job s.seed s.size all s.seed_is s.size_is s.least s.most))
 
 -- a command that is found by its name has the form of that name
 form_named : (words : List Text) (t : Taken words) (f : Form) → find_form f.command ≡ Some f → t.form.command ≡ f.command → t.form ≡ f
@@ -287,27 +256,58 @@ found_compile words t c (Some files) same is e =
     let found = compile_shows (rows t.given) files is in
     subst (IsFor words) (some_same (Compile files) c e) (as_form words t compile_form (compile_options files) same refl found.shows, found.other)
 
+found_certify : (words : List Text) (t : Taken words) (c : Command) (q : Option CertifyFiles) → t.form ≡ certify_form → certify_in (rows t.given) ≡ q → option_map Certify q ≡ Some c → IsFor words c
+found_certify words t c None same is e = absurd cc
+found_certify words t c (Some files) same is e =
+    subst (IsFor words) (some_same (Certify files) c e) (as_form words t certify_form (certify_options files) same refl (certify_shows (rows t.given) files is))
+
+found_generate : (words : List Text) (t : Taken words) (c : Command) (q : Option JobNumbers) → t.form ≡ generate_form → generate_in (rows t.given) ≡ q → option_map Generate q ≡ Some c → IsFor words c
+found_generate words t c None same is e = absurd cc
+found_generate words t c (Some job) same is e =
+    let found = generate_shows (rows t.given) job is in
+    subst (IsFor words) (some_same (Generate job) c e)
+    (record {
+      seed = found.seed;
+      size = found.size;
+      written = as_form words t generate_form (generate_options found.seed found.size) same refl found.shows;
+      seed_is = found.seed_is;
+      size_is = found.size_is;
+      least = found.least;
+      most = found.most;
+    })
+
 -- by the tests of the names
-record Named (t_form : Form) (replay scan compile : Bool) : Type 0 where
+record Named (t_form : Form) (replay scan compile certify generate : Bool) : Type 0 where
   is_replay : replay ≡ true → t_form ≡ replay_form
   is_scan : scan ≡ true → t_form ≡ scan_form
   is_compile : compile ≡ true → t_form ≡ compile_form
+  is_certify : certify ≡ true → t_form ≡ certify_form
+  is_generate : generate ≡ true → t_form ≡ generate_form
 
-found_is : (words : List Text) (t : Taken words) (c : Command) (replay scan compile : Bool) → Named t.form replay scan compile →
-    (if replay then option_map Replay (replay_in (rows t.given)) else (if scan then option_map Scan (scan_in (rows t.given)) else (if compile then option_map Compile (compile_in (rows t.given)) else None))) ≡ Some c → IsFor words c
-found_is words t c true scan compile named e = found_replay words t c (replay_in (rows t.given)) (named.is_replay refl) refl e
-found_is words t c false true compile named e = found_scan words t c (scan_in (rows t.given)) (named.is_scan refl) refl e
-found_is words t c false false true named e = found_compile words t c (compile_in (rows t.given)) (named.is_compile refl) refl e
-found_is words t c false false false named e = absurd cc
+found_is : (words : List Text) (t : Taken words) (c : Command) (replay scan compile certify generate : Bool) → Named t.form replay scan compile certify generate →
+    (if replay then option_map Replay (replay_in (rows t.given))
+    else (if scan then option_map Scan (scan_in (rows t.given))
+    else (if compile then option_map Compile (compile_in (rows t.given))
+    else (if certify then option_map Certify (certify_in (rows t.given))
+    else (if generate then option_map Generate (generate_in (rows t.given)) else None))))) ≡ Some c → IsFor words c
+found_is words t c true scan compile certify generate named e = found_replay words t c (replay_in (rows t.given)) (named.is_replay refl) refl e
+found_is words t c false true compile certify generate named e = found_scan words t c (scan_in (rows t.given)) (named.is_scan refl) refl e
+found_is words t c false false true certify generate named e = found_compile words t c (compile_in (rows t.given)) (named.is_compile refl) refl e
+found_is words t c false false false true generate named e = found_certify words t c (certify_in (rows t.given)) (named.is_certify refl) refl e
+found_is words t c false false false false true named e = found_generate words t c (generate_in (rows t.given)) (named.is_generate refl) refl e
+found_is words t c false false false false false named e = absurd cc
 
 -- words that are taken are those of the command that is found
 taken_for : (words : List Text) (c : Command) → Taken words → command_in (subcommand_of dft_app words) ≡ Some c → IsFor words c
 taken_for words c t is =
     found_is words t c (bytes_eq t.form.command (codes "replay")) (bytes_eq t.form.command (codes "scan")) (bytes_eq t.form.command (codes "compile"))
+    (bytes_eq t.form.command (codes "certify")) (bytes_eq t.form.command (codes "generate"))
     (record {
       is_replay = λ e. form_named words t replay_form refl ((bytes_eq-Decides t.form.command (codes "replay")).0 e);
       is_scan = λ e. form_named words t scan_form refl ((bytes_eq-Decides t.form.command (codes "scan")).0 e);
       is_compile = λ e. form_named words t compile_form refl ((bytes_eq-Decides t.form.command (codes "compile")).0 e);
+      is_certify = λ e. form_named words t certify_form refl ((bytes_eq-Decides t.form.command (codes "certify")).0 e);
+      is_generate = λ e. form_named words t generate_form refl ((bytes_eq-Decides t.form.command (codes "generate")).0 e);
     })
     (ap command_in (sym t.shown) ∙ is)
 

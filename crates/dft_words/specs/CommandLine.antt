@@ -1,10 +1,13 @@
 -- What `clap` is told of the command line, and what it is not told.
-use Rattle.std.specs.Prelude.{Bool, true, false, not, ◌==◌, List, [], ◌∷◌, codes, fold, length, map, if◌then◌else◌, Some, Option, None, option_map}
+use Rattle.std.specs.Prelude.{ℕ, Bool, true, false, not, ◌==◌, ◌&&◌, ◌^◌, List, [], ◌∷◌, codes, fold, length, map, nat_le, nat_lt, if◌then◌else◌, Some, Option, None, option_map, option_and_then}
+use Rattle.std.specs.Char.{is_ascii_digit}
+use Rattle.std.specs.List.{list_all}
 use Rattle.std.specs.Str.{bytes_eq}
+use Rattle.std.specs.Str.Parse.{digits_value}
 use Rattle.clap.specs.Words.{App, Rule, Shape, new_app, new_rule, with_rule, with_subcommand}
 use Rattle.clap.specs.Simple.{new_shape, on_top}
 use Rattle.clap.specs.Walk.{Row, first_of}
-use Rattle.dft_words.specs.Words.{Text, ReplayFiles, ScanFiles, CompileFiles, Command, Replay, Scan, Compile}
+use Rattle.dft_words.specs.Words.{Text, ReplayFiles, ScanFiles, CompileFiles, CertifyFiles, JobNumbers, Command, Replay, Scan, Compile, Certify, Generate}
 
 -- ---- the forms of commands
 
@@ -41,8 +44,17 @@ compile_form = record {
       ∷ optional (codes "library") ∷ [];
 }
 
+abbrev pub certify_form : Form
+certify_form = record {
+  command = codes "certify";
+  options = needed (codes "netlist") ∷ needed (codes "config") ∷ needed (codes "cubes") ∷ needed (codes "report") ∷ optional (codes "library") ∷ [];
+}
+
+abbrev pub generate_form : Form
+generate_form = record { command = codes "generate"; options = needed (codes "seed") ∷ needed (codes "size") ∷ [] }
+
 abbrev pub forms : List Form
-forms = replay_form ∷ scan_form ∷ compile_form ∷ []
+forms = replay_form ∷ scan_form ∷ compile_form ∷ certify_form ∷ generate_form ∷ []
 
 -- ---- what `clap` is told
 
@@ -142,11 +154,41 @@ compile_in rows =
     compile_from (perhaps_in (codes "library") rows) (value_in (codes "netlist") rows) (value_in (codes "config") rows) (value_in (codes "cubes") rows)
     (value_in (codes "out-netlist") rows) (value_in (codes "out-patterns") rows) (value_in (codes "out-report") rows)
 
+abbrev pub certify_from : (library : Option (Option Text)) → (netlist config cubes report : Option Text) → Option CertifyFiles
+certify_from (Some library) (Some netlist) (Some config) (Some cubes) (Some report) = Some (record { library = library; netlist = netlist; config = config; cubes = cubes; report = report })
+certify_from _ _ _ _ _ = None
+
+abbrev pub certify_in : List Row → Option CertifyFiles
+certify_in rows =
+    certify_from (perhaps_in (codes "library") rows) (value_in (codes "netlist") rows) (value_in (codes "config") rows) (value_in (codes "cubes") rows) (value_in (codes "report") rows)
+
+-- some digits, at most so many, of a number below 2^64
+abbrev pub is_decimal : (most : ℕ) → Text → Bool
+is_decimal most text = nat_lt 0 (length text) && (nat_le (length text) most && (list_all is_ascii_digit text && nat_lt (digits_value 10 text) (2 ^ 64)))
+
+abbrev pub decimal_of : (most : ℕ) → Text → Option ℕ
+decimal_of most text = if is_decimal most text then Some (digits_value 10 text) else None
+
+abbrev pub decimal_in : (most : ℕ) → (name : Text) → List Row → Option ℕ
+decimal_in most name rows = option_and_then (decimal_of most) (value_in name rows)
+
+abbrev pub sized : JobNumbers → Option JobNumbers
+sized job = if nat_le 16 job.size && nat_le job.size 20000 then Some job else None
+
+abbrev pub generate_from : (seed size : Option ℕ) → Option JobNumbers
+generate_from (Some seed) (Some size) = sized (record { seed = seed; size = size })
+generate_from _ _ = None
+
+abbrev pub generate_in : List Row → Option JobNumbers
+generate_in rows = generate_from (decimal_in 20 (codes "seed") rows) (decimal_in 5 (codes "size") rows)
+
 abbrev pub command_from : (name : Text) → List Row → Option Command
 command_from name rows =
     if bytes_eq name (codes "replay") then option_map Replay (replay_in rows)
     else (if bytes_eq name (codes "scan") then option_map Scan (scan_in rows)
-    else (if bytes_eq name (codes "compile") then option_map Compile (compile_in rows) else None))
+    else (if bytes_eq name (codes "compile") then option_map Compile (compile_in rows)
+    else (if bytes_eq name (codes "certify") then option_map Certify (certify_in rows)
+    else (if bytes_eq name (codes "generate") then option_map Generate (generate_in rows) else None))))
 
 abbrev pub command_in : Option (Text × List Row) → Option Command
 command_in None = None

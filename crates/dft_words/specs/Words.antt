@@ -1,7 +1,8 @@
 -- The command lines that are understood.
-use Rattle.std.specs.Prelude.{ℕ, ◌≡◌, ◌⊎◌, Bool, true, false, not, ◌==◌, List, [], ◌∷◌, ◌++◌, codes, flat_map, map, Option, None, Some, if◌then◌else◌}
+use Rattle.std.specs.Prelude.{ℕ, ◌<◌, ◌≤◌, ◌^◌, ◌≡◌, ◌⊎◌, Bool, true, false, not, ◌==◌, List, [], ◌∷◌, ◌++◌, codes, flat_map, length, map, Option, None, Some, if◌then◌else◌}
 use Rattle.std.specs.List.{AllByRecursion}
 use Rattle.std.specs.Str.{bytes_eq}
+use Rattle.std.specs.Str.Parse.{IsNumeral, digits_value}
 
 abbrev pub Text : Type 0
 Text = List ℕ
@@ -116,17 +117,66 @@ pub record OutputsDiffer (files : CompileFiles) : Type 0 where
 abbrev pub IsCompile : List Text → CompileFiles → Type 0
 IsCompile words files = IsCommand (codes "compile") (compile_options files) words × OutputsDiffer files
 
+-- the files of a test of certificates, of which none is saved
+pub record CertifyFiles : Type 0 where
+  pub library : Option Text
+  pub netlist : Text
+  pub config : Text
+  pub cubes : Text
+  pub report : Text
+
+abbrev pub certify_options : CertifyFiles → List Valued
+certify_options files =
+    (codes "netlist", Some files.netlist) ∷ (codes "config", Some files.config) ∷ (codes "cubes", Some files.cubes) ∷ (codes "report", Some files.report)
+    ∷ (codes "library", files.library) ∷ []
+
+abbrev pub IsCertify : List Text → CertifyFiles → Type 0
+IsCertify words files = IsCommand (codes "certify") (certify_options files) words
+
+-- ---- the generated job
+
+-- a text is decimal digits, at most so many, of this number, which is below 2^64; zeros may lead
+pub record IsDecimal (most : ℕ) (text : Text) (number : ℕ) : Type 0 where
+  pub digits : IsNumeral 10 text
+  pub few : length text ≤ most
+  pub value : digits_value 10 text ≡ number
+  pub below : number < 2 ^ 64
+
+-- the seed of a job, and how many cells it has
+pub record JobNumbers : Type 0 where
+  pub seed : ℕ
+  pub size : ℕ
+
+abbrev pub generate_options : (seed size : Text) → List Valued
+generate_options seed size = (codes "seed", Some seed) ∷ (codes "size", Some size) ∷ []
+
+-- the seed is written with 20 digits at most, the size with 5, and a job has 16 to 20,000 cells
+pub record IsGenerate (words : List Text) (job : JobNumbers) : Type 0 where
+  pub seed : Text
+  pub size : Text
+  pub written : IsCommand (codes "generate") (generate_options seed size) words
+  pub seed_is : IsDecimal 20 seed job.seed
+  pub size_is : IsDecimal 5 size job.size
+  pub least : 16 ≤ job.size
+  pub most : job.size ≤ 20000
+
+-- ---- what words are
+
 pub data Command : Type 0 where
   Replay : ReplayFiles → Command
   Scan : ScanFiles → Command
   Compile : CompileFiles → Command
+  Certify : CertifyFiles → Command
+  Generate : JobNumbers → Command
 
 abbrev pub IsFor : List Text → Command → Type 0
 IsFor words (Replay files) = IsReplay words files
 IsFor words (Scan files) = IsScan words files
 IsFor words (Compile files) = IsCompile words files
+IsFor words (Certify files) = IsCertify words files
+IsFor words (Generate job) = IsGenerate words job
 
--- what words are: a command on these files, or no command
+-- what words are: a command, or no command
 abbrev pub AreFor : List Text → Option Command → Type 0
 AreFor words (Some command) = IsFor words command
 AreFor words None = (command : Command) → IsFor words command → ⊥

@@ -30,10 +30,29 @@ pub struct CompileFiles<'a> {
     pub out_report: &'a str,
 }
 
-/// A command with its files.
+/// The files that the words of a test of certificates name; all are read.
+#[derive(Clone, Copy, Debug)]
+pub struct CertifyFiles<'a> {
+    pub library: Option<&'a str>,
+    pub netlist: &'a str,
+    pub config: &'a str,
+    pub cubes: &'a str,
+    pub report: &'a str,
+}
+
+/// The numbers of a generated job: its seed, and how many cells it has, 16 to 20,000.
+#[derive(Clone, Copy, Debug)]
+pub struct JobNumbers {
+    pub seed: u64,
+    pub size: u32,
+}
+
+/// A command with its files, or with its numbers.
 #[derive(Clone, Copy, Debug)]
 pub enum Command<'a> {
     Replay(ReplayFiles<'a>),
     Scan(ScanFiles<'a>),
     Compile(CompileFiles<'a>),
+    Certify(CertifyFiles<'a>),
+    Generate(JobNumbers),
 }

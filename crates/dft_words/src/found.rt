@@ -5,13 +5,14 @@ ghost use Rattle.clap.specs.Words.{subcommand_rows_of};
 ghost use Rattle.clap.specs.Matches.{found_of};
 ghost use Rattle.clap.specs.Walk.{first_of, rows_of};
 ghost use Rattle.dft_words.specs.CommandLine as spec;
-ghost use Rattle.dft_words.specs.CommandLine.{command_in, compile_in, perhaps_in, replay_in, scan_in, value_in};
-ghost use Rattle.dft_words.specs.Named.{command_of, compile_files_of, replay_files_of, scan_files_of};
+ghost use Rattle.dft_words.specs.CommandLine.{certify_in, command_in, compile_in, decimal_in, generate_in, perhaps_in, replay_in, scan_in, value_in};
+ghost use Rattle.dft_words.specs.Named.{certify_files_of, command_of, compile_files_of, numbers_of, replay_files_of, scan_files_of};
 
-use crate::commands::{Command, CompileFiles, ReplayFiles, ScanFiles};
+use crate::commands::{CertifyFiles, Command, CompileFiles, JobNumbers, ReplayFiles, ScanFiles};
+use crate::numbers::decimal;
 use clap::ArgMatches;
 
-/// The command with its files, where no value is empty and the outputs differ.
+/// The command with its files or numbers, where no value is empty, the outputs differ and the numbers are in range.
 pub(crate) fn command_found<'a>(found: &ArgMatches<'a>) -> Option<Command<'a>>
     ensures { option_map command_of result ≡ command_in (subcommand_rows_of found.now) }
 {
@@ -23,6 +24,10 @@ pub(crate) fn command_found<'a>(found: &ArgMatches<'a>) -> Option<Command<'a>>
                 Some(Command::Scan(scan_found(options)?))
             } else if name == "compile" {
                 Some(Command::Compile(compile_found(options)?))
+            } else if name == "certify" {
+                Some(Command::Certify(certify_found(options)?))
+            } else if name == "generate" {
+                Some(Command::Generate(generate_found(options)?))
             } else {
                 None
             }
@@ -85,6 +90,40 @@ fn outputs_differ(files: &CompileFiles<'_>) -> bool
         return false;
     }
     files.out_patterns != files.out_report
+}
+
+fn certify_found<'a>(found: &ArgMatches<'a>) -> Option<CertifyFiles<'a>>
+    ensures { option_map certify_files_of result ≡ certify_in (rows_of (found_of found.now)) }
+{
+    Some(CertifyFiles {
+        library: perhaps(found, "library")?,
+        netlist: value(found, "netlist")?,
+        config: value(found, "config")?,
+        cubes: value(found, "cubes")?,
+        report: value(found, "report")?,
+    })
+}
+
+fn generate_found(found: &ArgMatches<'_>) -> Option<JobNumbers>
+    ensures { option_map numbers_of result ≡ generate_in (rows_of (found_of found.now)) }
+{
+    let seed = number(found, "seed", 20)?;
+    let size = number(found, "size", 5)?;
+    if 16 <= size && size <= 20_000 {
+        Some(JobNumbers {
+            seed,
+            size: size as u32,
+        })
+    } else {
+        None
+    }
+}
+
+/// The number that an option gives in decimal, with at most so many digits.
+fn number(found: &ArgMatches<'_>, name: &str, most: usize) -> Option<u64>
+    ensures { result ≡ decimal_in most name.now (rows_of (found_of found.now)) }
+{
+    decimal(value(found, name)?, most)
 }
 
 /// The value of an option, where it is given and not empty.

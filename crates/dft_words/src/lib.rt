@@ -3,8 +3,9 @@
 
 mod commands;
 mod found;
+mod numbers;
 mod syntax;
 mod words;
 
-pub use commands::{Command, CompileFiles, ReplayFiles, ScanFiles};
+pub use commands::{CertifyFiles, Command, CompileFiles, JobNumbers, ReplayFiles, ScanFiles};
 pub use words::command;

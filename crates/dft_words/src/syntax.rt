@@ -3,7 +3,7 @@
 ghost use Rattle.std.specs.Prelude.{◌≡◌, IfOk, false, true, map, string_bytes};
 ghost use Rattle.clap.specs.Words.{FailsBy, app_of, fault_of, new_app, rule_of, subcommand_of, subcommand_rows_of};
 ghost use Rattle.clap.specs.declared.builder.command.Command.TheViews.{out-Command as fields_of};
-ghost use Rattle.dft_words.specs.CommandLine.{dft_app, option_rule, with_options};
+ghost use Rattle.dft_words.specs.CommandLine.{dft_app, option_rule, plain_app, with_options};
 
 use clap::{Arg, ArgMatches, Command, Error};
 use std::alloc::{AllocError, Global};
@@ -13,11 +13,7 @@ pub(crate) fn matches<'a>(alloc: Global, words: &'a [String]) -> Result<ArgMatch
     ensures kinds { FailsBy (fault_of dft_app (map string_bytes words.entry.now)) result }
     ensures found { IfOk result (λ m. subcommand_rows_of m ≡ subcommand_of dft_app (map string_bytes words.entry.now)) }
 {
-    let dft = Command::new(alloc, "dft")
-        .no_binary_name(true)
-        .disable_help_flag(true)
-        .disable_help_subcommand(true)
-        .subcommand_required(true)
+    let dft = plain(alloc)
         .subcommand(form(alloc, "replay", &["netlist", "patterns"], &["library"])?)?
         .subcommand(form(
             alloc,
@@ -37,8 +33,26 @@ pub(crate) fn matches<'a>(alloc: Global, words: &'a [String]) -> Result<ArgMatch
                 "out-report",
             ],
             &["library"],
-        )?)?;
+        )?)?
+        .subcommand(form(
+            alloc,
+            "certify",
+            &["netlist", "config", "cubes", "report"],
+            &["library"],
+        )?)?
+        .subcommand(form(alloc, "generate", &["seed", "size"], &[])?)?;
     dft.try_get_matches_from(words)
+}
+
+/// The words are those behind the program's name, the first is a command, and there is no help.
+fn plain<'a>(alloc: Global) -> Command<'a>
+    ensures { app_of result ≡ plain_app }
+{
+    Command::new(alloc, "dft")
+        .no_binary_name(true)
+        .disable_help_flag(true)
+        .disable_help_subcommand(true)
+        .subcommand_required(true)
 }
 
 /// A command with options that are needed, and others that may be left out.

@@ -13,9 +13,12 @@ use clap::error::ErrorKind;
 use std::alloc::{AllocError, Global};
 
 /// The command that the words are, or None where they are no command. A command has its options each once, in any order,
-/// as `--name value` or `--name=value`: `replay` has `netlist` and `patterns`, and `scan` has `netlist`, `config`, `out`
-/// and `report`, of which `out` and `report` have different values; both have `library` where it is given. A value that is
-/// a word of its own is `-` or does not begin with `-`, and no value is empty. No other words are understood.
+/// as `--name value` or `--name=value`: `replay` has `netlist` and `patterns`; `scan` has `netlist`, `config`, `out` and
+/// `report`, of which the last two differ; `compile` has `netlist`, `config`, `cubes`, `out-netlist`, `out-patterns` and
+/// `out-report`, of which the last three differ; `certify` has `netlist`, `config`, `cubes` and `report`; all these have
+/// `library` where it is given. `generate` has `seed`, 1 to 20 decimal digits of a number below 2^64, and `size`, 1 to 5
+/// digits of a number from 16 to 20,000. A value that is a word of its own is `-` or does not begin with `-`, and no value
+/// is empty. No other words are understood.
 pub fn command<'a>(alloc: Global, words: &'a [String]) -> Result<Option<Command<'a>>, AllocError>
     ensures { IfOk result (λ found. AreFor (map string_bytes words.entry.now) (option_map command_of found)) }
 {
