@@ -32,7 +32,7 @@ rows_same : (ring : RingConfig) (cycles chain places : ℕ) (a b : List (List Bo
 rows_same ring cycles chain places a b x y =
     ext_get_or [] a b (x.count ∙ sym y.count) (λ k less. let within : k < places = subst (λ (m : ℕ). k < m) x.count less in x.each k within ∙ sym (y.each k within))
 
-equations_one : (ring : RingConfig) (lengths : List ℕ) (cycles : ℕ) (a b : LoadRows) → AreLoadEquations ring lengths cycles a → AreLoadEquations ring lengths cycles b → a ≡ b
+pub equations_one : (ring : RingConfig) (lengths : List ℕ) (cycles : ℕ) (a b : LoadRows) → AreLoadEquations ring lengths cycles a → AreLoadEquations ring lengths cycles b → a ≡ b
 equations_one ring lengths cycles a b x y =
     let columns : a.columns ≡ b.columns = x.columns ∙ sym y.columns in
     let chains : a.chains ≡ b.chains = ext_get_or [] a.chains b.chains (x.chains ∙ sym y.chains) (λ k less.

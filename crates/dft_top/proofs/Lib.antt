@@ -5,6 +5,9 @@ pub mod Readings
 pub mod CubeCounts
 pub mod CompiledOnce
 pub mod CompileLemmas
+pub mod CertifyLemmas
+pub mod Determined
+pub mod JobLemmas
 pub mod OneOutcome
 pub mod PassingFiles
 pub mod Promised

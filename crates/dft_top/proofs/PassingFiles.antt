@@ -10,23 +10,30 @@ use Rattle.dft_scan.specs.declared.error.ScanError.{ScanError}
 use Rattle.dft_scan.specs.Refusals.{refusal}
 use Rattle.dft_scan.specs.Scans.{counts_of, netlist_text, report_text}
 use Rattle.dft_stitch.specs.Chains.{plan_of}
+use Rattle.dft_stitch.specs.Plans.{Plan}
+use Rattle.dft_equations.specs.LoadRows.{LoadRows}
+use Rattle.dft_load_laws.specs.Loading.{AreRows, rows_of}
+use Rattle.dft_report.specs.declared.report.Report.{Report}
+use Rattle.dft_certify.specs.declared.error.CertifyError.{CertifyError}
+use Rattle.dft_certify.specs.Certifying.{certify_refusal}
 use Rattle.dft_cubes.specs.declared.cube.Cube.{Cube}
 use Rattle.dft_encode.specs.Compiled.{Placing}
 use Rattle.dft_compile.specs.declared.error.CompileError.{CompileError}
 use Rattle.dft_compile.specs.declared.prepared.Prepared.{Prepared}
 use Rattle.dft_compile.specs.Refusals.{first_refusal}
-use Rattle.dft_words.specs.Words.{Command, Replay, Scan, Compile, ReplayFiles, ScanFiles, CompileFiles}
+use Rattle.dft_words.specs.Words.{Command, Replay, Scan, Compile, Certify, ReplayFiles, ScanFiles, CompileFiles, CertifyFiles}
 use Rattle.dft_words.proofs.Understood.{for_once}
 use Rattle.dft_top.specs.declared.outcome.Outcome.{Outcome}
 use Rattle.dft_top.specs.declared.outcome.Outcome.TheVariants.{Scanned}
-use Rattle.dft_top.specs.declared.limits.TheConstants.{MAX_CONFIG_BYTES, MAX_CUBE_BYTES, MAX_NETLIST_BYTES, MAX_PATTERN_BYTES}
-use Rattle.dft_top.specs.Checks.{ConfigGives, ConfigText, CubeText, CubesGive, DesignGives, LibraryGives, NetlistGives, NetlistText, PatternText, PatternsGive, Then}
+use Rattle.dft_top.specs.declared.limits.TheConstants.{MAX_CONFIG_BYTES, MAX_CUBE_BYTES, MAX_NETLIST_BYTES, MAX_PATTERN_BYTES, MAX_REPORT_BYTES}
+use Rattle.dft_top.specs.Checks.{ConfigGives, ConfigText, CubeText, CubesGive, DesignGives, LibraryGives, NetlistGives, NetlistText, PatternText, PatternsGive, PlanGives, ReportGives, ReportText, Then, plan_refusal}
 use Rattle.dft_top.specs.Courses.{Reaches}
-use Rattle.dft_top.specs.Outcomes.{IsCompiled, IsOutcomeFor, course_of_compile, course_of_replay, course_of_scan, IsOutcomeOfCubes, IsOutcomeOfScanOf, refusal_of, IsOutcomeOn}
-use Rattle.dft_top.specs.Laws.{PassingIsCompiled, PassingIsReplayed, PassingIsScanned}
+use Rattle.dft_top.specs.Outcomes.{IsCompiled, IsOutcomeFor, IsOutcomeOfReport, IsOutcomeOfTest, course_of_certify, course_of_compile, course_of_replay, course_of_scan, IsOutcomeOfCubes, IsOutcomeOfScanOf, refusal_of, IsOutcomeOn}
+use Rattle.dft_top.specs.Laws.{PassingIsCertified, PassingIsCompiled, PassingIsReplayed, PassingIsScanned}
 use Rattle.dft_top.proofs.CompileLemmas.{compiled_due}
-use Rattle.dft_top.proofs.Readings.{config_text_one, cube_text_one, file_one, given_next, library_gives_one, netlist_text_one, pattern_text_one}
-use Rattle.dft_top.proofs.Steps.{CompileOf, CompileOn, CompileOver, CompileWith, ReplayOn, ReplayOver, ScanOn, ScanOver}
+use Rattle.dft_top.proofs.CertifyLemmas.{report_over}
+use Rattle.dft_top.proofs.Readings.{config_text_one, cube_text_one, file_one, given_next, library_gives_one, netlist_text_one, pattern_text_one, report_text_one}
+use Rattle.dft_top.proofs.Steps.{CertifyFor, CertifyOf, CertifyOn, CertifyOver, CertifyWith, CompileOf, CompileOn, CompileOver, CompileWith, ReplayOn, ReplayOver, ScanOn, ScanOver}
 
 replay_due : (files : ReplayFiles) (held : Held) (cells : List Cell) (n : Netlist) (p : Patterns) (o : Outcome) → LibraryGives files.library held (Ok cells) → NetlistGives cells files.netlist held (Ok n) →
     PatternsGive files.patterns held (Ok p) → Reaches (course_of_replay files) held o → IsOutcomeOn n p (first_misfit n p.signals) o
@@ -62,6 +69,22 @@ compile_due files held cells c n cubes placing o library config netlist first gi
     compiled_due n c cubes placing o late
     (given_next (CubesGive n c files.cubes held) (λ cubes. IsOutcomeOfCubes n c cubes) o cubes (file_one MAX_CUBE_BYTES (codes "cubes") (CubeText n c) (cube_text_one n c) (file_at files.cubes held)) given with.1)
 
+plan_next : (n : Netlist) (c : Config) (next : Plan → Outcome → Type 0) (o : Outcome) → plan_refusal n c ≡ None → Then (PlanGives n c) next o → (plan : Plan) × next plan o
+plan_next n c next o none (inl x) = (x.0, x.1.1)
+plan_next n c next o none (inr x) = absurd (no_error (plan_refusal n c) x.1.0.0 none x.1.0.1.0)
+
+certify_due : (files : CertifyFiles) (held : Held) (cells : List Cell) (c : Config) (n : Netlist) (cubes : List Cube) (report : Report) (rows : LoadRows) (o : Outcome) → LibraryGives files.library held (Ok cells) →
+    ConfigGives files.config held (Ok c) → NetlistGives cells files.netlist held (Ok n) → plan_refusal n c ≡ None → CubesGive n c files.cubes held (Ok cubes) → ReportGives files.report held (Ok report) →
+    AreRows n c rows → Reaches (course_of_certify files) held o → IsOutcomeOfTest report (certify_refusal n c.ring (rows_of n c rows) rows.columns cubes report) o
+certify_due files held cells c n cubes report rows o library config netlist none given told are is =
+    let over = given_next (LibraryGives files.library held) (CertifyOver files held) o cells (library_gives_one files.library held) library is in
+    let on = given_next (ConfigGives files.config held) (CertifyOn files cells held) o c (file_one MAX_CONFIG_BYTES (codes "config") ConfigText config_text_one (file_at files.config held)) config over in
+    let of = given_next (NetlistGives cells files.netlist held) (CertifyOf files c held) o n (file_one MAX_NETLIST_BYTES (codes "netlist") (NetlistText cells) (netlist_text_one cells) (file_at files.netlist held)) netlist on in
+    let with = plan_next n c (CertifyWith n c files.cubes files.report held) o none of in
+    let for = given_next (CubesGive n c files.cubes held) (CertifyFor n c files.report held) o cubes (file_one MAX_CUBE_BYTES (codes "cubes") (CubeText n c) (cube_text_one n c) (file_at files.cubes held)) given with.1 in
+    report_over n c cubes report rows o are
+    (given_next (ReportGives files.report held) (λ report. IsOutcomeOfReport n c cubes report) o report (file_one MAX_REPORT_BYTES (codes "report") ReportText report_text_one (file_at files.report held)) told for)
+
 pub passing_replayed : PassingIsReplayed
 passing_replayed words files held cells n p o is library netlist patterns x =
     replay_due files held cells n p o library netlist patterns (subst (λ (command : Option Command). IsOutcomeFor command held o) (for_once words x.0 (Some (Replay files)) x.1.0 is) x.1.1)
@@ -74,3 +97,9 @@ pub passing_compiled : PassingIsCompiled
 passing_compiled words files held cells c n cubes placing o is library config netlist first given late x =
     compile_due files held cells c n cubes placing o library config netlist first given late
     (subst (λ (command : Option Command). IsOutcomeFor command held o) (for_once words x.0 (Some (Compile files)) x.1.0 is) x.1.1)
+
+pub passing_certified : PassingIsCertified
+passing_certified words files held cells c n cubes report rows o is library config netlist none given told are passes x =
+    subst (λ (fault : Option CertifyError). IsOutcomeOfTest report fault o) passes
+    (certify_due files held cells c n cubes report rows o library config netlist none given told are
+    (subst (λ (command : Option Command). IsOutcomeFor command held o) (for_once words x.0 (Some (Certify files)) x.1.0 is) x.1.1))

@@ -17,21 +17,29 @@ use Rattle.dft_scan_facts.proofs.Reaching.{loads_reach, unloads_show}
 use Rattle.dft_scan_hardware.proofs.Keeping.{adds_in_order, keeps_design}
 use Rattle.dft_scan_hardware.specs.declared.style.Style.TheVariants.{Plain, Edt}
 use Rattle.dft_scan_hardware.specs.Statements.{scanned}
+use Rattle.dft_scan_frame.specs.Statements.{IsReady}
 use Rattle.dft_scan_off.proofs.Agreed.{agrees_off}
 use Rattle.dft_scan.specs.declared.error.ScanError.{ScanError}
 use Rattle.dft_scan.specs.Refusals.{refusal}
 use Rattle.dft_scan.specs.Scans.{netlist_text, report_text}
 use Rattle.dft_stitch.specs.Chains.{plan_of}
+use Rattle.dft_stitch.specs.Plans.{Plan}
+use Rattle.dft_load_laws.specs.Loading.{rows_of}
+use Rattle.dft_report.specs.declared.report.Report.{Report}
+use Rattle.dft_certify.specs.declared.error.CertifyError.{CertifyError}
+use Rattle.dft_certify.specs.Certifying.{certify_refusal}
+use Rattle.dft_certify.specs.Laws.{CertifiedExactly}
+use Rattle.dft_certify_laws.specs.InRuns.{CertifiedInRuns}
 use Rattle.dft_cubes.specs.declared.cube.Cube.{Cube}
 use Rattle.dft_cubes.specs.Laws.{AreCubes}
 use Rattle.dft_cubes.proofs.SoundLemmas.{cubes_sound}
-use Rattle.dft_compile_laws.specs.Holding.{CompilationsHold}
+use Rattle.dft_compile_laws.specs.Holding.{CompilationsHold, HoldsOf}
 use Rattle.dft_vectors.specs.PatternData.{PatternData}
 use Rattle.dft_encode.specs.Compiled.{Placing}
 use Rattle.dft_compile.specs.declared.error.CompileError.{CompileError}
 use Rattle.dft_compile.specs.Texts as compiled
 use Rattle.dft_verilog_out.proofs.JoinedTexts.{library_kept}
-use Rattle.dft_words.specs.Words.{Command, Replay, Scan, Compile, ReplayFiles, ScanFiles, CompileFiles, AreFor}
+use Rattle.dft_words.specs.Words.{Command, Replay, Scan, Compile, Certify, ReplayFiles, ScanFiles, CompileFiles, CertifyFiles, AreFor}
 use Rattle.dft_words.proofs.Understood.{for_once}
 use Rattle.dft_top.specs.declared.answer.Answer.{Answer}
 use Rattle.dft_top.specs.declared.answer.Refusal.{Refusal}
@@ -41,14 +49,15 @@ use Rattle.dft_top.specs.declared.outcome.Outcome.TheVariants as outcome
 use Rattle.dft_top.specs.declared.limits.TheConstants.{MAX_CUBE_BYTES, MAX_NETLIST_BYTES}
 use Rattle.dft_top.specs.Answers.{status_of}
 use Rattle.dft_top.specs.Refusals.{compile_refusal, scan_refusal}
-use Rattle.dft_top.specs.Checks.{After, ConfigGives, CubeText, CubesGive, DesignGives, IsDesignOf, LibraryGives, NetlistGives, NetlistText, PatternsGive, Then}
+use Rattle.dft_top.specs.Refusals as refusals
+use Rattle.dft_top.specs.Checks.{After, ConfigGives, CubeText, CubesGive, DesignGives, IsDesignOf, IsPlanned, LibraryGives, NetlistGives, NetlistText, PatternsGive, PlanGives, ReportGives, Then}
 use Rattle.dft_top.specs.Courses.{Reaches}
-use Rattle.dft_top.specs.Outcomes.{course_of_compile, course_of_replay, course_of_scan, IsCompiled, IsOutcomeOfCubes, IsOutcomeOfPlacing, IsOutcomeOfScanOf, IsOutcomeOn, IsRefusal, IsScanned, outcome_of, refusal_of}
-use Rattle.dft_top.specs.Promises.{Compiles, EveryRunShows, Passes, Scans}
-use Rattle.dft_top.specs.Run.{CompilesTold, EndsFor, IsDelivered, IsOfCompile, IsOfScan, IsOutcomeTold, PassesTold, ScansTold, Seen}
+use Rattle.dft_top.specs.Outcomes.{course_of_certify, course_of_compile, course_of_replay, course_of_scan, IsCompiled, IsOutcomeOfReport, IsOutcomeOfTest, IsOutcomeOfCubes, IsOutcomeOfPlacing, IsOutcomeOfScanOf, IsOutcomeOn, IsRefusal, IsScanned, outcome_of, refusal_of}
+use Rattle.dft_top.specs.Promises.{Certifies, Compiles, EveryRunShows, Passes, Scans}
+use Rattle.dft_top.specs.Run.{CertifiesTold, CompilesTold, EndsFor, IsDelivered, IsOfCompile, IsOfScan, IsOutcomeTold, PassesTold, ScansTold, Seen}
 use Rattle.dft_top.specs.Saves.{AreSaved, HaveSaved, Saving, compile_savings, savings, scan_savings}
 use Rattle.dft_top.proofs.Readings.{text_of}
-use Rattle.dft_top.proofs.Steps.{CompileOf, CompileOn, CompileOver, CompileWith, ReplayOn, ReplayOver, ScanOn, ScanOver}
+use Rattle.dft_top.proofs.Steps.{CertifyFor, CertifyOf, CertifyOn, CertifyOver, CertifyWith, CompileOf, CompileOn, CompileOver, CompileWith, ReplayOn, ReplayOver, ScanOn, ScanOver}
 use Rattle.dft_top.proofs.SavesInTurn.{differ}
 
 not_done : (refusal : Refusal) (o : Outcome) → o ≡ outcome.Refused refusal → status_of o ≡ Done → ⊥
@@ -158,8 +167,24 @@ three_savings files n c cubes placing list =
     ∷ record { name = files.out_report; bytes = compiled.report_text n c placing.rows cubes placing.placed }
     ∷ []
 
-compiles : CompilationsHold → (files : CompileFiles) (old new : Held) (o : Outcome) → status_of o ≡ Done → Reaches (course_of_compile files) old o → HaveSaved (compile_savings files o) (Some old) (Some new) → Compiles files old new
-compiles hold files old new o done h saved =
+-- what a compilation that is done made
+pub record IsMade (files : CompileFiles) (held : Held) (o : Outcome) : Type 0 where
+  pub cells : List Cell
+  pub library : LibraryGives files.library held (Ok cells)
+  pub config : Config
+  pub settings : ConfigGives files.config held (Ok config)
+  pub netlist : Netlist
+  pub design : NetlistGives cells files.netlist held (Ok netlist)
+  pub ready : IsReady netlist config
+  pub cubes : List Cube
+  pub given : CubesGive netlist config files.cubes held (Ok cubes)
+  pub placing : Placing config (plan_of netlist config) cubes
+  pub is : IsCompiled netlist config cubes placing o
+  pub reads : StandsFor cells (compiled.netlist_text netlist config) (scanned Edt netlist config)
+  pub holds : HoldsOf netlist config cubes placing is.list
+
+pub made : CompilationsHold → (files : CompileFiles) (held : Held) (o : Outcome) → status_of o ≡ Done → Reaches (course_of_compile files) held o → IsMade files held o
+made hold files old o done h =
     let x = then_done (LibraryGives files.library old) (CompileOver files old) o done h in
     let y = then_done (ConfigGives files.config old) (CompileOn files x.0 old) o done x.1.1 in
     let c = y.0 in
@@ -170,8 +195,6 @@ compiles hold files old new o done h saved =
     let cubes = u.0 in
     let placing = u.1.1.0 in
     let is = placed_done n c cubes placing (refusal_of n c cubes placing) o done u.1.1.1 in
-    let ready = p.1.0.ready in
-    let left : AreSaved (three_savings files n c cubes placing is.list) old new = subst (λ (end : Outcome). HaveSaved (compile_savings files end) (Some old) (Some new)) is.is saved in
     let design = design_of x.0 files.netlist old n z.1.0 in record {
       cells = x.0;
       library = x.1.0;
@@ -179,24 +202,87 @@ compiles hold files old new o done h saved =
       settings = y.1.0;
       netlist = n;
       design = z.1.0;
-      ready = ready;
+      ready = p.1.0.ready;
       cubes = cubes;
       given = u.1.0;
       placing = placing;
-      list = is.list;
-      are = is.are;
+      is = is;
+      reads = subst (λ (cells : List Cell). StandsFor cells (compiled.netlist_text n c) (scanned Edt n c)) (library_kept x.0 design.0 n design.1.stands) is.reads;
+      holds = hold n c p.1.0.order cubes placing is.list p.1.0.ready p.1.0.sound p.1.0.ordered p.1.0.named (are_cubes n c files.cubes old cubes u.1.0) is.are;
+    }
+
+compiles : CompilationsHold → (files : CompileFiles) (old new : Held) (o : Outcome) → status_of o ≡ Done → Reaches (course_of_compile files) old o → HaveSaved (compile_savings files o) (Some old) (Some new) → Compiles files old new
+compiles hold files old new o done h saved =
+    let m = made hold files old o done h in
+    let n = m.netlist in
+    let c = m.config in
+    let left : AreSaved (three_savings files n c m.cubes m.placing m.is.list) old new = subst (λ (end : Outcome). HaveSaved (compile_savings files end) (Some old) (Some new)) m.is.is saved in record {
+      cells = m.cells;
+      library = m.library;
+      config = c;
+      settings = m.settings;
+      netlist = n;
+      design = m.design;
+      ready = m.ready;
+      cubes = m.cubes;
+      given = m.given;
+      placing = m.placing;
+      list = m.is.list;
+      are = m.is.are;
       out_netlist = left.whole.0;
       out_patterns = left.whole.1.0;
       out_report = left.whole.1.1.0;
       others = λ name a b e. left.others name
           (differ files.out_netlist name (λ q. a (sym q)), (differ files.out_patterns name (λ q. b (sym q)), (differ files.out_report name (λ q. e (sym q)), tt)));
-      reads = subst (λ (cells : List Cell). StandsFor cells (compiled.netlist_text n c) (scanned Edt n c)) (library_kept x.0 design.0 n design.1.stands) is.reads;
-      keeps = keeps_design Edt n c ready;
+      reads = m.reads;
+      keeps = keeps_design Edt n c m.ready;
       adds = adds_in_order Edt n c;
-      agrees = agrees_off Edt n c ready;
-      loads = λ ports suits. (loads_reach n c ports ready suits).0;
-      unloads = λ ports suits. (unloads_show n c ports ready suits).0;
-      holds = hold n c p.1.0.order cubes placing is.list ready p.1.0.sound p.1.0.ordered p.1.0.named (are_cubes n c files.cubes old cubes u.1.0) is.are;
+      agrees = agrees_off Edt n c m.ready;
+      loads = λ ports suits. (loads_reach n c ports m.ready suits).0;
+      unloads = λ ports suits. (unloads_show n c ports m.ready suits).0;
+      holds = m.holds;
+    }
+
+-- ---- a test of certificates
+
+test_done : (report : Report) (fault : Option CertifyError) (o : Outcome) → status_of o ≡ Done → IsOutcomeOfTest report fault o → fault ≡ None
+test_done report (Some error) o done h = absurd (refusal_not_done (refusals.certify_refusal error) o h done)
+test_done report None o done h = refl
+
+-- a plan that the checks pass
+planned_is : (n : Netlist) (c : Config) (plan : Plan) → IsPlanned n c plan → PlanGives n c (Ok (plan_of n c))
+planned_is n c plan planned = record { is = refl; ready = planned.ready; accepted = planned.accepted }
+
+certifies : CertifiedExactly → CertifiedInRuns → (files : CertifyFiles) (held : Held) (o : Outcome) → status_of o ≡ Done → Reaches (course_of_certify files) held o → Certifies files held
+certifies exact never files held o done h =
+    let x = then_done (LibraryGives files.library held) (CertifyOver files held) o done h in
+    let y = then_done (ConfigGives files.config held) (CertifyOn files x.0 held) o done x.1.1 in
+    let c = y.0 in
+    let z = then_done (NetlistGives x.0 files.netlist held) (CertifyOf files c held) o done y.1.1 in
+    let n = z.0 in
+    let p = then_done (PlanGives n c) (CertifyWith n c files.cubes files.report held) o done z.1.1 in
+    let u = then_done (CubesGive n c files.cubes held) (CertifyFor n c files.report held) o done p.1.1 in
+    let cubes = u.0 in
+    let r = then_done (ReportGives files.report held) (λ report. IsOutcomeOfReport n c cubes report) o done u.1.1 in
+    let report = r.0 in
+    let rows = r.1.1.0 in
+    let passed = test_done report (certify_refusal n c.ring (rows_of n c rows) rows.columns cubes report) o done r.1.1.1.1 in record {
+      cells = x.0;
+      library = x.1.0;
+      config = c;
+      settings = y.1.0;
+      netlist = n;
+      design = z.1.0;
+      ready = p.1.0.ready;
+      planned = planned_is n c p.0 p.1.0;
+      cubes = cubes;
+      given = u.1.0;
+      report = report;
+      told = r.1.0;
+      rows = rows;
+      equations = r.1.1.1.0;
+      certified = (exact n c.ring (rows_of n c rows) rows.columns cubes report).0 passed;
+      never = λ ports suits k entry lines cube at told named table loads. never n c ports rows cubes report p.1.0.ready suits r.1.1.1.0 passed k entry lines cube at told named table loads;
     }
 
 -- ---- of a run
@@ -232,6 +318,8 @@ untold files held' (outcome.Mismatch vector signal) done suits saved = absurd su
 untold files held' (outcome.Undetermined vector signal) done suits saved = absurd suits
 untold files held' (outcome.Scanned counts netlist report) done suits saved = saved
 untold files held' (outcome.Compiled counts netlist patterns report) done suits saved = absurd suits
+untold files held' (outcome.Certified unsolvable) done suits saved = absurd suits
+untold files held' (outcome.Generated counts replay) done suits saved = absurd suits
 
 lost : (files : ScanFiles) (old : Held) (o : Outcome) → status_of o ≡ Done → IsOfScan o → HaveSaved (scan_savings files o) (Some old) None → ⊥
 lost files old outcome.Usage done suits saved = suits
@@ -241,6 +329,8 @@ lost files old (outcome.Mismatch vector signal) done suits saved = suits
 lost files old (outcome.Undetermined vector signal) done suits saved = suits
 lost files old (outcome.Scanned counts netlist report) done suits saved = saved
 lost files old (outcome.Compiled counts netlist patterns report) done suits saved = suits
+lost files old (outcome.Certified unsolvable) done suits saved = suits
+lost files old (outcome.Generated counts replay) done suits saved = suits
 
 told_scans : (files : ScanFiles) (held held' : Option Held) (o : Outcome) → status_of o ≡ Done → Told (λ h. Reaches (course_of_scan files) h o) held → IsOfScan o → HaveSaved (scan_savings files o) held held' → ToldChange (Scans files) held held'
 told_scans files None held' o done told suits saved = untold files held' o done suits saved
@@ -255,6 +345,8 @@ compile_untold files held' (outcome.Mismatch vector signal) done suits saved = a
 compile_untold files held' (outcome.Undetermined vector signal) done suits saved = absurd suits
 compile_untold files held' (outcome.Scanned counts netlist report) done suits saved = absurd suits
 compile_untold files held' (outcome.Compiled counts netlist patterns report) done suits saved = saved
+compile_untold files held' (outcome.Certified unsolvable) done suits saved = absurd suits
+compile_untold files held' (outcome.Generated counts replay) done suits saved = absurd suits
 
 compile_lost : (files : CompileFiles) (old : Held) (o : Outcome) → status_of o ≡ Done → IsOfCompile o → HaveSaved (compile_savings files o) (Some old) None → ⊥
 compile_lost files old outcome.Usage done suits saved = suits
@@ -264,11 +356,17 @@ compile_lost files old (outcome.Mismatch vector signal) done suits saved = suits
 compile_lost files old (outcome.Undetermined vector signal) done suits saved = suits
 compile_lost files old (outcome.Scanned counts netlist report) done suits saved = suits
 compile_lost files old (outcome.Compiled counts netlist patterns report) done suits saved = saved
+compile_lost files old (outcome.Certified unsolvable) done suits saved = suits
+compile_lost files old (outcome.Generated counts replay) done suits saved = suits
 
 told_compiles : CompilationsHold → (files : CompileFiles) (held held' : Option Held) (o : Outcome) → status_of o ≡ Done → Told (λ h. Reaches (course_of_compile files) h o) held → IsOfCompile o → HaveSaved (compile_savings files o) held held' → ToldChange (Compiles files) held held'
 told_compiles hold files None held' o done told suits saved = compile_untold files held' o done suits saved
 told_compiles hold files (Some old) None o done told suits saved = compile_lost files old o done suits saved
 told_compiles hold files (Some old) (Some new) o done told suits saved = compiles hold files old new o done told saved
+
+told_certifies : CertifiedExactly → CertifiedInRuns → (files : CertifyFiles) (held : Option Held) (o : Outcome) → status_of o ≡ Done → Told (λ h. Reaches (course_of_certify files) h o) held → Told (Certifies files) held
+told_certifies exact never files None o done told = tt
+told_certifies exact never files (Some held) o done told = certifies exact never files held o done told
 
 -- of words that are for a command
 pub passes_for : (words : List (List ℕ)) (command : Option Command) (before after : Seen) (answer : Answer) → AreFor words command → EndsFor command before after answer → PassesTold words before.held answer
@@ -288,3 +386,9 @@ compiles_for hold words command before after answer are ended files is done =
     let ends = subst (λ (command : Option Command). EndsFor command before after answer) (for_once words command (Some (Compile files)) are is) ended in
     let d = ends_done (Some (Compile files)) before after answer ends done in
     told_compiles hold files before.held after.held d.o d.done d.told.told d.told.suits d.saved
+
+pub certifies_for : CertifiedExactly → CertifiedInRuns → (words : List (List ℕ)) (command : Option Command) (before after : Seen) (answer : Answer) → AreFor words command → EndsFor command before after answer → CertifiesTold words before.held answer
+certifies_for exact never words command before after answer are ended files is done =
+    let ends = subst (λ (command : Option Command). EndsFor command before after answer) (for_once words command (Some (Certify files)) are is) ended in
+    let d = ends_done (Some (Certify files)) before after answer ends done in
+    told_certifies exact never files before.held d.o d.done d.told.told

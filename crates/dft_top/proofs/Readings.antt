@@ -40,12 +40,18 @@ use Rattle.dft_stil_text.specs.PatternText as PatternText
 use Rattle.dft_stil.specs.Refusals as StilRefusals
 use Rattle.dft_stil.specs.Refusals.{IsFirstRefusal}
 use Rattle.dft_stil_text.specs.declared.limits.TheConstants.{MAX_VECTORS}
+use Rattle.dft_stitch.specs.Plans.{Plan}
+use Rattle.dft_report.specs.declared.report.Report.{Report}
+use Rattle.dft_report_in.specs.declared.error.ReadError.{ReadError}
+use Rattle.dft_report_in.specs.declared.error.ReadError.TheVariants as read
+use Rattle.dft_report_in.specs.Reading.{report_of}
+use Rattle.dft_report_in.specs.Reading as reports
 use Rattle.dft_top.specs.declared.answer.Refusal.{Refusal}
 use Rattle.dft_top.specs.declared.outcome.Outcome.{Outcome}
 use Rattle.dft_top.specs.declared.outcome.Outcome.TheVariants.{Refused}
 use Rattle.dft_top.specs.declared.limits.TheConstants.{MAX_LIBRARY_BYTES}
-use Rattle.dft_top.specs.Refusals.{compile_refusal, config_refusal, cube_refusal, library_refusal, stil_refusal, verilog_refusal}
-use Rattle.dft_top.specs.Checks.{ConfigText, CubeText, DesignGives, FileGives, LibraryGives, LibraryText, NetlistText, PatternText, Then}
+use Rattle.dft_top.specs.Refusals.{compile_refusal, config_refusal, cube_refusal, library_refusal, read_refusal, stil_refusal, verilog_refusal}
+use Rattle.dft_top.specs.Checks.{ConfigText, CubeText, DesignGives, FileGives, IsPlanned, LibraryGives, LibraryText, NetlistText, PatternText, PlanGives, ReportText, Then, plan_refusal}
 use Rattle.dft_top.proofs.NetlistRefusals.{IsReason, reason_one, finished_or_refused}
 
 err_same : {A E : Type 0} (r : Result A E) (a b : E) → r ≡ Err a → r ≡ Err b → a ≡ b
@@ -308,3 +314,30 @@ cube_text_one n c text (Ok given) (Err refusal) x y = absurd (cubes_or_refused (
 cube_text_one n c text (Err refusal) (Ok given) x y = absurd (cubes_or_refused (cubes.cubes_of n c text) given x.0 y (cube_told (cubes.cubes_of n c text) x.0 refusal x.1.0 x.1.1))
 cube_text_one n c text (Err a) (Err b) x y =
     ap Err (told_one _ _ a b (ap cube_refusal (err_same (cubes.cubes_of n c text) x.0 y.0 (cube_told (cubes.cubes_of n c text) x.0 a x.1.0 x.1.1) (cube_told (cubes.cubes_of n c text) y.0 b y.1.0 y.1.1))) x.1.1 y.1.1)
+
+-- ---- the plan of a test of certificates
+
+plan_same : (n : Netlist) (c : Config) (p q : Plan) → IsPlanned n c p → IsPlanned n c q → p ≡ q
+plan_same n c p q x y = x.is ∙ sym y.is
+
+pub plan_gives_one : (n : Netlist) (c : Config) (r s : Result Plan Refusal) → PlanGives n c r → PlanGives n c s → r ≡ s
+plan_gives_one n c (Ok p) (Ok q) x y = ap Ok (plan_same n c p q x y)
+plan_gives_one n c (Ok p) (Err refusal) x y = absurd (accepted_or_refused (plan_refusal n c) y.0 x.accepted y.1.0)
+plan_gives_one n c (Err refusal) (Ok p) x y = absurd (accepted_or_refused (plan_refusal n c) x.0 y.accepted x.1.0)
+plan_gives_one n c (Err a) (Err b) x y = ap Err (told_one _ _ a b (ap compile_refusal (compile_error_one (plan_refusal n c) x.0 y.0 x.1.0 y.1.0)) x.1.1 y.1.1)
+
+-- ---- the report
+
+report_told : (told : Result Report ReadError) (error : ReadError) (refusal : Refusal) → reports.IsRefused told error → read_refusal error ≡ Some refusal → told ≡ Err error
+report_told told (read.K1 place) refusal refused is = refused
+report_told told (read.Memory error) refusal refused is = absurd cc
+
+report_or_refused : (told : Result Report ReadError) (report : Report) (error : ReadError) → told ≡ Ok report → told ≡ Err error → ⊥
+report_or_refused told report error x y = let e : Ok report ≡ Err error = sym x ∙ y in cc
+
+pub report_text_one : (text : List ℕ) (r s : Result Report Refusal) → ReportText text r → ReportText text s → r ≡ s
+report_text_one text (Ok a) (Ok b) x y = ap Ok (ok_same (report_of text) a b x y)
+report_text_one text (Ok report) (Err refusal) x y = absurd (report_or_refused (report_of text) report y.0 x (report_told (report_of text) y.0 refusal y.1.0 y.1.1))
+report_text_one text (Err refusal) (Ok report) x y = absurd (report_or_refused (report_of text) report x.0 y (report_told (report_of text) x.0 refusal x.1.0 x.1.1))
+report_text_one text (Err a) (Err b) x y =
+    ap Err (told_one _ _ a b (ap read_refusal (err_same (report_of text) x.0 y.0 (report_told (report_of text) x.0 a x.1.0 x.1.1) (report_told (report_of text) y.0 b y.1.0 y.1.1))) x.1.1 y.1.1)

@@ -11,10 +11,12 @@ use Rattle.dft_top.specs.declared.outcome.Outcome.{Outcome}
 use Rattle.dft_top.specs.declared.stop.Stop.{Stop}
 use Rattle.dft_top.specs.declared.stop.Stop.TheVariants.{Refused, ReadFault, OutOfMemory}
 use Rattle.dft_compile.specs.declared.prepared.Prepared.{Prepared}
-use Rattle.dft_words.specs.Words.{ReplayFiles, ScanFiles, CompileFiles}
+use Rattle.dft_cubes.specs.declared.cube.Cube.{Cube}
+use Rattle.dft_stitch.specs.Plans.{Plan}
+use Rattle.dft_words.specs.Words.{ReplayFiles, ScanFiles, CompileFiles, CertifyFiles}
 use Rattle.dft_top.specs.Checks.{ConfigGives, FileGives, NetlistGives, PatternsGive, Then}
 use Rattle.dft_top.specs.Courses.{Course, Reaches, Step, TurnComes}
-use Rattle.dft_top.specs.Outcomes.{IsOutcomeOn, IsOutcomeOfScanOf, course_of_cubes, course_of_design}
+use Rattle.dft_top.specs.Outcomes.{IsOutcomeOn, IsOutcomeOfScanOf, course_of_certified, course_of_cubes, course_of_design, course_of_planned, course_of_report}
 use Rattle.dft_top.specs.Stops.{ComesTo, IsGiven, IsGivenTold}
 
 -- what all comes to: a step, and what comes behind
@@ -96,6 +98,14 @@ text_told limit option text_gives name text (Some h) (Err (Refused refusal)) tol
 text_told limit option text_gives name text (Some h) (Err ReadFault) told short given = tt
 text_told limit option text_gives name text (Some h) (Err OutOfMemory) told short given = tt
 
+-- what a text that is given as a file gives, the file gives
+pub file_told : {A : Type 0} (limit : ℕ) (option : List ℕ) (text_gives : List ℕ → Result A Refusal → Type 0) (name text : List ℕ) (held : Held) (r : Result A Stop) →
+    file_at name held ≡ Some text → IsGiven (FileGives limit option text_gives (Some text)) r → IsGivenTold (λ h. FileGives limit option text_gives (file_at name h)) (Some held) r
+file_told limit option text_gives name text held (Ok value) at given = rw at given
+file_told limit option text_gives name text held (Err (Refused refusal)) at given = rw at given
+file_told limit option text_gives name text held (Err ReadFault) at given = tt
+file_told limit option text_gives name text held (Err OutOfMemory) at given = tt
+
 -- ---- behind each file of a replay
 
 abbrev pub ReplayOn : ReplayFiles → Held → Netlist → Outcome → Type 0
@@ -126,3 +136,22 @@ CompileOver files h cells = Then (ConfigGives files.config h) (CompileOn files c
 -- behind the checks of the design
 abbrev pub CompileWith : Netlist → Config → (cubes : List ℕ) → Held → Prepared → Outcome → Type 0
 CompileWith n config cubes h prepared = Reaches (course_of_cubes n config cubes) h
+
+-- ---- behind each file of a test of certificates
+
+abbrev pub CertifyOf : CertifyFiles → Config → Held → Netlist → Outcome → Type 0
+CertifyOf files config h n = Reaches (course_of_planned n config files.cubes files.report) h
+
+abbrev pub CertifyOn : CertifyFiles → List Cell → Held → Config → Outcome → Type 0
+CertifyOn files cells h config = Then (NetlistGives cells files.netlist h) (CertifyOf files config h)
+
+abbrev pub CertifyOver : CertifyFiles → Held → List Cell → Outcome → Type 0
+CertifyOver files h cells = Then (ConfigGives files.config h) (CertifyOn files cells h)
+
+-- behind the plan of the design
+abbrev pub CertifyWith : Netlist → Config → (cubes report : List ℕ) → Held → Plan → Outcome → Type 0
+CertifyWith n config cubes report h plan = Reaches (course_of_certified n config cubes report) h
+
+-- behind the cubes
+abbrev pub CertifyFor : Netlist → Config → (report : List ℕ) → Held → List Cube → Outcome → Type 0
+CertifyFor n config report h cubes = Reaches (course_of_report n config cubes report) h

@@ -6,6 +6,14 @@ use Rattle.dft_top.specs.declared.answer.Answer.{Answer}
 use Rattle.dft_top.specs.declared.answer.Refusal.{Refusal}
 use Rattle.dft_top.specs.declared.outcome.Outcome.{Outcome}
 use Rattle.dft_top.specs.declared.outcome.Outcome.TheVariants as outcome
+use Rattle.dft_top.specs.declared.outcome.Replayed.{Replayed}
+use Rattle.dft_top.specs.declared.outcome.Replayed.TheVariants as replayed
+
+-- a generated job is done where its patterns pass
+abbrev pub replayed_status : Replayed → Status
+replayed_status (replayed.Passed vectors compared) = Done
+replayed_status (replayed.Mismatch vector signal) = NotPassed
+replayed_status (replayed.Undetermined vector signal) = NotPassed
 
 abbrev pub status_of : Outcome → Status
 status_of outcome.Usage = Usage
@@ -15,6 +23,8 @@ status_of (outcome.Mismatch vector signal) = NotPassed
 status_of (outcome.Undetermined vector signal) = NotPassed
 status_of (outcome.Scanned counts netlist report) = Done
 status_of (outcome.Compiled counts netlist patterns report) = Done
+status_of (outcome.Certified unsolvable) = Done
+status_of (outcome.Generated counts replay) = replayed_status replay
 
 abbrev pub refusal_of : Outcome → Option Refusal
 refusal_of outcome.Usage = None
@@ -24,6 +34,8 @@ refusal_of (outcome.Mismatch vector signal) = None
 refusal_of (outcome.Undetermined vector signal) = None
 refusal_of (outcome.Scanned counts netlist report) = None
 refusal_of (outcome.Compiled counts netlist patterns report) = None
+refusal_of (outcome.Certified unsolvable) = None
+refusal_of (outcome.Generated counts replay) = None
 
 -- the answer of an outcome
 abbrev pub answer_of : Outcome → Answer

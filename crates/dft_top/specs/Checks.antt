@@ -1,6 +1,6 @@
 -- What the files of a command give, each by its checks: a value, or the refusal of the first check that fails.
 use Rattle.std.specs.List.{All}
-use Rattle.std.specs.Prelude.{ℕ, ◌<◌, ◌≤◌, ◌^◌, ◌≡◌, ◌⊎◌, List, codes, length, Option, None, Some, Result, Ok, Err}
+use Rattle.std.specs.Prelude.{ℕ, ◌<◌, ◌≤◌, ◌^◌, ◌≡◌, ◌⊎◌, List, codes, length, Option, None, Some, option_map, [], ◌∷◌, Result, Ok, Err}
 use Rattle.dft_files.specs.Outside.{Held, file_at}
 use Rattle.dft_cells.specs.declared.cell.Cell.{Cell}
 use Rattle.dft_cells.specs.declared.refusal.LibraryError.{LibraryError}
@@ -29,16 +29,25 @@ use Rattle.dft_scan_frame.specs.Statements.{IsReady}
 use Rattle.dft_scan_hardware.specs.declared.style.Style.TheVariants.{Edt}
 use Rattle.dft_scan_hardware.specs.Statements.{scanned}
 use Rattle.dft_pass_laws.specs.Formed.{ArePortsNamed}
+use Rattle.dft_rules.specs.Refusals as rules
+use Rattle.dft_stitch.specs.Chains.{plan_of}
+use Rattle.dft_stitch.specs.Limits as stitch
+use Rattle.dft_stitch.specs.Plans.{Plan}
+use Rattle.dft_report.specs.declared.report.Report.{Report}
+use Rattle.dft_report_in.specs.declared.error.ReadError.{ReadError}
+use Rattle.dft_report_in.specs.Reading.{report_of}
+use Rattle.dft_report_in.specs.Reading as reports
 use Rattle.dft_compile.specs.declared.error.CompileError.{CompileError}
+use Rattle.dft_compile.specs.declared.error.CompileError.TheVariants.{Rules, Stitch}
 use Rattle.dft_compile.specs.declared.prepared.Prepared.{Prepared}
 use Rattle.dft_compile.specs.Prepared.{IsPrepared}
-use Rattle.dft_compile.specs.Refusals.{first_refusal}
+use Rattle.dft_compile.specs.Refusals.{first_failing, first_refusal}
 use Rattle.dft_top.specs.declared.answer.Code.TheVariants.{F1}
 use Rattle.dft_top.specs.declared.answer.Refusal.{Refusal}
 use Rattle.dft_top.specs.declared.outcome.Outcome.{Outcome}
 use Rattle.dft_top.specs.declared.outcome.Outcome.TheVariants.{Refused}
-use Rattle.dft_top.specs.declared.limits.TheConstants.{MAX_LIBRARY_BYTES, MAX_CONFIG_BYTES, MAX_NETLIST_BYTES, MAX_PATTERN_BYTES, MAX_CUBE_BYTES}
-use Rattle.dft_top.specs.Refusals.{named, library_refusal, config_refusal, verilog_refusal, stil_refusal, cube_refusal, compile_refusal}
+use Rattle.dft_top.specs.declared.limits.TheConstants.{MAX_LIBRARY_BYTES, MAX_CONFIG_BYTES, MAX_NETLIST_BYTES, MAX_PATTERN_BYTES, MAX_CUBE_BYTES, MAX_REPORT_BYTES}
+use Rattle.dft_top.specs.Refusals.{named, library_refusal, config_refusal, verilog_refusal, stil_refusal, cube_refusal, compile_refusal, read_refusal}
 
 -- ---- one file
 
@@ -139,6 +148,31 @@ pub record AreFew (given : List Cube) : Type 0 where
 
 abbrev pub CubesGive : Netlist → Config → (name : List ℕ) → Held → Result (List Cube) Refusal → Type 0
 CubesGive n config name held r = FileGives MAX_CUBE_BYTES (codes "cubes") (CubeText n config) (file_at name held) r
+
+-- ---- a design, before the cubes of a report are read
+
+-- the first check that fails, of the scan rules and then of the plan; nothing is inserted
+abbrev pub plan_refusal : Netlist → Config → Option CompileError
+plan_refusal n config = first_failing (option_map Rules (rules.refusal n config) ∷ option_map Stitch (stitch.refusal n config) ∷ [])
+
+-- the chains of a design that no check refuses
+pub record IsPlanned (n : Netlist) (config : Config) (plan : Plan) : Type 0 where
+  pub is : plan ≡ plan_of n config
+  pub ready : IsReady n config
+  pub accepted : plan_refusal n config ≡ None
+
+abbrev pub PlanGives : Netlist → Config → Result Plan Refusal → Type 0
+PlanGives n config (Ok plan) = IsPlanned n config plan
+PlanGives n config (Err refusal) = (error : CompileError) × ((plan_refusal n config ≡ Some error) × (compile_refusal error ≡ Some refusal))
+
+-- ---- the report
+
+abbrev pub ReportText : (text : List ℕ) → Result Report Refusal → Type 0
+ReportText text (Ok report) = report_of text ≡ Ok report
+ReportText text (Err refusal) = (error : ReadError) × (reports.IsRefused (report_of text) error × (read_refusal error ≡ Some refusal))
+
+abbrev pub ReportGives : (name : List ℕ) → Held → Result Report Refusal → Type 0
+ReportGives name held r = FileGives MAX_REPORT_BYTES (codes "report") ReportText (file_at name held) r
 
 -- ---- one file after another
 

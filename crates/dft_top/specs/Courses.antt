@@ -1,5 +1,6 @@
 -- What a command does up to its outcome: it loads one file after another, each of which gives a value by its checks or is refused.
 use Rattle.std.specs.Prelude.{ℕ, ◌≡◌, ◌⊎◌, List, Option, Some, Result}
+use Rattle.dft_top.specs.declared.outcome.Outcome.TheVariants.{Refused}
 use Rattle.dft_files.specs.Outside.{Held}
 use Rattle.dft_top.specs.declared.answer.Refusal.{Refusal}
 use Rattle.dft_top.specs.declared.outcome.Outcome.{Outcome}
@@ -25,3 +26,8 @@ Loads (End is) name = ⊥
 abbrev pub TurnComes : Course → Held → (name : List ℕ) → Type 0
 TurnComes (Step loads gives next) held name = (loads ≡ Some name) ⊎ After (gives held) (λ value. TurnComes (next value) held name)
 TurnComes (End is) held name = ⊥
+
+-- All checks pass: every step gives a value, and its end is no refusal.
+abbrev pub IsPassing : Course → Held → Type 0
+IsPassing (Step name gives next) held = After (gives held) (λ value. IsPassing (next value) held)
+IsPassing (End is) held = (refusal : Refusal) → is (Refused refusal) → ⊥

@@ -12,10 +12,14 @@ use Rattle.dft_stitch.specs.Chains.{plan_of}
 use Rattle.dft_cubes.specs.declared.cube.Cube.{Cube}
 use Rattle.dft_encode.specs.Compiled.{Placing}
 use Rattle.dft_compile.specs.Refusals.{first_refusal}
-use Rattle.dft_words.specs.Words.{ReplayFiles, ScanFiles, CompileFiles, IsReplay, IsScan, IsCompile}
+use Rattle.dft_equations.specs.LoadRows.{LoadRows}
+use Rattle.dft_load_laws.specs.Loading.{AreRows, rows_of}
+use Rattle.dft_report.specs.declared.report.Report.{Report}
+use Rattle.dft_certify.specs.Certifying.{certify_refusal, unsolvable_in}
+use Rattle.dft_words.specs.Words.{ReplayFiles, ScanFiles, CompileFiles, CertifyFiles, IsReplay, IsScan, IsCompile, IsCertify}
 use Rattle.dft_top.specs.declared.outcome.Outcome.{Outcome}
-use Rattle.dft_top.specs.declared.outcome.Outcome.TheVariants.{Scanned}
-use Rattle.dft_top.specs.Checks.{ConfigGives, CubesGive, LibraryGives, NetlistGives, PatternsGive}
+use Rattle.dft_top.specs.declared.outcome.Outcome.TheVariants.{Scanned, Certified}
+use Rattle.dft_top.specs.Checks.{ConfigGives, CubesGive, LibraryGives, NetlistGives, PatternsGive, ReportGives, plan_refusal}
 use Rattle.dft_top.specs.Outcomes.{IsCompiled, IsOutcome, IsOutcomeOn, refusal_of}
 
 abbrev pub OutcomeIsOne : Type 0
@@ -41,3 +45,12 @@ PassingIsCompiled =
     (words : List (List ℕ)) (files : CompileFiles) (held : Held) (cells : List Cell) (config : Config) (n : Netlist) (cubes : List Cube) (placing : Placing config (plan_of n config) cubes) (o : Outcome) → IsCompile words files →
     LibraryGives files.library held (Ok cells) → ConfigGives files.config held (Ok config) → NetlistGives cells files.netlist held (Ok n) → first_refusal n config ≡ None →
     CubesGive n config files.cubes held (Ok cubes) → refusal_of n config cubes placing ≡ None → IsOutcome words held o → IsCompiled n config cubes placing o
+
+-- where each file of a test of certificates passes its checks, and no check of the design and of the report's sums fails, the cubes that are reported
+-- unsolvable are certified
+abbrev pub PassingIsCertified : Type 0
+PassingIsCertified =
+    (words : List (List ℕ)) (files : CertifyFiles) (held : Held) (cells : List Cell) (config : Config) (n : Netlist) (cubes : List Cube) (report : Report) (rows : LoadRows) (o : Outcome) → IsCertify words files →
+    LibraryGives files.library held (Ok cells) → ConfigGives files.config held (Ok config) → NetlistGives cells files.netlist held (Ok n) → plan_refusal n config ≡ None →
+    CubesGive n config files.cubes held (Ok cubes) → ReportGives files.report held (Ok report) → AreRows n config rows →
+    certify_refusal n config.ring (rows_of n config rows) rows.columns cubes report ≡ None → IsOutcome words held o → o ≡ Certified (unsolvable_in report.cubes)

@@ -1,14 +1,16 @@
--- The line that a command prints, with the line's end.
+-- The line that a command prints, with the line's end; a generated job has two.
 use Rattle.std.specs.Prelude.{ℕ, ℤ, List, [], ◌∷◌, ◌++◌, codes, Option, None, Some}
 use Rattle.std.specs.Fmt.{decimal, signed_decimal}
 use Rattle.dft_base.specs.declared.place.Place.{Place}
 use Rattle.dft_scan.specs.declared.texts.Counts.{Counts}
 use Rattle.dft_compile.specs.declared.texts.Counts as compiled
 use Rattle.dft_top.specs.declared.answer.Code.{Code}
-use Rattle.dft_top.specs.declared.answer.Code.TheVariants.{F1, L1, L2, L3, L4, L5, L6, L7, C1, C2, C3, C4, C5, C6, V1, V2, V3, V4, V5, V6, V7, V8, V9, V10, V11, V12, N1, N2, N3, N4, G1, G2, G3, G4, G5, G6, G7, P1, P2, P3, P4, P5, P6, P7, P8, P9, P10, Q1, Q2, Q3, Q4, Q5, Q6, Q7, Q8, Q9, K6}
+use Rattle.dft_top.specs.declared.answer.Code.TheVariants.{F1, L1, L2, L3, L4, L5, L6, L7, C1, C2, C3, C4, C5, C6, V1, V2, V3, V4, V5, V6, V7, V8, V9, V10, V11, V12, N1, N2, N3, N4, G1, G2, G3, G4, G5, G6, G7, P1, P2, P3, P4, P5, P6, P7, P8, P9, P10, Q1, Q2, Q3, Q4, Q5, Q6, Q7, Q8, Q9, K1, K2, K3, K4, K5, K6}
 use Rattle.dft_top.specs.declared.answer.Refusal.{Refusal}
 use Rattle.dft_top.specs.declared.outcome.Outcome.{Outcome}
-use Rattle.dft_top.specs.declared.outcome.Outcome.TheVariants.{Usage, Refused, Passed, Mismatch, Undetermined, Scanned, Compiled}
+use Rattle.dft_top.specs.declared.outcome.Outcome.TheVariants.{Usage, Refused, Passed, Mismatch, Undetermined, Scanned, Compiled, Certified, Generated}
+use Rattle.dft_top.specs.declared.outcome.Replayed.{Replayed}
+use Rattle.dft_top.specs.declared.outcome.Replayed.TheVariants as replayed
 
 abbrev pub code_text : Code → List ℕ
 code_text F1 = codes "F1"
@@ -67,6 +69,11 @@ code_text Q6 = codes "Q6"
 code_text Q7 = codes "Q7"
 code_text Q8 = codes "Q8"
 code_text Q9 = codes "Q9"
+code_text K1 = codes "K1"
+code_text K2 = codes "K2"
+code_text K3 = codes "K3"
+code_text K4 = codes "K4"
+code_text K5 = codes "K5"
 code_text K6 = codes "K6"
 
 -- ---- the parts of a refusal, each behind a blank
@@ -119,6 +126,19 @@ vector_part counts = codes " masked " ++ (decimal counts.masked ++ (codes " vect
 abbrev pub compiled_line : compiled.Counts → List ℕ
 compiled_line counts = load_part counts ++ (fate_part counts ++ (vector_part counts ++ codes "\n"))
 
+abbrev pub certified_line : (unsolvable : ℕ) → List ℕ
+certified_line unsolvable = codes "certified " ++ (decimal unsolvable ++ codes " cubes\n")
+
+-- what a replay of a generated job comes to
+abbrev pub replayed_line : Replayed → List ℕ
+replayed_line (replayed.Passed vectors compared) = passed_line vectors compared
+replayed_line (replayed.Mismatch vector signal) = failed_line (codes "mismatch") vector signal
+replayed_line (replayed.Undetermined vector signal) = failed_line (codes "undetermined") vector signal
+
+-- the line of the compilation, and then that of the replay
+abbrev pub generated_lines : compiled.Counts → Replayed → List ℕ
+generated_lines counts replay = compiled_line counts ++ replayed_line replay
+
 abbrev pub line_of : Outcome → List ℕ
 line_of Usage = usage_line
 line_of (Refused refusal) = refused_line refusal
@@ -127,3 +147,5 @@ line_of (Mismatch vector signal) = failed_line (codes "mismatch") vector signal
 line_of (Undetermined vector signal) = failed_line (codes "undetermined") vector signal
 line_of (Scanned counts netlist report) = scanned_line counts
 line_of (Compiled counts netlist patterns report) = compiled_line counts
+line_of (Certified unsolvable) = certified_line unsolvable
+line_of (Generated counts replay) = generated_lines counts replay

@@ -1,5 +1,5 @@
 -- What a command comes to, from its words and the files that are held.
-use Rattle.std.specs.Prelude.{ℕ, ◌≡◌, List, [], length, Option, None, Some, slice_get}
+use Rattle.std.specs.Prelude.{ℕ, ◌≡◌, List, [], ◌∷◌, codes, length, Option, None, Some, slice_get}
 use Rattle.dft_files.specs.Outside.{Held}
 use Rattle.dft_config.specs.declared.config.Config.{Config}
 use Rattle.dft_scan_frame.specs.Statements.{IsReady}
@@ -23,13 +23,26 @@ use Rattle.dft_encode.specs.Compiled.{Placing, ArePatterns}
 use Rattle.dft_compile.specs.declared.error.CompileError.{CompileError}
 use Rattle.dft_compile.specs.Refusals.{late_refusal}
 use Rattle.dft_compile.specs.Texts as compiled
-use Rattle.dft_words.specs.Words.{Command, Replay, Scan, Compile, ReplayFiles, ScanFiles, CompileFiles, AreFor}
+use Rattle.dft_compile.specs.declared.texts.Counts.{Counts}
+use Rattle.dft_equations.specs.LoadRows.{LoadRows}
+use Rattle.dft_load_laws.specs.Loading.{AreRows, rows_of}
+use Rattle.dft_report.specs.declared.report.Report.{Report}
+use Rattle.dft_certify.specs.declared.error.CertifyError.{CertifyError}
+use Rattle.dft_certify.specs.Certifying.{certify_refusal, unsolvable_in}
+use Rattle.dft_generate.specs.Jobs.{IsSize}
+use Rattle.dft_generate.specs.Words.{words_of}
+use Rattle.dft_generate.specs.Netlists.{netlist_text as job_netlist}
+use Rattle.dft_generate.specs.Configurations.{configuration_text as job_configuration}
+use Rattle.dft_generate.specs.Cubes.{cubes_text as job_cubes}
+use Rattle.dft_words.specs.Words.{Command, Replay, Scan, Compile, Certify, Generate, ReplayFiles, ScanFiles, CompileFiles, CertifyFiles, JobNumbers, AreFor}
 use Rattle.dft_top.specs.declared.answer.Code.TheVariants.{P7}
 use Rattle.dft_top.specs.declared.answer.Refusal.{Refusal}
 use Rattle.dft_top.specs.declared.outcome.Outcome.{Outcome}
-use Rattle.dft_top.specs.declared.outcome.Outcome.TheVariants.{Usage, Refused, Passed, Mismatch, Undetermined, Scanned, Compiled}
+use Rattle.dft_top.specs.declared.outcome.Outcome.TheVariants.{Usage, Refused, Passed, Mismatch, Undetermined, Scanned, Compiled, Certified, Generated}
+use Rattle.dft_top.specs.declared.outcome.Replayed.TheVariants as replayed
 use Rattle.dft_top.specs.Refusals.{named, scan_refusal, compile_refusal}
-use Rattle.dft_top.specs.Checks.{LibraryGives, ConfigGives, NetlistGives, PatternsGive, DesignGives, CubesGive}
+use Rattle.dft_top.specs.Refusals as refusals
+use Rattle.dft_top.specs.Checks.{LibraryGives, ConfigGives, NetlistGives, PatternsGive, DesignGives, CubesGive, PlanGives, ReportGives}
 use Rattle.dft_top.specs.Courses.{Course, Step, End, Reaches, Loads, TurnComes}
 
 -- ---- a replay
@@ -126,20 +139,124 @@ course_of_compile files =
     Step (Some files.netlist) (NetlistGives cells files.netlist) (λ n.
     course_of_design n config files.cubes)))
 
+-- ---- a test of certificates
+
+-- the first test that fails is refused, and else the cubes that are reported unsolvable are certified
+abbrev pub IsOutcomeOfTest : Report → Option CertifyError → Outcome → Type 0
+IsOutcomeOfTest report (Some error) o = IsRefusal (refusals.certify_refusal error) o
+IsOutcomeOfTest report None o = o ≡ Certified (unsolvable_in report.cubes)
+
+-- the report is tested over the load equations of the planned chains
+abbrev pub IsOutcomeOfReport : Netlist → Config → List Cube → Report → Outcome → Type 0
+IsOutcomeOfReport n config cubes report o =
+    (rows : LoadRows) × (AreRows n config rows × IsOutcomeOfTest report (certify_refusal n config.ring (rows_of n config rows) rows.columns cubes report) o)
+
+-- the report, and then its tests
+abbrev pub course_of_report : Netlist → Config → List Cube → (report : List ℕ) → Course
+course_of_report n config cubes report = Step (Some report) (ReportGives report) (λ given. End (IsOutcomeOfReport n config cubes given))
+
+-- the cubes, and then the report
+abbrev pub course_of_certified : Netlist → Config → (cubes report : List ℕ) → Course
+course_of_certified n config cubes report = Step (Some cubes) (CubesGive n config cubes) (λ given. course_of_report n config given report)
+
+-- the checks of the scan rules and of the plan, and then the cubes
+abbrev pub course_of_planned : Netlist → Config → (cubes report : List ℕ) → Course
+course_of_planned n config cubes report = Step None (λ held. PlanGives n config) (λ plan. course_of_certified n config cubes report)
+
+-- the library, then the configuration, then the netlist, and then the plan
+abbrev pub course_of_certify : CertifyFiles → Course
+course_of_certify files =
+    Step files.library (LibraryGives files.library) (λ cells.
+    Step (Some files.config) (ConfigGives files.config) (λ config.
+    Step (Some files.netlist) (NetlistGives cells files.netlist) (λ n.
+    course_of_planned n config files.cubes files.report)))
+
+-- ---- a generated job
+
+-- three texts, as files that have the names of the options of a compilation
+abbrev pub texts_held : (netlist config cubes : List ℕ) → Held
+texts_held netlist config cubes = (codes "netlist", netlist) ∷ (codes "config", config) ∷ (codes "cubes", cubes) ∷ []
+
+-- those of a job
+abbrev pub job_held : JobNumbers → Held
+job_held numbers =
+    let words = words_of numbers.seed numbers.size in texts_held (job_netlist numbers.size words) job_configuration (job_cubes numbers.size words)
+
+abbrev pub job_files : CompileFiles
+job_files = record {
+  library = None;
+  netlist = codes "netlist";
+  config = codes "config";
+  cubes = codes "cubes";
+  out_netlist = codes "out-netlist";
+  out_patterns = codes "out-patterns";
+  out_report = codes "out-report";
+}
+
+-- what a compilation makes, as files that have the names of the options of a replay
+abbrev pub made_held : (netlist patterns : List ℕ) → Held
+made_held netlist patterns = (codes "netlist", netlist) ∷ (codes "patterns", patterns) ∷ []
+
+abbrev pub made_files : ReplayFiles
+made_files = record { library = None; netlist = codes "netlist"; patterns = codes "patterns" }
+
+-- what a compilation with these counts, and then this outcome of a replay, come to
+abbrev pub generated : Counts → Outcome → Outcome
+generated counts Usage = Usage
+generated counts (Refused refusal) = Refused refusal
+generated counts (Passed vectors compared) = Generated counts (replayed.Passed vectors compared)
+generated counts (Mismatch vector signal) = Generated counts (replayed.Mismatch vector signal)
+generated counts (Undetermined vector signal) = Generated counts (replayed.Undetermined vector signal)
+generated counts (Scanned scan netlist report) = Scanned scan netlist report
+generated counts (Compiled other netlist patterns report) = Compiled other netlist patterns report
+generated counts (Certified unsolvable) = Certified unsolvable
+generated counts (Generated other replay) = Generated other replay
+
+-- What a compilation made is replayed; a refusal of either is the outcome.
+abbrev pub IsReplayedOf : (compilation : Outcome) → Outcome → Type 0
+IsReplayedOf Usage o = ⊥
+IsReplayedOf (Refused refusal) o = o ≡ Refused refusal
+IsReplayedOf (Passed vectors compared) o = ⊥
+IsReplayedOf (Mismatch vector signal) o = ⊥
+IsReplayedOf (Undetermined vector signal) o = ⊥
+IsReplayedOf (Scanned counts netlist report) o = ⊥
+IsReplayedOf (Compiled counts netlist patterns report) o = (replay : Outcome) × (Reaches (course_of_replay made_files) (made_held netlist patterns) replay × (o ≡ generated counts replay))
+IsReplayedOf (Certified unsolvable) o = ⊥
+IsReplayedOf (Generated counts replay) o = ⊥
+
+-- The texts of the job are compiled, and what comes of it is replayed.
+abbrev pub IsOutcomeOfJob : JobNumbers → Outcome → Type 0
+IsOutcomeOfJob numbers o = (compilation : Outcome) × (Reaches (course_of_compile job_files) (job_held numbers) compilation × IsReplayedOf compilation o)
+
+-- nothing is loaded
+abbrev pub course_of_generate : JobNumbers → Course
+course_of_generate numbers = End (IsOutcomeOfJob numbers)
+
 -- ---- of words
 
--- what words are for: Usage, or what the command's files come to
+-- what words are for: Usage, or what the command comes to
 abbrev pub course_of : Option Command → Course
 course_of None = End (λ o. o ≡ Usage)
 course_of (Some (Replay files)) = course_of_replay files
 course_of (Some (Scan files)) = course_of_scan files
 course_of (Some (Compile files)) = course_of_compile files
+course_of (Some (Certify files)) = course_of_certify files
+course_of (Some (Generate numbers)) = course_of_generate numbers
 
 abbrev pub IsOutcomeFor : Option Command → Held → Outcome → Type 0
 IsOutcomeFor command held o = Reaches (course_of command) held o
 
 abbrev pub IsOutcome : List (List ℕ) → Held → Outcome → Type 0
 IsOutcome words held o = (command : Option Command) × (AreFor words command × IsOutcomeFor command held o)
+
+-- a job has as many cells as a job may have
+abbrev pub IsSized : Option Command → Type 0
+IsSized None = Unit {0}
+IsSized (Some (Replay files)) = Unit {0}
+IsSized (Some (Scan files)) = Unit {0}
+IsSized (Some (Compile files)) = Unit {0}
+IsSized (Some (Certify files)) = Unit {0}
+IsSized (Some (Generate numbers)) = IsSize numbers.size
 
 -- ---- which file is loaded
 

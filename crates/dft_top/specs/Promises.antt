@@ -1,5 +1,5 @@
 -- What Done promises of a command.
-use Rattle.std.specs.Prelude.{ℕ, ◌≡◌, List, None, Some, Ok}
+use Rattle.std.specs.Prelude.{ℕ, ◌≡◌, List, None, Some, Ok, slice_get}
 use Rattle.dft_files.specs.Outside.{Held, file_at}
 use Rattle.dft_cells.specs.declared.cell.Cell.{Cell}
 use Rattle.dft_config.specs.declared.config.Config.{Config}
@@ -27,8 +27,17 @@ use Rattle.dft_vectors.specs.PatternData.{PatternData}
 use Rattle.dft_encode.specs.Compiled.{ArePatterns, Placing}
 use Rattle.dft_compile.specs.Texts as compiled
 use Rattle.dft_compile_laws.specs.Holding.{HoldsOf}
-use Rattle.dft_words.specs.Words.{ReplayFiles, ScanFiles, CompileFiles}
-use Rattle.dft_top.specs.Checks.{LibraryGives, ConfigGives, NetlistGives, PatternsGive, CubesGive}
+use Rattle.dft_config.specs.Ring.{Table}
+use Rattle.dft_equations.specs.LoadRows.{LoadRows}
+use Rattle.dft_load_laws.specs.Loading.{AreRows, LoadsOnce, rows_of}
+use Rattle.dft_report.specs.declared.report.CubeLine.TheVariants.{Unsolvable}
+use Rattle.dft_report.specs.declared.report.CubeReport.{CubeReport}
+use Rattle.dft_report.specs.declared.report.Report.{Report}
+use Rattle.dft_report.specs.declared.report.SumLine.{SumLine}
+use Rattle.dft_certify.specs.Certifying.{cube_named}
+use Rattle.dft_certify.specs.Laws.{AllCertified}
+use Rattle.dft_words.specs.Words.{ReplayFiles, ScanFiles, CompileFiles, CertifyFiles}
+use Rattle.dft_top.specs.Checks.{LibraryGives, ConfigGives, NetlistGives, PatternsGive, CubesGive, PlanGives, ReportGives}
 
 -- every run of the netlist over the patterns shows each compared bit as printed
 abbrev pub EveryRunShows : Netlist → Patterns → Type 0
@@ -102,3 +111,34 @@ pub record Compiles (files : CompileFiles) (old new : Held) : Type 0 where
   pub loads : (ports : Ports) → SuitsEdt netlist config ports → LoadsInRuns netlist config ports
   pub unloads : (ports : Ports) → SuitsEdt netlist config ports → UnloadsInRuns netlist config ports
   pub holds : HoldsOf netlist config cubes placing list
+
+-- ---- a test of certificates
+
+-- no table of channel bits loads a cube that the report calls unsolvable, in any run of the scanned netlist, under all ports that suit
+abbrev pub NeverLoads : Netlist → Config → List Cube → Report → Type 0
+NeverLoads n config cubes report =
+    (ports : Ports) → SuitsEdt n config ports → (k : ℕ) (entry : CubeReport) (lines : List SumLine) (cube : Cube) → slice_get report.cubes k ≡ Some entry → entry.outcome ≡ Unsolvable lines →
+    cube_named cubes entry.name ≡ Some cube → (table : Table) → LoadsOnce n config ports table cube.cells → ⊥
+
+-- The netlist, the configuration, the cubes and the report are those of the held texts, over the cells of the library, and the scan rules and the
+-- plan pass. The sums that the report prints for each cube that it calls unsolvable certify the cube of that name, over the load equations of the
+-- planned chains; and no table of channel bits loads such a cube in any run.
+pub record Certifies (files : CertifyFiles) (held : Held) : Type 0 where
+  pub cells : List Cell
+  pub library : LibraryGives files.library held (Ok cells)
+  pub config : Config
+  pub settings : ConfigGives files.config held (Ok config)
+  pub netlist : Netlist
+  pub design : NetlistGives cells files.netlist held (Ok netlist)
+  pub ready : IsReady netlist config
+  pub planned : PlanGives netlist config (Ok (plan_of netlist config))
+  pub cubes : List Cube
+  pub given : CubesGive netlist config files.cubes held (Ok cubes)
+  pub report : Report
+  pub told : ReportGives files.report held (Ok report)
+  -- what is tested
+  pub rows : LoadRows
+  pub equations : AreRows netlist config rows
+  pub certified : AllCertified netlist config.ring (rows_of netlist config rows) rows.columns cubes report.cubes
+  -- what follows
+  pub never : NeverLoads netlist config cubes report

@@ -1,4 +1,4 @@
--- Refusals, and what the errors of readers, of a scan and of a compilation come to.
+-- Refusals, and what the errors of readers, of a scan, of a compilation and of a test of certificates come to.
 use Rattle.std.specs.Prelude.{ℕ, ℤ, pos, List, codes, Option, None, Some}
 use Rattle.dft_base.specs.declared.place.Place.{Place}
 use Rattle.dft_cells.specs.declared.refusal.LibraryError.{LibraryError}
@@ -31,8 +31,12 @@ use Rattle.dft_stil_out.specs.declared.write_error.WriteError.{WriteError}
 use Rattle.dft_stil_out.specs.declared.write_error.WriteError.TheVariants as write
 use Rattle.dft_compile.specs.declared.error.CompileError.{CompileError}
 use Rattle.dft_compile.specs.declared.error.CompileError.TheVariants as compile
+use Rattle.dft_report_in.specs.declared.error.ReadError.{ReadError}
+use Rattle.dft_report_in.specs.declared.error.ReadError.TheVariants as read
+use Rattle.dft_certify.specs.declared.error.CertifyError.{CertifyError}
+use Rattle.dft_certify.specs.declared.error.CertifyError.TheVariants as certify
 use Rattle.dft_top.specs.declared.answer.Code.{Code}
-use Rattle.dft_top.specs.declared.answer.Code.TheVariants.{L1, L2, L3, L4, L5, L6, L7, C1, C2, C3, C4, C5, C6, V1, V2, V3, V4, V5, V6, V7, V8, V9, V10, V11, V12, N1, N2, N3, N4, G1, G2, G3, G4, G5, G6, G7, P1, P2, P3, P4, P5, P6, P8, P9, P10, Q1, Q2, Q3, Q4, Q5, Q6, Q7, Q8, Q9, K6}
+use Rattle.dft_top.specs.declared.answer.Code.TheVariants.{L1, L2, L3, L4, L5, L6, L7, C1, C2, C3, C4, C5, C6, V1, V2, V3, V4, V5, V6, V7, V8, V9, V10, V11, V12, N1, N2, N3, N4, G1, G2, G3, G4, G5, G6, G7, P1, P2, P3, P4, P5, P6, P8, P9, P10, Q1, Q2, Q3, Q4, Q5, Q6, Q7, Q8, Q9, K1, K2, K3, K4, K5, K6}
 use Rattle.dft_top.specs.declared.answer.Refusal.{Refusal}
 
 -- ---- refusals by their parts
@@ -179,3 +183,16 @@ compile_refusal (compile.Insert error) = insert_refusal error
 compile_refusal (compile.Patterns error) = write_refusal error
 compile_refusal (compile.Report error) = report_refusal error
 compile_refusal (compile.Memory error) = None
+
+-- ---- the refusal of a test of certificates
+
+abbrev pub read_refusal : ReadError → Option Refusal
+read_refusal (read.K1 place) = Some (placed K1 place)
+read_refusal (read.Memory error) = None
+
+abbrev pub certify_refusal : CertifyError → Option Refusal
+certify_refusal (certify.K2 place name) = Some (worded K2 place name)
+certify_refusal (certify.K3 name) = Some (named K3 name)
+certify_refusal (certify.K4 place name) = Some (worded K4 place name)
+certify_refusal (certify.K5 name) = Some (named K5 name)
+certify_refusal (certify.Memory error) = None

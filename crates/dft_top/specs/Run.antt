@@ -7,11 +7,11 @@ use Rattle.dft_top.specs.declared.answer.Status.TheVariants.{Done, NotPassed, Us
 use Rattle.dft_top.specs.declared.answer.Answer.{Answer}
 use Rattle.dft_top.specs.declared.outcome.Outcome.{Outcome}
 use Rattle.dft_top.specs.declared.outcome.Outcome.TheVariants as outcome
-use Rattle.dft_words.specs.Words.{Command, Replay, Scan, Compile, ReplayFiles, ScanFiles, CompileFiles, AreFor, IsReplay, IsScan, IsCompile}
+use Rattle.dft_words.specs.Words.{Command, Replay, Scan, Compile, Certify, Generate, ReplayFiles, ScanFiles, CompileFiles, CertifyFiles, AreFor, IsFor, IsReplay, IsScan, IsCompile, IsCertify}
 use Rattle.dft_top.specs.Answers.{answer_of, stopped}
 use Rattle.dft_top.specs.Lines.{line_of}
 use Rattle.dft_top.specs.Outcomes.{IsOutcomeFor, IsLoaded, HasTurn}
-use Rattle.dft_top.specs.Promises.{Passes, Scans, Compiles}
+use Rattle.dft_top.specs.Promises.{Passes, Scans, Compiles, Certifies}
 use Rattle.dft_top.specs.Saves.{savings, HaveSaved, HaveSavedSome, SaveFailed, CountsSaves}
 
 -- what is seen of the files and of the output: what files are held, the name in the last call that failed, how many loads and saves
@@ -36,8 +36,9 @@ seen held failed read_faults write_faults printed put_faults = record {
 
 -- ---- the outcome
 
--- a replay comes to a refusal or a verdict, a scan to a refusal or a scan, a compilation to a refusal or a compilation, and Usage is the outcome
--- of exactly the words that are no command
+-- a replay comes to a refusal or a verdict, a scan to a refusal or a scan, a compilation to a refusal or a compilation, a test of certificates to a
+-- refusal or a count of certified cubes, a generated job to a refusal or to what it compiles to and replays as, and Usage is the outcome of exactly
+-- the words that are no command
 abbrev pub IsOfReplay : Outcome → Type 0
 IsOfReplay outcome.Usage = ⊥
 IsOfReplay (outcome.Refused refusal) = Unit {0}
@@ -46,6 +47,8 @@ IsOfReplay (outcome.Mismatch vector signal) = Unit {0}
 IsOfReplay (outcome.Undetermined vector signal) = Unit {0}
 IsOfReplay (outcome.Scanned counts netlist report) = ⊥
 IsOfReplay (outcome.Compiled counts netlist patterns report) = ⊥
+IsOfReplay (outcome.Certified unsolvable) = ⊥
+IsOfReplay (outcome.Generated counts replay) = ⊥
 
 abbrev pub IsOfScan : Outcome → Type 0
 IsOfScan outcome.Usage = ⊥
@@ -55,6 +58,8 @@ IsOfScan (outcome.Mismatch vector signal) = ⊥
 IsOfScan (outcome.Undetermined vector signal) = ⊥
 IsOfScan (outcome.Scanned counts netlist report) = Unit {0}
 IsOfScan (outcome.Compiled counts netlist patterns report) = ⊥
+IsOfScan (outcome.Certified unsolvable) = ⊥
+IsOfScan (outcome.Generated counts replay) = ⊥
 
 abbrev pub IsOfCompile : Outcome → Type 0
 IsOfCompile outcome.Usage = ⊥
@@ -64,12 +69,38 @@ IsOfCompile (outcome.Mismatch vector signal) = ⊥
 IsOfCompile (outcome.Undetermined vector signal) = ⊥
 IsOfCompile (outcome.Scanned counts netlist report) = ⊥
 IsOfCompile (outcome.Compiled counts netlist patterns report) = Unit {0}
+IsOfCompile (outcome.Certified unsolvable) = ⊥
+IsOfCompile (outcome.Generated counts replay) = ⊥
+
+abbrev pub IsOfCertify : Outcome → Type 0
+IsOfCertify outcome.Usage = ⊥
+IsOfCertify (outcome.Refused refusal) = Unit {0}
+IsOfCertify (outcome.Passed vectors compared) = ⊥
+IsOfCertify (outcome.Mismatch vector signal) = ⊥
+IsOfCertify (outcome.Undetermined vector signal) = ⊥
+IsOfCertify (outcome.Scanned counts netlist report) = ⊥
+IsOfCertify (outcome.Compiled counts netlist patterns report) = ⊥
+IsOfCertify (outcome.Certified unsolvable) = Unit {0}
+IsOfCertify (outcome.Generated counts replay) = ⊥
+
+abbrev pub IsOfGenerate : Outcome → Type 0
+IsOfGenerate outcome.Usage = ⊥
+IsOfGenerate (outcome.Refused refusal) = Unit {0}
+IsOfGenerate (outcome.Passed vectors compared) = ⊥
+IsOfGenerate (outcome.Mismatch vector signal) = ⊥
+IsOfGenerate (outcome.Undetermined vector signal) = ⊥
+IsOfGenerate (outcome.Scanned counts netlist report) = ⊥
+IsOfGenerate (outcome.Compiled counts netlist patterns report) = ⊥
+IsOfGenerate (outcome.Certified unsolvable) = ⊥
+IsOfGenerate (outcome.Generated counts replay) = Unit {0}
 
 abbrev pub Suits : Option Command → Outcome → Type 0
 Suits None o = o ≡ outcome.Usage
 Suits (Some (Replay files)) o = IsOfReplay o
 Suits (Some (Scan files)) o = IsOfScan o
 Suits (Some (Compile files)) o = IsOfCompile o
+Suits (Some (Certify files)) o = IsOfCertify o
+Suits (Some (Generate numbers)) o = IsOfGenerate o
 
 -- the outcome is one of the command, and that of the held files where they are told
 pub record IsOutcomeTold (command : Option Command) (held : Option Held) (o : Outcome) : Type 0 where
@@ -170,6 +201,10 @@ ScansTold words held held' answer = (files : ScanFiles) → IsScan words files �
 -- and load the cubes that are reported encoded, and cubes are reported unsolvable exactly where no channel bits load them
 abbrev pub CompilesTold : List (List ℕ) → (held held' : Option Held) → Answer → Type 0
 CompilesTold words held held' answer = (files : CompileFiles) → IsCompile words files → answer.status ≡ Done → ToldChange (Compiles files) held held'
+
+-- where the words are a test of certificates, no channel bits load a cube that is reported unsolvable
+abbrev pub CertifiesTold : List (List ℕ) → Option Held → Answer → Type 0
+CertifiesTold words held answer = (files : CertifyFiles) → IsCertify words files → answer.status ≡ Done → Told (Certifies files) held
 
 -- ---- what is not saved
 

@@ -3,9 +3,9 @@ use Rattle.std.specs.Prelude.{ℕ, ◌≡◌, false, List, [], ◌∷◌, ◌++�
 use Rattle.std.specs.List.{AllByRecursion}
 use Rattle.std.specs.Str.{bytes_eq}
 use Rattle.dft_files.specs.Outside.{Held, LeavesPart, Rose, ToldChange, file_at}
-use Rattle.dft_words.specs.Words.{Command, Replay, Scan, Compile, ScanFiles, CompileFiles, OutputsDiffer}
+use Rattle.dft_words.specs.Words.{Command, Replay, Scan, Compile, Certify, Generate, ScanFiles, CompileFiles, OutputsDiffer}
 use Rattle.dft_top.specs.declared.outcome.Outcome.{Outcome}
-use Rattle.dft_top.specs.declared.outcome.Outcome.TheVariants.{Usage, Refused, Passed, Mismatch, Undetermined, Scanned, Compiled}
+use Rattle.dft_top.specs.declared.outcome.Outcome.TheVariants.{Usage, Refused, Passed, Mismatch, Undetermined, Scanned, Compiled, Certified, Generated}
 
 -- a file that is to be saved: its name, and its bytes
 pub record Saving : Type 0 where
@@ -21,6 +21,8 @@ scan_savings files (Mismatch vector signal) = []
 scan_savings files (Undetermined vector signal) = []
 scan_savings files (Scanned counts netlist report) = record { name = files.out; bytes = netlist } ∷ record { name = files.report; bytes = report } ∷ []
 scan_savings files (Compiled counts netlist patterns report) = []
+scan_savings files (Certified unsolvable) = []
+scan_savings files (Generated counts replay) = []
 
 -- the scanned netlist, then the patterns, then the report; no other outcome is saved
 abbrev pub compile_savings : CompileFiles → Outcome → List Saving
@@ -32,6 +34,8 @@ compile_savings files (Undetermined vector signal) = []
 compile_savings files (Scanned counts netlist report) = []
 compile_savings files (Compiled counts netlist patterns report) =
     record { name = files.out_netlist; bytes = netlist } ∷ record { name = files.out_patterns; bytes = patterns } ∷ record { name = files.out_report; bytes = report } ∷ []
+compile_savings files (Certified unsolvable) = []
+compile_savings files (Generated counts replay) = []
 
 -- what a command saves, in order
 abbrev pub savings : Option Command → Outcome → List Saving
@@ -39,6 +43,8 @@ savings None o = []
 savings (Some (Replay files)) o = []
 savings (Some (Scan files)) o = scan_savings files o
 savings (Some (Compile files)) o = compile_savings files o
+savings (Some (Certify files)) o = []
+savings (Some (Generate numbers)) o = []
 
 -- the files that a command saves have different names
 abbrev pub SavesApart : Option Command → Type 0
@@ -46,6 +52,8 @@ SavesApart None = Unit {0}
 SavesApart (Some (Replay files)) = Unit {0}
 SavesApart (Some (Scan files)) = files.out ≡ files.report → ⊥
 SavesApart (Some (Compile files)) = OutputsDiffer files
+SavesApart (Some (Certify files)) = Unit {0}
+SavesApart (Some (Generate numbers)) = Unit {0}
 
 -- these files have different names
 abbrev pub AreApart : List Saving → Type 0

@@ -1,13 +1,14 @@
 ghost use Rattle.std.specs.Prelude.{◌≡◌};
 ghost use Rattle.dft_top.specs.Answers as spec;
 
-use crate::outcome::Outcome;
+use crate::outcome::{Outcome, Replayed};
 use dft_base::{Name, Place};
 
 /// How a command ended.
 #[derive(Clone, Copy, Debug, PartialEq, Eq)]
 pub enum Status {
-    /// It did what it is for: patterns passed, or the files of a scan or of a compilation are saved.
+    /// It did what it is for: patterns passed, those of a generated job among them; the files of a scan or of a compilation are
+    /// saved; or a report's certificates hold.
     Done,
     /// The patterns do not pass: a bit differs, or is not determined.
     NotPassed,
@@ -140,6 +141,17 @@ pub enum Code {
     Q8,
     /// One cube more than a file may have.
     Q9,
+    /// A line of a report that is not of its form. Its part is the place.
+    K1,
+    /// A sum of a report is no care bit of its cube, stands twice, or has other variables than its cell sums. Its parts are the
+    /// place and the cell's name, as at K4.
+    K2,
+    /// The sums of a cube are no certificate. Its part is the cube's name, as at K5.
+    K3,
+    /// A sum of a report names no scanned cell.
+    K4,
+    /// A cube that is reported unsolvable is not in the cube file.
+    K5,
     /// A report is longer than its limit. Its part is how many bytes it would have.
     K6,
 }
@@ -183,12 +195,24 @@ impl Answer {
                 status: Status::Refused,
                 refusal: Some(refusal),
             },
-            Outcome::Passed { .. } | Outcome::Scanned { .. } | Outcome::Compiled { .. } => {
-                Answer::stopped(Status::Done)
-            }
+            Outcome::Passed { .. }
+            | Outcome::Scanned { .. }
+            | Outcome::Compiled { .. }
+            | Outcome::Certified { .. } => Answer::stopped(Status::Done),
+            Outcome::Generated { replay, .. } => Answer::stopped(status_of(&replay)),
             Outcome::Mismatch { .. } | Outcome::Undetermined { .. } => {
                 Answer::stopped(Status::NotPassed)
             }
         }
+    }
+}
+
+/// A generated job is done where its patterns pass.
+fn status_of(replay: &Replayed) -> Status
+    ensures { result ≡ spec.replayed_status replay.now }
+{
+    match replay {
+        Replayed::Passed { .. } => Status::Done,
+        Replayed::Mismatch { .. } | Replayed::Undetermined { .. } => Status::NotPassed,
     }
 }

@@ -4,19 +4,23 @@ ghost use Rattle.std.specs.Prelude.{◌≡◌, Some, Err, map, option_map, strin
 ghost use Rattle.dft_files.specs.Outside.{Rose, Told};
 ghost use Rattle.dft_words.specs.Named.{command_of};
 ghost use Rattle.dft_top.specs.Lines.{line_of};
-ghost use Rattle.dft_top.specs.Outcomes.{HasTurn, IsLoaded};
-ghost use Rattle.dft_top.specs.Run.{Ends, EndsFor, IsDelivered, CompilesTold, IsOutcomeTold, KeepsFiles, PassesTold, Prints, ScansTold, seen};
+ghost use Rattle.dft_top.specs.Outcomes.{HasTurn, IsLoaded, IsSized};
+ghost use Rattle.dft_top.specs.Run.{Ends, EndsFor, IsDelivered, CertifiesTold, CompilesTold, IsOutcomeTold, KeepsFiles, PassesTold, Prints, ScansTold, seen};
 ghost use Rattle.dft_top.specs.Saves.{CountsSaves, SavesApart, savings};
 ghost use Rattle.dft_top.specs.Stops.{ComesTo};
 
 use crate::answer::{Answer, Status};
+use crate::certifying::outcome_of_certify;
 use crate::compiling::outcome_of_compile;
+use crate::generating::outcome_of_generate;
 use crate::outcome::Outcome;
 use crate::printing::line;
 use crate::replaying::outcome_of_replay;
 use crate::saving::save_outcome;
 use crate::scanning::outcome_of_scan;
 use crate::stop::Stop;
+use dft_certify::reports_are_certified;
+use dft_certify_laws::certified_in_runs;
 use dft_compile_laws::compilations_hold;
 use dft_files::{Files, PutError, SaveError, Sink};
 use dft_words::{Command, command};
@@ -49,8 +53,11 @@ pub fn run<F: Files, O: Sink>(alloc: Global, words: &[String], files: &mut F, ou
     ensures passes { PassesTold (map string_bytes words.entry.now) (F.held files.old) result }
     ensures scans { ScansTold (map string_bytes words.entry.now) (F.held files.old) (F.held files.new) result }
     ensures compiles { CompilesTold (map string_bytes words.entry.now) (F.held files.old) (F.held files.new) result }
+    ensures certifies { CertifiesTold (map string_bytes words.entry.now) (F.held files.old) result }
 {
     compilations_hold();
+    reports_are_certified();
+    certified_in_runs();
     match command(alloc, words) {
         Ok(command) => run_command(alloc, command, files, out),
         Err(_) => Answer::stopped(Status::OutOfMemory),
@@ -64,7 +71,8 @@ fn run_command<F: Files, O: Sink>(
     files: &mut F,
     out: &mut O,
 ) -> Answer
-    requires { SavesApart (option_map command_of command) }
+    requires apart { SavesApart (option_map command_of command) }
+    requires sized { IsSized (option_map command_of command) }
     ensures { EndsFor (option_map command_of command.entry)
         (seen (F.held files.old) (F.failed files.old) (F.read_faults files.old) (F.write_faults files.old) (O.told out.old) (O.faults out.old))
         (seen (F.held files.new) (F.failed files.new) (F.read_faults files.new) (F.write_faults files.new) (O.told out.new) (O.faults out.new))
@@ -86,6 +94,7 @@ fn outcome_of<F: Files>(
     command: Option<Command<'_>>,
     files: &mut F,
 ) -> Result<Outcome, Stop>
+    requires { IsSized (option_map command_of command) }
     ensures outcome { ComesTo (IsOutcomeTold (option_map command_of command.entry) (F.held files.old)) result }
     ensures rose { result ≡ Err Stop.ReadFault → Rose (F.read_faults files.old) (F.read_faults files.new) }
     ensures loaded { result ≡ Err Stop.ReadFault → IsLoaded (option_map command_of command.entry) (F.failed files.new) }
@@ -98,6 +107,8 @@ fn outcome_of<F: Files>(
         Some(Command::Replay(names)) => outcome_of_replay(alloc, names, files),
         Some(Command::Scan(names)) => outcome_of_scan(alloc, names, files),
         Some(Command::Compile(names)) => outcome_of_compile(alloc, names, files),
+        Some(Command::Certify(names)) => outcome_of_certify(alloc, names, files),
+        Some(Command::Generate(numbers)) => outcome_of_generate(alloc, numbers),
     }
 }
 

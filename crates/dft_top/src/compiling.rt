@@ -71,7 +71,7 @@ fn outcome_of_design<F: Files>(
 }
 
 /// The design with its chains, behind compression hardware, where no check refuses it.
-fn prepared(alloc: Global, design: &Design, config: &Config) -> Result<Prepared, Stop>
+pub fn prepared(alloc: Global, design: &Design, config: &Config) -> Result<Prepared, Stop>
     requires { IsInRange config.now }
     ensures { IsGiven (DesignGives design.now config.now) result }
 {
@@ -108,7 +108,7 @@ fn outcome_with<F: Files>(
 }
 
 /// The outcome of a compilation of cubes.
-fn outcome_of_cubes(
+pub fn outcome_of_cubes(
     alloc: Global,
     design: &Design,
     config: &Config,

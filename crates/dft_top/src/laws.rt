@@ -1,6 +1,6 @@
 //! Laws about outcomes, as contracts of functions that do nothing.
 
-ghost use Rattle.dft_top.specs.Laws.{OutcomeIsOne, PassingIsCompiled, PassingIsReplayed, PassingIsScanned};
+ghost use Rattle.dft_top.specs.Laws.{OutcomeIsOne, PassingIsCertified, PassingIsCompiled, PassingIsReplayed, PassingIsScanned};
 
 /// Words and held files have one outcome at most.
 pub fn outcome_is_one()
@@ -8,10 +8,12 @@ pub fn outcome_is_one()
 {}
 
 /// Files that pass their own checks are not refused for themselves: a replay comes to its verdict, or to P7 where a signal is no bit
-/// of a port with its direction; a design is scanned where no check of the scan fails; and cubes are compiled where no check of the design and
-/// of their placement fails.
+/// of a port with its direction; a design is scanned where no check of the scan fails; cubes are compiled where no check of the design and
+/// of their placement fails; and cubes that are reported unsolvable are certified where no check of the design and of the
+/// report's sums fails.
 pub fn passing_files_are_answered()
     ensures replayed { PassingIsReplayed }
     ensures scanned { PassingIsScanned }
     ensures compiled { PassingIsCompiled }
+    ensures certified { PassingIsCertified }
 {}

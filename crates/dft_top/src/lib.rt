@@ -2,8 +2,11 @@
 #![tactic(auto)]
 
 mod answer;
+mod certifying;
 mod command;
 mod compiling;
+mod generating;
+mod given;
 mod laws;
 mod limits;
 mod loading;
@@ -21,5 +24,6 @@ pub use command::run;
 pub use laws::{outcome_is_one, passing_files_are_answered};
 pub use limits::{
     MAX_CONFIG_BYTES, MAX_CUBE_BYTES, MAX_LIBRARY_BYTES, MAX_NETLIST_BYTES, MAX_PATTERN_BYTES,
+    MAX_REPORT_BYTES,
 };
-pub use outcome::Outcome;
+pub use outcome::{Outcome, Replayed};

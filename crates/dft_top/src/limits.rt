@@ -12,5 +12,8 @@ pub const MAX_NETLIST_BYTES: u32 = 67_108_864;
 /// The most bytes of a cube file: 64 MiB.
 pub const MAX_CUBE_BYTES: u32 = 67_108_864;
 
+/// The most bytes of a report file: 256 MiB.
+pub const MAX_REPORT_BYTES: u32 = 268_435_456;
+
 /// The most bytes of a pattern file: 256 MiB.
 pub const MAX_PATTERN_BYTES: u32 = 268_435_456;

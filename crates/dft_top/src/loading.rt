@@ -6,14 +6,15 @@ ghost use Rattle.dft_files.specs.Outside.{Told, file_at};
 ghost use Rattle.dft_config.specs.Range.{IsInRange};
 ghost use Rattle.dft_patterns.specs.Patterns.{IsWellFormed};
 ghost use Rattle.dft_verilog_out.specs.Named.{GatesAreJoined};
-ghost use Rattle.dft_top.specs.Checks.{too_long, AreFew, LibraryGives, ConfigGives, CubesGive, NetlistGives, PatternsGive};
+ghost use Rattle.dft_top.specs.Checks.{too_long, AreFew, LibraryGives, ConfigGives, CubesGive, NetlistGives, PatternsGive, ReportGives};
 ghost use Rattle.dft_top.specs.Stops.{IsGivenTold, LoadFails, OnRefused};
 
 use crate::answer::{Code, Refusal};
 use crate::limits::{
     MAX_CONFIG_BYTES, MAX_CUBE_BYTES, MAX_LIBRARY_BYTES, MAX_NETLIST_BYTES, MAX_PATTERN_BYTES,
+    MAX_REPORT_BYTES,
 };
-use crate::reading::{config_in, cubes_in, design_in, library_in, patterns_in};
+use crate::reading::{config_in, cubes_in, design_in, library_in, patterns_in, report_in};
 use crate::stop::Stop;
 use dft_base::Name;
 use dft_cells::Library;
@@ -21,6 +22,7 @@ use dft_config::{Config, Listed};
 use dft_cubes::Cube;
 use dft_files::{Files, LoadError};
 use dft_netlist::Design;
+use dft_report::Report;
 use dft_stil::PatternSet;
 use std::alloc::{AllocError, Global};
 
@@ -123,6 +125,19 @@ pub fn load_cubes<F: Files>(
     cubes_in(alloc, text.as_slice(), design, config)
 }
 
+/// The report with this name.
+pub fn load_report<F: Files>(alloc: Global, files: &mut F, name: &str) -> Result<Report, Stop>
+    ensures gives { IsGivenTold (ReportGives name.now) (F.held files.old) result }
+    ensures fault { result ≡ Err Stop.ReadFault → LoadFails (Some name.now) (F.failed files.new)
+        (F.read_faults files.old) (F.read_faults files.new) }
+    ensures held { F.held files.new ≡ F.held files.old }
+    ensures faults { F.read_faults files.old ≤ F.read_faults files.new }
+    ensures saves { F.write_faults files.new ≡ F.write_faults files.old }
+{
+    let text = load_text(alloc, files, name, b"report", MAX_REPORT_BYTES)?;
+    report_in(alloc, text.as_slice())
+}
+
 /// The bytes of a file that is named by an option of the command.
 fn load_text<F: Files>(
     alloc: Global,
@@ -151,7 +166,7 @@ fn load_text<F: Files>(
 }
 
 /// The refusal of a file that is longer than its limit, with the name of its option.
-fn longer(alloc: Global, option: &[u8]) -> Result<Refusal, AllocError>
+pub fn longer(alloc: Global, option: &[u8]) -> Result<Refusal, AllocError>
     requires { IsName option.now }
     ensures { IfOk result (λ refusal. refusal ≡ too_long option.now) }
 {

@@ -4,6 +4,26 @@ use dft_compile::Counts as CompileCounts;
 use dft_config::Listed;
 use dft_scan::Counts;
 
+/// What the replay of a generated job comes to. Vectors are numbered from 0.
+#[derive(Debug, Drop)]
+pub enum Replayed {
+    /// Every compared bit is known and as printed.
+    Passed {
+        vectors: u32,
+        compared: u64,
+    },
+    /// The first compared bit that is not known to be as printed is the opposite, at this signal.
+    Mismatch {
+        vector: u32,
+        signal: Name,
+    },
+    /// The first compared bit that is not known to be as printed is not known, at this signal.
+    Undetermined {
+        vector: u32,
+        signal: Name,
+    },
+}
+
 /// What a command comes to where nothing outside fails and memory is found. Vectors are numbered from 0.
 #[derive(Debug, Drop)]
 pub enum Outcome {
@@ -39,5 +59,14 @@ pub enum Outcome {
         netlist: Listed<u8>,
         patterns: Listed<u8>,
         report: Listed<u8>,
+    },
+    /// The sums that a report prints certify so many cubes: no channel bits load them.
+    Certified {
+        unsolvable: u32,
+    },
+    /// A generated job is compiled and replayed: what the compilation counts, and what the replay comes to.
+    Generated {
+        counts: CompileCounts,
+        replay: Replayed,
     },
 }

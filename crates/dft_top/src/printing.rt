@@ -4,7 +4,7 @@ ghost use Rattle.std.specs.Prelude.{◌≡◌, ◌++◌, IfOk, OnOk, option_map}
 ghost use Rattle.dft_top.specs.Lines as spec;
 
 use crate::answer::{Code, Refusal};
-use crate::outcome::Outcome;
+use crate::outcome::{Outcome, Replayed};
 use dft_base::{Name, Place};
 use dft_compile::Counts as CompileCounts;
 use dft_scan::Counts;
@@ -73,6 +73,11 @@ fn code_text(code: Code) -> &'static str
         Code::Q7 => "Q7",
         Code::Q8 => "Q8",
         Code::Q9 => "Q9",
+        Code::K1 => "K1",
+        Code::K2 => "K2",
+        Code::K3 => "K3",
+        Code::K4 => "K4",
+        Code::K5 => "K5",
         Code::K6 => "K6",
     }
 }
@@ -91,6 +96,8 @@ pub fn line(alloc: Global, outcome: &Outcome) -> Result<Vec<u8>, AllocError>
         }
         Outcome::Scanned { counts, .. } => scanned_line(alloc, *counts),
         Outcome::Compiled { counts, .. } => compiled_line(alloc, *counts),
+        Outcome::Certified { unsolvable } => certified_line(alloc, *unsolvable),
+        Outcome::Generated { counts, replay } => generated_lines(alloc, *counts, replay),
     }
 }
 
@@ -201,4 +208,37 @@ fn add_vectors(alloc: Global, line: &mut Vec<u8>, counts: CompileCounts) -> Resu
     let part = format!(in alloc; " masked {} vectors {}", counts.masked, counts.vectors)?;
     line.extend_from_slice(part.as_bytes())?;
     Ok(())
+}
+
+fn certified_line(alloc: Global, unsolvable: u32) -> Result<Vec<u8>, AllocError>
+    ensures { IfOk result (λ line. line.items ≡ spec.certified_line unsolvable) }
+{
+    let line = format!(in alloc; "certified {unsolvable} cubes\n")?;
+    Ok(line.into_bytes())
+}
+
+/// The line of the compilation of a generated job, and that of its replay.
+fn generated_lines(
+    alloc: Global,
+    counts: CompileCounts,
+    replay: &Replayed,
+) -> Result<Vec<u8>, AllocError>
+    ensures { IfOk result (λ lines. lines.items ≡ spec.generated_lines counts replay.now) }
+{
+    let mut lines = compiled_line(alloc, counts)?;
+    let line = replayed_line(alloc, replay)?;
+    lines.extend_from_slice(line.as_slice())?;
+    Ok(lines)
+}
+
+fn replayed_line(alloc: Global, replay: &Replayed) -> Result<Vec<u8>, AllocError>
+    ensures { IfOk result (λ line. line.items ≡ spec.replayed_line replay.now) }
+{
+    match replay {
+        Replayed::Passed { vectors, compared } => passed_line(alloc, *vectors, *compared),
+        Replayed::Mismatch { vector, signal } => failed_line(alloc, "mismatch", *vector, signal),
+        Replayed::Undetermined { vector, signal } => {
+            failed_line(alloc, "undetermined", *vector, signal)
+        }
+    }
 }

@@ -5,18 +5,19 @@ ghost use Rattle.dft_config.specs.Range.{IsInRange};
 ghost use Rattle.dft_patterns.specs.Patterns.{IsWellFormed};
 ghost use Rattle.dft_verilog.specs.Refusals.{IsRefused};
 ghost use Rattle.dft_verilog_out.specs.Named.{GatesAreJoined};
-ghost use Rattle.dft_top.specs.Checks.{AreFew, ConfigText, CubeText, IsDesignOf, LibraryText, NetlistText, PatternText};
+ghost use Rattle.dft_top.specs.Checks.{AreFew, ConfigText, CubeText, IsDesignOf, LibraryText, NetlistText, PatternText, ReportText};
 ghost use Rattle.dft_top.specs.Stops.{IsGiven};
-ghost use Rattle.dft_top.specs.declared.limits.TheConstants.{MAX_CONFIG_BYTES, MAX_CUBE_BYTES, MAX_LIBRARY_BYTES, MAX_NETLIST_BYTES, MAX_PATTERN_BYTES};
+ghost use Rattle.dft_top.specs.declared.limits.TheConstants.{MAX_CONFIG_BYTES, MAX_CUBE_BYTES, MAX_LIBRARY_BYTES, MAX_NETLIST_BYTES, MAX_PATTERN_BYTES, MAX_REPORT_BYTES};
 
 use crate::refusing::{
-    config_refusal, cube_refusal, library_refusal, stil_refusal, verilog_refusal,
+    config_refusal, cube_refusal, library_refusal, read_refusal, stil_refusal, verilog_refusal,
 };
 use crate::stop::Stop;
 use dft_cells::Library;
 use dft_config::{Config, Listed};
 use dft_cubes::Cube;
 use dft_netlist::Design;
+use dft_report::Report;
 use dft_stil::PatternSet;
 use dft_verilog::VerilogError;
 use std::alloc::Global;
@@ -95,5 +96,16 @@ pub fn cubes_in(
     match dft_cubes::read(alloc, text, design, config) {
         Ok(cubes) => Ok(Listed::from_vec(cubes)),
         Err(error) => Err(Stop::Refused(cube_refusal(error)?)),
+    }
+}
+
+/// The report of a text.
+pub fn report_in(alloc: Global, text: &[u8]) -> Result<Report, Stop>
+    requires { length text.now ≤ MAX_REPORT_BYTES }
+    ensures { IsGiven (ReportText text.now) result }
+{
+    match dft_report_in::read(alloc, text) {
+        Ok(report) => Ok(report),
+        Err(error) => Err(Stop::Refused(read_refusal(error)?)),
     }
 }

@@ -1,4 +1,4 @@
-//! What the errors of readers, of a scan and of a compilation come to.
+//! What the errors of readers, of a scan, of a compilation and of a test of certificates come to.
 
 ghost use Rattle.std.specs.Prelude.{◌≡◌, IfOk, Some};
 ghost use Rattle.dft_top.specs.Refusals as spec;
@@ -6,12 +6,14 @@ ghost use Rattle.dft_top.specs.Refusals as spec;
 use crate::answer::{Code, Refusal};
 use dft_base::{Name, Place};
 use dft_cells::LibraryError;
+use dft_certify::CertifyError;
 use dft_compile::CompileError;
 use dft_config::ConfigError;
 use dft_cubes::CubeError;
 use dft_insert::InsertError;
 use dft_netlist::{Counted, NetlistError};
 use dft_report::ReportError;
+use dft_report_in::ReadError;
 use dft_rules::RuleError;
 use dft_scan::ScanError;
 use dft_stil::StilError;
@@ -306,4 +308,27 @@ fn report_refusal(error: ReportError) -> Result<Refusal, AllocError>
         ReportError::K6 { first } => Ok(Refusal::measured(Code::K6, first)),
         ReportError::Memory(error) => Err(error),
     }
+}
+
+/// The refusal of a report's text.
+pub fn read_refusal(error: ReadError) -> Result<Refusal, AllocError>
+    ensures { IfOk result (λ refusal. spec.read_refusal error ≡ Some refusal) }
+{
+    match error {
+        ReadError::K1 { place } => Ok(Refusal::placed(Code::K1, place)),
+        ReadError::Memory(error) => Err(error),
+    }
+}
+
+/// The refusal of a report's certificates.
+pub fn certify_refusal(error: CertifyError) -> Result<Refusal, AllocError>
+    ensures { IfOk result (λ refusal. spec.certify_refusal error ≡ Some refusal) }
+{
+    Ok(match error {
+        CertifyError::K2 { place, name } => Refusal::worded(Code::K2, place, name),
+        CertifyError::K3 { name } => Refusal::named(Code::K3, name),
+        CertifyError::K4 { place, name } => Refusal::worded(Code::K4, place, name),
+        CertifyError::K5 { name } => Refusal::named(Code::K5, name),
+        CertifyError::Memory(error) => return Err(error),
+    })
 }

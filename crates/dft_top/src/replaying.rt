@@ -48,7 +48,7 @@ pub fn outcome_of_replay<F: Files>(
 }
 
 /// The outcome of patterns on the design.
-fn outcome_on(alloc: Global, design: &Design, patterns: &PatternSet) -> Result<Outcome, Stop>
+pub fn outcome_on(alloc: Global, design: &Design, patterns: &PatternSet) -> Result<Outcome, Stop>
     requires { IsWellFormed patterns.now }
     ensures outcome { ComesTo (IsOutcomeOn design.now patterns.now (first_misfit design.now patterns.now.signals)) result }
     ensures suits { ComesTo IsOfReplay result }

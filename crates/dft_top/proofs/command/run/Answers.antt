@@ -1,5 +1,5 @@
 use Rattle.dft_top.proofs.Kept.{kept_for}
-use Rattle.dft_top.proofs.Promised.{compiles_for, passes_for, scans_for}
+use Rattle.dft_top.proofs.Promised.{certifies_for, compiles_for, passes_for, scans_for}
 use Rattle.dft_top.proofs.command.run.Goals as goal
 
 pub returns-in-Ok-clause-passes : goal.returns-in-Ok-clause-passes
@@ -13,3 +13,6 @@ returns-in-Ok-clause-compiles g c = compiles_for c.compilations_hold.ensures _ _
 
 pub returns-in-Ok-clause-kept : goal.returns-in-Ok-clause-kept
 returns-in-Ok-clause-kept g c = kept_for _ _ _ _ _ c.in-Ok.ensures c.run_command.ensures
+
+pub returns-in-Ok-clause-certifies : goal.returns-in-Ok-clause-certifies
+returns-in-Ok-clause-certifies g c = certifies_for c.reports_are_certified.ensures.exact c.certified_in_runs.ensures _ _ _ _ _ c.in-Ok.ensures c.run_command.ensures

@@ -1,4 +1,4 @@
-use Rattle.dft_top.proofs.PassingFiles.{passing_compiled, passing_replayed, passing_scanned}
+use Rattle.dft_top.proofs.PassingFiles.{passing_certified, passing_compiled, passing_replayed, passing_scanned}
 use Rattle.dft_top.proofs.laws.passing_files_are_answered.Goals as goal
 
 pub returns-clause-replayed : goal.returns-clause-replayed
@@ -9,3 +9,6 @@ returns-clause-scanned c = passing_scanned
 
 pub returns-clause-compiled : goal.returns-clause-compiled
 returns-clause-compiled c = passing_compiled
+
+pub returns-clause-certified : goal.returns-clause-certified
+returns-clause-certified c = passing_certified

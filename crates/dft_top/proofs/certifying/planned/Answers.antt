@@ -1,0 +1,4 @@
+use Rattle.dft_top.proofs.certifying.planned.Goals as goal
+
+pub returns-in-Ok-clause-given : goal.returns-in-Ok-clause-given
+returns-in-Ok-clause-given c = record { is = c.in-Ok.ensures.plan; ready = c.in-Ok.ensures.ready; accepted = c.in-Ok.ensures.accepted }

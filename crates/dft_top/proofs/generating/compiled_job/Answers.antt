@@ -1,0 +1,8 @@
+use Rattle.std.proofs.Common.{◌∙◌}
+use Rattle.dft_top.proofs.JobLemmas.{texts_same}
+use Rattle.dft_top.proofs.generating.compiled_job.Goals as goal
+
+pub returns-clause-outcome : goal.returns-clause-outcome
+returns-clause-outcome c =
+    let job = c.in_ok-job.ensures in
+    texts_same _ _ _ _ _ _ _ (c.as_slice.ensures.value ∙ job.netlist) (c.as_slice-2.ensures.value ∙ job.configuration) (c.as_slice-3.ensures.value ∙ job.cubes) c.compiled.ensures.outcome

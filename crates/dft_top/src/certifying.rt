@@ -1,0 +1,214 @@
+//! The outcome of a test of certificates: whether the sums that a report prints for cubes show that no channel bits load them.
+
+ghost use Rattle.std.specs.Prelude.{◌≡◌, ◌⊎◌, Err, IfErr, IfOk, None, length, map};
+ghost use Rattle.dft_files.specs.Outside.{Rose, Told};
+ghost use Rattle.dft_config.specs.declared.config.Config.{Config};
+ghost use Rattle.dft_config.specs.Range.{IsInRange};
+ghost use Rattle.dft_rules.specs.Refusals as rules;
+ghost use Rattle.dft_stitch.specs.Chains.{plan_of};
+ghost use Rattle.dft_stitch.specs.Limits as stitch;
+ghost use Rattle.dft_equations.specs.LoadRows.{AreLoadEquations};
+ghost use Rattle.dft_scan_frame.specs.Statements.{IsReady};
+ghost use Rattle.dft_compile.specs.Refusals.{IsRefusal};
+ghost use Rattle.dft_words.specs.Named.{certify_files_of};
+ghost use Rattle.dft_words.specs.Words as words;
+ghost use Rattle.dft_top.specs.Checks.{PlanGives, plan_refusal};
+ghost use Rattle.dft_top.specs.Courses.{Loads, Reaches, TurnComes};
+ghost use Rattle.dft_top.specs.Outcomes.{HasTurn, IsLoaded, IsOutcomeOfReport, course_of_certified, course_of_certify, course_of_planned, course_of_report};
+ghost use Rattle.dft_top.specs.Run.{IsOfCertify};
+ghost use Rattle.dft_top.specs.Stops.{ComesTo, IsGiven};
+
+use crate::loading::{load_config, load_cubes, load_library, load_netlist, load_report};
+use crate::outcome::Outcome;
+use crate::refusing::{certify_refusal, compile_refusal};
+use crate::stop::Stop;
+use dft_certify::certify;
+use dft_compile::CompileError;
+use dft_config::Config;
+use dft_cubes::Cube;
+use dft_encode::lengths_of;
+use dft_equations::{Equations, equations};
+use dft_files::Files;
+use dft_merge::plans_stand_apart;
+use dft_netlist::Design;
+use dft_outcomes::CellSums;
+use dft_report::Report;
+use dft_rules::judge;
+use dft_stitch::{Chains, plan};
+use dft_words::CertifyFiles;
+use std::alloc::{AllocError, Global};
+
+/// What a test of the certificates of the named files comes to: the library comes first, where one is named, then the configuration,
+/// then the netlist with the scan rules and the plan, then the cubes, then the report, and then the tests of its sums.
+pub fn outcome_of_certify<F: Files>(
+    alloc: Global,
+    names: CertifyFiles<'_>,
+    files: &mut F,
+) -> Result<Outcome, Stop>
+    ensures outcome { ComesTo (λ o. Told (λ h. Reaches (course_of_certify (certify_files_of names.entry)) h o) (F.held files.old)) result }
+    ensures suits { ComesTo IsOfCertify result }
+    ensures rose { result ≡ Err Stop.ReadFault → Rose (F.read_faults files.old) (F.read_faults files.new) }
+    ensures loaded { result ≡ Err Stop.ReadFault → IsLoaded (Some (words.Certify (certify_files_of names.entry))) (F.failed files.new) }
+    ensures turn { result ≡ Err Stop.ReadFault → Told (λ h. HasTurn (Some (words.Certify (certify_files_of names.entry))) h
+        (F.failed files.new)) (F.held files.old) }
+    ensures held { F.held files.new ≡ F.held files.old }
+    ensures saves { F.write_faults files.new ≡ F.write_faults files.old }
+{
+    let library = load_library(alloc, files, names.library)?;
+    let config = load_config(alloc, files, names.config)?;
+    let design = load_netlist(alloc, files, names.netlist, library)?;
+    outcome_of_design(alloc, &design, &config, names.cubes, names.report, files)
+}
+
+/// The outcome of a test over the design: its chains are planned, and then the named cubes and the named report are loaded.
+fn outcome_of_design<F: Files>(
+    alloc: Global,
+    design: &Design,
+    config: &Config,
+    cubes: &str,
+    report: &str,
+    files: &mut F,
+) -> Result<Outcome, Stop>
+    requires { IsInRange config.now }
+    ensures outcome { ComesTo (λ o. Told (λ h. Reaches (course_of_planned design.now config.now cubes.now report.now) h o) (F.held files.old)) result }
+    ensures suits { ComesTo IsOfCertify result }
+    ensures rose { result ≡ Err Stop.ReadFault → Rose (F.read_faults files.old) (F.read_faults files.new) }
+    ensures loaded { result ≡ Err Stop.ReadFault → Loads (course_of_planned design.now config.now cubes.now report.now) (F.failed files.new) }
+    ensures turn { result ≡ Err Stop.ReadFault → Told (λ h. TurnComes (course_of_planned design.now config.now cubes.now report.now) h
+        (F.failed files.new)) (F.held files.old) }
+    ensures held { F.held files.new ≡ F.held files.old }
+    ensures saves { F.write_faults files.new ≡ F.write_faults files.old }
+{
+    let chains = planned(alloc, design, config)?;
+    outcome_with(alloc, design, config, &chains, cubes, report, files)
+}
+
+/// The chains of a design that no check refuses.
+fn planned(alloc: Global, design: &Design, config: &Config) -> Result<Chains, Stop>
+    requires { IsInRange config.now }
+    ensures given { IsGiven (PlanGives design.now config.now) result }
+    ensures fits { IfOk result (λ chains. stitch.refusal design.now config.now ≡ None) }
+{
+    match plan_chains(alloc, design, config) {
+        Ok(chains) => Ok(chains),
+        Err(error) => Err(Stop::Refused(compile_refusal(alloc, error)?)),
+    }
+}
+
+/// Judges the flip-flops of a design and plans its chains. It is refused by the first check that fails: of the scan rules, then of the
+/// plan.
+fn plan_chains(alloc: Global, design: &Design, config: &Config) -> Result<Chains, CompileError>
+    requires { IsInRange config.now }
+    ensures plan { IfOk result (λ chains. chains ≡ plan_of design.now config.now) }
+    ensures ready { IfOk result (λ chains. IsReady design.now config.now) }
+    ensures accepted { IfOk result (λ chains. plan_refusal design.now config.now ≡ None) }
+    ensures fits { IfOk result (λ chains. stitch.refusal design.now config.now ≡ None) }
+    ensures refused { IfErr result (IsRefusal (plan_refusal design.now config.now)) }
+{
+    ready(design);
+    let verdicts = judge(alloc, design, config)?;
+    Ok(plan(alloc, design, config, &verdicts)?)
+}
+
+/// What a finished design is, beside what the scan rules ask.
+fn ready(design: &Design)
+    ensures { (config : Config) → IsInRange config → rules.refusal design.now config ≡ None → IsReady design.now config }
+{
+    design.soundness();
+}
+
+/// The outcome of a test over planned chains: the named cubes are loaded, and then the named report.
+fn outcome_with<F: Files>(
+    alloc: Global,
+    design: &Design,
+    config: &Config,
+    chains: &Chains,
+    cubes: &str,
+    report: &str,
+    files: &mut F,
+) -> Result<Outcome, Stop>
+    requires range { IsInRange config.now }
+    requires planned { chains.now ≡ plan_of design.now config.now }
+    requires fits { stitch.refusal design.now config.now ≡ None }
+    ensures outcome { ComesTo (λ o. Told (λ h. Reaches (course_of_certified design.now config.now cubes.now report.now) h o) (F.held files.old)) result }
+    ensures suits { ComesTo IsOfCertify result }
+    ensures rose { result ≡ Err Stop.ReadFault → Rose (F.read_faults files.old) (F.read_faults files.new) }
+    ensures loaded { result ≡ Err Stop.ReadFault → Loads (course_of_certified design.now config.now cubes.now report.now) (F.failed files.new) }
+    ensures turn { result ≡ Err Stop.ReadFault → Told (λ h. TurnComes (course_of_certified design.now config.now cubes.now report.now) h
+        (F.failed files.new)) (F.held files.old) }
+    ensures held { F.held files.new ≡ F.held files.old }
+    ensures saves { F.write_faults files.new ≡ F.write_faults files.old }
+{
+    let cubes = load_cubes(alloc, files, cubes, design, config)?;
+    outcome_over(alloc, design, config, chains, cubes.as_slice(), report, files)
+}
+
+/// The outcome of a test over these cubes: the named report is loaded.
+fn outcome_over<F: Files>(
+    alloc: Global,
+    design: &Design,
+    config: &Config,
+    chains: &Chains,
+    cubes: &[Cube],
+    report: &str,
+    files: &mut F,
+) -> Result<Outcome, Stop>
+    requires range { IsInRange config.now }
+    requires planned { chains.now ≡ plan_of design.now config.now }
+    requires fits { stitch.refusal design.now config.now ≡ None }
+    ensures outcome { ComesTo (λ o. Told (λ h. Reaches (course_of_report design.now config.now cubes.now report.now) h o) (F.held files.old)) result }
+    ensures suits { ComesTo IsOfCertify result }
+    ensures rose { result ≡ Err Stop.ReadFault → Rose (F.read_faults files.old) (F.read_faults files.new) }
+    ensures loaded { result ≡ Err Stop.ReadFault → report.now ≡ F.failed files.new }
+    ensures held { F.held files.new ≡ F.held files.old }
+    ensures saves { F.write_faults files.new ≡ F.write_faults files.old }
+{
+    let report = load_report(alloc, files, report)?;
+    outcome_of_report(alloc, design, config, chains, cubes, &report)
+}
+
+/// The outcome of a report's tests.
+fn outcome_of_report(
+    alloc: Global,
+    design: &Design,
+    config: &Config,
+    chains: &Chains,
+    cubes: &[Cube],
+    report: &Report,
+) -> Result<Outcome, Stop>
+    requires range { IsInRange config.now }
+    requires planned { chains.now ≡ plan_of design.now config.now }
+    requires fits { stitch.refusal design.now config.now ≡ None }
+    ensures outcome { ComesTo (IsOutcomeOfReport design.now config.now cubes.now report.now) result }
+    ensures suits { ComesTo IsOfCertify result }
+    ensures quiet { result ≡ Err Stop.ReadFault → ⊥ }
+{
+    let equations = load_equations(alloc, design, config, chains)?;
+    let sums = CellSums {
+        design,
+        ring: &config.ring,
+        chains,
+        equations: &equations,
+    };
+    plans_stand_apart();
+    match certify(alloc, &sums, cubes, report) {
+        Ok(unsolvable) => Ok(Outcome::Certified { unsolvable }),
+        Err(error) => Err(Stop::Refused(certify_refusal(error)?)),
+    }
+}
+
+/// The load equations of planned chains.
+fn load_equations(
+    alloc: Global,
+    design: &Design,
+    config: &Config,
+    chains: &Chains,
+) -> Result<Equations, AllocError>
+    requires range { IsInRange config.now }
+    requires planned { chains.now ≡ plan_of design.now config.now }
+    requires fits { stitch.refusal design.now config.now ≡ None }
+    ensures { IfOk result (AreLoadEquations config.now.ring (map length chains.now.chains) chains.now.cycles) }
+{
+    let lengths = lengths_of(alloc, chains)?;
+    equations(alloc, config, &lengths, chains.cycles())
+}

@@ -1,0 +1,76 @@
+//! Texts that are given as if they were files: each is checked for its length, and gives a value by its checks, or is refused.
+
+ghost use Rattle.std.specs.Prelude.{◌≡◌, ◌≤◌, ◌<◌, IfOk, OnOk, Err, Some, codes, length};
+ghost use Rattle.dft_base.specs.Name.{IsName};
+ghost use Rattle.dft_config.specs.Range.{IsInRange};
+ghost use Rattle.dft_patterns.specs.Patterns.{IsWellFormed};
+ghost use Rattle.dft_verilog_out.specs.Named.{GatesAreJoined};
+ghost use Rattle.dft_top.specs.Checks.{too_long, AreFew, ConfigText, CubeText, FileGives, NetlistText, PatternText};
+ghost use Rattle.dft_top.specs.Stops.{IsGiven, OnRefused};
+ghost use Rattle.dft_top.specs.declared.limits.TheConstants as limit;
+
+use crate::limits::{MAX_CONFIG_BYTES, MAX_CUBE_BYTES, MAX_NETLIST_BYTES, MAX_PATTERN_BYTES};
+use crate::loading::longer;
+use crate::reading::{config_in, cubes_in, design_in, patterns_in};
+use crate::stop::Stop;
+use dft_cells::Library;
+use dft_config::{Config, Listed};
+use dft_cubes::Cube;
+use dft_netlist::Design;
+use dft_stil::PatternSet;
+use std::alloc::Global;
+
+/// The configuration of a text.
+pub fn given_config(alloc: Global, text: &[u8]) -> Result<Config, Stop>
+    ensures given { IsGiven (FileGives limit.MAX_CONFIG_BYTES (codes "config") ConfigText (Some text.now)) result }
+    ensures range { IfOk result IsInRange }
+{
+    check_length(alloc, text, b"config", MAX_CONFIG_BYTES)?;
+    config_in(alloc, text)
+}
+
+/// The design of a netlist text over the cells of a library.
+pub fn given_netlist(alloc: Global, text: &[u8], library: Library) -> Result<Design, Stop>
+    ensures given { IsGiven (FileGives limit.MAX_NETLIST_BYTES (codes "netlist") (NetlistText library) (Some text.now)) result }
+    ensures joined { IfOk result GatesAreJoined }
+{
+    check_length(alloc, text, b"netlist", MAX_NETLIST_BYTES)?;
+    design_in(alloc, text, library)
+}
+
+/// The cubes of a text, for the design and the configuration.
+pub fn given_cubes(
+    alloc: Global,
+    text: &[u8],
+    design: &Design,
+    config: &Config,
+) -> Result<Listed<Cube>, Stop>
+    requires { IsInRange config.now }
+    ensures given { IsGiven (FileGives limit.MAX_CUBE_BYTES (codes "cubes") (CubeText design.now config.now) (Some text.now)) result }
+    ensures few { IfOk result AreFew }
+{
+    check_length(alloc, text, b"cubes", MAX_CUBE_BYTES)?;
+    cubes_in(alloc, text, design, config)
+}
+
+/// The patterns of a text.
+pub fn given_patterns(alloc: Global, text: &[u8]) -> Result<PatternSet, Stop>
+    ensures given { IsGiven (FileGives limit.MAX_PATTERN_BYTES (codes "patterns") PatternText (Some text.now)) result }
+    ensures well_formed { IfOk result IsWellFormed }
+{
+    check_length(alloc, text, b"patterns", MAX_PATTERN_BYTES)?;
+    patterns_in(alloc, text)
+}
+
+/// Refuses a text that is longer than its limit, with the name of its option.
+fn check_length(alloc: Global, text: &[u8], option: &[u8], limit: u32) -> Result<(), Stop>
+    requires { IsName option.now }
+    ensures short { OnOk result (length text.now ≤ limit) }
+    ensures long { OnRefused result (λ refusal. (limit < length text.now) × (refusal ≡ too_long option.now)) }
+    ensures quiet { result ≡ Err Stop.ReadFault → ⊥ }
+{
+    if text.len() > limit as usize {
+        return Err(Stop::Refused(longer(alloc, option)?));
+    }
+    Ok(())
+}
