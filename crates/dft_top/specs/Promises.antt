@@ -29,7 +29,7 @@ use Rattle.dft_compile.specs.Texts as compiled
 use Rattle.dft_compile_laws.specs.Holding.{HoldsOf}
 use Rattle.dft_config.specs.Ring.{Table}
 use Rattle.dft_equations.specs.LoadRows.{LoadRows}
-use Rattle.dft_load_laws.specs.Loading.{AreRows, LoadsOnce, rows_of}
+use Rattle.dft_load_laws.specs.Loading.{AreRows, LoadsOnce, rows_of as load_rows}
 use Rattle.dft_report.specs.declared.report.CubeLine.TheVariants.{Unsolvable}
 use Rattle.dft_report.specs.declared.report.CubeReport.{CubeReport}
 use Rattle.dft_report.specs.declared.report.Report.{Report}
@@ -139,6 +139,6 @@ pub record Certifies (files : CertifyFiles) (held : Held) : Type 0 where
   -- what is tested
   pub rows : LoadRows
   pub equations : AreRows netlist config rows
-  pub certified : AllCertified netlist config.ring (rows_of netlist config rows) rows.columns cubes report.cubes
+  pub certified : AllCertified netlist config.ring (load_rows netlist config rows) rows.columns cubes report.cubes
   -- what follows
   pub never : NeverLoads netlist config cubes report

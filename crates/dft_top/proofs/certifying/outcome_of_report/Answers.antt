@@ -1,6 +1,6 @@
 use Rattle.std.proofs.Common.{subst, sym}
 use Rattle.dft_stitch.specs.Plans.{Plan}
-use Rattle.dft_merge.specs.Slots.{StandApart}
+use Rattle.dft_merge.specs.Rows.{StandApart}
 use Rattle.dft_merge.proofs.MergerLemmas.{rows_are}
 use Rattle.dft_top.proofs.CertifyLemmas.{certified_is, uncertified_is}
 use Rattle.dft_top.proofs.certifying.outcome_of_report.Goals as goal
