@@ -1,5 +1,5 @@
 -- What a generated job comes to.
-use Rattle.std.proofs.Common.{ℕ, ◌≡◌, ◌∙◌, List, Result, Ok, Err, refl, subst}
+use Rattle.std.proofs.Common.{ℕ, ◌≡◌, List, Result, Ok, Err, refl, subst, sym}
 use Rattle.dft_files.specs.Outside.{Held}
 use Rattle.dft_compile.specs.declared.texts.Counts.{Counts}
 use Rattle.dft_words.specs.Words.{JobNumbers}
@@ -9,7 +9,6 @@ use Rattle.dft_top.specs.declared.stop.Stop.{Stop}
 use Rattle.dft_top.specs.declared.stop.Stop.TheVariants.{Refused, ReadFault, OutOfMemory}
 use Rattle.dft_top.specs.Courses.{Reaches}
 use Rattle.dft_top.specs.Outcomes.{IsOutcomeOfJob, IsReplayedOf, course_of_compile, course_of_replay, generated, job_files, job_held, made_files, made_held, texts_held}
-use Rattle.dft_top.specs.Run.{IsOfCompile, IsOfGenerate, IsOfReplay}
 use Rattle.dft_top.specs.Stops.{ComesTo}
 
 -- ---- the texts
@@ -32,45 +31,22 @@ job_then numbers compilation (Err OutOfMemory) is comes = tt
 
 -- ---- the replay
 
-pub replay_stops : (counts : Counts) (netlist patterns report : List ℕ) (stop : Stop) → ComesTo (Reaches (course_of_replay made_files) (made_held netlist patterns)) (Err stop) →
+replay_stops : (counts : Counts) (netlist patterns report : List ℕ) (stop : Stop) → ComesTo (Reaches (course_of_replay made_files) (made_held netlist patterns)) (Err stop) →
     ComesTo (IsReplayedOf (outcome.Compiled counts netlist patterns report)) (Err stop)
 replay_stops counts netlist patterns report (Refused refusal) comes = (outcome.Refused refusal, (comes, refl))
 replay_stops counts netlist patterns report ReadFault comes = tt
 replay_stops counts netlist patterns report OutOfMemory comes = tt
 
-pub replay_is : (counts : Counts) (netlist patterns report : List ℕ) (replay o : Outcome) → Reaches (course_of_replay made_files) (made_held netlist patterns) replay → o ≡ generated counts replay →
-    IsReplayedOf (outcome.Compiled counts netlist patterns report) o
-replay_is counts netlist patterns report replay o is same = (replay, (is, same))
+-- a stop of the replay of what this compilation made
+pub stops_replayed : (o : Outcome) (counts : Counts) (netlist patterns report a b : List ℕ) (stop : Stop) (r : Result Outcome Stop) → o ≡ outcome.Compiled counts netlist patterns report → a ≡ netlist → b ≡ patterns → r ≡ Err stop →
+    ComesTo (Reaches (course_of_replay made_files) (made_held a b)) (Err stop) → ComesTo (IsReplayedOf o) r
+stops_replayed o counts netlist patterns report a b stop r compiled p q stops comes =
+    subst (λ (compilation : Outcome). ComesTo (IsReplayedOf compilation) r) (sym compiled)
+    (subst (ComesTo (IsReplayedOf (outcome.Compiled counts netlist patterns report))) (sym stops)
+    (replay_stops counts netlist patterns report stop (subst (λ (held : Held). ComesTo (Reaches (course_of_replay made_files) held) (Err stop)) (λ i. made_held (p i) (q i)) comes)))
 
--- ---- which outcomes they are
-
-pub stop_suits : (stop : Stop) → ComesTo IsOfGenerate (Err stop)
-stop_suits (Refused refusal) = tt
-stop_suits ReadFault = tt
-stop_suits OutOfMemory = tt
-
-pub generated_suits : (counts : Counts) (replay : Outcome) → IsOfReplay replay → IsOfGenerate (generated counts replay)
-generated_suits counts outcome.Usage suits = absurd suits
-generated_suits counts (outcome.Refused refusal) suits = tt
-generated_suits counts (outcome.Passed vectors compared) suits = tt
-generated_suits counts (outcome.Mismatch vector signal) suits = tt
-generated_suits counts (outcome.Undetermined vector signal) suits = tt
-generated_suits counts (outcome.Scanned scan netlist report) suits = absurd suits
-generated_suits counts (outcome.Compiled other netlist patterns report) suits = absurd suits
-generated_suits counts (outcome.Certified unsolvable) suits = absurd suits
-generated_suits counts (outcome.Generated other replay) suits = absurd suits
-
--- what is of a compilation, and is not compiled, is refused
-abbrev pub IsCompiledSo : Outcome → Type 0
-IsCompiledSo o = (counts : Counts) × (netlist : List ℕ) × (patterns : List ℕ) × (report : List ℕ) × (o ≡ outcome.Compiled counts netlist patterns report)
-
-pub rest_refused : (o : Outcome) → IsOfCompile o → (IsCompiledSo o → ⊥) → IsReplayedOf o o × IsOfGenerate o
-rest_refused outcome.Usage suits other = absurd suits
-rest_refused (outcome.Refused refusal) suits other = (refl, tt)
-rest_refused (outcome.Passed vectors compared) suits other = absurd suits
-rest_refused (outcome.Mismatch vector signal) suits other = absurd suits
-rest_refused (outcome.Undetermined vector signal) suits other = absurd suits
-rest_refused (outcome.Scanned counts netlist report) suits other = absurd suits
-rest_refused (outcome.Compiled counts netlist patterns report) suits other = absurd (other (counts, netlist, patterns, report, refl))
-rest_refused (outcome.Certified unsolvable) suits other = absurd suits
-rest_refused (outcome.Generated counts replay) suits other = absurd suits
+-- what the replay comes to
+pub is_replayed : (o : Outcome) (counts : Counts) (netlist patterns report a b : List ℕ) (replay end : Outcome) → o ≡ outcome.Compiled counts netlist patterns report → a ≡ netlist → b ≡ patterns → end ≡ generated counts replay →
+    Reaches (course_of_replay made_files) (made_held a b) replay → IsReplayedOf o end
+is_replayed o counts netlist patterns report a b replay end compiled p q same is =
+    subst (λ (compilation : Outcome). IsReplayedOf compilation end) (sym compiled) (replay, (subst (λ (held : Held). Reaches (course_of_replay made_files) held replay) (λ i. made_held (p i) (q i)) is, same))

@@ -185,7 +185,7 @@ draft_one cells text d e p q = let same : Ok d ≡ Ok e = sym p ∙ q in cc
 grown_one : (d e : Draft) (m n : Netlist) → d ≡ e → built d ≡ Ok m → built e ≡ Ok n → m ≡ n
 grown_one d e m n same p q = let oks : Ok m ≡ Ok n = sym p ∙ ap built same ∙ q in cc
 
-stands_one : (cells : List Cell) (text : List ℕ) (m n : Netlist) → StandsFor cells text m → StandsFor cells text n → m ≡ n
+pub stands_one : (cells : List Cell) (text : List ℕ) (m n : Netlist) → StandsFor cells text m → StandsFor cells text n → m ≡ n
 stands_one cells text m n x y = x.finished.same ∙ grown_one x.draft y.draft x.grown y.grown (draft_one cells text x.draft y.draft x.said y.said) x.parts y.parts ∙ sym y.finished.same
 
 -- a refusal is that of the first fault, or that the netlist cannot be finished
@@ -244,7 +244,7 @@ netlist_text_one cells text (Err a) (Err b) x y = ap Err (told_one _ _ a b (ap v
 
 -- ---- the patterns
 
-patterns_one : (text : List ℕ) (p q : Patterns) → PatternText.StandsFor text p → PatternText.StandsFor text q → p ≡ q
+pub patterns_one : (text : List ℕ) (p q : Patterns) → PatternText.StandsFor text p → PatternText.StandsFor text q → p ≡ q
 patterns_one text p q x y = let e : Ok p ≡ Ok q = sym x ∙ y in cc
 
 patterns_or_refused : (text : List ℕ) (p : Patterns) (error : StilError) → PatternText.StandsFor text p → IsFirstRefusal text error → ⊥

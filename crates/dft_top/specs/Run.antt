@@ -10,7 +10,8 @@ use Rattle.dft_top.specs.declared.outcome.Outcome.TheVariants as outcome
 use Rattle.dft_words.specs.Words.{Command, Replay, Scan, Compile, Certify, Generate, ReplayFiles, ScanFiles, CompileFiles, CertifyFiles, AreFor, IsFor, IsReplay, IsScan, IsCompile, IsCertify}
 use Rattle.dft_top.specs.Answers.{answer_of, stopped}
 use Rattle.dft_top.specs.Lines.{line_of}
-use Rattle.dft_top.specs.Outcomes.{IsOutcomeFor, IsLoaded, HasTurn}
+use Rattle.dft_top.specs.Courses.{IsPassing}
+use Rattle.dft_top.specs.Outcomes.{IsOutcomeFor, IsLoaded, HasTurn, course_of}
 use Rattle.dft_top.specs.Promises.{Passes, Scans, Compiles, Certifies}
 use Rattle.dft_top.specs.Saves.{savings, HaveSaved, HaveSavedSome, SaveFailed, CountsSaves}
 
@@ -205,6 +206,35 @@ CompilesTold words held held' answer = (files : CompileFiles) → IsCompile word
 -- where the words are a test of certificates, no channel bits load a cube that is reported unsolvable
 abbrev pub CertifiesTold : List (List ℕ) → Option Held → Answer → Type 0
 CertifiesTold words held answer = (files : CertifyFiles) → IsCertify words files → answer.status ≡ Done → Told (Certifies files) held
+
+-- ---- when a command is answered
+
+-- no call of the outside failed: no count rose
+pub record NoneFailed (before after : Seen) : Type 0 where
+  pub reads : Rose before.read_faults after.read_faults → ⊥
+  pub writes : Rose before.write_faults after.write_faults → ⊥
+  pub puts : Rose before.put_faults after.put_faults → ⊥
+
+-- the verdict of a replay is Pass
+pub record IsPassed (files : ReplayFiles) (held : Held) : Type 0 where
+  pub vectors : ℕ
+  pub compared : ℕ
+  pub is : IsOutcomeFor (Some (Replay files)) held (outcome.Passed vectors compared)
+
+-- a replay is done exactly where the verdict is Pass, and not passed else; every other command is done
+abbrev pub IsAnswered : Command → Held → Status → Type 0
+IsAnswered (Replay files) held status = ((status ≡ Done) × IsPassed files held) ⊎ ((status ≡ NotPassed) × (IsPassed files held → ⊥))
+IsAnswered (Scan files) held status = status ≡ Done
+IsAnswered (Compile files) held status = status ≡ Done
+IsAnswered (Certify files) held status = status ≡ Done
+IsAnswered (Generate numbers) held status = status ≡ Done
+
+-- Where the words are a command, whose checks the files that are told pass, and no call of the outside failed, the command is answered. Want of memory
+-- is the one exception.
+abbrev pub CompletesTold : List (List ℕ) → (before after : Seen) → Answer → Type 0
+CompletesTold words before after answer =
+    (command : Command) → IsFor words command → NoneFailed before after →
+    Told (λ held. IsPassing (course_of (Some command)) held → (answer.status ≡ OutOfMemory) ⊎ IsAnswered command held answer.status) before.held
 
 -- ---- what is not saved
 

@@ -1,6 +1,6 @@
 //! The outcome of a generated job: its texts are compiled, and what comes of them is replayed.
 
-ghost use Rattle.std.specs.Prelude.{◌≡◌, Err};
+ghost use Rattle.std.specs.Prelude.{◌≡◌, ℕ, List, Err};
 ghost use Rattle.dft_config.specs.Range.{IsInRange};
 ghost use Rattle.dft_compile.specs.Prepared.{IsPrepared};
 ghost use Rattle.dft_generate.specs.Jobs.{IsSize};

@@ -15,7 +15,7 @@ pub returns-in-Ok-clause-outcome : goal.returns-in-Ok-clause-outcome
 returns-in-Ok-clause-outcome c =
     certified_is c.args.design.now c.args.config.now c.args.cubes.now c.args.report.now c.args.chains.now c.in_ok-equations.equations c.in-Ok.unsolvable c.requires.planned c.in_ok-equations.ensures c.in-Ok.ensures.certified c.in-Ok.ensures.count
 
-pub returns-in_ok-certify_refusal-in-Err-clause-outcome : goal.returns-in_ok-certify_refusal-in-Err-clause-outcome
-returns-in_ok-certify_refusal-in-Err-clause-outcome c =
+pub returns-clause-outcome : goal.returns-clause-outcome
+returns-clause-outcome c =
     uncertified_is c.args.design.now c.args.config.now c.args.cubes.now c.args.report.now c.args.chains.now c.in_ok-equations.equations c.in-Err.error c.in_ok-certify_refusal-in-Err.field-0 c.requires.planned c.in_ok-equations.ensures
     c.in-Err.ensures.refused c.in_ok-certify_refusal-in-Err.ensures
