@@ -48,13 +48,16 @@ given_cubes_one : (n : Netlist) (c : Config) (name : List ℕ) (held : Held) (r 
 given_cubes_one n c name held = file_one MAX_CUBE_BYTES (codes "cubes") (CubeText n c) (cube_text_one n c) (file_at name held)
 
 replay_determined : (files : ReplayFiles) (held : Held) → IsDetermined (course_of_replay files) held
-replay_determined files held = (library_gives_one files.library held, λ cells _. (
-  netlist_one cells files.netlist held,
-  λ n given. (
-    file_one MAX_PATTERN_BYTES (codes "patterns") PatternText pattern_text_one (file_at files.patterns held),
-    λ p _ a b x y. let ranked = ordered_of cells files.netlist held n given in on_one n p ranked.0 a b (first_misfit n p.signals) ranked.1 x y,
+replay_determined files held = (
+  library_gives_one files.library held,
+  λ cells _. (
+    netlist_one cells files.netlist held,
+    λ n given. (
+      file_one MAX_PATTERN_BYTES (codes "patterns") PatternText pattern_text_one (file_at files.patterns held),
+      λ p _ a b x y. let ranked = ordered_of cells files.netlist held n given in on_one n p ranked.0 a b (first_misfit n p.signals) ranked.1 x y,
+    ),
   ),
-))
+)
 
 -- ---- a scan
 
@@ -67,41 +70,50 @@ scan_of_one n c (Some error) a b x y = refusal_one (scan_refusal error) a b x y
 scan_of_one n c None a b x y = x.is ∙ sym y.is
 
 scan_determined : (files : ScanFiles) (held : Held) → IsDetermined (course_of_scan files) held
-scan_determined files held = (library_gives_one files.library held, λ cells _. (
-  config_one files.config held,
-  λ c _. (netlist_one cells files.netlist held, λ n _ a b x y. scan_of_one n c (refusal n c) a b x y),
-))
+scan_determined files held = (
+  library_gives_one files.library held,
+  λ cells _. (
+    config_one files.config held,
+    λ c _. (netlist_one cells files.netlist held, λ n _ a b x y. scan_of_one n c (refusal n c) a b x y),
+  ),
+)
 
 -- ---- a compilation
 
 compile_determined : (files : CompileFiles) (held : Held) → IsDetermined (course_of_compile files) held
-compile_determined files held = (library_gives_one files.library held, λ cells _. (
-  config_one files.config held,
-  λ c _. (
-    netlist_one cells files.netlist held,
-    λ n given. (
-      design_gives_one n c,
-      λ prepared _. (given_cubes_one n c files.cubes held, λ cubes _ a b x y. let ranked = ordered_of cells files.netlist held n given in cubes_one n ranked.0 c cubes a b ranked.1 x y),
+compile_determined files held = (
+  library_gives_one files.library held,
+  λ cells _. (
+    config_one files.config held,
+    λ c _. (
+      netlist_one cells files.netlist held,
+      λ n given. (
+        design_gives_one n c,
+        λ prepared _. (given_cubes_one n c files.cubes held, λ cubes _ a b x y. let ranked = ordered_of cells files.netlist held n given in cubes_one n ranked.0 c cubes a b ranked.1 x y),
+      ),
     ),
   ),
-))
+)
 
 -- ---- a test of certificates
 
 certify_determined : (files : CertifyFiles) (held : Held) → IsDetermined (course_of_certify files) held
-certify_determined files held = (library_gives_one files.library held, λ cells _. (
-  config_one files.config held,
-  λ c _. (
-    netlist_one cells files.netlist held,
-    λ n _. (
-      plan_gives_one n c,
-      λ plan _. (
-        given_cubes_one n c files.cubes held,
-        λ cubes _. (file_one MAX_REPORT_BYTES (codes "report") ReportText report_text_one (file_at files.report held), λ report _ a b x y. report_one n c cubes report a b x y),
+certify_determined files held = (
+  library_gives_one files.library held,
+  λ cells _. (
+    config_one files.config held,
+    λ c _. (
+      netlist_one cells files.netlist held,
+      λ n _. (
+        plan_gives_one n c,
+        λ plan _. (
+          given_cubes_one n c files.cubes held,
+          λ cubes _. (file_one MAX_REPORT_BYTES (codes "report") ReportText report_text_one (file_at files.report held), λ report _ a b x y. report_one n c cubes report a b x y),
+        ),
       ),
     ),
   ),
-))
+)
 
 -- ---- a generated job
 

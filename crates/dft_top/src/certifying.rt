@@ -140,7 +140,15 @@ fn outcome_with<F: Files>(
     ensures saves { F.write_faults files.new ≡ F.write_faults files.old }
 {
     let cubes = load_cubes(alloc, files, cubes, design, config)?;
-    outcome_over(alloc, design, config, chains, cubes.as_slice(), report, files)
+    outcome_over(
+        alloc,
+        design,
+        config,
+        chains,
+        cubes.as_slice(),
+        report,
+        files,
+    )
 }
 
 /// The outcome of a test over these cubes: the named report is loaded.

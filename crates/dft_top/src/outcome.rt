@@ -8,20 +8,11 @@ use dft_scan::Counts;
 #[derive(Debug, Drop)]
 pub enum Replayed {
     /// Every compared bit is known and as printed.
-    Passed {
-        vectors: u32,
-        compared: u64,
-    },
+    Passed { vectors: u32, compared: u64 },
     /// The first compared bit that is not known to be as printed is the opposite, at this signal.
-    Mismatch {
-        vector: u32,
-        signal: Name,
-    },
+    Mismatch { vector: u32, signal: Name },
     /// The first compared bit that is not known to be as printed is not known, at this signal.
-    Undetermined {
-        vector: u32,
-        signal: Name,
-    },
+    Undetermined { vector: u32, signal: Name },
 }
 
 /// What a command comes to where nothing outside fails and memory is found. Vectors are numbered from 0.
