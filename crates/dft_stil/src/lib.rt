@@ -23,7 +23,7 @@ pub use dft_patterns::{
     first_unsteady,
 };
 pub use dft_stil_out::{WriteError, one_form, write};
-pub use dft_stil_text::{MAX_VECTORS, one_reading, well_formed};
+pub use dft_stil_text::{MAX_VECTORS, one_reading, read_within, well_formed};
 pub use dft_stil_tokens::{Cause, Fault, MAX_TEXT, TokenKind};
 pub use error::StilError;
 pub use reader::read;

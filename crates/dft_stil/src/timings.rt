@@ -48,7 +48,7 @@ fn begin_all(names: &Names, signals: &[usize], drawing: Drawing) -> bool
 }
 
 #[tactic(auto, unfolding(dft_stil_text::specs::Timings::event_letter))]
-// The letter of an event at a time.
+// The letter of an event at a time. What follows it in its token is refused behind that.
 fn event_letter(
     alloc: Global,
     names: &Names,
@@ -60,14 +60,13 @@ fn event_letter(
     ensures { ReadsText (λ d. d) (spec.event_letter names.now signals.now drawing time tokens.old) result tokens.new }
 {
     let place = tokens.left();
-    let word = tokens.bytes();
     let letter = tokens.letter()?;
     let more = extended(drawing, Event { letter, time });
-    if begin_all(names, signals, more) {
-        Ok(more)
-    } else {
-        Err(unsupported_at(alloc, word, place))
+    if !begin_all(names, signals, more) {
+        return Err(unsupported_at(alloc, &[letter], place));
     }
+    tokens.single()?;
+    Ok(more)
 }
 
 #[tactic(auto, unfolding(dft_stil_text::specs::Timings::event))]
@@ -121,7 +120,8 @@ fn events(
 }
 
 #[tactic(auto, unfolding(dft_stil_text::specs::Timings::shape))]
-// A shape of these signals: a character, which none of them may have so far, and its events.
+// A shape of these signals: a character, which none of them may have so far, and its events. What follows the character in
+// its token is refused behind that.
 fn shape(
     alloc: Global,
     names: &Names,
@@ -139,6 +139,7 @@ fn shape(
     if table.shapes.is_given(names.count(), signals, character) {
         return Err(taken(alloc, &[character], place));
     }
+    tokens.single()?;
     tokens.expect(TokenKind::OpenBrace)?;
     let drawing = events(alloc, names, signals, tokens)?;
     table

@@ -21,7 +21,7 @@ use Rattle.dft_stil_tokens.specs.Steps.{Outcome, kind_of, bytes, left, next, see
 use Rattle.dft_stil_text.specs.Namings.{Names, signals_block, group_blocks, name_if_any}
 use Rattle.dft_stil_text.specs.Timings.{Timing, Table, timing}
 use Rattle.dft_stil_text.specs.Statements.{Pattern, table_used, statement, statements_from}
-use Rattle.dft_stil_text.specs.PatternText.{version, header_if_any, Burst, listed_pattern, burst, known_name, used_timing, exec, executed, pattern, pattern_part, pattern_text, steady_or, tested, patterns_of}
+use Rattle.dft_stil_text.specs.PatternText.{version, header_if_any, Burst, listed_pattern, burst, known_name, used_timing, exec, executed, pattern, pattern_part, pattern_text, steady_or, tested, patterns_of, StandsFor}
 use Rattle.dft_stil_out.specs.Writable.{IsWritable}
 use Rattle.dft_stil_out.specs.Written.{declaration, input_waves, output_waves, middle, head, noted_lines, noted}
 use Rattle.dft_stil_out.specs.Written as form
@@ -216,5 +216,9 @@ written_reads most p well writable room =
     ∙ ap (λ (o : Outcome Patterns). tested (value_of o)) (text_reads most (input_count ss) ins outs p (sym is) (sym (length-prefix_len (λ (s : StilSignal). is_input s.dir) ss)) (inputs_dir ss) (outputs_dir outs writable.ordered) quotable new full writable.some room)
     ∙ steady_told p well.steady
 
-pub written_stands : HasWrittenReading
-written_stands = written_reads MAX_VECTORS
+pub stands_written : HasWrittenReading
+stands_written p well writable = written_reads (length p.vectors) p well writable (omega arith)
+
+-- the same, where the vectors are no more than a reader takes
+pub written_stands : (p : Patterns) → IsWellFormed p → IsWritable p → length p.vectors ≤ MAX_VECTORS → StandsFor (noted p) (record { signals = p.signals; vectors = p.vectors; notes = [] })
+written_stands p well writable few = stands_written p well writable

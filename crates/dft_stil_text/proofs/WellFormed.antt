@@ -75,3 +75,8 @@ unfolding patterns_of
 well_formed most text p e small =
     let f = value_fits most (pattern_text most (tokens text)) p (text_fits most (tokens text)) e in
     record { distinct = f.0.distinct; few = (let few = f.0.few in omega arith); fits = f.0.fits; steady = none_is_steady p f.1 }
+
+-- and it has no more vectors than its reader takes
+pub few_vectors : (most : ℕ) (text : Text) (p : Patterns) → patterns_of most text ≡ Ok p → length p.vectors ≤ most
+unfolding patterns_of
+few_vectors most text p e = (value_fits most (pattern_text most (tokens text)) p (text_fits most (tokens text)) e).0.few

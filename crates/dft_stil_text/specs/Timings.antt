@@ -8,12 +8,13 @@ use Rattle.dft_base.specs.declared.dir.Dir.TheVariants as dir
 use Rattle.dft_stil_tokens.specs.declared.text.TokenKind.TheVariants as kind
 use Rattle.dft_stil_tokens.specs.declared.text.Cause.TheVariants as cause
 use Rattle.dft_patterns.specs.declared.act.Act.{Act}
+use Rattle.dft_patterns.specs.declared.shapes.Event.{Event}
 use Rattle.dft_patterns.specs.declared.shapes.Drawing.{Drawing}
 use Rattle.dft_patterns.specs.declared.shapes.Drawing.TheVariants as drawing
 use Rattle.dft_patterns.specs.Drawings.{begins_shape, extended, act_of_events, act_drawn}
 use Rattle.dft_patterns.specs.Times.{no_times, with_times, times_fit}
 use Rattle.dft_patterns.specs.declared.times.Times.{Times}
-use Rattle.dft_stil_tokens.specs.Steps.{Rule, left, refuse, expect, eat, keyword, name, needed, next, sees, unsupported, character, letter, small_number, unit}
+use Rattle.dft_stil_tokens.specs.Steps.{Rule, left, refuse, expect, eat, keyword, name, needed, next, sees, unsupported, character, letter, single, small_number, unit}
 use Rattle.dft_stil_text.specs.Namings.{Names, given, elsewhere, is_known, name_if_any}
 
 -- ---- tables
@@ -75,11 +76,18 @@ dir_of names n = slice_index_or (map (λ s. s.dir) names.signals) n dir.Input
 abbrev pub begin_all : Names → List ℕ → Drawing → Bool
 begin_all names signals d = list_all (λ n. begins_shape (dir_of names n) d) signals
 
--- takes the letter of an event at a time, with which the events so far must begin a shape of each of these signals
+-- a letter at a time
+abbrev pub event_at : (letter time : ℕ) → Event
+event_at l time = record { letter = l; time = time }
+
+-- Takes the letter of an event at a time, with which the events so far must begin a shape of each of these signals. What follows it in its token
+-- is refused behind that.
 unfoldable pub event_letter : Names → List ℕ → Drawing → (time : ℕ) → Rule Drawing
 event_letter names signals d time = λ ts. (do
   l ← letter
-  if begin_all names signals (extended d (record { letter = l; time = time })) then pure (extended d (record { letter = l; time = time })) else (λ us. Err (unsupported ts))) ts
+  needed (cause.Unsupported (l ∷ [])) (left ts) (begin_all names signals (extended d (event_at l time))) (do
+    single
+    pure (extended d (event_at l time)))) ts
 
 -- an event more
 unfoldable pub event : Names → List ℕ → Drawing → Rule Drawing
@@ -100,11 +108,13 @@ events_from zero names signals d = refuse
 events_from (suc n) names signals d = λ ts.
     if sees kind.CloseBrace ts then ended d (act_of_events d) ts else (event names signals d >>= (λ more. events_from n names signals more)) ts
 
--- a shape of these signals: a character, which none of them may have so far, and its events
+-- A shape of these signals: a character, which none of them may have so far, and its events. What follows the character in its token is refused
+-- behind that.
 unfoldable pub shape : Names → List ℕ → Table → Rule Table
 shape names signals t = λ ts. (do
   c ← character
   needed (cause.Taken (c ∷ [])) (left ts) (not (is_given t.shapes signals c)) (do
+    single
     expect kind.OpenBrace
     d ← λ us. events_from (left us) names signals drawing.Begun us
     pure (drawn signals c (act_drawn d) d t))) ts
