@@ -1,7 +1,7 @@
 use Rattle.std.proofs.Common.{◌≡◌, ◌-◌}
 use Rattle.dft_stil_tokens.specs.Steps.{left}
-use Rattle.dft_stil_text.specs.Namings as spec
-use Rattle.dft_stil.proofs.namings.signals.Given as goal
+use Rattle.dft_stil_text.specs.SignalGroups as spec
+use Rattle.dft_stil.proofs.signal_groups.signals.Given as goal
 
 -- each turn reads one
 abbrev pub invariant-turns : goal.invariant-turns

@@ -3,7 +3,7 @@
 ghost use Rattle.std.specs.Prelude.{◌≡◌, length, IfOk, OnOk};
 ghost use Rattle.dft_base.specs.Name.{IsName};
 ghost use Rattle.dft_patterns.specs.Drawings as drawn;
-ghost use Rattle.dft_stil_text.specs.Timings as spec;
+ghost use Rattle.dft_stil_text.specs.WaveformTables as spec;
 ghost use Rattle.dft_stil_tokens.specs.Steps.{left, bytes};
 ghost use Rattle.dft_stil.specs.MembersShown.{AreBelow};
 ghost use Rattle.dft_stil.specs.ShapeTableShown.{IsWide};
@@ -26,7 +26,7 @@ pub struct Table {
     pub times: Times,
 }
 
-#[tactic(auto, unfolding(dft_stil_text::specs::Timings::time))]
+#[tactic(auto, unfolding(dft_stil_text::specs::WaveformTables::time))]
 // A time between single quotes, in picoseconds.
 fn time(tokens: &mut Tokens<'_>) -> Result<u64, ReadError>
     ensures { ReadsText (λ n. n) (spec.time tokens.old) result tokens.new }
@@ -47,7 +47,7 @@ fn begin_all(names: &Names, signals: &[usize], drawing: Drawing) -> bool
         .all(|signal| begins_shape(names.dir_of(*signal), drawing))
 }
 
-#[tactic(auto, unfolding(dft_stil_text::specs::Timings::event_letter))]
+#[tactic(auto, unfolding(dft_stil_text::specs::WaveformTables::event_letter))]
 // The letter of an event at a time. What follows it in its token is refused behind that.
 fn event_letter(
     alloc: Global,
@@ -69,7 +69,7 @@ fn event_letter(
     Ok(more)
 }
 
-#[tactic(auto, unfolding(dft_stil_text::specs::Timings::event))]
+#[tactic(auto, unfolding(dft_stil_text::specs::WaveformTables::event))]
 // An event more.
 fn event(
     alloc: Global,
@@ -119,7 +119,7 @@ fn events(
     Err(tokens.no_token())
 }
 
-#[tactic(auto, unfolding(dft_stil_text::specs::Timings::shape))]
+#[tactic(auto, unfolding(dft_stil_text::specs::WaveformTables::shape))]
 // A shape of these signals: a character, which none of them may have so far, and its events. What follows the character in
 // its token is refused behind that.
 fn shape(
@@ -171,7 +171,7 @@ fn shapes(
     Err(tokens.no_token())
 }
 
-#[tactic(auto, unfolding(dft_stil_text::specs::Timings::wave))]
+#[tactic(auto, unfolding(dft_stil_text::specs::WaveformTables::wave))]
 // The name of signals, and their shapes.
 fn wave(
     alloc: Global,
@@ -246,7 +246,7 @@ fn waveforms(
     fitting(table, period, tokens)
 }
 
-#[tactic(auto, unfolding(dft_stil_text::specs::Timings::table_body))]
+#[tactic(auto, unfolding(dft_stil_text::specs::WaveformTables::table_body))]
 /// What stands in a table: a period, and waves.
 pub fn table_body(
     alloc: Global,

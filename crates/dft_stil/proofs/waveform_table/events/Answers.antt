@@ -1,9 +1,9 @@
 use Rattle.std.proofs.Common.{rules, arith}
 use Rattle.std.proofs.lemmas.Grind.{common_steps}
 use Rattle.dft_base.proofs.Turns.{one_more, no_more}
-use Rattle.dft_stil_text.specs.Timings.{events_from}
-use Rattle.dft_stil_text.specs.Timings as spec
-use Rattle.dft_stil.proofs.timings.events.Goals as goal
+use Rattle.dft_stil_text.specs.WaveformTables.{events_from}
+use Rattle.dft_stil_text.specs.WaveformTables as spec
+use Rattle.dft_stil.proofs.waveform_table.events.Goals as goal
 
 pub returns-then-sees : goal.returns-then-sees
 unfolding events_from

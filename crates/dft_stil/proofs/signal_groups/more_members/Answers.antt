@@ -1,9 +1,9 @@
 use Rattle.std.proofs.Common.{rules, arith}
 use Rattle.std.proofs.lemmas.Grind.{common_steps}
 use Rattle.dft_base.proofs.Turns.{one_more, no_more}
-use Rattle.dft_stil_text.specs.Namings.{members_from}
-use Rattle.dft_stil_text.specs.Namings as spec
-use Rattle.dft_stil.proofs.namings.more_members.Goals as goal
+use Rattle.dft_stil_text.specs.SignalGroups.{members_from}
+use Rattle.dft_stil_text.specs.SignalGroups as spec
+use Rattle.dft_stil.proofs.signal_groups.more_members.Goals as goal
 
 pub returns-then-not-eat-clause-read : goal.returns-then-not-eat-clause-read
 unfolding members_from

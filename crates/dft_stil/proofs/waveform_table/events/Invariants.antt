@@ -1,8 +1,8 @@
 use Rattle.std.proofs.Common.{◌≡◌, ◌-◌}
 use Rattle.dft_stil_tokens.specs.Steps.{left}
-use Rattle.dft_stil_text.specs.Timings as spec
+use Rattle.dft_stil_text.specs.WaveformTables as spec
 use Rattle.dft_patterns.specs.declared.shapes.Drawing.TheVariants as drawings
-use Rattle.dft_stil.proofs.timings.events.Given as goal
+use Rattle.dft_stil.proofs.waveform_table.events.Given as goal
 
 -- each turn reads one
 abbrev pub invariant-turns : goal.invariant-turns

@@ -1,9 +1,9 @@
 use Rattle.std.proofs.Common.{rules, arith}
 use Rattle.std.proofs.lemmas.Grind.{common_steps}
 use Rattle.dft_base.proofs.Turns.{one_more, no_more}
-use Rattle.dft_stil_text.specs.Namings.{group_blocks_from}
-use Rattle.dft_stil_text.specs.Namings as spec
-use Rattle.dft_stil.proofs.namings.all_groups.Goals as goal
+use Rattle.dft_stil_text.specs.SignalGroups.{group_blocks_from}
+use Rattle.dft_stil_text.specs.SignalGroups as spec
+use Rattle.dft_stil.proofs.signal_groups.all_groups.Goals as goal
 
 pub returns-then-not-eat_groups : goal.returns-then-not-eat_groups
 unfolding group_blocks_from

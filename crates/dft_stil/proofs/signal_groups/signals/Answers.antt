@@ -1,9 +1,9 @@
 use Rattle.std.proofs.Common.{rules, arith}
 use Rattle.std.proofs.lemmas.Grind.{common_steps}
 use Rattle.dft_base.proofs.Turns.{one_more, no_more}
-use Rattle.dft_stil_text.specs.Namings.{signals_from}
-use Rattle.dft_stil_text.specs.Namings as spec
-use Rattle.dft_stil.proofs.namings.signals.Goals as goal
+use Rattle.dft_stil_text.specs.SignalGroups.{signals_from}
+use Rattle.dft_stil_text.specs.SignalGroups as spec
+use Rattle.dft_stil.proofs.signal_groups.signals.Goals as goal
 
 pub returns-then-eat : goal.returns-then-eat
 unfolding signals_from

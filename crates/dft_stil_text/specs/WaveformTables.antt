@@ -14,8 +14,8 @@ use Rattle.dft_patterns.specs.declared.shapes.Drawing.TheVariants as drawing
 use Rattle.dft_patterns.specs.Drawings.{begins_shape, extended, act_of_events, act_drawn}
 use Rattle.dft_patterns.specs.Times.{no_times, with_times, times_fit}
 use Rattle.dft_patterns.specs.declared.times.Times.{Times}
-use Rattle.dft_stil_tokens.specs.Steps.{Rule, left, refuse, expect, eat, keyword, name, needed, next, sees, unsupported, character, letter, single, small_number, unit}
-use Rattle.dft_stil_text.specs.Namings.{Names, given, elsewhere, is_known, name_if_any}
+use Rattle.dft_stil_tokens.specs.Steps.{Rule, left, refuse, expect, eat, keyword, name, needed, next, sees, unsupported, one_character, one_letter, single, small_number, unit}
+use Rattle.dft_stil_text.specs.SignalGroups.{Names, given, elsewhere, is_known, name_if_any}
 
 -- ---- tables
 
@@ -84,7 +84,7 @@ event_at l time = record { letter = l; time = time }
 -- is refused behind that.
 unfoldable pub event_letter : Names → List ℕ → Drawing → (time : ℕ) → Rule Drawing
 event_letter names signals d time = λ ts. (do
-  l ← letter
+  l ← one_letter
   needed (cause.Unsupported (l ∷ [])) (left ts) (begin_all names signals (extended d (event_at l time))) (do
     single
     pure (extended d (event_at l time)))) ts
@@ -112,7 +112,7 @@ events_from (suc n) names signals d = λ ts.
 -- behind that.
 unfoldable pub shape : Names → List ℕ → Table → Rule Table
 shape names signals t = λ ts. (do
-  c ← character
+  c ← one_character
   needed (cause.Taken (c ∷ [])) (left ts) (not (is_given t.shapes signals c)) (do
     single
     expect kind.OpenBrace

@@ -1,10 +1,10 @@
 use Rattle.std.proofs.Common.{rules, arith}
 use Rattle.std.proofs.lemmas.Grind.{common_steps}
 use Rattle.dft_base.proofs.Turns.{one_more, no_more}
-use Rattle.dft_stil_text.specs.Timings.{shapes_from}
-use Rattle.dft_stil_text.specs.Timings as spec
+use Rattle.dft_stil_text.specs.WaveformTables.{shapes_from}
+use Rattle.dft_stil_text.specs.WaveformTables as spec
 use Rattle.dft_stil.specs.TablesShown.{table_as}
-use Rattle.dft_stil.proofs.timings.shapes.Goals as goal
+use Rattle.dft_stil.proofs.waveform_table.shapes.Goals as goal
 
 pub returns-then-eat-clause-read : goal.returns-then-eat-clause-read
 unfolding shapes_from

@@ -1,7 +1,7 @@
 //! The signals and groups of a pattern text (IEEE 1450-1999 `Signals` and `SignalGroups`).
 
 ghost use Rattle.std.specs.Prelude.{◌≡◌, length, IfOk, OnOk, option_map};
-ghost use Rattle.dft_stil_text.specs.Namings as spec;
+ghost use Rattle.dft_stil_text.specs.SignalGroups as spec;
 ghost use Rattle.dft_stil_tokens.specs.Steps.{left};
 ghost use Rattle.dft_stil.specs.MembersShown.{meant, Sees, AreBelow};
 ghost use Rattle.dft_stil_tokens.specs.Reading.{ReadsText};
@@ -12,7 +12,7 @@ use dft_base::Dir;
 use dft_stil_tokens::{ReadError, TokenKind, Tokens, taken, unknown};
 use std::alloc::Global;
 
-#[tactic(auto, unfolding(dft_stil_text::specs::Namings::direction))]
+#[tactic(auto, unfolding(dft_stil_text::specs::SignalGroups::direction))]
 // `In` or `Out`.
 fn direction(tokens: &mut Tokens<'_>) -> Result<Dir, ReadError>
     ensures { ReadsText (λ d. d) (spec.direction tokens.old) result tokens.new }
@@ -28,7 +28,7 @@ fn direction(tokens: &mut Tokens<'_>) -> Result<Dir, ReadError>
     }
 }
 
-#[tactic(auto, unfolding(dft_stil_text::specs::Namings::signal))]
+#[tactic(auto, unfolding(dft_stil_text::specs::SignalGroups::signal))]
 // A name, which no signal may have so far, and its direction.
 fn signal(alloc: Global, names: &mut Names, tokens: &mut Tokens<'_>) -> Result<(), ReadError>
     ensures { ReadsText (λ _. names.new) (spec.signal names.old tokens.old) result tokens.new }
@@ -57,7 +57,7 @@ fn signals(alloc: Global, names: &mut Names, tokens: &mut Tokens<'_>) -> Result<
     Err(tokens.no_token())
 }
 
-#[tactic(auto, unfolding(dft_stil_text::specs::Namings::signals_block))]
+#[tactic(auto, unfolding(dft_stil_text::specs::SignalGroups::signals_block))]
 /// The block of the signals, where there are no names so far.
 pub fn signals_block(
     alloc: Global,
@@ -73,7 +73,7 @@ pub fn signals_block(
 }
 
 // One name of a group's list.
-#[tactic(auto, unfolding(dft_stil_text::specs::Namings::member))]
+#[tactic(auto, unfolding(dft_stil_text::specs::SignalGroups::member))]
 fn member<'n>(
     alloc: Global,
     names: &'n Names,
@@ -114,7 +114,7 @@ fn more_members(
     Err(tokens.no_token())
 }
 
-#[tactic(auto, using(crate::proofs::MemberLemmas::flags), unfolding(dft_stil_text::specs::Namings::members))]
+#[tactic(auto, using(crate::proofs::MemberLemmas::flags), unfolding(dft_stil_text::specs::SignalGroups::members))]
 // A group's list.
 fn members(alloc: Global, names: &Names, tokens: &mut Tokens<'_>) -> Result<Members, ReadError>
     ensures read { ReadsText (λ m. m) (spec.members names.now tokens.old) result tokens.new }
@@ -128,7 +128,7 @@ fn members(alloc: Global, names: &Names, tokens: &mut Tokens<'_>) -> Result<Memb
     Ok(members)
 }
 
-#[tactic(auto, unfolding(dft_stil_text::specs::Namings::group))]
+#[tactic(auto, unfolding(dft_stil_text::specs::SignalGroups::group))]
 // A name, which no group may have so far, and its list.
 fn group(alloc: Global, names: &mut Names, tokens: &mut Tokens<'_>) -> Result<(), ReadError>
     ensures { ReadsText (λ _. names.new) (spec.group names.old tokens.old) result tokens.new }
@@ -160,7 +160,7 @@ fn groups(alloc: Global, names: &mut Names, tokens: &mut Tokens<'_>) -> Result<(
     Err(tokens.no_token())
 }
 
-#[tactic(auto, unfolding(dft_stil_text::specs::Namings::name_if_any))]
+#[tactic(auto, unfolding(dft_stil_text::specs::SignalGroups::name_if_any))]
 /// A name, if one comes next.
 pub fn name_if_any<'a>(tokens: &mut Tokens<'a>) -> Result<Option<&'a [u8]>, ReadError>
     ensures { ReadsText (λ word. option_map (λ w. w.now) word) (spec.name_if_any tokens.old) result tokens.new }
@@ -172,7 +172,7 @@ pub fn name_if_any<'a>(tokens: &mut Tokens<'a>) -> Result<Option<&'a [u8]>, Read
     }
 }
 
-#[tactic(auto, unfolding(dft_stil_text::specs::Namings::group_block))]
+#[tactic(auto, unfolding(dft_stil_text::specs::SignalGroups::group_block))]
 // The groups of a block, whose name may come first.
 fn group_block(alloc: Global, names: &mut Names, tokens: &mut Tokens<'_>) -> Result<(), ReadError>
     ensures { ReadsText (λ _. names.new) (spec.group_block names.old tokens.old) result tokens.new }
@@ -182,7 +182,7 @@ fn group_block(alloc: Global, names: &mut Names, tokens: &mut Tokens<'_>) -> Res
     groups(alloc, names, tokens)
 }
 
-#[tactic(auto, unfolding(dft_stil_text::specs::Namings::sees_groups, dft_stil_text::specs::Namings::after_groups))]
+#[tactic(auto, unfolding(dft_stil_text::specs::SignalGroups::sees_groups, dft_stil_text::specs::SignalGroups::after_groups))]
 // Takes the keyword of a block of groups, if it comes next.
 fn eat_groups(tokens: &mut Tokens<'_>) -> bool
     ensures found { result ≡ spec.sees_groups tokens.old }
@@ -204,7 +204,7 @@ fn all_groups(alloc: Global, names: &mut Names, tokens: &mut Tokens<'_>) -> Resu
     Err(tokens.no_token())
 }
 
-#[tactic(auto, unfolding(dft_stil_text::specs::Namings::group_blocks))]
+#[tactic(auto, unfolding(dft_stil_text::specs::SignalGroups::group_blocks))]
 /// All blocks of groups.
 pub fn group_blocks(
     alloc: Global,

@@ -1,9 +1,9 @@
 use Rattle.std.proofs.Common.{◌≡◌, ◌-◌}
 use Rattle.dft_stil_tokens.specs.Steps.{left}
-use Rattle.dft_stil_text.specs.Namings as spec
+use Rattle.dft_stil_text.specs.SignalGroups as spec
 use Rattle.std.proofs.Common.{length}
 use Rattle.dft_stil.specs.MembersShown.{Sees}
-use Rattle.dft_stil.proofs.namings.more_members.Given as goal
+use Rattle.dft_stil.proofs.signal_groups.more_members.Given as goal
 
 -- each turn reads one
 abbrev pub invariant-turns : goal.invariant-turns
