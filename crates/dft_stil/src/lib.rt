@@ -8,15 +8,15 @@ mod execution;
 mod known_names;
 mod members;
 mod names;
-mod namings;
 mod pattern_text;
 mod reader;
 mod shape_table;
+mod signal_groups;
 mod statements;
 mod table_block;
 mod tables;
-mod timings;
 mod vector;
+mod waveform_table;
 
 pub use dft_patterns::{
     Act, Acts, Drawing, Event, Note, NoteKind, PatternSet, StilSignal, Times, Unsteady,

@@ -12,7 +12,3 @@ HasOneForm = (p : Patterns) → p.notes ≡ [] → noted p ≡ written p
 -- a text that stands for the signals and the vectors of these patterns, where they are well formed and can be written
 abbrev pub ReadsBack : Patterns → (text : List ℕ) → Type 0
 ReadsBack p text = IsWellFormed p → IsWritable p → StandsFor text (record { signals = p.signals; vectors = p.vectors; notes = [] })
-
--- what is written is read back
-abbrev pub HasWrittenReading : Type 0
-HasWrittenReading = (p : Patterns) → ReadsBack p (noted p)

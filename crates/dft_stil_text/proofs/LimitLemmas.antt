@@ -1,5 +1,5 @@
 -- A limit on the number of vectors refuses texts that have more, and changes no other answer.
-use Rattle.std.proofs.Common.{◌≡◌, ℕ, zero, suc, ◌+◌, ◌<◌, ◌≤◌, Bool, true, false, cond, true≢false, nat_lt, codes, List, [], ◌∷◌, ◌++◌, length, length-append, Option, Some, None, Result, Ok, Err, is_ok, refl, sym, ap, subst, ◌∙◌, arith}
+use Rattle.std.proofs.Common.{◌≡◌, ℕ, zero, suc, ◌+◌, ◌≤◌, Bool, true, false, cond, true≢false, nat_lt, codes, List, [], ◌∷◌, length, length-append, Option, Some, None, Result, Ok, Err, is_ok, refl, sym, ap, subst, ◌∙◌, arith}
 use Rattle.std.proofs.lemmas.Bool.Decides.{nat_tests}
 use Rattle.dft_base.specs.Lexing.{Text}
 use Rattle.dft_base.specs.Parser.{and_then, value_of, pure, ◌>>=◌, ◌>>◌}
@@ -7,12 +7,12 @@ use Rattle.dft_stil_tokens.specs.declared.text.TokenKind.TheVariants as kind
 use Rattle.dft_stil_tokens.specs.declared.text.Cause.{Cause}
 use Rattle.dft_stil_tokens.specs.declared.text.Cause.TheVariants as cause
 use Rattle.dft_patterns.specs.declared.steadiness.Unsteady.{Unsteady}
-use Rattle.dft_patterns.specs.Patterns.{Patterns, IsWellFormed}
+use Rattle.dft_patterns.specs.Patterns.{Patterns}
 use Rattle.dft_patterns.specs.Steadiness.{first_unsteady}
 use Rattle.dft_stil_tokens.specs.Lexemes.{Token, tokens}
 use Rattle.dft_stil_tokens.specs.Steps.{Rule, Outcome, left, next, no_token, unsupported, expect, eat, keyword, name, needed, sees_word, sees_left_out}
-use Rattle.dft_stil_text.specs.Namings.{Names, number_of, signals_block, group_blocks}
-use Rattle.dft_stil_text.specs.Timings.{Tables, Timing, timing}
+use Rattle.dft_stil_text.specs.SignalGroups.{Names, number_of, signals_block, group_blocks}
+use Rattle.dft_stil_text.specs.WaveformTables.{Tables, Timing, timing}
 use Rattle.dft_stil_text.specs.Statements as spec
 use Rattle.dft_stil_text.specs.Statements.{Pattern, assignments_from, vector, table_used, labelled, statement, statements_from}
 use Rattle.dft_stil_text.specs.PatternText.{Burst, Refusal, version, header_if_any, burst, exec, known_name, pattern, pattern_part, pattern_text, steady_or, tested, patterns_of, StandsFor}

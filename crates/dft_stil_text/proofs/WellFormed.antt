@@ -10,8 +10,8 @@ use Rattle.dft_patterns.specs.Patterns.{Patterns, IsVector, IsWellFormed}
 use Rattle.dft_patterns.specs.Steadiness.{first_unsteady}
 use Rattle.dft_stil_tokens.specs.Lexemes.{tokens}
 use Rattle.dft_stil_tokens.specs.Steps.{Outcome, left, expect, keyword}
-use Rattle.dft_stil_text.specs.Namings.{Names, signals_block, group_blocks}
-use Rattle.dft_stil_text.specs.Timings.{Timing, timing}
+use Rattle.dft_stil_text.specs.SignalGroups.{Names, signals_block, group_blocks}
+use Rattle.dft_stil_text.specs.WaveformTables.{Timing, timing}
 use Rattle.dft_stil_text.specs.PatternText as spec
 use Rattle.dft_stil_text.specs.PatternText.{version, header_if_any, burst, exec, known_name, pattern, pattern_part, pattern_text, patterns_of}
 use Rattle.dft_stil_text.proofs.GivenRules.{Gives, GivesOf, after_any, then_gives, pure_gives}

@@ -11,8 +11,8 @@ use Rattle.dft_patterns.specs.declared.act.Act.TheVariants as act
 use Rattle.dft_patterns.specs.declared.steadiness.Unsteady.{Unsteady}
 use Rattle.dft_stil_tokens.specs.Lexemes.{tokens}
 use Rattle.dft_stil_tokens.specs.Steps.{Rule, kind_of, bytes, left, next, sees, refuse, mark_refusal, expect, eat_word, keyword, name, needed, fault}
-use Rattle.dft_stil_text.specs.Namings.{Names, signals_block, group_blocks, name_if_any}
-use Rattle.dft_stil_text.specs.Timings.{Timing, timing}
+use Rattle.dft_stil_text.specs.SignalGroups.{Names, signals_block, group_blocks, name_if_any}
+use Rattle.dft_stil_text.specs.WaveformTables.{Timing, timing}
 use Rattle.dft_stil_text.specs.Statements.{Pattern, statements_from}
 use Rattle.dft_patterns.specs.Patterns.{Patterns}
 use Rattle.dft_patterns.specs.Steadiness.{first_unsteady}

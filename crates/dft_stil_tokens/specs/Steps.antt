@@ -153,13 +153,13 @@ unfoldable pub sees_run : List Token → Bool
 sees_run ts = (sees kind.Word ts || sees kind.Number ts) && nat_lt 0 (length (run ts))
 
 -- the one letter or digit that comes next, which is not taken yet; a run of more is left out by the profile
-unfoldable pub character : Rule ℕ
-character = λ ts.
+unfoldable pub one_character : Rule ℕ
+one_character = λ ts.
     if sees_run ts then (if length (run ts) == 1 then Ok (slice_index (run ts) 0, ts) else Err (fault (cause.Unsupported (run ts)) (left ts))) else refuse ts
 
 -- the one letter that comes next, which is not taken yet; a run of more letters or digits is left out by the profile
-unfoldable pub letter : Rule ℕ
-letter = λ ts. if sees_run ts && (nat_lt 1 (length (run ts)) || is_ascii_alphabetic (slice_index (run ts) 0)) then character ts else refuse ts
+unfoldable pub one_letter : Rule ℕ
+one_letter = λ ts. if sees_run ts && (nat_lt 1 (length (run ts)) || is_ascii_alphabetic (slice_index (run ts) 0)) then one_character ts else refuse ts
 
 -- takes the letter or digit that comes next; what follows it in its token, as `_`, `.` or `[`, fits no rule
 unfoldable pub single : Rule Text

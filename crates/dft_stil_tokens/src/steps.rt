@@ -221,10 +221,10 @@ impl<'a> Tokens<'a> {
         self.sees_plain() && 0 < self.run().len()
     }
 
-    #[tactic(auto, using(crate::proofs::CharacterNames::characters_are_names), unfolding(crate::specs::Steps::character))]
+    #[tactic(auto, using(crate::proofs::CharacterNames::characters_are_names), unfolding(crate::specs::Steps::one_character))]
     /// The one letter or digit that comes next, which is not taken yet; the profile leaves out a run of more.
     pub fn character(&self) -> Result<u8, ReadError>
-        ensures read { ReadsText (λ b. b) (spec.character self.now) result self.now }
+        ensures read { ReadsText (λ b. b) (spec.one_character self.now) result self.now }
         ensures name { IfOk result (λ b. IsName (b ∷ [])) }
     {
         if !self.sees_run() {
@@ -238,10 +238,10 @@ impl<'a> Tokens<'a> {
         }
     }
 
-    #[tactic(auto, unfolding(crate::specs::Steps::letter))]
+    #[tactic(auto, unfolding(crate::specs::Steps::one_letter))]
     /// The one letter that comes next, which is not taken yet; the profile leaves out a run of more letters or digits.
     pub fn letter(&self) -> Result<u8, ReadError>
-        ensures read { ReadsText (λ b. b) (spec.letter self.now) result self.now }
+        ensures read { ReadsText (λ b. b) (spec.one_letter self.now) result self.now }
         ensures name { IfOk result (λ b. IsName (b ∷ [])) }
     {
         if self.sees_run() && is_letter_or_long(self.run()) {
