@@ -1,9 +1,11 @@
 //! Compilations where a call of the outside fails.
 
 use crate::cases::COMPILE;
-use crate::saved::{ENCODED, HEAD, OPPOSITE, SIGNALS, VECTORS};
+use crate::saved::{ENCODED, OPPOSITE, SIGNALS, VECTORS};
 use dft_files::{Failing, MemoryFiles};
-use dft_memory_runs::{FIVE, FIVE_COMPILED, PAIR, Unlike, WARM, holds, prints, ran, shelf};
+use dft_memory_runs::{
+    FIVE, FIVE_COMPILED, PAIR, Unlike, WARM, WARM_HEAD, holds, prints, ran, shelf,
+};
 use dft_top::Status;
 use std::alloc::Global;
 use std::test::Fail;
@@ -26,7 +28,7 @@ const NETLIST: (&str, &str) = (FIVE_COMPILED, "");
 
 const PATTERNS: (&str, &str) = (SIGNALS, VECTORS);
 
-const REPORT: (&str, &str) = (HEAD, ENCODED);
+const REPORT: (&str, &str) = (WARM_HEAD, ENCODED);
 
 static FAULTS: [Fault; 8] = [
     Fault {

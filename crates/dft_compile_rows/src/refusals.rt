@@ -11,7 +11,7 @@ use std::test::Fail;
 const TWO: &str =
     "module m (clk, d, q); input clk, d; output q; DFF f0 (.CK(clk), .D(d), .Q(n0)); DFF f1 (.CK(clk), .D(n0), .Q(q)); endmodule";
 
-fn is_refused(
+pub(crate) fn is_refused(
     alloc: Global,
     netlist: &str,
     config: (&str, &str),

@@ -2,7 +2,7 @@
 
 use crate::cases::passes;
 use dft_files::MemoryFiles;
-use dft_memory_runs::{FIVE, FIVE_COMPILED, PAIR, Unlike, WARM, holds, prints, shelf};
+use dft_memory_runs::{FIVE, FIVE_COMPILED, PAIR, Unlike, WARM, WARM_HEAD, holds, prints, shelf};
 use dft_top::Status;
 use std::alloc::Global;
 use std::test::Fail;
@@ -15,10 +15,7 @@ pub(crate) const OPPOSITE: &str =
 pub(crate) const LINE: &str =
     "compiled cells 5 chains 2 cycles 5 patterns 2 encoded 2 unsolvable 0 skipped 0 masked 0 vectors 18\n";
 
-/// The lines of the report before those of cubes, and these.
-pub(crate) const HEAD: &str =
-    "edt report 1\ncells 5 chains 2 cycles 5 variables 5\nchain 0 length 3\nchain 1 length 2\nscanned f0 clk chain 0 place 0\nscanned f1 clk chain 0 place 1\nscanned f2 clk chain 0 place 2\nscanned f3 clk chain 1 place 0\nscanned f4 clk chain 1 place 1\n";
-
+/// What is reported of them.
 pub(crate) const ENCODED: &str = "cube k0 encoded 0\ncube k1 encoded 1\n";
 
 /// The pattern file before its vectors (IEEE 1450-1999), and these.
@@ -163,7 +160,7 @@ fn design(alloc: Global, netlist: &str) -> Result<MemoryFiles, Unlike> {
 fn are_whole(alloc: Global, files: &MemoryFiles) -> Result<(), Unlike> {
     holds(alloc, files, "o", FIVE_COMPILED, "")?;
     holds(alloc, files, "v", SIGNALS, VECTORS)?;
-    holds(alloc, files, "r", HEAD, ENCODED)
+    holds(alloc, files, "r", WARM_HEAD, ENCODED)
 }
 
 #[test]
@@ -187,6 +184,6 @@ fn a_chain_that_captures_an_unknown_is_masked(rt: HostRuntime) -> Result<(), Fai
     let mut files = design(rt.alloc(), LATCHED)?;
     passes(rt.alloc(), &mut files, LATCHED_LINE, REPLAYED)?;
     holds(rt.alloc(), &files, "v", SIGNALS, LATCHED_VECTORS)?;
-    holds(rt.alloc(), &files, "r", HEAD, ENCODED)?;
+    holds(rt.alloc(), &files, "r", WARM_HEAD, ENCODED)?;
     Ok(())
 }

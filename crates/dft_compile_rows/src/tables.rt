@@ -1,8 +1,7 @@
 //! Compilations of small designs.
 
 use crate::cases::{Case, comes_out};
-use crate::saved::HEAD;
-use dft_memory_runs::{COLD, FIVE, PAIR, PARTED, PARTED_REPORT, WARM};
+use dft_memory_runs::{COLD, COLD_HEAD, FIVE, PAIR, PARTED, PARTED_TOLD, WARM, WARM_HEAD};
 use std::test::Fail;
 
 // ---- netlists
@@ -57,7 +56,7 @@ static CASES: [Case; 9] = [
         config: (COLD, PAIR),
         cubes: PARTED,
         line: "compiled cells 5 chains 2 cycles 3 patterns 1 encoded 1 unsolvable 2 skipped 0 masked 0 vectors 8\n",
-        report: (PARTED_REPORT, ""),
+        report: (COLD_HEAD, PARTED_TOLD),
         replay: "pass 8 vectors 7 compared\n",
     },
     Case {
@@ -66,7 +65,7 @@ static CASES: [Case; 9] = [
         cubes: "cube t clk\ncell f1 0\ncell f3 0\ncell f4 1\nend",
         line: "compiled cells 5 chains 2 cycles 5 patterns 0 encoded 0 unsolvable 1 skipped 0 masked 0 vectors 0\n",
         report: (
-            HEAD,
+            WARM_HEAD,
             "cube t unsolvable 3\nsum f1 0 0.0 0.2\nsum f3 0 0.1 0.2\nsum f4 1 0.0 0.1\n",
         ),
         replay: "pass 0 vectors 0 compared\n",
@@ -77,7 +76,7 @@ static CASES: [Case; 9] = [
         cubes: FITS_LATE,
         line: "compiled cells 5 chains 2 cycles 5 patterns 2 encoded 4 unsolvable 0 skipped 0 masked 0 vectors 18\n",
         report: (
-            HEAD,
+            WARM_HEAD,
             "cube a encoded 0\ncube b encoded 1\ncube c encoded 0\ncube e encoded 0\n",
         ),
         replay: "pass 18 vectors 22 compared\n",
@@ -88,7 +87,7 @@ static CASES: [Case; 9] = [
         cubes: FITS_LATE,
         line: "compiled cells 5 chains 2 cycles 5 patterns 3 encoded 4 unsolvable 0 skipped 0 masked 0 vectors 24\n",
         report: (
-            HEAD,
+            WARM_HEAD,
             "cube a encoded 0\ncube b encoded 1\ncube c encoded 2\ncube e encoded 2\n",
         ),
         replay: "pass 24 vectors 33 compared\n",
@@ -106,7 +105,7 @@ static CASES: [Case; 9] = [
         config: (WARM, PAIR),
         cubes: "",
         line: "compiled cells 5 chains 2 cycles 5 patterns 0 encoded 0 unsolvable 0 skipped 0 masked 0 vectors 0\n",
-        report: (HEAD, ""),
+        report: (WARM_HEAD, ""),
         replay: "pass 0 vectors 0 compared\n",
     },
     Case {

@@ -10,5 +10,7 @@ mod unlike;
 pub use pattern_texts::patterns;
 pub use runs::{Ended, prints, ran};
 pub use shelves::{holds, shelf};
-pub use small_case::{COLD, FIVE, FIVE_COMPILED, PAIR, PARTED, PARTED_REPORT, WARM};
+pub use small_case::{
+    COLD, COLD_HEAD, FIVE, FIVE_COMPILED, PAIR, PARTED, PARTED_TOLD, WARM, WARM_HEAD,
+};
 pub use unlike::Unlike;

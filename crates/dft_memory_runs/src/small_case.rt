@@ -110,6 +110,14 @@ pub const PAIR: &str =
 pub const PARTED: &str =
     "cube u clk\ncell f2 1\nend\ncube v clk\ncell f2 0\nend\ncube w clk\ncell f1 0\ncell f3 1\nend\n";
 
-/// What is then reported.
-pub const PARTED_REPORT: &str =
-    "edt report 1\ncells 5 chains 2 cycles 3 variables 3\nchain 0 length 3\nchain 1 length 2\nscanned f0 clk chain 0 place 0\nscanned f1 clk chain 0 place 1\nscanned f2 clk chain 0 place 2\nscanned f3 clk chain 1 place 0\nscanned f4 clk chain 1 place 1\ncube u unsolvable 1\nsum f2 1 -\ncube v encoded 0\ncube w unsolvable 2\nsum f1 0 0.0\nsum f3 1 0.0\n";
+/// The lines of a report before those of cubes, with warm cycles.
+pub const WARM_HEAD: &str =
+    "edt report 1\ncells 5 chains 2 cycles 5 variables 5\nchain 0 length 3\nchain 1 length 2\nscanned f0 clk chain 0 place 0\nscanned f1 clk chain 0 place 1\nscanned f2 clk chain 0 place 2\nscanned f3 clk chain 1 place 0\nscanned f4 clk chain 1 place 1\n";
+
+/// The same without.
+pub const COLD_HEAD: &str =
+    "edt report 1\ncells 5 chains 2 cycles 3 variables 3\nchain 0 length 3\nchain 1 length 2\nscanned f0 clk chain 0 place 0\nscanned f1 clk chain 0 place 1\nscanned f2 clk chain 0 place 2\nscanned f3 clk chain 1 place 0\nscanned f4 clk chain 1 place 1\n";
+
+/// The lines of the three cubes.
+pub const PARTED_TOLD: &str =
+    "cube u unsolvable 1\nsum f2 1 -\ncube v encoded 0\ncube w unsolvable 2\nsum f1 0 0.0\nsum f3 1 0.0\n";
