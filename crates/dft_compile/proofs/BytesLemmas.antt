@@ -50,13 +50,10 @@ abbrev one_out : Dir → ℕ
 one_out Input = 0
 one_out Output = 1
 
-abbrev ins : List NewPort → ℕ
-ins [] = 0
-ins (port ∷ ports) = one_in port.dir + ins ports
-
-abbrev outs : List NewPort → ℕ
-outs [] = 0
-outs (port ∷ ports) = one_out port.dir + outs ports
+-- how many of them count, where a port of each direction counts so much
+abbrev counted : (Dir → ℕ) → List NewPort → ℕ
+counted one [] = 0
+counted one (port ∷ ports) = one port.dir + counted one ports
 
 in_step : (d : Dir) (net : NetId) (rest : List NetId) (count : ℕ) → length rest ≡ count → length (bits_in d (net ∷ []) ++ rest) ≡ one_in d + count
 in_step Input net rest count h = omega (arith, h)
@@ -66,56 +63,54 @@ out_step : (d : Dir) (net : NetId) (rest : List NetId) (count : ℕ) → length 
 out_step Input net rest count h = omega (arith, h)
 out_step Output net rest count h = omega (arith, h)
 
-ins_are : (net : ℕ) (ports : List NewPort) → length (input_bits (ports_from net ports)) ≡ ins ports
+ins_are : (net : ℕ) (ports : List NewPort) → length (input_bits (ports_from net ports)) ≡ counted one_in ports
 ins_are net [] = refl
-ins_are net (port ∷ ports) = in_step port.dir (record { 0 = net }) (input_bits (ports_from (suc net) ports)) (ins ports) (ins_are (suc net) ports)
+ins_are net (port ∷ ports) = in_step port.dir (record { 0 = net }) (input_bits (ports_from (suc net) ports)) (counted one_in ports) (ins_are (suc net) ports)
 
-outs_are : (net : ℕ) (ports : List NewPort) → length (output_bits (ports_from net ports)) ≡ outs ports
+outs_are : (net : ℕ) (ports : List NewPort) → length (output_bits (ports_from net ports)) ≡ counted one_out ports
 outs_are net [] = refl
-outs_are net (port ∷ ports) = out_step port.dir (record { 0 = net }) (output_bits (ports_from (suc net) ports)) (outs ports) (outs_are (suc net) ports)
+outs_are net (port ∷ ports) = out_step port.dir (record { 0 = net }) (output_bits (ports_from (suc net) ports)) (counted one_out ports) (outs_are (suc net) ports)
 
-ins_both : (a b : List NewPort) → ins (a ++ b) ≡ ins a + ins b
-ins_both [] b = omega arith
-ins_both (port ∷ a) b = omega (arith, ins_both a b)
+counted_both : (one : Dir → ℕ) (a b : List NewPort) → counted one (a ++ b) ≡ counted one a + counted one b
+counted_both one [] b = omega arith
+counted_both one (port ∷ a) b = omega (arith, counted_both one a b)
 
-outs_both : (a b : List NewPort) → outs (a ++ b) ≡ outs a + outs b
-outs_both [] b = omega arith
-outs_both (port ∷ a) b = omega (arith, outs_both a b)
+counted_some : (one : Dir → ℕ) (d : Dir) (name : Text) (from count : ℕ) → counted one (map (λ number. new_port d (numbered name number)) (range_with_len from count)) ≡ count * one d
+counted_some one d name from zero = omega arith
+counted_some one d name from (suc count) = let more : suc count * one d ≡ one d + count * one d = grind arith in omega (arith, more, counted_some one d name (from + 1) count)
 
-ins_some : (d : Dir) (name : Text) (from count : ℕ) → ins (map (λ number. new_port d (numbered name number)) (range_with_len from count)) ≡ count * one_in d
-ins_some d name from zero = omega arith
-ins_some d name from (suc count) = let more : suc count * one_in d ≡ one_in d + count * one_in d = grind arith in omega (arith, more, ins_some d name (from + 1) count)
+abbrev numbered_in : (Dir → ℕ) → Dir → (name : Text) → (count : ℕ) → ℕ
+numbered_in one d name count = counted one (numbered_ports d name count)
 
-outs_some : (d : Dir) (name : Text) (from count : ℕ) → outs (map (λ number. new_port d (numbered name number)) (range_with_len from count)) ≡ count * one_out d
-outs_some d name from zero = omega arith
-outs_some d name from (suc count) = let more : suc count * one_out d ≡ one_out d + count * one_out d = grind arith in omega (arith, more, outs_some d name (from + 1) count)
-
-added_ins : (config : Config) → ins (added_ports Edt config) ≡ 3 + (config.ring.channels + config.compactor.mask_inputs)
-added_ins config =
-    let channels = numbered_ports Input config.names.channel config.ring.channels in
+added_counted : (one : Dir → ℕ) (config : Config) →
+    counted one (added_ports Edt config)
+    ≡ one Input
+    + (one Input
+    + (one Input
+    + (numbered_in one Input config.names.channel config.ring.channels + (numbered_in one Input config.names.mask config.compactor.mask_inputs + numbered_in one Output config.names.output (length config.compactor.groups)))))
+added_counted one config =
     let masks = numbered_ports Input config.names.mask config.compactor.mask_inputs in
     let shown = numbered_ports Output config.names.output (length config.compactor.groups) in
+    omega (arith, counted_both one (numbered_ports Input config.names.channel config.ring.channels) (masks ++ shown), counted_both one masks shown)
+
+added_ins : (config : Config) → counted one_in (added_ports Edt config) ≡ 3 + (config.ring.channels + config.compactor.mask_inputs)
+added_ins config =
     omega (
       arith,
-      ins_both channels (masks ++ shown),
-      ins_both masks shown,
-      ins_some Input config.names.channel 0 config.ring.channels,
-      ins_some Input config.names.mask 0 config.compactor.mask_inputs,
-      ins_some Output config.names.output 0 (length config.compactor.groups),
+      added_counted one_in config,
+      counted_some one_in Input config.names.channel 0 config.ring.channels,
+      counted_some one_in Input config.names.mask 0 config.compactor.mask_inputs,
+      counted_some one_in Output config.names.output 0 (length config.compactor.groups),
     )
 
-added_outs : (config : Config) → outs (added_ports Edt config) ≡ length config.compactor.groups
+added_outs : (config : Config) → counted one_out (added_ports Edt config) ≡ length config.compactor.groups
 added_outs config =
-    let channels = numbered_ports Input config.names.channel config.ring.channels in
-    let masks = numbered_ports Input config.names.mask config.compactor.mask_inputs in
-    let shown = numbered_ports Output config.names.output (length config.compactor.groups) in
     omega (
       arith,
-      outs_both channels (masks ++ shown),
-      outs_both masks shown,
-      outs_some Input config.names.channel 0 config.ring.channels,
-      outs_some Input config.names.mask 0 config.compactor.mask_inputs,
-      outs_some Output config.names.output 0 (length config.compactor.groups),
+      added_counted one_out config,
+      counted_some one_out Input config.names.channel 0 config.ring.channels,
+      counted_some one_out Input config.names.mask 0 config.compactor.mask_inputs,
+      counted_some one_out Output config.names.output 0 (length config.compactor.groups),
     )
 
 -- ---- signals

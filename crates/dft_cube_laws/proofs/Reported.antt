@@ -17,6 +17,7 @@ use Rattle.dft_report.specs.declared.report.CubeLine.TheVariants.{Encoded, Unsol
 use Rattle.dft_report.specs.declared.report.CubeReport.{CubeReport}
 use Rattle.dft_outcomes.specs.Laws.{Says}
 use Rattle.dft_outcomes.proofs.LineLemmas.{all_reports}
+use Rattle.dft_outcomes.proofs.PlacedLemmas.{step_at}
 use Rattle.dft_scan_hardware.specs.declared.style.Style.TheVariants.{Edt}
 use Rattle.dft_scan_hardware.specs.Statements.{scanned}
 use Rattle.dft_pass_laws.specs.Passing.{set_of}
@@ -27,29 +28,6 @@ use Rattle.dft_cube_laws.specs.Bringing.{merged_of}
 use Rattle.dft_cube_laws.specs.Reporting.{EncodedAreBrought, EntriesAreExact, IsEncoded, IsNever}
 use Rattle.dft_cube_laws.proofs.Brought.{cubes_captured}
 use Rattle.dft_cube_laws.proofs.Replayed.{cubes_replayed}
-
--- ---- the word of a cube
-
-record Step (columns : ℕ) (row : CellRows) (window : ℕ) (placed : List Placed) (c : ℕ) (cube : Cube) : Type 0 where
-  told : Placed
-  at : slice_get placed c ≡ Some told
-  old : List Merged
-  new : List Merged
-  places : Places columns row window old cube told new
-
-step_at : (columns : ℕ) (row : CellRows) (window : ℕ) (old new : List Merged) (cubes : List Cube) (placed : List Placed) → PlacesAll columns row window old cubes placed new → (c : ℕ) (cube : Cube) → slice_get cubes c ≡ Some cube → Step columns row window placed c cube
-step_at columns row window old new [] placed places c cube at = absurd (none-some cube at)
-step_at columns row window old new (x ∷ cubes) [] places c cube at = absurd places
-step_at columns row window old new (x ∷ cubes) (w ∷ placed) places zero cube at = record {
-  told = w;
-  at = refl;
-  old = old;
-  new = places.0;
-  places = subst (λ (y : Cube). Places columns row window old y w places.0) (same_Some x cube at) places.1.0;
-}
-step_at columns row window old new (x ∷ cubes) (w ∷ placed) places (suc c) cube at =
-    let more = step_at columns row window places.0 new cubes placed places.1.1 c cube at in
-    record { told = more.told; at = more.at; old = more.old; new = more.new; places = more.places }
 
 -- ---- words and lines
 
