@@ -5,7 +5,9 @@ ghost use Rattle.dft_outcomes.specs.Sums.{columns_in, rows_in, IsSums};
 ghost use Rattle.dft_report.specs.declared.report.CubeLine.TheVariants.{Unsolvable};
 ghost use Rattle.dft_certify.specs.Certifying as spec;
 ghost use Rattle.dft_certify.specs.Certifying.{IsFault};
+ghost use Rattle.dft_certify.specs.Naming.{Finds};
 
+use crate::cube_names::CubeNames;
 use crate::error::CertifyError;
 use crate::parity::is_certificate;
 use crate::sums::take_sums;
@@ -16,10 +18,11 @@ use dft_report::{CubeLine, CubeReport, Report, SumLine};
 use std::alloc::{AllocError, Global};
 
 /// The cube of this name.
-fn cube_named<'a>(cubes: &'a [Cube], name: &[u8]) -> Option<&'a Cube>
+fn cube_named<'a>(cubes: &'a [Cube], names: &CubeNames, name: &[u8]) -> Option<&'a Cube>
+    requires { Finds names.now cubes.now }
     ensures { option_copied result ≡ spec.cube_named cubes.now name.now }
 {
-    cubes.iter().find(|cube| cube.name.as_slice() == name)
+    cubes.get(names.get(name)?)
 }
 
 /// Tests the lines of an unsolvable cube, behind the one with this number.
@@ -27,15 +30,17 @@ fn certify_lines(
     alloc: Global,
     sums: &CellSums<'_>,
     cubes: &[Cube],
+    names: &CubeNames,
     number: u64,
     name: &Name,
     lines: &[SumLine],
 ) -> Result<(), CertifyError>
-    requires { IsSums sums.now }
+    requires sums { IsSums sums.now }
+    requires names { Finds names.now cubes.now }
     ensures passed { OnOk result (spec.outcome_refusal sums.now.design.now sums.now.ring.now (rows_in sums.now) (columns_in sums.now) cubes.now number name.now (Unsolvable lines.now) ≡ None) }
     ensures refused { IfErr result (IsFault (spec.outcome_refusal sums.now.design.now sums.now.ring.now (rows_in sums.now) (columns_in sums.now) cubes.now number name.now (Unsolvable lines.now))) }
 {
-    let Some(cube) = cube_named(cubes, name.as_slice()) else {
+    let Some(cube) = cube_named(cubes, names, name.as_slice()) else {
         let name = name.copy(alloc)?;
         return Err(CertifyError::K5 { name });
     };
@@ -53,10 +58,12 @@ fn certify_entry(
     alloc: Global,
     sums: &CellSums<'_>,
     cubes: &[Cube],
+    names: &CubeNames,
     number: u64,
     entry: &CubeReport,
 ) -> Result<(), CertifyError>
-    requires { IsSums sums.now }
+    requires sums { IsSums sums.now }
+    requires names { Finds names.now cubes.now }
     ensures passed { OnOk result (spec.outcome_refusal sums.now.design.now sums.now.ring.now (rows_in sums.now) (columns_in sums.now) cubes.now number entry.now.name entry.now.outcome ≡ None) }
     ensures refused { IfErr result (IsFault (spec.outcome_refusal sums.now.design.now sums.now.ring.now (rows_in sums.now) (columns_in sums.now) cubes.now number entry.now.name entry.now.outcome)) }
 {
@@ -65,6 +72,7 @@ fn certify_entry(
             alloc,
             sums,
             cubes,
+            names,
             number,
             &entry.name,
             lines.as_slice(),
@@ -93,16 +101,18 @@ fn certify_entries(
     alloc: Global,
     sums: &CellSums<'_>,
     cubes: &[Cube],
+    names: &CubeNames,
     first: u64,
     entries: &[CubeReport],
 ) -> Result<(), CertifyError>
-    requires { IsSums sums.now }
+    requires sums { IsSums sums.now }
+    requires names { Finds names.now cubes.now }
     ensures passed { OnOk result (spec.entries_refusal sums.now.design.now sums.now.ring.now (rows_in sums.now) (columns_in sums.now) cubes.now first entries.now ≡ None) }
     ensures refused { IfErr result (IsFault (spec.entries_refusal sums.now.design.now sums.now.ring.now (rows_in sums.now) (columns_in sums.now) cubes.now first entries.now)) }
 {
     let mut number = first;
     for entry in entries {
-        certify_entry(alloc, sums, cubes, number, entry)?;
+        certify_entry(alloc, sums, cubes, names, number, entry)?;
         let lines = lines_of(&entry.outcome)?;
         number = number.checked_add(lines).ok_or(AllocError)?;
     }
@@ -161,6 +171,7 @@ pub fn certify(
     ensures refused { IfErr result (IsFault (spec.certify_refusal sums.now.design.now sums.now.ring.now (rows_in sums.now) (columns_in sums.now) cubes.now report.now)) }
 {
     let first = first_line(report)?;
-    certify_entries(alloc, sums, cubes, first, report.cubes.as_slice())?;
+    let names = CubeNames::of(alloc, cubes)?;
+    certify_entries(alloc, sums, cubes, &names, first, report.cubes.as_slice())?;
     Ok(unsolvable_in(report.cubes.as_slice())?)
 }

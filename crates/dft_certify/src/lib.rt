@@ -1,7 +1,9 @@
 //! Certificates of reports: whether the sums that a report prints for unsolvable cubes show that no channel bits load them.
 #![tactic(auto)]
 
+mod cell_set;
 mod certifying;
+mod cube_names;
 mod error;
 mod laws;
 mod parity;

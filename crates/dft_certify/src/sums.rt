@@ -1,31 +1,52 @@
 //! The lines of an unsolvable cube, one by one.
 
-ghost use Rattle.std.specs.Prelude.{◌≡◌, [], None, IfErr, IfOk, OnOk};
+ghost use Rattle.std.specs.Prelude.{◌≡◌, ◌<◌, true, false, [], None, length, drop, is_some, IfErr, IfOk, IfSome, MatchOption, OnOk};
 ghost use Rattle.dft_outcomes.specs.Sums.{rows_in, IsSums};
 ghost use Rattle.dft_certify.specs.Certifying as spec;
 ghost use Rattle.dft_certify.specs.Certifying.{IsFault};
 
+use crate::cell_set::CellSet;
 use crate::error::CertifyError;
-use crate::rows::{own_variables, same_variables, scanned_named};
+use crate::rows::{same_variables, scanned_named};
 use dft_base::{Name, Place};
 use dft_netlist::InstanceId;
 use dft_outcomes::CellSums;
 use dft_report::SumLine;
 use std::alloc::{AllocError, Global};
 
-/// Whether a cube gives a cell this bit.
-fn is_care(cells: &[(InstanceId, bool)], cell: InstanceId, bit: bool) -> bool
-    ensures { result ≡ spec.is_care cells.now cell bit }
+/// The first place, from one on, at which a cube gives a cell this bit.
+fn care_from(
+    cells: &[(InstanceId, bool)],
+    from: usize,
+    cell: InstanceId,
+    bit: bool,
+) -> Option<usize>
+    ensures { MatchOption result (spec.is_care (drop from cells.now) cell bit ≡ false) (λ place. (place < length cells.now) × (spec.is_care cells.now cell bit ≡ true)) }
 {
-    cells
-        .iter()
-        .any(|given| given.0.0 == cell.0 && given.1 == bit)
+    for place in from..cells.len() {
+        let given = cells[place];
+        if given.0.0 == cell.0 && given.1 == bit {
+            return Some(place);
+        }
+    }
+    None
 }
 
-fn has_cell(cells: &[InstanceId], cell: InstanceId) -> bool
-    ensures { result ≡ spec.has_cell cells.now cell }
+/// A place at which a cube gives a cell this bit. It is looked for from one on first, since certificates that are written name cells in the
+/// cube's order.
+fn care_place(
+    cells: &[(InstanceId, bool)],
+    next: usize,
+    cell: InstanceId,
+    bit: bool,
+) -> Option<usize>
+    ensures care { is_some result ≡ spec.is_care cells.now cell bit }
+    ensures within { IfSome result (λ place. place < length cells.now) }
 {
-    cells.iter().any(|other| other.0 == cell.0)
+    match care_from(cells, next, cell, bit) {
+        Some(place) => Some(place),
+        None => care_from(cells, 0, cell, bit),
+    }
 }
 
 /// Whether a line has the variables that this cell sums.
@@ -38,26 +59,29 @@ fn has_variables(
     requires { IsSums sums.now }
     ensures { IfOk result (λ same. same ≡ spec.has_variables sums.now.ring.now (rows_in sums.now) cell line.now) }
 {
-    let own = own_variables(alloc, sums, cell)?;
+    let own = sums.variables(alloc, cell)?;
     Ok(same_variables(line.variables.as_slice(), &own))
 }
 
-/// Whether a line is the sum that this cell takes, for a bit that the cube gives it, and the first of the cell.
-fn is_sum(
+/// Where a cube gives a cell the bit of a line, if the line is the sum that the cell takes, and the first of the cell.
+fn sum_place(
     alloc: Global,
     sums: &CellSums<'_>,
     cells: &[(InstanceId, bool)],
-    before: &[InstanceId],
+    before: &CellSet,
+    next: usize,
     cell: InstanceId,
     line: &SumLine,
-) -> Result<bool, AllocError>
+) -> Result<Option<usize>, AllocError>
     requires { IsSums sums.now }
-    ensures { IfOk result (λ is. is ≡ spec.is_sum sums.now.ring.now (rows_in sums.now) cells.now before.now cell line.now) }
+    ensures sum { IfOk result (λ place. is_some place ≡ spec.is_sum sums.now.ring.now (rows_in sums.now) cells.now before.now cell line.now) }
+    ensures first { IfOk result (λ place. IfSome place (λ k. (k < length cells.now) × (spec.has_cell before.now cell ≡ false))) }
 {
-    if !is_care(cells, cell, line.bit) || has_cell(before, cell) {
-        return Ok(false);
+    let place = care_place(cells, next, cell, line.bit);
+    if place.is_none() || before.has(cell) || !has_variables(alloc, sums, cell, line)? {
+        return Ok(None);
     }
-    has_variables(alloc, sums, cell, line)
+    Ok(place)
 }
 
 /// The place of the line with this number.
@@ -79,30 +103,31 @@ fn told(alloc: Global, number: u64, line: &SumLine) -> Result<(Place, Name), All
     Ok((place, name))
 }
 
-/// Tests a line, and notes its cell.
+/// Tests a line, and notes its cell. The answer is the place in the cube from which the next is looked for.
 fn take_sum(
     alloc: Global,
     sums: &CellSums<'_>,
     cells: &[(InstanceId, bool)],
-    before: &mut Vec<InstanceId>,
+    before: &mut CellSet,
+    next: usize,
     number: u64,
     line: &SumLine,
-) -> Result<(), CertifyError>
+) -> Result<usize, CertifyError>
     requires { IsSums sums.now }
-    ensures passed { OnOk result (spec.sum_refusal sums.now.design.now sums.now.ring.now (rows_in sums.now) cells.now before.old.items number line.now ≡ None) }
-    ensures noted { OnOk result (before.new.items ≡ spec.and_cell before.old.items (spec.scanned_named sums.now.design.now (rows_in sums.now) line.now.name)) }
-    ensures refused { IfErr result (IsFault (spec.sum_refusal sums.now.design.now sums.now.ring.now (rows_in sums.now) cells.now before.old.items number line.now)) }
+    ensures passed { OnOk result (spec.sum_refusal sums.now.design.now sums.now.ring.now (rows_in sums.now) cells.now before.old number line.now ≡ None) }
+    ensures noted { OnOk result (before.new ≡ spec.and_cell before.old (spec.scanned_named sums.now.design.now (rows_in sums.now) line.now.name)) }
+    ensures refused { IfErr result (IsFault (spec.sum_refusal sums.now.design.now sums.now.ring.now (rows_in sums.now) cells.now before.old number line.now)) }
 {
     let Some(cell) = scanned_named(sums, line.name.as_slice()) else {
         let (place, name) = told(alloc, number, line)?;
         return Err(CertifyError::K4 { place, name });
     };
-    if !is_sum(alloc, sums, cells, before, cell, line)? {
+    let Some(place) = sum_place(alloc, sums, cells, before, next, cell, line)? else {
         let (place, name) = told(alloc, number, line)?;
         return Err(CertifyError::K2 { place, name });
-    }
-    before.push(cell)?;
-    Ok(())
+    };
+    before.add(cell)?;
+    Ok(place + 1)
 }
 
 /// Tests the lines of a cube, of which the first has this number.
@@ -117,10 +142,11 @@ pub(crate) fn take_sums(
     ensures passed { OnOk result (spec.sums_refusal sums.now.design.now sums.now.ring.now (rows_in sums.now) cells.now [] first lines.now ≡ None) }
     ensures refused { IfErr result (IsFault (spec.sums_refusal sums.now.design.now sums.now.ring.now (rows_in sums.now) cells.now [] first lines.now)) }
 {
-    let mut before = Vec::new(alloc);
+    let mut before = CellSet::new(alloc);
+    let mut next = 0;
     let mut number = first;
     for line in lines {
-        take_sum(alloc, sums, cells, &mut before, number, line)?;
+        next = take_sum(alloc, sums, cells, &mut before, next, number, line)?;
         number = number.checked_add(1).ok_or(AllocError)?;
     }
     Ok(())

@@ -34,6 +34,7 @@ use Rattle.dft_report.specs.declared.report.SumLine.{SumLine}
 use Rattle.dft_outcomes.specs.Laws.{AreSumsAt, IsSumAt, Says}
 use Rattle.dft_outcomes.specs.Outcomes.{cube_reports}
 use Rattle.dft_outcomes.proofs.LineLemmas.{all_reports}
+use Rattle.dft_outcomes.proofs.PlacedLemmas.{step_at}
 use Rattle.dft_load_laws.specs.Loading.{AreRows, rows_of}
 use Rattle.dft_certify.specs.Certifying.{cube_named, has_column, if_scanned, odd_in, scanned_named}
 use Rattle.dft_certify.specs.Laws.{AllCertified, IsCertified, IsSumOf}
@@ -175,27 +176,6 @@ find_cube (x ∷ cubes) name (suc k) cube at is one =
     (λ f. find_cube cubes name k cube at is (λ j c at_j same. (let e = one (suc j) c at_j same in omega (arith, e))))
 
 -- ---- entries
-
-record Step (columns : ℕ) (row : CellRows) (window : ℕ) (placed : List Placed) (c : ℕ) (cube : Cube) : Type 0 where
-  told : Placed
-  at : slice_get placed c ≡ Some told
-  old : List Merged
-  new : List Merged
-  places : Places columns row window old cube told new
-
-step_at : (columns : ℕ) (row : CellRows) (window : ℕ) (old new : List Merged) (cubes : List Cube) (placed : List Placed) → PlacesAll columns row window old cubes placed new → (c : ℕ) (cube : Cube) → slice_get cubes c ≡ Some cube → Step columns row window placed c cube
-step_at columns row window old new [] placed places c cube at = absurd (none-some cube at)
-step_at columns row window old new (x ∷ cubes) [] places c cube at = absurd places
-step_at columns row window old new (x ∷ cubes) (w ∷ placed) places zero cube at = record {
-  told = w;
-  at = refl;
-  old = old;
-  new = places.0;
-  places = subst (λ (y : Cube). Places columns row window old y w places.0) (same_Some x cube at) places.1.0;
-}
-step_at columns row window old new (x ∷ cubes) (w ∷ placed) places (suc c) cube at =
-    let more = step_at columns row window places.0 new cubes placed places.1.1 c cube at in
-    record { told = more.told; at = more.at; old = more.old; new = more.new; places = more.places }
 
 one_list : (a b : List SumLine) → Unsolvable a ≡ Unsolvable b → a ≡ b
 one_list a b same = cc

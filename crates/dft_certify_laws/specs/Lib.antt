@@ -1,3 +1,4 @@
 pub mod InRuns
 pub mod Written
 pub mod Compiled
+pub mod Read

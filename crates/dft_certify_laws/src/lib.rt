@@ -3,4 +3,6 @@
 
 mod laws;
 
-pub use laws::{certified_in_runs, compiled_certifies, written_certifies};
+pub use laws::{
+    certified_in_runs, compiled_certifies, compiled_report_is_read, written_certifies,
+};

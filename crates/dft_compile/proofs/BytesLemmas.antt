@@ -1,5 +1,5 @@
 -- The bytes of the patterns' text are those that are told before any pattern is made.
-use Rattle.std.proofs.Common.{◌≡◌, ℕ, zero, suc, ◌+◌, ◌*◌, ◌/◌, ◌<◌, ◌≤◌, List, [], ◌∷◌, ◌++◌, length, map, refl, sym, subst, ap, ◌∙◌, length-append, arith}
+use Rattle.std.proofs.Common.{◌≡◌, ℕ, zero, suc, ◌+◌, ◌*◌, ◌/◌, ◌^◌, ◌<◌, ◌≤◌, None, List, [], ◌∷◌, ◌++◌, length, map, refl, sym, subst, ap, ◌∙◌, length-append, arith}
 use Rattle.std.specs.List.{All, range_with_len}
 use Rattle.std.proofs.lemmas.Grind.{flat_map-append}
 use Rattle.std.proofs.lemmas.List.{length-map}
@@ -18,6 +18,7 @@ use Rattle.dft_config.specs.Cycles.{longest_segment}
 use Rattle.dft_config.specs.Range.{IsInRange}
 use Rattle.dft_equations.specs.LoadRows.{LoadRows}
 use Rattle.dft_stitch.specs.Chains.{plan_of}
+use Rattle.dft_stitch.specs.Limits.{refusal}
 use Rattle.dft_cubes.specs.declared.cube.Merged.{Merged}
 use Rattle.dft_expect.specs.Captures.{bits_out, output_bits}
 use Rattle.dft_patterns.specs.declared.notes.Note.{Note}
@@ -35,6 +36,7 @@ use Rattle.dft_vectors.specs.Signals.{bits_in, input_bits, signal_of, signals_of
 use Rattle.dft_vectors.specs.VectorList.{first_vector, notes_of, pattern_note, vectors_of}
 use Rattle.dft_encode.specs.Compiled.{ArePatterns, merged_of}
 use Rattle.dft_encode.specs.Laws.{vectors_in, width}
+use Rattle.dft_encode.proofs.PlanLemmas.{limits}
 use Rattle.dft_encode.proofs.WidthLemmas.{vectors_wide}
 use Rattle.dft_compile.specs.Laws.{BytesAreTold}
 use Rattle.dft_compile.specs.Refusals.{pattern_bytes}
@@ -50,13 +52,10 @@ abbrev one_out : Dir → ℕ
 one_out Input = 0
 one_out Output = 1
 
-abbrev ins : List NewPort → ℕ
-ins [] = 0
-ins (port ∷ ports) = one_in port.dir + ins ports
-
-abbrev outs : List NewPort → ℕ
-outs [] = 0
-outs (port ∷ ports) = one_out port.dir + outs ports
+-- how many of them count, where a port of each direction counts so much
+abbrev counted : (Dir → ℕ) → List NewPort → ℕ
+counted one [] = 0
+counted one (port ∷ ports) = one port.dir + counted one ports
 
 in_step : (d : Dir) (net : NetId) (rest : List NetId) (count : ℕ) → length rest ≡ count → length (bits_in d (net ∷ []) ++ rest) ≡ one_in d + count
 in_step Input net rest count h = omega (arith, h)
@@ -66,56 +65,54 @@ out_step : (d : Dir) (net : NetId) (rest : List NetId) (count : ℕ) → length 
 out_step Input net rest count h = omega (arith, h)
 out_step Output net rest count h = omega (arith, h)
 
-ins_are : (net : ℕ) (ports : List NewPort) → length (input_bits (ports_from net ports)) ≡ ins ports
+ins_are : (net : ℕ) (ports : List NewPort) → length (input_bits (ports_from net ports)) ≡ counted one_in ports
 ins_are net [] = refl
-ins_are net (port ∷ ports) = in_step port.dir (record { 0 = net }) (input_bits (ports_from (suc net) ports)) (ins ports) (ins_are (suc net) ports)
+ins_are net (port ∷ ports) = in_step port.dir (record { 0 = net }) (input_bits (ports_from (suc net) ports)) (counted one_in ports) (ins_are (suc net) ports)
 
-outs_are : (net : ℕ) (ports : List NewPort) → length (output_bits (ports_from net ports)) ≡ outs ports
+outs_are : (net : ℕ) (ports : List NewPort) → length (output_bits (ports_from net ports)) ≡ counted one_out ports
 outs_are net [] = refl
-outs_are net (port ∷ ports) = out_step port.dir (record { 0 = net }) (output_bits (ports_from (suc net) ports)) (outs ports) (outs_are (suc net) ports)
+outs_are net (port ∷ ports) = out_step port.dir (record { 0 = net }) (output_bits (ports_from (suc net) ports)) (counted one_out ports) (outs_are (suc net) ports)
 
-ins_both : (a b : List NewPort) → ins (a ++ b) ≡ ins a + ins b
-ins_both [] b = omega arith
-ins_both (port ∷ a) b = omega (arith, ins_both a b)
+counted_both : (one : Dir → ℕ) (a b : List NewPort) → counted one (a ++ b) ≡ counted one a + counted one b
+counted_both one [] b = omega arith
+counted_both one (port ∷ a) b = omega (arith, counted_both one a b)
 
-outs_both : (a b : List NewPort) → outs (a ++ b) ≡ outs a + outs b
-outs_both [] b = omega arith
-outs_both (port ∷ a) b = omega (arith, outs_both a b)
+counted_some : (one : Dir → ℕ) (d : Dir) (name : Text) (from count : ℕ) → counted one (map (λ number. new_port d (numbered name number)) (range_with_len from count)) ≡ count * one d
+counted_some one d name from zero = omega arith
+counted_some one d name from (suc count) = let more : suc count * one d ≡ one d + count * one d = grind arith in omega (arith, more, counted_some one d name (from + 1) count)
 
-ins_some : (d : Dir) (name : Text) (from count : ℕ) → ins (map (λ number. new_port d (numbered name number)) (range_with_len from count)) ≡ count * one_in d
-ins_some d name from zero = omega arith
-ins_some d name from (suc count) = let more : suc count * one_in d ≡ one_in d + count * one_in d = grind arith in omega (arith, more, ins_some d name (from + 1) count)
+abbrev numbered_in : (Dir → ℕ) → Dir → (name : Text) → (count : ℕ) → ℕ
+numbered_in one d name count = counted one (numbered_ports d name count)
 
-outs_some : (d : Dir) (name : Text) (from count : ℕ) → outs (map (λ number. new_port d (numbered name number)) (range_with_len from count)) ≡ count * one_out d
-outs_some d name from zero = omega arith
-outs_some d name from (suc count) = let more : suc count * one_out d ≡ one_out d + count * one_out d = grind arith in omega (arith, more, outs_some d name (from + 1) count)
-
-added_ins : (config : Config) → ins (added_ports Edt config) ≡ 3 + (config.ring.channels + config.compactor.mask_inputs)
-added_ins config =
-    let channels = numbered_ports Input config.names.channel config.ring.channels in
+added_counted : (one : Dir → ℕ) (config : Config) →
+    counted one (added_ports Edt config)
+    ≡ one Input
+    + (one Input
+    + (one Input
+    + (numbered_in one Input config.names.channel config.ring.channels + (numbered_in one Input config.names.mask config.compactor.mask_inputs + numbered_in one Output config.names.output (length config.compactor.groups)))))
+added_counted one config =
     let masks = numbered_ports Input config.names.mask config.compactor.mask_inputs in
     let shown = numbered_ports Output config.names.output (length config.compactor.groups) in
+    omega (arith, counted_both one (numbered_ports Input config.names.channel config.ring.channels) (masks ++ shown), counted_both one masks shown)
+
+added_ins : (config : Config) → counted one_in (added_ports Edt config) ≡ 3 + (config.ring.channels + config.compactor.mask_inputs)
+added_ins config =
     omega (
       arith,
-      ins_both channels (masks ++ shown),
-      ins_both masks shown,
-      ins_some Input config.names.channel 0 config.ring.channels,
-      ins_some Input config.names.mask 0 config.compactor.mask_inputs,
-      ins_some Output config.names.output 0 (length config.compactor.groups),
+      added_counted one_in config,
+      counted_some one_in Input config.names.channel 0 config.ring.channels,
+      counted_some one_in Input config.names.mask 0 config.compactor.mask_inputs,
+      counted_some one_in Output config.names.output 0 (length config.compactor.groups),
     )
 
-added_outs : (config : Config) → outs (added_ports Edt config) ≡ length config.compactor.groups
+added_outs : (config : Config) → counted one_out (added_ports Edt config) ≡ length config.compactor.groups
 added_outs config =
-    let channels = numbered_ports Input config.names.channel config.ring.channels in
-    let masks = numbered_ports Input config.names.mask config.compactor.mask_inputs in
-    let shown = numbered_ports Output config.names.output (length config.compactor.groups) in
     omega (
       arith,
-      outs_both channels (masks ++ shown),
-      outs_both masks shown,
-      outs_some Input config.names.channel 0 config.ring.channels,
-      outs_some Input config.names.mask 0 config.compactor.mask_inputs,
-      outs_some Output config.names.output 0 (length config.compactor.groups),
+      added_counted one_out config,
+      counted_some one_out Input config.names.channel 0 config.ring.channels,
+      counted_some one_out Input config.names.mask 0 config.compactor.mask_inputs,
+      counted_some one_out Output config.names.output 0 (length config.compactor.groups),
     )
 
 -- ---- signals
@@ -186,6 +183,18 @@ list_count n config rows merged list are = sym (length-map list merged_of) ∙ a
 pub vector_count : (n : Netlist) (config : Config) (rows : LoadRows) (merged : List Merged) (list : List PatternData) → ArePatterns n config (plan_of n config) rows merged list →
     length (vectors_of n config (plan_of n config) list) ≡ vectors_in (plan_of n config).cycles (length list)
 vector_count n config rows merged list are = (vectors_wide n config (plan_of n config) list (outputs_fit n config rows merged list are)).1
+
+few_vectors : (cycles patterns : ℕ) → cycles ≤ 4096 → patterns ≤ 65536 → vectors_in cycles patterns < 2 ^ 32
+few_vectors cycles zero short few = omega arith
+few_vectors cycles (suc patterns) short few = let most : suc patterns * suc cycles ≤ 65536 * suc cycles = mul-le-mul_right (suc cycles) few in omega (arith, most, short)
+
+-- the vectors can be counted
+pub vectors_few : (n : Netlist) (config : Config) (rows : LoadRows) (merged : List Merged) (list : List PatternData) → refusal n config ≡ None → length merged ≤ 65536 → ArePatterns n config (plan_of n config) rows merged list →
+    length (pattern_set n config list).vectors < 2 ^ 32
+vectors_few n config rows merged list fits few are =
+    let count = list_count n config rows merged list are in
+    let least = few_vectors (plan_of n config).cycles (length list) (limits n config fits).0 (omega (arith, count, few)) in
+    subst (λ (k : ℕ). k < 2 ^ 32) (sym (vector_count n config rows merged list are)) least
 
 pub bytes_told : BytesAreTold
 bytes_told n config rows merged list range are =

@@ -4,3 +4,4 @@ pub mod ReportLemmas
 pub mod LateLemmas
 pub mod WorkLemmas
 pub mod EachLemmas
+pub mod TellingLemmas

@@ -1,10 +1,11 @@
 -- A compilation whose cubes are placed.
-use Rattle.std.proofs.Common.{◌≡◌, ◌≤◌, ℕ, suc, List, [], ◌∷◌, length, map, refl, sym, subst, ap, ◌∙◌, arith}
+use Rattle.std.proofs.Common.{◌≡◌, ◌≤◌, ℕ, suc, List, [], ◌∷◌, length, map, None, Ok, refl, sym, subst, ap, ◌∙◌, arith}
 use Rattle.dft_netlist.specs.declared.ids.InstanceId.{InstanceId}
 use Rattle.dft_netlist.specs.Netlist.{Netlist}
 use Rattle.dft_config.specs.declared.config.Config.{Config}
 use Rattle.dft_equations.specs.LoadRows.{LoadRows, AreLoadEquations}
 use Rattle.dft_stitch.specs.Chains.{plan_of}
+use Rattle.dft_stitch.specs.Limits.{refusal}
 use Rattle.dft_stitch.specs.Plans.{Plan}
 use Rattle.dft_cubes.specs.declared.cube.Cube.{Cube}
 use Rattle.dft_cubes.specs.declared.cube.Merged.{Merged}
@@ -13,6 +14,7 @@ use Rattle.dft_merge.specs.Merging.{Merging, columns_in, rows_in}
 use Rattle.dft_merge.specs.Placement.{PlacesAll}
 use Rattle.dft_merge.specs.Rows.{CellRows, cell_row}
 use Rattle.dft_report.specs.declared.limits.TheConstants.{MAX_BYTES}
+use Rattle.dft_report_in.specs.Reading.{report_of}
 use Rattle.dft_stil_tokens.specs.declared.blanks.TheConstants.{MAX_TEXT}
 use Rattle.dft_config.specs.Range.{IsInRange}
 use Rattle.dft_patterns.specs.Patterns.{Patterns}
@@ -29,8 +31,9 @@ use Rattle.dft_compile.specs.declared.writing.PatternText.{PatternText}
 use Rattle.dft_compile.specs.declared.error.CompileError.{CompileError}
 use Rattle.dft_compile.specs.Compilation.{AreTextsOf, IsCompileOf, IsPatternText}
 use Rattle.dft_compile.specs.Refusals.{IsLate, IsRefusal, late_refusal, pattern_bytes}
+use Rattle.dft_compile.specs.Reports.{compile_report}
 use Rattle.dft_compile.specs.Texts.{counts_by, counts_of, netlist_text, report_text}
-use Rattle.dft_compile.proofs.BytesLemmas.{bytes_told, list_count, vector_count}
+use Rattle.dft_compile.proofs.BytesLemmas.{bytes_told, list_count, vector_count, vectors_few}
 use Rattle.dft_compile.proofs.LateLemmas.{is_late, late_passed}
 
 -- ---- placements
@@ -69,13 +72,14 @@ counts_are n config rows placed merged p h =
     ∙ ap (by (length list)) h.masked
     ∙ ap (λ (v : ℕ). record (by (length list) (masked_in list)) { vectors = v }) (sym (vector_count n config rows merged list h.are))
 
-pub are_texts : (n : Netlist) (config : Config) (cubes : List Cube) (rows : LoadRows) (placed : List Placed) (merged : List Merged) (t : CompileTexts) (p : PatternText) → pattern_bytes n config (length merged) ≤ MAX_TEXT → length (report_text n config rows cubes placed) ≤ MAX_BYTES →
+pub are_texts : (n : Netlist) (config : Config) (cubes : List Cube) (rows : LoadRows) (placed : List Placed) (merged : List Merged) (t : CompileTexts) (p : PatternText) → refusal n config ≡ None → length merged ≤ 65536 → pattern_bytes n config (length merged) ≤ MAX_TEXT → length (report_text n config rows cubes placed) ≤ MAX_BYTES →
     IsPatternText n config rows merged p → t.netlist.items ≡ netlist_text n config → t.patterns.items ≡ p.text.items → t.report.items ≡ report_text n config rows cubes placed → t.counts ≡ counts_by n config placed (length merged) p.masked →
     AreTextsOf n config cubes rows placed merged t
-are_texts n config cubes rows placed merged t p short few h netlist patterns report counts = record {
+are_texts n config cubes rows placed merged t p fits count short few h netlist patterns report counts = record {
   accepted = late_passed n config cubes rows placed (length merged) short few;
   list = h.list;
   are = h.are;
+  few = vectors_few n config rows merged h.list fits count h.are;
   netlist = netlist;
   patterns = patterns ∙ h.text;
   report = report;
@@ -84,39 +88,52 @@ are_texts n config cubes rows placed merged t p short few h netlist patterns rep
 
 -- ---- the compilation
 
-placing_of : (n : Netlist) (config : Config) (cubes : List Cube) (plan : Plan) (rows : LoadRows) (m : Merging) (placed : List Placed) (new : List Merged) → plan ≡ plan_of n config → AreLoadEquations config.ring (map (λ cells. length cells) plan.chains) plan.cycles rows →
-    m ≡ record { chains = plan.chains; rows = rows; window = config.window; patterns = [] } → PlacesAll (columns_in m) (rows_in m) m.window m.patterns cubes placed new →
-    (p : Placing config (plan_of n config) cubes) × (p.rows ≡ rows) × (p.placed ≡ placed) × (p.merged ≡ new)
-placing_of n config cubes plan rows m placed new planned equations is places = (
-  record {
+-- a placement of the cubes over these load equations, with these words and these merged cubes
+pub record IsPlaced (n : Netlist) (config : Config) (cubes : List Cube) (rows : LoadRows) (placed : List Placed) (merged : List Merged) : Type 0 where
+  pub placing : Placing config (plan_of n config) cubes
+  pub rows_are : placing.rows ≡ rows
+  pub placed_are : placing.placed ≡ placed
+  pub merged_are : placing.merged ≡ merged
+
+-- what a new merger placed is one
+pub placed_by : (n : Netlist) (config : Config) (cubes : List Cube) (plan : Plan) (rows : LoadRows) (m : Merging) (items placed : List Placed) (new : List Merged) → plan ≡ plan_of n config →
+    AreLoadEquations config.ring (map (λ cells. length cells) plan.chains) plan.cycles rows → m ≡ record { chains = plan.chains; rows = rows; window = config.window; patterns = [] } → placed ≡ items →
+    PlacesAll (columns_in m) (rows_in m) m.window m.patterns cubes items new → IsPlaced n config cubes rows placed new
+placed_by n config cubes plan rows m items placed new planned equations is same places = record {
+  placing = record {
     rows = rows;
     equations = subst (λ (p : Plan). AreLoadEquations config.ring (map (λ (cells : List InstanceId). length cells) p.chains) p.cycles rows) planned equations;
-    placed = placed;
+    placed = items;
     merged = new;
-    is = places_of n config plan rows m cubes placed new planned is places;
-  },
-  refl,
-  refl,
-  refl,
-)
+    is = places_of n config plan rows m cubes items new planned is places;
+  };
+  rows_are = refl;
+  placed_are = sym same;
+  merged_are = refl;
+}
+
+-- the texts of every placement of the cubes are read
+abbrev pub AreTold : Netlist → Config → List Cube → Type 0
+AreTold n config cubes =
+    (p : Placing config (plan_of n config) cubes) → report_of (report_text n config p.rows cubes p.placed) ≡ Ok (compile_report n config (cell_row (plan_of n config).chains p.rows) cubes p.placed)
 
 -- texts of a placement are a compilation
-pub compiled_of : (n : Netlist) (config : Config) (cubes : List Cube) (plan : Plan) (rows : LoadRows) (m : Merging) (placed : List Placed) (new : List Merged) (t : CompileTexts) → plan ≡ plan_of n config →
-    AreLoadEquations config.ring (map (λ cells. length cells) plan.chains) plan.cycles rows → m ≡ record { chains = plan.chains; rows = rows; window = config.window; patterns = [] } → PlacesAll (columns_in m) (rows_in m) m.window m.patterns cubes placed new →
-    AreTextsOf n config cubes rows placed new t → IsCompileOf n config cubes t
-compiled_of n config cubes plan rows m placed new t planned equations is places h =
-    let p = placing_of n config cubes plan rows m placed new planned equations is places in record {
-      placing = p.0;
-      texts = subst (λ (x : LoadRows). AreTextsOf n config cubes x p.0.placed p.0.merged t) (sym p.1)
-          (subst (λ (x : List Placed). AreTextsOf n config cubes rows x p.0.merged t) (sym p.2) (subst (λ (x : List Merged). AreTextsOf n config cubes rows placed x t) (sym p.3) h));
+pub compiled_of : (n : Netlist) (config : Config) (cubes : List Cube) (rows : LoadRows) (placed : List Placed) (merged : List Merged) (t : CompileTexts) → IsPlaced n config cubes rows placed merged → AreTold n config cubes →
+    AreTextsOf n config cubes rows placed merged t → IsCompileOf n config cubes t
+compiled_of n config cubes rows placed merged t p told h =
+    let q = p.placing in record {
+      placing = q;
+      texts = subst (λ (x : LoadRows). AreTextsOf n config cubes x q.placed q.merged t) (sym p.rows_are)
+          (subst (λ (x : List Placed). AreTextsOf n config cubes rows x q.merged t) (sym p.placed_are) (subst (λ (x : List Merged). AreTextsOf n config cubes rows placed x t) (sym p.merged_are) h));
+      told = told q;
     }
 
 -- refusals behind a placement are late ones
-pub refused_of : (n : Netlist) (config : Config) (cubes : List Cube) (plan : Plan) (rows : LoadRows) (m : Merging) (placed : List Placed) (new : List Merged) (e : CompileError) → plan ≡ plan_of n config →
-    AreLoadEquations config.ring (map (λ cells. length cells) plan.chains) plan.cycles rows → m ≡ record { chains = plan.chains; rows = rows; window = config.window; patterns = [] } → PlacesAll (columns_in m) (rows_in m) m.window m.patterns cubes placed new →
-    IsRefusal (late_refusal n config cubes rows placed (length new)) e → IsLate n config cubes e
-refused_of n config cubes plan rows m placed new e planned equations is places h =
-    let p = placing_of n config cubes plan rows m placed new planned equations is places in
-    is_late n config cubes p.0 e
-    (subst (λ (x : LoadRows). IsRefusal (late_refusal n config cubes x p.0.placed (length p.0.merged)) e) (sym p.1)
-    (subst (λ (x : List Placed). IsRefusal (late_refusal n config cubes rows x (length p.0.merged)) e) (sym p.2) (subst (λ (x : List Merged). IsRefusal (late_refusal n config cubes rows placed (length x)) e) (sym p.3) h)))
+pub refused_of : (n : Netlist) (config : Config) (cubes : List Cube) (rows : LoadRows) (placed : List Placed) (merged : List Merged) (e : CompileError) → IsPlaced n config cubes rows placed merged → IsRefusal (late_refusal n config cubes rows placed (length merged)) e →
+    IsLate n config cubes e
+refused_of n config cubes rows placed merged e p h =
+    let q = p.placing in
+    is_late n config cubes q e
+    (subst (λ (x : LoadRows). IsRefusal (late_refusal n config cubes x q.placed (length q.merged)) e) (sym p.rows_are)
+    (subst (λ (x : List Placed). IsRefusal (late_refusal n config cubes rows x (length q.merged)) e) (sym p.placed_are)
+    (subst (λ (x : List Merged). IsRefusal (late_refusal n config cubes rows placed (length x)) e) (sym p.merged_are) h)))

@@ -7,5 +7,6 @@ pub mod Texts
 pub mod Refusals
 pub mod Compilation
 pub mod Prepared
+pub mod Named
 pub mod Working
 pub mod Laws

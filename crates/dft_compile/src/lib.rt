@@ -6,6 +6,7 @@ mod counting;
 mod error;
 mod laws;
 mod lengths;
+mod names;
 mod port_names;
 mod prepared;
 mod reporting;

@@ -1,14 +1,12 @@
 -- What is reported of cubes is so.
-use Rattle.std.proofs.Common.{ℕ, zero, suc, ◌≡◌, List, [], ◌∷◌, map, Some, slice_get, refl, sym, ap, subst, ◌∙◌}
-use Rattle.std.proofs.lemmas.Option.{none-some, same_Some}
+use Rattle.std.proofs.Common.{ℕ, ◌≡◌, [], map, Some, slice_get, refl, sym, ap, subst, ◌∙◌}
+use Rattle.std.proofs.lemmas.Option.{same_Some}
 use Rattle.dft_netlist.specs.Netlist.{Netlist}
 use Rattle.dft_config.specs.declared.config.RingConfig.{RingConfig}
 use Rattle.dft_cubes.specs.declared.cube.Cube.{Cube}
-use Rattle.dft_cubes.specs.declared.cube.Merged.{Merged}
 use Rattle.dft_merge.specs.declared.placed.Placed.{Placed}
 use Rattle.dft_merge.specs.declared.placed.Placed.TheVariants as word
 use Rattle.dft_merge.specs.Laws.{IsUnsolvable}
-use Rattle.dft_merge.specs.Placement.{Places, PlacesAll}
 use Rattle.dft_merge.specs.Rows.{CellRows}
 use Rattle.dft_replay.specs.Laws.{vectors_of as vectors_in}
 use Rattle.dft_replay.specs.Rows.{rows_of as replayed_rows}
@@ -17,6 +15,7 @@ use Rattle.dft_report.specs.declared.report.CubeLine.TheVariants.{Encoded, Unsol
 use Rattle.dft_report.specs.declared.report.CubeReport.{CubeReport}
 use Rattle.dft_outcomes.specs.Laws.{Says}
 use Rattle.dft_outcomes.proofs.LineLemmas.{all_reports}
+use Rattle.dft_outcomes.proofs.PlacedLemmas.{step_at}
 use Rattle.dft_scan_hardware.specs.declared.style.Style.TheVariants.{Edt}
 use Rattle.dft_scan_hardware.specs.Statements.{scanned}
 use Rattle.dft_pass_laws.specs.Passing.{set_of}
@@ -27,29 +26,6 @@ use Rattle.dft_cube_laws.specs.Bringing.{merged_of}
 use Rattle.dft_cube_laws.specs.Reporting.{EncodedAreBrought, EntriesAreExact, IsEncoded, IsNever}
 use Rattle.dft_cube_laws.proofs.Brought.{cubes_captured}
 use Rattle.dft_cube_laws.proofs.Replayed.{cubes_replayed}
-
--- ---- the word of a cube
-
-record Step (columns : ℕ) (row : CellRows) (window : ℕ) (placed : List Placed) (c : ℕ) (cube : Cube) : Type 0 where
-  told : Placed
-  at : slice_get placed c ≡ Some told
-  old : List Merged
-  new : List Merged
-  places : Places columns row window old cube told new
-
-step_at : (columns : ℕ) (row : CellRows) (window : ℕ) (old new : List Merged) (cubes : List Cube) (placed : List Placed) → PlacesAll columns row window old cubes placed new → (c : ℕ) (cube : Cube) → slice_get cubes c ≡ Some cube → Step columns row window placed c cube
-step_at columns row window old new [] placed places c cube at = absurd (none-some cube at)
-step_at columns row window old new (x ∷ cubes) [] places c cube at = absurd places
-step_at columns row window old new (x ∷ cubes) (w ∷ placed) places zero cube at = record {
-  told = w;
-  at = refl;
-  old = old;
-  new = places.0;
-  places = subst (λ (y : Cube). Places columns row window old y w places.0) (same_Some x cube at) places.1.0;
-}
-step_at columns row window old new (x ∷ cubes) (w ∷ placed) places (suc c) cube at =
-    let more = step_at columns row window places.0 new cubes placed places.1.1 c cube at in
-    record { told = more.told; at = more.at; old = more.old; new = more.new; places = more.places }
 
 -- ---- words and lines
 

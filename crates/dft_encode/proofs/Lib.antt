@@ -4,3 +4,4 @@ pub mod FillingLemmas
 pub mod FindingLemmas
 pub mod EncodingLemmas
 pub mod WidthLemmas
+pub mod OneLemmas

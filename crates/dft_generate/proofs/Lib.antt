@@ -1,3 +1,4 @@
 pub mod Lines
 pub mod WordLemmas
 mod WorkedJob
+pub mod ReadConfiguration

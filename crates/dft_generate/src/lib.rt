@@ -4,8 +4,10 @@
 mod configuration;
 mod cubes;
 mod job;
+mod laws;
 mod netlist;
 mod numbers;
 mod words;
 
 pub use job::{Job, generate, is_size};
+pub use laws::configuration_is_read;

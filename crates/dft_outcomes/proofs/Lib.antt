@@ -1,3 +1,4 @@
 pub mod VariableLemmas
 pub mod ReportLemmas
 pub mod LineLemmas
+pub mod PlacedLemmas

@@ -26,7 +26,7 @@ pub struct CellSums<'a> {
 
 impl<'a> CellSums<'a> {
     /// The load equation of a cell, if it is scanned.
-    fn row(&self, cell: InstanceId) -> Option<&'a [u64]>
+    pub fn row(&self, cell: InstanceId) -> Option<&'a [u64]>
         requires { IsSums self.now }
         ensures { MatchOption result (rows_in self.now cell ≡ None)
             (λ words. IsPacked (columns_in self.now) words.now × (rows_in self.now cell ≡ Some (bits_of (columns_in self.now) words.now))) }
@@ -36,7 +36,7 @@ impl<'a> CellSums<'a> {
     }
 
     /// The variables that a cell sums, in column order.
-    fn variables(&self, alloc: Global, cell: InstanceId) -> Result<Vec<Variable>, AllocError>
+    pub fn variables(&self, alloc: Global, cell: InstanceId) -> Result<Vec<Variable>, AllocError>
         requires { IsSums self.now }
         ensures { IfOk result (λ variables. variables.items ≡ spec.variables_of self.now.ring.now (unwrap_or (rows_in self.now cell) [])) }
     {

@@ -102,19 +102,24 @@ pub record Goes (high : ℕ) (r : Reading) (text : Text) (at : ℕ → Reading) 
   pub most : stage ≤ high
   pub brings : Brings r text (at stage)
 
-pub scanned_bring : (r : Reading) (done more : List ScannedLine) (stage : ℕ) → 2 ≤ stage → stage ≤ 3 → Each IsScannedReadable more → Goes 3 (scanned_at r done stage) (flat_map scanned_line more) (scanned_at r (done ++ more))
-scanned_bring r done [] stage a b each =
-    record { stage = stage; low = a; most = b; brings = subst (λ (lines : List ScannedLine). Brings (scanned_at r done stage) [] (scanned_at r lines stage)) (sym (append-nil done)) (brings_none (scanned_at r done stage)) }
-scanned_bring r done (line ∷ more) stage a b each =
-    let rest = scanned_bring r (done ++ line ∷ []) more 3 (omega arith) (omega arith) each.1 in
+-- lines of one kind, where each of them brings on
+lines_bring : {X : Type 0} (P : X → Type 0) (text : X → Text) (at : List X → ℕ → Reading) (own : ℕ) → 2 ≤ own →
+    ((done : List X) (stage : ℕ) (line : X) → 2 ≤ stage → stage ≤ own → P line → Brings (at done stage) (text line) (at (done ++ line ∷ []) own)) →
+    (done more : List X) (stage : ℕ) → 2 ≤ stage → stage ≤ own → Each P more → Goes own (at done stage) (flat_map text more) (at (done ++ more))
+lines_bring {X = X} P text at own least one done [] stage a b each =
+    record { stage = stage; low = a; most = b; brings = subst (λ (lines : List X). Brings (at done stage) [] (at lines stage)) (sym (append-nil done)) (brings_none (at done stage)) }
+lines_bring {X = X} P text at own least one done (line ∷ more) stage a b each =
+    let rest = lines_bring P text at own least one (done ++ line ∷ []) more own least (omega arith) each.1 in
     record {
       stage = rest.stage;
       low = rest.low;
       most = rest.most;
-      brings = brings_both (scanned_at r done stage) (scanned_at r (done ++ line ∷ []) 3) (scanned_at r (done ++ line ∷ more) rest.stage) (scanned_line line) (flat_map scanned_line more)
-          (one_scanned r done stage line a b each.0)
-          (subst (λ (lines : List ScannedLine). Brings (scanned_at r (done ++ line ∷ []) 3) (flat_map scanned_line more) (scanned_at r lines rest.stage)) (append_assoc done (line ∷ []) more) rest.brings);
+      brings = brings_both (at done stage) (at (done ++ line ∷ []) own) (at (done ++ line ∷ more) rest.stage) (text line) (flat_map text more) (one done stage line a b each.0)
+          (subst (λ (lines : List X). Brings (at (done ++ line ∷ []) own) (flat_map text more) (at lines rest.stage)) (append_assoc done (line ∷ []) more) rest.brings);
     }
+
+pub scanned_bring : (r : Reading) (done more : List ScannedLine) (stage : ℕ) → 2 ≤ stage → stage ≤ 3 → Each IsScannedReadable more → Goes 3 (scanned_at r done stage) (flat_map scanned_line more) (scanned_at r (done ++ more))
+scanned_bring r = lines_bring IsScannedReadable scanned_line (scanned_at r) 3 (omega arith) (one_scanned r)
 
 abbrev pub unscanned_at : Reading → List UnscannedLine → (stage : ℕ) → Reading
 unscanned_at r lines stage = record r { unscanned = lines; stage = stage }
@@ -126,18 +131,7 @@ one_unscanned r done stage line a b is =
     (ap (with_said (unscanned_at r done stage)) (says_unscanned line.name line.rule is) ∙ ap (λ (t : Bool). if t then Some (unscanned_at r (done ++ line ∷ []) 4) else None) (between 2 4 stage a b))
 
 pub unscanned_bring : (r : Reading) (done more : List UnscannedLine) (stage : ℕ) → 2 ≤ stage → stage ≤ 4 → Each IsUnscannedReadable more → Goes 4 (unscanned_at r done stage) (flat_map unscanned_line more) (unscanned_at r (done ++ more))
-unscanned_bring r done [] stage a b each =
-    record { stage = stage; low = a; most = b; brings = subst (λ (lines : List UnscannedLine). Brings (unscanned_at r done stage) [] (unscanned_at r lines stage)) (sym (append-nil done)) (brings_none (unscanned_at r done stage)) }
-unscanned_bring r done (line ∷ more) stage a b each =
-    let rest = unscanned_bring r (done ++ line ∷ []) more 4 (omega arith) (omega arith) each.1 in
-    record {
-      stage = rest.stage;
-      low = rest.low;
-      most = rest.most;
-      brings = brings_both (unscanned_at r done stage) (unscanned_at r (done ++ line ∷ []) 4) (unscanned_at r (done ++ line ∷ more) rest.stage) (unscanned_line line) (flat_map unscanned_line more)
-          (one_unscanned r done stage line a b each.0)
-          (subst (λ (lines : List UnscannedLine). Brings (unscanned_at r (done ++ line ∷ []) 4) (flat_map unscanned_line more) (unscanned_at r lines rest.stage)) (append_assoc done (line ∷ []) more) rest.brings);
-    }
+unscanned_bring r = lines_bring IsUnscannedReadable unscanned_line (unscanned_at r) 4 (omega arith) (one_unscanned r)
 
 -- ---- cubes
 

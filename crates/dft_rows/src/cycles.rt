@@ -1,10 +1,8 @@
 //! Verdicts of small designs, worked out from what a vector does: inputs are set, a strobe is compared, clocks pulse.
 
-use crate::files::{patterns, replayed};
-use crate::hardware::LOOP_MADE;
+use crate::replays::is_judged;
+use dft_memory_runs::FIVE_COMPILED;
 use std::test::Fail;
-
-static WORDS: [&str; 5] = ["replay", "--netlist", "n", "--patterns", "p"];
 
 const SCANNED: &str =
     "module m (c, d, i, s, q); input c, d, i, s; output q; SDFF f (.CK(c), .D(d), .SI(i), .SE(s), .Q(q)); endmodule";
@@ -216,7 +214,7 @@ static VERDICTS: [(&str, &str, &str, &str, &str); 26] = [
     ),
     // Two loads and two captures through compression hardware.
     (
-        LOOP_MADE,
+        FIVE_COMPILED,
         "clk a scan_enable edt_clock edt_update edt_in0 edt_mask0",
         "y edt_out0 edt_out1",
         "000P100 XXX P01P000 XXX P01P010 XXX P01P010 XXX P01P000 XXX P01P000 XXX P10P100 LXX P01P010 XHL P01P000 XLH P01P010 XLL P01P000 XLL P01P000 XLH P00P100 LXX P01P000 XHH P01P000 XLL P01P000 XHL P01P000 XLL P01P000 XLL",
@@ -224,7 +222,7 @@ static VERDICTS: [(&str, &str, &str, &str, &str); 26] = [
     ),
     // The same with the first bit of the second load turned.
     (
-        LOOP_MADE,
+        FIVE_COMPILED,
         "clk a scan_enable edt_clock edt_update edt_in0 edt_mask0",
         "y edt_out0 edt_out1",
         "000P100 XXX P01P000 XXX P01P010 XXX P01P010 XXX P01P000 XXX P01P000 XXX P10P100 LXX P01P000 XHL P01P000 XLH P01P010 XLL P01P000 XLL P01P000 XLH",
@@ -235,14 +233,7 @@ static VERDICTS: [(&str, &str, &str, &str, &str); 26] = [
 #[test]
 fn small_designs_get_their_verdicts(rt: HostRuntime) -> Result<(), Fail> {
     for (netlist, inputs, outputs, vectors, line) in &VERDICTS {
-        let text = patterns(rt.alloc(), *inputs, *outputs, *vectors)?;
-        let texts = ("", *netlist, text.as_str());
-        let end = replayed(rt.alloc(), &WORDS, texts, None, None)?;
-        assert_eq!(rt;
-            end.line.as_slice(),
-            line.as_bytes(),
-            "at {netlist} {vectors}"
-        );
+        is_judged(rt.alloc(), *netlist, (*inputs, *outputs, *vectors), *line)?;
     }
     Ok(())
 }

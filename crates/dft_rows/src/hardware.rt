@@ -1,125 +1,21 @@
 //! Netlists with scan chains and compression hardware, worked by hand to the last made name.
 
-ghost use Rattle.std.specs.Prelude.{◌≡◌, None};
-ghost use Rattle.dft_config.specs.Range.{IsInRange};
-ghost use Rattle.dft_rules.specs.Refusals as rules;
-ghost use Rattle.dft_stitch.specs.Chains.{plan_of};
-
-use dft_base::Name;
-use dft_cells::Library;
-use dft_config::Config;
-use dft_insert::{InsertError, Style, insert};
+use crate::plans::{Told, line_for, named};
+use dft_insert::{InsertError, Style};
+use dft_memory_runs::{FIVE, FIVE_COMPILED};
 use dft_netlist::{Counted, Design};
-use dft_rules::judge;
-use dft_stitch::{Chains, plan};
-use dft_verilog::{MAX_TEXT, read};
 use dft_verilog_out::{gates_are_joined, write};
 use std::alloc::{AllocError, Global};
 use std::test::Fail;
 
-// Five flip-flops in a row on one clock, in two chains.
-const LOOP: &str =
-    "module m (clk, a, y); input clk, a; output y; NAND2 g0 (.A(a), .B(q4), .Y(d0)); DFF f0 (.CK(clk), .D(d0), .Q(q0)); DFF f1 (.CK(clk), .D(q0), .Q(q1)); DFF f2 (.CK(clk), .D(q1), .Q(q2)); DFF f3 (.CK(clk), .D(q2), .Q(q3)); DFF f4 (.CK(clk), .D(q3), .Q(q4)); INV g1 (.A(q4), .Y(y)); endmodule";
-
 /// Four stages, one channel and a tap; two chains in one mask segment, of which the second has an output of its own.
-pub const FOUR_STAGES: &str = "version = 1
+pub(crate) const FOUR_STAGES: &str = "version = 1
 domains = ['clk']
 chains = 2
 warm = 2
 window = 4
 ring = { stages = 4, channels = 1, taps = [[2, 0]], injectors = [[0, 3]], phase = [[0, 3], [1, 2]] }
 compactor = { groups = [[0, 1], [1]], mask_inputs = 1 }
-";
-
-/// What style Edt makes of them.
-pub const LOOP_MADE: &str =
-    "module m (clk, a, y, scan_enable, edt_clock, edt_update, edt_in0, edt_mask0, edt_out0, edt_out1);
-input clk;
-input a;
-output y;
-input scan_enable;
-input edt_clock;
-input edt_update;
-input edt_in0;
-input edt_mask0;
-output edt_out0;
-output edt_out1;
-wire q4;
-wire d0;
-wire q0;
-wire q1;
-wire q2;
-wire q3;
-wire dft_n0;
-wire dft_n1;
-wire dft_n2;
-wire dft_n3;
-wire dft_n4;
-wire dft_n5;
-wire dft_n6;
-wire dft_n7;
-wire dft_n8;
-wire dft_n9;
-wire dft_n10;
-wire dft_n11;
-wire dft_n12;
-wire dft_n13;
-wire dft_n14;
-wire dft_n15;
-wire dft_n16;
-wire dft_n17;
-wire dft_n18;
-wire dft_n19;
-wire dft_n20;
-wire dft_n21;
-wire dft_n22;
-wire dft_n23;
-wire dft_n24;
-wire dft_n25;
-wire dft_n26;
-wire dft_n27;
-wire dft_n28;
-wire dft_n29;
-NAND2 g0 (.A(a), .B(q4), .Y(d0));
-SDFF f0 (.CK(clk), .D(d0), .SI(dft_n13), .SE(scan_enable), .Q(q0));
-SDFF f1 (.CK(clk), .D(q0), .SI(q0), .SE(scan_enable), .Q(q1));
-SDFF f2 (.CK(clk), .D(q1), .SI(q1), .SE(scan_enable), .Q(q2));
-SDFF f3 (.CK(clk), .D(q2), .SI(dft_n14), .SE(scan_enable), .Q(q3));
-SDFF f4 (.CK(clk), .D(q3), .SI(q3), .SE(scan_enable), .Q(q4));
-INV g1 (.A(q4), .Y(y));
-not dft_i0 (dft_n0, edt_update);
-xor dft_i1 (dft_n5, dft_n2, dft_n3);
-and dft_i2 (dft_n6, dft_n5, dft_n0);
-DFF dft_i3 (.CK(edt_clock), .D(dft_n6), .Q(dft_n1));
-and dft_i4 (dft_n7, dft_n3, dft_n0);
-DFF dft_i5 (.CK(edt_clock), .D(dft_n7), .Q(dft_n2));
-and dft_i6 (dft_n8, dft_n4, dft_n0);
-DFF dft_i7 (.CK(edt_clock), .D(dft_n8), .Q(dft_n3));
-xor dft_i8 (dft_n9, dft_n1, edt_in0);
-and dft_i9 (dft_n10, dft_n9, dft_n0);
-DFF dft_i10 (.CK(edt_clock), .D(dft_n10), .Q(dft_n4));
-xor dft_i11 (dft_n11, dft_n1, dft_n4);
-xor dft_i12 (dft_n12, dft_n2, dft_n3);
-LOCKUP dft_i13 (.CK(edt_clock), .D(dft_n11), .Q(dft_n13));
-LOCKUP dft_i14 (.CK(edt_clock), .D(dft_n12), .Q(dft_n14));
-DFF dft_i15 (.CK(edt_clock), .D(edt_mask0), .Q(dft_n15));
-and dft_i16 (dft_n17, edt_update, dft_n15);
-and dft_i17 (dft_n18, dft_n0, dft_n16);
-or dft_i18 (dft_n19, dft_n17, dft_n18);
-DFF dft_i19 (.CK(edt_clock), .D(dft_n19), .Q(dft_n16));
-DFF dft_i20 (.CK(edt_clock), .D(dft_n15), .Q(dft_n20));
-and dft_i21 (dft_n22, edt_update, dft_n20);
-and dft_i22 (dft_n23, dft_n0, dft_n21);
-or dft_i23 (dft_n24, dft_n22, dft_n23);
-DFF dft_i24 (.CK(edt_clock), .D(dft_n24), .Q(dft_n21));
-not dft_i25 (dft_n25, dft_n16);
-and dft_i26 (dft_n26, dft_n25, q2);
-not dft_i27 (dft_n27, dft_n21);
-and dft_i28 (dft_n28, dft_n27, q4);
-xor dft_i29 (dft_n29, dft_n26, dft_n28);
-buf dft_i30 (edt_out0, dft_n29);
-buf dft_i31 (edt_out1, dft_n28);
-endmodule
 ";
 
 // Two flip-flops of two domains in one chain, the first one's output joined to nothing.
@@ -328,18 +224,8 @@ ring = { stages = 4, channels = 1, taps = [[2, 0]], injectors = [[0, 3]], phase 
 compactor = { groups = [[0, 1], [1]], mask_inputs = 1 }
 ";
 
-// A name behind a code.
-fn named(alloc: Global, code: &str, name: &Name) -> Result<String, AllocError> {
-    let mut line = String::from_str(alloc, code)?;
-    line.push(' ')?;
-    for byte in name.as_slice() {
-        line.push(char::from(*byte))?;
-    }
-    Ok(line)
-}
-
 /// How a refusal of insertion is told here.
-pub fn refused(alloc: Global, error: InsertError) -> Result<String, AllocError> {
+pub(crate) fn refused(alloc: Global, error: InsertError) -> Result<String, AllocError> {
     match error {
         InsertError::NameClash { name } => named(alloc, "G6", &name),
         InsertError::TooMany {
@@ -351,8 +237,8 @@ pub fn refused(alloc: Global, error: InsertError) -> Result<String, AllocError> 
     }
 }
 
-// The text of a netlist that is made.
-fn written(alloc: Global, design: &Design) -> Result<String, AllocError> {
+/// The text of a netlist that is made.
+pub(crate) fn written(alloc: Global, design: &Design) -> Result<String, AllocError> {
     if !gates_are_joined(design) {
         return String::from_str(alloc, "open");
     }
@@ -363,71 +249,28 @@ fn written(alloc: Global, design: &Design) -> Result<String, AllocError> {
     }
 }
 
-fn made(
-    alloc: Global,
-    design: &Design,
-    config: &Config,
-    chains: &Chains,
-    style: Style,
-) -> Result<String, AllocError>
-    requires range { IsInRange config.now }
-    requires passed { rules.refusal design.now config.now ≡ None }
-    requires planned { chains.now ≡ plan_of design.now config.now }
-{
-    match insert(alloc, design, config, chains, style) {
-        Ok(scanned) => written(alloc, &scanned.design),
-        Err(error) => refused(alloc, error),
-    }
-}
-
-fn scanned(
-    alloc: Global,
-    design: &Design,
-    config: &Config,
-    style: Style,
-) -> Result<String, AllocError>
-    requires { IsInRange config.now }
-{
-    let Ok(verdicts) = judge(alloc, design, config) else {
-        return String::from_str(alloc, "not passed");
-    };
-    match plan(alloc, design, config, &verdicts) {
-        Ok(chains) => made(alloc, design, config, &chains, style),
-        Err(_) => String::from_str(alloc, "not planned"),
-    }
-}
-
-// What becomes of a netlist text in a style.
-fn text_of(alloc: Global, netlist: &str, config: &str, style: Style) -> Result<String, AllocError> {
-    if netlist.len() > MAX_TEXT || config.len() > 4096 {
-        return String::from_str(alloc, "long");
-    }
-    match (
-        read(alloc, netlist.as_bytes(), Library::standard(alloc)?),
-        Config::read(alloc, config.as_bytes()),
-    ) {
-        (Ok(design), Ok(config)) => scanned(alloc, &design, &config, style),
-        _ => String::from_str(alloc, "not read"),
-    }
-}
-
 // A netlist, a configuration, and what is made of them in style Edt.
 static MADE: [(&str, &str, &str); 6] = [
-    (LOOP, FOUR_STAGES, LOOP_MADE),
+    (FIVE, FOUR_STAGES, FIVE_COMPILED),
     (PAIR, TWO_STAGES, PAIR_MADE),
     (THREE, ONE_SEGMENT, THREE_MADE),
     (NET_TAKEN, FOUR_STAGES, "G6 dft_n9"),
     (GATE_TAKEN, FOUR_STAGES, "G6 dft_i28"),
-    (LOOP, PORT_TAKEN, "G6 up0"),
+    (FIVE, PORT_TAKEN, "G6 up0"),
 ];
 
 #[test]
 fn hardware_is_made_in_order(rt: HostRuntime) -> Result<(), Fail> {
     for (netlist, config, text) in &MADE {
-        let told = text_of(rt.alloc(), *netlist, *config, Style::Edt)?;
+        let told = line_for(rt.alloc(), *netlist, *config, Told::Text(Style::Edt))?;
         assert_eq!(rt; told.as_str(), *text);
     }
-    let plain = text_of(rt.alloc(), PAIR, TWO_STAGES, Style::Plain)?;
-    assert_eq!(rt; plain.as_str(), PAIR_PLAIN);
+    Ok(())
+}
+
+#[test]
+fn plain_chains_are_made_in_order(rt: HostRuntime) -> Result<(), Fail> {
+    let told = line_for(rt.alloc(), PAIR, TWO_STAGES, Told::Text(Style::Plain))?;
+    assert_eq!(rt; told.as_str(), PAIR_PLAIN);
     Ok(())
 }

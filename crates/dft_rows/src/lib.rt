@@ -1,22 +1,20 @@
-//! Cases worked by hand, as tests of whole runs of the tool over files in memory, and of its plans and reports.
+//! Cases worked by hand, as tests of whole runs of the tool over files in memory, and of its plans.
 #![tactic(auto)]
 
 #[cfg(test)]
 mod chains;
 #[cfg(test)]
-mod compiles;
-#[cfg(test)]
 mod cycles;
 #[cfg(test)]
 mod designs;
-#[cfg(test)]
-mod files;
 #[cfg(test)]
 mod hardware;
 #[cfg(test)]
 mod large;
 #[cfg(test)]
-mod reports;
+mod plans;
+#[cfg(test)]
+mod replays;
 #[cfg(test)]
 mod rows;
 #[cfg(test)]

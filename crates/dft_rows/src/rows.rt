@@ -1,10 +1,10 @@
 //! Netlists and patterns that were worked by hand.
 
-use crate::files::{LIBRARY, NETLIST, VECTORS, patterns, replayed};
+use crate::replays::{
+    LIBRARY, NETLIST, OWN_CELL, PASS, PATTERNS, REPLAY, WITH_LIBRARY, is_judged, replays,
+};
 use dft_top::Status;
 use std::test::Fail;
-
-static WORDS: [&str; 5] = ["replay", "--netlist", "n", "--patterns", "p"];
 
 const TWO_DOMAINS: &str =
     "module r (ca, cb, d, q); input ca, cb, d; output q; DFF a (.CK(ca), .D(d), .Q(n)); DFF b (.CK(cb), .D(n), .Q(q)); endmodule";
@@ -49,183 +49,121 @@ const CLOCK_AS_DATA: &str =
     "module m (ca, cb, q); input ca, cb; output q; DFF f (.CK(ca), .D(cb), .Q(q)); DFF g (.CK(cb), .D(ca), .Q(n)); endmodule";
 
 // A netlist, its inputs, the vectors, and what is printed. Its output is q.
-static VERDICTS: [(&str, &str, &str, &str, Status); 23] = [
-    (
-        NETLIST,
-        "c d",
-        "P1 X 00 H",
-        "pass 2 vectors 1 compared\n",
-        Status::Done,
-    ),
-    (
-        NETLIST,
-        "c d",
-        "P1 X 00 L",
-        "mismatch vector 1 signal q\n",
-        Status::NotPassed,
-    ),
+static VERDICTS: [(&str, &str, &str, &str); 23] = [
+    (NETLIST, "c d", "P1 X 00 H", "pass 2 vectors 1 compared\n"),
+    (NETLIST, "c d", "P1 X 00 L", "mismatch vector 1 signal q\n"),
     (
         NETLIST,
         "c d",
         "00 H P1 X",
         "undetermined vector 0 signal q\n",
-        Status::NotPassed,
     ),
-    (
-        NETLIST,
-        "c d",
-        "",
-        "pass 0 vectors 0 compared\n",
-        Status::Done,
-    ),
+    (NETLIST, "c d", "", "pass 0 vectors 0 compared\n"),
     (
         TWO_DOMAINS,
         "ca cb d",
         "PP0 X PP0 X PP1 L 000 L",
         "undetermined vector 3 signal q\n",
-        Status::NotPassed,
     ),
     (
         LOCKED,
         "ca cb d",
         "PP0 X PP0 X PP1 L 000 L",
         "pass 4 vectors 2 compared\n",
-        Status::Done,
     ),
     (
         LOCKED,
         "ca cb d",
         "PP0 X PP0 X PP1 L 000 H",
         "mismatch vector 3 signal q\n",
-        Status::NotPassed,
     ),
     (
         THREE_DOMAINS,
         "ca cb cc d",
         "PPP0 X PPP0 X PPP0 X PPP1 L 0000 L",
         "undetermined vector 4 signal q\n",
-        Status::NotPassed,
     ),
-    (
-        NETLIST,
-        "c zz",
-        "P1 X 00 H",
-        "refused P7 zz\n",
-        Status::Refused,
-    ),
-    (
-        NETLIST,
-        "c d",
-        "P X 00 H",
-        "refused P4 24:12\n",
-        Status::Refused,
-    ),
-    (
-        NETLIST,
-        "c d",
-        "P1 X 10 X",
-        "refused P10 c 1\n",
-        Status::Refused,
-    ),
+    (NETLIST, "c zz", "P1 X 00 H", "refused P7 zz\n"),
+    (NETLIST, "c d", "P X 00 H", "refused P4 24:12\n"),
+    (NETLIST, "c d", "P1 X 10 X", "refused P10 c 1\n"),
     (
         CHAIN,
         "ca cb d scan_enable scan_in0",
         "PP011 X PP010 X PP011 X PP010 X 00010 H",
         "pass 5 vectors 1 compared\n",
-        Status::Done,
     ),
     (
         UNLOCKED_CHAIN,
         "ca cb d scan_enable scan_in0",
         "PP011 X PP010 X PP011 X PP010 X 00010 H",
         "undetermined vector 4 signal q\n",
-        Status::NotPassed,
     ),
     (
         LATE_LOCK,
         "ca cb d",
         "PP0 X PP0 X PP1 L 000 L",
         "undetermined vector 3 signal q\n",
-        Status::NotPassed,
     ),
     (
         SET,
         "c d s",
         "000 H P01 H 001 L",
         "pass 3 vectors 3 compared\n",
-        Status::Done,
     ),
     (
         OPAQUE,
         "c d e",
         "P10 X 010 L P11 X 011 H",
         "undetermined vector 3 signal q\n",
-        Status::NotPassed,
     ),
     (
         UNCONNECTED,
         "c e",
         "P0 X 00 L P1 X 01 H",
         "undetermined vector 3 signal q\n",
-        Status::NotPassed,
     ),
     (
         BUFFERED,
         "c d",
         "P0 X P1 X P0 L 00 H",
         "pass 4 vectors 2 compared\n",
-        Status::Done,
     ),
     (
         INVERTED,
         "c d",
         "P1 X 00 H",
         "undetermined vector 1 signal q\n",
-        Status::NotPassed,
     ),
     (
         CLOCK_SHOWN,
         "c d",
         "P0 L 00 L",
         "pass 2 vectors 2 compared\n",
-        Status::Done,
     ),
     (
         CLOCK_SHOWN,
         "c d",
         "00 L P0 H",
         "mismatch vector 1 signal q\n",
-        Status::NotPassed,
     ),
     (
         CLOCK_AS_DATA,
         "ca cb",
         "P0 X 00 L",
         "pass 2 vectors 1 compared\n",
-        Status::Done,
     ),
     (
         CLOCK_AS_DATA,
         "ca cb",
         "PP X 00 L",
         "undetermined vector 1 signal q\n",
-        Status::NotPassed,
     ),
 ];
 
 #[test]
 fn patterns_get_their_verdicts(rt: HostRuntime) -> Result<(), Fail> {
-    for (netlist, inputs, vectors, line, status) in &VERDICTS {
-        let text = patterns(rt.alloc(), *inputs, "q", *vectors)?;
-        let end = replayed(
-            rt.alloc(),
-            &WORDS,
-            ("", *netlist, text.as_str()),
-            None,
-            None,
-        )?;
-        assert_eq!(rt; end.line.as_slice(), line.as_bytes(), "at {vectors}");
-        assert_eq!(rt; end.status, *status, "at {vectors}");
+    for (netlist, inputs, vectors, line) in &VERDICTS {
+        is_judged(rt.alloc(), *netlist, (*inputs, "q", *vectors), *line)?;
     }
     Ok(())
 }
@@ -254,18 +192,27 @@ const DIFFERING: &str =
     "STIL 1.0; Signals { c In; d In; p Out; q Out; } Timing { WaveformTable t { Period '20ns'; Waveforms { c { 0 { '0ns' D; } } d { 0 { '0ns' D; } 1 { '0ns' U; } } p { L { '5ns' L; } } q { L { '5ns' L; } H { '5ns' H; } } } } } PatternBurst b { PatList { p; } } PatternExec { PatternBurst b; } Pattern p { W t; V { c = 0; d = 0; p = L; q = H; } V { d = 1; } }";
 
 // A netlist, a pattern text, and what is printed.
-static TEXTS: [(&str, &str, &str); 4] = [
-    (TWO_OUTPUTS, DIFFERING, "mismatch vector 0 signal q\n"),
-    (NETLIST, KEPT, "pass 2 vectors 1 compared\n"),
-    (RESET, UNSET, "undetermined vector 3 signal q\n"),
-    (NETLIST, LATE, "refused P8 2:1\n"),
+static TEXTS: [(&str, &str, Status, &str); 4] = [
+    (
+        TWO_OUTPUTS,
+        DIFFERING,
+        Status::NotPassed,
+        "mismatch vector 0 signal q\n",
+    ),
+    (NETLIST, KEPT, Status::Done, PASS),
+    (
+        RESET,
+        UNSET,
+        Status::NotPassed,
+        "undetermined vector 3 signal q\n",
+    ),
+    (NETLIST, LATE, Status::Refused, "refused P8 2:1\n"),
 ];
 
 #[test]
 fn pattern_texts_of_other_tools_are_replayed(rt: HostRuntime) -> Result<(), Fail> {
-    for (netlist, text, line) in &TEXTS {
-        let end = replayed(rt.alloc(), &WORDS, ("", *netlist, *text), None, None)?;
-        assert_eq!(rt; end.line.as_slice(), line.as_bytes());
+    for (netlist, text, status, line) in &TEXTS {
+        replays(rt.alloc(), REPLAY, ("", *netlist, *text), *status, *line)?;
     }
     Ok(())
 }
@@ -303,46 +250,37 @@ static NETLISTS: [(&str, &str); 9] = [
 
 #[test]
 fn netlists_are_refused_by_the_first_fault(rt: HostRuntime) -> Result<(), Fail> {
-    let text = patterns(rt.alloc(), "c d", "q", VECTORS)?;
     for (netlist, line) in &NETLISTS {
-        let end = replayed(
-            rt.alloc(),
-            &WORDS,
-            ("", *netlist, text.as_str()),
-            None,
-            None,
-        )?;
-        assert_eq!(rt; end.line.as_slice(), line.as_bytes(), "at {netlist}");
-        assert_eq!(rt; end.status, Status::Refused, "at {netlist}");
+        let texts = ("", *netlist, PATTERNS);
+        replays(rt.alloc(), REPLAY, texts, Status::Refused, *line)?;
     }
     Ok(())
 }
 
-static WITH_LIBRARY: [&str; 6] = ["replay", "--patterns=p", "--library", "l", "--netlist", "n"];
-
-const OWN_CELL: &str =
-    "module m (c, d, q); input c, d; output q; FF f (.C(c), .D(d), .Q(q)); endmodule";
-
 // A library, a netlist, and what is printed.
-static LIBRARIES: [(&str, &str, &str); 5] = [
-    (LIBRARY, OWN_CELL, "pass 2 vectors 1 compared\n"),
-    (LIBRARY, NETLIST, "refused V4 1:43 DFF\n"),
+static LIBRARIES: [(&str, &str, Status, &str); 5] = [
+    (LIBRARY, OWN_CELL, Status::Done, PASS),
+    (LIBRARY, NETLIST, Status::Refused, "refused V4 1:43 DFF\n"),
     (
         "[cells.NAND2]\nkind = 'nand'\ninputs = ['A', 'B']\noutput = 'Y'\n",
         NETLIST,
+        Status::Refused,
         "refused L4 dff\n",
     ),
-    ("[cells", "", "refused L6\n"),
-    ("[cells.'a b']\nkind = 'odd'\n", NETLIST, "refused L7 a?b\n"),
+    ("[cells", "", Status::Refused, "refused L6\n"),
+    (
+        "[cells.'a b']\nkind = 'odd'\n",
+        NETLIST,
+        Status::Refused,
+        "refused L7 a?b\n",
+    ),
 ];
 
 #[test]
 fn netlists_are_read_over_the_library(rt: HostRuntime) -> Result<(), Fail> {
-    let text = patterns(rt.alloc(), "c d", "q", VECTORS)?;
-    for (library, netlist, line) in &LIBRARIES {
-        let texts = (*library, *netlist, text.as_str());
-        let end = replayed(rt.alloc(), &WITH_LIBRARY, texts, None, None)?;
-        assert_eq!(rt; end.line.as_slice(), line.as_bytes(), "at {library}");
+    for (library, netlist, status, line) in &LIBRARIES {
+        let texts = (*library, *netlist, PATTERNS);
+        replays(rt.alloc(), WITH_LIBRARY, texts, *status, *line)?;
     }
     Ok(())
 }

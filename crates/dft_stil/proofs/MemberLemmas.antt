@@ -3,7 +3,7 @@ use Rattle.std.proofs.Common.{◌≡◌, ℕ, zero, suc, ◌<◌, ◌≤◌, Boo
 use Rattle.std.proofs.lemmas.Bool.{cases_lt}
 use Rattle.std.proofs.lemmas.Bool.Decides.{nat_tests}
 use Rattle.std.proofs.lemmas.List.{get_or_past}
-use Rattle.dft_stil_text.specs.Namings as spec
+use Rattle.dft_stil_text.specs.SignalGroups as spec
 use Rattle.dft_stil.specs.MembersShown.{Sees, AreBelow}
 
 or_right : (a b : Bool) → b ≡ true → (a || b) ≡ true

@@ -5,7 +5,7 @@ use Rattle.std.proofs.lemmas.Bool.{cases_lt}
 use Rattle.std.proofs.lemmas.List.{map-append, get_or_append_left}
 use Rattle.dft_base.specs.Lexing.{Text}
 use Rattle.dft_patterns.specs.declared.signal.StilSignal.{StilSignal}
-use Rattle.dft_stil_text.specs.Namings as spec
+use Rattle.dft_stil_text.specs.SignalGroups as spec
 use Rattle.dft_stil.specs.MembersShown.{AreBelow}
 use Rattle.dft_stil.specs.NamesShown.{AreNumbered, AreInside}
 

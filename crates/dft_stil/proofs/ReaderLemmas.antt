@@ -20,6 +20,7 @@ use Rattle.dft_stil_text.specs.PatternText.{pattern_text, patterns_of, tested, s
 use Rattle.dft_stil.specs.Refusals.{IsFirstRefusal, IsRefused, IsFirstUnsteady, IsUnsteadyAs, told_at}
 use Rattle.dft_patterns.specs.Steadiness.{HaveLength, is_not_low, first_not_low, first_unsteady, first_unsteady_from, found_or, pulses}
 use Rattle.dft_stil_text.proofs.WellFormed.{fitting, well_formed}
+use Rattle.dft_stil_text.proofs.LimitLemmas.{stands_within}
 
 -- ---- places
 
@@ -100,13 +101,16 @@ pub ruleset inside = (found_vector, found_signal)
 
 -- ---- outcomes
 
--- patterns whose pulses are steady are what the text stands for
-pub stands : (text : Text) (p : Patterns) → value_of (pattern_text MAX_VECTORS (tokens text)) ≡ Ok p → first_unsteady p ≡ None → StandsFor text p
+-- patterns whose pulses are steady are read, and are what the text stands for
+given : (text : Text) (p : Patterns) → value_of (pattern_text MAX_VECTORS (tokens text)) ≡ Ok p → first_unsteady p ≡ None → patterns_of MAX_VECTORS text ≡ Ok p
 unfolding patterns_of
-stands text p e none = ap tested e ∙ ap (steady_or p) none
+given text p e none = ap tested e ∙ ap (steady_or p) none
+
+pub stands : (text : Text) (p : Patterns) → value_of (pattern_text MAX_VECTORS (tokens text)) ≡ Ok p → first_unsteady p ≡ None → StandsFor text p
+stands text p e none = stands_within MAX_VECTORS text p (given text p e none)
 
 pub formed : (text : Text) (p : Patterns) → value_of (pattern_text MAX_VECTORS (tokens text)) ≡ Ok p → first_unsteady p ≡ None → IsWellFormed p
-formed text p e none = well_formed MAX_VECTORS text p (stands text p e none) (omega arith)
+formed text p e none = well_formed MAX_VECTORS text p (given text p e none) (omega arith)
 
 by_cause : (text : Text) (why : Cause) (at : Place) → IsFirstRefusal text (told_at why at) → IsRefused text (told_at why at)
 by_cause text cause.Token at h = h

@@ -2,7 +2,7 @@
 use Rattle.std.proofs.Common.{◌≡◌, ℕ, zero, suc, [], ◌∷◌, All, sym, subst, arith}
 use Rattle.std.proofs.lemmas.List.Elements.{All-append}
 use Rattle.dft_base.specs.Lexing.{Text}
-use Rattle.dft_stil_text.specs.Timings as spec
+use Rattle.dft_stil_text.specs.WaveformTables as spec
 use Rattle.dft_stil.specs.ShapeTableShown.{IsWide}
 use Rattle.dft_stil.specs.TablesShown.{AreWide}
 

@@ -2,7 +2,7 @@
 use Rattle.std.specs.Prelude.{◌≡◌, ◌<◌, ℕ, List, Bool, false, get_or, All}
 use Rattle.dft_stil.specs.declared.members.Members.TheInside.{Inside}
 use Rattle.dft_stil.specs.declared.members.Meant.{Meant}
-use Rattle.dft_stil_text.specs.Namings as spec
+use Rattle.dft_stil_text.specs.SignalGroups as spec
 
 abbrev pub members_of : Inside → spec.Members
 members_of m = record { signals = m.signals.items; repeated = m.repeated }

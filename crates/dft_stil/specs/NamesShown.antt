@@ -3,7 +3,7 @@ use Rattle.std.specs.Prelude.{◌≡◌, ◌<◌, ℕ, List, length, get_or, All
 use Rattle.dft_base.specs.Lexing.{Text}
 use Rattle.dft_patterns.specs.declared.signal.StilSignal.{StilSignal}
 use Rattle.dft_stil.specs.declared.names.Names.TheInside.{Inside}
-use Rattle.dft_stil_text.specs.Namings as spec
+use Rattle.dft_stil_text.specs.SignalGroups as spec
 use Rattle.dft_stil.specs.MembersShown.{AreBelow}
 
 abbrev pub names_of : Inside → spec.Names

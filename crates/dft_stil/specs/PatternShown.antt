@@ -4,7 +4,7 @@ use Rattle.dft_stil.specs.declared.statements.Pattern.{Pattern}
 use Rattle.dft_stil.specs.declared.execution.Burst.{Burst}
 use Rattle.dft_patterns.specs.declared.act.Act.{Act}
 use Rattle.dft_patterns.specs.Patterns.{Patterns}
-use Rattle.dft_stil_text.specs.Namings.{Names}
+use Rattle.dft_stil_text.specs.SignalGroups.{Names}
 use Rattle.dft_stil_text.specs.PatternText as text
 use Rattle.dft_stil_text.specs.Statements as spec
 

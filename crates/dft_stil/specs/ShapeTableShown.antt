@@ -1,7 +1,7 @@
 -- What a `ShapeTable` shows.
 use Rattle.std.specs.Prelude.{◌≡◌, ◌*◌, ℕ, length}
 use Rattle.dft_stil.specs.declared.shape_table.ShapeTable.TheInside.{Inside}
-use Rattle.dft_stil_text.specs.Timings as spec
+use Rattle.dft_stil_text.specs.WaveformTables as spec
 
 abbrev pub shapes_of : Inside → spec.Shapes
 shapes_of t = record { acts = t.acts.items }

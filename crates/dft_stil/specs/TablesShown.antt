@@ -2,9 +2,9 @@
 use Rattle.dft_stil.specs.declared.tables.Tables.TheInside.{Inside}
 use Rattle.std.specs.Prelude.{ℕ, All, option_map}
 use Rattle.dft_stil.specs.ShapeTableShown.{IsWide}
-use Rattle.dft_stil.specs.declared.timings.Table.{Table}
+use Rattle.dft_stil.specs.declared.waveform_table.Table.{Table}
 use Rattle.dft_stil.specs.declared.table_block.Timing.{Timing}
-use Rattle.dft_stil_text.specs.Timings as spec
+use Rattle.dft_stil_text.specs.WaveformTables as spec
 
 abbrev pub tables_of : Inside → spec.Tables
 tables_of t = record { names = t.names; shapes = t.shapes.items }

@@ -4,8 +4,8 @@ use Rattle.dft_stil.specs.declared.vector.Vector.{Vector}
 use Rattle.dft_stil_text.specs.Statements as spec
 
 -- whether a signal is flagged
-abbrev pub told_of : List Bool → ℕ → Bool
-told_of flags n = get_or flags n false
+abbrev pub flagged_in : List Bool → ℕ → Bool
+flagged_in flags n = get_or flags n false
 
 abbrev pub vector_as : Vector → spec.Vector
-vector_as v = record { acts = v.acts; told = told_of v.told.items }
+vector_as v = record { acts = v.acts; told = flagged_in v.told.items }

@@ -6,7 +6,7 @@ ghost use Rattle.dft_stil_text.specs.PatternText as spec;
 ghost use Rattle.dft_stil.specs.TablesShown.{timing_as};
 ghost use Rattle.dft_stil.specs.PatternShown.{burst_as};
 
-use crate::namings::name_if_any;
+use crate::signal_groups::name_if_any;
 use crate::table_block::Timing;
 use dft_stil_tokens::{ReadError, TokenKind, Tokens, unknown};
 use std::alloc::Global;

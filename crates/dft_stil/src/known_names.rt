@@ -1,5 +1,5 @@
 ghost use Rattle.std.specs.Prelude.{◌≡◌, ◌++◌, ◌∷◌, [], None, OnOk, OnErr, IfSome, ◌<◌, length};
-ghost use Rattle.dft_stil_text.specs.Namings.{number_of};
+ghost use Rattle.dft_stil_text.specs.SignalGroups.{number_of};
 
 use indexmap::IndexSet;
 use std::alloc::{AllocError, Global};

@@ -8,22 +8,22 @@ mod execution;
 mod known_names;
 mod members;
 mod names;
-mod namings;
 mod pattern_text;
 mod reader;
 mod shape_table;
+mod signal_groups;
 mod statements;
 mod table_block;
 mod tables;
-mod timings;
 mod vector;
+mod waveform_table;
 
 pub use dft_patterns::{
     Act, Acts, Drawing, Event, Note, NoteKind, PatternSet, StilSignal, Times, Unsteady,
     first_unsteady,
 };
 pub use dft_stil_out::{WriteError, one_form, write};
-pub use dft_stil_text::{MAX_VECTORS, one_reading, well_formed};
+pub use dft_stil_text::{MAX_VECTORS, one_reading, read_within, well_formed};
 pub use dft_stil_tokens::{Cause, Fault, MAX_TEXT, TokenKind};
 pub use error::StilError;
 pub use reader::read;

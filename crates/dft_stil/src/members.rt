@@ -1,5 +1,5 @@
 ghost use Rattle.std.specs.Prelude.{◌≡◌, ◌<◌, ◌||◌, ℕ, false, length, get_or, OnOk, IfOk, slice_index_or};
-ghost use Rattle.dft_stil_text.specs.Namings as spec;
+ghost use Rattle.dft_stil_text.specs.SignalGroups as spec;
 ghost use Rattle.dft_stil.specs.MembersShown.{meant, Sees, AreBelow};
 
 use std::alloc::{AllocError, Global};
@@ -13,7 +13,7 @@ pub struct Members {
 }
 
 impl Model for Members {
-    ghost use Rattle.dft_stil_text.specs.Namings as naming;
+    ghost use Rattle.dft_stil_text.specs.SignalGroups as naming;
 
     ghost Value = { naming.Members };
 

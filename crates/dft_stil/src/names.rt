@@ -1,7 +1,7 @@
 ghost use Rattle.std.specs.Prelude.{◌≡◌, None, length, option_map, OnOk, IfSome};
 ghost use Rattle.dft_base.specs.Name.{IsName};
-ghost use Rattle.dft_stil_text.specs.Namings as spec;
-ghost use Rattle.dft_stil_text.specs.Timings.{dir_of};
+ghost use Rattle.dft_stil_text.specs.SignalGroups as spec;
+ghost use Rattle.dft_stil_text.specs.WaveformTables.{dir_of};
 ghost use Rattle.dft_stil.specs.MembersShown.{meant, AreBelow};
 
 use crate::known_names::KnownNames;
@@ -23,7 +23,7 @@ pub struct Names {
 }
 
 impl Model for Names {
-    ghost use Rattle.dft_stil_text.specs.Namings as naming;
+    ghost use Rattle.dft_stil_text.specs.SignalGroups as naming;
 
     ghost Value = { naming.Names };
 

@@ -1,7 +1,7 @@
 //! Whole pattern texts (IEEE 1450-1999, in a subset of its forms).
 
 ghost use Rattle.std.specs.Prelude.{◌≡◌, ◌<◌, ◌^◌, length, IfOk};
-ghost use Rattle.dft_stil_text.specs.Namings.{no_names};
+ghost use Rattle.dft_stil_text.specs.SignalGroups.{no_names};
 ghost use Rattle.dft_stil_text.specs.PatternText as spec;
 ghost use Rattle.dft_stil_tokens.specs.Steps.{left};
 ghost use Rattle.dft_stil.specs.TablesShown.{timing_as, AreWide};
@@ -10,7 +10,7 @@ ghost use Rattle.dft_stil_tokens.specs.Reading.{ReadsText};
 
 use crate::execution::{Burst, exec, known_name, the_burst};
 use crate::names::Names;
-use crate::namings::{group_blocks, signals_block};
+use crate::signal_groups::{group_blocks, signals_block};
 use crate::statements::{Pattern, statements};
 use crate::table_block::{Timing, timing_block};
 use dft_patterns::{Acts, PatternSet};

@@ -76,10 +76,12 @@ fn unsteady(alloc: Global, set: &PatternSet, found: Unsteady) -> StilError
 #[tactic(auto, using(crate::proofs::ReaderLemmas::reading))]
 /// The patterns that a text stands for (IEEE 1450-1999, in a subset of its forms), without notes. A text with a fault is
 /// refused by its first, with the place where the refused token begins; a text without a fault by the first vector in
-/// which a signal that pulses in some vector is high or was never set, and the first such signal.
+/// which a signal that pulses in some vector is high or was never set, and the first such signal. The one fault that is
+/// no matter of what texts stand for is a vector past `MAX_VECTORS`.
 pub fn read(alloc: Global, bytes: &[u8]) -> Result<PatternSet, StilError>
     requires { length bytes.now ≤ MAX_TEXT }
     ensures patterns { IfOk result (λ set. StandsFor bytes.now set) }
+    ensures few { IfOk result (λ set. length set.vectors ≤ MAX_VECTORS) }
     ensures well_formed { IfOk result (λ set. IsWellFormed set) }
     ensures refused { IfErr result (λ error. IsRefused bytes.now error) }
 {

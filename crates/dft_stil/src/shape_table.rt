@@ -1,5 +1,5 @@
 ghost use Rattle.std.specs.Prelude.{◌≡◌, ◌<◌, None, replicate, IfOk};
-ghost use Rattle.dft_stil_text.specs.Timings as spec;
+ghost use Rattle.dft_stil_text.specs.WaveformTables as spec;
 ghost use Rattle.dft_stil.specs.ShapeTableShown.{IsWide};
 ghost use Rattle.dft_stil.specs.MembersShown.{AreBelow};
 
@@ -17,9 +17,9 @@ pub struct ShapeTable {
 }
 
 impl Model for ShapeTable {
-    ghost use Rattle.dft_stil_text.specs.Timings as timings;
+    ghost use Rattle.dft_stil_text.specs.WaveformTables as tables;
 
-    ghost Value = { timings.Shapes };
+    ghost Value = { tables.Shapes };
 
     ghost use Rattle.dft_stil.specs.ShapeTableShown.{shapes_of};
 

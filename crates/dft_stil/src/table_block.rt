@@ -3,17 +3,17 @@
 ghost use Rattle.std.specs.Prelude.{length, IfOk, OnOk};
 ghost use Rattle.dft_stil_tokens.specs.Steps.{left};
 ghost use Rattle.dft_stil_tokens.specs.Reading.{ReadsText};
-ghost use Rattle.dft_stil_text.specs.Timings as spec;
+ghost use Rattle.dft_stil_text.specs.WaveformTables as spec;
 ghost use Rattle.dft_stil.specs.TablesShown.{timing_as, AreWide};
 
 use crate::names::Names;
-use crate::namings::name_if_any;
+use crate::signal_groups::name_if_any;
 use crate::tables::Tables;
-use crate::timings::table_body;
+use crate::waveform_table::table_body;
 use dft_stil_tokens::{ReadError, TokenKind, Tokens, taken};
 use std::alloc::Global;
 
-#[tactic(auto, unfolding(dft_stil_text::specs::Timings::table))]
+#[tactic(auto, unfolding(dft_stil_text::specs::WaveformTables::table))]
 // A table, whose name no other may have so far.
 fn one_table(
     alloc: Global,
@@ -59,7 +59,7 @@ pub struct Timing<'a> {
     pub tables: Tables,
 }
 
-#[tactic(auto, unfolding(dft_stil_text::specs::Timings::timing))]
+#[tactic(auto, unfolding(dft_stil_text::specs::WaveformTables::timing))]
 /// The block of tables.
 pub fn timing_block<'a>(
     alloc: Global,

@@ -1,6 +1,6 @@
 ghost use Rattle.std.specs.Prelude.{◌≡◌, None, option_map, slice_get, OnOk};
-ghost use Rattle.dft_stil_text.specs.Namings.{number_of};
-ghost use Rattle.dft_stil_text.specs.Timings as spec;
+ghost use Rattle.dft_stil_text.specs.SignalGroups.{number_of};
+ghost use Rattle.dft_stil_text.specs.WaveformTables as spec;
 
 use crate::known_names::KnownNames;
 use crate::shape_table::ShapeTable;
@@ -15,9 +15,9 @@ pub struct Tables {
 }
 
 impl Model for Tables {
-    ghost use Rattle.dft_stil_text.specs.Timings as timings;
+    ghost use Rattle.dft_stil_text.specs.WaveformTables as tables;
 
-    ghost Value = { timings.Tables };
+    ghost Value = { tables.Tables };
 
     ghost use Rattle.dft_stil.specs.TablesShown.{tables_of};
 

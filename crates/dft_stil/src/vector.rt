@@ -6,7 +6,7 @@ ghost use Rattle.dft_stil_text.specs.Statements as spec;
 ghost use Rattle.dft_stil_tokens.specs.Steps.{left};
 ghost use Rattle.dft_stil.specs.MembersShown.{AreBelow, meant as meant_as};
 ghost use Rattle.dft_stil.specs.ShapeTableShown.{IsWide};
-ghost use Rattle.dft_stil.specs.VectorShown.{vector_as, told_of};
+ghost use Rattle.dft_stil.specs.VectorShown.{vector_as, flagged_in};
 ghost use Rattle.dft_stil_tokens.specs.Reading.{ReadsText};
 
 use crate::characters::characters;
@@ -27,7 +27,7 @@ pub struct Vector {
 // Whether one of these signals is flagged.
 fn is_flagged(told: &[bool], signals: &[usize]) -> bool
     requires { AreBelow (length told.now) signals.now }
-    ensures { result ≡ list_any (told_of told.now) signals.now }
+    ensures { result ≡ list_any (flagged_in told.now) signals.now }
 {
     for signal in signals {
         if told[*signal] {
@@ -40,7 +40,7 @@ fn is_flagged(told: &[bool], signals: &[usize]) -> bool
 // Flags these signals.
 fn flag(told: &mut [bool], signals: &[usize])
     requires { AreBelow (length told.old) signals.now }
-    ensures told { told_of told.new ≡ spec.with_told signals.now (told_of told.old) }
+    ensures told { flagged_in told.new ≡ spec.with_told signals.now (flagged_in told.old) }
     ensures length { length told.new ≡ length told.old }
 {
     for signal in signals {

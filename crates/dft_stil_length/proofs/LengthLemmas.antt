@@ -15,7 +15,7 @@ use Rattle.dft_patterns.specs.declared.signal.StilSignal.{StilSignal}
 use Rattle.dft_patterns.specs.Steadiness.{HaveLength}
 use Rattle.dft_patterns.specs.Patterns.{inputs, outputs, input_count}
 use Rattle.dft_stil_out.specs.Letters.{letter}
-use Rattle.dft_stil_out.specs.Written.{declaration, quoted, group, input_waves, output_waves, middle, head, assignment, vector_line, note_line, note_words, due, noted_lines, noted}
+use Rattle.dft_stil_out.specs.Written.{declaration, quoted, group_line, input_waves, output_waves, middle, head, assignment_text, vector_line, note_line, note_words, due, noted_lines, noted}
 use Rattle.dft_stil_length.specs.WrittenLength.{name_bytes, group_length, waves_length, assignment_length, line_length, notes_length, head_length, frame_length}
 use Rattle.dft_stil_length.specs.Laws.{HasWrittenLength}
 
@@ -35,7 +35,7 @@ length-joined s (t ∷ others) =
       sum_by-cons (λ (x : StilSignal). length x.name) s (t ∷ others),
     )
 
-length-group : (label : List ℕ) (signals : List StilSignal) → length (group label signals) ≡ group_length (length label) (length signals) (name_bytes signals)
+length-group : (label : List ℕ) (signals : List StilSignal) → length (group_line label signals) ≡ group_length (length label) (length signals) (name_bytes signals)
 length-group label [] = refl
 length-group label (s ∷ others) =
     let names = join_with_byte 43 (map quoted (s ∷ others)) in
@@ -43,15 +43,15 @@ length-group label (s ∷ others) =
 
 -- ---- lines
 
-length-assignment : (label : List ℕ) (acts : List Act) → length (assignment label acts) ≡ assignment_length (length label) (length acts)
+length-assignment : (label : List ℕ) (acts : List Act) → length (assignment_text label acts) ≡ assignment_length (length label) (length acts)
 length-assignment label [] = refl
 length-assignment label (a ∷ acts) = omega (arith, length-append label (map letter (a ∷ acts)), length-map acts letter)
 
 length-line : (count inputs outputs : ℕ) (acts : List Act) → length (take count acts) ≡ inputs → length (drop count acts) ≡ outputs → length (vector_line count acts) ≡ line_length inputs outputs
 unfolding vector_line
 length-line count inputs outputs acts i o =
-    let ins = assignment (codes "ins = ") (take count acts) in
-    let outs = assignment (codes "; outs = ") (drop count acts) in
+    let ins = assignment_text (codes "ins = ") (take count acts) in
+    let outs = assignment_text (codes "; outs = ") (drop count acts) in
     let same : length (codes "V { " ++ (ins ++ (outs ++ codes "; }\n"))) ≡ line_length (length (take count acts)) (length (drop count acts)) =
     omega (arith, length-append ins (outs ++ codes "; }\n"), length-append outs (codes "; }\n"), length-assignment (codes "ins = ") (take count acts), length-assignment (codes "; outs = ") (drop count acts)) in
     same ∙ ap₂ line_length i o
@@ -112,8 +112,8 @@ length-output_waves (s ∷ signals) = refl
 length-middle : (ins outs : List StilSignal) → length (middle ins outs) + 22 ≡ frame_length (length ins) (name_bytes ins) (length outs) (name_bytes outs)
 unfolding middle
 length-middle ins outs =
-    let a = group (codes "ins") ins in
-    let b = group (codes "outs") outs in
+    let a = group_line (codes "ins") ins in
+    let b = group_line (codes "outs") outs in
     let c = input_waves ins in
     let d = output_waves outs in
     let last = codes "}\n}\n}\nPatternBurst b { PatList { p; } }\nPatternExec { PatternBurst b; }\nPattern p {\nW w;\n" in

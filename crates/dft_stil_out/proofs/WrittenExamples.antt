@@ -14,9 +14,9 @@ use Rattle.dft_patterns.specs.declared.notes.NoteKind.TheVariants as what
 use Rattle.dft_patterns.specs.declared.signal.StilSignal.{StilSignal}
 use Rattle.dft_patterns.specs.Patterns.{Patterns}
 use Rattle.dft_stil_tokens.specs.Lexemes.{comment_rest, note_rest, gap_len, gaps_from, blank_len, mark_kind, quoted_text, word_or_note, lexeme}
-use Rattle.dft_stil_tokens.specs.Steps.{kind_of, bytes, left, next, sees, sees_word, left_out, sees_left_out, sees_capital, mark_refusal, keyword_refusal, expect, after, after_word, keyword, sees_name, name, sees_run, character, letter, number_from, small_number, unit}
-use Rattle.dft_stil_text.specs.Namings.{direction, signal, signals_from, signals_block, member, members_from, members, group, groups_from, name_if_any, group_block, sees_groups, after_groups, group_blocks_from, group_blocks}
-use Rattle.dft_stil_text.specs.Timings.{time, event_letter, event, events_from, shape, shapes_from, wave, waves_from, table_body, table, tables_from, timing}
+use Rattle.dft_stil_tokens.specs.Steps.{kind_of, bytes, left, next, sees, sees_word, left_out, sees_left_out, sees_capital, mark_refusal, keyword_refusal, expect, after, after_word, keyword, sees_name, name, sees_run, one_character, one_letter, single, number_from, small_number, unit}
+use Rattle.dft_stil_text.specs.SignalGroups.{direction, signal, signals_from, signals_block, member, members_from, members, group, groups_from, name_if_any, group_block, sees_groups, after_groups, group_blocks_from, group_blocks}
+use Rattle.dft_stil_text.specs.WaveformTables.{time, event_letter, event, events_from, shape, shapes_from, wave, waves_from, table_body, table, tables_from, timing}
 use Rattle.dft_stil_text.specs.Statements.{sees_characters, characters_refusal, run_of_characters, runs_from, characters, assignment, assignments_from, vector, table_used, labelled, statement, statements_from}
 use Rattle.dft_stil_text.specs.PatternText.{version, block_from, block, header_if_any, listed_pattern, burst, known_name, known_name_if_any, used_timing, exec, executed, pattern, pattern_part, pattern_text, patterns_of, At}
 use Rattle.dft_stil_out.specs.Written.{middle, head, vector_line, note_line, noted_lines, noted}
@@ -52,38 +52,38 @@ whole_form = refl
 
 -- names that stand for groups, and names with marks of comments and annotations
 pub strange_names : reads_back (of (codes "outs") Input ∷ of (codes "//;'*}") Input ∷ of (codes "ins") Output ∷ of (codes "Ann{*") Output ∷ []) ((act.Pulse ∷ act.High ∷ act.Ignore ∷ act.ExpectLow ∷ []) ∷ []) []
-unfolding comment_rest note_rest gap_len gaps_from blank_len mark_kind quoted_text word_or_note lexeme kind_of bytes left next sees sees_word left_out sees_left_out sees_capital mark_refusal keyword_refusal expect after after_word keyword sees_name name sees_run character letter number_from small_number unit direction signal signals_from signals_block member members_from members group groups_from name_if_any group_block sees_groups after_groups group_blocks_from group_blocks time event_letter event events_from shape shapes_from wave waves_from table_body table tables_from timing sees_characters characters_refusal run_of_characters runs_from characters assignment assignments_from vector table_used labelled statement statements_from version block_from block header_if_any listed_pattern burst known_name known_name_if_any used_timing exec executed pattern pattern_part pattern_text patterns_of middle head vector_line note_line noted_lines noted
+unfolding comment_rest note_rest gap_len gaps_from blank_len mark_kind quoted_text word_or_note lexeme kind_of bytes left next sees sees_word left_out sees_left_out sees_capital mark_refusal keyword_refusal expect after after_word keyword sees_name name sees_run one_character one_letter single number_from small_number unit direction signal signals_from signals_block member members_from members group groups_from name_if_any group_block sees_groups after_groups group_blocks_from group_blocks time event_letter event events_from shape shapes_from wave waves_from table_body table tables_from timing sees_characters characters_refusal run_of_characters runs_from characters assignment assignments_from vector table_used labelled statement statements_from version block_from block header_if_any listed_pattern burst known_name known_name_if_any used_timing exec executed pattern pattern_part pattern_text patterns_of middle head vector_line note_line noted_lines noted
 strange_names = refl
 
 pub no_output : reads_back (of (codes "c") Input ∷ []) ((act.Pulse ∷ []) ∷ []) []
-unfolding comment_rest note_rest gap_len gaps_from blank_len mark_kind quoted_text word_or_note lexeme kind_of bytes left next sees sees_word left_out sees_left_out sees_capital mark_refusal keyword_refusal expect after after_word keyword sees_name name sees_run character letter number_from small_number unit direction signal signals_from signals_block member members_from members group groups_from name_if_any group_block sees_groups after_groups group_blocks_from group_blocks time event_letter event events_from shape shapes_from wave waves_from table_body table tables_from timing sees_characters characters_refusal run_of_characters runs_from characters assignment assignments_from vector table_used labelled statement statements_from version block_from block header_if_any listed_pattern burst known_name known_name_if_any used_timing exec executed pattern pattern_part pattern_text patterns_of middle head vector_line note_line noted_lines noted
+unfolding comment_rest note_rest gap_len gaps_from blank_len mark_kind quoted_text word_or_note lexeme kind_of bytes left next sees sees_word left_out sees_left_out sees_capital mark_refusal keyword_refusal expect after after_word keyword sees_name name sees_run one_character one_letter single number_from small_number unit direction signal signals_from signals_block member members_from members group groups_from name_if_any group_block sees_groups after_groups group_blocks_from group_blocks time event_letter event events_from shape shapes_from wave waves_from table_body table tables_from timing sees_characters characters_refusal run_of_characters runs_from characters assignment assignments_from vector table_used labelled statement statements_from version block_from block header_if_any listed_pattern burst known_name known_name_if_any used_timing exec executed pattern pattern_part pattern_text patterns_of middle head vector_line note_line noted_lines noted
 no_output = refl
 
 pub a_note : reads_back (of (codes "c") Input ∷ []) ((act.Low ∷ []) ∷ []) (note 0 what.SetUp ∷ [])
-unfolding comment_rest note_rest gap_len gaps_from blank_len mark_kind quoted_text word_or_note lexeme kind_of bytes left next sees sees_word left_out sees_left_out sees_capital mark_refusal keyword_refusal expect after after_word keyword sees_name name sees_run character letter number_from small_number unit direction signal signals_from signals_block member members_from members group groups_from name_if_any group_block sees_groups after_groups group_blocks_from group_blocks time event_letter event events_from shape shapes_from wave waves_from table_body table tables_from timing sees_characters characters_refusal run_of_characters runs_from characters assignment assignments_from vector table_used labelled statement statements_from version block_from block header_if_any listed_pattern burst known_name known_name_if_any used_timing exec executed pattern pattern_part pattern_text patterns_of middle head vector_line note_line noted_lines noted
+unfolding comment_rest note_rest gap_len gaps_from blank_len mark_kind quoted_text word_or_note lexeme kind_of bytes left next sees sees_word left_out sees_left_out sees_capital mark_refusal keyword_refusal expect after after_word keyword sees_name name sees_run one_character one_letter single number_from small_number unit direction signal signals_from signals_block member members_from members group groups_from name_if_any group_block sees_groups after_groups group_blocks_from group_blocks time event_letter event events_from shape shapes_from wave waves_from table_body table tables_from timing sees_characters characters_refusal run_of_characters runs_from characters assignment assignments_from vector table_used labelled statement statements_from version block_from block header_if_any listed_pattern burst known_name known_name_if_any used_timing exec executed pattern pattern_part pattern_text patterns_of middle head vector_line note_line noted_lines noted
 a_note = refl
 
 pub no_input_and_no_vector : reads_back (of (codes "q") Output ∷ []) [] (note 2 what.SetUp ∷ [])
-unfolding comment_rest note_rest gap_len gaps_from blank_len mark_kind quoted_text word_or_note lexeme kind_of bytes left next sees sees_word left_out sees_left_out sees_capital mark_refusal keyword_refusal expect after after_word keyword sees_name name sees_run character letter number_from small_number unit direction signal signals_from signals_block member members_from members group groups_from name_if_any group_block sees_groups after_groups group_blocks_from group_blocks time event_letter event events_from shape shapes_from wave waves_from table_body table tables_from timing sees_characters characters_refusal run_of_characters runs_from characters assignment assignments_from vector table_used labelled statement statements_from version block_from block header_if_any listed_pattern burst known_name known_name_if_any used_timing exec executed pattern pattern_part pattern_text patterns_of middle head vector_line note_line noted_lines noted
+unfolding comment_rest note_rest gap_len gaps_from blank_len mark_kind quoted_text word_or_note lexeme kind_of bytes left next sees sees_word left_out sees_left_out sees_capital mark_refusal keyword_refusal expect after after_word keyword sees_name name sees_run one_character one_letter single number_from small_number unit direction signal signals_from signals_block member members_from members group groups_from name_if_any group_block sees_groups after_groups group_blocks_from group_blocks time event_letter event events_from shape shapes_from wave waves_from table_body table tables_from timing sees_characters characters_refusal run_of_characters runs_from characters assignment assignments_from vector table_used labelled statement statements_from version block_from block header_if_any listed_pattern burst known_name known_name_if_any used_timing exec executed pattern pattern_part pattern_text patterns_of middle head vector_line note_line noted_lines noted
 no_input_and_no_vector = refl
 
 pub no_signal_and_no_vector : reads_back [] [] []
-unfolding comment_rest note_rest gap_len gaps_from blank_len mark_kind quoted_text word_or_note lexeme kind_of bytes left next sees sees_word left_out sees_left_out sees_capital mark_refusal keyword_refusal expect after after_word keyword sees_name name sees_run character letter number_from small_number unit direction signal signals_from signals_block member members_from members group groups_from name_if_any group_block sees_groups after_groups group_blocks_from group_blocks time event_letter event events_from shape shapes_from wave waves_from table_body table tables_from timing sees_characters characters_refusal run_of_characters runs_from characters assignment assignments_from vector table_used labelled statement statements_from version block_from block header_if_any listed_pattern burst known_name known_name_if_any used_timing exec executed pattern pattern_part pattern_text patterns_of middle head vector_line note_line noted_lines noted
+unfolding comment_rest note_rest gap_len gaps_from blank_len mark_kind quoted_text word_or_note lexeme kind_of bytes left next sees sees_word left_out sees_left_out sees_capital mark_refusal keyword_refusal expect after after_word keyword sees_name name sees_run one_character one_letter single number_from small_number unit direction signal signals_from signals_block member members_from members group groups_from name_if_any group_block sees_groups after_groups group_blocks_from group_blocks time event_letter event events_from shape shapes_from wave waves_from table_body table tables_from timing sees_characters characters_refusal run_of_characters runs_from characters assignment assignments_from vector table_used labelled statement statements_from version block_from block header_if_any listed_pattern burst known_name known_name_if_any used_timing exec executed pattern pattern_part pattern_text patterns_of middle head vector_line note_line noted_lines noted
 no_signal_and_no_vector = refl
 
 -- where no input stands before a vector's outputs, a semicolon does
 pub no_input : refused cause.Token 16 (of (codes "q") Output ∷ []) ((act.Ignore ∷ []) ∷ []) []
-unfolding comment_rest note_rest gap_len gaps_from blank_len mark_kind quoted_text word_or_note lexeme kind_of bytes left next sees sees_word left_out sees_left_out sees_capital mark_refusal keyword_refusal expect after after_word keyword sees_name name sees_run character letter number_from small_number unit direction signal signals_from signals_block member members_from members group groups_from name_if_any group_block sees_groups after_groups group_blocks_from group_blocks time event_letter event events_from shape shapes_from wave waves_from table_body table tables_from timing sees_characters characters_refusal run_of_characters runs_from characters assignment assignments_from vector table_used labelled statement statements_from version block_from block header_if_any listed_pattern burst known_name known_name_if_any used_timing exec executed pattern pattern_part pattern_text patterns_of middle head vector_line note_line noted_lines noted
+unfolding comment_rest note_rest gap_len gaps_from blank_len mark_kind quoted_text word_or_note lexeme kind_of bytes left next sees sees_word left_out sees_left_out sees_capital mark_refusal keyword_refusal expect after after_word keyword sees_name name sees_run one_character one_letter single number_from small_number unit direction signal signals_from signals_block member members_from members group groups_from name_if_any group_block sees_groups after_groups group_blocks_from group_blocks time event_letter event events_from shape shapes_from wave waves_from table_body table tables_from timing sees_characters characters_refusal run_of_characters runs_from characters assignment assignments_from vector table_used labelled statement statements_from version block_from block header_if_any listed_pattern burst known_name known_name_if_any used_timing exec executed pattern pattern_part pattern_text patterns_of middle head vector_line note_line noted_lines noted
 no_input = refl
 
 pub never_set : refused cause.Token 7 (of (codes "c") Input ∷ []) ((act.Unset ∷ []) ∷ []) []
-unfolding comment_rest note_rest gap_len gaps_from blank_len mark_kind quoted_text word_or_note lexeme kind_of bytes left next sees sees_word left_out sees_left_out sees_capital mark_refusal keyword_refusal expect after after_word keyword sees_name name sees_run character letter number_from small_number unit direction signal signals_from signals_block member members_from members group groups_from name_if_any group_block sees_groups after_groups group_blocks_from group_blocks time event_letter event events_from shape shapes_from wave waves_from table_body table tables_from timing sees_characters characters_refusal run_of_characters runs_from characters assignment assignments_from vector table_used labelled statement statements_from version block_from block header_if_any listed_pattern burst known_name known_name_if_any used_timing exec executed pattern pattern_part pattern_text patterns_of middle head vector_line note_line noted_lines noted
+unfolding comment_rest note_rest gap_len gaps_from blank_len mark_kind quoted_text word_or_note lexeme kind_of bytes left next sees sees_word left_out sees_left_out sees_capital mark_refusal keyword_refusal expect after after_word keyword sees_name name sees_run one_character one_letter single number_from small_number unit direction signal signals_from signals_block member members_from members group groups_from name_if_any group_block sees_groups after_groups group_blocks_from group_blocks time event_letter event events_from shape shapes_from wave waves_from table_body table tables_from timing sees_characters characters_refusal run_of_characters runs_from characters assignment assignments_from vector table_used labelled statement statements_from version block_from block header_if_any listed_pattern burst known_name known_name_if_any used_timing exec executed pattern pattern_part pattern_text patterns_of middle head vector_line note_line noted_lines noted
 never_set = refl
 
 pub input_behind_output : refused (cause.Unsupported (codes "X")) 148 (of (codes "q") Output ∷ of (codes "d") Input ∷ []) [] []
-unfolding comment_rest note_rest gap_len gaps_from blank_len mark_kind quoted_text word_or_note lexeme kind_of bytes left next sees sees_word left_out sees_left_out sees_capital mark_refusal keyword_refusal expect after after_word keyword sees_name name sees_run character letter number_from small_number unit direction signal signals_from signals_block member members_from members group groups_from name_if_any group_block sees_groups after_groups group_blocks_from group_blocks time event_letter event events_from shape shapes_from wave waves_from table_body table tables_from timing sees_characters characters_refusal run_of_characters runs_from characters assignment assignments_from vector table_used labelled statement statements_from version block_from block header_if_any listed_pattern burst known_name known_name_if_any used_timing exec executed pattern pattern_part pattern_text patterns_of middle head vector_line note_line noted_lines noted
+unfolding comment_rest note_rest gap_len gaps_from blank_len mark_kind quoted_text word_or_note lexeme kind_of bytes left next sees sees_word left_out sees_left_out sees_capital mark_refusal keyword_refusal expect after after_word keyword sees_name name sees_run one_character one_letter single number_from small_number unit direction signal signals_from signals_block member members_from members group groups_from name_if_any group_block sees_groups after_groups group_blocks_from group_blocks time event_letter event events_from shape shapes_from wave waves_from table_body table tables_from timing sees_characters characters_refusal run_of_characters runs_from characters assignment assignments_from vector table_used labelled statement statements_from version block_from block header_if_any listed_pattern burst known_name known_name_if_any used_timing exec executed pattern pattern_part pattern_text patterns_of middle head vector_line note_line noted_lines noted
 input_behind_output = refl
 
 pub double_quote : refused cause.Token 260 (of (codes "a\"b") Input ∷ []) [] []
-unfolding comment_rest note_rest gap_len gaps_from blank_len mark_kind quoted_text word_or_note lexeme kind_of bytes left next sees sees_word left_out sees_left_out sees_capital mark_refusal keyword_refusal expect after after_word keyword sees_name name sees_run character letter number_from small_number unit direction signal signals_from signals_block member members_from members group groups_from name_if_any group_block sees_groups after_groups group_blocks_from group_blocks time event_letter event events_from shape shapes_from wave waves_from table_body table tables_from timing sees_characters characters_refusal run_of_characters runs_from characters assignment assignments_from vector table_used labelled statement statements_from version block_from block header_if_any listed_pattern burst known_name known_name_if_any used_timing exec executed pattern pattern_part pattern_text patterns_of middle head vector_line note_line noted_lines noted
+unfolding comment_rest note_rest gap_len gaps_from blank_len mark_kind quoted_text word_or_note lexeme kind_of bytes left next sees sees_word left_out sees_left_out sees_capital mark_refusal keyword_refusal expect after after_word keyword sees_name name sees_run one_character one_letter single number_from small_number unit direction signal signals_from signals_block member members_from members group groups_from name_if_any group_block sees_groups after_groups group_blocks_from group_blocks time event_letter event events_from shape shapes_from wave waves_from table_body table tables_from timing sees_characters characters_refusal run_of_characters runs_from characters assignment assignments_from vector table_used labelled statement statements_from version block_from block header_if_any listed_pattern burst known_name known_name_if_any used_timing exec executed pattern pattern_part pattern_text patterns_of middle head vector_line note_line noted_lines noted
 double_quote = refl

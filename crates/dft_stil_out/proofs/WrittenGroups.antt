@@ -11,7 +11,7 @@ use Rattle.dft_patterns.specs.declared.signal.StilSignal.{StilSignal}
 use Rattle.dft_stil_tokens.specs.declared.text.TokenKind.TheVariants as kind
 use Rattle.dft_stil_tokens.specs.Lexemes.{Token}
 use Rattle.dft_stil_tokens.specs.Steps.{kind_of, bytes, left, next, sees, sees_word, sees_name, expect, after, after_word, name}
-use Rattle.dft_stil_text.specs.Namings.{Names, Members, number_of, is_known, names_of_signals, one_signal, has, joined, member, members_from, members, with_group, group, groups_from, name_if_any, group_block, sees_groups, after_groups, group_blocks_from, group_blocks}
+use Rattle.dft_stil_text.specs.SignalGroups.{Names, Members, number_of, is_known, names_of_signals, one_signal, has, joined, member, members_from, members, with_group, group, groups_from, name_if_any, group_block, sees_groups, after_groups, group_blocks_from, group_blocks}
 use Rattle.dft_stil_out.specs.Written.{quoted}
 use Rattle.dft_stil_out.specs.Written as form
 use Rattle.dft_stil_out.proofs.WrittenTokens.{cut_up, token, ahead, cut_up-name, cut_up-ins_are, cut_up-outs_are, cut_up-plus, cut_up-listed, cut_up-close, cut_up-timing}
@@ -189,14 +189,14 @@ unfoldable pub turns : List StilSignal → ℕ → ℕ
 turns [] k = k
 turns (s ∷ ss) k = suc k
 
-group-text : (d : Dir) (s : StilSignal) (ss : List StilSignal) (rest : Text) → form.group (label d) (s ∷ ss) ++ rest ≡ label d ++ (codes " = '" ++ (34 ∷ (s.name ++ 34 ∷ (list_behind ss ++ (codes "';\n" ++ rest)))))
+group-text : (d : Dir) (s : StilSignal) (ss : List StilSignal) (rest : Text) → form.group_line (label d) (s ∷ ss) ++ rest ≡ label d ++ (codes " = '" ++ (34 ∷ (s.name ++ 34 ∷ (list_behind ss ++ (codes "';\n" ++ rest)))))
 group-text d s ss rest =
     append_assoc (label d) (codes " = '" ++ (join_with_byte 43 (map quoted (s ∷ ss)) ++ codes "';\n")) rest
     ∙ ap (λ t. label d ++ (codes " = '" ++ t)) (append_assoc (join_with_byte 43 (map quoted (s ∷ ss))) (codes "';\n") rest
     ∙ ap (λ t. t ++ (codes "';\n" ++ rest)) (join-is s ss) ∙ append_assoc (quoted s) (list_behind ss) (codes "';\n" ++ rest) ∙ quoted_text s (list_behind ss ++ (codes "';\n" ++ rest)))
 
 group_read : (d : Dir) (k : ℕ) (names : Names) (prefix ss last : List StilSignal) (rest : Text) → names.signals ≡ prefix ++ (ss ++ last) → AllQuotable ss → AllNew prefix (ss ++ last) → is_known names.group_names (label d) ≡ false
-    → groups_from (turns ss k) names (cut_up false (form.group (label d) ss ++ rest)) ≡ groups_from k (grown d (length prefix) ss names) (cut_up false rest)
+    → groups_from (turns ss k) names (cut_up false (form.group_line (label d) ss ++ rest)) ≡ groups_from k (grown d (length prefix) ss names) (cut_up false rest)
 unfolding grown turns
 group_read d k names prefix [] last rest is quotable new free = refl
 group_read d k names prefix (s ∷ ss) last rest is quotable new free =
@@ -213,7 +213,7 @@ group_read d k names prefix (s ∷ ss) last rest is quotable new free =
 abbrev pub IsFront : Text → Type 0
 IsFront text = left (cut_up false text) ≡ length text
 
-group_front : (d : Dir) (ss : List StilSignal) (rest : Text) → IsFront rest → IsFront (form.group (label d) ss ++ rest)
+group_front : (d : Dir) (ss : List StilSignal) (rest : Text) → IsFront rest → IsFront (form.group_line (label d) ss ++ rest)
 group_front d [] rest h = h
 group_front d (s ∷ ss) rest h =
     let list : Text = 34 ∷ (s.name ++ 34 ∷ (list_behind ss ++ (codes "';\n" ++ rest))) in
@@ -270,17 +270,17 @@ abbrev pub timing_text : Text → Text
 timing_text rest = codes "\nTiming {\nWaveformTable w {\nPeriod '100ns';\nWaveforms {\n" ++ rest
 
 pub groups_read : (ins outs : List StilSignal) (a b : ℕ) (rest : Text) → AllQuotable ins → AllQuotable outs → AllNew [] (ins ++ outs)
-    → group_blocks (alone (ins ++ outs)) (token kind.Word (codes "SignalGroups") (suc (suc a)) ∷ token kind.OpenBrace (codes "{") b ∷ cut_up false (form.group (codes "ins") ins ++ (form.group (codes "outs") outs ++ (codes "}" ++ timing_text rest))))
+    → group_blocks (alone (ins ++ outs)) (token kind.Word (codes "SignalGroups") (suc (suc a)) ∷ token kind.OpenBrace (codes "{") b ∷ cut_up false (form.group_line (codes "ins") ins ++ (form.group_line (codes "outs") outs ++ (codes "}" ++ timing_text rest))))
     ≡ Ok (grouped ins outs, cut_up false (timing_text rest))
 unfolding label
 groups_read ins outs a b rest qi qo new =
     let end : Text = codes "}" ++ timing_text rest in
-    let behind : Text = form.group (label Output) outs ++ end in
-    let text : Text = form.group (label Input) ins ++ behind in
+    let behind : Text = form.group_line (label Output) outs ++ end in
+    let text : Text = form.group_line (label Input) ins ++ behind in
     let all : Names = alone (ins ++ outs) in
     let mid : Names = grown Input 0 ins all in
     let size : left (cut_up false text) ≡ length text = group_front Input ins behind (group_front Output outs end (close_front (timing_text rest))) in
-    let n = enough ins outs (length text) (omega (arith, length-append (form.group (label Input) ins) behind, length-append (form.group (label Output) outs) end)) in
+    let n = enough ins outs (length text) (omega (arith, length-append (form.group_line (label Input) ins) behind, length-append (form.group_line (label Output) outs) end)) in
     let ends : groups_from (suc n.more) (grouped ins outs) (cut_up false end) ≡ Ok (grouped ins outs, cut_up false (timing_text rest)) =
     ap (groups_from (suc n.more) (grouped ins outs)) (cut_up-close (timing_text rest)) ∙ groups_from-end n.more (grouped ins outs) (codes "}") (ahead 1 (timing_text rest)) (cut_up false (timing_text rest)) in
     blocks-at a b _ all (grouped ins outs) (cut_up false text) _

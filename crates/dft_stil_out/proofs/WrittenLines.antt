@@ -11,8 +11,8 @@ use Rattle.dft_stil_tokens.specs.declared.text.TokenKind.TheVariants as kind
 use Rattle.dft_stil_out.specs.Letters.{letter}
 use Rattle.dft_stil_tokens.specs.Lexemes.{Token}
 use Rattle.dft_stil_tokens.specs.Steps.{kind_of, bytes, next, sees, sees_word, after}
-use Rattle.dft_stil_text.specs.Namings.{Names}
-use Rattle.dft_stil_text.specs.Timings.{Shapes, Tables}
+use Rattle.dft_stil_text.specs.SignalGroups.{Names}
+use Rattle.dft_stil_text.specs.WaveformTables.{Shapes, Tables}
 use Rattle.dft_stil_text.specs.Statements.{Pattern, vector, statement, statements_from}
 use Rattle.dft_stil_out.specs.Written.{vector_line, note_line, due, noted_lines}
 use Rattle.dft_stil_out.specs.Written as form
@@ -35,16 +35,16 @@ pub record Parted (ins outs : List StilSignal) (acts : List Act) : Type 0 where
 line-inputs : (x : Act) (xs : List Act) (rest : Text) → vector_line (suc (length xs)) ((x ∷ xs) ++ []) ++ rest ≡ codes "V { " ++ (codes "ins = " ++ run_text x xs (codes " }\n" ++ rest))
 unfolding vector_line
 line-inputs x xs rest =
-    ap (λ a. codes "V { " ++ ((form.assignment (codes "ins = ") a ++ (form.assignment (codes "; outs = ") (drop (suc (length xs)) ((x ∷ xs) ++ [])) ++ codes "; }\n")) ++ rest)) (take-append_seam (x ∷ xs) [])
-    ∙ ap (λ b. codes "V { " ++ ((form.assignment (codes "ins = ") (x ∷ xs) ++ (form.assignment (codes "; outs = ") b ++ codes "; }\n")) ++ rest)) (drop-append_seam (x ∷ xs) [])
+    ap (λ a. codes "V { " ++ ((form.assignment_text (codes "ins = ") a ++ (form.assignment_text (codes "; outs = ") (drop (suc (length xs)) ((x ∷ xs) ++ [])) ++ codes "; }\n")) ++ rest)) (take-append_seam (x ∷ xs) [])
+    ∙ ap (λ b. codes "V { " ++ ((form.assignment_text (codes "ins = ") (x ∷ xs) ++ (form.assignment_text (codes "; outs = ") b ++ codes "; }\n")) ++ rest)) (drop-append_seam (x ∷ xs) [])
     ∙ ap (λ t. codes "V { ins = " ++ t) (append_assoc (map letter (x ∷ xs)) (codes "; }\n") rest)
 
 line-both : (x : Act) (xs : List Act) (y : Act) (ys : List Act) (rest : Text)
     → vector_line (suc (length xs)) ((x ∷ xs) ++ (y ∷ ys)) ++ rest ≡ codes "V { " ++ (codes "ins = " ++ run_text x xs (codes " outs = " ++ run_text y ys (codes " }\n" ++ rest)))
 unfolding vector_line
 line-both x xs y ys rest =
-    ap (λ a. codes "V { " ++ ((form.assignment (codes "ins = ") a ++ (form.assignment (codes "; outs = ") (drop (suc (length xs)) ((x ∷ xs) ++ (y ∷ ys))) ++ codes "; }\n")) ++ rest)) (take-append_seam (x ∷ xs) (y ∷ ys))
-    ∙ ap (λ b. codes "V { " ++ ((form.assignment (codes "ins = ") (x ∷ xs) ++ (form.assignment (codes "; outs = ") b ++ codes "; }\n")) ++ rest)) (drop-append_seam (x ∷ xs) (y ∷ ys))
+    ap (λ a. codes "V { " ++ ((form.assignment_text (codes "ins = ") a ++ (form.assignment_text (codes "; outs = ") (drop (suc (length xs)) ((x ∷ xs) ++ (y ∷ ys))) ++ codes "; }\n")) ++ rest)) (take-append_seam (x ∷ xs) (y ∷ ys))
+    ∙ ap (λ b. codes "V { " ++ ((form.assignment_text (codes "ins = ") (x ∷ xs) ++ (form.assignment_text (codes "; outs = ") b ++ codes "; }\n")) ++ rest)) (drop-append_seam (x ∷ xs) (y ∷ ys))
     ∙ ap (λ t. codes "V { ins = " ++ t) (append_assoc (map letter (x ∷ xs)) (codes "; outs = " ++ (map letter (y ∷ ys) ++ codes "; }\n")) rest
     ∙ ap (λ t. map letter (x ∷ xs) ++ (codes "; outs = " ++ t)) (append_assoc (map letter (y ∷ ys)) (codes "; }\n") rest))
 
@@ -97,12 +97,12 @@ record Begun (acts : List Act) (count : ℕ) (rest : Text) : Type 0 where
 begun_at : (acts : List Act) (count : ℕ) (rest : Text) → Begun acts count rest
 unfolding vector_line
 begun_at acts count rest =
-    let behind : Text = (form.assignment (codes "ins = ") (take count acts) ++ (form.assignment (codes "; outs = ") (drop count acts) ++ codes "; }\n")) ++ rest in
+    let behind : Text = (form.assignment_text (codes "ins = ") (take count acts) ++ (form.assignment_text (codes "; outs = ") (drop count acts) ++ codes "; }\n")) ++ rest in
     record { l = ahead 4 behind; ts = token kind.OpenBrace (codes "{") (ahead 2 behind) ∷ cut_up false behind; at = cut_up-vector behind }
 
 vector_is_line : (acts : List Act) (count : ℕ) (rest : Text) → IsLine (vector_line count acts ++ rest)
 unfolding vector_line
-vector_is_line acts count rest = record { what = AVector; more = codes " { " ++ ((form.assignment (codes "ins = ") (take count acts) ++ (form.assignment (codes "; outs = ") (drop count acts) ++ codes "; }\n")) ++ rest); is = refl }
+vector_is_line acts count rest = record { what = AVector; more = codes " { " ++ ((form.assignment_text (codes "ins = ") (take count acts) ++ (form.assignment_text (codes "; outs = ") (drop count acts) ++ codes "; }\n")) ++ rest); is = refl }
 
 vector_some : (acts : List Act) (count : ℕ) → 0 < length (vector_line count acts)
 unfolding vector_line

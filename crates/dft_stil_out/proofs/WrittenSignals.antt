@@ -15,7 +15,7 @@ use Rattle.dft_stil_tokens.specs.declared.text.TokenKind.{TokenKind}
 use Rattle.dft_stil_tokens.specs.declared.text.TokenKind.TheVariants as kind
 use Rattle.dft_stil_tokens.specs.Lexemes.{Token}
 use Rattle.dft_stil_tokens.specs.Steps.{kind_of, bytes, left, next, sees, sees_word, sees_name, expect, after, keyword, name}
-use Rattle.dft_stil_text.specs.Namings.{Names, number_of, is_known, names_of_signals, direction, signal, signals_from, signals_block, with_new_signal}
+use Rattle.dft_stil_text.specs.SignalGroups.{Names, number_of, is_known, names_of_signals, direction, signal, signals_from, signals_block, with_new_signal}
 use Rattle.dft_stil_out.specs.Writable.{IsQuotable}
 use Rattle.dft_stil_out.specs.Written.{way, declaration}
 use Rattle.dft_stil_out.proofs.WrittenTokens.{cut_up, token, ahead, cut_up-name, cut_up-in, cut_up-out, cut_up-close}

@@ -18,14 +18,14 @@ use Rattle.dft_stil_tokens.specs.Lexemes.{Token, tokens}
 use Rattle.dft_patterns.specs.Patterns.{Patterns, IsWellFormed, IsSteady, is_input, input_count, inputs, outputs}
 use Rattle.dft_patterns.specs.Steadiness.{first_unsteady}
 use Rattle.dft_stil_tokens.specs.Steps.{Outcome, kind_of, bytes, left, next, sees, sees_word, sees_name, expect, after, after_word, keyword, name}
-use Rattle.dft_stil_text.specs.Namings.{Names, signals_block, group_blocks, name_if_any}
-use Rattle.dft_stil_text.specs.Timings.{Timing, Table, timing}
+use Rattle.dft_stil_text.specs.SignalGroups.{Names, signals_block, group_blocks, name_if_any}
+use Rattle.dft_stil_text.specs.WaveformTables.{Timing, Table, timing}
 use Rattle.dft_stil_text.specs.Statements.{Pattern, table_used, statement, statements_from}
-use Rattle.dft_stil_text.specs.PatternText.{version, header_if_any, Burst, listed_pattern, burst, known_name, used_timing, exec, executed, pattern, pattern_part, pattern_text, steady_or, tested, patterns_of}
+use Rattle.dft_stil_text.specs.PatternText.{version, header_if_any, Burst, listed_pattern, burst, known_name, used_timing, exec, executed, pattern, pattern_part, pattern_text, steady_or, tested, patterns_of, StandsFor}
 use Rattle.dft_stil_out.specs.Writable.{IsWritable}
 use Rattle.dft_stil_out.specs.Written.{declaration, input_waves, output_waves, middle, head, noted_lines, noted}
 use Rattle.dft_stil_out.specs.Written as form
-use Rattle.dft_stil_out.specs.Laws.{HasWrittenReading}
+use Rattle.dft_stil_out.specs.Laws.{ReadsBack}
 use Rattle.dft_patterns.proofs.SteadyLemmas.{some_is_unsteady}
 use Rattle.dft_stil_out.proofs.WrittenTokens.{cut_up, token, ahead, cut_up-start, cut_up-groups, cut_up-burst, cut_up-exec, cut_up-pattern}
 use Rattle.dft_stil_out.proofs.WrittenSignals.{AllNew, all_new, AllQuotable, all_quotable, alone, declarations_read}
@@ -63,7 +63,7 @@ text-at most first names t b p rest ts us vs ws xs ys e f g h i j = rw (e, f, g,
 
 -- all between declarations and burst, and what follows
 abbrev middle_text : List StilSignal → List StilSignal → Text → Text
-middle_text ins outs rest = codes "}" ++ (codes "\nSignalGroups {\n" ++ (form.group (codes "ins") ins ++ (form.group (codes "outs") outs ++ (codes "}" ++ timing_text (input_waves ins ++ (output_waves outs ++ (codes "}" ++ (codes "\n}\n}\n" ++ rest))))))))
+middle_text ins outs rest = codes "}" ++ (codes "\nSignalGroups {\n" ++ (form.group_line (codes "ins") ins ++ (form.group_line (codes "outs") outs ++ (codes "}" ++ timing_text (input_waves ins ++ (output_waves outs ++ (codes "}" ++ (codes "\n}\n}\n" ++ rest))))))))
 
 -- the burst, its execution and the head of the pattern, and what follows
 abbrev tail_text : Text → Text
@@ -72,8 +72,8 @@ tail_text rest = codes "PatternBurst b { PatList { p; } }\n" ++ (codes "PatternE
 middle-parts : (ins outs : List StilSignal) (rest : Text) → middle ins outs ++ rest ≡ middle_text ins outs (tail_text rest)
 unfolding middle
 middle-parts ins outs rest =
-    let g : Text = form.group (codes "ins") ins in
-    let h : Text = form.group (codes "outs") outs in
+    let g : Text = form.group_line (codes "ins") ins in
+    let h : Text = form.group_line (codes "outs") outs in
     let v : Text = input_waves ins in
     let w : Text = output_waves outs in
     let last : Text = codes "}\n}\n}\nPatternBurst b { PatList { p; } }\nPatternExec { PatternBurst b; }\nPattern p {\nW w;\n" in
@@ -162,7 +162,7 @@ text_read most ins outs lines p hi ho quotable new e =
     let then : Text = codes "PatternExec { PatternBurst b; }\n" ++ last in
     let tail : Text = tail_text lines in
     let tables : Text = timing_text (input_waves ins ++ (output_waves outs ++ (codes "}" ++ (codes "\n}\n}\n" ++ tail)))) in
-    let groups : Text = form.group (codes "ins") ins ++ (form.group (codes "outs") outs ++ (codes "}" ++ tables)) in
+    let groups : Text = form.group_line (codes "ins") ins ++ (form.group_line (codes "outs") outs ++ (codes "}" ++ tables)) in
     let block : Text = codes "\nSignalGroups {\n" ++ groups in
     let declared : Text = flat_map declaration (ins ++ outs) ++ (codes "}" ++ block) in
     ap (pattern_text most) (cut_up-start declared)
@@ -216,5 +216,10 @@ written_reads most p well writable room =
     ∙ ap (λ (o : Outcome Patterns). tested (value_of o)) (text_reads most (input_count ss) ins outs p (sym is) (sym (length-prefix_len (λ (s : StilSignal). is_input s.dir) ss)) (inputs_dir ss) (outputs_dir outs writable.ordered) quotable new full writable.some room)
     ∙ steady_told p well.steady
 
-pub written_stands : HasWrittenReading
-written_stands = written_reads MAX_VECTORS
+-- what is written stands for its patterns
+pub stands_written : (p : Patterns) → ReadsBack p (noted p)
+stands_written p well writable = written_reads (length p.vectors) p well writable (omega arith)
+
+-- the same, where the vectors are no more than a reader takes
+pub written_stands : (p : Patterns) → IsWellFormed p → IsWritable p → length p.vectors ≤ MAX_VECTORS → StandsFor (noted p) (record { signals = p.signals; vectors = p.vectors; notes = [] })
+written_stands p well writable few = stands_written p well writable

@@ -19,9 +19,9 @@ use Rattle.dft_patterns.specs.Drawings.{begins_shape}
 use Rattle.dft_patterns.specs.Times.{times_fit}
 use Rattle.dft_stil_out.specs.Letters as acts
 use Rattle.dft_stil_tokens.specs.Lexemes.{Token}
-use Rattle.dft_stil_tokens.specs.Steps.{kind_of, bytes, left, next, sees, sees_word, sees_name, expect, after, keyword, name, sees_run, character, letter, number_from, small_number, unit}
-use Rattle.dft_stil_text.specs.Namings.{Names, Members, elsewhere, name_if_any}
-use Rattle.dft_stil_text.specs.Timings.{Shapes, place_in, act_of, with_shape, is_given, Table, empty_table, drawn, dir_of, begin_all, time, event_letter, event, events_from, shape, shapes_from, wave, waves_from, table_body, table, tables_from, timing, Timing}
+use Rattle.dft_stil_tokens.specs.Steps.{kind_of, bytes, left, next, sees, sees_word, sees_name, expect, after, keyword, name, sees_run, one_character, one_letter, single, number_from, small_number, unit}
+use Rattle.dft_stil_text.specs.SignalGroups.{Names, Members, elsewhere, name_if_any}
+use Rattle.dft_stil_text.specs.WaveformTables.{Shapes, place_in, act_of, with_shape, is_given, Table, empty_table, drawn, dir_of, begin_all, time, event_letter, event, events_from, shape, shapes_from, wave, waves_from, table_body, table, tables_from, timing, Timing}
 use Rattle.dft_stil_out.specs.Written.{input_waves, output_waves}
 use Rattle.dft_stil_out.proofs.WrittenTokens.{cut_up, token, ahead, cut_up-timing, cut_up-input_waves, cut_up-output_waves, cut_up-close, cut_up-table_end}
 use Rattle.dft_stil_out.proofs.WrittenSignals.{left-token}
@@ -109,32 +109,32 @@ at letter time = record { letter = letter; time = time }
 
 shape-low : (names : Names) (signals : List ℕ) (t : Table) (rest : Text) (us : List Token) → is_given t.shapes signals 48 ≡ false → begin_all names signals (One (at 68 0)) ≡ true
     → shape names signals t (token kind.Number (codes "0") (ahead 67 rest) ∷ token kind.OpenBrace (codes "{") (ahead 65 rest) ∷ token kind.Quote (codes "'") (ahead 63 rest) ∷ token kind.Number (codes "0") (ahead 62 rest) ∷ token kind.Word (codes "ns") (ahead 61 rest) ∷ token kind.Quote (codes "'") (ahead 59 rest) ∷ token kind.Word (codes "D") (ahead 57 rest) ∷ token kind.Semicolon (codes ";") (ahead 56 rest) ∷ token kind.CloseBrace (codes "}") (ahead 54 rest) ∷ us) ≡ Ok (drawn signals 48 Low (One (at 68 0)) t, us)
-unfolding shape character sees_run sees_word sees_name sees kind_of bytes left next expect after keyword letter number_from small_number unit time event_letter event events_from
+unfolding shape one_character sees_run sees_word sees_name sees kind_of bytes left next expect after keyword one_letter single number_from small_number unit time event_letter event events_from
 shape-low names signals t rest us free b0 = rw (free, b0) refl
 
 shape-high : (names : Names) (signals : List ℕ) (t : Table) (rest : Text) (us : List Token) → is_given t.shapes signals 49 ≡ false → begin_all names signals (One (at 85 0)) ≡ true
     → shape names signals t (token kind.Number (codes "1") (ahead 52 rest) ∷ token kind.OpenBrace (codes "{") (ahead 50 rest) ∷ token kind.Quote (codes "'") (ahead 48 rest) ∷ token kind.Number (codes "0") (ahead 47 rest) ∷ token kind.Word (codes "ns") (ahead 46 rest) ∷ token kind.Quote (codes "'") (ahead 44 rest) ∷ token kind.Word (codes "U") (ahead 42 rest) ∷ token kind.Semicolon (codes ";") (ahead 41 rest) ∷ token kind.CloseBrace (codes "}") (ahead 39 rest) ∷ us) ≡ Ok (drawn signals 49 High (One (at 85 0)) t, us)
-unfolding shape character sees_run sees_word sees_name sees kind_of bytes left next expect after keyword letter number_from small_number unit time event_letter event events_from
+unfolding shape one_character sees_run sees_word sees_name sees kind_of bytes left next expect after keyword one_letter single number_from small_number unit time event_letter event events_from
 shape-high names signals t rest us free b0 = rw (free, b0) refl
 
 shape-pulse : (names : Names) (signals : List ℕ) (t : Table) (rest : Text) (us : List Token) → is_given t.shapes signals 80 ≡ false → begin_all names signals (One (at 68 0)) ≡ true → begin_all names signals (Two (at 68 0) (at 85 50000)) ≡ true → begin_all names signals (Three (at 68 0) (at 85 50000) (at 68 80000)) ≡ true
     → shape names signals t (token kind.Word (codes "P") (ahead 37 rest) ∷ token kind.OpenBrace (codes "{") (ahead 35 rest) ∷ token kind.Quote (codes "'") (ahead 33 rest) ∷ token kind.Number (codes "0") (ahead 32 rest) ∷ token kind.Word (codes "ns") (ahead 31 rest) ∷ token kind.Quote (codes "'") (ahead 29 rest) ∷ token kind.Word (codes "D") (ahead 27 rest) ∷ token kind.Semicolon (codes ";") (ahead 26 rest) ∷ token kind.Quote (codes "'") (ahead 24 rest) ∷ token kind.Number (codes "50") (ahead 23 rest) ∷ token kind.Word (codes "ns") (ahead 21 rest) ∷ token kind.Quote (codes "'") (ahead 19 rest) ∷ token kind.Word (codes "U") (ahead 17 rest) ∷ token kind.Semicolon (codes ";") (ahead 16 rest) ∷ token kind.Quote (codes "'") (ahead 14 rest) ∷ token kind.Number (codes "80") (ahead 13 rest) ∷ token kind.Word (codes "ns") (ahead 11 rest) ∷ token kind.Quote (codes "'") (ahead 9 rest) ∷ token kind.Word (codes "D") (ahead 7 rest) ∷ token kind.Semicolon (codes ";") (ahead 6 rest) ∷ token kind.CloseBrace (codes "}") (ahead 4 rest) ∷ us) ≡ Ok (drawn signals 80 Pulse (Three (at 68 0) (at 85 50000) (at 68 80000)) t, us)
-unfolding shape character sees_run sees_word sees_name sees kind_of bytes left next expect after keyword letter number_from small_number unit time event_letter event events_from
+unfolding shape one_character sees_run sees_word sees_name sees kind_of bytes left next expect after keyword one_letter single number_from small_number unit time event_letter event events_from
 shape-pulse names signals t rest us free b0 b1 b2 = rw (free, b0, b1, b2) refl
 
 shape-expect_low : (names : Names) (signals : List ℕ) (t : Table) (rest : Text) (us : List Token) → is_given t.shapes signals 76 ≡ false → begin_all names signals (One (at 88 0)) ≡ true → begin_all names signals (Two (at 88 0) (at 76 40000)) ≡ true
     → shape names signals t (token kind.Word (codes "L") (ahead 67 rest) ∷ token kind.OpenBrace (codes "{") (ahead 65 rest) ∷ token kind.Quote (codes "'") (ahead 63 rest) ∷ token kind.Number (codes "0") (ahead 62 rest) ∷ token kind.Word (codes "ns") (ahead 61 rest) ∷ token kind.Quote (codes "'") (ahead 59 rest) ∷ token kind.Word (codes "X") (ahead 57 rest) ∷ token kind.Semicolon (codes ";") (ahead 56 rest) ∷ token kind.Quote (codes "'") (ahead 54 rest) ∷ token kind.Number (codes "40") (ahead 53 rest) ∷ token kind.Word (codes "ns") (ahead 51 rest) ∷ token kind.Quote (codes "'") (ahead 49 rest) ∷ token kind.Word (codes "L") (ahead 47 rest) ∷ token kind.Semicolon (codes ";") (ahead 46 rest) ∷ token kind.CloseBrace (codes "}") (ahead 44 rest) ∷ us) ≡ Ok (drawn signals 76 ExpectLow (Two (at 88 0) (at 76 40000)) t, us)
-unfolding shape character sees_run sees_word sees_name sees kind_of bytes left next expect after keyword letter number_from small_number unit time event_letter event events_from
+unfolding shape one_character sees_run sees_word sees_name sees kind_of bytes left next expect after keyword one_letter single number_from small_number unit time event_letter event events_from
 shape-expect_low names signals t rest us free b0 b1 = rw (free, b0, b1) refl
 
 shape-expect_high : (names : Names) (signals : List ℕ) (t : Table) (rest : Text) (us : List Token) → is_given t.shapes signals 72 ≡ false → begin_all names signals (One (at 88 0)) ≡ true → begin_all names signals (Two (at 88 0) (at 72 40000)) ≡ true
     → shape names signals t (token kind.Word (codes "H") (ahead 42 rest) ∷ token kind.OpenBrace (codes "{") (ahead 40 rest) ∷ token kind.Quote (codes "'") (ahead 38 rest) ∷ token kind.Number (codes "0") (ahead 37 rest) ∷ token kind.Word (codes "ns") (ahead 36 rest) ∷ token kind.Quote (codes "'") (ahead 34 rest) ∷ token kind.Word (codes "X") (ahead 32 rest) ∷ token kind.Semicolon (codes ";") (ahead 31 rest) ∷ token kind.Quote (codes "'") (ahead 29 rest) ∷ token kind.Number (codes "40") (ahead 28 rest) ∷ token kind.Word (codes "ns") (ahead 26 rest) ∷ token kind.Quote (codes "'") (ahead 24 rest) ∷ token kind.Word (codes "H") (ahead 22 rest) ∷ token kind.Semicolon (codes ";") (ahead 21 rest) ∷ token kind.CloseBrace (codes "}") (ahead 19 rest) ∷ us) ≡ Ok (drawn signals 72 ExpectHigh (Two (at 88 0) (at 72 40000)) t, us)
-unfolding shape character sees_run sees_word sees_name sees kind_of bytes left next expect after keyword letter number_from small_number unit time event_letter event events_from
+unfolding shape one_character sees_run sees_word sees_name sees kind_of bytes left next expect after keyword one_letter single number_from small_number unit time event_letter event events_from
 shape-expect_high names signals t rest us free b0 b1 = rw (free, b0, b1) refl
 
 shape-ignore : (names : Names) (signals : List ℕ) (t : Table) (rest : Text) (us : List Token) → is_given t.shapes signals 88 ≡ false → begin_all names signals (One (at 88 0)) ≡ true
     → shape names signals t (token kind.Word (codes "X") (ahead 17 rest) ∷ token kind.OpenBrace (codes "{") (ahead 15 rest) ∷ token kind.Quote (codes "'") (ahead 13 rest) ∷ token kind.Number (codes "0") (ahead 12 rest) ∷ token kind.Word (codes "ns") (ahead 11 rest) ∷ token kind.Quote (codes "'") (ahead 9 rest) ∷ token kind.Word (codes "X") (ahead 7 rest) ∷ token kind.Semicolon (codes ";") (ahead 6 rest) ∷ token kind.CloseBrace (codes "}") (ahead 4 rest) ∷ us) ≡ Ok (drawn signals 88 Ignore (One (at 88 0)) t, us)
-unfolding shape character sees_run sees_word sees_name sees kind_of bytes left next expect after keyword letter number_from small_number unit time event_letter event events_from
+unfolding shape one_character sees_run sees_word sees_name sees kind_of bytes left next expect after keyword one_letter single number_from small_number unit time event_letter event events_from
 shape-ignore names signals t rest us free b0 = rw (free, b0) refl
 
 shapes_from-more : (k : ℕ) (names : Names) (signals : List ℕ) (t new : Table) (kd : TokenKind) (word : Text) (l : ℕ) (ts us : List Token) → sees kind.CloseBrace (token kd word l ∷ ts) ≡ false → shape names signals t (token kd word l ∷ ts) ≡ Ok (new, us)

@@ -16,8 +16,8 @@ use Rattle.dft_patterns.specs.Acts.{IsActOf, IsTold}
 use Rattle.dft_stil_out.specs.Letters.{letter}
 use Rattle.dft_stil_tokens.specs.Lexemes.{Token}
 use Rattle.dft_stil_tokens.specs.Steps.{kind_of, bytes, left, next, sees, sees_word, sees_name, expect, after, keyword, name}
-use Rattle.dft_stil_text.specs.Namings.{Names, Members, elsewhere}
-use Rattle.dft_stil_text.specs.Timings.{Shapes, Tables}
+use Rattle.dft_stil_text.specs.SignalGroups.{Names, Members, elsewhere}
+use Rattle.dft_stil_text.specs.WaveformTables.{Shapes, Tables}
 use Rattle.dft_stil_text.specs.Statements.{Pattern, Filling, act_in, shapes_at, filled_by, sees_characters, run_of_characters, runs_from, characters, Vector, begun, is_told, with_told, assignment, assignments_from, vector}
 use Rattle.dft_stil_out.proofs.WrittenTokens.{cut_up, token, ahead, AllTold, run_kind, run_text, letter_passes, cut_up-run, cut_up-vector, cut_up-ins_set, cut_up-outs_set, cut_up-vector_end}
 use Rattle.dft_stil_out.proofs.WrittenSignals.{left-token}

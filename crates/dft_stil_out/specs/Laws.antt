@@ -1,6 +1,5 @@
 -- What the written form promises.
-use Rattle.std.specs.Prelude.{◌≡◌, ◌≤◌, ℕ, List, [], length}
-use Rattle.dft_stil_text.specs.declared.limits.TheConstants.{MAX_VECTORS}
+use Rattle.std.specs.Prelude.{◌≡◌, ℕ, List, []}
 use Rattle.dft_patterns.specs.Patterns.{Patterns, IsWellFormed}
 use Rattle.dft_stil_text.specs.PatternText.{StandsFor}
 use Rattle.dft_stil_out.specs.Writable.{IsWritable}
@@ -10,10 +9,6 @@ use Rattle.dft_stil_out.specs.Written.{noted, written}
 abbrev pub HasOneForm : Type 0
 HasOneForm = (p : Patterns) → p.notes ≡ [] → noted p ≡ written p
 
--- a text that is read as the signals and the vectors of these patterns, where they are well formed, can be written, and are no more than a text may have
+-- a text that stands for the signals and the vectors of these patterns, where they are well formed and can be written
 abbrev pub ReadsBack : Patterns → (text : List ℕ) → Type 0
-ReadsBack p text = IsWellFormed p → IsWritable p → length p.vectors ≤ MAX_VECTORS → StandsFor text (record { signals = p.signals; vectors = p.vectors; notes = [] })
-
--- what is written is read back
-abbrev pub HasWrittenReading : Type 0
-HasWrittenReading = (p : Patterns) → ReadsBack p (noted p)
+ReadsBack p text = IsWellFormed p → IsWritable p → StandsFor text (record { signals = p.signals; vectors = p.vectors; notes = [] })

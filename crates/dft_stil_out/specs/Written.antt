@@ -27,9 +27,9 @@ abbrev pub quoted : StilSignal → List ℕ
 quoted s = codes "\"" ++ (s.name ++ codes "\"")
 
 -- the line of a group, as `ins = '"clk"+"d"';`, and no line where it has no signal
-abbrev pub group : List ℕ → List StilSignal → List ℕ
-group label [] = []
-group label (s ∷ ss) = label ++ (codes " = '" ++ (join_with_byte 43 (map quoted (s ∷ ss)) ++ codes "';\n"))
+abbrev pub group_line : List ℕ → List StilSignal → List ℕ
+group_line label [] = []
+group_line label (s ∷ ss) = label ++ (codes " = '" ++ (join_with_byte 43 (map quoted (s ∷ ss)) ++ codes "';\n"))
 
 -- ---- timing
 
@@ -47,8 +47,8 @@ output_waves (s ∷ ss) = codes "outs { L { '0ns' X; '40ns' L; } H { '0ns' X; '4
 unfoldable pub middle : List StilSignal → List StilSignal → List ℕ
 middle ins outs = concat (
     codes "}\nSignalGroups {\n"
-    ∷ group (codes "ins") ins
-    ∷ group (codes "outs") outs
+    ∷ group_line (codes "ins") ins
+    ∷ group_line (codes "outs") outs
     ∷ codes "}\nTiming {\nWaveformTable w {\nPeriod '100ns';\nWaveforms {\n"
     ∷ input_waves ins
     ∷ output_waves outs
@@ -62,13 +62,13 @@ head signals = codes "STIL 1.0;\nSignals {\n" ++ (flat_map declaration signals +
 -- ---- vectors
 
 -- an assignment to a group, and none where it has no signal
-abbrev pub assignment : List ℕ → List Act → List ℕ
-assignment label [] = []
-assignment label (a ∷ more) = label ++ map letter (a ∷ more)
+abbrev pub assignment_text : List ℕ → List Act → List ℕ
+assignment_text label [] = []
+assignment_text label (a ∷ more) = label ++ map letter (a ∷ more)
 
 -- the line of a vector, as `V { ins = P1; outs = X; }`, with so many inputs
 unfoldable pub vector_line : ℕ → List Act → List ℕ
-vector_line count acts = codes "V { " ++ (assignment (codes "ins = ") (take count acts) ++ (assignment (codes "; outs = ") (drop count acts) ++ codes "; }\n"))
+vector_line count acts = codes "V { " ++ (assignment_text (codes "ins = ") (take count acts) ++ (assignment_text (codes "; outs = ") (drop count acts) ++ codes "; }\n"))
 
 -- ---- notes
 

@@ -29,7 +29,7 @@ fn add_others(out: &mut Vec<u8>, signals: &[StilSignal]) -> Result<(), AllocErro
 // The line of a group, if it has a signal.
 #[tactic(auto, using(crate::proofs::GroupLemmas::group_from_parts))]
 fn add_group(out: &mut Vec<u8>, label: &[u8], signals: &[StilSignal]) -> Result<(), AllocError>
-    ensures { OnOk result (out.new.items ≡ out.old.items ++ form.group label.now signals.now) }
+    ensures { OnOk result (out.new.items ≡ out.old.items ++ form.group_line label.now signals.now) }
 {
     match signals {
         [] => Ok(()),

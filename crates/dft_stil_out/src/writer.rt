@@ -61,7 +61,7 @@ fn add_letters(out: &mut Vec<u8>, acts: &[Act]) -> Result<(), AllocError>
 
 // An assignment, if there is an act.
 fn add_assignment(out: &mut Vec<u8>, label: &[u8], acts: &[Act]) -> Result<(), AllocError>
-    ensures { OnOk result (out.new.items ≡ out.old.items ++ form.assignment label.now acts.now) }
+    ensures { OnOk result (out.new.items ≡ out.old.items ++ form.assignment_text label.now acts.now) }
 {
     if acts.is_empty() {
         return Ok(());

@@ -6,7 +6,7 @@ use Rattle.dft_stil_tokens.specs.declared.text.Cause.{Cause}
 use Rattle.dft_stil_tokens.specs.declared.text.Fault.{Fault}
 use Rattle.dft_stil_tokens.specs.Lexemes.{Token}
 use Rattle.dft_stil_tokens.specs.Steps.{Rule, Outcome, needed}
-use Rattle.dft_stil_text.specs.Namings.{Members, given}
+use Rattle.dft_stil_text.specs.SignalGroups.{Members, given}
 
 -- each value that the outcome, or the rule, gives is such
 abbrev pub GivesOf : {A : Type 0} → (A → Type 0) → Outcome A → Type 0

@@ -5,4 +5,4 @@ pub mod WellNamed
 pub mod WellShaped
 pub mod WellFitted
 pub mod WellFormed
-pub mod OneReading
+pub mod LimitLemmas

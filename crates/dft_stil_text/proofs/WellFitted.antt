@@ -17,8 +17,8 @@ use Rattle.dft_stil_tokens.specs.declared.text.TokenKind.TheVariants as kind
 use Rattle.dft_patterns.specs.Acts.{IsActOf}
 use Rattle.dft_patterns.specs.Patterns.{IsVector}
 use Rattle.dft_stil_tokens.specs.Steps.{left, next, no_token, unsupported, bytes, sees, expect, eat, keyword, name, sees_word, sees_left_out, checked, needed, Rule}
-use Rattle.dft_stil_text.specs.Namings.{Names, Members, number_of, elsewhere}
-use Rattle.dft_stil_text.specs.Timings.{Shapes, Tables, dir_of}
+use Rattle.dft_stil_text.specs.SignalGroups.{Names, Members, number_of, elsewhere}
+use Rattle.dft_stil_text.specs.WaveformTables.{Shapes, Tables, dir_of}
 use Rattle.dft_stil_text.specs.Statements as spec
 use Rattle.dft_stil_text.specs.Statements.{run_of_characters, runs_from, characters, assignment, assignments_from, vector, table_used, labelled, statement, statements_from}
 use Rattle.dft_stil_text.proofs.GivenRules.{Gives, after_any, then_gives, pure_gives, refuse_gives, if_gives, if_of, ok_gives, err_gives, needed_gives, given_gives}

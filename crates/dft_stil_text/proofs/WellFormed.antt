@@ -10,8 +10,8 @@ use Rattle.dft_patterns.specs.Patterns.{Patterns, IsVector, IsWellFormed}
 use Rattle.dft_patterns.specs.Steadiness.{first_unsteady}
 use Rattle.dft_stil_tokens.specs.Lexemes.{tokens}
 use Rattle.dft_stil_tokens.specs.Steps.{Outcome, left, expect, keyword}
-use Rattle.dft_stil_text.specs.Namings.{Names, signals_block, group_blocks}
-use Rattle.dft_stil_text.specs.Timings.{Timing, timing}
+use Rattle.dft_stil_text.specs.SignalGroups.{Names, signals_block, group_blocks}
+use Rattle.dft_stil_text.specs.WaveformTables.{Timing, timing}
 use Rattle.dft_stil_text.specs.PatternText as spec
 use Rattle.dft_stil_text.specs.PatternText.{version, header_if_any, burst, exec, known_name, pattern, pattern_part, pattern_text, patterns_of}
 use Rattle.dft_stil_text.proofs.GivenRules.{Gives, GivesOf, after_any, then_gives, pure_gives}
@@ -75,3 +75,8 @@ unfolding patterns_of
 well_formed most text p e small =
     let f = value_fits most (pattern_text most (tokens text)) p (text_fits most (tokens text)) e in
     record { distinct = f.0.distinct; few = (let few = f.0.few in omega arith); fits = f.0.fits; steady = none_is_steady p f.1 }
+
+-- and it has no more vectors than its reader takes
+pub few_vectors : (most : ℕ) (text : Text) (p : Patterns) → patterns_of most text ≡ Ok p → length p.vectors ≤ most
+unfolding patterns_of
+few_vectors most text p e = (value_fits most (pattern_text most (tokens text)) p (text_fits most (tokens text)) e).0.few

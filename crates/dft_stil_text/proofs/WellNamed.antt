@@ -11,8 +11,8 @@ use Rattle.dft_base.specs.declared.dir.Dir.{Dir}
 use Rattle.dft_stil_tokens.specs.declared.text.TokenKind.TheVariants as kind
 use Rattle.dft_patterns.specs.declared.signal.StilSignal.{StilSignal}
 use Rattle.dft_stil_tokens.specs.Steps.{left, no_token, expect, eat, keyword, name}
-use Rattle.dft_stil_text.specs.Namings as spec
-use Rattle.dft_stil_text.specs.Namings.{direction, signal, signals_from, signals_block, members, group, groups_from, name_if_any, group_block, group_blocks_from, group_blocks}
+use Rattle.dft_stil_text.specs.SignalGroups as spec
+use Rattle.dft_stil_text.specs.SignalGroups.{direction, signal, signals_from, signals_block, members, group, groups_from, name_if_any, group_block, group_blocks_from, group_blocks}
 use Rattle.dft_stil_text.proofs.GivenRules.{Gives, after_any, then_gives, pure_gives, refuse_gives, if_gives, needed_gives}
 use Rattle.dft_stil_text.proofs.KnownNameLemmas.{position_none, position_map}
 

@@ -1,7 +1,7 @@
 -- The acts of a table are of their signals' directions.
-use Rattle.std.proofs.Common.{◌≡◌, ◌≢◌, ℕ, zero, suc, ◌<◌, ◌≤◌, ◌*◌, Bool, true, false, cond, true≢false, ◌||◌, ◌&&◌, ◌==◌, List, [], ◌∷◌, replicate, length, get_or, slice_set, get_or-set_same, get_or-set_other, All, Option, Some, None, is_some, Ok, Err, inl, inr, ◌⊎◌, refl, sym, ap, subst, ◌∙◌, arith}
+use Rattle.std.proofs.Common.{◌≡◌, ◌≢◌, ℕ, zero, suc, ◌<◌, ◌≤◌, ◌*◌, Bool, true, false, cond, true≢false, ◌||◌, ◌&&◌, ◌==◌, List, [], ◌∷◌, replicate, length, get_or, slice_set, get_or-set_same, get_or-set_other, All, Option, Some, None, is_some, inl, inr, ◌⊎◌, refl, sym, ap, subst, ◌∙◌, ◌+◌, take, arith}
 use Rattle.std.specs.Prelude.{slice_index, unwrap_or}
-use Rattle.std.specs.List.{list_all}
+use Rattle.std.specs.List.{prefix_len}
 use Rattle.std.specs.Char.{is_ascii_alphanumeric}
 use Rattle.std.proofs.lemmas.Bool.{cases_lt}
 use Rattle.std.proofs.lemmas.Bool.Decides.{nat_tests}
@@ -17,11 +17,11 @@ use Rattle.dft_patterns.specs.declared.shapes.Drawing.{Drawing}
 use Rattle.dft_patterns.specs.declared.shapes.Drawing.TheVariants.{Begun, One, Two, Three, Many}
 use Rattle.dft_stil_tokens.specs.declared.text.TokenKind.TheVariants as kind
 use Rattle.dft_patterns.specs.Acts.{IsActOf}
-use Rattle.dft_stil_tokens.specs.Steps.{left, next, no_token, unsupported, bytes, sees, sees_run, character, expect, eat, keyword, letter, name}
-use Rattle.dft_stil_text.specs.Namings.{Names, name_if_any}
+use Rattle.dft_stil_tokens.specs.Steps.{left, next, no_token, bytes, sees, run, sees_run, one_character, single, expect, eat, keyword, one_letter, name}
+use Rattle.dft_stil_text.specs.SignalGroups.{Names, name_if_any}
 use Rattle.dft_patterns.specs.Drawings.{is, begins_shape, extended, act_of_event, act_of_events, act_drawn}
-use Rattle.dft_stil_text.specs.Timings as spec
-use Rattle.dft_stil_text.specs.Timings.{place_in, act_of, with_shape, dir_of, begin_all, time, event_letter, event, events_from, shape, shapes_from, wave, waves_from, table_body, table, tables_from, timing}
+use Rattle.dft_stil_text.specs.WaveformTables as spec
+use Rattle.dft_stil_text.specs.WaveformTables.{place_in, act_of, with_shape, dir_of, begin_all, time, event_letter, event, events_from, shape, shapes_from, wave, waves_from, table_body, table, tables_from, timing}
 use Rattle.dft_stil_text.proofs.GivenRules.{Gives, after_any, then_gives, pure_gives, refuse_gives, if_gives, if_of, ok_gives, err_gives, needed_gives, given_gives}
 
 abbrev act_or : Act → Option Act → Act
@@ -124,17 +124,21 @@ shape_fits' names (n ∷ signals) c a d shapes h e small f =
 
 -- ---- characters and events
 
-first_small : (bs : Text) → list_all is_ascii_alphanumeric bs ≡ true → slice_index bs 0 < 256
-first_small [] h = omega arith
-first_small (b ∷ bs) h = let one : is_ascii_alphanumeric b ≡ true = both_left (is_ascii_alphanumeric b) (list_all is_ascii_alphanumeric bs) h in grind (arith, nat_tests)
+-- the first byte of a run is small
+first_small : (bs : Text) → slice_index (take (prefix_len is_ascii_alphanumeric bs) bs) 0 < 256
+first_small [] = omega arith
+first_small (b ∷ bs) = one (is_ascii_alphanumeric b) refl where
+  one : (t : Bool) → is_ascii_alphanumeric b ≡ t → slice_index (take (cond t (1 + prefix_len is_ascii_alphanumeric bs) 0) (b ∷ bs)) 0 < 256
+  one true e = let more : 1 + prefix_len is_ascii_alphanumeric bs ≡ suc (prefix_len is_ascii_alphanumeric bs) = omega arith in rw more (grind (arith, nat_tests))
+  one false e = omega arith
 
 abbrev Small : ℕ → Type 0
 Small c = c < 256
 
-pub character_small : Gives Small character
-unfolding character sees_run
+pub character_small : Gives Small one_character
+unfolding one_character
 character_small ts =
-    if_of Small (sees_run ts) _ _ (λ run. if_of Small (length (bytes ts) == 1) _ _ (λ _. ok_gives Small (slice_index (bytes ts) 0) (next ts) (first_small (bytes ts) (both_right _ _ run))) (λ _. err_gives Small _)) (λ _. err_gives Small _)
+    if_of Small (sees_run ts) _ _ (λ _. if_of Small (length (run ts) == 1) _ _ (λ _. ok_gives Small (slice_index (run ts) 0) ts (first_small (bytes ts))) (λ _. err_gives Small _)) (λ _. err_gives Small _)
 
 -- a drawing that begins a shape of each signal
 abbrev Begins : Names → List ℕ → Drawing → Type 0
@@ -143,9 +147,8 @@ Begins names signals d = begin_all names signals d ≡ true
 letter_begins : (names : Names) (signals : List ℕ) (d : Drawing) (at : ℕ) → Gives (Begins names signals) (event_letter names signals d at)
 unfolding event_letter
 letter_begins names signals d at ts =
-    after_any (Begins names signals) letter _ (λ l.
-    let more : Drawing = extended d (record { letter = l; time = at }) in
-    if_gives (Begins names signals) (begin_all names signals more) (λ us. Ok (more, us)) (λ us. Err (unsupported ts)) (λ h. pure_gives (Begins names signals) more h) (λ _. refuse_gives (Begins names signals) (λ us. unsupported ts))) ts
+    after_any (Begins names signals) one_letter _ (λ l. needed_gives (Begins names signals) _ _ _ _ (λ h. after_any (Begins names signals) single _ (λ u.
+    pure_gives (Begins names signals) (extended d (spec.event_at l at)) h))) ts
 
 event_begins : (names : Names) (signals : List ℕ) (d : Drawing) → Gives (Begins names signals) (event names signals d)
 unfolding event
@@ -180,9 +183,9 @@ TableFits names t = Fit names t.shapes
 shape_fits : (names : Names) (signals : List ℕ) (t : spec.Table) → TableFits names t → Gives (TableFits names) (shape names signals t)
 unfolding shape
 shape_fits names signals t f ts =
-    then_gives Small (TableFits names) character _ character_small (λ c small. needed_gives (TableFits names) _ _ _ _ (λ fresh. after_any (TableFits names) (expect kind.OpenBrace) _ (λ u.
+    then_gives Small (TableFits names) one_character _ character_small (λ c small. needed_gives (TableFits names) _ _ _ _ (λ fresh. after_any (TableFits names) single _ (λ v. after_any (TableFits names) (expect kind.OpenBrace) _ (λ u.
     then_gives (Whole names signals) (TableFits names) _ _ (λ us. events_whole (left us) names signals Begun (inl refl) us)
-    (λ d w. pure_gives (TableFits names) (spec.drawn signals c (act_drawn d) d t) (shape_fits' names signals c (act_drawn d) d t.shapes w.0 (some_or (act_of_events d) w.1) small f))))) ts
+    (λ d w. pure_gives (TableFits names) (spec.drawn signals c (act_drawn d) d t) (shape_fits' names signals c (act_drawn d) d t.shapes w.0 (some_or (act_of_events d) w.1) small f)))))) ts
 
 shapes_fit : (n : ℕ) (names : Names) (signals : List ℕ) (t : spec.Table) → TableFits names t → Gives (TableFits names) (shapes_from n names signals t)
 unfolding shapes_from

@@ -9,11 +9,10 @@ use Rattle.dft_stil_tokens.specs.declared.text.Cause.TheVariants as cause
 use Rattle.dft_stil_tokens.specs.declared.text.Fault.{Fault}
 use Rattle.dft_patterns.specs.declared.act.Act.TheVariants as act
 use Rattle.dft_patterns.specs.declared.steadiness.Unsteady.{Unsteady}
-use Rattle.dft_stil_text.specs.declared.limits.TheConstants.{MAX_VECTORS}
 use Rattle.dft_stil_tokens.specs.Lexemes.{tokens}
 use Rattle.dft_stil_tokens.specs.Steps.{Rule, kind_of, bytes, left, next, sees, refuse, mark_refusal, expect, eat_word, keyword, name, needed, fault}
-use Rattle.dft_stil_text.specs.Namings.{Names, signals_block, group_blocks, name_if_any}
-use Rattle.dft_stil_text.specs.Timings.{Timing, timing}
+use Rattle.dft_stil_text.specs.SignalGroups.{Names, signals_block, group_blocks, name_if_any}
+use Rattle.dft_stil_text.specs.WaveformTables.{Timing, timing}
 use Rattle.dft_stil_text.specs.Statements.{Pattern, statements_from}
 use Rattle.dft_patterns.specs.Patterns.{Patterns}
 use Rattle.dft_patterns.specs.Steadiness.{first_unsteady}
@@ -193,10 +192,10 @@ abbrev pub tested : Result Patterns Fault → Result Patterns Refusal
 tested (Ok p) = steady_or p (first_unsteady p)
 tested (Err f) = Err (At f)
 
--- The patterns of a text, with so many vectors at most; or why it is refused. Pulses are tested behind the whole text.
+-- What a reader gives that takes so many vectors at most: the patterns of a text, or why it is refused. Pulses are tested behind the whole text.
 unfoldable pub patterns_of : (most : ℕ) → Text → Result Patterns Refusal
 patterns_of most text = tested (value_of (pattern_text most (tokens text)))
 
--- The text stands for these patterns. There may be 4194304 vectors at most.
+-- The text stands for these patterns, however many vectors they have: it is read as them where there may be so many.
 abbrev pub StandsFor : Text → Patterns → Type 0
-StandsFor text p = patterns_of MAX_VECTORS text ≡ Ok p
+StandsFor text p = patterns_of (length p.vectors) text ≡ Ok p

@@ -10,8 +10,8 @@ use Rattle.dft_stil_tokens.specs.declared.text.Fault.{Fault}
 use Rattle.dft_patterns.specs.declared.act.Act.{Act}
 use Rattle.dft_stil_tokens.specs.Lexemes.{Token}
 use Rattle.dft_stil_tokens.specs.Steps.{Rule, bytes, left, next, sees, sees_word, sees_left_out, refuse, no_token, unsupported, expect, eat, keyword, name, needed, fault, checked}
-use Rattle.dft_stil_text.specs.Namings.{Names, Members, number_of, given, elsewhere, has}
-use Rattle.dft_stil_text.specs.Timings.{Shapes, Tables, act_of}
+use Rattle.dft_stil_text.specs.SignalGroups.{Names, Members, number_of, given, elsewhere, has}
+use Rattle.dft_stil_text.specs.WaveformTables.{Shapes, Tables, act_of}
 
 -- A pattern so far: the table of the last `W`, by number, the acts of the last vector, and the vectors.
 pub record Pattern : Type 0 where

@@ -4,5 +4,5 @@
 mod laws;
 mod limits;
 
-pub use laws::{one_reading, well_formed};
+pub use laws::{one_reading, read_within, well_formed};
 pub use limits::MAX_VECTORS;

@@ -1,32 +1,29 @@
--- A character that was read is a name.
-use Rattle.std.proofs.Common.{◌≡◌, ℕ, ◌==◌, Bool, true, false, cond, List, [], ◌∷◌, length, Ok, Err, refl, ap, ◌∙◌, subst, arith}
+-- A run of letters and digits is a name, and so is one of them alone.
+use Rattle.std.proofs.Common.{◌≡◌, ℕ, ◌<◌, ◌≤◌, true, nat_lt, [], ◌∷◌, length, length-take, take, sym, subst, arith}
 use Rattle.std.specs.Prelude.{slice_index}
+use Rattle.std.specs.List.{prefix_len}
+use Rattle.std.specs.Char.{is_ascii_alphanumeric}
 use Rattle.std.proofs.lemmas.Bool.Decides.{nat_tests}
+use Rattle.std.proofs.lemmas.List.{get_or-take}
 use Rattle.dft_base.specs.Lexing.{Text}
 use Rattle.dft_base.specs.Name.{IsName}
-use Rattle.dft_stil_tokens.specs.declared.text.Fault.{Fault}
-use Rattle.dft_stil_tokens.specs.Lexemes.{Token}
-use Rattle.dft_stil_tokens.specs.Steps.{Outcome, bytes, sees_run, character}
 
-first_alone : (word : Text) → length word ≡ 1 → IsName word → IsName (slice_index word 0 ∷ [])
-first_alone [] e n = absurd (omega arith)
-first_alone (b ∷ []) e n = n
-first_alone (b ∷ c ∷ word) e n = absurd (omega arith)
+-- the begin of a name is one
+part_named : (word : Text) (n : ℕ) → IsName word → 0 < length (take n word) → IsName (take n word)
+part_named word n named some = record {
+  some = some;
+  each = (λ k d below.
+      let inside : k < n = omega (arith, length-take n word) in
+      subst (λ (b : ℕ). (33 ≤ b) × (b ≤ 126)) (sym (get_or-take n word k d inside)) (named.each k d (omega (arith, length-take n word))));
+}
 
--- the value of an outcome, if it has one
-abbrev value_or : ℕ → Outcome ℕ → ℕ
-value_or d (Ok p) = p.0
-value_or d (Err f) = d
+pub run_named : (word : Text) → IsName word → nat_lt 0 (length (take (prefix_len is_ascii_alphanumeric word) word)) ≡ true
+    → IsName (take (prefix_len is_ascii_alphanumeric word) word)
+run_named word named some = part_named word (prefix_len is_ascii_alphanumeric word) named (grind (arith, nat_tests))
 
--- what the rule gave is the first of one byte
-only_one : (run one : Bool) (x b : ℕ) (f g : Fault) (ts us : List Token) (o : Outcome ℕ) → cond run (cond one (Ok (x, ts)) (Err f)) (Err g) ≡ o → o ≡ Ok (b, us) → (one ≡ true) × (x ≡ b)
-only_one true true x b f g ts us o e h = (refl, ap (value_or x) (e ∙ h))
-only_one true false x b f g ts us o e h = absurd (cc)
-only_one false one x b f g ts us o e h = absurd (cc)
+pub first_alone : (word : Text) → IsName word → length word ≡ 1 → IsName (slice_index word 0 ∷ [])
+first_alone [] n e = absurd (omega arith)
+first_alone (b ∷ []) n e = n
+first_alone (b ∷ c ∷ word) n e = absurd (omega arith)
 
-pub character_named : (ts us : List Token) (b : ℕ) → character ts ≡ Ok (b, us) → IsName (bytes ts) → IsName (b ∷ [])
-unfolding character
-character_named ts us b e n =
-    let found = only_one (sees_run ts) (length (bytes ts) == 1) _ b _ _ _ us _ refl e in
-    let alone : length (bytes ts) ≡ 1 = (let one = found.0 in grind (arith, nat_tests)) in
-    subst (λ (x : ℕ). IsName (x ∷ [])) found.1 (first_alone (bytes ts) alone n)
+pub ruleset characters_are_names = (first_alone)

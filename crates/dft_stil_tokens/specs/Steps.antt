@@ -1,6 +1,6 @@
 -- The steps of the rules of pattern texts. A rule looks at the next token; the first token that no rule takes is refused.
-use Rattle.std.specs.Prelude.{ℕ, ◌+◌, ◌*◌, ◌-◌, Bool, true, false, ◌&&◌, ◌||◌, ◌==◌, nat_lt, nat_le, codes, List, [], ◌∷◌, length, if◌then◌else◌, slice_index, Ok, Err}
-use Rattle.std.specs.List.{list_all, list_any}
+use Rattle.std.specs.Prelude.{ℕ, ◌+◌, ◌*◌, ◌-◌, Bool, true, false, ◌&&◌, ◌||◌, ◌==◌, nat_lt, nat_le, codes, List, [], ◌∷◌, length, take, if◌then◌else◌, slice_index, Ok, Err}
+use Rattle.std.specs.List.{list_any, prefix_len}
 use Rattle.std.specs.Char.{is_ascii_alphabetic, is_ascii_alphanumeric}
 use Rattle.std.specs.Str.{bytes_eq}
 use denote.Enum.Bare.{sameb}
@@ -144,18 +144,26 @@ checked (Err f) = λ ts. Err f
 
 -- ---- characters
 
--- whether a run of letters and digits comes next
+-- the letters and digits that the next token begins with, whatever byte follows them
+abbrev pub run : List Token → Text
+run ts = take (prefix_len is_ascii_alphanumeric (bytes ts)) (bytes ts)
+
+-- whether such a run comes next, without quotes
 unfoldable pub sees_run : List Token → Bool
-sees_run ts = (sees kind.Word ts || sees kind.Number ts) && list_all is_ascii_alphanumeric (bytes ts)
+sees_run ts = (sees kind.Word ts || sees kind.Number ts) && nat_lt 0 (length (run ts))
 
--- takes one letter or digit; a run of more is left out by the profile
-unfoldable pub character : Rule ℕ
-character = λ ts.
-    if sees_run ts then (if length (bytes ts) == 1 then Ok (slice_index (bytes ts) 0, next ts) else Err (unsupported ts)) else refuse ts
+-- the one letter or digit that comes next, which is not taken yet; a run of more is left out by the profile
+unfoldable pub one_character : Rule ℕ
+one_character = λ ts.
+    if sees_run ts then (if length (run ts) == 1 then Ok (slice_index (run ts) 0, ts) else Err (fault (cause.Unsupported (run ts)) (left ts))) else refuse ts
 
--- takes one letter; a run of more letters or digits is left out by the profile
-unfoldable pub letter : Rule ℕ
-letter = λ ts. if sees_run ts && (nat_lt 1 (length (bytes ts)) || is_ascii_alphabetic (slice_index (bytes ts) 0)) then character ts else refuse ts
+-- the one letter that comes next, which is not taken yet; a run of more letters or digits is left out by the profile
+unfoldable pub one_letter : Rule ℕ
+one_letter = λ ts. if sees_run ts && (nat_lt 1 (length (run ts)) || is_ascii_alphabetic (slice_index (run ts) 0)) then one_character ts else refuse ts
+
+-- takes the letter or digit that comes next; what follows it in its token, as `_`, `.` or `[`, fits no rule
+unfoldable pub single : Rule Text
+single = λ ts. if length (bytes ts) == 1 then Ok (bytes ts, next ts) else Err (fault cause.Token (left ts - 1))
 
 -- ---- times
 

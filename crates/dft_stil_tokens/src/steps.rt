@@ -1,15 +1,17 @@
 //! Steps of the rules of pattern texts: keywords, names, characters and times (IEEE 1450-1999).
 
-ghost use Rattle.std.specs.Prelude.{true, ◌≡◌, ◌≤◌, ◌<◌, ◌+◌, ◌-◌, ◌*◌, ◌||◌, nat_lt, length, slice_index, IfOk};
-ghost use Rattle.std.specs.List.{list_all, list_any};
+ghost use Rattle.std.specs.Prelude.{true, ◌≡◌, ◌≤◌, ◌<◌, ◌+◌, ◌-◌, ◌*◌, ◌||◌, ◌∷◌, [], nat_lt, length, slice_index, IfOk};
+ghost use Rattle.std.specs.List.{list_any, prefix_len};
 ghost use Rattle.std.specs.Str.{bytes_eq};
 ghost use Rattle.std.specs.Char.{is_ascii_alphabetic, is_ascii_alphanumeric};
 ghost use Rattle.dft_base.specs.Name.{IsName};
 ghost use Rattle.dft_stil_tokens.specs.Steps as spec;
+ghost use Rattle.dft_stil_tokens.specs.declared.text.TokenKind.TheVariants as kind;
 ghost use Rattle.dft_stil_tokens.specs.Reading.{ReadsText, Faults};
 
+use crate::faults::fault_at;
 use crate::read_error::ReadError;
-use crate::text::TokenKind;
+use crate::text::{Cause, TokenKind};
 use crate::tokens::Tokens;
 
 // The words that the profile leaves out, in their order.
@@ -48,11 +50,15 @@ fn is_capital(byte: u8) -> bool
     65 <= byte && byte <= 90
 }
 
-// Whether these bytes are letters and digits.
-fn is_run(bytes: &[u8]) -> bool
-    ensures { result ≡ list_all is_ascii_alphanumeric bytes.now }
+// How many letters and digits these bytes begin with.
+fn run_len(bytes: &[u8]) -> usize
+    ensures value { result ≡ prefix_len is_ascii_alphanumeric bytes.now }
+    ensures within { result ≤ length bytes.now }
 {
-    bytes.iter().all(|byte| byte.is_ascii_alphanumeric())
+    bytes
+        .iter()
+        .take_while(|byte| byte.is_ascii_alphanumeric())
+        .count()
 }
 
 // The value behind one digit more; a value that is too large stays.
@@ -190,41 +196,70 @@ impl<'a> Tokens<'a> {
         }
     }
 
-    #[tactic(auto, unfolding(crate::specs::Steps::sees_run))]
-    // Whether a run of letters and digits comes next.
-    fn sees_run(&self) -> bool
-        ensures value { result ≡ spec.sees_run self.now }
-        ensures name { result ≡ true → IsName (spec.bytes self.now) }
+    // The letters and digits that the next token begins with.
+    fn run(&self) -> &'a [u8]
+        ensures { result.now ≡ spec.run self.now }
     {
-        (self.sees(TokenKind::Word) || self.sees(TokenKind::Number)) && is_run(self.bytes())
+        let bytes = self.bytes();
+        &bytes[..run_len(bytes)]
     }
 
-    #[tactic(auto, unfolding(crate::specs::Steps::character))]
-    /// Takes one letter or digit; the profile leaves out a run of more.
-    pub fn character(&mut self) -> Result<u8, ReadError>
-        ensures read { ReadsText (λ b. b) (spec.character self.old) result self.new }
-        ensures name { IfOk result (λ _. IsName (spec.bytes self.old)) }
+    // Whether a word or a number comes next, without quotes.
+    fn sees_plain(&self) -> bool
+        ensures value { result ≡ (spec.sees kind.Word self.now || spec.sees kind.Number self.now) }
+        ensures name { result ≡ true → IsName (spec.bytes self.now) }
+    {
+        self.sees(TokenKind::Word) || self.sees(TokenKind::Number)
+    }
+
+    #[tactic(auto, unfolding(crate::specs::Steps::sees_run))]
+    // Whether a run of letters and digits comes next, without quotes.
+    fn sees_run(&self) -> bool
+        ensures value { result ≡ spec.sees_run self.now }
+        ensures name { result ≡ true → IsName (spec.run self.now) }
+    {
+        self.sees_plain() && 0 < self.run().len()
+    }
+
+    #[tactic(auto, using(crate::proofs::CharacterNames::characters_are_names), unfolding(crate::specs::Steps::one_character))]
+    /// The one letter or digit that comes next, which is not taken yet; the profile leaves out a run of more.
+    pub fn character(&self) -> Result<u8, ReadError>
+        ensures read { ReadsText (λ b. b) (spec.one_character self.now) result self.now }
+        ensures name { IfOk result (λ b. IsName (b ∷ [])) }
     {
         if !self.sees_run() {
             return Err(self.no_token());
         }
-        if self.bytes().len() == 1 {
-            Ok(first_of(self.take()))
+        let run = self.run();
+        if run.len() == 1 {
+            Ok(first_of(run))
         } else {
-            Err(self.unsupported())
+            Err(self.unsupported_word(run))
         }
     }
 
-    #[tactic(auto, unfolding(crate::specs::Steps::letter))]
-    /// Takes one letter; the profile leaves out a run of more letters or digits.
-    pub fn letter(&mut self) -> Result<u8, ReadError>
-        ensures read { ReadsText (λ b. b) (spec.letter self.old) result self.new }
-        ensures name { IfOk result (λ _. IsName (spec.bytes self.old)) }
+    #[tactic(auto, unfolding(crate::specs::Steps::one_letter))]
+    /// The one letter that comes next, which is not taken yet; the profile leaves out a run of more letters or digits.
+    pub fn letter(&self) -> Result<u8, ReadError>
+        ensures read { ReadsText (λ b. b) (spec.one_letter self.now) result self.now }
+        ensures name { IfOk result (λ b. IsName (b ∷ [])) }
     {
-        if self.sees_run() && is_letter_or_long(self.bytes()) {
+        if self.sees_run() && is_letter_or_long(self.run()) {
             self.character()
         } else {
             Err(self.no_token())
+        }
+    }
+
+    #[tactic(auto, unfolding(crate::specs::Steps::single))]
+    /// Takes the letter or digit that comes next. What follows it in its token, as `_`, `.` or `[`, fits no rule.
+    pub fn single(&mut self) -> Result<&'a [u8], ReadError>
+        ensures { ReadsText (λ bytes. bytes.now) (spec.single self.old) result self.new }
+    {
+        if self.bytes().len() == 1 {
+            Ok(self.take())
+        } else {
+            Err(fault_at(Cause::Token, self.left().saturating_sub(1)))
         }
     }
 

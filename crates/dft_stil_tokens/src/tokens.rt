@@ -6,14 +6,15 @@ ghost use Rattle.dft_base.specs.Name.{IsName};
 ghost use Rattle.dft_stil_tokens.specs.Lexemes as lexical;
 ghost use Rattle.dft_stil_tokens.specs.Steps as spec;
 ghost use Rattle.dft_stil_tokens.specs.declared.text.TokenKind.TheVariants as kinds;
+ghost use Rattle.dft_stil_tokens.specs.declared.text.Cause.TheVariants as causes;
 ghost use Rattle.dft_stil_tokens.specs.Cut.{carries_name};
 ghost use Rattle.dft_stil_tokens.specs.Reading.{ReadsText, Faults};
 
 use crate::blanks::{MAX_TEXT, blank_len};
+use crate::faults::unsupported_at;
 use crate::lexeme::{Lexeme, cut};
 use crate::read_error::ReadError;
 use crate::text::{Cause, Fault, TokenKind};
-use dft_base::Name;
 use std::alloc::Global;
 use std::marker::Model;
 
@@ -175,14 +176,19 @@ impl<'a> Tokens<'a> {
         self.fault(Cause::Token)
     }
 
+    /// That the profile leaves out this word, with which the next token begins.
+    pub fn unsupported_word(&self, word: &[u8]) -> ReadError
+        requires { IsName word.now }
+        ensures { Faults (spec.fault (causes.Unsupported word.now) (spec.left self.now)) result }
+    {
+        unsupported_at(self.alloc, word, self.left())
+    }
+
     /// That the profile leaves out the next token.
     pub fn unsupported(&self) -> ReadError
         requires { IsName (spec.bytes self.now) }
         ensures { Faults (spec.unsupported self.now) result }
     {
-        match Name::from_slice(self.alloc, self.bytes()) {
-            Ok(word) => self.fault(Cause::Unsupported(word)),
-            Err(error) => ReadError::Memory(error),
-        }
+        self.unsupported_word(self.bytes())
     }
 }

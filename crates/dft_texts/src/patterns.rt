@@ -23,7 +23,7 @@ const GROUPS: &str =
     "STIL 1.0;Signals{c In;d In;q Out;}SignalGroups{c='d+c';k='c';h='c+d';r='d+c+d';}Timing{WaveformTable w{Period'9ns';Waveforms{c{0{'0ns'D;}1{'0ns'U;}}}}}PatternBurst b{PatList{p;}}PatternExec{PatternBurst b;}Pattern p{W w;\n";
 
 // How a text begins, how it goes on, and what it reads as.
-static LINES: [(&str, &str, &str); 79] = [
+static LINES: [(&str, &str, &str); 92] = [
     ("", "", "P1 1:1"),
     ("", "STIL 1.1;", "P1 1:6"),
     ("", "STIL 1.0;\nLoop", "P2 2:1 Loop"),
@@ -145,6 +145,19 @@ static LINES: [(&str, &str, &str); 79] = [
         "c{1{'50ns'U;}}d{P{'0ns'D;'50ns'U;'80ns'D;}}q{X{'90ns'X;}}}}",
         "P8 2:59",
     ),
+    (SHAPES, "c{ab_c{", "P2 2:3 ab"),
+    (SHAPES, "c{Loop[1]{", "P2 2:3 Loop"),
+    (SHAPES, "c{a_b{", "P1 2:4"),
+    (SHAPES, "c{0_{", "P1 2:4"),
+    (SHAPES, "c{1.0{", "P1 2:4"),
+    (SHAPES, "c{a[0]{", "P1 2:4"),
+    (SHAPES, "c{_a{", "P1 2:3"),
+    (SHAPES, "c{10.5{", "P2 2:3 10"),
+    (SHAPES, "c{a{'0ns'D;}a_{", "P9 2:13 a"),
+    (SHAPES, "c{a{'0ns'DU_;", "P2 2:10 DU"),
+    (SHAPES, "c{a{'0ns'D[0];", "P1 2:11"),
+    (SHAPES, "c{a{'0ns'L[0];", "P2 2:10 L"),
+    (SHAPES, "c{a{'0ns'5_;", "P1 2:10"),
     (VECTORS, "Stop;", "P2 2:1 Stop"),
     (VECTORS, "V{Loop=0;", "P3 2:3 Loop"),
     (VECTORS, "\"Loop\":V{}}", "ok ---"),

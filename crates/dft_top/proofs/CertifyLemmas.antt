@@ -8,6 +8,7 @@ use Rattle.dft_stitch.specs.Plans.{Plan}
 use Rattle.dft_cubes.specs.declared.cube.Cube.{Cube}
 use Rattle.dft_merge.specs.Rows.{cell_row}
 use Rattle.dft_load_laws.specs.Loading.{AreRows, rows_of}
+use Rattle.dft_encode.proofs.OneLemmas.{equations_one}
 use Rattle.dft_report.specs.declared.report.Report.{Report}
 use Rattle.dft_certify.specs.declared.error.CertifyError.{CertifyError}
 use Rattle.dft_certify.specs.declared.error.CertifyError.TheVariants as certify
@@ -17,7 +18,6 @@ use Rattle.dft_top.specs.declared.outcome.Outcome.{Outcome}
 use Rattle.dft_top.specs.declared.outcome.Outcome.TheVariants.{Certified, Refused}
 use Rattle.dft_top.specs.Refusals as refusals
 use Rattle.dft_top.specs.Outcomes.{IsOutcomeOfReport, IsOutcomeOfTest, IsRefusal}
-use Rattle.dft_top.proofs.CompiledOnce.{equations_one}
 
 -- the first test that a report fails, over these chains
 abbrev pub first_test : Netlist → Config → Plan → LoadRows → List Cube → Report → Option CertifyError

@@ -1,5 +1,5 @@
 -- What a compilation of cubes comes to.
-use Rattle.std.proofs.Common.{◌≡◌, List, length, Option, None, Some, refl, sym, ◌∙◌, subst, ℕ}
+use Rattle.std.proofs.Common.{◌≡◌, List, length, Option, None, Some, Ok, refl, sym, ◌∙◌, subst, ℕ}
 use Rattle.dft_config.specs.declared.config.Config.{Config}
 use Rattle.dft_netlist.specs.Drivers.{IsOrdered}
 use Rattle.dft_netlist.specs.Netlist.{Netlist}
@@ -10,6 +10,10 @@ use Rattle.dft_scan_hardware.specs.Statements.{scanned}
 use Rattle.dft_cubes.specs.declared.cube.Cube.{Cube}
 use Rattle.dft_cubes.specs.declared.cube.Merged.{Merged}
 use Rattle.dft_equations.specs.LoadRows.{LoadRows}
+use Rattle.dft_merge.specs.declared.placed.Placed.{Placed}
+use Rattle.dft_load_laws.specs.Loading.{rows_of}
+use Rattle.dft_report_in.specs.Reading.{report_of}
+use Rattle.dft_compile.specs.Reports.{compile_report}
 use Rattle.dft_vectors.specs.PatternData.{PatternData}
 use Rattle.dft_encode.specs.Compiled.{ArePatterns, Placing}
 use Rattle.dft_compile.specs.declared.error.CompileError.{CompileError}
@@ -69,6 +73,8 @@ compiled_is n config cubes t is reads =
       are = is.texts.are;
       is = λ i. Compiled (counts i) (netlist i) (patterns i) (report i);
       reads = subst (λ (text : List ℕ). StandsFor n.library text (scanned Edt n config)) netlist reads;
+      few = is.texts.few;
+      told = is.told;
     } in
     (is.placing, subst (λ (r : Option CompileError). IsOutcomeOfPlacing n config cubes is.placing r o) (sym is.texts.accepted) compiled)
 
@@ -94,6 +100,14 @@ texts_one n config cubes p q list more same lists =
     let rows = same.rows in
     let placed = same.placed in
     λ i. Compiled (counts_of n config (placed i) (lists i)) (netlist_text n config) (pattern_text n config (lists i)) (report_text n config (rows i) cubes (placed i))
+
+-- the text of its report is read as the report
+abbrev IsRead : (n : Netlist) (config : Config) (cubes : List Cube) → LoadRows → List Placed → Type 0
+IsRead n config cubes rows placed = report_of (report_text n config rows cubes placed) ≡ Ok (compile_report n config (rows_of n config rows) cubes placed)
+
+told_of : (n : Netlist) (config : Config) (cubes : List Cube) (p q : Placing config (plan_of n config) cubes) → SamePlacing config (plan_of n config) cubes p q → IsRead n config cubes q.rows q.placed → IsRead n config cubes p.rows p.placed
+told_of n config cubes p q same told =
+    subst (λ (placed : List Placed). IsRead n config cubes p.rows placed) (sym same.placed) (subst (λ (rows : LoadRows). IsRead n config cubes rows q.placed) (sym same.rows) told)
 
 -- ---- one outcome
 
@@ -125,4 +139,6 @@ compiled_due n config cubes placing o none x =
       are = patterns_of n config cubes placing x.0 y.list same y.are;
       is = y.is ∙ sym (texts_one n config cubes placing x.0 y.list y.list same refl);
       reads = y.reads;
+      few = y.few;
+      told = told_of n config cubes placing x.0 same y.told;
     }

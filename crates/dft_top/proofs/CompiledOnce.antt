@@ -1,15 +1,13 @@
 -- A compilation is one: cubes have one placement over the load equations, and a placement has one list of patterns.
-use Rattle.std.proofs.Common.{ℕ, zero, suc, ◌≡◌, ◌<◌, Bool, List, [], ◌∷◌, length, map, Some, refl, sym, ap, ◌∙◌, subst, arith}
+use Rattle.std.proofs.Common.{ℕ, zero, suc, ◌≡◌, Bool, List, [], ◌∷◌, length, map, Some, refl, sym, ap, ◌∙◌, subst, arith}
 use Rattle.std.specs.Prelude.{slice_get, option_map}
-use Rattle.std.specs.List.{slice_index}
-use Rattle.std.proofs.lemmas.List.{ext_get_or, length-map}
+use Rattle.std.proofs.lemmas.List.{length-map}
 use Rattle.std.proofs.lemmas.Option.{same_Some, slice_get-map}
 use Rattle.dft_base.specs.Solutions.{IsChosen, bit_at}
 use Rattle.dft_netlist.specs.Drivers.{IsOrdered}
 use Rattle.dft_netlist.specs.Netlist.{Netlist}
 use Rattle.dft_config.specs.declared.config.Config.{Config}
-use Rattle.dft_config.specs.declared.config.RingConfig.{RingConfig}
-use Rattle.dft_equations.specs.LoadRows.{AreLoadEquations, AreRowsOf, LoadRows, rows_of}
+use Rattle.dft_equations.specs.LoadRows.{LoadRows}
 use Rattle.dft_gf2.proofs.OneChosen.{chosen_one}
 use Rattle.dft_stitch.specs.Plans.{Plan}
 use Rattle.dft_cubes.specs.declared.cube.Cube.{Cube}
@@ -24,20 +22,8 @@ use Rattle.dft_merge.specs.Placement.{PlacesAll, equations_of}
 use Rattle.dft_merge.specs.Rows.{cell_row}
 use Rattle.dft_merge.proofs.OneLemmas.{placement_one}
 use Rattle.dft_vectors.specs.PatternData.{PatternData, load_of}
+use Rattle.dft_encode.proofs.OneLemmas.{equations_one}
 use Rattle.dft_encode.specs.Compiled.{ArePatterns, IsPattern, Placing, merged_of}
-
--- ---- load equations
-
-rows_same : (ring : RingConfig) (cycles chain places : ℕ) (a b : List (List Bool)) → AreRowsOf ring cycles chain places a → AreRowsOf ring cycles chain places b → a ≡ b
-rows_same ring cycles chain places a b x y =
-    ext_get_or [] a b (x.count ∙ sym y.count) (λ k less. let within : k < places = subst (λ (m : ℕ). k < m) x.count less in x.each k within ∙ sym (y.each k within))
-
-pub equations_one : (ring : RingConfig) (lengths : List ℕ) (cycles : ℕ) (a b : LoadRows) → AreLoadEquations ring lengths cycles a → AreLoadEquations ring lengths cycles b → a ≡ b
-equations_one ring lengths cycles a b x y =
-    let columns : a.columns ≡ b.columns = x.columns ∙ sym y.columns in
-    let chains : a.chains ≡ b.chains = ext_get_or [] a.chains b.chains (x.chains ∙ sym y.chains) (λ k less.
-    let within : k < length lengths = subst (λ (m : ℕ). k < m) x.chains less in rows_same ring cycles k (slice_index lengths k) (rows_of a k) (rows_of b k) (x.each k within) (y.each k within)) in
-    λ i. record { columns = columns i; chains = chains i }
 
 -- ---- the placement
 

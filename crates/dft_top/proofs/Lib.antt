@@ -12,3 +12,5 @@ pub mod OneOutcome
 pub mod PassingFiles
 pub mod Promised
 pub mod Kept
+pub mod JobReplays
+pub mod Completed

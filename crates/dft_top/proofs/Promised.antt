@@ -235,6 +235,8 @@ compiles hold files old new o done h saved =
       others = λ name a b e. left.others name
           (differ files.out_netlist name (λ q. a (sym q)), (differ files.out_patterns name (λ q. b (sym q)), (differ files.out_report name (λ q. e (sym q)), tt)));
       reads = m.reads;
+      stands = m.holds.reads m.is.few;
+      told = m.is.told;
       keeps = keeps_design Edt n c m.ready;
       adds = adds_in_order Edt n c;
       agrees = agrees_off Edt n c m.ready;

@@ -1,5 +1,5 @@
 -- A file gives one value or one refusal at most.
-use Rattle.std.proofs.Common.{ℕ, ◌≡◌, ◌⊎◌, inl, inr, List, codes, refl, sym, ap, ◌∙◌, arith, Option, None, Some, Result, Ok, Err, subst}
+use Rattle.std.proofs.Common.{ℕ, ◌≡◌, ◌⊎◌, inl, inr, List, length, codes, refl, sym, ap, ◌∙◌, arith, Option, None, Some, Result, Ok, Err, subst}
 use Rattle.dft_files.specs.Outside.{Held, file_at}
 use Rattle.dft_cells.specs.Data.{Members}
 use Rattle.dft_cells.specs.Text.{IsTable, IsNoTable}
@@ -37,6 +37,7 @@ use Rattle.dft_compile.specs.Prepared.{IsPrepared}
 use Rattle.dft_compile.specs.Refusals.{first_refusal as design_refusal}
 use Rattle.dft_stil_text.specs.PatternText.{patterns_of}
 use Rattle.dft_stil_text.specs.PatternText as PatternText
+use Rattle.dft_stil_text.proofs.LimitLemmas.{kept_within, one_set}
 use Rattle.dft_stil.specs.Refusals as StilRefusals
 use Rattle.dft_stil.specs.Refusals.{IsFirstRefusal}
 use Rattle.dft_stil_text.specs.declared.limits.TheConstants.{MAX_VECTORS}
@@ -51,7 +52,7 @@ use Rattle.dft_top.specs.declared.outcome.Outcome.{Outcome}
 use Rattle.dft_top.specs.declared.outcome.Outcome.TheVariants.{Refused}
 use Rattle.dft_top.specs.declared.limits.TheConstants.{MAX_LIBRARY_BYTES}
 use Rattle.dft_top.specs.Refusals.{compile_refusal, config_refusal, cube_refusal, library_refusal, read_refusal, stil_refusal, verilog_refusal}
-use Rattle.dft_top.specs.Checks.{ConfigText, CubeText, DesignGives, FileGives, IsPlanned, LibraryGives, LibraryText, NetlistText, PatternText, PlanGives, ReportText, Then, plan_refusal}
+use Rattle.dft_top.specs.Checks.{ArePatternsOf, ConfigText, CubeText, DesignGives, FileGives, IsPlanned, LibraryGives, LibraryText, NetlistText, PatternText, PlanGives, ReportText, Then, plan_refusal}
 use Rattle.dft_top.proofs.NetlistRefusals.{IsReason, reason_one, finished_or_refused}
 
 err_same : {A E : Type 0} (r : Result A E) (a b : E) → r ≡ Err a → r ≡ Err b → a ≡ b
@@ -245,10 +246,10 @@ netlist_text_one cells text (Err a) (Err b) x y = ap Err (told_one _ _ a b (ap v
 -- ---- the patterns
 
 pub patterns_one : (text : List ℕ) (p q : Patterns) → PatternText.StandsFor text p → PatternText.StandsFor text q → p ≡ q
-patterns_one text p q x y = let e : Ok p ≡ Ok q = sym x ∙ y in cc
+patterns_one text p q x y = one_set text p q x y
 
-patterns_or_refused : (text : List ℕ) (p : Patterns) (error : StilError) → PatternText.StandsFor text p → IsFirstRefusal text error → ⊥
-patterns_or_refused text p error x y = let e : Ok p ≡ Err y.refusal = sym x ∙ y.first in cc
+patterns_or_refused : (text : List ℕ) (p : Patterns) (error : StilError) → ArePatternsOf text p → IsFirstRefusal text error → ⊥
+patterns_or_refused text p error x y = let e : Ok p ≡ Err y.refusal = sym (kept_within (length p.vectors) MAX_VECTORS text p x.stands x.few) ∙ y.first in cc
 
 stil_one : (text : List ℕ) (a b : StilError) → IsFirstRefusal text a → IsFirstRefusal text b → a ≡ b
 stil_one text a b x y = x.told ∙ ap (StilRefusals.told_of text) (err_same (patterns_of MAX_VECTORS text) x.refusal y.refusal x.first y.first) ∙ sym y.told
@@ -266,8 +267,8 @@ first_refusal text (stil.Memory error) refusal refused is = absurd cc
 
 pub pattern_text_one : (text : List ℕ) (r s : Result Patterns Refusal) → PatternText text r → PatternText text s → r ≡ s
 pattern_text_one text (Ok a) (Ok b) x y = ap Ok (patterns_one text a b x.stands y.stands)
-pattern_text_one text (Ok p) (Err refusal) x y = absurd (patterns_or_refused text p y.0 x.stands (first_refusal text y.0 refusal y.1.0 y.1.1))
-pattern_text_one text (Err refusal) (Ok p) x y = absurd (patterns_or_refused text p x.0 y.stands (first_refusal text x.0 refusal x.1.0 x.1.1))
+pattern_text_one text (Ok p) (Err refusal) x y = absurd (patterns_or_refused text p y.0 x (first_refusal text y.0 refusal y.1.0 y.1.1))
+pattern_text_one text (Err refusal) (Ok p) x y = absurd (patterns_or_refused text p x.0 y (first_refusal text x.0 refusal x.1.0 x.1.1))
 pattern_text_one text (Err a) (Err b) x y = ap Err (told_one _ _ a b (ap stil_refusal (stil_one text x.0 y.0 (first_refusal text x.0 a x.1.0 x.1.1) (first_refusal text y.0 b y.1.0 y.1.1))) x.1.1 y.1.1)
 
 -- ---- the design of a compilation

@@ -20,6 +20,7 @@ use Rattle.dft_verilog.specs.Refusals as verilog
 use Rattle.dft_stil.specs.declared.error.StilError.{StilError}
 use Rattle.dft_patterns.specs.Patterns.{Patterns, IsWellFormed}
 use Rattle.dft_stil_text.specs.PatternText as pattern
+use Rattle.dft_stil_text.specs.declared.limits.TheConstants.{MAX_VECTORS}
 use Rattle.dft_stil.specs.Refusals as stil
 use Rattle.dft_cubes.specs.declared.cube.Cube.{Cube}
 use Rattle.dft_cubes.specs.declared.error.CubeError.{CubeError}
@@ -106,9 +107,10 @@ NetlistGives cells name held r = FileGives MAX_NETLIST_BYTES (codes "netlist") (
 
 -- ---- the patterns
 
--- the patterns that a text stands for, which are well formed
+-- the patterns that a text stands for, which are no more than a reader takes and are well formed
 pub record ArePatternsOf (text : List ℕ) (p : Patterns) : Type 0 where
   pub stands : pattern.StandsFor text p
+  pub few : length p.vectors ≤ MAX_VECTORS
   pub well_formed : IsWellFormed p
 
 abbrev pub PatternText : (text : List ℕ) → Result Patterns Refusal → Type 0

@@ -1,5 +1,5 @@
 -- What a command comes to, from its words and the files that are held.
-use Rattle.std.specs.Prelude.{ℕ, ◌≡◌, List, [], ◌∷◌, codes, length, Option, None, Some, slice_get}
+use Rattle.std.specs.Prelude.{ℕ, ◌<◌, ◌^◌, ◌≡◌, List, [], ◌∷◌, codes, length, Option, None, Some, Ok, slice_get}
 use Rattle.dft_files.specs.Outside.{Held}
 use Rattle.dft_config.specs.declared.config.Config.{Config}
 use Rattle.dft_scan_frame.specs.Statements.{IsReady}
@@ -23,6 +23,8 @@ use Rattle.dft_encode.specs.Compiled.{Placing, ArePatterns}
 use Rattle.dft_compile.specs.declared.error.CompileError.{CompileError}
 use Rattle.dft_compile.specs.Refusals.{late_refusal}
 use Rattle.dft_compile.specs.Texts as compiled
+use Rattle.dft_compile.specs.Reports.{compile_report}
+use Rattle.dft_report_in.specs.Reading.{report_of}
 use Rattle.dft_compile.specs.declared.texts.Counts.{Counts}
 use Rattle.dft_equations.specs.LoadRows.{LoadRows}
 use Rattle.dft_load_laws.specs.Loading.{AreRows, rows_of}
@@ -102,13 +104,15 @@ course_of_scan files =
 -- ---- a compilation
 
 -- The cubes are compiled: the patterns are those of their placement, and the outcome has the written forms of the scanned netlist, of the
--- patterns and of the report. The netlist's text stands for it.
+-- patterns and of the report. The netlist's text stands for it, the patterns' vectors can be counted, and the report's text is read as the report.
 pub record IsCompiled (n : Netlist) (config : Config) (cubes : List Cube) (placing : Placing config (plan_of n config) cubes) (o : Outcome) : Type 0 where
   pub list : List PatternData
   pub are : ArePatterns n config (plan_of n config) placing.rows placing.merged list
   pub is : o ≡ Compiled (compiled.counts_of n config placing.placed list) (compiled.netlist_text n config) (compiled.pattern_text n config list)
       (compiled.report_text n config placing.rows cubes placing.placed)
   pub reads : StandsFor n.library (compiled.netlist_text n config) (scanned Edt n config)
+  pub few : length (compiled.pattern_set n config list).vectors < 2 ^ 32
+  pub told : report_of (compiled.report_text n config placing.rows cubes placing.placed) ≡ Ok (compile_report n config (rows_of n config placing.rows) cubes placing.placed)
 
 -- the first check that fails on the placed cubes is refused: the length of the patterns, that of the report; and else they are compiled
 abbrev pub IsOutcomeOfPlacing : (n : Netlist) (config : Config) (cubes : List Cube) → Placing config (plan_of n config) cubes → Option CompileError → Outcome → Type 0

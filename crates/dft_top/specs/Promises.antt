@@ -26,7 +26,11 @@ use Rattle.dft_cubes.specs.declared.cube.Cube.{Cube}
 use Rattle.dft_vectors.specs.PatternData.{PatternData}
 use Rattle.dft_encode.specs.Compiled.{ArePatterns, Placing}
 use Rattle.dft_compile.specs.Texts as compiled
-use Rattle.dft_compile_laws.specs.Holding.{HoldsOf}
+use Rattle.dft_compile.specs.Reports.{compile_report}
+use Rattle.dft_compile_laws.specs.Holding.{HoldsOf, without_notes}
+use Rattle.dft_pass_laws.specs.Passing.{set_of}
+use Rattle.dft_report_in.specs.Reading.{report_of}
+use Rattle.dft_stil_text.specs.PatternText as pattern
 use Rattle.dft_config.specs.Ring.{Table}
 use Rattle.dft_equations.specs.LoadRows.{LoadRows}
 use Rattle.dft_load_laws.specs.Loading.{AreRows, LoadsOnce, rows_of as load_rows}
@@ -80,8 +84,8 @@ pub record Scans (files : ScanFiles) (old new : Held) : Type 0 where
 -- ---- a compilation
 
 -- The netlist, the configuration and the cubes are those of the held texts, over the cells of the library, and the checks pass. The cubes are
--- placed, and the scanned netlist, the patterns of the placement and its report are saved; no other file is changed. The netlist's text that
--- is saved stands for the scanned netlist, which keeps the design, behaves as it while scan is off, and loads and unloads every table in
+-- placed, and the scanned netlist, the patterns of the placement and its report are saved; no other file is changed. The patterns' text that is saved
+-- stands for them, and the report's is read as the report; the netlist's text stands for the scanned netlist, which keeps the design, behaves as it while scan is off, and loads and unloads every table in
 -- every run. The patterns pass on it, and in every run each cube that is reported encoded is loaded; a cube is reported unsolvable exactly
 -- where no table of channel bits loads it in any run.
 pub record Compiles (files : CompileFiles) (old new : Held) : Type 0 where
@@ -104,6 +108,8 @@ pub record Compiles (files : CompileFiles) (old new : Held) : Type 0 where
   pub out_report : file_at files.out_report new ≡ Some (compiled.report_text netlist config placing.rows cubes placing.placed)
   pub others : (name : List ℕ) → (name ≡ files.out_netlist → ⊥) → (name ≡ files.out_patterns → ⊥) → (name ≡ files.out_report → ⊥) → file_at name new ≡ file_at name old
   pub reads : StandsFor cells (compiled.netlist_text netlist config) (scanned Edt netlist config)
+  pub stands : pattern.StandsFor (compiled.pattern_text netlist config list) (without_notes (set_of netlist config list))
+  pub told : report_of (compiled.report_text netlist config placing.rows cubes placing.placed) ≡ Ok (compile_report netlist config (load_rows netlist config placing.rows) cubes placing.placed)
   -- what holds of it
   pub keeps : IsKept Edt netlist config
   pub adds : IsAdded Edt netlist config

@@ -5,7 +5,7 @@ ghost use Rattle.dft_files.specs.Outside.{Rose, Told};
 ghost use Rattle.dft_words.specs.Named.{command_of};
 ghost use Rattle.dft_top.specs.Lines.{line_of};
 ghost use Rattle.dft_top.specs.Outcomes.{HasTurn, IsLoaded, IsSized};
-ghost use Rattle.dft_top.specs.Run.{Ends, EndsFor, IsDelivered, CertifiesTold, CompilesTold, IsOutcomeTold, KeepsFiles, PassesTold, Prints, ScansTold, seen};
+ghost use Rattle.dft_top.specs.Run.{Ends, EndsFor, IsDelivered, CertifiesTold, CompilesTold, CompletesTold, IsOutcomeTold, KeepsFiles, PassesTold, Prints, ScansTold, seen};
 ghost use Rattle.dft_top.specs.Saves.{CountsSaves, SavesApart, savings};
 ghost use Rattle.dft_top.specs.Stops.{ComesTo};
 
@@ -30,8 +30,11 @@ use std::alloc::Global;
 /// --config FILE --out FILE --report FILE` inserts scan chains into the netlist as the configuration says, and saves the
 /// scanned netlist and a report. `compile --netlist FILE --config FILE --cubes FILE --out-netlist FILE --out-patterns FILE
 /// --out-report FILE` inserts them behind compression hardware, and saves the scanned netlist, patterns that load the test
-/// cubes, and a report. All take `--library FILE` for the cells. Files are loaded in their turn, and each passes its checks
-/// before the next is loaded; all texts are made before the first is saved; and one line is printed.
+/// cubes, and a report. `certify --netlist FILE --config FILE --cubes FILE --report FILE` tests whether the sums that a report
+/// prints for cubes show that no channel bits load them. All these take `--library FILE` for the cells. `generate --seed N
+/// --size N` makes a job of its own, compiles it and replays what comes of it; it loads and saves nothing. Files are loaded
+/// in their turn, and each passes its checks before the next is loaded; all texts are made before the first is saved; and one
+/// line is printed, of a generated job two.
 ///
 /// A run ends in one of five ways. It answers what the words and the files come to, all is saved, and its line is put:
 /// Done, NotPassed, Refused with the first check that fails, or Usage. Or a load of a file whose turn came failed
@@ -42,7 +45,11 @@ use std::alloc::Global;
 /// bits, the order of clock edges and the free bits, shows each compared bit as printed. Where a scan does, the netlist
 /// that is saved keeps the design and behaves as it while scan is off, and its chains shift in every run. Where a compilation does, so
 /// does the netlist that is saved; the patterns that are saved pass on it, and every run over them loads each cube that is
-/// reported encoded; and a cube is reported unsolvable exactly where no channel bits load it in any run.
+/// reported encoded; and a cube is reported unsolvable exactly where no channel bits load it in any run. Where a test of
+/// certificates does, no channel bits load a cube that the report calls unsolvable, in any run of the scanned netlist.
+///
+/// Where files are told that pass all checks of a command, and no call of the outside fails, the command answers Done, and a
+/// replay Done exactly where the verdict is Pass. Want of memory is the one exception.
 pub fn run<F: Files, O: Sink>(alloc: Global, words: &[String], files: &mut F, out: &mut O) -> Answer
     ensures ends { Ends (map string_bytes words.entry.now)
         (seen (F.held files.old) (F.failed files.old) (F.read_faults files.old) (F.write_faults files.old) (O.told out.old) (O.faults out.old))
@@ -54,6 +61,10 @@ pub fn run<F: Files, O: Sink>(alloc: Global, words: &[String], files: &mut F, ou
     ensures scans { ScansTold (map string_bytes words.entry.now) (F.held files.old) (F.held files.new) result }
     ensures compiles { CompilesTold (map string_bytes words.entry.now) (F.held files.old) (F.held files.new) result }
     ensures certifies { CertifiesTold (map string_bytes words.entry.now) (F.held files.old) result }
+    ensures completes { CompletesTold (map string_bytes words.entry.now)
+        (seen (F.held files.old) (F.failed files.old) (F.read_faults files.old) (F.write_faults files.old) (O.told out.old) (O.faults out.old))
+        (seen (F.held files.new) (F.failed files.new) (F.read_faults files.new) (F.write_faults files.new) (O.told out.new) (O.faults out.new))
+        result }
 {
     compilations_hold();
     reports_are_certified();

@@ -6,4 +6,4 @@ use Rattle.dft_certify.proofs.sums.take_sums.Given as goal
 
 abbrev pub invariant-loop-line : goal.invariant-loop-line
 invariant-loop-line l =
-    sums_refusal l.sums.design.now l.sums.ring.now (rows_in l.sums) l.cells l.before.items l.number (drop l.line-index l.lines) ≡ sums_refusal l.sums.design.now l.sums.ring.now (rows_in l.sums) l.cells [] l.first l.lines
+    sums_refusal l.sums.design.now l.sums.ring.now (rows_in l.sums) l.cells l.before l.number (drop l.line-index l.lines) ≡ sums_refusal l.sums.design.now l.sums.ring.now (rows_in l.sums) l.cells [] l.first l.lines

@@ -1,14 +1,13 @@
 -- The cubes are placed, and the texts are made of that.
-use Rattle.std.proofs.Common.{◌∙◌, List, ap, arith, length, subst, sym}
+use Rattle.std.proofs.Common.{◌∙◌, ap, arith, length, subst, sym}
 use Rattle.std.proofs.lemmas.Result.{IfErr-weaker, IfOk-weaker}
-use Rattle.dft_merge.specs.declared.placed.Placed.{Placed}
 use Rattle.dft_merge.specs.Merging.{Merging, columns_in, rows_in}
-use Rattle.dft_merge.specs.Placement.{PlacesAll}
 use Rattle.dft_merge.specs.Rows.{StandApart}
 use Rattle.dft_stitch.specs.Plans.{Plan}
 use Rattle.dft_compile.specs.Compilation.{AreTextsOf, IsCompileOf}
 use Rattle.dft_compile.specs.Refusals.{IsLate, IsRefusal, late_refusal}
-use Rattle.dft_compile.proofs.WorkLemmas.{compiled_of, placed_count, refused_of}
+use Rattle.dft_compile.proofs.TellingLemmas.{told_of}
+use Rattle.dft_compile.proofs.WorkLemmas.{compiled_of, placed_by, placed_count, refused_of}
 use Rattle.dft_compile.proofs.compiling.compile.Goals as goal
 
 pub new-requires-clause-apart : goal.new-requires-clause-apart
@@ -37,24 +36,17 @@ pub returns-clause-compile : goal.returns-clause-compile
 returns-clause-compile c =
     let n = c.args.design.now in
     let config = c.args.config.now in
-    let cubes = c.args.cubes.now in
-    let m = c.in_ok-merger.merger in
-    let rows = c.in_ok-equations.equations in
-    let placed = c.deref.result.now in
-    let merged = c.place_all.new.merger.patterns in
-    let places : PlacesAll (columns_in m) (rows_in m) m.window m.patterns cubes placed merged = subst (λ (ps : List Placed). PlacesAll (columns_in m) (rows_in m) m.window m.patterns cubes ps merged) (sym c.deref.ensures.value) c.in_ok-placed.ensures.placed in
-    IfOk-weaker c.texts.result (AreTextsOf n config cubes rows placed merged) (IsCompileOf n config cubes)
-    (λ t h. compiled_of n config cubes c.args.prepared.now.chains rows m placed merged t c.requires.prepared.chains c.in_ok-equations.ensures c.in_ok-merger.ensures places h) c.texts.ensures.texts
+    let told = told_of n config c.args.cubes.now c.requires.range c.requires.prepared.fits (c.plans_stand_apart.ensures n config c.requires.range) c.can_be_told.ensures c.requires.cubes c.requires.cells in
+    let p = placed_by c.args.design.now c.args.config.now c.args.cubes.now c.args.prepared.now.chains c.in_ok-equations.equations c.in_ok-merger.merger c.in_ok-placed.placed.items c.deref.result.now c.place_all.new.merger.patterns c.requires.prepared.chains
+    c.in_ok-equations.ensures c.in_ok-merger.ensures c.deref.ensures.value c.in_ok-placed.ensures.placed in
+    IfOk-weaker c.texts.result (AreTextsOf n config c.args.cubes.now c.in_ok-equations.equations c.deref.result.now c.place_all.new.merger.patterns) (IsCompileOf n config c.args.cubes.now)
+    (λ t h. compiled_of n config c.args.cubes.now c.in_ok-equations.equations c.deref.result.now c.place_all.new.merger.patterns t p told h) c.texts.ensures.texts
 
 pub returns-clause-refused : goal.returns-clause-refused
 returns-clause-refused c =
     let n = c.args.design.now in
     let config = c.args.config.now in
-    let cubes = c.args.cubes.now in
-    let m = c.in_ok-merger.merger in
-    let rows = c.in_ok-equations.equations in
-    let placed = c.deref.result.now in
-    let merged = c.place_all.new.merger.patterns in
-    let places : PlacesAll (columns_in m) (rows_in m) m.window m.patterns cubes placed merged = subst (λ (ps : List Placed). PlacesAll (columns_in m) (rows_in m) m.window m.patterns cubes ps merged) (sym c.deref.ensures.value) c.in_ok-placed.ensures.placed in
-    IfErr-weaker c.texts.result (IsRefusal (late_refusal n config cubes rows placed (length merged))) (IsLate n config cubes)
-    (λ e h. refused_of n config cubes c.args.prepared.now.chains rows m placed merged e c.requires.prepared.chains c.in_ok-equations.ensures c.in_ok-merger.ensures places h) c.texts.ensures.refused
+    let p = placed_by c.args.design.now c.args.config.now c.args.cubes.now c.args.prepared.now.chains c.in_ok-equations.equations c.in_ok-merger.merger c.in_ok-placed.placed.items c.deref.result.now c.place_all.new.merger.patterns c.requires.prepared.chains
+    c.in_ok-equations.ensures c.in_ok-merger.ensures c.deref.ensures.value c.in_ok-placed.ensures.placed in
+    IfErr-weaker c.texts.result (IsRefusal (late_refusal n config c.args.cubes.now c.in_ok-equations.equations c.deref.result.now (length c.place_all.new.merger.patterns))) (IsLate n config c.args.cubes.now)
+    (λ e h. refused_of n config c.args.cubes.now c.in_ok-equations.equations c.deref.result.now c.place_all.new.merger.patterns e p h) c.texts.ensures.refused

@@ -1,3 +1,6 @@
+use Rattle.std.proofs.Common.{refl}
+use Rattle.dft_top.proofs.Completed.{completes_for, completes_short}
+use Rattle.dft_top.proofs.JobReplays.{jobs_pass}
 use Rattle.dft_top.proofs.Kept.{kept_for}
 use Rattle.dft_top.proofs.Promised.{certifies_for, compiles_for, passes_for, scans_for}
 use Rattle.dft_top.proofs.command.run.Goals as goal
@@ -16,3 +19,6 @@ returns-in-Ok-clause-kept g c = kept_for _ _ _ _ _ c.in-Ok.ensures c.run_command
 
 pub returns-in-Ok-clause-certifies : goal.returns-in-Ok-clause-certifies
 returns-in-Ok-clause-certifies g c = certifies_for c.reports_are_certified.ensures.exact c.certified_in_runs.ensures _ _ _ _ _ c.in-Ok.ensures c.run_command.ensures
+
+pub returns-in-Ok-clause-completes : goal.returns-in-Ok-clause-completes
+returns-in-Ok-clause-completes g c = completes_for (jobs_pass c.compilations_hold.ensures) _ _ _ _ _ c.in-Ok.ensures c.run_command.ensures

@@ -1,6 +1,6 @@
 use Rattle.std.proofs.Common.{ap, ◌∙◌, cond, ◌++◌, ◌∷◌, [], refl}
 use Rattle.std.proofs.lemmas.List.{map-append}
-use Rattle.dft_stil_text.specs.Namings.{number_of}
+use Rattle.dft_stil_text.specs.SignalGroups.{number_of}
 use Rattle.dft_stil_text.proofs.KnownNameLemmas.{number_of-none}
 use Rattle.dft_stil.proofs.known_names.KnownNames.add.Goals as goal
 

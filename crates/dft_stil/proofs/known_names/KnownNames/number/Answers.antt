@@ -1,5 +1,5 @@
 use Rattle.std.proofs.Common.{ap, ◌∙◌}
-use Rattle.dft_stil_text.specs.Namings.{number_of}
+use Rattle.dft_stil_text.specs.SignalGroups.{number_of}
 use Rattle.dft_stil_text.proofs.KnownNameLemmas.{number_of-map}
 use Rattle.dft_stil.proofs.known_names.KnownNames.number.Goals as goal
 

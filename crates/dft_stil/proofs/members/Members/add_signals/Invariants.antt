@@ -1,5 +1,5 @@
 use Rattle.std.proofs.Common.{◌≡◌, drop, length}
-use Rattle.dft_stil_text.specs.Namings as spec
+use Rattle.dft_stil_text.specs.SignalGroups as spec
 use Rattle.dft_stil.specs.MembersShown.{Sees}
 use Rattle.dft_stil.proofs.members.Members.add_signals.Given as goal
 

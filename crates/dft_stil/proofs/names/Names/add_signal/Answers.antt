@@ -1,5 +1,5 @@
 use Rattle.std.proofs.Common.{◌++◌, ◌∷◌, [], length, sym, ap, ◌∙◌, subst}
-use Rattle.dft_stil_text.specs.Namings as spec
+use Rattle.dft_stil_text.specs.SignalGroups as spec
 use Rattle.dft_stil.specs.NamesShown.{AreInside}
 use Rattle.dft_stil.proofs.NamesLemmas.{numbered_same, numbered_more, inside_more, longer}
 use Rattle.dft_stil.proofs.names.Names.add_signal.Goals as goal

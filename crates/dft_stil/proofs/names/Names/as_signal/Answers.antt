@@ -1,7 +1,7 @@
 use Rattle.std.proofs.Common.{◌≡◌, ◌<◌, ◌+◌, ◌-◌, ℕ, List, length, take, drop, Some, false, option_map, ap, ◌∙◌, arith}
 use Rattle.std.proofs.lemmas.List.{length-map}
 use Rattle.dft_patterns.specs.declared.signal.StilSignal.{StilSignal}
-use Rattle.dft_stil_text.specs.Namings as spec
+use Rattle.dft_stil_text.specs.SignalGroups as spec
 use Rattle.dft_stil.proofs.NamesLemmas.{one_alone, below_one}
 use Rattle.dft_stil.proofs.names.Names.as_signal.Goals as goal
 

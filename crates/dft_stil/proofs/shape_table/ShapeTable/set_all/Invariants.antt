@@ -1,5 +1,5 @@
 use Rattle.std.proofs.Common.{◌≡◌, drop}
-use Rattle.dft_stil_text.specs.Timings as spec
+use Rattle.dft_stil_text.specs.WaveformTables as spec
 use Rattle.dft_stil.specs.ShapeTableShown.{IsWide}
 use Rattle.dft_stil.proofs.shape_table.ShapeTable.set_all.Given as goal
 

@@ -1,0 +1,6 @@
+//! Laws of netlist texts.
+#![tactic(auto)]
+
+mod laws;
+
+pub use laws::concatenations_nest;

@@ -1,0 +1,115 @@
+-- When a command is answered.
+use Rattle.std.proofs.Common.{ℕ, ◌≡◌, ◌⊎◌, ◌∙◌, inl, inr, List, refl, sym, ap, subst, Option, None, Some}
+use Rattle.dft_files.specs.Outside.{Held, Told}
+use Rattle.dft_words.specs.Words.{AreFor, Certify, CertifyFiles, Command, Compile, CompileFiles, Generate, IsFor, JobNumbers, Replay, ReplayFiles, Scan, ScanFiles}
+use Rattle.dft_words.proofs.Understood.{for_once}
+use Rattle.dft_top.specs.declared.answer.Answer.{Answer}
+use Rattle.dft_top.specs.declared.answer.Refusal.{Refusal}
+use Rattle.dft_top.specs.declared.answer.Status.{Status}
+use Rattle.dft_top.specs.declared.answer.Status.TheVariants.{Done, OutOfMemory}
+use Rattle.dft_top.specs.declared.outcome.Outcome.{Outcome}
+use Rattle.dft_top.specs.declared.outcome.Outcome.TheVariants as outcome
+use Rattle.dft_top.specs.Answers.{status_of}
+use Rattle.dft_top.specs.Courses.{IsPassing, Reaches}
+use Rattle.dft_top.specs.Outcomes.{IsOutcomeFor, IsOutcomeOfJob, course_of, course_of_replay}
+use Rattle.dft_top.specs.Run.{CompletesTold, EndsFor, IsAnswered, IsDelivered, IsOfCertify, IsOfCompile, IsOfReplay, IsOfScan, IsOutcomeTold, IsPassed, NoneFailed, Seen, Suits}
+use Rattle.dft_top.proofs.Determined.{passing_reaches, reaches_one}
+use Rattle.dft_top.proofs.OneOutcome.{determined}
+use Rattle.dft_top.proofs.JobReplays.{Accepts, JobsPass}
+
+-- ---- what an outcome that is no refusal is answered by
+
+passed_alone : (files : ReplayFiles) (held : Held) (o : Outcome) → Reaches (course_of_replay files) held o → (passed : IsPassed files held) → outcome.Passed passed.vectors passed.compared ≡ o
+passed_alone files held o is passed = reaches_one (course_of_replay files) held (outcome.Passed passed.vectors passed.compared) o (determined (Some (Replay files)) held) passed.is is
+
+replay_answered : (files : ReplayFiles) (held : Held) (o : Outcome) → IsOfReplay o → Accepts o → Reaches (course_of_replay files) held o → IsAnswered (Replay files) held (status_of o)
+replay_answered files held outcome.Usage suits accepts is = absurd suits
+replay_answered files held (outcome.Refused refusal) suits accepts is = absurd (accepts refusal refl)
+replay_answered files held (outcome.Passed vectors compared) suits accepts is = inl (refl, record { vectors = vectors; compared = compared; is = is })
+replay_answered files held (outcome.Mismatch vector signal) suits accepts is = inr (refl, λ passed. let e = passed_alone files held (outcome.Mismatch vector signal) is passed in cc)
+replay_answered files held (outcome.Undetermined vector signal) suits accepts is = inr (refl, λ passed. let e = passed_alone files held (outcome.Undetermined vector signal) is passed in cc)
+replay_answered files held (outcome.Scanned counts netlist report) suits accepts is = absurd suits
+replay_answered files held (outcome.Compiled counts netlist patterns report) suits accepts is = absurd suits
+replay_answered files held (outcome.Certified unsolvable) suits accepts is = absurd suits
+replay_answered files held (outcome.Generated counts replay) suits accepts is = absurd suits
+
+scan_done : (o : Outcome) → IsOfScan o → Accepts o → status_of o ≡ Done
+scan_done outcome.Usage suits accepts = absurd suits
+scan_done (outcome.Refused refusal) suits accepts = absurd (accepts refusal refl)
+scan_done (outcome.Passed vectors compared) suits accepts = absurd suits
+scan_done (outcome.Mismatch vector signal) suits accepts = absurd suits
+scan_done (outcome.Undetermined vector signal) suits accepts = absurd suits
+scan_done (outcome.Scanned counts netlist report) suits accepts = refl
+scan_done (outcome.Compiled counts netlist patterns report) suits accepts = absurd suits
+scan_done (outcome.Certified unsolvable) suits accepts = absurd suits
+scan_done (outcome.Generated counts replay) suits accepts = absurd suits
+
+compile_done : (o : Outcome) → IsOfCompile o → Accepts o → status_of o ≡ Done
+compile_done outcome.Usage suits accepts = absurd suits
+compile_done (outcome.Refused refusal) suits accepts = absurd (accepts refusal refl)
+compile_done (outcome.Passed vectors compared) suits accepts = absurd suits
+compile_done (outcome.Mismatch vector signal) suits accepts = absurd suits
+compile_done (outcome.Undetermined vector signal) suits accepts = absurd suits
+compile_done (outcome.Scanned counts netlist report) suits accepts = absurd suits
+compile_done (outcome.Compiled counts netlist patterns report) suits accepts = refl
+compile_done (outcome.Certified unsolvable) suits accepts = absurd suits
+compile_done (outcome.Generated counts replay) suits accepts = absurd suits
+
+certify_done : (o : Outcome) → IsOfCertify o → Accepts o → status_of o ≡ Done
+certify_done outcome.Usage suits accepts = absurd suits
+certify_done (outcome.Refused refusal) suits accepts = absurd (accepts refusal refl)
+certify_done (outcome.Passed vectors compared) suits accepts = absurd suits
+certify_done (outcome.Mismatch vector signal) suits accepts = absurd suits
+certify_done (outcome.Undetermined vector signal) suits accepts = absurd suits
+certify_done (outcome.Scanned counts netlist report) suits accepts = absurd suits
+certify_done (outcome.Compiled counts netlist patterns report) suits accepts = absurd suits
+certify_done (outcome.Certified unsolvable) suits accepts = refl
+certify_done (outcome.Generated counts replay) suits accepts = absurd suits
+
+answered : JobsPass → (command : Command) (held : Held) (o : Outcome) → Suits (Some command) o → Accepts o → IsOutcomeFor (Some command) held o → IsAnswered command held (status_of o)
+answered pass (Replay files) held o suits accepts is = replay_answered files held o suits accepts is
+answered pass (Scan files) held o suits accepts is = scan_done o suits accepts
+answered pass (Compile files) held o suits accepts is = compile_done o suits accepts
+answered pass (Certify files) held o suits accepts is = certify_done o suits accepts
+answered pass (Generate numbers) held o suits accepts is = pass numbers o accepts is
+
+-- ---- of a run
+
+abbrev Completes : Command → Held → Answer → Type 0
+Completes command held answer = (answer.status ≡ OutOfMemory) ⊎ IsAnswered command held answer.status
+
+status_is : (a b : Answer) → a ≡ b → a.status ≡ b.status
+status_is a b same = ap (λ (c : Answer). c.status) same
+
+delivered : JobsPass → (command : Command) (held : Held) (o : Outcome) (before after : Seen) (answer : Answer) → NoneFailed before after → Suits (Some command) o → Accepts o → IsOutcomeFor (Some command) held o →
+    IsDelivered (Some command) o before after answer → Completes command held answer
+delivered pass command held o before after answer none suits accepts is (inl x) =
+    inr (subst (IsAnswered command held) (sym (status_is answer _ x.answers)) (answered pass command held o suits accepts is))
+delivered pass command held o before after answer none suits accepts is (inr (inl x)) = absurd (none.writes x.failed.rose)
+delivered pass command held o before after answer none suits accepts is (inr (inr (inl x))) = absurd (none.puts x.rose)
+delivered pass command held o before after answer none suits accepts is (inr (inr (inr x))) = inl (status_is answer _ x.answers)
+
+ends : JobsPass → (command : Command) (held : Held) (before after : Seen) (answer : Answer) → before.held ≡ Some held → NoneFailed before after → IsPassing (course_of (Some command)) held →
+    EndsFor (Some command) before after answer → Completes command held answer
+ends pass command held before after answer told none passing (inl x) =
+    let is : IsOutcomeFor (Some command) held x.o = subst (Told (λ files. IsOutcomeFor (Some command) files x.o)) told x.told.told in
+    delivered pass command held x.o before after answer none x.told.suits (λ refusal same. passing_reaches (course_of (Some command)) held x.o refusal (determined (Some command) held) passing is same) is x.delivered
+ends pass command held before after answer told none passing (inr (inl x)) = absurd (none.reads x.rose)
+ends pass command held before after answer told none passing (inr (inr x)) = inl (status_is answer _ x.1)
+
+told_ends : JobsPass → (command : Command) (held : Option Held) (before after : Seen) (answer : Answer) → before.held ≡ held → NoneFailed before after → EndsFor (Some command) before after answer →
+    Told (λ h. IsPassing (course_of (Some command)) h → Completes command h answer) held
+told_ends pass command None before after answer same none ended = tt
+told_ends pass command (Some held) before after answer same none ended = λ passing. ends pass command held before after answer same none passing ended
+
+pub completes_for : JobsPass → (words : List (List ℕ)) (command : Option Command) (before after : Seen) (answer : Answer) → AreFor words command → EndsFor command before after answer → CompletesTold words before after answer
+completes_for pass words command before after answer are ended other is none =
+    told_ends pass other before.held before after answer refl none (subst (λ (command : Option Command). EndsFor command before after answer) (for_once words command (Some other) are is) ended)
+
+memory_told : (command : Command) (held : Option Held) (answer : Answer) → answer.status ≡ OutOfMemory → Told (λ h. IsPassing (course_of (Some command)) h → Completes command h answer) held
+memory_told command None answer short = tt
+memory_told command (Some held) answer short = λ passing. inl short
+
+-- where memory runs out
+pub completes_short : (words : List (List ℕ)) (before after : Seen) (answer : Answer) → answer.status ≡ OutOfMemory → CompletesTold words before after answer
+completes_short words before after answer short command is none = memory_told command before.held answer short
