@@ -1,6 +1,5 @@
 -- Compilations hold.
-use Rattle.std.proofs.Common.{ℕ, ◌≡◌, ◌<◌, ◌≤◌, List, [], length, map, Some, option_map, slice_get, sym, ap, subst, arith, ◌∙◌}
-use Rattle.std.specs.Prelude.{◌^◌}
+use Rattle.std.proofs.Common.{ℕ, ◌≡◌, List, [], map, Some, option_map, slice_get, sym, ap, subst, ◌∙◌}
 use Rattle.std.proofs.lemmas.Option.{slice_get-map}
 use Rattle.dft_netlist.specs.Netlist.{Netlist}
 use Rattle.dft_netlist.specs.Sound.{IsNetlist}
