@@ -15,14 +15,15 @@ use Rattle.dft_top.specs.Outcomes.{IsOutcomeFor, IsOutcomeOfJob, course_of, cour
 use Rattle.dft_top.specs.Run.{CompletesTold, EndsFor, IsAnswered, IsDelivered, IsOfCertify, IsOfCompile, IsOfReplay, IsOfScan, IsOutcomeTold, IsPassed, NoneFailed, Seen, Suits}
 use Rattle.dft_top.proofs.Determined.{passing_reaches, reaches_one}
 use Rattle.dft_top.proofs.OneOutcome.{determined}
-use Rattle.dft_top.proofs.JobReplays.{Accepts, JobsPass}
+use Rattle.dft_top.specs.Saved.{IsAccepted}
+use Rattle.dft_top.proofs.JobReplays.{JobsPass}
 
 -- ---- what an outcome that is no refusal is answered by
 
 passed_alone : (files : ReplayFiles) (held : Held) (o : Outcome) → Reaches (course_of_replay files) held o → (passed : IsPassed files held) → outcome.Passed passed.vectors passed.compared ≡ o
 passed_alone files held o is passed = reaches_one (course_of_replay files) held (outcome.Passed passed.vectors passed.compared) o (determined (Some (Replay files)) held) passed.is is
 
-replay_answered : (files : ReplayFiles) (held : Held) (o : Outcome) → IsOfReplay o → Accepts o → Reaches (course_of_replay files) held o → IsAnswered (Replay files) held (status_of o)
+replay_answered : (files : ReplayFiles) (held : Held) (o : Outcome) → IsOfReplay o → IsAccepted o → Reaches (course_of_replay files) held o → IsAnswered (Replay files) held (status_of o)
 replay_answered files held outcome.Usage suits accepts is = absurd suits
 replay_answered files held (outcome.Refused refusal) suits accepts is = absurd (accepts refusal refl)
 replay_answered files held (outcome.Passed vectors compared) suits accepts is = inl (refl, record { vectors = vectors; compared = compared; is = is })
@@ -33,7 +34,7 @@ replay_answered files held (outcome.Compiled counts netlist patterns report) sui
 replay_answered files held (outcome.Certified unsolvable) suits accepts is = absurd suits
 replay_answered files held (outcome.Generated counts replay) suits accepts is = absurd suits
 
-scan_done : (o : Outcome) → IsOfScan o → Accepts o → status_of o ≡ Done
+scan_done : (o : Outcome) → IsOfScan o → IsAccepted o → status_of o ≡ Done
 scan_done outcome.Usage suits accepts = absurd suits
 scan_done (outcome.Refused refusal) suits accepts = absurd (accepts refusal refl)
 scan_done (outcome.Passed vectors compared) suits accepts = absurd suits
@@ -44,7 +45,7 @@ scan_done (outcome.Compiled counts netlist patterns report) suits accepts = absu
 scan_done (outcome.Certified unsolvable) suits accepts = absurd suits
 scan_done (outcome.Generated counts replay) suits accepts = absurd suits
 
-compile_done : (o : Outcome) → IsOfCompile o → Accepts o → status_of o ≡ Done
+compile_done : (o : Outcome) → IsOfCompile o → IsAccepted o → status_of o ≡ Done
 compile_done outcome.Usage suits accepts = absurd suits
 compile_done (outcome.Refused refusal) suits accepts = absurd (accepts refusal refl)
 compile_done (outcome.Passed vectors compared) suits accepts = absurd suits
@@ -55,7 +56,7 @@ compile_done (outcome.Compiled counts netlist patterns report) suits accepts = r
 compile_done (outcome.Certified unsolvable) suits accepts = absurd suits
 compile_done (outcome.Generated counts replay) suits accepts = absurd suits
 
-certify_done : (o : Outcome) → IsOfCertify o → Accepts o → status_of o ≡ Done
+certify_done : (o : Outcome) → IsOfCertify o → IsAccepted o → status_of o ≡ Done
 certify_done outcome.Usage suits accepts = absurd suits
 certify_done (outcome.Refused refusal) suits accepts = absurd (accepts refusal refl)
 certify_done (outcome.Passed vectors compared) suits accepts = absurd suits
@@ -66,7 +67,7 @@ certify_done (outcome.Compiled counts netlist patterns report) suits accepts = a
 certify_done (outcome.Certified unsolvable) suits accepts = refl
 certify_done (outcome.Generated counts replay) suits accepts = absurd suits
 
-answered : JobsPass → (command : Command) (held : Held) (o : Outcome) → Suits (Some command) o → Accepts o → IsOutcomeFor (Some command) held o → IsAnswered command held (status_of o)
+answered : JobsPass → (command : Command) (held : Held) (o : Outcome) → Suits (Some command) o → IsAccepted o → IsOutcomeFor (Some command) held o → IsAnswered command held (status_of o)
 answered pass (Replay files) held o suits accepts is = replay_answered files held o suits accepts is
 answered pass (Scan files) held o suits accepts is = scan_done o suits accepts
 answered pass (Compile files) held o suits accepts is = compile_done o suits accepts
@@ -81,7 +82,7 @@ Completes command held answer = (answer.status ≡ OutOfMemory) ⊎ IsAnswered c
 status_is : (a b : Answer) → a ≡ b → a.status ≡ b.status
 status_is a b same = ap (λ (c : Answer). c.status) same
 
-delivered : JobsPass → (command : Command) (held : Held) (o : Outcome) (before after : Seen) (answer : Answer) → NoneFailed before after → Suits (Some command) o → Accepts o → IsOutcomeFor (Some command) held o →
+delivered : JobsPass → (command : Command) (held : Held) (o : Outcome) (before after : Seen) (answer : Answer) → NoneFailed before after → Suits (Some command) o → IsAccepted o → IsOutcomeFor (Some command) held o →
     IsDelivered (Some command) o before after answer → Completes command held answer
 delivered pass command held o before after answer none suits accepts is (inl x) =
     inr (subst (IsAnswered command held) (sym (status_is answer _ x.answers)) (answered pass command held o suits accepts is))

@@ -12,5 +12,7 @@ pub mod OneOutcome
 pub mod PassingFiles
 pub mod Promised
 pub mod Kept
+pub mod Replays
 pub mod JobReplays
+pub mod SavedFiles
 pub mod Completed

@@ -151,7 +151,7 @@ scans files old new o done h saved =
 -- ---- a compilation
 
 -- the cubes of a held text
-are_cubes : (n : Netlist) (c : Config) (name : List ℕ) (held : Held) (cubes : List Cube) → CubesGive n c name held (Ok cubes) → AreCubes n c cubes
+pub are_cubes : (n : Netlist) (c : Config) (name : List ℕ) (held : Held) (cubes : List Cube) → CubesGive n c name held (Ok cubes) → AreCubes n c cubes
 are_cubes n c name held cubes given = let text = text_of MAX_CUBE_BYTES (codes "cubes") (CubeText n c) (file_at name held) cubes given in cubes_sound n c text.0 cubes text.1
 
 placed_done : (n : Netlist) (c : Config) (cubes : List Cube) (placing : Placing c (plan_of n c) cubes) (refused : Option CompileError) (o : Outcome) → status_of o ≡ Done → IsOutcomeOfPlacing n c cubes placing refused o →

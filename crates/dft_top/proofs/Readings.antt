@@ -77,7 +77,7 @@ file_one limit option text_gives one (Some text) (Err a) (Err b) (inl x) (inr y)
 file_one limit option text_gives one (Some text) (Err a) (Err b) (inr x) (inl y) = absurd (omega (arith, x.0, y.0))
 file_one limit option text_gives one (Some text) (Err a) (Err b) (inr x) (inr y) = one text (Err a) (Err b) x.1 y.1
 
-ok_same : {A E : Type 0} (r : Result A E) (a b : A) → r ≡ Ok a → r ≡ Ok b → a ≡ b
+pub ok_same : {A E : Type 0} (r : Result A E) (a b : A) → r ≡ Ok a → r ≡ Ok b → a ≡ b
 ok_same r a b p q = let e = sym p ∙ q in cc
 
 pub then_one : {A : Type 0} (gives : Result A Refusal → Type 0) (next : A → Outcome → Type 0) (a b : Outcome) → ((r s : Result A Refusal) → gives r → gives s → r ≡ s) →

@@ -10,3 +10,4 @@ pub mod Named
 pub mod Run
 pub mod Stops
 pub mod Laws
+pub mod Saved

@@ -1,5 +1,6 @@
 //! Laws about outcomes, as contracts of functions that do nothing.
 
+ghost use Rattle.dft_top.specs.Saved.{SavedIsCertified, SavedIsReplayed};
 ghost use Rattle.dft_top.specs.Laws.{OutcomeIsOne, PassingIsCertified, PassingIsCompiled, PassingIsReplayed, PassingIsScanned};
 
 /// Words and held files have one outcome at most.
@@ -16,4 +17,12 @@ pub fn passing_files_are_answered()
     ensures scanned { PassingIsScanned }
     ensures compiled { PassingIsCompiled }
     ensures certified { PassingIsCertified }
+{}
+
+/// What becomes of the files that a compilation saved: a replay of its netlist and its patterns over the same cells passes, if it is not
+/// refused; and a test of its report against the same netlist, configuration and cubes certifies the cubes that it calls
+/// unsolvable, if it is not refused.
+pub fn saved_files_are_good()
+    ensures replayed { SavedIsReplayed }
+    ensures certified { SavedIsCertified }
 {}

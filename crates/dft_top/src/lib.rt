@@ -21,7 +21,7 @@ mod stop;
 
 pub use answer::{Answer, Code, Refusal, Status};
 pub use command::run;
-pub use laws::{outcome_is_one, passing_files_are_answered};
+pub use laws::{outcome_is_one, passing_files_are_answered, saved_files_are_good};
 pub use limits::{
     MAX_CONFIG_BYTES, MAX_CUBE_BYTES, MAX_LIBRARY_BYTES, MAX_NETLIST_BYTES, MAX_PATTERN_BYTES,
     MAX_REPORT_BYTES,
