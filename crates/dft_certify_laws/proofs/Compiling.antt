@@ -1,5 +1,5 @@
 -- What a compilation writes certifies.
-use Rattle.std.proofs.Common.{◌≡◌, List, length, map, None, refl, sym, ap, subst, ◌∙◌}
+use Rattle.std.proofs.Common.{◌≡◌, length, map, None, refl, ap, subst, ◌∙◌}
 use Rattle.dft_equations.specs.LoadRows.{LoadRows}
 use Rattle.dft_report_in.specs.Reading.{report_of}
 use Rattle.dft_stitch.specs.Chains.{plan_of}

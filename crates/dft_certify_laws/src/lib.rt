@@ -3,6 +3,4 @@
 
 mod laws;
 
-pub use laws::{
-    certified_in_runs, compiled_certifies, compiled_report_is_read, written_certifies,
-};
+pub use laws::{certified_in_runs, compiled_certifies, compiled_report_is_read, written_certifies};

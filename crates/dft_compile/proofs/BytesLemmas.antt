@@ -1,5 +1,5 @@
 -- The bytes of the patterns' text are those that are told before any pattern is made.
-use Rattle.std.proofs.Common.{◌≡◌, ℕ, zero, suc, ◌+◌, ◌*◌, ◌/◌, ◌<◌, ◌≤◌, List, [], ◌∷◌, ◌++◌, length, map, refl, sym, subst, ap, ◌∙◌, length-append, arith}
+use Rattle.std.proofs.Common.{◌≡◌, ℕ, zero, suc, ◌+◌, ◌*◌, ◌/◌, ◌^◌, ◌<◌, ◌≤◌, None, List, [], ◌∷◌, ◌++◌, length, map, refl, sym, subst, ap, ◌∙◌, length-append, arith}
 use Rattle.std.specs.List.{All, range_with_len}
 use Rattle.std.proofs.lemmas.Grind.{flat_map-append}
 use Rattle.std.proofs.lemmas.List.{length-map}
@@ -18,6 +18,7 @@ use Rattle.dft_config.specs.Cycles.{longest_segment}
 use Rattle.dft_config.specs.Range.{IsInRange}
 use Rattle.dft_equations.specs.LoadRows.{LoadRows}
 use Rattle.dft_stitch.specs.Chains.{plan_of}
+use Rattle.dft_stitch.specs.Limits.{refusal}
 use Rattle.dft_cubes.specs.declared.cube.Merged.{Merged}
 use Rattle.dft_expect.specs.Captures.{bits_out, output_bits}
 use Rattle.dft_patterns.specs.declared.notes.Note.{Note}
@@ -35,6 +36,7 @@ use Rattle.dft_vectors.specs.Signals.{bits_in, input_bits, signal_of, signals_of
 use Rattle.dft_vectors.specs.VectorList.{first_vector, notes_of, pattern_note, vectors_of}
 use Rattle.dft_encode.specs.Compiled.{ArePatterns, merged_of}
 use Rattle.dft_encode.specs.Laws.{vectors_in, width}
+use Rattle.dft_encode.proofs.PlanLemmas.{limits}
 use Rattle.dft_encode.proofs.WidthLemmas.{vectors_wide}
 use Rattle.dft_compile.specs.Laws.{BytesAreTold}
 use Rattle.dft_compile.specs.Refusals.{pattern_bytes}
@@ -181,6 +183,18 @@ list_count n config rows merged list are = sym (length-map list merged_of) ∙ a
 pub vector_count : (n : Netlist) (config : Config) (rows : LoadRows) (merged : List Merged) (list : List PatternData) → ArePatterns n config (plan_of n config) rows merged list →
     length (vectors_of n config (plan_of n config) list) ≡ vectors_in (plan_of n config).cycles (length list)
 vector_count n config rows merged list are = (vectors_wide n config (plan_of n config) list (outputs_fit n config rows merged list are)).1
+
+few_vectors : (cycles patterns : ℕ) → cycles ≤ 4096 → patterns ≤ 65536 → vectors_in cycles patterns < 2 ^ 32
+few_vectors cycles zero short few = omega arith
+few_vectors cycles (suc patterns) short few = let most : suc patterns * suc cycles ≤ 65536 * suc cycles = mul-le-mul_right (suc cycles) few in omega (arith, most, short)
+
+-- the vectors can be counted
+pub vectors_few : (n : Netlist) (config : Config) (rows : LoadRows) (merged : List Merged) (list : List PatternData) → refusal n config ≡ None → length merged ≤ 65536 → ArePatterns n config (plan_of n config) rows merged list →
+    length (pattern_set n config list).vectors < 2 ^ 32
+vectors_few n config rows merged list fits few are =
+    let count = list_count n config rows merged list are in
+    let least = few_vectors (plan_of n config).cycles (length list) (limits n config fits).0 (omega (arith, count, few)) in
+    subst (λ (k : ℕ). k < 2 ^ 32) (sym (vector_count n config rows merged list are)) least
 
 pub bytes_told : BytesAreTold
 bytes_told n config rows merged list range are =

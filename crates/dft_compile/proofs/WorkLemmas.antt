@@ -1,10 +1,11 @@
 -- A compilation whose cubes are placed.
-use Rattle.std.proofs.Common.{◌≡◌, ◌≤◌, ℕ, suc, List, [], ◌∷◌, length, map, Ok, refl, sym, subst, ap, ◌∙◌, arith}
+use Rattle.std.proofs.Common.{◌≡◌, ◌≤◌, ℕ, suc, List, [], ◌∷◌, length, map, None, Ok, refl, sym, subst, ap, ◌∙◌, arith}
 use Rattle.dft_netlist.specs.declared.ids.InstanceId.{InstanceId}
 use Rattle.dft_netlist.specs.Netlist.{Netlist}
 use Rattle.dft_config.specs.declared.config.Config.{Config}
 use Rattle.dft_equations.specs.LoadRows.{LoadRows, AreLoadEquations}
 use Rattle.dft_stitch.specs.Chains.{plan_of}
+use Rattle.dft_stitch.specs.Limits.{refusal}
 use Rattle.dft_stitch.specs.Plans.{Plan}
 use Rattle.dft_cubes.specs.declared.cube.Cube.{Cube}
 use Rattle.dft_cubes.specs.declared.cube.Merged.{Merged}
@@ -32,7 +33,7 @@ use Rattle.dft_compile.specs.Compilation.{AreTextsOf, IsCompileOf, IsPatternText
 use Rattle.dft_compile.specs.Refusals.{IsLate, IsRefusal, late_refusal, pattern_bytes}
 use Rattle.dft_compile.specs.Reports.{compile_report}
 use Rattle.dft_compile.specs.Texts.{counts_by, counts_of, netlist_text, report_text}
-use Rattle.dft_compile.proofs.BytesLemmas.{bytes_told, list_count, vector_count}
+use Rattle.dft_compile.proofs.BytesLemmas.{bytes_told, list_count, vector_count, vectors_few}
 use Rattle.dft_compile.proofs.LateLemmas.{is_late, late_passed}
 
 -- ---- placements
@@ -71,13 +72,14 @@ counts_are n config rows placed merged p h =
     ∙ ap (by (length list)) h.masked
     ∙ ap (λ (v : ℕ). record (by (length list) (masked_in list)) { vectors = v }) (sym (vector_count n config rows merged list h.are))
 
-pub are_texts : (n : Netlist) (config : Config) (cubes : List Cube) (rows : LoadRows) (placed : List Placed) (merged : List Merged) (t : CompileTexts) (p : PatternText) → pattern_bytes n config (length merged) ≤ MAX_TEXT → length (report_text n config rows cubes placed) ≤ MAX_BYTES →
+pub are_texts : (n : Netlist) (config : Config) (cubes : List Cube) (rows : LoadRows) (placed : List Placed) (merged : List Merged) (t : CompileTexts) (p : PatternText) → refusal n config ≡ None → length merged ≤ 65536 → pattern_bytes n config (length merged) ≤ MAX_TEXT → length (report_text n config rows cubes placed) ≤ MAX_BYTES →
     IsPatternText n config rows merged p → t.netlist.items ≡ netlist_text n config → t.patterns.items ≡ p.text.items → t.report.items ≡ report_text n config rows cubes placed → t.counts ≡ counts_by n config placed (length merged) p.masked →
     AreTextsOf n config cubes rows placed merged t
-are_texts n config cubes rows placed merged t p short few h netlist patterns report counts = record {
+are_texts n config cubes rows placed merged t p fits count short few h netlist patterns report counts = record {
   accepted = late_passed n config cubes rows placed (length merged) short few;
   list = h.list;
   are = h.are;
+  few = vectors_few n config rows merged h.list fits count h.are;
   netlist = netlist;
   patterns = patterns ∙ h.text;
   report = report;

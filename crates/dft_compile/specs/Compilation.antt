@@ -1,5 +1,5 @@
 -- What a compilation gives.
-use Rattle.std.specs.Prelude.{◌≡◌, List, length, None, Ok}
+use Rattle.std.specs.Prelude.{◌≡◌, ◌<◌, ◌^◌, List, length, None, Ok}
 use Rattle.dft_netlist.specs.Netlist.{Netlist}
 use Rattle.dft_config.specs.declared.config.Config.{Config}
 use Rattle.dft_equations.specs.LoadRows.{LoadRows}
@@ -16,14 +16,15 @@ use Rattle.dft_compile.specs.declared.texts.CompileTexts.{CompileTexts}
 use Rattle.dft_compile.specs.declared.writing.PatternText.{PatternText}
 use Rattle.dft_compile.specs.Refusals.{late_refusal}
 use Rattle.dft_compile.specs.Reports.{compile_report}
-use Rattle.dft_compile.specs.Texts.{counts_of, netlist_text, pattern_text, report_text}
+use Rattle.dft_compile.specs.Texts.{counts_of, netlist_text, pattern_set, pattern_text, report_text}
 
 -- the texts and the counts where this became of the cubes, and they are merged so: no check refuses them, and the patterns are those of the
--- merged cubes
+-- merged cubes, whose vectors can be counted
 pub record AreTextsOf (n : Netlist) (config : Config) (cubes : List Cube) (rows : LoadRows) (placed : List Placed) (merged : List Merged) (t : CompileTexts) : Type 0 where
   pub accepted : late_refusal n config cubes rows placed (length merged) ≡ None
   pub list : List PatternData
   pub are : ArePatterns n config (plan_of n config) rows merged list
+  pub few : length (pattern_set n config list).vectors < 2 ^ 32
   pub netlist : t.netlist.items ≡ netlist_text n config
   pub patterns : t.patterns.items ≡ pattern_text n config list
   pub report : t.report.items ≡ report_text n config rows cubes placed

@@ -1,6 +1,5 @@
 -- Compilations hold.
-use Rattle.std.proofs.Common.{ℕ, ◌≡◌, ◌<◌, ◌≤◌, List, [], length, map, Some, option_map, slice_get, sym, ap, subst, arith, ◌∙◌}
-use Rattle.std.specs.Prelude.{◌^◌}
+use Rattle.std.proofs.Common.{ℕ, ◌≡◌, List, [], map, Some, option_map, slice_get, sym, ap, subst, ◌∙◌}
 use Rattle.std.proofs.lemmas.Option.{slice_get-map}
 use Rattle.dft_netlist.specs.Netlist.{Netlist}
 use Rattle.dft_netlist.specs.Sound.{IsNetlist}
@@ -13,8 +12,7 @@ use Rattle.dft_merge.specs.declared.placed.Placed.TheVariants.{Into}
 use Rattle.dft_merge.specs.Placement.{PlacesAll}
 use Rattle.dft_merge.specs.Staying.{IsMerged}
 use Rattle.dft_merge.proofs.MergedLemmas.{patterns_sound}
-use Rattle.dft_stil_text.specs.declared.limits.TheConstants.{MAX_VECTORS}
-use Rattle.dft_stil_out.proofs.WrittenStands.{written_stands}
+use Rattle.dft_stil_out.proofs.WrittenStands.{stands_written}
 use Rattle.dft_scan_frame.specs.Statements.{IsReady}
 use Rattle.dft_scan_hardware.specs.declared.style.Style.TheVariants.{Edt}
 use Rattle.dft_scan_hardware.specs.Statements.{scanned}
@@ -62,9 +60,6 @@ module _ (n : Netlist) (config : Config) (cubes : List Cube) (placing : Placing 
         captures = it.2;
       }
 
-few_enough : (count : ℕ) → count ≤ MAX_VECTORS → count < 2 ^ 32
-few_enough count few = omega (arith, few)
-
 pub compilations_hold : CompilationsHold
 compilations_hold n config order cubes placing list ready netlist ordered named sound are =
     let stands = stand n config cubes placing list ready sound are in
@@ -73,6 +68,6 @@ compilations_hold n config order cubes placing list ready netlist ordered named 
       tells = λ ports suits c cube at scanned. entries_exact n config ports placing.rows config.window cubes placing.placed placing.merged ready suits placing.equations sound placing.is c cube at scanned;
       passes = written_pass n config list order ready netlist ordered stands;
       reads = (λ few.
-          let formed = written_formed n config list ready netlist named stands (gives n config cubes placing list ready sound are) (few_enough (length (set_of n config list).vectors) few) in
-          written_stands (set_of n config list) formed.well formed.writable few);
+          let formed = written_formed n config list ready netlist named stands (gives n config cubes placing list ready sound are) few in
+          stands_written (set_of n config list) formed.well formed.writable);
     }

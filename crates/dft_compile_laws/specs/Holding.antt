@@ -1,5 +1,5 @@
 -- What holds of test cubes that are compiled into patterns (Rajski and others, 2004).
-use Rattle.std.specs.Prelude.{ℕ, ◌≡◌, ◌≤◌, List, [], length, None, Some, slice_get}
+use Rattle.std.specs.Prelude.{ℕ, ◌≡◌, ◌<◌, ◌^◌, List, [], length, None, Some, slice_get}
 use Rattle.dft_netlist.specs.Logic.{Logic, Ports}
 use Rattle.dft_netlist.specs.Netlist.{Netlist}
 use Rattle.dft_netlist.specs.Orders.{IsOrder}
@@ -12,7 +12,6 @@ use Rattle.dft_cubes.specs.Laws.{AreCubes}
 use Rattle.dft_merge.specs.declared.placed.Placed.TheVariants.{Into}
 use Rattle.dft_merge.specs.Placement.{first_unscanned}
 use Rattle.dft_patterns.specs.Patterns.{Patterns}
-use Rattle.dft_stil_text.specs.declared.limits.TheConstants.{MAX_VECTORS}
 use Rattle.dft_stil_text.specs.PatternText.{StandsFor}
 use Rattle.dft_stil_out.specs.Written.{noted}
 use Rattle.dft_replay.specs.Laws.{IsRunOf, vectors_of as vectors_in}
@@ -61,8 +60,8 @@ pub record HoldsOf (n : Netlist) (config : Config) (cubes : List Cube) (placing 
       (entry : CubeReport) × (slice_get (entries_of n config placing.rows cubes placing.placed) c ≡ Some entry) × IsExact n config ports cube entry
   -- a replay of the set passes, and every run shows what it compares as printed
   pub passes : Passes n config list
-  -- the written text is read as the set, where it has no more vectors than a text may have
-  pub reads : length (set_of n config list).vectors ≤ MAX_VECTORS → StandsFor (noted (set_of n config list)) (without_notes (set_of n config list))
+  -- the written text stands for the set, where its vectors can be counted
+  pub reads : length (set_of n config list).vectors < 2 ^ 32 → StandsFor (noted (set_of n config list)) (without_notes (set_of n config list))
 
 -- So it is for the cubes of a text and every ready design whose ports have names, where the scanned netlist is one whose nets have an order,
 -- as one that was made is.

@@ -1,14 +1,12 @@
 -- What is reported of cubes is so.
-use Rattle.std.proofs.Common.{ℕ, zero, suc, ◌≡◌, List, [], ◌∷◌, map, Some, slice_get, refl, sym, ap, subst, ◌∙◌}
-use Rattle.std.proofs.lemmas.Option.{none-some, same_Some}
+use Rattle.std.proofs.Common.{ℕ, ◌≡◌, [], map, Some, slice_get, refl, sym, ap, subst, ◌∙◌}
+use Rattle.std.proofs.lemmas.Option.{same_Some}
 use Rattle.dft_netlist.specs.Netlist.{Netlist}
 use Rattle.dft_config.specs.declared.config.RingConfig.{RingConfig}
 use Rattle.dft_cubes.specs.declared.cube.Cube.{Cube}
-use Rattle.dft_cubes.specs.declared.cube.Merged.{Merged}
 use Rattle.dft_merge.specs.declared.placed.Placed.{Placed}
 use Rattle.dft_merge.specs.declared.placed.Placed.TheVariants as word
 use Rattle.dft_merge.specs.Laws.{IsUnsolvable}
-use Rattle.dft_merge.specs.Placement.{Places, PlacesAll}
 use Rattle.dft_merge.specs.Rows.{CellRows}
 use Rattle.dft_replay.specs.Laws.{vectors_of as vectors_in}
 use Rattle.dft_replay.specs.Rows.{rows_of as replayed_rows}
