@@ -15,8 +15,6 @@ mod netlist_tokens;
 #[cfg(test)]
 mod netlist_written;
 #[cfg(test)]
-mod pattern_limits;
-#[cfg(test)]
 mod pattern_lines;
 #[cfg(test)]
 mod patterns;
