@@ -23,12 +23,24 @@ fn play<R: AllocGlobal + Print + std::rt::Files>(rt: &R, line: &str) -> io::Resu
     let mut out = OutSink::new(rt);
     let status = status_of_run(rt.alloc(), words.as_slice(), &mut files, &mut out);
     println!(rt; "status {status}")?;
+    if status == 0 {
+        show_saved(rt, words.as_slice(), line.starts_with("scan "))?;
+    }
+    Ok(())
+}
+
+// Shows what the words of a command that is done name as its outputs; the report of a scan is one.
+fn show_saved<R: AllocGlobal + Print + std::rt::Files>(
+    rt: &R,
+    words: &[String],
+    is_scan: bool,
+) -> io::Result<()> {
     let mut is_saved = false;
-    for word in &words {
+    for word in words {
         if is_saved {
             show(rt, word.as_str())?;
         }
-        is_saved = word.as_str().starts_with("--out") || word.as_str() == "--report";
+        is_saved = word.as_str().starts_with("--out") || is_scan && word.as_str() == "--report";
     }
     Ok(())
 }
