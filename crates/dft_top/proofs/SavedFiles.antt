@@ -60,7 +60,7 @@ certified files making old new o c report library config netlist cubes accepts x
     let of = given_next (NetlistGives c.cells files.netlist new) (CertifyOf files g new) o n (file_one MAX_NETLIST_BYTES (codes "netlist") (NetlistText c.cells) (netlist_text_one c.cells) (file_at files.netlist new)) netlist on in
     let with = then_accepts (PlanGives n g) (CertifyWith n g files.cubes files.report new) o accepts of in
     let for = given_next (CubesGive n g files.cubes new) (CertifyFor n g files.report new) o c.cubes (file_one MAX_CUBE_BYTES (codes "cubes") (CubeText n g) (cube_text_one n g) (file_at files.cubes new)) cubes with.1.1 in
-    let told = then_accepts (ReportGives files.report new) (λ r. IsOutcomeOfReport n g c.cubes r o) o accepts for in
+    let told = then_accepts (ReportGives files.report new) (λ r. IsOutcomeOfReport n g c.cubes r) o accepts for in
     let text = compiled.report_text n g c.placing.rows c.cubes c.placing.placed in
     let read = text_at MAX_REPORT_BYTES (codes "report") ReportText (file_at files.report new) text told.0 (ap (λ (name : List ℕ). file_at name new) report ∙ c.out_report) told.1.0 in
     report_certified making old new c o told.0 (ok_same (report_of text) told.0 _ read c.told) told.1.1
