@@ -1,18 +1,16 @@
 -- When a command is answered.
-use Rattle.std.proofs.Common.{ℕ, ◌≡◌, ◌⊎◌, ◌∙◌, inl, inr, List, refl, sym, ap, subst, Option, None, Some}
+use Rattle.std.proofs.Common.{ℕ, ◌≡◌, ◌⊎◌, inl, inr, List, refl, sym, ap, subst, Option, None, Some}
 use Rattle.dft_files.specs.Outside.{Held, Told}
-use Rattle.dft_words.specs.Words.{AreFor, Certify, CertifyFiles, Command, Compile, CompileFiles, Generate, IsFor, JobNumbers, Replay, ReplayFiles, Scan, ScanFiles}
+use Rattle.dft_words.specs.Words.{AreFor, Certify, Command, Compile, Generate, Replay, ReplayFiles, Scan}
 use Rattle.dft_words.proofs.Understood.{for_once}
 use Rattle.dft_top.specs.declared.answer.Answer.{Answer}
-use Rattle.dft_top.specs.declared.answer.Refusal.{Refusal}
-use Rattle.dft_top.specs.declared.answer.Status.{Status}
 use Rattle.dft_top.specs.declared.answer.Status.TheVariants.{Done, OutOfMemory}
 use Rattle.dft_top.specs.declared.outcome.Outcome.{Outcome}
 use Rattle.dft_top.specs.declared.outcome.Outcome.TheVariants as outcome
 use Rattle.dft_top.specs.Answers.{status_of}
 use Rattle.dft_top.specs.Courses.{IsPassing, Reaches}
-use Rattle.dft_top.specs.Outcomes.{IsOutcomeFor, IsOutcomeOfJob, course_of, course_of_replay}
-use Rattle.dft_top.specs.Run.{CompletesTold, EndsFor, IsAnswered, IsDelivered, IsOfCertify, IsOfCompile, IsOfReplay, IsOfScan, IsOutcomeTold, IsPassed, NoneFailed, Seen, Suits}
+use Rattle.dft_top.specs.Outcomes.{IsOutcomeFor, course_of, course_of_replay}
+use Rattle.dft_top.specs.Run.{CompletesTold, EndsFor, IsAnswered, IsDelivered, IsOfCertify, IsOfCompile, IsOfReplay, IsOfScan, IsPassed, NoneFailed, Seen, Suits}
 use Rattle.dft_top.proofs.Determined.{passing_reaches, reaches_one}
 use Rattle.dft_top.proofs.OneOutcome.{determined}
 use Rattle.dft_top.specs.Saved.{IsAccepted}

@@ -1,9 +1,6 @@
 -- What a replay and a test of certificates make of the files that a compilation saved.
-use Rattle.std.proofs.Common.{ℕ, ◌≡◌, ◌∙◌, List, length, codes, sym, ap, subst, Option, None, Some, Result, Ok}
+use Rattle.std.proofs.Common.{ℕ, ◌≡◌, ◌∙◌, List, codes, ap, subst, Option, Some, Ok}
 use Rattle.dft_files.specs.Outside.{Held, file_at}
-use Rattle.dft_config.specs.declared.config.Config.{Config}
-use Rattle.dft_netlist.specs.Netlist.{Netlist}
-use Rattle.dft_cubes.specs.declared.cube.Cube.{Cube}
 use Rattle.dft_pass_laws.specs.Passing.{set_of}
 use Rattle.dft_scan_hardware.specs.declared.style.Style.TheVariants.{Edt}
 use Rattle.dft_scan_hardware.specs.Statements.{scanned}
@@ -11,7 +8,7 @@ use Rattle.dft_load_laws.specs.Loading.{rows_of}
 use Rattle.dft_report.specs.declared.report.Report.{Report}
 use Rattle.dft_report_in.specs.Reading.{report_of}
 use Rattle.dft_certify.specs.declared.error.CertifyError.{CertifyError}
-use Rattle.dft_certify.specs.Certifying.{certify_refusal, unsolvable_in}
+use Rattle.dft_certify.specs.Certifying.{unsolvable_in}
 use Rattle.dft_certify_laws.proofs.Compiling.{compiled_certifies}
 use Rattle.dft_compile.specs.Reports.{compile_report}
 use Rattle.dft_compile.specs.Texts as compiled

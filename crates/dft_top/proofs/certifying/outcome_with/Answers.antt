@@ -2,7 +2,7 @@ use Rattle.std.proofs.Common.{◌≡◌, inl, inr, ap, Err, List, Option, Some, 
 use Rattle.dft_files.specs.Outside.{Held, Told}
 use Rattle.dft_cubes.specs.declared.cube.Cube.{Cube}
 use Rattle.dft_top.specs.Checks.{CubesGive}
-use Rattle.dft_top.specs.Courses.{Reaches, TurnComes}
+use Rattle.dft_top.specs.Courses.{Reaches}
 use Rattle.dft_top.specs.Outcomes.{course_of_report}
 use Rattle.dft_top.specs.Stops.{ComesTo}
 use Rattle.dft_top.proofs.Steps.{CertifyFor, stop_then, told_of_all, turn_then, value_then}

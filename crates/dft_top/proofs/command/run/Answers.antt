@@ -1,5 +1,4 @@
-use Rattle.std.proofs.Common.{refl}
-use Rattle.dft_top.proofs.Completed.{completes_for, completes_short}
+use Rattle.dft_top.proofs.Completed.{completes_for}
 use Rattle.dft_top.proofs.JobReplays.{jobs_pass}
 use Rattle.dft_top.proofs.Kept.{kept_for}
 use Rattle.dft_top.proofs.Promised.{certifies_for, compiles_for, passes_for, scans_for}
