@@ -130,11 +130,11 @@ static REPORTS: [(&str, &str, &str, &str, &str); 18] = [
     ),
 ];
 
-fn is_certified(
+fn is_certified<'a>(
     alloc: Global,
-    config: &str,
-    cubes: &str,
-    report: (&str, &str),
+    config: &'a str,
+    cubes: &'a str,
+    report: (&'a str, &'a str),
     line: &str,
 ) -> Result<(), Unlike> {
     let (head, rest) = report;
