@@ -18,6 +18,8 @@ pub(crate) const CERTIFY: &str = "certify --netlist n --config c --cubes p --rep
 
 const WITH_LIBRARY: &str = "certify --report r --cubes p --library l --netlist n --config c";
 
+const KEEPS: &str = "version = 1\ndomains = ['clk']\nkeep = ['f4']\nwarm = 0\nwindow = 4\n";
+
 const ONE: &str = "cube t clk\ncell f1 0\ncell f3 0\ncell f4 1\nend\n";
 
 const ONE_TOLD: &str =
@@ -31,7 +33,7 @@ const PLAIN: &str =
 pub(crate) const TWO: &str = "certified 2 cubes\n";
 
 // A configuration's first part, cubes, a report in two parts, and what is printed. The lines of cubes begin with line 10.
-static REPORTS: [(&str, &str, &str, &str, &str); 18] = [
+static REPORTS: [(&str, &str, &str, &str, &str); 22] = [
     (COLD, PARTED, COLD_HEAD, PARTED_TOLD, TWO),
     (WARM, ONE, WARM_HEAD, ONE_TOLD, "certified 1 cubes\n"),
     (COLD, PARTED, PLAIN, "", "certified 0 cubes\n"),
@@ -67,13 +69,20 @@ static REPORTS: [(&str, &str, &str, &str, &str); 18] = [
         "refused K1 10:1\n",
     ),
     (COLD, PARTED, PLAIN, PARTED_TOLD, "refused K1 10:1\n"),
-    // K2: other variables; no care bit; a cell twice
+    // K2: other variables; variables out of order; another bit; no care bit; a cell twice
     (
         COLD,
         PARTED,
         COLD_HEAD,
         "cube u unsolvable 1\nsum f2 1 -\ncube v encoded 0\ncube w unsolvable 2\nsum f1 0 0.0\nsum f3 1 0.1\n",
         "refused K2 15:1 f3\n",
+    ),
+    (
+        WARM,
+        ONE,
+        WARM_HEAD,
+        "cube t unsolvable 3\nsum f1 0 0.2 0.0\nsum f3 0 0.1 0.2\nsum f4 1 0.0 0.1\n",
+        "refused K2 11:1 f1\n",
     ),
     (
         COLD,
@@ -86,10 +95,24 @@ static REPORTS: [(&str, &str, &str, &str, &str); 18] = [
         COLD,
         PARTED,
         COLD_HEAD,
+        "cube w unsolvable 3\nsum f1 0 0.0\nsum f3 1 0.0\nsum f2 1 -\n",
+        "refused K2 13:1 f2\n",
+    ),
+    (
+        COLD,
+        PARTED,
+        COLD_HEAD,
         "cube w unsolvable 2\nsum f1 0 0.0\nsum f1 0 0.0\n",
         "refused K2 12:1 f1\n",
     ),
-    // K3: a variable is left over; the bits sum to 0; no sums
+    // K3: a variable is left over, once and twice; the bits sum to 0; no sums
+    (
+        WARM,
+        ONE,
+        WARM_HEAD,
+        "cube t unsolvable 2\nsum f3 0 0.1 0.2\nsum f4 1 0.0 0.1\n",
+        "refused K3 t\n",
+    ),
     (
         COLD,
         PARTED,
@@ -104,8 +127,21 @@ static REPORTS: [(&str, &str, &str, &str, &str); 18] = [
         "cube v unsolvable 1\nsum f2 0 -\n",
         "refused K3 v\n",
     ),
-    (COLD, PARTED, COLD_HEAD, "cube u unsolvable 0\n", "refused K3 u\n"),
-    // K4: no cell of the name; a gate
+    (
+        COLD,
+        PARTED,
+        COLD_HEAD,
+        "cube u unsolvable 0\n",
+        "refused K3 u\n",
+    ),
+    // K4: a flip-flop that is not scanned; no cell of the name; a gate
+    (
+        KEEPS,
+        ONE,
+        COLD_HEAD,
+        "cube t unsolvable 1\nsum f4 1 -\n",
+        "refused K4 11:1 f4\n",
+    ),
     (
         COLD,
         PARTED,
@@ -130,11 +166,11 @@ static REPORTS: [(&str, &str, &str, &str, &str); 18] = [
     ),
 ];
 
-fn is_certified(
+fn is_certified<'a>(
     alloc: Global,
-    config: &str,
-    cubes: &str,
-    report: (&str, &str),
+    config: &'a str,
+    cubes: &'a str,
+    report: (&'a str, &'a str),
     line: &str,
 ) -> Result<(), Unlike> {
     let (head, rest) = report;
@@ -192,8 +228,20 @@ const NO_REPORT: &str = "edt report 2\n";
 // inserted.
 static ORDER: [(&str, (&str, &str), &str, &str, &str); 6] = [
     ("module", ("[", ""), "cell", NO_REPORT, "refused C1\n"),
-    ("module", (COLD, PAIR), "cell", NO_REPORT, "refused V9 1:7\n"),
-    (ONE_CELL, (COLD, PAIR), "cell", NO_REPORT, "refused G3 1 2\n"),
+    (
+        "module",
+        (COLD, PAIR),
+        "cell",
+        NO_REPORT,
+        "refused V9 1:7\n",
+    ),
+    (
+        ONE_CELL,
+        (COLD, PAIR),
+        "cell",
+        NO_REPORT,
+        "refused G3 1 2\n",
+    ),
     (FIVE, (COLD, PAIR), "cell", NO_REPORT, "refused Q1 1:1\n"),
     (FIVE, (COLD, PAIR), PARTED, NO_REPORT, "refused K1 1:1\n"),
     (

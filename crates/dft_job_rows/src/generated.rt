@@ -25,6 +25,18 @@ fn jobs_are_the_same_on_each_run(rt: HostRuntime) -> Result<(), Fail> {
     Ok(())
 }
 
+// Two thousand flip-flops.
+const LARGE: &str =
+    "compiled cells 2000 chains 16 cycles 141 patterns 10 encoded 500 unsolvable 0 skipped 0 masked 0 vectors 1562\npass 1562 vectors 2830 compared\n";
+
+#[test]
+fn a_large_job_passes(rt: HostRuntime) -> Result<(), Fail> {
+    let mut files = shelf(rt.alloc(), &[], None)?;
+    let words = "generate --seed 7 --size 2000";
+    prints(rt.alloc(), words, &mut files, Status::Done, LARGE)?;
+    Ok(())
+}
+
 // How many bytes a put that fails keeps.
 fn keeps(alloc: Global, kept: u32, line: &str) -> Result<(), Unlike> {
     let mut files = shelf(alloc, &[], None)?;

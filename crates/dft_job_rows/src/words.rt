@@ -78,7 +78,10 @@ static NO_JOBS: [&str; 25] = [
 static JOBS: [(&str, &str); 5] = [
     ("generate --size 64 --seed 1", SEED_ONE),
     ("generate --seed=1 --size=64", SEED_ONE),
-    ("generate --seed 00000000000000000001 --size 00064", SEED_ONE),
+    (
+        "generate --seed 00000000000000000001 --size 00064",
+        SEED_ONE,
+    ),
     ("generate --seed 01 --size 0016", LEAST),
     ("generate --seed 1 --size 16", LEAST),
 ];
