@@ -1,7 +1,7 @@
 use Rattle.std.proofs.Common.{◌≡◌, ◌≤◌, ◌+◌, ◌-◌, length}
 use Rattle.std.specs.Prelude.{option_map}
-use Rattle.dft_netlist_text.specs.Lexemes as spec
-use Rattle.dft_verilog_tokens.proofs.blanks.comment_rest.Given as goal
+use Rattle.dft_lexing.specs.Blanks as spec
+use Rattle.dft_lexing.proofs.blanks.comment_rest.Given as goal
 
 -- the rest of the text gives what the whole gives
 abbrev pub invariant-loop-rest : goal.invariant-loop-rest

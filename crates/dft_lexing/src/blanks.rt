@@ -1,0 +1,64 @@
+//! Spaces and comments.
+
+ghost use Rattle.std.specs.Prelude.{◌≡◌, ◌≤◌, ◌<◌, ◌+◌, ◌-◌, ◌^◌, ◌==◌, not, [], ◌∷◌, length, IfSome};
+ghost use Rattle.std.specs.List.{prefix_len};
+ghost use Rattle.dft_lexing.specs.Blanks as spec;
+
+/// Whether a byte separates tokens: a tab, a line feed, a form feed, a carriage return or a space.
+#[inline(always)]
+pub fn is_space(byte: u8) -> bool
+    ensures { result ≡ spec.is_space byte }
+{
+    byte == b'\t' || byte == b'\n' || byte == 12 || byte == b'\r' || byte == b' '
+}
+
+/// Whether a byte is printed, and no blank.
+#[inline(always)]
+pub fn is_printed(byte: u8) -> bool
+    ensures { result ≡ spec.is_printed byte }
+{
+    33 <= byte && byte <= 126
+}
+
+/// How many bytes stand before the end of the line.
+pub fn to_line_end(text: &[u8]) -> usize
+    ensures value { result ≡ prefix_len (λ c. not (c == 10)) text.now }
+    ensures within { result ≤ length text.now }
+{
+    text.iter().take_while(|byte| **byte != b'\n').count()
+}
+
+/// Whether these two bytes stand at the front.
+#[inline(always)]
+pub fn begins_with_pair(text: &[u8], first: u8, second: u8) -> bool
+    ensures { result ≡ spec.begins_with (first ∷ second ∷ []) text.now }
+{
+    matches!(text, [a, b, ..] if *a == first && *b == second)
+}
+
+#[tactic(auto, unfolding(crate::specs::Blanks::comment_rest))]
+/// How many bytes a comment has from behind its opening to behind the next `*/`.
+pub fn comment_rest(text: &[u8]) -> Option<usize>
+    ensures value { result ≡ spec.comment_rest text.now }
+    ensures within { IfSome result (λ len. len ≤ length text.now) }
+{
+    let mut rest = text;
+    while let [_, behind @ ..] = rest {
+        if begins_with_pair(rest, b'*', b'/') {
+            return Some(text.len() - rest.len() + 2);
+        }
+        rest = behind;
+    }
+    None
+}
+
+/// What a comment has with its opening of two bytes; none where the text does not close it.
+pub fn closed_len(rest: Option<usize>) -> usize
+    requires { IfSome rest (λ len. len + 2 < 2 ^ 64) }
+    ensures { result ≡ spec.closed_len rest }
+{
+    match rest {
+        Some(len) => 2 + len,
+        None => 0,
+    }
+}

@@ -1,0 +1,6 @@
+//! What the lexers of netlist texts (IEEE 1364) and of pattern texts (IEEE 1450-1999) share: spaces and comments.
+#![tactic(auto)]
+
+mod blanks;
+
+pub use blanks::{begins_with_pair, closed_len, comment_rest, is_printed, is_space, to_line_end};
