@@ -20,7 +20,7 @@ unfoldable pub comment_rest : Text → Option ℕ
 comment_rest [] = None
 comment_rest (b ∷ text) = if begins_with (codes "*/") (b ∷ text) then Some 2 else option_map suc (comment_rest text)
 
--- what a comment has with its opening of two bytes; none where the text does not close it
+-- what a comment (or another blank that is closed) has with its opening of two bytes; none where the text does not close it
 abbrev pub closed_len : Option ℕ → ℕ
 closed_len None = 0
 closed_len (Some rest) = 2 + rest

@@ -52,7 +52,7 @@ pub fn comment_rest(text: &[u8]) -> Option<usize>
     None
 }
 
-/// What a comment has with its opening of two bytes; none where the text does not close it.
+/// What a comment (or another blank that is closed) has with its opening of two bytes; none where the text does not close it.
 pub fn closed_len(rest: Option<usize>) -> usize
     requires { IfSome rest (λ len. len + 2 < 2 ^ 64) }
     ensures { result ≡ spec.closed_len rest }

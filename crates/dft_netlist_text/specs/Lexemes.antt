@@ -6,6 +6,8 @@ use Rattle.std.specs.Str.{bytes_eq}
 use Rattle.dft_base.specs.Lexing.{Text, Front, Blank, Cut, tokens_from}
 use Rattle.dft_base.specs.Lexing as lexing
 use Rattle.dft_base.specs.Words.{begins_word, continues_word, is_reserved}
+pub use Rattle.dft_lexing.specs.Blanks.{is_space, is_printed, begins_with, closed_len}
+unfoldable pub use Rattle.dft_lexing.specs.Blanks.{comment_rest}
 use Rattle.dft_netlist_text.specs.declared.text.TokenKind.{TokenKind}
 use Rattle.dft_netlist_text.specs.declared.text.TokenKind.TheVariants as kind
 
@@ -15,14 +17,6 @@ Token = lexing.Token TokenKind
 
 -- ---- bytes
 
--- a tab, a line feed, a form feed, a carriage return or a space
-abbrev pub is_space : ℕ → Bool
-is_space b = b == 9 || b == 10 || b == 12 || b == 13 || b == 32
-
--- printed, and no blank
-abbrev pub is_printed : ℕ → Bool
-is_printed b = nat_le 33 b && nat_le b 126
-
 -- what may stand in a line behind a directive
 abbrev pub is_in_line : ℕ → Bool
 is_in_line b = not (b == 10) && (is_space b || is_printed b)
@@ -31,16 +25,7 @@ is_in_line b = not (b == 10) && (is_space b || is_printed b)
 abbrev pub is_in_digits : ℕ → Bool
 is_in_digits b = is_ascii_alphanumeric b || b == 95
 
--- whether a text begins with this word
-abbrev pub begins_with : Text → Text → Bool
-begins_with word text = starts_with nat_eq text word
-
 -- ---- blanks
-
--- how many bytes a comment has from behind its opening to behind the next `*/`
-unfoldable pub comment_rest : Text → Option ℕ
-comment_rest [] = None
-comment_rest (b ∷ text) = if begins_with (codes "*/") (b ∷ text) then Some 2 else option_map suc (comment_rest text)
 
 -- how many bytes an attribute has from behind its opening to behind the next `*)` that stands in no quotes
 unfoldable pub attribute_rest : (quoted : Bool) → Text → Option ℕ
@@ -65,11 +50,6 @@ is_passed_directive text = slice_index text 0 == 96 && is_passed_over (take (wor
 -- the name of a directive, and the rest of its line
 abbrev pub directive_len : Text → ℕ
 directive_len text = 1 + word_len (drop 1 text) + prefix_len is_in_line (drop (1 + word_len (drop 1 text)) text)
-
--- what a comment or an attribute has with its opening of two bytes; none where the text does not close it
-abbrev pub closed_len : Option ℕ → ℕ
-closed_len None = 0
-closed_len (Some rest) = 2 + rest
 
 -- How many bytes of blank stand at the front: a space, a comment, an attribute, or a directive that is passed over.
 unfoldable pub blank_len : Text → ℕ

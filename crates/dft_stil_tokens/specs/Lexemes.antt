@@ -5,6 +5,8 @@ use Rattle.std.specs.Char.{is_ascii_digit, is_ascii_alphanumeric}
 use Rattle.dft_base.specs.Lexing.{Text, Front, Blank, Cut, tokens_from}
 use Rattle.dft_base.specs.Lexing as lexing
 use Rattle.dft_base.specs.Words.{begins_word}
+pub use Rattle.dft_lexing.specs.Blanks.{is_space, is_printed, begins_with, closed_len}
+unfoldable pub use Rattle.dft_lexing.specs.Blanks.{comment_rest}
 use Rattle.dft_stil_tokens.specs.declared.text.TokenKind.{TokenKind}
 use Rattle.dft_stil_tokens.specs.declared.text.TokenKind.TheVariants as kind
 
@@ -14,14 +16,6 @@ Token = lexing.Token TokenKind
 
 -- ---- bytes
 
--- a tab, a line feed, a form feed, a carriage return or a space
-abbrev pub is_space : ℕ → Bool
-is_space b = b == 9 || b == 10 || b == 12 || b == 13 || b == 32
-
--- printed, and no blank
-abbrev pub is_printed : ℕ → Bool
-is_printed b = nat_le 33 b && nat_le b 126
-
 -- what may stand in a word behind its first letter
 abbrev pub continues_name : ℕ → Bool
 continues_name b = is_ascii_alphanumeric b || b == 95
@@ -30,10 +24,6 @@ continues_name b = is_ascii_alphanumeric b || b == 95
 abbrev pub is_in_number : (quoted : Bool) → ℕ → Bool
 is_in_number true b = is_ascii_digit b
 is_in_number false b = is_ascii_alphanumeric b || b == 95 || b == 46
-
--- whether a text begins with this word
-abbrev pub begins_with : Text → Text → Bool
-begins_with word text = starts_with nat_eq text word
 
 -- ---- words
 
@@ -49,20 +39,10 @@ word_len text = prefix_len continues_name text + index_len (drop (prefix_len con
 
 -- ---- blanks
 
--- how many bytes a comment has from behind its opening to behind the next `*/`
-unfoldable pub comment_rest : Text → Option ℕ
-comment_rest [] = None
-comment_rest (b ∷ text) = if begins_with (codes "*/") (b ∷ text) then Some 2 else option_map suc (comment_rest text)
-
 -- how many bytes an annotation has from behind its opening to behind the next `*}`
 unfoldable pub note_rest : Text → Option ℕ
 note_rest [] = None
 note_rest (b ∷ text) = if begins_with (codes "*}") (b ∷ text) then Some 2 else option_map suc (note_rest text)
-
--- what a comment has with its opening of two bytes; none where the text does not close it
-abbrev pub closed_len : Option ℕ → ℕ
-closed_len None = 0
-closed_len (Some rest) = 2 + rest
 
 -- how many bytes a space or a comment at the front has
 unfoldable pub gap_len : Text → ℕ

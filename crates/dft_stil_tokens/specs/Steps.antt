@@ -6,6 +6,8 @@ use Rattle.std.specs.Str.{bytes_eq}
 use denote.Enum.Bare.{sameb}
 use Rattle.dft_base.specs.Lexing.{Text}
 use Rattle.dft_base.specs.Parser as parser
+unfoldable pub use Rattle.dft_lexing.specs.Steps.{bytes, left, next}
+use Rattle.dft_lexing.specs.Steps as steps
 use Rattle.dft_stil_tokens.specs.contracts.text.TokenKind.{the_type}
 use Rattle.dft_stil_tokens.specs.declared.text.TokenKind.{TokenKind}
 use Rattle.dft_stil_tokens.specs.declared.text.TokenKind.TheVariants as kind
@@ -26,21 +28,6 @@ Rule A = parser.Parser Token Fault A
 unfoldable pub kind_of : List Token → TokenKind
 kind_of [] = kind.End
 kind_of (t ∷ ts) = t.kind
-
--- the bytes of the next token
-unfoldable pub bytes : List Token → Text
-bytes [] = []
-bytes (t ∷ ts) = t.bytes
-
--- how many bytes there are from the next token's place on
-unfoldable pub left : List Token → ℕ
-left [] = 0
-left (t ∷ ts) = t.left
-
--- the tokens behind the next one
-unfoldable pub next : List Token → List Token
-next [] = []
-next (t ∷ ts) = ts
 
 -- whether a token of this kind comes next
 unfoldable pub sees : TokenKind → List Token → Bool
@@ -134,13 +121,11 @@ name = λ ts. if sees_name ts then Ok (bytes ts, next ts) else refuse ts
 
 -- what must hold, or else a meaning is refused at this place
 abbrev pub needed : {A : Type 0} → Cause → ℕ → Bool → Rule A → Rule A
-needed why place true rule = rule
-needed why place false rule = λ ts. Err (fault why place)
+needed why place = steps.needed (fault why place)
 
 -- what a check gives, or its fault
 abbrev pub checked : {A : Type 0} → parser.Checked Fault A → Rule A
-checked (Ok a) = parser.pure a
-checked (Err f) = λ ts. Err f
+checked = steps.checked
 
 -- ---- characters
 

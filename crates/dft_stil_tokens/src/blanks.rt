@@ -5,15 +5,10 @@ ghost use Rattle.std.specs.List.{prefix_len};
 ghost use Rattle.std.specs.Char.{is_ascii_digit};
 ghost use Rattle.dft_stil_tokens.specs.Lexemes as spec;
 
+use dft_lexing::{begins_with_pair, closed_len, comment_rest, is_space, to_line_end};
+
 /// The most bytes that a pattern text may have: 256 MiB.
 pub const MAX_TEXT: usize = 268_435_456;
-
-/// Whether a byte separates tokens: a tab, a line feed, a form feed, a carriage return or a space.
-pub fn is_space(byte: u8) -> bool
-    ensures { result ≡ spec.is_space byte }
-{
-    byte == b'\t' || byte == b'\n' || byte == 12 || byte == b'\r' || byte == b' '
-}
 
 // Whether a byte may stand in a word behind its first letter.
 fn continues_name(byte: u8) -> bool
@@ -67,37 +62,6 @@ pub fn word_len(text: &[u8]) -> usize
     len + index_len(&text[len..])
 }
 
-// How many bytes stand before the end of the line.
-fn to_line_end(text: &[u8]) -> usize
-    ensures value { result ≡ prefix_len (λ c. not (c == 10)) text.now }
-    ensures within { result ≤ length text.now }
-{
-    text.iter().take_while(|byte| **byte != b'\n').count()
-}
-
-// Whether these two bytes stand at the front.
-fn begins_with_pair(text: &[u8], first: u8, second: u8) -> bool
-    ensures { result ≡ spec.begins_with (first ∷ second ∷ []) text.now }
-{
-    matches!(text, [a, b, ..] if *a == first && *b == second)
-}
-
-#[tactic(auto, unfolding(crate::specs::Lexemes::comment_rest))]
-// How many bytes a comment has from behind its opening to behind the next `*/`.
-fn comment_rest(text: &[u8]) -> Option<usize>
-    ensures value { result ≡ spec.comment_rest text.now }
-    ensures within { IfSome result (λ len. len ≤ length text.now) }
-{
-    let mut rest = text;
-    while let [_, behind @ ..] = rest {
-        if begins_with_pair(rest, b'*', b'/') {
-            return Some(text.len() - rest.len() + 2);
-        }
-        rest = behind;
-    }
-    None
-}
-
 #[tactic(auto, unfolding(crate::specs::Lexemes::note_rest))]
 // How many bytes an annotation has from behind its opening to behind the next `*}`.
 fn note_rest(text: &[u8]) -> Option<usize>
@@ -112,17 +76,6 @@ fn note_rest(text: &[u8]) -> Option<usize>
         rest = behind;
     }
     None
-}
-
-// What a comment has with its opening of two bytes; none where the text does not close it.
-fn closed_len(rest: Option<usize>) -> usize
-    requires { IfSome rest (λ len. len + 2 < 2 ^ 64) }
-    ensures { result ≡ spec.closed_len rest }
-{
-    match rest {
-        Some(len) => 2 + len,
-        None => 0,
-    }
 }
 
 #[tactic(auto, unfolding(crate::specs::Lexemes::gap_len))]

@@ -12,6 +12,7 @@ ghost use Rattle.dft_stil_tokens.specs.Cut.{carries_name, shown};
 use crate::blanks::{MAX_TEXT, digits_len, note_opening, word_len};
 use crate::text::TokenKind;
 use dft_base::begins_word;
+use dft_lexing::is_printed;
 
 /// The token at the front of a text.
 #[derive(Clone, Copy, Debug)]
@@ -51,13 +52,6 @@ fn unclosed(len: usize, at: usize) -> Lexeme
         end: len,
         at,
     }
-}
-
-// Whether a byte is printed, and no blank.
-fn is_printed(byte: u8) -> bool
-    ensures { result ≡ spec.is_printed byte }
-{
-    33 <= byte && byte <= 126
 }
 
 // How many bytes at the front are printed.

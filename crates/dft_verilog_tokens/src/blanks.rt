@@ -6,23 +6,10 @@ ghost use Rattle.dft_base.specs.Words as words;
 ghost use Rattle.dft_netlist_text.specs.Lexemes as spec;
 
 use crate::classes::{is_in_word, is_lone_paren, is_plain};
+use dft_lexing::{begins_with_pair, closed_len, comment_rest, is_printed, is_space, to_line_end};
 
 /// The most bytes that a netlist text may have: 64 MiB.
 pub const MAX_TEXT: usize = 67_108_864;
-
-/// Whether a byte separates tokens: a tab, a line feed, a form feed, a carriage return or a space.
-pub fn is_space(byte: u8) -> bool
-    ensures { result ≡ spec.is_space byte }
-{
-    byte == b'\t' || byte == b'\n' || byte == 12 || byte == b'\r' || byte == b' '
-}
-
-/// Whether a byte is printed, and no blank.
-pub fn is_printed(byte: u8) -> bool
-    ensures { result ≡ spec.is_printed byte }
-{
-    33 <= byte && byte <= 126
-}
 
 /// How many bytes the word at the front has; a text may begin with none.
 pub fn word_len(text: &[u8]) -> usize
@@ -47,37 +34,6 @@ fn line_len(text: &[u8]) -> usize
     text.iter().take_while(|byte| is_in_line(**byte)).count()
 }
 
-// How many bytes stand before the end of the line.
-fn to_line_end(text: &[u8]) -> usize
-    ensures value { result ≡ prefix_len (λ c. not (c == 10)) text.now }
-    ensures within { result ≤ length text.now }
-{
-    text.iter().take_while(|byte| **byte != b'\n').count()
-}
-
-// Whether these two bytes stand at the front.
-fn begins_with_pair(text: &[u8], first: u8, second: u8) -> bool
-    ensures { result ≡ spec.begins_with (first ∷ second ∷ []) text.now }
-{
-    matches!(text, [a, b, ..] if *a == first && *b == second)
-}
-
-#[tactic(auto, unfolding(dft_netlist_text::specs::Lexemes::comment_rest))]
-// How many bytes a comment has from behind its opening to behind the next `*/`.
-fn comment_rest(text: &[u8]) -> Option<usize>
-    ensures value { result ≡ spec.comment_rest text.now }
-    ensures within { IfSome result (λ len. len ≤ length text.now) }
-{
-    let mut rest = text;
-    while let [_, behind @ ..] = rest {
-        if begins_with_pair(rest, b'*', b'/') {
-            return Some(text.len() - rest.len() + 2);
-        }
-        rest = behind;
-    }
-    None
-}
-
 #[tactic(auto, unfolding(dft_netlist_text::specs::Lexemes::attribute_rest))]
 // How many bytes an attribute has from behind its opening to behind the next `*)` that stands in no quotes.
 fn attribute_rest(text: &[u8]) -> Option<usize>
@@ -94,17 +50,6 @@ fn attribute_rest(text: &[u8]) -> Option<usize>
         rest = behind;
     }
     None
-}
-
-// What a comment or an attribute has with its opening of two bytes; none where the text does not close it.
-fn closed_len(rest: Option<usize>) -> usize
-    requires { IfSome rest (λ len. len + 2 < 2 ^ 64) }
-    ensures { result ≡ spec.closed_len rest }
-{
-    match rest {
-        Some(len) => 2 + len,
-        None => 0,
-    }
 }
 
 // A directive that says nothing of a netlist: it is passed over with the rest of its line.

@@ -9,9 +9,10 @@ ghost use Rattle.dft_netlist_text.specs.Lexemes as spec;
 ghost use Rattle.dft_netlist_text.specs.declared.text.TokenKind.TheVariants as kind;
 ghost use Rattle.dft_verilog_tokens.specs.Cut.{carries_name, shown};
 
-use crate::blanks::{MAX_TEXT, begins_blank, is_printed, is_space, word_len};
+use crate::blanks::{MAX_TEXT, begins_blank, word_len};
 use crate::classes::{begins_word, is_lone_paren, is_mark, lone_mark_kind};
 use crate::words::{mark_kind, word_kind};
+use dft_lexing::{is_printed, is_space};
 use dft_netlist_text::TokenKind;
 
 /// The token at the front of a text.

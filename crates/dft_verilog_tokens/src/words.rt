@@ -6,8 +6,8 @@ ghost use Rattle.dft_netlist_text.specs.Lexemes as spec;
 ghost use Rattle.dft_verilog_tokens.specs.Cut.{carries_name};
 ghost use Rattle.dft_verilog_tokens.specs.SmallWords as letters;
 
-use crate::blanks::is_printed;
 use dft_base::is_reserved;
+use dft_lexing::is_printed;
 use dft_netlist_text::TokenKind;
 
 // Whether two small letters stand in front, as in each reserved word.
