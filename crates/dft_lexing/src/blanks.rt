@@ -2,6 +2,7 @@
 
 ghost use Rattle.std.specs.Prelude.{◌≡◌, ◌≤◌, ◌<◌, ◌+◌, ◌-◌, ◌^◌, ◌==◌, not, [], ◌∷◌, length, IfSome};
 ghost use Rattle.std.specs.List.{prefix_len};
+ghost use Rattle.std.specs.Char.{is_ascii_digit};
 ghost use Rattle.dft_lexing.specs.Blanks as spec;
 
 /// Whether a byte separates tokens: a tab, a line feed, a form feed, a carriage return or a space.
@@ -18,6 +19,22 @@ pub fn is_printed(byte: u8) -> bool
     ensures { result ≡ spec.is_printed byte }
 {
     33 <= byte && byte <= 126
+}
+
+/// How many bytes at the front are printed.
+pub fn printed_len(text: &[u8]) -> usize
+    ensures value { result ≡ prefix_len spec.is_printed text.now }
+    ensures within { result ≤ length text.now }
+{
+    text.iter().take_while(|byte| is_printed(**byte)).count()
+}
+
+/// How many decimal digits stand at the front.
+pub fn decimal_len(text: &[u8]) -> usize
+    ensures value { result ≡ prefix_len is_ascii_digit text.now }
+    ensures within { result ≤ length text.now }
+{
+    text.iter().take_while(|byte| byte.is_ascii_digit()).count()
 }
 
 /// How many bytes stand before the end of the line.

@@ -3,4 +3,7 @@
 
 mod blanks;
 
-pub use blanks::{begins_with_pair, closed_len, comment_rest, is_printed, is_space, to_line_end};
+pub use blanks::{
+    begins_with_pair, closed_len, comment_rest, decimal_len, is_printed, is_space, printed_len,
+    to_line_end,
+};

@@ -1,22 +1,15 @@
 -- Words, numbers, marks and texts in double quotes have bytes of which names are made.
-use Rattle.std.proofs.Common.{zero, suc, drop, ◌==◌, ◌&&◌, true≢false, refl, ap, ◌∙◌, ◌≡◌, ℕ, ◌+◌, ◌<◌, ◌≤◌, [], ◌∷◌, length, take, Bool, true, false, cond, length-take, sym, subst, arith}
+use Rattle.std.proofs.Common.{zero, suc, drop, ◌==◌, ◌&&◌, true≢false, refl, ap, ◌∙◌, ◌≡◌, ℕ, ◌+◌, ◌<◌, ◌≤◌, [], ◌∷◌, length, take, Bool, true, false, cond, length-take, sym, arith}
 use Rattle.std.specs.Prelude.{slice_index}
-use Rattle.std.specs.List.{All, prefix_len}
+use Rattle.std.specs.List.{prefix_len}
 use Rattle.std.specs.Char.{is_ascii_digit}
 use Rattle.std.proofs.lemmas.Bool.Decides.{nat_tests}
-use Rattle.std.proofs.lemmas.List.{get_or-take}
-use Rattle.std.proofs.lemmas.List.Sums.{prefix_len_passes, prefix_len-le-length}
+use Rattle.std.proofs.lemmas.List.Sums.{prefix_len-le-length}
 use Rattle.dft_base.specs.Lexing.{Text}
 use Rattle.dft_base.specs.Name.{IsName}
 use Rattle.dft_base.specs.Words.{begins_word}
+use Rattle.dft_lexing.proofs.PrintedLemmas.{IsPrinted, printed, run_each, runs_on}
 use Rattle.dft_stil_tokens.specs.Lexemes.{is_printed, is_in_number, continues_name, index_len, word_len}
-
--- a byte that may stand in a name
-abbrev IsPrinted : ℕ → Type 0
-IsPrinted b = (33 ≤ b) × (b ≤ 126)
-
-printed : (b : ℕ) → is_printed b ≡ true → IsPrinted b
-printed b e = grind (arith, nat_tests)
 
 continues_printed : (b : ℕ) → continues_name b ≡ true → IsPrinted b
 continues_printed b e = grind (arith, nat_tests)
@@ -31,16 +24,6 @@ number_printed false b e = grind (arith, nat_tests)
 digit_in_number : (quoted : Bool) (b : ℕ) → is_ascii_digit b ≡ true → is_in_number quoted b ≡ true
 digit_in_number true b e = e
 digit_in_number false b e = grind (arith, nat_tests)
-
--- each byte of such a run passes
-run_each : (p : ℕ → Bool) → ((b : ℕ) → p b ≡ true → IsPrinted b) → (text : Text) (n : ℕ) → n ≤ prefix_len p text → All (λ b. (33 ≤ b) × (b ≤ 126)) (take n text)
-run_each p passes text n within = λ k d below.
-    let inside : k < n = omega (arith, length-take n text) in
-    subst (λ (b : ℕ). IsPrinted b) (sym (get_or-take n text k d inside)) (passes _ (prefix_len_passes p text k d (omega arith)))
-
-runs_on : (t : Bool) (n : ℕ) → t ≡ true → 0 < cond t (1 + n) 0
-runs_on true n e = omega arith
-runs_on false n e = absurd (cc)
 
 -- ---- numbers
 

@@ -5,7 +5,9 @@ ghost use Rattle.std.specs.List.{prefix_len};
 ghost use Rattle.std.specs.Char.{is_ascii_digit};
 ghost use Rattle.dft_stil_tokens.specs.Lexemes as spec;
 
-use dft_lexing::{begins_with_pair, closed_len, comment_rest, is_space, to_line_end};
+use dft_lexing::{
+    begins_with_pair, closed_len, comment_rest, decimal_len, is_space, to_line_end,
+};
 
 /// The most bytes that a pattern text may have: 256 MiB.
 pub const MAX_TEXT: usize = 268_435_456;
@@ -27,14 +29,6 @@ fn name_len(text: &[u8]) -> usize
         .count()
 }
 
-/// How many digits stand at the front.
-pub fn digits_len(text: &[u8]) -> usize
-    ensures value { result ≡ prefix_len is_ascii_digit text.now }
-    ensures within { result ≤ length text.now }
-{
-    text.iter().take_while(|byte| byte.is_ascii_digit()).count()
-}
-
 // How many bytes digits in brackets have; none where the text does not begin with such.
 fn index_len(text: &[u8]) -> usize
     requires { length text.now ≤ MAX_TEXT }
@@ -44,7 +38,7 @@ fn index_len(text: &[u8]) -> usize
     let [b'[', behind @ ..] = text else {
         return 0;
     };
-    let digits = digits_len(behind);
+    let digits = decimal_len(behind);
     if 0 < digits && matches!(&behind[digits..], [b']', ..]) {
         2 + digits
     } else {

@@ -9,10 +9,10 @@ ghost use Rattle.dft_stil_tokens.specs.Lexemes as spec;
 ghost use Rattle.dft_stil_tokens.specs.declared.text.TokenKind.TheVariants as kind;
 ghost use Rattle.dft_stil_tokens.specs.Cut.{carries_name, shown};
 
-use crate::blanks::{MAX_TEXT, digits_len, note_opening, word_len};
+use crate::blanks::{MAX_TEXT, note_opening, word_len};
 use crate::text::TokenKind;
 use dft_base::begins_word;
-use dft_lexing::is_printed;
+use dft_lexing::{decimal_len, is_printed, printed_len};
 
 /// The token at the front of a text.
 #[derive(Clone, Copy, Debug)]
@@ -54,14 +54,6 @@ fn unclosed(len: usize, at: usize) -> Lexeme
     }
 }
 
-// How many bytes at the front are printed.
-fn printed_len(text: &[u8]) -> usize
-    ensures value { result ≡ prefix_len spec.is_printed text.now }
-    ensures within { result ≤ length text.now }
-{
-    text.iter().take_while(|byte| is_printed(**byte)).count()
-}
-
 // How many bytes stand before the next double quote.
 fn to_quote(text: &[u8]) -> usize
     ensures value { result ≡ spec.to_quote text.now }
@@ -91,7 +83,7 @@ fn number_len(quoted: bool, text: &[u8]) -> usize
     ensures within { result ≤ length text.now }
 {
     if quoted {
-        digits_len(text)
+        decimal_len(text)
     } else {
         run_len(text)
     }

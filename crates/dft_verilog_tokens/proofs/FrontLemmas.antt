@@ -1,9 +1,9 @@
 -- The front of a netlist text: the blanks that are passed, and the token that begins there.
-use Rattle.std.proofs.Common.{◌≡◌, ℕ, ◌+◌, ◌-◌, ◌<◌, ◌≤◌, Bool, false, cond, eqb, [], ◌∷◌, length, take, drop, sym, ap, ◌∙◌, arith}
+use Rattle.std.proofs.Common.{◌≡◌, ℕ, ◌-◌, ◌<◌, ◌≤◌, Bool, false, cond, eqb, [], ◌∷◌, length, take, drop, sym, ap, ◌∙◌, arith}
 use Rattle.std.proofs.lemmas.Bool.Decides.{nat_tests}
-use Rattle.std.proofs.lemmas.List.{drop-take}
 use Rattle.dft_base.specs.Lexing.{Text, Blank, Cut, tokens_from}
 use Rattle.dft_base.proofs.LexingLemmas.{tokens_from-blank, tokens_from-cut}
+use Rattle.dft_lexing.proofs.PartLemmas.{part}
 use Rattle.dft_netlist_text.specs.Lexemes.{Lexeme, front, lexeme, token_of, blank_len, is_base_kind}
 use Rattle.dft_netlist_text.specs.Steps.{kind_of, bytes, left, next}
 
@@ -41,11 +41,6 @@ pub named_at : (mode : Bool) (text : Text) (l : Lexeme) → blank_len text ≡ 0
 unfolding bytes lexeme
 named_at mode [] l e cut moves = ap (λ (m : Lexeme). drop m.prefix (take m.len [])) cut
 named_at mode (b ∷ text) l e cut moves = sym (ap bytes (tokens-front mode (b ∷ text) l e cut (omega arith) (moves (omega arith))))
-
--- a part of a text, from both sides
-part : (text : Text) (from to : ℕ) → from ≤ to → take (to - from) (drop from text) ≡ drop from (take to text)
-part text from to within =
-    let whole : from + (to - from) ≡ to = omega arith in sym (drop-take from (to - from) text) ∙ ap (λ n. drop from (take n text)) whole
 
 pub bytes_at : (mode : Bool) (text : Text) (l : Lexeme) → blank_len text ≡ 0 → l ≡ lexeme mode text → (0 < length text → 0 < l.len) → l.prefix ≤ l.len
     → take (l.len - l.prefix) (drop l.prefix text) ≡ bytes (tokens_from front mode 0 text)

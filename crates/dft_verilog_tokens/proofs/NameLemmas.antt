@@ -1,21 +1,14 @@
 -- Words and directives have bytes of which names are made.
-use Rattle.std.proofs.Common.{◌≡◌, ℕ, ◌+◌, ◌<◌, ◌≤◌, [], ◌∷◌, length, take, Bool, true, false, cond, length-take, sym, subst, arith}
+use Rattle.std.proofs.Common.{◌≡◌, ℕ, ◌<◌, ◌≤◌, [], ◌∷◌, length, take, true, length-take, arith}
 use Rattle.std.specs.Prelude.{slice_index}
 use Rattle.std.specs.List.{All, prefix_len}
 use Rattle.std.proofs.lemmas.Bool.Decides.{nat_tests}
-use Rattle.std.proofs.lemmas.List.{get_or-take}
 use Rattle.std.proofs.lemmas.List.Sums.{prefix_len_passes, prefix_len-le-length}
 use Rattle.dft_base.specs.Lexing.{Text}
 use Rattle.dft_base.specs.Name.{IsName}
 use Rattle.dft_base.specs.Words.{begins_word, continues_word}
+use Rattle.dft_lexing.proofs.PrintedLemmas.{IsPrinted, printed, run_each, runs_on}
 use Rattle.dft_netlist_text.specs.Lexemes.{is_printed, is_in_digits, word_len}
-
--- a byte that may stand in a name
-abbrev IsPrinted : ℕ → Type 0
-IsPrinted b = (33 ≤ b) × (b ≤ 126)
-
-printed : (b : ℕ) → is_printed b ≡ true → IsPrinted b
-printed b e = grind (arith, nat_tests)
 
 continues_printed : (b : ℕ) → continues_word b ≡ true → IsPrinted b
 continues_printed b e = grind (arith, nat_tests)
@@ -23,19 +16,9 @@ continues_printed b e = grind (arith, nat_tests)
 begins_continues : (b : ℕ) → begins_word b ≡ true → continues_word b ≡ true
 begins_continues b e = grind (arith, nat_tests)
 
--- each byte of such a run passes
-run_each : (p : ℕ → Bool) → ((b : ℕ) → p b ≡ true → IsPrinted b) → (text : Text) (n : ℕ) → n ≤ prefix_len p text → All (λ b. (33 ≤ b) × (b ≤ 126)) (take n text)
-run_each p passes text n within = λ k d below.
-    let inside : k < n = omega (arith, length-take n text) in
-    subst (λ (b : ℕ). IsPrinted b) (sym (get_or-take n text k d inside)) (passes _ (prefix_len_passes p text k d (omega arith)))
-
 -- bytes that are all printed
 pub all_printed : (bytes : Text) → length bytes ≤ prefix_len is_printed bytes → All (λ b. (33 ≤ b) × (b ≤ 126)) bytes
 all_printed bytes full = λ k d below. printed _ (prefix_len_passes is_printed bytes k d (omega arith))
-
-runs_on : (t : Bool) (n : ℕ) → t ≡ true → 0 < cond t (1 + n) 0
-runs_on true n e = omega arith
-runs_on false n e = absurd (cc)
 
 -- a text that begins a word has a word in front
 pub word_len_moves : (text : Text) → 0 < length text → begins_word (slice_index text 0) ≡ true → 0 < word_len text

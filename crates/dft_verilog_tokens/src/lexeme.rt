@@ -12,7 +12,7 @@ ghost use Rattle.dft_verilog_tokens.specs.Cut.{carries_name, shown};
 use crate::blanks::{MAX_TEXT, begins_blank, word_len};
 use crate::classes::{begins_word, is_lone_paren, is_mark, lone_mark_kind};
 use crate::words::{mark_kind, word_kind};
-use dft_lexing::{is_printed, is_space};
+use dft_lexing::{decimal_len, is_space, printed_len};
 use dft_netlist_text::TokenKind;
 
 /// The token at the front of a text.
@@ -63,14 +63,6 @@ impl Lexeme {
     }
 }
 
-// How many bytes at the front are printed.
-fn printed_len(text: &[u8]) -> usize
-    ensures value { result ≡ prefix_len spec.is_printed text.now }
-    ensures within { result ≤ length text.now }
-{
-    text.iter().take_while(|byte| is_printed(**byte)).count()
-}
-
 // Whether a byte may stand in the digits behind a base.
 fn is_in_digits(byte: u8) -> bool
     ensures { result ≡ spec.is_in_digits byte }
@@ -97,14 +89,6 @@ fn digits(text: &[u8]) -> Lexeme
     ensures name { 0 < length text.now → spec.is_in_digits (slice_index text.now 0) ≡ true → IsName (take result.len text.now) }
 {
     Lexeme::plain(TokenKind::Digits, digits_len(text))
-}
-
-// How many bytes a decimal number has.
-fn number_len(text: &[u8]) -> usize
-    ensures value { result ≡ prefix_len is_ascii_digit text.now }
-    ensures within { result ≤ length text.now }
-{
-    text.iter().take_while(|byte| byte.is_ascii_digit()).count()
 }
 
 // How many bytes stand before the next space.
@@ -245,7 +229,7 @@ fn cut_any(behind_base: bool, text: &[u8]) -> Lexeme
         [] => Lexeme::plain(TokenKind::End, 0),
         [first, ..] if behind_base && is_in_digits(*first) => digits(text),
         [first, ..] if begins_word(*first) => word(text),
-        [first, ..] if first.is_ascii_digit() => Lexeme::plain(TokenKind::Number, number_len(text)),
+        [first, ..] if first.is_ascii_digit() => Lexeme::plain(TokenKind::Number, decimal_len(text)),
         [b'\\', behind @ ..] => escaped(behind),
         [b'\'', behind @ ..] => quote(behind),
         [b'#' | b'`', ..] => directive(text),

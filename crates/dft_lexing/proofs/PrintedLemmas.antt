@@ -1,0 +1,26 @@
+-- Runs of bytes of which names are made.
+use Rattle.std.proofs.Common.{◌≡◌, ℕ, ◌+◌, ◌<◌, ◌≤◌, length, take, Bool, true, false, cond, length-take, sym, subst, arith}
+use Rattle.std.specs.List.{All, prefix_len}
+use Rattle.std.proofs.lemmas.Bool.Decides.{nat_tests}
+use Rattle.std.proofs.lemmas.List.{get_or-take}
+use Rattle.std.proofs.lemmas.List.Sums.{prefix_len_passes}
+use Rattle.dft_base.specs.Lexing.{Text}
+use Rattle.dft_lexing.specs.Blanks.{is_printed}
+
+-- a byte that may stand in a name
+abbrev pub IsPrinted : ℕ → Type 0
+IsPrinted b = (33 ≤ b) × (b ≤ 126)
+
+pub printed : (b : ℕ) → is_printed b ≡ true → IsPrinted b
+printed b e = grind (arith, nat_tests)
+
+-- each byte of such a run passes
+pub run_each : (p : ℕ → Bool) → ((b : ℕ) → p b ≡ true → IsPrinted b) → (text : Text) (n : ℕ) → n ≤ prefix_len p text → All (λ b. (33 ≤ b) × (b ≤ 126)) (take n text)
+run_each p passes text n within = λ k d below.
+    let inside : k < n = omega (arith, length-take n text) in
+    subst (λ (b : ℕ). IsPrinted b) (sym (get_or-take n text k d inside)) (passes _ (prefix_len_passes p text k d (omega arith)))
+
+-- where a run begins, it has a byte at least
+pub runs_on : (t : Bool) (n : ℕ) → t ≡ true → 0 < cond t (1 + n) 0
+runs_on true n e = omega arith
+runs_on false n e = absurd (cc)
