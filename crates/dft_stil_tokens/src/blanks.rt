@@ -5,9 +5,7 @@ ghost use Rattle.std.specs.List.{prefix_len};
 ghost use Rattle.std.specs.Char.{is_ascii_digit};
 ghost use Rattle.dft_stil_tokens.specs.Lexemes as spec;
 
-use dft_lexing::{
-    begins_with_pair, closed_len, comment_rest, decimal_len, is_space, to_line_end,
-};
+use dft_lexing::{begins_with_pair, closed_len, comment_rest, decimal_len, is_space, to_line_end};
 
 /// The most bytes that a pattern text may have: 256 MiB.
 pub const MAX_TEXT: usize = 268_435_456;

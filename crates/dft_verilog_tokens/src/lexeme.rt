@@ -229,7 +229,10 @@ fn cut_any(behind_base: bool, text: &[u8]) -> Lexeme
         [] => Lexeme::plain(TokenKind::End, 0),
         [first, ..] if behind_base && is_in_digits(*first) => digits(text),
         [first, ..] if begins_word(*first) => word(text),
-        [first, ..] if first.is_ascii_digit() => Lexeme::plain(TokenKind::Number, decimal_len(text)),
+        [first, ..] if first.is_ascii_digit() => Lexeme::plain(
+            TokenKind::Number,
+            decimal_len(text),
+        ),
         [b'\\', behind @ ..] => escaped(behind),
         [b'\'', behind @ ..] => quote(behind),
         [b'#' | b'`', ..] => directive(text),
