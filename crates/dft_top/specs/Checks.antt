@@ -17,7 +17,7 @@ use Rattle.dft_netlist.specs.Orders.{IsOrder}
 use Rattle.dft_netlist.specs.Sound.{IsNetlist}
 use Rattle.dft_verilog.specs.declared.error.VerilogError.{VerilogError}
 use Rattle.dft_verilog.specs.Refusals as verilog
-use Rattle.dft_stil.specs.declared.error.StilError.{StilError}
+use Rattle.dft_stil_text.specs.declared.error.StilError.{StilError}
 use Rattle.dft_patterns.specs.Patterns.{Patterns, IsWellFormed}
 use Rattle.dft_stil_text.specs.PatternText as pattern
 use Rattle.dft_stil_text.specs.declared.limits.TheConstants.{MAX_VECTORS}

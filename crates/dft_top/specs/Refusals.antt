@@ -1,5 +1,5 @@
 -- Refusals, and what the errors of readers, of a scan, of a compilation and of a test of certificates come to.
-use Rattle.std.specs.Prelude.{ℕ, ℤ, pos, List, codes, Option, None, Some}
+use Rattle.std.specs.Prelude.{ℕ, ℤ, List, codes, Option, None, Some}
 use Rattle.dft_base.specs.declared.place.Place.{Place}
 use Rattle.dft_cells.specs.declared.refusal.LibraryError.{LibraryError}
 use Rattle.dft_cells.specs.declared.refusal.LibraryError.TheVariants as library
@@ -9,8 +9,8 @@ use Rattle.dft_netlist.specs.declared.error.NetlistError.{NetlistError}
 use Rattle.dft_netlist.specs.declared.error.NetlistError.TheVariants as netlist
 use Rattle.dft_verilog.specs.declared.error.VerilogError.{VerilogError}
 use Rattle.dft_verilog.specs.declared.error.VerilogError.TheVariants as verilog
-use Rattle.dft_stil.specs.declared.error.StilError.{StilError}
-use Rattle.dft_stil.specs.declared.error.StilError.TheVariants as stil
+use Rattle.dft_stil_text.specs.declared.error.StilError.{StilError}
+use Rattle.dft_stil_text.specs.declared.error.StilError.TheVariants as stil
 use Rattle.dft_config.specs.declared.error.ConfigError.{ConfigError}
 use Rattle.dft_config.specs.declared.error.ConfigError.TheVariants as config
 use Rattle.dft_rules.specs.declared.error.RuleError.{RuleError}
@@ -27,8 +27,6 @@ use Rattle.dft_scan.specs.declared.error.ScanError.{ScanError}
 use Rattle.dft_scan.specs.declared.error.ScanError.TheVariants as scan
 use Rattle.dft_cubes.specs.declared.error.CubeError.{CubeError}
 use Rattle.dft_cubes.specs.declared.error.CubeError.TheVariants as cube
-use Rattle.dft_stil_out.specs.declared.write_error.WriteError.{WriteError}
-use Rattle.dft_stil_out.specs.declared.write_error.WriteError.TheVariants as write
 use Rattle.dft_compile.specs.declared.error.CompileError.{CompileError}
 use Rattle.dft_compile.specs.declared.error.CompileError.TheVariants as compile
 use Rattle.dft_report_in.specs.declared.error.ReadError.{ReadError}
@@ -108,6 +106,7 @@ stil_refusal (stil.P2 place name) = Some (worded P2 place name)
 stil_refusal (stil.P3 place name) = Some (worded P3 place name)
 stil_refusal (stil.P4 place) = Some (placed P4 place)
 stil_refusal (stil.P5 place) = Some (placed P5 place)
+stil_refusal (stil.P6 bytes) = Some (measured P6 bytes)
 stil_refusal (stil.P8 place) = Some (placed P8 place)
 stil_refusal (stil.P9 place name) = Some (worded P9 place name)
 stil_refusal (stil.P10 vector name) = Some (numbered P10 name vector)
@@ -172,15 +171,11 @@ cube_refusal (cube.Q8 place name) = Some (worded Q8 place name)
 cube_refusal (cube.Q9 place) = Some (placed Q9 place)
 cube_refusal (cube.Memory error) = None
 
-abbrev pub write_refusal : WriteError → Option Refusal
-write_refusal (write.P6 bytes) = Some (measured P6 (pos bytes))
-write_refusal (write.Memory error) = None
-
 abbrev pub compile_refusal : CompileError → Option Refusal
 compile_refusal (compile.Rules error) = rule_refusal error
 compile_refusal (compile.Stitch error) = stitch_refusal error
 compile_refusal (compile.Insert error) = insert_refusal error
-compile_refusal (compile.Patterns error) = write_refusal error
+compile_refusal (compile.Patterns error) = stil_refusal error
 compile_refusal (compile.Report error) = report_refusal error
 compile_refusal (compile.Memory error) = None
 

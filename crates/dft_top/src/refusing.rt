@@ -17,7 +17,6 @@ use dft_report_in::ReadError;
 use dft_rules::RuleError;
 use dft_scan::ScanError;
 use dft_stil::StilError;
-use dft_stil_out::WriteError;
 use dft_stitch::{Counted as Planned, StitchError};
 use dft_verilog::VerilogError;
 use std::alloc::{AllocError, Global};
@@ -155,7 +154,7 @@ fn counted_name(alloc: Global, what: Counted) -> Result<Name, AllocError>
     }
 }
 
-/// The refusal of a pattern text.
+/// The refusal of a pattern text, that is read or to be written.
 pub fn stil_refusal(error: StilError) -> Result<Refusal, AllocError>
     ensures { IfOk result (λ refusal. spec.stil_refusal error ≡ Some refusal) }
 {
@@ -165,6 +164,7 @@ pub fn stil_refusal(error: StilError) -> Result<Refusal, AllocError>
         StilError::P3 { place, name } => Refusal::worded(Code::P3, place, name),
         StilError::P4 { place } => Refusal::placed(Code::P4, place),
         StilError::P5 { place } => Refusal::placed(Code::P5, place),
+        StilError::P6 { first } => Refusal::measured(Code::P6, first),
         StilError::P8 { place } => Refusal::placed(Code::P8, place),
         StilError::P9 { place, name } => Refusal::worded(Code::P9, place, name),
         StilError::P10 { name, first } => Refusal::numbered(Code::P10, name, first),
@@ -226,22 +226,9 @@ pub fn compile_refusal(alloc: Global, error: CompileError) -> Result<Refusal, Al
         CompileError::Rules(error) => rule_refusal(error),
         CompileError::Stitch(error) => stitch_refusal(alloc, error),
         CompileError::Insert(error) => insert_refusal(alloc, error),
-        CompileError::Patterns(error) => write_refusal(error),
+        CompileError::Patterns(error) => stil_refusal(error),
         CompileError::Report(error) => report_refusal(error),
         CompileError::Memory(error) => Err(error),
-    }
-}
-
-/// The refusal of patterns that are too long; 2^63 bytes and more are more than any memory holds.
-fn write_refusal(error: WriteError) -> Result<Refusal, AllocError>
-    ensures { IfOk result (λ refusal. spec.write_refusal error ≡ Some refusal) }
-{
-    match error {
-        WriteError::P6 { first } => match i64::try_from(first) {
-            Ok(first) => Ok(Refusal::measured(Code::P6, first)),
-            Err(_) => Err(AllocError),
-        },
-        WriteError::Memory(error) => Err(error),
     }
 }
 
