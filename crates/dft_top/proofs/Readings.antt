@@ -47,11 +47,11 @@ use Rattle.dft_report_in.specs.declared.error.ReadError.{ReadError}
 use Rattle.dft_report_in.specs.declared.error.ReadError.TheVariants as read
 use Rattle.dft_report_in.specs.Reading.{report_of}
 use Rattle.dft_report_in.specs.Reading as reports
-use Rattle.dft_top.specs.declared.answer.Refusal.{Refusal}
-use Rattle.dft_top.specs.declared.outcome.Outcome.{Outcome}
-use Rattle.dft_top.specs.declared.outcome.Outcome.TheVariants.{Refused}
+use Rattle.dft_answers.specs.declared.answer.Refusal.{Refusal}
+use Rattle.dft_answers.specs.declared.outcome.Outcome.{Outcome}
+use Rattle.dft_answers.specs.declared.outcome.Outcome.TheVariants.{Refused}
 use Rattle.dft_top.specs.declared.limits.TheConstants.{MAX_LIBRARY_BYTES}
-use Rattle.dft_top.specs.Refusals.{compile_refusal, config_refusal, cube_refusal, library_refusal, read_refusal, stil_refusal, verilog_refusal}
+use Rattle.dft_answers.specs.Refusals.{compile_refusal, config_refusal, cube_refusal, library_refusal, read_refusal, stil_refusal, verilog_refusal}
 use Rattle.dft_top.specs.Checks.{ArePatternsOf, ConfigText, CubeText, DesignGives, FileGives, IsPlanned, LibraryGives, LibraryText, NetlistText, PatternText, PlanGives, ReportText, Then, plan_refusal}
 use Rattle.dft_top.proofs.NetlistRefusals.{IsReason, reason_one, finished_or_refused}
 
