@@ -1,15 +1,12 @@
 -- The bytes of texts, and the comments between tokens: those of netlist texts (IEEE 1364) and of pattern texts (IEEE 1450) are the same.
 use Rattle.std.specs.Prelude.{ℕ, suc, ◌+◌, Bool, ◌&&◌, ◌||◌, ◌==◌, nat_eq, nat_le, if◌then◌else◌, [], ◌∷◌, codes, Option, Some, None, option_map}
 use Rattle.std.specs.List.{starts_with}
+pub use Rattle.dft_base.specs.Bytes.{is_printed}
 use Rattle.dft_base.specs.Lexing.{Text}
 
 -- a tab, a line feed, a form feed, a carriage return or a space
 abbrev pub is_space : ℕ → Bool
 is_space b = b == 9 || b == 10 || b == 12 || b == 13 || b == 32
-
--- printed, and no blank
-abbrev pub is_printed : ℕ → Bool
-is_printed b = nat_le 33 b && nat_le b 126
 
 -- whether a text begins with this word
 abbrev pub begins_with : Text → Text → Bool

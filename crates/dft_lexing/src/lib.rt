@@ -4,6 +4,6 @@
 mod blanks;
 
 pub use blanks::{
-    begins_with_pair, closed_len, comment_rest, decimal_len, is_printed, is_space, printed_len,
-    to_line_end,
+    begins_with_pair, closed_len, comment_rest, decimal_len, is_space, printed_len, to_line_end,
 };
+pub use dft_base::is_printed;
