@@ -2,8 +2,10 @@
 #![tactic(auto)]
 
 mod blanks;
+mod read_error;
 
 pub use blanks::{
     begins_with_pair, closed_len, comment_rest, decimal_len, is_printed, is_space, printed_len,
     to_line_end,
 };
+pub use read_error::ReadError;
