@@ -1,2 +1,3 @@
 pub mod PrintedLemmas
 pub mod PartLemmas
+pub mod RestLemmas

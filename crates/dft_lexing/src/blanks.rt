@@ -53,15 +53,14 @@ pub fn begins_with_pair(text: &[u8], first: u8, second: u8) -> bool
     matches!(text, [a, b, ..] if *a == first && *b == second)
 }
 
-#[tactic(auto, unfolding(crate::specs::Blanks::comment_rest))]
-/// How many bytes a comment has from behind its opening to behind the next `*/`.
-pub fn comment_rest(text: &[u8]) -> Option<usize>
-    ensures value { result ≡ spec.comment_rest text.now }
+/// How many bytes stand to behind the first place where these two bytes stand, as `*/` behind the opening of a comment.
+pub fn rest_to(text: &[u8], first: u8, second: u8) -> Option<usize>
+    ensures value { result ≡ spec.rest_to (first ∷ second ∷ []) text.now }
     ensures within { IfSome result (λ len. len ≤ length text.now) }
 {
     let mut rest = text;
     while let [_, behind @ ..] = rest {
-        if begins_with_pair(rest, b'*', b'/') {
+        if begins_with_pair(rest, first, second) {
             return Some(text.len() - rest.len() + 2);
         }
         rest = behind;

@@ -5,7 +5,7 @@ mod blanks;
 mod read_error;
 
 pub use blanks::{
-    begins_with_pair, closed_len, comment_rest, decimal_len, is_printed, is_space, printed_len,
+    begins_with_pair, closed_len, decimal_len, is_printed, is_space, printed_len, rest_to,
     to_line_end,
 };
 pub use read_error::ReadError;

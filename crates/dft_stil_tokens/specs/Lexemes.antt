@@ -7,6 +7,7 @@ use Rattle.dft_base.specs.Lexing as lexing
 use Rattle.dft_base.specs.Words.{begins_word}
 pub use Rattle.dft_lexing.specs.Blanks.{is_space, is_printed, begins_with, closed_len}
 unfoldable pub use Rattle.dft_lexing.specs.Blanks.{comment_rest}
+use Rattle.dft_lexing.specs.Blanks.{rest_to}
 use Rattle.dft_stil_tokens.specs.declared.text.TokenKind.{TokenKind}
 use Rattle.dft_stil_tokens.specs.declared.text.TokenKind.TheVariants as kind
 
@@ -41,8 +42,7 @@ word_len text = prefix_len continues_name text + index_len (drop (prefix_len con
 
 -- how many bytes an annotation has from behind its opening to behind the next `*}`
 unfoldable pub note_rest : Text → Option ℕ
-note_rest [] = None
-note_rest (b ∷ text) = if begins_with (codes "*}") (b ∷ text) then Some 2 else option_map suc (note_rest text)
+note_rest text = rest_to (codes "*}") text
 
 -- how many bytes a space or a comment at the front has
 unfoldable pub gap_len : Text → ℕ
