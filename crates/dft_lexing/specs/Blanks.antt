@@ -1,6 +1,7 @@
 -- The bytes of texts, and the comments between tokens: those of netlist texts (IEEE 1364) and of pattern texts (IEEE 1450) are the same.
 use Rattle.std.specs.Prelude.{ℕ, suc, ◌+◌, Bool, ◌&&◌, ◌||◌, ◌==◌, nat_eq, nat_le, if◌then◌else◌, [], ◌∷◌, codes, Option, Some, None, option_map, length}
 use Rattle.std.specs.List.{starts_with}
+use Rattle.std.specs.Char.{is_ascii_alphanumeric}
 use Rattle.dft_base.specs.Lexing.{Text}
 
 -- a tab, a line feed, a form feed, a carriage return or a space
@@ -10,6 +11,10 @@ is_space b = b == 9 || b == 10 || b == 12 || b == 13 || b == 32
 -- printed, and no blank
 abbrev pub is_printed : ℕ → Bool
 is_printed b = nat_le 33 b && nat_le b 126
+
+-- a letter, a digit or `_`
+abbrev pub is_word_byte : ℕ → Bool
+is_word_byte b = is_ascii_alphanumeric b || b == 95
 
 -- whether a text begins with this word
 abbrev pub begins_with : Text → Text → Bool

@@ -21,6 +21,22 @@ pub fn is_printed(byte: u8) -> bool
     33 <= byte && byte <= 126
 }
 
+/// Whether a byte is a letter, a digit or `_`.
+#[inline(always)]
+pub fn is_word_byte(byte: u8) -> bool
+    ensures { result ≡ spec.is_word_byte byte }
+{
+    byte.is_ascii_alphanumeric() || byte == b'_'
+}
+
+/// How many letters, digits and `_` stand at the front.
+pub fn word_bytes(text: &[u8]) -> usize
+    ensures value { result ≡ prefix_len spec.is_word_byte text.now }
+    ensures within { result ≤ length text.now }
+{
+    text.iter().take_while(|byte| is_word_byte(**byte)).count()
+}
+
 /// How many bytes at the front are printed.
 pub fn printed_len(text: &[u8]) -> usize
     ensures value { result ≡ prefix_len spec.is_printed text.now }

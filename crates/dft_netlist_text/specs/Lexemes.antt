@@ -8,6 +8,7 @@ use Rattle.dft_base.specs.Lexing as lexing
 use Rattle.dft_base.specs.Words.{begins_word, continues_word, is_reserved}
 pub use Rattle.dft_lexing.specs.Blanks.{is_space, is_printed, begins_with, closed_len}
 unfoldable pub use Rattle.dft_lexing.specs.Blanks.{comment_rest}
+use Rattle.dft_lexing.specs.Blanks.{is_word_byte}
 use Rattle.dft_netlist_text.specs.declared.text.TokenKind.{TokenKind}
 use Rattle.dft_netlist_text.specs.declared.text.TokenKind.TheVariants as kind
 
@@ -23,7 +24,7 @@ is_in_line b = not (b == 10) && (is_space b || is_printed b)
 
 -- what may stand in the digits behind a base
 abbrev pub is_in_digits : ℕ → Bool
-is_in_digits b = is_ascii_alphanumeric b || b == 95
+is_in_digits b = is_word_byte b
 
 -- ---- blanks
 

@@ -7,7 +7,7 @@ use Rattle.dft_base.specs.Lexing as lexing
 use Rattle.dft_base.specs.Words.{begins_word}
 pub use Rattle.dft_lexing.specs.Blanks.{is_space, is_printed, begins_with, closed_len}
 unfoldable pub use Rattle.dft_lexing.specs.Blanks.{comment_rest}
-use Rattle.dft_lexing.specs.Blanks.{rest_to}
+use Rattle.dft_lexing.specs.Blanks.{is_word_byte, rest_to}
 use Rattle.dft_stil_tokens.specs.declared.text.TokenKind.{TokenKind}
 use Rattle.dft_stil_tokens.specs.declared.text.TokenKind.TheVariants as kind
 
@@ -19,7 +19,7 @@ Token = lexing.Token TokenKind
 
 -- what may stand in a word behind its first letter
 abbrev pub continues_name : ℕ → Bool
-continues_name b = is_ascii_alphanumeric b || b == 95
+continues_name b = is_word_byte b
 
 -- what may stand in a number behind its first digit
 abbrev pub is_in_number : (quoted : Bool) → ℕ → Bool

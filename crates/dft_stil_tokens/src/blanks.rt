@@ -5,27 +5,10 @@ ghost use Rattle.std.specs.List.{prefix_len};
 ghost use Rattle.std.specs.Char.{is_ascii_digit};
 ghost use Rattle.dft_stil_tokens.specs.Lexemes as spec;
 
-use dft_lexing::{begins_with_pair, closed_len, decimal_len, is_space, rest_to, to_line_end};
+use dft_lexing::{begins_with_pair, closed_len, decimal_len, is_space, rest_to, to_line_end, word_bytes};
 
 /// The most bytes that a pattern text may have: 256 MiB.
 pub const MAX_TEXT: usize = 268_435_456;
-
-// Whether a byte may stand in a word behind its first letter.
-fn continues_name(byte: u8) -> bool
-    ensures { result ≡ spec.continues_name byte }
-{
-    byte.is_ascii_alphanumeric() || byte == b'_'
-}
-
-// How many bytes at the front may stand in a word.
-fn name_len(text: &[u8]) -> usize
-    ensures value { result ≡ prefix_len spec.continues_name text.now }
-    ensures within { result ≤ length text.now }
-{
-    text.iter()
-        .take_while(|byte| continues_name(**byte))
-        .count()
-}
 
 // How many bytes digits in brackets have; none where the text does not begin with such.
 fn index_len(text: &[u8]) -> usize
@@ -50,7 +33,7 @@ pub fn word_len(text: &[u8]) -> usize
     ensures value { result ≡ spec.word_len text.now }
     ensures within { result ≤ length text.now }
 {
-    let len = name_len(text);
+    let len = word_bytes(text);
     len + index_len(&text[len..])
 }
 
