@@ -2,7 +2,7 @@
 use Rattle.std.specs.Prelude.{ℕ, suc, ◌+◌, Bool, ◌&&◌, ◌||◌, ◌==◌, nat_eq, nat_le, if◌then◌else◌, [], ◌∷◌, codes, Option, Some, None, option_map, length}
 use Rattle.std.specs.List.{starts_with}
 use Rattle.std.specs.Char.{is_ascii_alphanumeric}
-use Rattle.dft_base.specs.Lexing.{Text}
+use Rattle.dft_base.specs.Lexing.{Text, Front, Blank}
 
 -- a tab, a line feed, a form feed, a carriage return or a space
 abbrev pub is_space : ℕ → Bool
@@ -33,3 +33,7 @@ comment_rest text = rest_to (codes "*/") text
 abbrev pub closed_len : Option ℕ → ℕ
 closed_len None = 0
 closed_len (Some rest) = 2 + rest
+
+-- a blank of so many bytes in front, or, where there is none, what is cut there
+abbrev pub blank_or : {Kind Mode : Type 0} → ℕ → Front Kind Mode → Front Kind Mode
+blank_or len cut = if len == 0 then cut else Blank len
