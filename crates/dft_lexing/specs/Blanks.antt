@@ -2,15 +2,12 @@
 use Rattle.std.specs.Prelude.{ℕ, suc, ◌+◌, Bool, ◌&&◌, ◌||◌, ◌==◌, nat_eq, nat_le, if◌then◌else◌, [], ◌∷◌, codes, Option, Some, None, option_map, length}
 use Rattle.std.specs.List.{starts_with}
 use Rattle.std.specs.Char.{is_ascii_alphanumeric}
+pub use Rattle.dft_base.specs.Bytes.{is_printed}
 use Rattle.dft_base.specs.Lexing.{Text, Front, Blank}
 
 -- a tab, a line feed, a form feed, a carriage return or a space
 abbrev pub is_space : ℕ → Bool
 is_space b = b == 9 || b == 10 || b == 12 || b == 13 || b == 32
-
--- printed, and no blank
-abbrev pub is_printed : ℕ → Bool
-is_printed b = nat_le 33 b && nat_le b 126
 
 -- a letter, a digit or `_`
 abbrev pub is_word_byte : ℕ → Bool

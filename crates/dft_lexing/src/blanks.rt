@@ -5,20 +5,14 @@ ghost use Rattle.std.specs.List.{prefix_len};
 ghost use Rattle.std.specs.Char.{is_ascii_digit};
 ghost use Rattle.dft_lexing.specs.Blanks as spec;
 
+use dft_base::is_printed;
+
 /// Whether a byte separates tokens: a tab, a line feed, a form feed, a carriage return or a space.
 #[inline(always)]
 pub fn is_space(byte: u8) -> bool
     ensures { result ≡ spec.is_space byte }
 {
     byte == b'\t' || byte == b'\n' || byte == 12 || byte == b'\r' || byte == b' '
-}
-
-/// Whether a byte is printed, and no blank.
-#[inline(always)]
-pub fn is_printed(byte: u8) -> bool
-    ensures { result ≡ spec.is_printed byte }
-{
-    33 <= byte && byte <= 126
 }
 
 /// Whether a byte is a letter, a digit or `_`.

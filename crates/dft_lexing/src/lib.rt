@@ -5,7 +5,8 @@ mod blanks;
 mod read_error;
 
 pub use blanks::{
-    begins_with_pair, closed_len, decimal_len, is_printed, is_space, is_word_byte, printed_len,
-    rest_to, to_line_end, word_bytes,
+    begins_with_pair, closed_len, decimal_len, is_space, is_word_byte, printed_len, rest_to,
+    to_line_end, word_bytes,
 };
+pub use dft_base::is_printed;
 pub use read_error::ReadError;
