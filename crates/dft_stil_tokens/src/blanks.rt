@@ -5,7 +5,9 @@ ghost use Rattle.std.specs.List.{prefix_len};
 ghost use Rattle.std.specs.Char.{is_ascii_digit};
 ghost use Rattle.dft_stil_tokens.specs.Lexemes as spec;
 
-use dft_lexing::{begins_with_pair, closed_len, decimal_len, is_space, rest_to, to_line_end, word_bytes};
+use dft_lexing::{
+    begins_with_pair, closed_len, decimal_len, is_space, rest_to, to_line_end, word_bytes,
+};
 
 /// The most bytes that a pattern text may have: 256 MiB.
 pub const MAX_TEXT: usize = 268_435_456;
