@@ -15,6 +15,22 @@ pub fn is_space(byte: u8) -> bool
     byte == b'\t' || byte == b'\n' || byte == 12 || byte == b'\r' || byte == b' '
 }
 
+/// Whether a byte is a letter, a digit or `_`.
+#[inline(always)]
+pub fn is_word_byte(byte: u8) -> bool
+    ensures { result ≡ spec.is_word_byte byte }
+{
+    byte.is_ascii_alphanumeric() || byte == b'_'
+}
+
+/// How many letters, digits and `_` stand at the front.
+pub fn word_bytes(text: &[u8]) -> usize
+    ensures value { result ≡ prefix_len spec.is_word_byte text.now }
+    ensures within { result ≤ length text.now }
+{
+    text.iter().take_while(|byte| is_word_byte(**byte)).count()
+}
+
 /// How many bytes at the front are printed.
 pub fn printed_len(text: &[u8]) -> usize
     ensures value { result ≡ prefix_len spec.is_printed text.now }
@@ -47,15 +63,14 @@ pub fn begins_with_pair(text: &[u8], first: u8, second: u8) -> bool
     matches!(text, [a, b, ..] if *a == first && *b == second)
 }
 
-#[tactic(auto, unfolding(crate::specs::Blanks::comment_rest))]
-/// How many bytes a comment has from behind its opening to behind the next `*/`.
-pub fn comment_rest(text: &[u8]) -> Option<usize>
-    ensures value { result ≡ spec.comment_rest text.now }
+/// How many bytes stand to behind the first place where these two bytes stand, as `*/` behind the opening of a comment.
+pub fn rest_to(text: &[u8], first: u8, second: u8) -> Option<usize>
+    ensures value { result ≡ spec.rest_to (first ∷ second ∷ []) text.now }
     ensures within { IfSome result (λ len. len ≤ length text.now) }
 {
     let mut rest = text;
     while let [_, behind @ ..] = rest {
-        if begins_with_pair(rest, b'*', b'/') {
+        if begins_with_pair(rest, first, second) {
             return Some(text.len() - rest.len() + 2);
         }
         rest = behind;
