@@ -25,7 +25,7 @@ pub record HeaderPort : Type 0 where
   pub declared : Option Declared
 
 -- a name that is taken, and what it stands for
-pub record Entry : Type 0 where
+pub record TakenName : Type 0 where
   pub name : Text
   pub meaning : Meaning
 
@@ -34,7 +34,7 @@ pub record Draft : Type 0 where
   pub name : Text
   pub library : List Cell
   -- every name that is taken
-  pub names : List Entry
+  pub names : List TakenName
   -- the ports in the order of the header
   pub ports : List HeaderPort
   -- the printed name of each net
@@ -43,14 +43,14 @@ pub record Draft : Type 0 where
   pub joins : List Join
 
 -- the module with this name that has said nothing yet
-abbrev pub begun : Text → List Cell → Draft
-begun name library = record { name = name; library = library; names = []; ports = []; nets = []; instances = []; joins = [] }
+abbrev pub empty_draft : Text → List Cell → Draft
+empty_draft name library = record { name = name; library = library; names = []; ports = []; nets = []; instances = []; joins = [] }
 
 -- ---- names
 
 -- what a name stands for, if it is taken
 abbrev pub meaning_of : Draft → Text → Option Meaning
-meaning_of d word = option_map (λ (e : Entry). e.meaning) (find (λ e. bytes_eq e.name word) d.names)
+meaning_of d word = option_map (λ (e : TakenName). e.meaning) (find (λ e. bytes_eq e.name word) d.names)
 
 -- whether a name is taken
 abbrev pub is_taken : Draft → Text → Bool

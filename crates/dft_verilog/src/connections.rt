@@ -58,15 +58,15 @@ fn was_joined(joined: &[Option<Signal>], pin: usize) -> bool
     matches!(joined.get(pin), Some(Some(_)))
 }
 
-#[tactic(auto, unfolding(dft_netlist_text::specs::Items::pin_name))]
+#[tactic(auto, unfolding(dft_netlist_text::specs::Items::connected_pin))]
 // The name of a pin, which is tested at itself.
-fn pin_name(
+fn connected_pin(
     alloc: Global,
     cell: &Cell,
     joined: &[Option<Signal>],
     tokens: &mut Tokens<'_>,
 ) -> Result<usize, ReadError>
-    ensures read { Reads (λ pin. pin) (spec.pin_name cell.now joined.now tokens.old) result tokens.new }
+    ensures read { Reads (λ pin. pin) (spec.connected_pin cell.now joined.now tokens.old) result tokens.new }
     ensures within { IfOk result (λ pin. pin < length cell.now.pins) }
 {
     let place = tokens.left();
@@ -115,22 +115,22 @@ fn pin_content<'a>(
     }
 }
 
-#[tactic(auto, using(crate::proofs::ConnectionLemmas::pins), unfolding(dft_netlist_text::specs::Items::connection))]
+#[tactic(auto, using(crate::proofs::ConnectionLemmas::pins), unfolding(dft_netlist_text::specs::Items::named_connection))]
 // A point, a pin, and what it is joined to; the width is tested at the point.
-fn connection<'a>(
+fn named_connection<'a>(
     cell: &Cell,
     joined: &mut JoinedPins,
     draft: &mut ModuleDraft<'a>,
     tokens: &mut Tokens<'a>,
 ) -> Result<(), ReadError>
     requires { FitsCell (length draft.old.nets) cell.now joined.old }
-    ensures read { Reads (λ _. (draft.new, joined.new)) (spec.connection cell.now (draft.old, joined.old) tokens.old) result tokens.new }
+    ensures read { Reads (λ _. (draft.new, joined.new)) (spec.named_connection cell.now (draft.old, joined.old) tokens.old) result tokens.new }
     ensures grown { OnOk result (Grows draft.old draft.new) }
     ensures fits { OnOk result (FitsCell (length draft.new.nets) cell.now joined.new) }
 {
     let place = tokens.left();
     tokens.expect(TokenKind::Point)?;
-    let pin = pin_name(draft.alloc(), cell, joined.as_slice(), tokens)?;
+    let pin = connected_pin(draft.alloc(), cell, joined.as_slice(), tokens)?;
     tokens.expect(TokenKind::OpenParen)?;
     let to = pin_content(cell, place, draft, pin, tokens)?;
     tokens.expect(TokenKind::CloseParen)?;
@@ -139,19 +139,19 @@ fn connection<'a>(
 }
 
 // Connections with commas between them.
-fn some_connections<'a>(
+fn named_connections<'a>(
     cell: &Cell,
     joined: &mut JoinedPins,
     draft: &mut ModuleDraft<'a>,
     tokens: &mut Tokens<'a>,
 ) -> Result<(), ReadError>
     requires { FitsCell (length draft.old.nets) cell.now joined.old }
-    ensures read { Reads (λ _. (draft.new, joined.new)) (spec.some_connections cell.now (draft.old, joined.old) tokens.old) result tokens.new }
+    ensures read { Reads (λ _. (draft.new, joined.new)) (spec.named_connections cell.now (draft.old, joined.old) tokens.old) result tokens.new }
     ensures grown { OnOk result (Grows draft.old draft.new) }
     ensures fits { OnOk result (FitsCell (length draft.new.nets) cell.now joined.new) }
 {
     'turns: for _turn in 0..tokens.left() {
-        connection(cell, joined, draft, tokens)?;
+        named_connection(cell, joined, draft, tokens)?;
         if !tokens.eat(TokenKind::Comma) {
             return Ok(());
         }
@@ -175,5 +175,5 @@ pub fn connections<'a>(
     if tokens.sees(TokenKind::CloseParen) {
         return Ok(());
     }
-    some_connections(cell, joined, draft, tokens)
+    named_connections(cell, joined, draft, tokens)
 }

@@ -59,8 +59,8 @@ fn terminal<'a>(
 }
 
 // The terminals behind the first.
-fn inputs<'a>(draft: &mut ModuleDraft<'a>, tokens: &mut Tokens<'a>) -> Result<PinSignals, ReadError>
-    ensures read { Reads (λ inputs. (draft.new, inputs)) (spec.inputs draft.old tokens.old) result tokens.new }
+fn input_terminals<'a>(draft: &mut ModuleDraft<'a>, tokens: &mut Tokens<'a>) -> Result<PinSignals, ReadError>
+    ensures read { Reads (λ inputs. (draft.new, inputs)) (spec.input_terminals draft.old tokens.old) result tokens.new }
     ensures grown { OnOk result (Grows draft.old draft.new) }
     ensures bits { IfOk result (λ inputs. AreBits (length draft.new.nets) false inputs) }
 {
@@ -96,7 +96,7 @@ fn terminals<'a>(
     ensures library { OnOk result (draft.new.library ≡ draft.old.library) }
 {
     let output = terminal(true, draft, tokens)?;
-    let mut pins = inputs(draft, tokens)?;
+    let mut pins = input_terminals(draft, tokens)?;
     tokens.expect(TokenKind::CloseParen)?;
     let count = input_count(&pins);
     if !has_inputs(kind, count) {

@@ -16,13 +16,13 @@ use Rattle.dft_netlist_text.specs.Expressions.{Operand, nets_of_shape}
 use Rattle.dft_verilog_draft.specs.declared.selecting.Run.{Run}
 
 -- the signals of nets with numbers one after the other
-abbrev pub signals_of : Run → List Signal
-signals_of r = nets_of_shape r.first r.count
+abbrev pub signals_of_run : Run → List Signal
+signals_of_run r = nets_of_shape r.first r.count
 
 -- the bits of an operand come behind those before
-abbrev pub behind : List Signal → Checked Fault Operand → Checked Fault Operand
-behind before (Ok o) = Ok (o.0, before ++ o.1)
-behind before (Err f) = Err f
+abbrev pub behind_bits : List Signal → Checked Fault Operand → Checked Fault Operand
+behind_bits before (Ok o) = Ok (o.0, before ++ o.1)
+behind_bits before (Err f) = Err f
 
 -- bits that are there come behind those before; a selection that does not fit is refused
 abbrev pub and_selected : List Signal → ℕ → Option (List Signal) → Checked Fault (List Signal)

@@ -6,7 +6,7 @@ ghost use Rattle.dft_netlist_text.specs.Expressions as spec;
 ghost use Rattle.dft_netlist_text.specs.Modules.{declare_nets, declared_at, meaning_of};
 ghost use Rattle.dft_verilog_tokens.specs.Checking.{Checks};
 ghost use Rattle.dft_verilog_draft.specs.Drafts.{IsMeaningWithin};
-ghost use Rattle.dft_verilog_draft.specs.Selecting.{signals_of, behind, and_selected};
+ghost use Rattle.dft_verilog_draft.specs.Selecting.{signals_of_run, behind_bits, and_selected};
 
 use crate::bits::width;
 use crate::module_draft::ModuleDraft;
@@ -57,7 +57,7 @@ fn has_part(range: Range, part: Range) -> bool
 /// What is selected of a vector with its first net at this number.
 fn selected_of_vector(shape: Shape, range: Range, what: Select) -> Option<Run>
     requires { shape.first.0 ≤ MAX_NETS }
-    ensures bits { option_map signals_of result ≡ spec.selected_of_vector shape range what }
+    ensures bits { option_map signals_of_run result ≡ spec.selected_of_vector shape range what }
     ensures short { IfSome result (λ run. run.first + run.count < 2 ^ 32) }
 {
     let first = shape.first.0;
@@ -85,7 +85,7 @@ fn selected_of_vector(shape: Shape, range: Range, what: Select) -> Option<Run>
 /// What is selected of the nets of a name.
 fn selected(shape: Shape, what: Select) -> Option<Run>
     requires { shape.first.0 ≤ MAX_NETS }
-    ensures bits { option_map signals_of result ≡ spec.selected shape what }
+    ensures bits { option_map signals_of_run result ≡ spec.selected shape what }
     ensures short { IfSome result (λ run. run.first + run.count < 2 ^ 32) }
 {
     match (shape.range, what) {
@@ -101,7 +101,7 @@ fn selected(shape: Shape, what: Select) -> Option<Run>
 /// Puts the signals of nets behind those before.
 fn push_run(bits: &mut PinSignals, run: Run) -> Result<(), AllocError>
     requires { run.first + run.count < 2 ^ 32 }
-    ensures { OnOk result (bits.new ≡ bits.old ++ signals_of run) }
+    ensures { OnOk result (bits.new ≡ bits.old ++ signals_of_run run) }
 {
     for place in 0..run.count {
         bits.push(Signal::Net(NetId(run.first + place)))?;
@@ -170,7 +170,7 @@ impl<'a> ModuleDraft<'a> {
     ) -> Result<(), ReadError>
         requires name { IsName word.now }
         requires free { meaning_of self.old word.now ≡ None }
-        ensures { (what : Select) → Checks (λ _. (self.new, bits.new)) (behind bits.old (spec.implied_net (record { word = word.now; what = what; place = place }) self.old (declare_nets place word.now None self.old))) result }
+        ensures { (what : Select) → Checks (λ _. (self.new, bits.new)) (behind_bits bits.old (spec.implied_net (record { word = word.now; what = what; place = place }) self.old (declare_nets place word.now None self.old))) result }
     {
         let net = self.next_shape(None).first;
         self.declare_free(place, word, None)?;
@@ -188,7 +188,7 @@ impl<'a> ModuleDraft<'a> {
         bits: &mut PinSignals,
     ) -> Result<(), ReadError>
         requires { IsName word.now }
-        ensures { Checks (λ _. (self.now, bits.new)) (behind bits.old (spec.bits_of_port (record { word = word.now; what = what; place = place }) self.now (declared_at self.now port))) result }
+        ensures { Checks (λ _. (self.now, bits.new)) (behind_bits bits.old (spec.bits_of_port (record { word = word.now; what = what; place = place }) self.now (declared_at self.now port))) result }
     {
         match self.declared(port) {
             Some(declared) => push_selected(bits, place, declared.shape, what),
@@ -206,7 +206,7 @@ impl<'a> ModuleDraft<'a> {
         bits: &mut PinSignals,
     ) -> Result<(), ReadError>
         requires { IsName word.now }
-        ensures { Checks (λ _. (self.new, bits.new)) (behind bits.old (spec.bits_of_name spot.site spot.depth (record { word = word.now; what = what; place = spot.place }) self.old)) result }
+        ensures { Checks (λ _. (self.new, bits.new)) (behind_bits bits.old (spec.bits_of_name spot.site spot.depth (record { word = word.now; what = what; place = spot.place }) self.old)) result }
     {
         let meaning = self.meaning(word);
         self.bits_of_meaning(spot, word, what, meaning, bits)
@@ -224,7 +224,7 @@ impl<'a> ModuleDraft<'a> {
         requires name { IsName word.now }
         requires is { meaning ≡ meaning_of self.old word.now }
         requires within { IfSome meaning (IsMeaningWithin (length self.old.nets)) }
-        ensures { Checks (λ _. (self.new, bits.new)) (behind bits.old (spec.bits_of_name spot.site spot.depth (record { word = word.now; what = what; place = spot.place }) self.old)) result }
+        ensures { Checks (λ _. (self.new, bits.new)) (behind_bits bits.old (spec.bits_of_name spot.site spot.depth (record { word = word.now; what = what; place = spot.place }) self.old)) result }
     {
         let implied = is_implied(spot, what);
         let _count = self.net_count();

@@ -22,7 +22,7 @@ use Rattle.dft_netlist.specs.Names.{bit_names, port_names, names_taken, is_taken
 use Rattle.dft_netlist.specs.NetNumbers.{nets_from}
 use Rattle.dft_netlist.specs.Sound.{IsLive, AreLive, bits_of, bit_names_of, IsAJoin, IsNetlist}
 use Rattle.dft_netlist.specs.Building.{empty_netlist, port_of, taken_or, port_limit, own_names, port_refusal, instance_refusal}
-use Rattle.dft_netlist_text.specs.Modules.{Entry, Draft, count_from}
+use Rattle.dft_netlist_text.specs.Modules.{TakenName, Draft, count_from}
 use Rattle.dft_netlist_text.specs.NetlistText.{nets_of_ports, other_nets, net_order, final_net, final_signal, Grown, unless_refused, and_grown, add_port, add_ports, add_net, add_nets, add_instance, add_instances, final_join, add_joins, names_of_others, built}
 use Rattle.dft_verilog_out.proofs.CountLemmas.{Once, times, times-append, times-head, one_if, has_name-none}
 use Rattle.dft_verilog_out.proofs.FindLemmas.{position-cons}
@@ -371,7 +371,7 @@ names_of_all n ws nets once word =
     times_all word' (p ∷ ps) = omega (arith, times-append word (port_names p.name p.range) (all_port_names ps), times_all word' ps, one_by p.name p.range (bit_names_of ps) (filter_map vector_name ps))
 
 -- the draft of a text that was written is built to the netlist
-pub draft_built : (n : Netlist) (names : List Entry) (ws : List Text) → IsNetlist n → n.nets ≡ bit_names_of n.ports ++ ws → Once (names_taken n) → built (stage n names (declared_ports 0 n.ports) (bit_names_of n.ports ++ ws) n.instances n.joins) ≡ Ok n
+pub draft_built : (n : Netlist) (names : List TakenName) (ws : List Text) → IsNetlist n → n.nets ≡ bit_names_of n.ports ++ ws → Once (names_taken n) → built (stage n names (declared_ports 0 n.ports) (bit_names_of n.ports ++ ws) n.instances n.joins) ≡ Ok n
 unfolding built
 draft_built n names ws sound nets once =
     let d = stage n names (declared_ports 0 n.ports) (bit_names_of n.ports ++ ws) n.instances n.joins in

@@ -18,28 +18,28 @@ use std::marker::Model;
 
 /// How far an expression is read: how many concatenations are open, whether an operand comes next, and the bits so far.
 #[derive(Debug, Drop)]
-pub struct Nest {
+pub struct OpenConcatenations {
     depth: usize,
     awaits: bool,
     bits: PinSignals,
 }
 
-impl Model for Nest {
+impl Model for OpenConcatenations {
     ghost use Rattle.dft_netlist_text.specs.Expressions as spec;
 
-    ghost Value = { spec.Nest };
+    ghost Value = { spec.OpenConcatenations };
 
-    ghost use Rattle.dft_verilog.specs.NestShown.{nest_of};
+    ghost use Rattle.dft_verilog.specs.ConcatenationsShown.{concatenations_of};
 
-    ghost view = { nest_of };
+    ghost view = { concatenations_of };
 }
 
-impl Nest {
+impl OpenConcatenations {
     // Nothing is read yet.
-    fn unread(alloc: Global) -> Nest
+    fn unread(alloc: Global) -> OpenConcatenations
         ensures { result ≡ spec.unread }
     {
-        Nest {
+        OpenConcatenations {
             depth: 0,
             awaits: true,
             bits: PinSignals::new(alloc),
@@ -138,7 +138,7 @@ impl Nest {
         tokens: &mut Tokens<'a>,
     ) -> Result<(), ReadError>
         requires { self.old.depth ≡ 0 }
-        ensures read { Reads (λ _. (draft.new, self.new)) (spec.nest_from (suc (left tokens.old)) site draft.old self.old tokens.old) result tokens.new }
+        ensures read { Reads (λ _. (draft.new, self.new)) (spec.concatenations_from (suc (left tokens.old)) site draft.old self.old tokens.old) result tokens.new }
         ensures grown { OnOk result (Grows draft.old draft.new) }
         ensures bits { AreBits (length draft.old.nets) (spec.drives site) self.old.bits → OnOk result (AreBits (length draft.new.nets) (spec.drives site) self.new.bits) }
     {
@@ -154,7 +154,7 @@ impl Nest {
 
 #[tactic(auto, unfolding(dft_netlist_text::specs::Expressions::expression))]
 // An expression with concatenations, perhaps.
-fn nested<'a>(
+fn with_concatenations<'a>(
     site: Site,
     draft: &mut ModuleDraft<'a>,
     tokens: &mut Tokens<'a>,
@@ -163,13 +163,13 @@ fn nested<'a>(
     ensures grown { OnOk result (Grows draft.old draft.new) }
     ensures bits { IfOk result (λ bits. AreBits (length draft.new.nets) (spec.drives site) bits) }
 {
-    let mut nest = Nest::unread(draft.alloc());
-    nest.read_on(site, draft, tokens)?;
+    let mut so_far = OpenConcatenations::unread(draft.alloc());
+    so_far.read_on(site, draft, tokens)?;
     followed(site, 0, tokens)?;
-    Ok(nest.bits)
+    Ok(so_far.bits)
 }
 
-#[tactic(auto, using(crate::proofs::NestLemmas::lone_operands))]
+#[tactic(auto, using(crate::proofs::OneOperandLemmas::lone_operands))]
 // An expression of one operand.
 fn lone_operand<'a>(
     site: Site,
@@ -199,7 +199,7 @@ pub fn expression<'a>(
     ensures bits { IfOk result (λ bits. AreBits (length draft.new.nets) (spec.drives site) bits) }
 {
     if tokens.left() == 0 || tokens.sees(TokenKind::OpenBrace) {
-        nested(site, draft, tokens)
+        with_concatenations(site, draft, tokens)
     } else {
         lone_operand(site, draft, tokens)
     }

@@ -3,12 +3,12 @@ use Rattle.dft_netlist_text.specs.Steps.{left}
 use Rattle.dft_netlist_text.specs.Expressions as spec
 use Rattle.dft_verilog_tokens.specs.declared.blanks.TheConstants.{MAX_TEXT}
 use Rattle.dft_verilog_draft.specs.Operands.{Grows, AreBits}
-use Rattle.dft_verilog.proofs.nesting.Nest.read_on.Given as goal
+use Rattle.dft_verilog.proofs.concatenations.OpenConcatenations.read_on.Given as goal
 
 -- each turn takes an operand, a comma or a brace
 abbrev pub invariant-turns : goal.invariant-turns
 invariant-turns l = record {
-  same : spec.nest_from (suc (left l.fn.tokens)) l.site l.fn.draft l.fn.self l.fn.tokens ≡ spec.nest_from (l._turn-end - l._turn) l.site l.draft l.self l.tokens;
+  same : spec.concatenations_from (suc (left l.fn.tokens)) l.site l.fn.draft l.fn.self l.fn.tokens ≡ spec.concatenations_from (l._turn-end - l._turn) l.site l.draft l.self l.tokens;
   depth : l.self.depth ≤ l._turn;
   few : l._turn-end ≤ MAX_TEXT + 1;
   grown : Grows l.fn.draft l.draft;
