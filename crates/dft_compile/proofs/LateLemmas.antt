@@ -9,8 +9,8 @@ use Rattle.dft_equations.specs.LoadRows.{LoadRows}
 use Rattle.dft_cubes.specs.declared.cube.Cube.{Cube}
 use Rattle.dft_merge.specs.declared.placed.Placed.{Placed}
 use Rattle.dft_stil_tokens.specs.declared.blanks.TheConstants.{MAX_TEXT}
-use Rattle.dft_stil_out.specs.declared.write_error.WriteError.{WriteError}
-use Rattle.dft_stil_out.specs.declared.write_error.WriteError.TheVariants as write_error
+use Rattle.dft_stil_text.specs.declared.error.StilError.{StilError}
+use Rattle.dft_stil_text.specs.declared.error.StilError.TheVariants as stil
 use Rattle.dft_stil_out.specs.Lengths.{TellsLength}
 use Rattle.dft_report.specs.declared.error.ReportError.{ReportError}
 use Rattle.dft_report.specs.declared.error.ReportError.TheVariants as report_error
@@ -18,7 +18,7 @@ use Rattle.dft_report.specs.declared.limits.TheConstants.{MAX_BYTES}
 use Rattle.dft_report.specs.Refusals as report
 use Rattle.dft_compile.specs.declared.error.CompileError.{CompileError}
 use Rattle.dft_compile.specs.declared.error.CompileError.TheVariants.{Rules, Stitch, Insert, Patterns, Report, Memory}
-use Rattle.dft_compile.specs.Errors.{of_report, of_write}
+use Rattle.dft_compile.specs.Errors.{of_patterns, of_report}
 use Rattle.dft_stitch.specs.Chains.{plan_of}
 use Rattle.dft_encode.specs.Compiled.{Placing}
 use Rattle.dft_compile.specs.Refusals.{IsLate, IsRefusal, first_failing, late_refusal, of_length, pattern_bytes, too_long, too_many}
@@ -32,7 +32,7 @@ above limit n less = grind (arith, nat_tests)
 not_above : (limit n : ℕ) → n ≤ limit → nat_lt limit n ≡ false
 not_above limit n le = grind (arith, nat_tests)
 
-pub is_many : (bytes : ℕ) → MAX_TEXT < bytes → too_many bytes ≡ Some (write_error.P6 bytes)
+pub is_many : (bytes : ℕ) → MAX_TEXT < bytes → too_many bytes ≡ Some (stil.P6 (pos bytes))
 is_many bytes more = rw (above MAX_TEXT bytes more) refl
 
 pub not_many : (bytes : ℕ) → bytes ≤ MAX_TEXT → too_many bytes ≡ None
@@ -50,9 +50,17 @@ report_refused text (report_error.K6 bytes) is = ap (option_map Report) (is_long
 report_refused text (report_error.Memory error) is = _
 
 -- a text of patterns that is short enough is refused for want of memory alone
-pub short_refused : (text : Text) (e : WriteError) → length text ≤ MAX_TEXT → TellsLength text e → IsRefusal None (of_write e)
-short_refused text (write_error.P6 bytes) short tells = absurd (omega (arith, short, tells.1))
-short_refused text (write_error.Memory error) short tells = _
+pub short_refused : (text : Text) (e : StilError) → length text ≤ MAX_TEXT → TellsLength text e → IsRefusal None (of_patterns e)
+short_refused text (stil.P6 bytes) short tells = absurd (omega (arith, short, tells.1))
+short_refused text (stil.Memory error) short tells = _
+short_refused text (stil.P1 place) short tells = absurd tells
+short_refused text (stil.P2 place name) short tells = absurd tells
+short_refused text (stil.P3 place name) short tells = absurd tells
+short_refused text (stil.P4 place) short tells = absurd tells
+short_refused text (stil.P5 place) short tells = absurd tells
+short_refused text (stil.P8 place) short tells = absurd tells
+short_refused text (stil.P9 place name) short tells = absurd tells
+short_refused text (stil.P10 vector name) short tells = absurd tells
 
 -- ---- the checks in their order
 
@@ -74,14 +82,14 @@ pub by_report : (n : Netlist) (config : Config) (cubes : List Cube) (rows : Load
     IsRefusal (option_map Report (too_long (report_text n config rows cubes placed))) e → IsRefusal (late_refusal n config cubes rows placed patterns) e
 by_report n config cubes rows placed patterns e short is =
     let checks = option_map Report (too_long (report_text n config rows cubes placed)) ∷ [] in
-    let P : Option WriteError → Type 0 = λ o. IsRefusal (first_failing (option_map Patterns o ∷ checks)) e in
+    let P : Option StilError → Type 0 = λ o. IsRefusal (first_failing (option_map Patterns o ∷ checks)) e in
     subst P (sym (not_many (pattern_bytes n config patterns) short)) (first_is (option_map Report (too_long (report_text n config rows cubes placed))) [] e is)
 
 -- no check fails
 pub late_passed : (n : Netlist) (config : Config) (cubes : List Cube) (rows : LoadRows) (placed : List Placed) (patterns : ℕ) → pattern_bytes n config patterns ≤ MAX_TEXT → length (report_text n config rows cubes placed) ≤ MAX_BYTES →
     late_refusal n config cubes rows placed patterns ≡ None
 late_passed n config cubes rows placed patterns short few =
-    let P : Option WriteError → Type 0 = λ o. first_failing (option_map Patterns o ∷ option_map Report (too_long (report_text n config rows cubes placed)) ∷ []) ≡ None in
+    let P : Option StilError → Type 0 = λ o. first_failing (option_map Patterns o ∷ option_map Report (too_long (report_text n config rows cubes placed)) ∷ []) ≡ None in
     let Q : Option ReportError → Type 0 = λ o. first_failing (option_map Report o ∷ []) ≡ None in
     subst P (sym (not_many (pattern_bytes n config patterns) short)) (subst Q (sym (not_long (length (report_text n config rows cubes placed)) few)) refl)
 

@@ -7,8 +7,8 @@ use Rattle.dft_scan_frame.specs.declared.error.InsertError.{InsertError}
 use Rattle.dft_scan_frame.specs.declared.error.InsertError.TheVariants as insert
 use Rattle.dft_report.specs.declared.error.ReportError.{ReportError}
 use Rattle.dft_report.specs.declared.error.ReportError.TheVariants as report
-use Rattle.dft_stil_out.specs.declared.write_error.WriteError.{WriteError}
-use Rattle.dft_stil_out.specs.declared.write_error.WriteError.TheVariants as write
+use Rattle.dft_stil_text.specs.declared.error.StilError.{StilError}
+use Rattle.dft_stil_text.specs.declared.error.StilError.TheVariants as stil
 use Rattle.dft_compile.specs.declared.error.CompileError.{CompileError}
 use Rattle.dft_compile.specs.declared.error.CompileError.TheVariants.{Rules, Stitch, Insert, Patterns, Report, Memory}
 
@@ -28,6 +28,6 @@ abbrev pub of_report : ReportError → CompileError
 of_report (report.Memory error) = Memory error
 of_report error = Report error
 
-abbrev pub of_write : WriteError → CompileError
-of_write (write.Memory error) = Memory error
-of_write error = Patterns error
+abbrev pub of_patterns : StilError → CompileError
+of_patterns (stil.Memory error) = Memory error
+of_patterns error = Patterns error

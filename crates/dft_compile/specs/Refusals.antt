@@ -14,8 +14,8 @@ use Rattle.dft_scan_hardware.specs.declared.style.Style.TheVariants.{Edt}
 use Rattle.dft_scan_hardware.specs.Refusals as insert
 use Rattle.dft_scan_hardware.specs.Statements.{scanned}
 use Rattle.dft_stil_tokens.specs.declared.blanks.TheConstants.{MAX_TEXT}
-use Rattle.dft_stil_out.specs.declared.write_error.WriteError.{WriteError}
-use Rattle.dft_stil_out.specs.declared.write_error.WriteError.TheVariants.{P6}
+use Rattle.dft_stil_text.specs.declared.error.StilError.{StilError}
+use Rattle.dft_stil_text.specs.declared.error.StilError.TheVariants.{P6}
 use Rattle.dft_stil_length.specs.WrittenLength.{written_length}
 use Rattle.dft_report.specs.declared.error.ReportError.{ReportError}
 use Rattle.dft_report.specs.declared.error.ReportError.TheVariants.{K6}
@@ -65,8 +65,8 @@ abbrev pub pattern_bytes : Netlist → Config → (patterns : ℕ) → ℕ
 pattern_bytes n config patterns = set_bytes (scanned Edt n config) (plan_of n config).cycles patterns
 
 -- a pattern text of so many bytes is too long
-abbrev pub too_many : (bytes : ℕ) → Option WriteError
-too_many bytes = if nat_lt MAX_TEXT bytes then Some (P6 bytes) else None
+abbrev pub too_many : (bytes : ℕ) → Option StilError
+too_many bytes = if nat_lt MAX_TEXT bytes then Some (P6 (pos bytes)) else None
 
 -- a report of so many bytes is too long
 abbrev pub of_length : (bytes : ℕ) → Option ReportError

@@ -1,11 +1,11 @@
 ghost use Rattle.std.specs.Prelude.{◌≡◌, alloc_error};
-ghost use Rattle.dft_compile.specs.Errors.{of_insert, of_report, of_rules, of_stitch, of_write};
+ghost use Rattle.dft_compile.specs.Errors.{of_insert, of_patterns, of_report, of_rules, of_stitch};
 ghost use Rattle.dft_compile.specs.declared.error.CompileError.TheVariants.{Memory};
 
 use dft_insert::InsertError;
 use dft_report::ReportError;
 use dft_rules::RuleError;
-use dft_stil_out::WriteError;
+use dft_stil_out::StilError;
 use dft_stitch::StitchError;
 use std::alloc::{AllocError, AllocFailed};
 use thiserror::Error;
@@ -24,7 +24,7 @@ pub enum CompileError {
     Insert(InsertError),
     /// Its patterns are not written.
     #[error("the patterns cannot be written")]
-    Patterns(WriteError),
+    Patterns(StilError),
     /// Its report is not written.
     #[error("the report cannot be written")]
     Report(ReportError),
@@ -92,12 +92,12 @@ impl From<ReportError> for CompileError {
     }
 }
 
-impl From<WriteError> for CompileError {
-    ghost from_gives = { λ error e. e ≡ of_write error };
+impl From<StilError> for CompileError {
+    ghost from_gives = { λ error e. e ≡ of_patterns error };
 
-    fn from(error: WriteError) -> CompileError {
+    fn from(error: StilError) -> CompileError {
         match error {
-            WriteError::Memory(error) => CompileError::Memory(error),
+            StilError::Memory(error) => CompileError::Memory(error),
             error => CompileError::Patterns(error),
         }
     }

@@ -1,6 +1,6 @@
 //! The length of the patterns' text, told before any pattern is made.
 
-ghost use Rattle.std.specs.Prelude.{◌≡◌, ◌≤◌, None, option_map, IfErr, IfOk, OnOk};
+ghost use Rattle.std.specs.Prelude.{◌≡◌, ◌≤◌, pos, None, option_map, IfErr, IfOk, OnOk};
 ghost use Rattle.dft_compile.specs.Refusals as spec;
 ghost use Rattle.dft_compile.specs.Refusals.{IsRefusal, too_many};
 
@@ -8,25 +8,29 @@ use crate::counting::vectors_in;
 use crate::error::CompileError;
 use dft_netlist::Design;
 use dft_stil_length::written_length;
-use dft_stil_out::WriteError;
+use dft_stil_out::StilError;
 use dft_stil_tokens::MAX_TEXT;
 use dft_vectors::{notes_of, signals_of};
 use std::alloc::{AllocError, Global};
 
-/// How many bytes the text of so many patterns has. A text of 2^64 bytes or more is one that no memory holds.
+/// How many bytes the text of so many patterns has. A text of 2^63 bytes or more is one that no memory holds.
 fn pattern_bytes(
     alloc: Global,
     scanned: &Design,
     cycles: u16,
     patterns: u32,
-) -> Result<u64, AllocError>
+) -> Result<i64, AllocError>
     requires cycles { cycles ≤ 4096 }
     requires patterns { patterns ≤ 65536 }
-    ensures { IfOk result (λ bytes. bytes ≡ spec.set_bytes scanned.now cycles patterns) }
+    ensures { IfOk result (λ bytes. bytes ≡ pos (spec.set_bytes scanned.now cycles patterns)) }
 {
     let signals = signals_of(alloc, scanned)?;
     let notes = notes_of(alloc, cycles, patterns)?;
-    written_length(&signals, vectors_in(cycles, patterns), &notes).ok_or(AllocError)
+    let bytes = written_length(&signals, vectors_in(cycles, patterns), &notes).ok_or(AllocError)?;
+    if bytes > i64::MAX as u64 {
+        return Err(AllocError);
+    }
+    Ok(bytes as i64)
 }
 
 /// Refuses so many patterns where their text would be longer than its limit.
@@ -42,8 +46,8 @@ pub(crate) fn check_length(
     ensures refused { IfErr result (IsRefusal (option_map CompileError.Patterns (too_many (spec.set_bytes scanned.now cycles patterns)))) }
 {
     let bytes = pattern_bytes(alloc, scanned, cycles, patterns)?;
-    if bytes > MAX_TEXT as u64 {
-        return Err(CompileError::Patterns(WriteError::P6 { first: bytes }));
+    if bytes > MAX_TEXT as i64 {
+        return Err(CompileError::Patterns(StilError::P6 { first: bytes }));
     }
     Ok(())
 }

@@ -1,8 +1,8 @@
 -- The exit status of a run.
 use Rattle.std.specs.Prelude.{ℕ, ◌≡◌, List}
-use Rattle.dft_top.specs.declared.answer.Answer.{Answer}
-use Rattle.dft_top.specs.declared.answer.Status.{Status}
-use Rattle.dft_top.specs.declared.answer.Status.TheVariants.{Done, NotPassed, Usage, Refused, ReadFault, WriteFault, OutOfMemory}
+use Rattle.dft_answers.specs.declared.answer.Answer.{Answer}
+use Rattle.dft_answers.specs.declared.answer.Status.{Status}
+use Rattle.dft_answers.specs.declared.answer.Status.TheVariants.{Done, NotPassed, Usage, Refused, ReadFault, WriteFault, OutOfMemory}
 use Rattle.dft_top.specs.Run.{Ends, KeepsFiles, PassesTold, ScansTold, Seen}
 
 -- the exit status of each status

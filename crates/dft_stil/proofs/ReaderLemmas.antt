@@ -9,8 +9,8 @@ use Rattle.dft_stil_tokens.specs.declared.text.Cause.{Cause}
 use Rattle.dft_stil_tokens.specs.declared.text.Cause.TheVariants as cause
 use Rattle.dft_stil_tokens.specs.declared.text.Fault.{Fault}
 use Rattle.dft_patterns.specs.declared.steadiness.Unsteady.{Unsteady}
-use Rattle.dft_stil.specs.declared.error.StilError.{StilError}
-use Rattle.dft_stil.specs.declared.error.StilError.TheVariants as told
+use Rattle.dft_stil_text.specs.declared.error.StilError.{StilError}
+use Rattle.dft_stil_text.specs.declared.error.StilError.TheVariants as told
 use Rattle.dft_stil_text.specs.declared.limits.TheConstants.{MAX_VECTORS}
 use Rattle.dft_stil_tokens.specs.declared.read_error.ReadError.{ReadError}
 use Rattle.dft_stil_tokens.specs.Reading.{ReadsText}
@@ -137,6 +137,7 @@ refused_unsteady text p (told.P2 at word) e h = unsteadily text p (told.P2 at wo
 refused_unsteady text p (told.P3 at word) e h = unsteadily text p (told.P3 at word) e h
 refused_unsteady text p (told.P4 at) e h = unsteadily text p (told.P4 at) e h
 refused_unsteady text p (told.P5 at) e h = unsteadily text p (told.P5 at) e h
+refused_unsteady text p (told.P6 bytes) e h = unsteadily text p (told.P6 bytes) e h
 refused_unsteady text p (told.P8 at) e h = unsteadily text p (told.P8 at) e h
 refused_unsteady text p (told.P9 at word) e h = unsteadily text p (told.P9 at word) e h
 refused_unsteady text p (told.P10 first word) e h = unsteadily text p (told.P10 first word) e h

@@ -5,8 +5,8 @@ use Rattle.dft_base.specs.declared.place.Place.{Place}
 use Rattle.dft_stil_tokens.specs.declared.text.Cause.{Cause}
 use Rattle.dft_stil_tokens.specs.declared.text.Cause.TheVariants as cause
 use Rattle.dft_patterns.specs.declared.steadiness.Unsteady.{Unsteady}
-use Rattle.dft_stil.specs.declared.error.StilError.{StilError}
-use Rattle.dft_stil.specs.declared.error.StilError.TheVariants as told
+use Rattle.dft_stil_text.specs.declared.error.StilError.{StilError}
+use Rattle.dft_stil_text.specs.declared.error.StilError.TheVariants as told
 use Rattle.dft_stil_text.specs.declared.limits.TheConstants.{MAX_VECTORS}
 use Rattle.dft_patterns.specs.Patterns.{Patterns}
 use Rattle.dft_patterns.specs.Steadiness.{first_unsteady}
@@ -33,7 +33,7 @@ pub record IsFirstRefusal (text : Text) (error : StilError) : Type 0 where
   pub first : patterns_of MAX_VECTORS text ≡ Err refusal
   pub told : error ≡ told_of text refusal
 
--- Why a text is refused: by its first refusal. Nothing is said where memory runs out.
+-- Why a text is refused: by its first refusal, which is never the writer's P6. Nothing is said where memory runs out.
 abbrev pub IsRefused : Text → StilError → Type 0
 IsRefused text (told.Memory error) = Unit {0}
 IsRefused text error = IsFirstRefusal text error

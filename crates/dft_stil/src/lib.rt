@@ -3,7 +3,6 @@
 #![tactic(auto)]
 
 mod characters;
-mod error;
 mod execution;
 mod known_names;
 mod members;
@@ -22,8 +21,7 @@ pub use dft_patterns::{
     Act, Acts, Drawing, Event, Note, NoteKind, PatternSet, StilSignal, Times, Unsteady,
     first_unsteady,
 };
-pub use dft_stil_out::{WriteError, one_form, write};
-pub use dft_stil_text::{MAX_VECTORS, one_reading, read_within, well_formed};
+pub use dft_stil_out::{one_form, write};
+pub use dft_stil_text::{MAX_VECTORS, StilError, one_reading, read_within, well_formed};
 pub use dft_stil_tokens::{Cause, Fault, MAX_TEXT, TokenKind};
-pub use error::StilError;
 pub use reader::read;

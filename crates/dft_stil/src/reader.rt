@@ -12,11 +12,10 @@ ghost use Rattle.dft_stil.specs.Refusals.{IsRefused, IsUnsteadyAs, told_at as to
 ghost use Rattle.dft_patterns.specs.Steadiness as steadiness;
 ghost use Rattle.dft_patterns.specs.Steadiness.{HaveLength};
 
-use crate::error::StilError;
 use crate::pattern_text::pattern_text;
 use dft_base::{Name, Place, place_of};
 use dft_patterns::{PatternSet, Unsteady, first_unsteady};
-use dft_stil_text::MAX_VECTORS;
+use dft_stil_text::{MAX_VECTORS, StilError};
 use dft_stil_tokens::{Cause, Fault, MAX_TEXT, ReadError, Tokens};
 use std::alloc::Global;
 

@@ -3,9 +3,8 @@
 
 mod laws;
 mod middle;
-mod write_error;
 mod writer;
 
+pub use dft_stil_text::StilError;
 pub use laws::one_form;
-pub use write_error::WriteError;
 pub use writer::write;

@@ -7,9 +7,9 @@ ghost use Rattle.dft_stil_out.specs.Laws.{ReadsBack};
 ghost use Rattle.dft_stil_out.specs.Lengths.{TellsLength};
 
 use crate::middle::middle;
-use crate::write_error::WriteError;
 use dft_base::Dir;
 use dft_patterns::{Act, Acts, Note, NoteKind, PatternSet, StilSignal, groups, input_count};
+use dft_stil_text::StilError;
 use dft_stil_tokens::MAX_TEXT;
 use itoa::Buffer;
 use std::alloc::{AllocError, Global};
@@ -158,7 +158,7 @@ fn text_of(alloc: Global, set: &PatternSet) -> Result<Vec<u8>, AllocError>
 /// The written form (IEEE 1450-1999, one text for each set of patterns), with each note on a line before its vector.
 /// It is read back as the same signals and vectors, where the set is well formed and can be written. P6 where the text is
 /// longer than a pattern text may be.
-pub fn write(alloc: Global, set: &PatternSet) -> Result<Vec<u8>, WriteError>
+pub fn write(alloc: Global, set: &PatternSet) -> Result<Vec<u8>, StilError>
     ensures ok { IfOk result (λ bytes. bytes.items ≡ form.noted set.now) }
     ensures short { IfOk result (λ bytes. length bytes.items ≤ MAX_TEXT) }
     ensures reads { IfOk result (λ bytes. ReadsBack set.now bytes.items) }
@@ -166,8 +166,8 @@ pub fn write(alloc: Global, set: &PatternSet) -> Result<Vec<u8>, WriteError>
 {
     let text = text_of(alloc, set)?;
     if text.len() > MAX_TEXT {
-        return Err(WriteError::P6 {
-            first: text.len() as u64,
+        return Err(StilError::P6 {
+            first: text.len() as i64,
         });
     }
     Ok(text)

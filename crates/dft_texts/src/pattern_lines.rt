@@ -53,6 +53,7 @@ fn refusal_of(alloc: Global, error: StilError) -> Result<String, AllocError> {
         StilError::P3 { place, name } => worded(alloc, "P3", place, &name),
         StilError::P4 { place } => placed(alloc, "P4", place),
         StilError::P5 { place } => placed(alloc, "P5", place),
+        StilError::P6 { first } => format!(in alloc; "P6 {first}"),
         StilError::P8 { place } => placed(alloc, "P8", place),
         StilError::P9 { place, name } => worded(alloc, "P9", place, &name),
         StilError::P10 { name, first } => {

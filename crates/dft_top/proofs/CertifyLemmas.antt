@@ -13,10 +13,10 @@ use Rattle.dft_report.specs.declared.report.Report.{Report}
 use Rattle.dft_certify.specs.declared.error.CertifyError.{CertifyError}
 use Rattle.dft_certify.specs.declared.error.CertifyError.TheVariants as certify
 use Rattle.dft_certify.specs.Certifying.{IsFault, certify_refusal, unsolvable_in}
-use Rattle.dft_top.specs.declared.answer.Refusal.{Refusal}
-use Rattle.dft_top.specs.declared.outcome.Outcome.{Outcome}
-use Rattle.dft_top.specs.declared.outcome.Outcome.TheVariants.{Certified, Refused}
-use Rattle.dft_top.specs.Refusals as refusals
+use Rattle.dft_answers.specs.declared.answer.Refusal.{Refusal}
+use Rattle.dft_answers.specs.declared.outcome.Outcome.{Outcome}
+use Rattle.dft_answers.specs.declared.outcome.Outcome.TheVariants.{Certified, Refused}
+use Rattle.dft_answers.specs.Refusals as refusals
 use Rattle.dft_top.specs.Outcomes.{IsOutcomeOfReport, IsOutcomeOfTest, IsRefusal}
 
 -- the first test that a report fails, over these chains

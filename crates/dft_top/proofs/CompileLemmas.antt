@@ -22,10 +22,10 @@ use Rattle.dft_compile.specs.declared.texts.CompileTexts.{CompileTexts}
 use Rattle.dft_compile.specs.Compilation.{IsCompileOf}
 use Rattle.dft_compile.specs.Refusals.{IsLate, IsRefusal, IsRefusedLate, late_refusal}
 use Rattle.dft_compile.specs.Texts.{counts_of, netlist_text, pattern_text, report_text}
-use Rattle.dft_top.specs.declared.answer.Refusal.{Refusal}
-use Rattle.dft_top.specs.declared.outcome.Outcome.{Outcome}
-use Rattle.dft_top.specs.declared.outcome.Outcome.TheVariants.{Compiled, Refused}
-use Rattle.dft_top.specs.Refusals.{compile_refusal}
+use Rattle.dft_answers.specs.declared.answer.Refusal.{Refusal}
+use Rattle.dft_answers.specs.declared.outcome.Outcome.{Outcome}
+use Rattle.dft_answers.specs.declared.outcome.Outcome.TheVariants.{Compiled, Refused}
+use Rattle.dft_answers.specs.Refusals.{compile_refusal}
 use Rattle.dft_top.specs.Outcomes.{IsCompiled, IsOutcomeOfCubes, IsOutcomeOfPlacing, refusal_of}
 use Rattle.dft_top.specs.Outcomes as outcomes
 use Rattle.dft_top.proofs.CompiledOnce.{SamePlacing, patterns_one, placing_one}

@@ -3,11 +3,11 @@ use Rattle.std.proofs.Common.{ℕ, ◌≡◌, ◌⊎◌, inl, inr, List, refl, s
 use Rattle.dft_files.specs.Outside.{Held, Told}
 use Rattle.dft_words.specs.Words.{AreFor, Certify, Command, Compile, Generate, Replay, ReplayFiles, Scan}
 use Rattle.dft_words.proofs.Understood.{for_once}
-use Rattle.dft_top.specs.declared.answer.Answer.{Answer}
-use Rattle.dft_top.specs.declared.answer.Status.TheVariants.{Done, OutOfMemory}
-use Rattle.dft_top.specs.declared.outcome.Outcome.{Outcome}
-use Rattle.dft_top.specs.declared.outcome.Outcome.TheVariants as outcome
-use Rattle.dft_top.specs.Answers.{status_of}
+use Rattle.dft_answers.specs.declared.answer.Answer.{Answer}
+use Rattle.dft_answers.specs.declared.answer.Status.TheVariants.{Done, OutOfMemory}
+use Rattle.dft_answers.specs.declared.outcome.Outcome.{Outcome}
+use Rattle.dft_answers.specs.declared.outcome.Outcome.TheVariants as outcome
+use Rattle.dft_answers.specs.Answers.{status_of}
 use Rattle.dft_top.specs.Courses.{IsPassing, Reaches}
 use Rattle.dft_top.specs.Outcomes.{IsOutcomeFor, course_of, course_of_replay}
 use Rattle.dft_top.specs.Run.{CompletesTold, EndsFor, IsAnswered, IsDelivered, IsOfCertify, IsOfCompile, IsOfReplay, IsOfScan, IsPassed, NoneFailed, Seen, Suits}

@@ -1,9 +1,9 @@
 -- Courses whose steps give one thing each.
 use Rattle.std.proofs.Common.{◌≡◌, Result, Ok, subst}
 use Rattle.dft_files.specs.Outside.{Held}
-use Rattle.dft_top.specs.declared.answer.Refusal.{Refusal}
-use Rattle.dft_top.specs.declared.outcome.Outcome.{Outcome}
-use Rattle.dft_top.specs.declared.outcome.Outcome.TheVariants.{Refused}
+use Rattle.dft_answers.specs.declared.answer.Refusal.{Refusal}
+use Rattle.dft_answers.specs.declared.outcome.Outcome.{Outcome}
+use Rattle.dft_answers.specs.declared.outcome.Outcome.TheVariants.{Refused}
 use Rattle.dft_top.specs.Courses.{Course, End, IsPassing, Reaches, Step}
 use Rattle.dft_top.proofs.Readings.{given_next, then_one}
 

@@ -3,8 +3,8 @@ use Rattle.std.proofs.Common.{ℕ, ◌≡◌, List, Result, Ok, Err, refl, subst
 use Rattle.dft_files.specs.Outside.{Held}
 use Rattle.dft_compile.specs.declared.texts.Counts.{Counts}
 use Rattle.dft_words.specs.Words.{JobNumbers}
-use Rattle.dft_top.specs.declared.outcome.Outcome.{Outcome}
-use Rattle.dft_top.specs.declared.outcome.Outcome.TheVariants as outcome
+use Rattle.dft_answers.specs.declared.outcome.Outcome.{Outcome}
+use Rattle.dft_answers.specs.declared.outcome.Outcome.TheVariants as outcome
 use Rattle.dft_top.specs.declared.stop.Stop.{Stop}
 use Rattle.dft_top.specs.declared.stop.Stop.TheVariants.{Refused, ReadFault, OutOfMemory}
 use Rattle.dft_top.specs.Courses.{Reaches}

@@ -11,10 +11,10 @@ use Rattle.dft_compile_laws.specs.Holding.{CompilationsHold, without_notes}
 use Rattle.dft_compile.specs.declared.texts.Counts.{Counts}
 use Rattle.dft_compile.specs.Texts.{netlist_text, pattern_text}
 use Rattle.dft_words.specs.Words.{JobNumbers}
-use Rattle.dft_top.specs.declared.answer.Status.TheVariants.{Done}
-use Rattle.dft_top.specs.declared.outcome.Outcome.{Outcome}
-use Rattle.dft_top.specs.declared.outcome.Outcome.TheVariants as outcome
-use Rattle.dft_top.specs.Answers.{status_of}
+use Rattle.dft_answers.specs.declared.answer.Status.TheVariants.{Done}
+use Rattle.dft_answers.specs.declared.outcome.Outcome.{Outcome}
+use Rattle.dft_answers.specs.declared.outcome.Outcome.TheVariants as outcome
+use Rattle.dft_answers.specs.Answers.{status_of}
 use Rattle.dft_top.specs.Courses.{Reaches}
 use Rattle.dft_top.specs.Outcomes.{IsOutcomeOfJob, IsReplayedOf, course_of_compile, course_of_replay, generated, job_files, job_held, made_files, made_held}
 use Rattle.dft_top.specs.Saved.{IsAccepted}

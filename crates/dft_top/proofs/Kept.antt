@@ -2,10 +2,10 @@
 use Rattle.std.proofs.Common.{ℕ, ◌≡◌, ◌⊎◌, ◌∙◌, inl, inr, List, [], ◌∷◌, ◌++◌, refl, sym, subst, Option, None, Some}
 use Rattle.dft_files.specs.Outside.{Held}
 use Rattle.dft_words.specs.Words.{Command, Replay, Scan, Compile, Certify, Generate, AreFor}
-use Rattle.dft_top.specs.declared.answer.Answer.{Answer}
-use Rattle.dft_top.specs.declared.outcome.Outcome.{Outcome}
-use Rattle.dft_top.specs.declared.outcome.Outcome.TheVariants.{Usage, Refused, Passed, Mismatch, Undetermined, Scanned, Compiled, Certified, Generated}
-use Rattle.dft_top.specs.Answers.{status_of}
+use Rattle.dft_answers.specs.declared.answer.Answer.{Answer}
+use Rattle.dft_answers.specs.declared.outcome.Outcome.{Outcome}
+use Rattle.dft_answers.specs.declared.outcome.Outcome.TheVariants.{Usage, Refused, Passed, Mismatch, Undetermined, Scanned, Compiled, Certified, Generated}
+use Rattle.dft_answers.specs.Answers.{status_of}
 use Rattle.dft_top.specs.Run.{AreSaving, EndsFor, IsDelivered, IsQuiet, KeepsFiles, Seen}
 use Rattle.dft_top.specs.Saves.{CountsSaves, HaveSaved, Saving, savings}
 

@@ -14,11 +14,11 @@ use Rattle.dft_scan.specs.declared.error.ScanError.{ScanError}
 use Rattle.dft_scan.specs.Refusals.{refusal}
 use Rattle.dft_words.specs.Words.{Command, Replay, Scan, Compile, Certify, Generate, ReplayFiles, ScanFiles, CompileFiles, CertifyFiles, JobNumbers}
 use Rattle.dft_words.proofs.Understood.{for_once}
-use Rattle.dft_top.specs.declared.answer.Refusal.{Refusal}
-use Rattle.dft_top.specs.declared.outcome.Outcome.{Outcome}
-use Rattle.dft_top.specs.declared.outcome.Outcome.TheVariants as outcome
+use Rattle.dft_answers.specs.declared.answer.Refusal.{Refusal}
+use Rattle.dft_answers.specs.declared.outcome.Outcome.{Outcome}
+use Rattle.dft_answers.specs.declared.outcome.Outcome.TheVariants as outcome
 use Rattle.dft_top.specs.declared.limits.TheConstants.{MAX_CONFIG_BYTES, MAX_CUBE_BYTES, MAX_NETLIST_BYTES, MAX_PATTERN_BYTES, MAX_REPORT_BYTES}
-use Rattle.dft_top.specs.Refusals.{scan_refusal}
+use Rattle.dft_answers.specs.Refusals.{scan_refusal}
 use Rattle.dft_top.specs.Checks.{ConfigGives, ConfigText, CubeText, CubesGive, NetlistGives, NetlistText, PatternText, ReportText}
 use Rattle.dft_top.specs.Outcomes.{IsOutcomeFor, IsOutcomeOfJob, IsOutcomeOfScanOf, IsOutcomeOn, IsRefusal, IsReplayedOf, course_of, course_of_certify, course_of_compile, course_of_replay, course_of_scan, generated, job_files, job_held, made_files, made_held, outcome_of}
 use Rattle.dft_top.specs.Laws.{OutcomeIsOne}

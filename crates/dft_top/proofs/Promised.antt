@@ -41,15 +41,15 @@ use Rattle.dft_compile.specs.Texts as compiled
 use Rattle.dft_verilog_out.proofs.JoinedTexts.{library_kept}
 use Rattle.dft_words.specs.Words.{Command, Replay, Scan, Compile, Certify, ReplayFiles, ScanFiles, CompileFiles, CertifyFiles, AreFor}
 use Rattle.dft_words.proofs.Understood.{for_once}
-use Rattle.dft_top.specs.declared.answer.Answer.{Answer}
-use Rattle.dft_top.specs.declared.answer.Refusal.{Refusal}
-use Rattle.dft_top.specs.declared.answer.Status.TheVariants.{Done}
-use Rattle.dft_top.specs.declared.outcome.Outcome.{Outcome}
-use Rattle.dft_top.specs.declared.outcome.Outcome.TheVariants as outcome
+use Rattle.dft_answers.specs.declared.answer.Answer.{Answer}
+use Rattle.dft_answers.specs.declared.answer.Refusal.{Refusal}
+use Rattle.dft_answers.specs.declared.answer.Status.TheVariants.{Done}
+use Rattle.dft_answers.specs.declared.outcome.Outcome.{Outcome}
+use Rattle.dft_answers.specs.declared.outcome.Outcome.TheVariants as outcome
 use Rattle.dft_top.specs.declared.limits.TheConstants.{MAX_CUBE_BYTES, MAX_NETLIST_BYTES}
-use Rattle.dft_top.specs.Answers.{status_of}
-use Rattle.dft_top.specs.Refusals.{compile_refusal, scan_refusal}
-use Rattle.dft_top.specs.Refusals as refusals
+use Rattle.dft_answers.specs.Answers.{status_of}
+use Rattle.dft_answers.specs.Refusals.{compile_refusal, scan_refusal}
+use Rattle.dft_answers.specs.Refusals as refusals
 use Rattle.dft_top.specs.Checks.{After, ConfigGives, CubeText, CubesGive, DesignGives, IsDesignOf, IsPlanned, LibraryGives, NetlistGives, NetlistText, PatternsGive, PlanGives, ReportGives, Then}
 use Rattle.dft_top.specs.Courses.{Reaches}
 use Rattle.dft_top.specs.Outcomes.{course_of_certify, course_of_compile, course_of_replay, course_of_scan, IsCompiled, IsOutcomeOfReport, IsOutcomeOfTest, IsOutcomeOfCubes, IsOutcomeOfPlacing, IsOutcomeOfScanOf, IsOutcomeOn, IsRefusal, IsScanned, outcome_of, refusal_of}

@@ -24,8 +24,8 @@ use Rattle.dft_verilog.specs.declared.error.VerilogError.{VerilogError}
 use Rattle.dft_verilog.specs.declared.error.VerilogError.TheVariants as verilog
 use Rattle.dft_verilog.specs.Refusals.{IsFirstFault, IsUnfinished, IsRefused, told_of}
 use Rattle.dft_base.specs.Lexing.{place_of}
-use Rattle.dft_stil.specs.declared.error.StilError.{StilError}
-use Rattle.dft_stil.specs.declared.error.StilError.TheVariants as stil
+use Rattle.dft_stil_text.specs.declared.error.StilError.{StilError}
+use Rattle.dft_stil_text.specs.declared.error.StilError.TheVariants as stil
 use Rattle.dft_patterns.specs.Patterns.{Patterns}
 use Rattle.dft_cubes.specs.declared.cube.Cube.{Cube}
 use Rattle.dft_cubes.specs.declared.error.CubeError.{CubeError}
@@ -47,11 +47,11 @@ use Rattle.dft_report_in.specs.declared.error.ReadError.{ReadError}
 use Rattle.dft_report_in.specs.declared.error.ReadError.TheVariants as read
 use Rattle.dft_report_in.specs.Reading.{report_of}
 use Rattle.dft_report_in.specs.Reading as reports
-use Rattle.dft_top.specs.declared.answer.Refusal.{Refusal}
-use Rattle.dft_top.specs.declared.outcome.Outcome.{Outcome}
-use Rattle.dft_top.specs.declared.outcome.Outcome.TheVariants.{Refused}
+use Rattle.dft_answers.specs.declared.answer.Refusal.{Refusal}
+use Rattle.dft_answers.specs.declared.outcome.Outcome.{Outcome}
+use Rattle.dft_answers.specs.declared.outcome.Outcome.TheVariants.{Refused}
 use Rattle.dft_top.specs.declared.limits.TheConstants.{MAX_LIBRARY_BYTES}
-use Rattle.dft_top.specs.Refusals.{compile_refusal, config_refusal, cube_refusal, library_refusal, read_refusal, stil_refusal, verilog_refusal}
+use Rattle.dft_answers.specs.Refusals.{compile_refusal, config_refusal, cube_refusal, library_refusal, read_refusal, stil_refusal, verilog_refusal}
 use Rattle.dft_top.specs.Checks.{ArePatternsOf, ConfigText, CubeText, DesignGives, FileGives, IsPlanned, LibraryGives, LibraryText, NetlistText, PatternText, PlanGives, ReportText, Then, plan_refusal}
 use Rattle.dft_top.proofs.NetlistRefusals.{IsReason, reason_one, finished_or_refused}
 
@@ -260,6 +260,7 @@ first_refusal text (stil.P2 place name) refusal refused is = refused
 first_refusal text (stil.P3 place name) refusal refused is = refused
 first_refusal text (stil.P4 place) refusal refused is = refused
 first_refusal text (stil.P5 place) refusal refused is = refused
+first_refusal text (stil.P6 bytes) refusal refused is = refused
 first_refusal text (stil.P8 place) refusal refused is = refused
 first_refusal text (stil.P9 place name) refusal refused is = refused
 first_refusal text (stil.P10 vector name) refusal refused is = refused

@@ -14,9 +14,9 @@ use Rattle.dft_replay.specs.Fits.{first_misfit}
 use Rattle.dft_replay.specs.Verdicts.{HasVerdict}
 use Rattle.dft_replay.proofs.Uniqueness.{verdict_one}
 use Rattle.dft_words.specs.Words.{ReplayFiles}
-use Rattle.dft_top.specs.declared.answer.Refusal.{Refusal}
-use Rattle.dft_top.specs.declared.outcome.Outcome.{Outcome}
-use Rattle.dft_top.specs.declared.outcome.Outcome.TheVariants.{Passed}
+use Rattle.dft_answers.specs.declared.answer.Refusal.{Refusal}
+use Rattle.dft_answers.specs.declared.outcome.Outcome.{Outcome}
+use Rattle.dft_answers.specs.declared.outcome.Outcome.TheVariants.{Passed}
 use Rattle.dft_top.specs.declared.limits.TheConstants.{MAX_NETLIST_BYTES, MAX_PATTERN_BYTES}
 use Rattle.dft_top.specs.Checks.{After, ArePatternsOf, FileGives, IsDesignOf, LibraryGives, NetlistGives, NetlistText, PatternText, PatternsGive, Then}
 use Rattle.dft_top.specs.Courses.{Reaches}

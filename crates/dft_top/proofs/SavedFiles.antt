@@ -15,8 +15,8 @@ use Rattle.dft_compile.specs.Texts as compiled
 use Rattle.dft_compile_laws.specs.Holding.{without_notes}
 use Rattle.dft_words.specs.Words.{Certify, CertifyFiles, Command, CompileFiles, Replay}
 use Rattle.dft_words.proofs.Understood.{for_once}
-use Rattle.dft_top.specs.declared.outcome.Outcome.{Outcome}
-use Rattle.dft_top.specs.declared.outcome.Outcome.TheVariants.{Certified}
+use Rattle.dft_answers.specs.declared.outcome.Outcome.{Outcome}
+use Rattle.dft_answers.specs.declared.outcome.Outcome.TheVariants.{Certified}
 use Rattle.dft_top.specs.declared.limits.TheConstants.{MAX_CONFIG_BYTES, MAX_CUBE_BYTES, MAX_NETLIST_BYTES, MAX_REPORT_BYTES}
 use Rattle.dft_top.specs.Checks.{ConfigGives, ConfigText, CubeText, CubesGive, LibraryGives, NetlistGives, NetlistText, PlanGives, ReportGives, ReportText}
 use Rattle.dft_top.specs.Courses.{Reaches}

@@ -17,7 +17,7 @@ use Rattle.dft_netlist.specs.Orders.{IsOrder}
 use Rattle.dft_netlist.specs.Sound.{IsNetlist}
 use Rattle.dft_verilog.specs.declared.error.VerilogError.{VerilogError}
 use Rattle.dft_verilog.specs.Refusals as verilog
-use Rattle.dft_stil.specs.declared.error.StilError.{StilError}
+use Rattle.dft_stil_text.specs.declared.error.StilError.{StilError}
 use Rattle.dft_patterns.specs.Patterns.{Patterns, IsWellFormed}
 use Rattle.dft_stil_text.specs.PatternText as pattern
 use Rattle.dft_stil_text.specs.declared.limits.TheConstants.{MAX_VECTORS}
@@ -43,12 +43,12 @@ use Rattle.dft_compile.specs.declared.error.CompileError.TheVariants.{Rules, Sti
 use Rattle.dft_compile.specs.declared.prepared.Prepared.{Prepared}
 use Rattle.dft_compile.specs.Prepared.{IsPrepared}
 use Rattle.dft_compile.specs.Refusals.{first_failing, first_refusal}
-use Rattle.dft_top.specs.declared.answer.Code.TheVariants.{F1}
-use Rattle.dft_top.specs.declared.answer.Refusal.{Refusal}
-use Rattle.dft_top.specs.declared.outcome.Outcome.{Outcome}
-use Rattle.dft_top.specs.declared.outcome.Outcome.TheVariants.{Refused}
+use Rattle.dft_answers.specs.declared.answer.Code.TheVariants.{F1}
+use Rattle.dft_answers.specs.declared.answer.Refusal.{Refusal}
+use Rattle.dft_answers.specs.declared.outcome.Outcome.{Outcome}
+use Rattle.dft_answers.specs.declared.outcome.Outcome.TheVariants.{Refused}
 use Rattle.dft_top.specs.declared.limits.TheConstants.{MAX_LIBRARY_BYTES, MAX_CONFIG_BYTES, MAX_NETLIST_BYTES, MAX_PATTERN_BYTES, MAX_CUBE_BYTES, MAX_REPORT_BYTES}
-use Rattle.dft_top.specs.Refusals.{named, library_refusal, config_refusal, verilog_refusal, stil_refusal, cube_refusal, compile_refusal, read_refusal}
+use Rattle.dft_answers.specs.Refusals.{named, library_refusal, config_refusal, verilog_refusal, stil_refusal, cube_refusal, compile_refusal, read_refusal}
 
 -- ---- one file
 

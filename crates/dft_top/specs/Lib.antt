@@ -1,9 +1,9 @@
-pub mod Refusals
+pub use Rattle.dft_answers.specs.Refusals
+pub use Rattle.dft_answers.specs.Lines
+pub use Rattle.dft_answers.specs.Answers
 pub mod Checks
 pub mod Courses
 pub mod Outcomes
-pub mod Lines
-pub mod Answers
 pub mod Promises
 pub mod Saves
 pub mod Named

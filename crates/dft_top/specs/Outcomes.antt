@@ -37,13 +37,13 @@ use Rattle.dft_generate.specs.Netlists.{netlist_text as job_netlist}
 use Rattle.dft_generate.specs.Configurations.{configuration_text as job_configuration}
 use Rattle.dft_generate.specs.Cubes.{cubes_text as job_cubes}
 use Rattle.dft_words.specs.Words.{Command, Replay, Scan, Compile, Certify, Generate, ReplayFiles, ScanFiles, CompileFiles, CertifyFiles, JobNumbers, AreFor}
-use Rattle.dft_top.specs.declared.answer.Code.TheVariants.{P7}
-use Rattle.dft_top.specs.declared.answer.Refusal.{Refusal}
-use Rattle.dft_top.specs.declared.outcome.Outcome.{Outcome}
-use Rattle.dft_top.specs.declared.outcome.Outcome.TheVariants.{Usage, Refused, Passed, Mismatch, Undetermined, Scanned, Compiled, Certified, Generated}
-use Rattle.dft_top.specs.declared.outcome.Replayed.TheVariants as replayed
-use Rattle.dft_top.specs.Refusals.{named, scan_refusal, compile_refusal}
-use Rattle.dft_top.specs.Refusals as refusals
+use Rattle.dft_answers.specs.declared.answer.Code.TheVariants.{P7}
+use Rattle.dft_answers.specs.declared.answer.Refusal.{Refusal}
+use Rattle.dft_answers.specs.declared.outcome.Outcome.{Outcome}
+use Rattle.dft_answers.specs.declared.outcome.Outcome.TheVariants.{Usage, Refused, Passed, Mismatch, Undetermined, Scanned, Compiled, Certified, Generated}
+use Rattle.dft_answers.specs.declared.outcome.Replayed.TheVariants as replayed
+use Rattle.dft_answers.specs.Refusals.{named, scan_refusal, compile_refusal}
+use Rattle.dft_answers.specs.Refusals as refusals
 use Rattle.dft_top.specs.Checks.{LibraryGives, ConfigGives, NetlistGives, PatternsGive, DesignGives, CubesGive, PlanGives, ReportGives}
 use Rattle.dft_top.specs.Courses.{Course, Step, End, Reaches, Loads, TurnComes}
 

@@ -2,14 +2,14 @@
 use Rattle.std.specs.Prelude.{ℕ, ◌≡◌, ◌⊎◌, List, Option, None, Some}
 use Rattle.dft_files.specs.Outside.{Held, Told, ToldChange, Rose}
 use Rattle.dft_files.specs.Put.{Adds, AddsPrefix}
-use Rattle.dft_top.specs.declared.answer.Status.{Status}
-use Rattle.dft_top.specs.declared.answer.Status.TheVariants.{Done, NotPassed, Usage, Refused, ReadFault, WriteFault, OutOfMemory}
-use Rattle.dft_top.specs.declared.answer.Answer.{Answer}
-use Rattle.dft_top.specs.declared.outcome.Outcome.{Outcome}
-use Rattle.dft_top.specs.declared.outcome.Outcome.TheVariants as outcome
+use Rattle.dft_answers.specs.declared.answer.Status.{Status}
+use Rattle.dft_answers.specs.declared.answer.Status.TheVariants.{Done, NotPassed, Usage, Refused, ReadFault, WriteFault, OutOfMemory}
+use Rattle.dft_answers.specs.declared.answer.Answer.{Answer}
+use Rattle.dft_answers.specs.declared.outcome.Outcome.{Outcome}
+use Rattle.dft_answers.specs.declared.outcome.Outcome.TheVariants as outcome
 use Rattle.dft_words.specs.Words.{Command, Replay, Scan, Compile, Certify, Generate, ReplayFiles, ScanFiles, CompileFiles, CertifyFiles, AreFor, IsFor, IsReplay, IsScan, IsCompile, IsCertify}
-use Rattle.dft_top.specs.Answers.{answer_of, stopped}
-use Rattle.dft_top.specs.Lines.{line_of}
+use Rattle.dft_answers.specs.Answers.{answer_of, stopped}
+use Rattle.dft_answers.specs.Lines.{line_of}
 use Rattle.dft_top.specs.Courses.{IsPassing}
 use Rattle.dft_top.specs.Outcomes.{IsOutcomeFor, IsLoaded, HasTurn, course_of}
 use Rattle.dft_top.specs.Promises.{Passes, Scans, Compiles, Certifies}

@@ -8,9 +8,9 @@ use Rattle.dft_pass_laws.specs.Written.{all_compared}
 use Rattle.dft_compile.specs.Reports.{compile_report}
 use Rattle.dft_certify.specs.Certifying.{unsolvable_in}
 use Rattle.dft_words.specs.Words.{CompileFiles, ReplayFiles, CertifyFiles, IsReplay, IsCertify}
-use Rattle.dft_top.specs.declared.answer.Refusal.{Refusal}
-use Rattle.dft_top.specs.declared.outcome.Outcome.{Outcome}
-use Rattle.dft_top.specs.declared.outcome.Outcome.TheVariants.{Certified, Passed, Refused}
+use Rattle.dft_answers.specs.declared.answer.Refusal.{Refusal}
+use Rattle.dft_answers.specs.declared.outcome.Outcome.{Outcome}
+use Rattle.dft_answers.specs.declared.outcome.Outcome.TheVariants.{Certified, Passed, Refused}
 use Rattle.dft_top.specs.Checks.{ConfigGives, CubesGive, LibraryGives, NetlistGives}
 use Rattle.dft_top.specs.Outcomes.{IsOutcome}
 use Rattle.dft_top.specs.Promises.{Compiles}

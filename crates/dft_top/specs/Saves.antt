@@ -4,8 +4,8 @@ use Rattle.std.specs.List.{AllByRecursion}
 use Rattle.std.specs.Str.{bytes_eq}
 use Rattle.dft_files.specs.Outside.{Held, LeavesPart, Rose, ToldChange, file_at}
 use Rattle.dft_words.specs.Words.{Command, Replay, Scan, Compile, Certify, Generate, ScanFiles, CompileFiles, OutputsDiffer}
-use Rattle.dft_top.specs.declared.outcome.Outcome.{Outcome}
-use Rattle.dft_top.specs.declared.outcome.Outcome.TheVariants.{Usage, Refused, Passed, Mismatch, Undetermined, Scanned, Compiled, Certified, Generated}
+use Rattle.dft_answers.specs.declared.outcome.Outcome.{Outcome}
+use Rattle.dft_answers.specs.declared.outcome.Outcome.TheVariants.{Usage, Refused, Passed, Mismatch, Undetermined, Scanned, Compiled, Certified, Generated}
 
 -- a file that is to be saved: its name, and its bytes
 pub record Saving : Type 0 where

@@ -1,9 +1,9 @@
 -- What a step of a command gives, where it may stop.
 use Rattle.std.specs.Prelude.{ℕ, ◌≡◌, List, Option, Some, Result, Ok, Err}
 use Rattle.dft_files.specs.Outside.{Held, Told, Rose}
-use Rattle.dft_top.specs.declared.answer.Refusal.{Refusal}
-use Rattle.dft_top.specs.declared.outcome.Outcome.{Outcome}
-use Rattle.dft_top.specs.declared.outcome.Outcome.TheVariants as outcome
+use Rattle.dft_answers.specs.declared.answer.Refusal.{Refusal}
+use Rattle.dft_answers.specs.declared.outcome.Outcome.{Outcome}
+use Rattle.dft_answers.specs.declared.outcome.Outcome.TheVariants as outcome
 use Rattle.dft_top.specs.declared.stop.Stop.{Stop}
 use Rattle.dft_top.specs.declared.stop.Stop.TheVariants.{Refused, ReadFault, OutOfMemory}
 

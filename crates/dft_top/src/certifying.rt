@@ -19,9 +19,8 @@ ghost use Rattle.dft_top.specs.Run.{IsOfCertify};
 ghost use Rattle.dft_top.specs.Stops.{ComesTo, IsGiven};
 
 use crate::loading::{load_config, load_cubes, load_library, load_netlist, load_report};
-use crate::outcome::Outcome;
-use crate::refusing::{certify_refusal, compile_refusal};
 use crate::stop::Stop;
+use dft_answers::{Outcome, certify_refusal, compile_refusal};
 use dft_certify::certify;
 use dft_compile::CompileError;
 use dft_config::Config;

@@ -3,22 +3,20 @@
 ghost use Rattle.std.specs.Prelude.{◌≡◌, Some, Err, map, option_map, string_bytes};
 ghost use Rattle.dft_files.specs.Outside.{Rose, Told};
 ghost use Rattle.dft_words.specs.Named.{command_of};
-ghost use Rattle.dft_top.specs.Lines.{line_of};
+ghost use Rattle.dft_answers.specs.Lines.{line_of};
 ghost use Rattle.dft_top.specs.Outcomes.{HasTurn, IsLoaded, IsSized};
 ghost use Rattle.dft_top.specs.Run.{Ends, EndsFor, IsDelivered, CertifiesTold, CompilesTold, CompletesTold, IsOutcomeTold, KeepsFiles, PassesTold, Prints, ScansTold, seen};
 ghost use Rattle.dft_top.specs.Saves.{CountsSaves, SavesApart, savings};
 ghost use Rattle.dft_top.specs.Stops.{ComesTo};
 
-use crate::answer::{Answer, Status};
 use crate::certifying::outcome_of_certify;
 use crate::compiling::outcome_of_compile;
 use crate::generating::outcome_of_generate;
-use crate::outcome::Outcome;
-use crate::printing::line;
 use crate::replaying::outcome_of_replay;
 use crate::saving::save_outcome;
 use crate::scanning::outcome_of_scan;
 use crate::stop::Stop;
+use dft_answers::{Answer, Outcome, Status, line};
 use dft_certify::reports_are_certified;
 use dft_certify_laws::certified_in_runs;
 use dft_compile_laws::compilations_hold;

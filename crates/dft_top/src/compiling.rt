@@ -14,9 +14,8 @@ ghost use Rattle.dft_top.specs.Run.{IsOfCompile};
 ghost use Rattle.dft_top.specs.Stops.{ComesTo, IsGiven};
 
 use crate::loading::{load_config, load_cubes, load_library, load_netlist};
-use crate::outcome::Outcome;
-use crate::refusing::compile_refusal;
 use crate::stop::Stop;
+use dft_answers::{Outcome, compile_refusal};
 use dft_compile::{CompileTexts, Prepared, compile, prepare};
 use dft_config::{Config, Listed};
 use dft_cubes::Cube;

@@ -14,9 +14,9 @@ ghost use Rattle.dft_top.specs.Stops.{ComesTo};
 
 use crate::compiling::{outcome_of_cubes, prepared};
 use crate::given::{given_config, given_cubes, given_netlist, given_patterns};
-use crate::outcome::{Outcome, Replayed};
 use crate::replaying::outcome_on;
 use crate::stop::Stop;
+use dft_answers::{Outcome, Replayed};
 use dft_cells::Library;
 use dft_compile::{Counts, Prepared};
 use dft_config::Config;

@@ -1,7 +1,6 @@
 //! The tool's commands: from the words of a command line and named files to a status, a line and saved files.
 #![tactic(auto)]
 
-mod answer;
 mod certifying;
 mod command;
 mod compiling;
@@ -10,20 +9,16 @@ mod given;
 mod laws;
 mod limits;
 mod loading;
-mod outcome;
-mod printing;
 mod reading;
-mod refusing;
 mod replaying;
 mod saving;
 mod scanning;
 mod stop;
 
-pub use answer::{Answer, Code, Refusal, Status};
 pub use command::run;
+pub use dft_answers::{Answer, Code, Outcome, Refusal, Replayed, Status};
 pub use laws::{outcome_is_one, passing_files_are_answered, saved_files_are_good};
 pub use limits::{
     MAX_CONFIG_BYTES, MAX_CUBE_BYTES, MAX_LIBRARY_BYTES, MAX_NETLIST_BYTES, MAX_PATTERN_BYTES,
     MAX_REPORT_BYTES,
 };
-pub use outcome::{Outcome, Replayed};

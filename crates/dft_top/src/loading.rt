@@ -9,13 +9,13 @@ ghost use Rattle.dft_verilog_out.specs.Named.{GatesAreJoined};
 ghost use Rattle.dft_top.specs.Checks.{too_long, AreFew, LibraryGives, ConfigGives, CubesGive, NetlistGives, PatternsGive, ReportGives};
 ghost use Rattle.dft_top.specs.Stops.{IsGivenTold, LoadFails, OnRefused};
 
-use crate::answer::{Code, Refusal};
 use crate::limits::{
     MAX_CONFIG_BYTES, MAX_CUBE_BYTES, MAX_LIBRARY_BYTES, MAX_NETLIST_BYTES, MAX_PATTERN_BYTES,
     MAX_REPORT_BYTES,
 };
 use crate::reading::{config_in, cubes_in, design_in, library_in, patterns_in, report_in};
 use crate::stop::Stop;
+use dft_answers::{Code, Refusal};
 use dft_base::Name;
 use dft_cells::Library;
 use dft_config::{Config, Listed};

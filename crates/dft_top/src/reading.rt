@@ -9,10 +9,10 @@ ghost use Rattle.dft_top.specs.Checks.{AreFew, ConfigText, CubeText, IsDesignOf,
 ghost use Rattle.dft_top.specs.Stops.{IsGiven};
 ghost use Rattle.dft_top.specs.declared.limits.TheConstants.{MAX_CONFIG_BYTES, MAX_CUBE_BYTES, MAX_LIBRARY_BYTES, MAX_NETLIST_BYTES, MAX_PATTERN_BYTES, MAX_REPORT_BYTES};
 
-use crate::refusing::{
+use crate::stop::Stop;
+use dft_answers::{
     config_refusal, cube_refusal, library_refusal, read_refusal, stil_refusal, verilog_refusal,
 };
-use crate::stop::Stop;
 use dft_cells::Library;
 use dft_config::{Config, Listed};
 use dft_cubes::Cube;

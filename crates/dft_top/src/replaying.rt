@@ -13,10 +13,9 @@ ghost use Rattle.dft_top.specs.Outcomes.{HasTurn, IsLoaded, course_of_replay, Is
 ghost use Rattle.dft_top.specs.Run.{IsOfReplay};
 ghost use Rattle.dft_top.specs.Stops.{ComesTo};
 
-use crate::answer::{Code, Refusal};
 use crate::loading::{load_library, load_netlist, load_patterns};
-use crate::outcome::Outcome;
 use crate::stop::Stop;
+use dft_answers::{Code, Outcome, Refusal};
 use dft_base::Name;
 use dft_files::Files;
 use dft_netlist::Design;

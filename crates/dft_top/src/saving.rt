@@ -6,7 +6,7 @@ ghost use Rattle.dft_words.specs.Named.{command_of};
 ghost use Rattle.dft_top.specs.Saves.{AreApart, CountsSaves, HaveSaved, HaveSavedSome, SaveFailed, SavesApart, savings};
 ghost use Rattle.dft_top.specs.Named.{saving_of};
 
-use crate::outcome::Outcome;
+use dft_answers::Outcome;
 use dft_files::{Files, SaveError};
 use dft_words::Command;
 use std::alloc::Global;

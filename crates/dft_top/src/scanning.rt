@@ -13,9 +13,8 @@ ghost use Rattle.dft_top.specs.Run.{IsOfScan};
 ghost use Rattle.dft_top.specs.Stops.{ComesTo};
 
 use crate::loading::{load_config, load_library, load_netlist};
-use crate::outcome::Outcome;
-use crate::refusing::scan_refusal;
 use crate::stop::Stop;
+use dft_answers::{Outcome, scan_refusal};
 use dft_config::{Config, Listed};
 use dft_files::Files;
 use dft_netlist::Design;

@@ -1,6 +1,6 @@
 //! Where a command stops before its last step.
 
-use crate::answer::Refusal;
+use dft_answers::Refusal;
 use std::alloc::AllocError;
 
 /// Why a step of a command gives no value.

@@ -1,7 +1,7 @@
 use Rattle.std.proofs.Common.{◌≡◌, List, [], get_or, to_z, w64, pos, arith, ap₂, ◌∙◌, sym, ap}
 use Rattle.std.proofs.Math.Facts.{to_z_pos}
 use Rattle.std.proofs.lemmas.List.{get_or-map}
-use Rattle.dft_stil.specs.declared.error.StilError.TheVariants as told
+use Rattle.dft_stil_text.specs.declared.error.StilError.TheVariants as told
 use Rattle.dft_patterns.specs.declared.signal.StilSignal.{StilSignal}
 use Rattle.dft_stil_text.specs.PatternText.{name_of_signal}
 use Rattle.dft_stil.proofs.ReaderLemmas.{found_vector, found_signal}

@@ -1,13 +1,13 @@
 -- The answer of an outcome.
 use Rattle.std.specs.Prelude.{Option, None, Some}
-use Rattle.dft_top.specs.declared.answer.Status.{Status}
-use Rattle.dft_top.specs.declared.answer.Status.TheVariants.{Done, NotPassed, Usage, Refused}
-use Rattle.dft_top.specs.declared.answer.Answer.{Answer}
-use Rattle.dft_top.specs.declared.answer.Refusal.{Refusal}
-use Rattle.dft_top.specs.declared.outcome.Outcome.{Outcome}
-use Rattle.dft_top.specs.declared.outcome.Outcome.TheVariants as outcome
-use Rattle.dft_top.specs.declared.outcome.Replayed.{Replayed}
-use Rattle.dft_top.specs.declared.outcome.Replayed.TheVariants as replayed
+use Rattle.dft_answers.specs.declared.answer.Status.{Status}
+use Rattle.dft_answers.specs.declared.answer.Status.TheVariants.{Done, NotPassed, Usage, Refused}
+use Rattle.dft_answers.specs.declared.answer.Answer.{Answer}
+use Rattle.dft_answers.specs.declared.answer.Refusal.{Refusal}
+use Rattle.dft_answers.specs.declared.outcome.Outcome.{Outcome}
+use Rattle.dft_answers.specs.declared.outcome.Outcome.TheVariants as outcome
+use Rattle.dft_answers.specs.declared.outcome.Replayed.{Replayed}
+use Rattle.dft_answers.specs.declared.outcome.Replayed.TheVariants as replayed
 
 -- a generated job is done where its patterns pass
 abbrev pub replayed_status : Replayed → Status

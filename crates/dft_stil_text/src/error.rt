@@ -1,9 +1,12 @@
-//! Why a pattern text was not read.
+//! Why a pattern text is not read, or not written.
+
+ghost use Rattle.std.specs.Prelude.{◌≡◌};
+ghost use Rattle.dft_stil_text.specs.declared.error.StilError.TheVariants.{Memory};
 
 use dft_base::{Name, Place};
 use std::alloc::AllocError;
 
-/// Why a pattern text was not read. Each place is where the refused token begins.
+/// Why a pattern text is not read, or not written (P6). Each place is where the refused token begins.
 #[derive(Debug, Drop)]
 pub enum StilError {
     /// A byte that no text may have there, or a token that stands where none such may; or the text ends too early.
@@ -16,6 +19,8 @@ pub enum StilError {
     P4 { place: Place },
     /// A character without a shape.
     P5 { place: Place },
+    /// The text would have so many bytes, which are more than there may be.
+    P6 { first: i64 },
     /// Times of a table that do not fit.
     P8 { place: Place },
     /// A name, or a shape, that was given before.
@@ -24,4 +29,12 @@ pub enum StilError {
     P10 { first: i64, name: Name },
     /// Memory ran out.
     Memory(AllocError),
+}
+
+impl From<AllocError> for StilError {
+    ghost from_gives = { λ a e. e ≡ Memory a };
+
+    fn from(error: AllocError) -> StilError {
+        StilError::Memory(error)
+    }
 }

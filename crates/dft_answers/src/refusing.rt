@@ -1,7 +1,7 @@
 //! What the errors of readers, of a scan, of a compilation and of a test of certificates come to.
 
 ghost use Rattle.std.specs.Prelude.{◌≡◌, IfOk, Some};
-ghost use Rattle.dft_top.specs.Refusals as spec;
+ghost use Rattle.dft_answers.specs.Refusals as spec;
 
 use crate::answer::{Code, Refusal};
 use dft_base::{Name, Place};
@@ -10,86 +10,16 @@ use dft_certify::CertifyError;
 use dft_compile::CompileError;
 use dft_config::ConfigError;
 use dft_cubes::CubeError;
-use dft_insert::InsertError;
 use dft_netlist::{Counted, NetlistError};
 use dft_report::ReportError;
 use dft_report_in::ReadError;
 use dft_rules::RuleError;
 use dft_scan::ScanError;
-use dft_stil::StilError;
-use dft_stil_out::WriteError;
+use dft_scan_frame::InsertError;
+use dft_stil_text::StilError;
 use dft_stitch::{Counted as Planned, StitchError};
 use dft_verilog::VerilogError;
 use std::alloc::{AllocError, Global};
-
-impl Refusal {
-    /// A refusal without parts.
-    pub(crate) fn plain(code: Code) -> Refusal
-        ensures { result ≡ spec.plain code }
-    {
-        Refusal {
-            code,
-            place: None,
-            name: None,
-            first: None,
-            second: None,
-        }
-    }
-
-    /// A refusal with a name.
-    pub(crate) fn named(code: Code, name: Name) -> Refusal
-        ensures { result ≡ spec.named code name }
-    {
-        let mut refusal = Refusal::plain(code);
-        refusal.name = Some(name);
-        refusal
-    }
-
-    /// A refusal with a name and a number.
-    fn numbered(code: Code, name: Name, number: i64) -> Refusal
-        ensures { result ≡ spec.numbered code name number }
-    {
-        let mut refusal = Refusal::named(code, name);
-        refusal.first = Some(number);
-        refusal
-    }
-
-    /// A refusal with a number.
-    fn measured(code: Code, number: i64) -> Refusal
-        ensures { result ≡ spec.measured code number }
-    {
-        let mut refusal = Refusal::plain(code);
-        refusal.first = Some(number);
-        refusal
-    }
-
-    /// A refusal with two numbers.
-    fn paired(code: Code, first: i64, second: i64) -> Refusal
-        ensures { result ≡ spec.paired code first second }
-    {
-        let mut refusal = Refusal::measured(code, first);
-        refusal.second = Some(second);
-        refusal
-    }
-
-    /// A refusal with a place.
-    fn placed(code: Code, place: Place) -> Refusal
-        ensures { result ≡ spec.placed code place }
-    {
-        let mut refusal = Refusal::plain(code);
-        refusal.place = Some(place);
-        refusal
-    }
-
-    /// A refusal with a place and a word.
-    fn worded(code: Code, place: Place, word: Name) -> Refusal
-        ensures { result ≡ spec.worded code place word }
-    {
-        let mut refusal = Refusal::placed(code, place);
-        refusal.name = Some(word);
-        refusal
-    }
-}
 
 /// The refusal of a library.
 pub fn library_refusal(error: LibraryError) -> Result<Refusal, AllocError>
@@ -155,7 +85,7 @@ fn counted_name(alloc: Global, what: Counted) -> Result<Name, AllocError>
     }
 }
 
-/// The refusal of a pattern text.
+/// The refusal of a pattern text, that is read or to be written.
 pub fn stil_refusal(error: StilError) -> Result<Refusal, AllocError>
     ensures { IfOk result (λ refusal. spec.stil_refusal error ≡ Some refusal) }
 {
@@ -165,6 +95,7 @@ pub fn stil_refusal(error: StilError) -> Result<Refusal, AllocError>
         StilError::P3 { place, name } => Refusal::worded(Code::P3, place, name),
         StilError::P4 { place } => Refusal::placed(Code::P4, place),
         StilError::P5 { place } => Refusal::placed(Code::P5, place),
+        StilError::P6 { first } => Refusal::measured(Code::P6, first),
         StilError::P8 { place } => Refusal::placed(Code::P8, place),
         StilError::P9 { place, name } => Refusal::worded(Code::P9, place, name),
         StilError::P10 { name, first } => Refusal::numbered(Code::P10, name, first),
@@ -226,22 +157,9 @@ pub fn compile_refusal(alloc: Global, error: CompileError) -> Result<Refusal, Al
         CompileError::Rules(error) => rule_refusal(error),
         CompileError::Stitch(error) => stitch_refusal(alloc, error),
         CompileError::Insert(error) => insert_refusal(alloc, error),
-        CompileError::Patterns(error) => write_refusal(error),
+        CompileError::Patterns(error) => stil_refusal(error),
         CompileError::Report(error) => report_refusal(error),
         CompileError::Memory(error) => Err(error),
-    }
-}
-
-/// The refusal of patterns that are too long; 2^63 bytes and more are more than any memory holds.
-fn write_refusal(error: WriteError) -> Result<Refusal, AllocError>
-    ensures { IfOk result (λ refusal. spec.write_refusal error ≡ Some refusal) }
-{
-    match error {
-        WriteError::P6 { first } => match i64::try_from(first) {
-            Ok(first) => Ok(Refusal::measured(Code::P6, first)),
-            Err(_) => Err(AllocError),
-        },
-        WriteError::Memory(error) => Err(error),
     }
 }
 

@@ -1,7 +1,6 @@
 use crate::answer::Refusal;
-use dft_base::Name;
+use dft_base::{Listed, Name};
 use dft_compile::Counts as CompileCounts;
-use dft_config::Listed;
 use dft_scan::Counts;
 
 /// What the replay of a generated job comes to. Vectors are numbered from 0.

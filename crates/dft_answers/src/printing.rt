@@ -1,7 +1,7 @@
 //! The line that a command prints.
 
 ghost use Rattle.std.specs.Prelude.{◌≡◌, ◌++◌, IfOk, OnOk, option_map};
-ghost use Rattle.dft_top.specs.Lines as spec;
+ghost use Rattle.dft_answers.specs.Lines as spec;
 
 use crate::answer::{Code, Refusal};
 use crate::outcome::{Outcome, Replayed};

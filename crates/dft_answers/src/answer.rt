@@ -1,5 +1,5 @@
 ghost use Rattle.std.specs.Prelude.{◌≡◌};
-ghost use Rattle.dft_top.specs.Answers as spec;
+ghost use Rattle.dft_answers.specs.Answers as spec;
 
 use crate::outcome::{Outcome, Replayed};
 use dft_base::{Name, Place};
@@ -176,7 +176,7 @@ pub struct Answer {
 
 impl Answer {
     /// An answer that stands for no outcome.
-    pub(crate) fn stopped(status: Status) -> Answer
+    pub fn stopped(status: Status) -> Answer
         ensures { result ≡ spec.stopped status }
     {
         Answer {
@@ -186,7 +186,7 @@ impl Answer {
     }
 
     /// The answer of an outcome.
-    pub(crate) fn of(outcome: Outcome) -> Answer
+    pub fn of(outcome: Outcome) -> Answer
         ensures { result ≡ spec.answer_of outcome }
     {
         match outcome {

@@ -4,13 +4,13 @@ use Rattle.std.specs.Fmt.{decimal, signed_decimal}
 use Rattle.dft_base.specs.declared.place.Place.{Place}
 use Rattle.dft_scan.specs.declared.texts.Counts.{Counts}
 use Rattle.dft_compile.specs.declared.texts.Counts as compiled
-use Rattle.dft_top.specs.declared.answer.Code.{Code}
-use Rattle.dft_top.specs.declared.answer.Code.TheVariants.{F1, L1, L2, L3, L4, L5, L6, L7, C1, C2, C3, C4, C5, C6, V1, V2, V3, V4, V5, V6, V7, V8, V9, V10, V11, V12, N1, N2, N3, N4, G1, G2, G3, G4, G5, G6, G7, P1, P2, P3, P4, P5, P6, P7, P8, P9, P10, Q1, Q2, Q3, Q4, Q5, Q6, Q7, Q8, Q9, K1, K2, K3, K4, K5, K6}
-use Rattle.dft_top.specs.declared.answer.Refusal.{Refusal}
-use Rattle.dft_top.specs.declared.outcome.Outcome.{Outcome}
-use Rattle.dft_top.specs.declared.outcome.Outcome.TheVariants.{Usage, Refused, Passed, Mismatch, Undetermined, Scanned, Compiled, Certified, Generated}
-use Rattle.dft_top.specs.declared.outcome.Replayed.{Replayed}
-use Rattle.dft_top.specs.declared.outcome.Replayed.TheVariants as replayed
+use Rattle.dft_answers.specs.declared.answer.Code.{Code}
+use Rattle.dft_answers.specs.declared.answer.Code.TheVariants.{F1, L1, L2, L3, L4, L5, L6, L7, C1, C2, C3, C4, C5, C6, V1, V2, V3, V4, V5, V6, V7, V8, V9, V10, V11, V12, N1, N2, N3, N4, G1, G2, G3, G4, G5, G6, G7, P1, P2, P3, P4, P5, P6, P7, P8, P9, P10, Q1, Q2, Q3, Q4, Q5, Q6, Q7, Q8, Q9, K1, K2, K3, K4, K5, K6}
+use Rattle.dft_answers.specs.declared.answer.Refusal.{Refusal}
+use Rattle.dft_answers.specs.declared.outcome.Outcome.{Outcome}
+use Rattle.dft_answers.specs.declared.outcome.Outcome.TheVariants.{Usage, Refused, Passed, Mismatch, Undetermined, Scanned, Compiled, Certified, Generated}
+use Rattle.dft_answers.specs.declared.outcome.Replayed.{Replayed}
+use Rattle.dft_answers.specs.declared.outcome.Replayed.TheVariants as replayed
 
 abbrev pub code_text : Code → List ℕ
 code_text F1 = codes "F1"

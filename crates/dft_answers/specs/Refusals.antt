@@ -1,5 +1,5 @@
 -- Refusals, and what the errors of readers, of a scan, of a compilation and of a test of certificates come to.
-use Rattle.std.specs.Prelude.{ℕ, ℤ, pos, List, codes, Option, None, Some}
+use Rattle.std.specs.Prelude.{ℕ, ℤ, List, codes, Option, None, Some}
 use Rattle.dft_base.specs.declared.place.Place.{Place}
 use Rattle.dft_cells.specs.declared.refusal.LibraryError.{LibraryError}
 use Rattle.dft_cells.specs.declared.refusal.LibraryError.TheVariants as library
@@ -9,8 +9,8 @@ use Rattle.dft_netlist.specs.declared.error.NetlistError.{NetlistError}
 use Rattle.dft_netlist.specs.declared.error.NetlistError.TheVariants as netlist
 use Rattle.dft_verilog.specs.declared.error.VerilogError.{VerilogError}
 use Rattle.dft_verilog.specs.declared.error.VerilogError.TheVariants as verilog
-use Rattle.dft_stil.specs.declared.error.StilError.{StilError}
-use Rattle.dft_stil.specs.declared.error.StilError.TheVariants as stil
+use Rattle.dft_stil_text.specs.declared.error.StilError.{StilError}
+use Rattle.dft_stil_text.specs.declared.error.StilError.TheVariants as stil
 use Rattle.dft_config.specs.declared.error.ConfigError.{ConfigError}
 use Rattle.dft_config.specs.declared.error.ConfigError.TheVariants as config
 use Rattle.dft_rules.specs.declared.error.RuleError.{RuleError}
@@ -27,17 +27,15 @@ use Rattle.dft_scan.specs.declared.error.ScanError.{ScanError}
 use Rattle.dft_scan.specs.declared.error.ScanError.TheVariants as scan
 use Rattle.dft_cubes.specs.declared.error.CubeError.{CubeError}
 use Rattle.dft_cubes.specs.declared.error.CubeError.TheVariants as cube
-use Rattle.dft_stil_out.specs.declared.write_error.WriteError.{WriteError}
-use Rattle.dft_stil_out.specs.declared.write_error.WriteError.TheVariants as write
 use Rattle.dft_compile.specs.declared.error.CompileError.{CompileError}
 use Rattle.dft_compile.specs.declared.error.CompileError.TheVariants as compile
 use Rattle.dft_report_in.specs.declared.error.ReadError.{ReadError}
 use Rattle.dft_report_in.specs.declared.error.ReadError.TheVariants as read
 use Rattle.dft_certify.specs.declared.error.CertifyError.{CertifyError}
 use Rattle.dft_certify.specs.declared.error.CertifyError.TheVariants as certify
-use Rattle.dft_top.specs.declared.answer.Code.{Code}
-use Rattle.dft_top.specs.declared.answer.Code.TheVariants.{L1, L2, L3, L4, L5, L6, L7, C1, C2, C3, C4, C5, C6, V1, V2, V3, V4, V5, V6, V7, V8, V9, V10, V11, V12, N1, N2, N3, N4, G1, G2, G3, G4, G5, G6, G7, P1, P2, P3, P4, P5, P6, P8, P9, P10, Q1, Q2, Q3, Q4, Q5, Q6, Q7, Q8, Q9, K1, K2, K3, K4, K5, K6}
-use Rattle.dft_top.specs.declared.answer.Refusal.{Refusal}
+use Rattle.dft_answers.specs.declared.answer.Code.{Code}
+use Rattle.dft_answers.specs.declared.answer.Code.TheVariants.{L1, L2, L3, L4, L5, L6, L7, C1, C2, C3, C4, C5, C6, V1, V2, V3, V4, V5, V6, V7, V8, V9, V10, V11, V12, N1, N2, N3, N4, G1, G2, G3, G4, G5, G6, G7, P1, P2, P3, P4, P5, P6, P8, P9, P10, Q1, Q2, Q3, Q4, Q5, Q6, Q7, Q8, Q9, K1, K2, K3, K4, K5, K6}
+use Rattle.dft_answers.specs.declared.answer.Refusal.{Refusal}
 
 -- ---- refusals by their parts
 
@@ -108,6 +106,7 @@ stil_refusal (stil.P2 place name) = Some (worded P2 place name)
 stil_refusal (stil.P3 place name) = Some (worded P3 place name)
 stil_refusal (stil.P4 place) = Some (placed P4 place)
 stil_refusal (stil.P5 place) = Some (placed P5 place)
+stil_refusal (stil.P6 bytes) = Some (measured P6 bytes)
 stil_refusal (stil.P8 place) = Some (placed P8 place)
 stil_refusal (stil.P9 place name) = Some (worded P9 place name)
 stil_refusal (stil.P10 vector name) = Some (numbered P10 name vector)
@@ -172,15 +171,11 @@ cube_refusal (cube.Q8 place name) = Some (worded Q8 place name)
 cube_refusal (cube.Q9 place) = Some (placed Q9 place)
 cube_refusal (cube.Memory error) = None
 
-abbrev pub write_refusal : WriteError → Option Refusal
-write_refusal (write.P6 bytes) = Some (measured P6 (pos bytes))
-write_refusal (write.Memory error) = None
-
 abbrev pub compile_refusal : CompileError → Option Refusal
 compile_refusal (compile.Rules error) = rule_refusal error
 compile_refusal (compile.Stitch error) = stitch_refusal error
 compile_refusal (compile.Insert error) = insert_refusal error
-compile_refusal (compile.Patterns error) = write_refusal error
+compile_refusal (compile.Patterns error) = stil_refusal error
 compile_refusal (compile.Report error) = report_refusal error
 compile_refusal (compile.Memory error) = None
 

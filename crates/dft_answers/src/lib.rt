@@ -1,0 +1,16 @@
+//! What the tool's commands answer: how they end, what errors come to as refusals, and the line that is printed.
+#![tactic(auto)]
+
+mod answer;
+mod outcome;
+mod printing;
+mod refusal;
+mod refusing;
+
+pub use answer::{Answer, Code, Refusal, Status};
+pub use outcome::{Outcome, Replayed};
+pub use printing::line;
+pub use refusing::{
+    certify_refusal, compile_refusal, config_refusal, cube_refusal, library_refusal, read_refusal,
+    scan_refusal, stil_refusal, verilog_refusal,
+};
