@@ -13,7 +13,7 @@ pub mod Refusals
 pub mod PatternShown
 pub mod VectorShown
 pub mod CharactersShown
-pub mod ShapeTableShown
+pub mod WaveformsShown
 pub mod TablesShown
 pub mod NamesShown
 pub mod KnownNamesShown

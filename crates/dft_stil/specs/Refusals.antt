@@ -10,7 +10,7 @@ use Rattle.dft_stil_text.specs.declared.error.StilError.TheVariants as told
 use Rattle.dft_stil_text.specs.declared.limits.TheConstants.{MAX_VECTORS}
 use Rattle.dft_patterns.specs.Patterns.{Patterns}
 use Rattle.dft_patterns.specs.Steadiness.{first_unsteady}
-use Rattle.dft_stil_text.specs.PatternText.{Refusal, At, Unsteadily, patterns_of, name_of_signal}
+use Rattle.dft_stil_text.specs.PatternText.{Refusal, At, Unsteadily, patterns_in, name_of_signal}
 
 -- how a cause is told of this place
 abbrev pub told_at : Cause → Place → StilError
@@ -30,7 +30,7 @@ told_of text (Unsteadily vector name) = told.P10 (pos vector) name
 -- the first refusal of the text is told so
 pub record IsFirstRefusal (text : Text) (error : StilError) : Type 0 where
   pub refusal : Refusal
-  pub first : patterns_of MAX_VECTORS text ≡ Err refusal
+  pub first : patterns_in MAX_VECTORS text ≡ Err refusal
   pub told : error ≡ told_of text refusal
 
 -- Why a text is refused: by its first refusal, which is never the writer's P6. Nothing is said where memory runs out.

@@ -1,17 +1,17 @@
 -- What `Tables` shows, and a table so far.
 use Rattle.dft_stil.specs.declared.tables.Tables.TheInside.{Inside}
 use Rattle.std.specs.Prelude.{ℕ, All, option_map}
-use Rattle.dft_stil.specs.ShapeTableShown.{IsWide}
-use Rattle.dft_stil.specs.declared.waveform_table.Table.{Table}
+use Rattle.dft_stil.specs.WaveformsShown.{IsWide}
+use Rattle.dft_stil.specs.declared.waveform_table.WaveformTable.{WaveformTable}
 use Rattle.dft_stil.specs.declared.table_block.Timing.{Timing}
 use Rattle.dft_stil_text.specs.WaveformTables as spec
 
 abbrev pub tables_of : Inside → spec.Tables
-tables_of t = record { names = t.names; shapes = t.shapes.items }
+tables_of t = record { names = t.names; waveforms = t.waveforms.items }
 
 -- a table so far as the definitions have it
-abbrev pub table_as : Table → spec.Table
-table_as t = record { shapes = t.shapes; times = t.times }
+abbrev pub table_as : WaveformTable → spec.WaveformTable
+table_as t = record { waveforms = t.waveforms; times = t.times }
 
 -- the block of tables as the definitions have it
 abbrev pub timing_as : Timing → spec.Timing
@@ -19,4 +19,4 @@ timing_as t = record { name = option_map (λ w. w.now) t.name; tables = t.tables
 
 -- each table has a place for each of so many signals and each character
 abbrev pub AreWide : ℕ → spec.Tables → Type 0
-AreWide count tables = All (λ (s : spec.Shapes). IsWide count s) tables.shapes
+AreWide count tables = All (λ (s : spec.Waveforms). IsWide count s) tables.waveforms

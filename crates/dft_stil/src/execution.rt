@@ -46,7 +46,7 @@ pub fn the_burst<'a>(tokens: &mut Tokens<'a>) -> Result<Burst<'a>, ReadError>
 
 // Whether a name was given so.
 fn is_name(known: Option<&[u8]>, word: &[u8]) -> bool
-    ensures { result ≡ spec.is_name (option_map (λ w. w.now) known.entry) word.now }
+    ensures { result ≡ spec.is_named (option_map (λ w. w.now) known.entry) word.now }
 {
     match known {
         Some(known) => known == word,

@@ -11,7 +11,7 @@ ghost use Rattle.dft_stil_tokens.specs.Reading.{ReadsText};
 use crate::execution::{Burst, exec, known_name, the_burst};
 use crate::names::Names;
 use crate::signal_groups::{group_blocks, signals_block};
-use crate::statements::{Pattern, statements};
+use crate::statements::{PatternBlock, statements};
 use crate::table_block::{Timing, timing_block};
 use dft_patterns::{Acts, PatternSet};
 use dft_stil_tokens::{Cause, ReadError, TokenKind, Tokens, fault_at};
@@ -105,10 +105,10 @@ fn header_if_any(tokens: &mut Tokens<'_>) -> Result<bool, ReadError>
 }
 
 // A pattern that has no vector yet.
-fn no_vector(alloc: Global, count: usize) -> Result<Pattern, AllocError>
+fn no_vector(alloc: Global, count: usize) -> Result<PatternBlock, AllocError>
     ensures { IfOk result (λ p. pattern_as p ≡ spec.no_vector_of count) }
 {
-    Ok(Pattern {
+    Ok(PatternBlock {
         table: None,
         acts: Acts::unset(alloc, count)?,
         vectors: Vec::new(alloc),
@@ -124,7 +124,7 @@ fn the_pattern(
     timing: &Timing<'_>,
     burst: Burst<'_>,
     tokens: &mut Tokens<'_>,
-) -> Result<Pattern, ReadError>
+) -> Result<PatternBlock, ReadError>
     requires { AreWide (length names.now.signals) timing.now.tables }
     ensures { ReadsText pattern_as (spec.pattern most names.now (timing_as timing.now) (burst_as burst.entry) tokens.old) result tokens.new }
 {
@@ -196,14 +196,14 @@ fn named_patterns(
     Ok(PatternSet::new(alloc, names.into_signals(), vectors))
 }
 
-#[tactic(auto, unfolding(dft_stil_text::specs::PatternText::pattern_text))]
+#[tactic(auto, unfolding(dft_stil_text::specs::PatternText::stil_text))]
 /// The whole text, with so many vectors at most.
 pub fn pattern_text(
     alloc: Global,
     most: usize,
     tokens: &mut Tokens<'_>,
 ) -> Result<PatternSet, ReadError>
-    ensures { ReadsText (λ set. set) (spec.pattern_text most tokens.old) result tokens.new }
+    ensures { ReadsText (λ set. set) (spec.stil_text most tokens.old) result tokens.new }
 {
     tokens.keyword(b"STIL")?;
     version(tokens)?;

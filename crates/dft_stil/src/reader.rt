@@ -22,7 +22,7 @@ use std::alloc::Global;
 // The patterns of a text, steady or not.
 fn patterns(alloc: Global, bytes: &[u8]) -> Result<PatternSet, ReadError>
     requires { length bytes.now ≤ MAX_TEXT }
-    ensures value { Checks (λ set. set) (value_of (spec.pattern_text MAX_VECTORS (tokens_of bytes.now))) result }
+    ensures value { Checks (λ set. set) (value_of (spec.stil_text MAX_VECTORS (tokens_of bytes.now))) result }
     ensures lengths { IfOk result (λ set. HaveLength (length set.signals) set.vectors) }
     ensures few { IfOk result (λ set. length set.vectors ≤ MAX_VECTORS) }
 {

@@ -13,7 +13,7 @@ use crate::waveform_table::table_body;
 use dft_stil_tokens::{ReadError, TokenKind, Tokens, taken};
 use std::alloc::Global;
 
-#[tactic(auto, unfolding(dft_stil_text::specs::WaveformTables::table))]
+#[tactic(auto, unfolding(dft_stil_text::specs::WaveformTables::waveform_table))]
 // A table, whose name no other may have so far.
 fn one_table(
     alloc: Global,
@@ -22,7 +22,7 @@ fn one_table(
     tokens: &mut Tokens<'_>,
 ) -> Result<(), ReadError>
     requires { AreWide (length names.now.signals) tables.old }
-    ensures read { ReadsText (λ _. tables.new) (spec.table names.now tables.old tokens.old) result tokens.new }
+    ensures read { ReadsText (λ _. tables.new) (spec.waveform_table names.now tables.old tokens.old) result tokens.new }
     ensures wide { OnOk result (AreWide (length names.now.signals) tables.new) }
 {
     tokens.keyword(b"WaveformTable")?;
@@ -31,15 +31,15 @@ fn one_table(
     if tables.number(word).is_some() {
         return Err(taken(alloc, word, place));
     }
-    let shapes = table_body(alloc, names, tokens)?;
-    tables.add(alloc, word, shapes)?;
+    let waveforms = table_body(alloc, names, tokens)?;
+    tables.add(alloc, word, waveforms)?;
     Ok(())
 }
 
 #[tactic(auto, using(crate::proofs::TableLemmas::wide_tables))]
 // The tables of the block, and its brace.
 fn all_tables(alloc: Global, names: &Names, tokens: &mut Tokens<'_>) -> Result<Tables, ReadError>
-    ensures read { ReadsText (λ t. t) (spec.tables_from (left tokens.old) names.now spec.no_tables tokens.old) result tokens.new }
+    ensures read { ReadsText (λ t. t) (spec.waveform_tables_from (left tokens.old) names.now spec.no_tables tokens.old) result tokens.new }
     ensures wide { IfOk result (λ t. AreWide (length names.now.signals) t) }
 {
     let mut tables = Tables::new(alloc);

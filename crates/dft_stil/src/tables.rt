@@ -3,7 +3,7 @@ ghost use Rattle.dft_stil_text.specs.SignalGroups.{number_of};
 ghost use Rattle.dft_stil_text.specs.WaveformTables as spec;
 
 use crate::known_names::KnownNames;
-use crate::shape_table::ShapeTable;
+use crate::waveforms::Waveforms;
 use std::alloc::{AllocError, Global};
 use std::marker::Model;
 
@@ -11,7 +11,7 @@ use std::marker::Model;
 #[derive(Debug, Drop)]
 pub struct Tables {
     names: KnownNames,
-    shapes: Vec<ShapeTable>,
+    waveforms: Vec<Waveforms>,
 }
 
 impl Model for Tables {
@@ -31,7 +31,7 @@ impl Tables {
     {
         Tables {
             names: KnownNames::new(alloc),
-            shapes: Vec::new(alloc),
+            waveforms: Vec::new(alloc),
         }
     }
 
@@ -42,21 +42,21 @@ impl Tables {
         self.names.number(word)
     }
 
-    /// The shapes of a table by number.
-    pub fn shapes(&self, number: usize) -> Option<&ShapeTable>
-        ensures { option_map (λ s. s.now) result ≡ slice_get self.now.shapes number }
+    /// The waveforms of a table by number.
+    pub fn waveforms(&self, number: usize) -> Option<&Waveforms>
+        ensures { option_map (λ s. s.now) result ≡ slice_get self.now.waveforms number }
     {
-        self.shapes.get(number)
+        self.waveforms.get(number)
     }
 
     /// Adds a table, whose name no other has.
-    pub fn add(&mut self, alloc: Global, word: &[u8], shapes: ShapeTable) -> Result<(), AllocError>
+    pub fn add(&mut self, alloc: Global, word: &[u8], waveforms: Waveforms) -> Result<(), AllocError>
         requires { number_of self.old.names word.now ≡ None }
-        ensures { OnOk result (self.new ≡ spec.with_table self.old word.now shapes) }
+        ensures { OnOk result (self.new ≡ spec.with_table self.old word.now waveforms) }
     {
-        self.shapes.reserve(1)?;
+        self.waveforms.reserve(1)?;
         self.names.add(Vec::from_slice(alloc, word)?)?;
-        self.shapes.push_reserved(shapes);
+        self.waveforms.push_reserved(waveforms);
         Ok(())
     }
 }

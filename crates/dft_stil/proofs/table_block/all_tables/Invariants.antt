@@ -8,6 +8,6 @@ use Rattle.dft_stil.proofs.table_block.all_tables.Given as goal
 -- each turn reads one
 abbrev pub invariant-turns : goal.invariant-turns
 invariant-turns l = record {
-  same : spec.tables_from (left l.fn.tokens) l.fn.names spec.no_tables l.fn.tokens ≡ spec.tables_from (l._turn-end - l._turn) l.names l.tables l.tokens;
+  same : spec.waveform_tables_from (left l.fn.tokens) l.fn.names spec.no_tables l.fn.tokens ≡ spec.waveform_tables_from (l._turn-end - l._turn) l.names l.tables l.tokens;
   wide : AreWide (length l.names.signals) l.tables;
 }

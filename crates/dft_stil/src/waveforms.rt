@@ -1,6 +1,6 @@
 ghost use Rattle.std.specs.Prelude.{◌≡◌, ◌<◌, None, replicate, IfOk};
 ghost use Rattle.dft_stil_text.specs.WaveformTables as spec;
-ghost use Rattle.dft_stil.specs.ShapeTableShown.{IsWide};
+ghost use Rattle.dft_stil.specs.WaveformsShown.{IsWide};
 ghost use Rattle.dft_stil.specs.MembersShown.{AreBelow};
 
 use dft_patterns::Act;
@@ -12,18 +12,18 @@ const CHARACTERS: usize = 256;
 
 /// What each character means for each signal of a table.
 #[derive(Debug, Drop)]
-pub struct ShapeTable {
+pub struct Waveforms {
     acts: Vec<Option<Act>>,
 }
 
-impl Model for ShapeTable {
+impl Model for Waveforms {
     ghost use Rattle.dft_stil_text.specs.WaveformTables as tables;
 
-    ghost Value = { tables.Shapes };
+    ghost Value = { tables.Waveforms };
 
-    ghost use Rattle.dft_stil.specs.ShapeTableShown.{shapes_of};
+    ghost use Rattle.dft_stil.specs.WaveformsShown.{waveforms_of};
 
-    ghost view = { shapes_of };
+    ghost view = { waveforms_of };
 }
 
 // So many places for acts, all empty.
@@ -33,17 +33,17 @@ fn no_acts(alloc: Global, size: usize) -> Result<Vec<Option<Act>>, AllocError>
     vec![in alloc; None; size]
 }
 
-impl ShapeTable {
-    /// No shape of so many signals.
-    pub fn new(alloc: Global, count: usize) -> Result<ShapeTable, AllocError>
-        ensures value { IfOk result (λ shapes. shapes ≡ spec.no_shapes count) }
-        ensures wide { IfOk result (λ shapes. IsWide count shapes) }
+impl Waveforms {
+    /// No waveform of so many signals.
+    pub fn new(alloc: Global, count: usize) -> Result<Waveforms, AllocError>
+        ensures value { IfOk result (λ waveforms. waveforms ≡ spec.no_waveforms count) }
+        ensures wide { IfOk result (λ waveforms. IsWide count waveforms) }
     {
         let Some(size) = count.checked_mul(CHARACTERS) else {
             return Err(AllocError);
         };
         let acts = no_acts(alloc, size)?;
-        Ok(ShapeTable { acts })
+        Ok(Waveforms { acts })
     }
 
     /// What a character means for a signal.
@@ -59,7 +59,7 @@ impl ShapeTable {
     pub fn set_all(&mut self, count: usize, signals: &[usize], character: u8, act: Act)
         requires wide { IsWide count self.old }
         requires inside { AreBelow count signals.now }
-        ensures value { self.new ≡ spec.with_shape signals.now character act self.old }
+        ensures value { self.new ≡ spec.with_waveform signals.now character act self.old }
         ensures wide { IsWide count self.new }
     {
         for signal in signals {
