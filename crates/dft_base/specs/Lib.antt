@@ -1,6 +1,8 @@
 pub mod Tri
 pub mod Name
 pub mod Words
+pub mod Bytes
+pub mod Ranges
 pub mod Parser
 pub mod Lexing
 pub mod Solutions

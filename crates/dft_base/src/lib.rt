@@ -1,6 +1,7 @@
 //! What every crate of the tool speaks of: three-valued bits, names, directions, lists, scan rules, and places in texts.
 #![tactic(auto)]
 
+mod bytes;
 mod dir;
 mod listed;
 mod name;
@@ -10,6 +11,7 @@ mod rule;
 mod tri;
 mod words;
 
+pub use bytes::is_printed;
 pub use dir::Dir;
 pub use listed::Listed;
 pub use name::Name;

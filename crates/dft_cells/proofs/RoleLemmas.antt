@@ -14,7 +14,7 @@ use Rattle.dft_cells.specs.declared.cell.Pin.{Pin}
 use Rattle.dft_cells.specs.declared.refusal.Flaw.{Flaw}
 use Rattle.dft_cells.specs.declared.refusal.Flaw.TheVariants as flaw
 use Rattle.dft_cells.specs.Keys.{pin_keys}
-use Rattle.dft_cells.specs.Drafts.{pin_with, before_pins, pins_of, is_input_role, input_count, takes_inputs, with_number, table_kind, fitted, number_of_rows}
+use Rattle.dft_cells.specs.Drafts.{pin_with, before_pins, pins_of, is_input, input_count, takes_inputs, with_number, table_kind, fitted, number_of_rows}
 use Rattle.dft_cells.specs.Refusals.{needed, checked}
 use Rattle.dft_cells.specs.WellFormed.{TakesInputs, GateRoles, FlipFlopRoles, HasRoles, role_of, pin_name, all_differ}
 use Rattle.dft_cells.proofs.Outcomes.{needed_ok, checked_ok}
@@ -56,7 +56,7 @@ perhaps_first role false found (Some more) pins h = let same : more ≡ pins = c
 -- how many of the roles are inputs
 abbrev inputs_among : List Role → ℕ
 inputs_among [] = 0
-inputs_among (role ∷ roles) = cond (is_input_role role) (1 + inputs_among roles) (inputs_among roles)
+inputs_among (role ∷ roles) = cond (is_input role) (1 + inputs_among roles) (inputs_among roles)
 
 counted_by_role : (pins : List Pin) → input_count pins ≡ inputs_among (roles_of pins)
 counted_by_role [] = refl

@@ -1,12 +1,11 @@
 -- The cell that a name and its value in a library file stand for, with its scan cell still by name.
-use Rattle.std.specs.Prelude.{codes, ℕ, ◌==◌, ◌+◌, ◌^◌, Bool, true, false, not, ◌&&◌, List, [], ◌∷◌, ◌++◌, map, length, Option, Some, None, option_map, Result, Ok, nat_le, if◌then◌else◌}
+use Rattle.std.specs.Prelude.{codes, ℕ, ◌==◌, ◌+◌, ◌^◌, Bool, true, false, not, List, [], ◌∷◌, ◌++◌, map, length, Option, Some, None, option_map, Result, Ok, if◌then◌else◌}
 use Rattle.dft_base.specs.Words.{is_reserved}
 use Rattle.toml.specs.Data.{Data, Members, as_table}
 use Rattle.dft_toml.specs.Values.{name_of, name_at, names_at, text_at, has_key, has_only, with_first}
 use Rattle.dft_cells.specs.declared.kind.Kind.{Kind}
-use Rattle.dft_cells.specs.declared.kind.Kind.TheVariants.{Buf, Inv, And, Nand, Or, Nor, Xor, Xnor, Mux2, Table}
+use Rattle.dft_cells.specs.declared.kind.Kind.TheVariants.{Table}
 use Rattle.dft_cells.specs.declared.kind.Role.{Role}
-use Rattle.dft_cells.specs.declared.kind.Role.TheVariants as role
 use Rattle.dft_cells.specs.declared.keys.PinKey.{PinKey}
 use Rattle.dft_cells.specs.declared.keys.PinKey.TheVariants as key
 use Rattle.dft_cells.specs.declared.cell.Pin.{Pin}
@@ -14,6 +13,7 @@ use Rattle.dft_cells.specs.declared.draft.Draft.{Draft}
 use Rattle.dft_cells.specs.declared.refusal.Flaw.{Flaw}
 use Rattle.dft_cells.specs.declared.refusal.Flaw.TheVariants as flaw
 use Rattle.dft_cells.specs.Gates.{number_of}
+pub use Rattle.dft_cells.specs.Pins.{is_input, takes_inputs}
 use Rattle.dft_cells.specs.WellFormed.{all_differ, pin_name}
 use Rattle.dft_cells.specs.Keys.{role_of_key, pin_keys, keys_of, kind_named}
 use Rattle.dft_cells.specs.Refusals.{needed, checked, after}
@@ -65,27 +65,9 @@ rows_of kind table =
     if is_table kind then needed flaw.Keys (text_at (codes "table") table) (λ rows. Ok rows) else Ok []
 
 -- how many of the pins are inputs
-abbrev pub is_input_role : Role → Bool
-is_input_role role.Input = true
-is_input_role _ = false
-
 abbrev pub input_count : List Pin → ℕ
 input_count [] = 0
-input_count (pin ∷ pins) = if is_input_role pin.role then 1 + input_count pins else input_count pins
-
--- whether a kind takes this number of inputs; the keys of flip-flops, lock-ups, ties and opaque cells leave nothing to count
-abbrev pub takes_inputs : Kind → ℕ → Bool
-takes_inputs Buf n = n == 1
-takes_inputs Inv n = n == 1
-takes_inputs And n = nat_le 1 n && nat_le n 8
-takes_inputs Nand n = nat_le 1 n && nat_le n 8
-takes_inputs Or n = nat_le 1 n && nat_le n 8
-takes_inputs Nor n = nat_le 1 n && nat_le n 8
-takes_inputs Xor n = nat_le 1 n && nat_le n 8
-takes_inputs Xnor n = nat_le 1 n && nat_le n 8
-takes_inputs Mux2 n = n == 3
-takes_inputs (Table number) n = nat_le 1 n && nat_le n 6
-takes_inputs _ n = true
+input_count (pin ∷ pins) = if is_input pin.role then 1 + input_count pins else input_count pins
 
 -- the bits that characters 0 and 1 write, where each is one of these
 abbrev pub bit_of_row : ℕ → Option Bool

@@ -1,5 +1,6 @@
 pub use Rattle.dft_base.specs.Tri
 pub use Rattle.dft_base.specs.Name
+pub mod Pins
 pub mod Gates
 pub mod FlipFlops
 pub mod Laws

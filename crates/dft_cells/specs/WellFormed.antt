@@ -11,29 +11,7 @@ use Rattle.dft_cells.specs.declared.cell.CellId.{CellId}
 use Rattle.dft_cells.specs.declared.cell.Pin.{Pin}
 use Rattle.dft_cells.specs.declared.cell.Cell.{Cell}
 use Rattle.dft_cells.specs.declared.library.TheConstants.{MAX_CELLS}
-
--- the kind is a gate, a table or a tie and takes this number of inputs
-abbrev pub TakesInputs : Kind → ℕ → Type 0
-TakesInputs Buf n = n ≡ 1
-TakesInputs Inv n = n ≡ 1
-TakesInputs And n = (1 ≤ n) × (n ≤ 8)
-TakesInputs Nand n = (1 ≤ n) × (n ≤ 8)
-TakesInputs Or n = (1 ≤ n) × (n ≤ 8)
-TakesInputs Nor n = (1 ≤ n) × (n ≤ 8)
-TakesInputs Xor n = (1 ≤ n) × (n ≤ 8)
-TakesInputs Xnor n = (1 ≤ n) × (n ≤ 8)
-TakesInputs Mux2 n = n ≡ 3
-TakesInputs (Table number) n = (1 ≤ n) × (n ≤ 6)
-TakesInputs Tie0 n = n ≡ 0
-TakesInputs Tie1 n = n ≡ 0
-TakesInputs Dff n = ⊥
-TakesInputs Dffr n = ⊥
-TakesInputs Dffs n = ⊥
-TakesInputs Sdff n = ⊥
-TakesInputs Sdffr n = ⊥
-TakesInputs Sdffs n = ⊥
-TakesInputs Lockup n = ⊥
-TakesInputs Opaque n = ⊥
+pub use Rattle.dft_cells.specs.Pins.{TakesInputs}
 
 -- the roles are some inputs, as many as the kind takes, and one output
 abbrev pub GateRoles : (ℕ → Type 0) → List Role → Type 0

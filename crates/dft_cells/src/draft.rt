@@ -162,7 +162,7 @@ fn fitted(alloc: Global, kind: Kind, pins: &[Pin], rows: &str) -> Result<Kind, F
     ensures flaw { IfErr result (λ flaw. IsFlaw flaw → spec.fitted kind pins.now rows.now ≡ Err flaw) }
 {
     let inputs = input_count(pins);
-    if !takes_inputs(kind, inputs) {
+    if !kind.takes_inputs(inputs) {
         return Err(Flaw::Pins);
     }
     if !all_differ(alloc, pins)? {
@@ -179,34 +179,11 @@ fn input_count(pins: &[Pin]) -> usize
 {
     let mut count: usize = 0;
     for pin in pins {
-        if pin.role == Role::Input {
+        if pin.role.is_input() {
             count += 1;
         }
     }
     count
-}
-
-fn takes_inputs(kind: Kind, inputs: usize) -> bool
-    ensures { result ≡ spec.takes_inputs kind inputs }
-{
-    match kind {
-        Kind::Buf | Kind::Inv => inputs == 1,
-        Kind::And | Kind::Nand | Kind::Or | Kind::Nor | Kind::Xor | Kind::Xnor => {
-            1 <= inputs && inputs <= 8
-        },
-        Kind::Mux2 => inputs == 3,
-        Kind::Table(_) => 1 <= inputs && inputs <= 6,
-        Kind::Tie0
-        | Kind::Tie1
-        | Kind::Dff
-        | Kind::Dffr
-        | Kind::Dffs
-        | Kind::Sdff
-        | Kind::Sdffr
-        | Kind::Sdffs
-        | Kind::Lockup
-        | Kind::Opaque => true,
-    }
 }
 
 /// Whether no name stands twice among the pins.

@@ -1,3 +1,6 @@
+ghost use Rattle.std.specs.Prelude.{◌≡◌};
+ghost use Rattle.dft_cells.specs.Pins as pins;
+
 /// What a cell does (IEEE 1364 gate tables; flip-flops as their library cells are named).
 #[derive(Clone, Copy, Debug, PartialEq, Eq)]
 pub enum Kind {
@@ -58,4 +61,47 @@ pub enum Role {
     Output,
     /// The inverse of a flip-flop's output.
     Inverted,
+}
+
+impl Kind {
+    /// Whether a cell of this kind may have so many inputs (IEEE 1364: gates have one or more; at most eight are read here). A flip-flop,
+    /// a lock-up, a tie or an opaque cell has pins of its own, so that any number will do.
+    pub fn takes_inputs(self, inputs: usize) -> bool
+        ensures { result ≡ pins.takes_inputs self inputs }
+    {
+        match self {
+            Kind::Buf | Kind::Inv => inputs == 1,
+            Kind::And | Kind::Nand | Kind::Or | Kind::Nor | Kind::Xor | Kind::Xnor => {
+                1 <= inputs && inputs <= 8
+            },
+            Kind::Mux2 => inputs == 3,
+            Kind::Table(_) => 1 <= inputs && inputs <= 6,
+            Kind::Tie0
+            | Kind::Tie1
+            | Kind::Dff
+            | Kind::Dffr
+            | Kind::Dffs
+            | Kind::Sdff
+            | Kind::Sdffr
+            | Kind::Sdffs
+            | Kind::Lockup
+            | Kind::Opaque => true,
+        }
+    }
+}
+
+impl Role {
+    /// Whether this is an input of a gate, a table or an opaque cell.
+    pub fn is_input(self) -> bool
+        ensures { result ≡ pins.is_input self }
+    {
+        matches!(self, Role::Input)
+    }
+
+    /// Whether this is an output, or the inverse of one: the pin drives the net that it is joined to.
+    pub fn is_output(self) -> bool
+        ensures { result ≡ pins.is_output self }
+    {
+        matches!(self, Role::Output | Role::Inverted)
+    }
 }

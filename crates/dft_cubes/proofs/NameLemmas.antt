@@ -6,7 +6,7 @@ use Rattle.std.proofs.lemmas.Bool.Decides.{nat_tests}
 use Rattle.std.proofs.lemmas.List.{length-drop, length-take-le}
 use Rattle.dft_base.specs.Name.{IsName}
 use Rattle.dft_lines.specs.declared.words.Span.{Span}
-use Rattle.dft_lines.specs.Lines.{AreWithin, are_printed, cut, is_printed, is_printed_byte}
+use Rattle.dft_lines.specs.Lines.{AreWithin, are_printed, cut, is_printed_word, is_printed}
 use Rattle.std.specs.Str.{bytes_eq}
 use Rattle.std.proofs.lemmas.Slice.Eq.{bytes_eq-Decides}
 use Rattle.std.proofs.lemmas.Bool.Decides.{same_from_decides, Decides-like}
@@ -26,15 +26,15 @@ has-map shown name (k ∷ keys) = ap (λ b. b || list_any (λ x. bytes_eq name (
 abbrev InRange : ℕ → Type 0
 InRange byte = (33 ≤ byte) × (byte ≤ 126)
 
-printed_range : (byte : ℕ) → is_printed_byte byte ≡ true → InRange byte
+printed_range : (byte : ℕ) → is_printed byte ≡ true → InRange byte
 printed_range byte e = (grind (arith, nat_tests), grind (arith, nat_tests))
 
-each_printed : (word : Text) → is_printed word ≡ true → (k d : ℕ) → k < length word → InRange (get_or word k d)
+each_printed : (word : Text) → is_printed_word word ≡ true → (k d : ℕ) → k < length word → InRange (get_or word k d)
 each_printed [] e k d less = absurd (omega arith)
-each_printed (byte ∷ word) e zero d less = printed_range byte (and_parts (is_printed_byte byte) (list_all is_printed_byte word) e).0
-each_printed (byte ∷ word) e (suc k) d less = each_printed word (and_parts (is_printed_byte byte) (list_all is_printed_byte word) e).1 k d (omega arith)
+each_printed (byte ∷ word) e zero d less = printed_range byte (and_parts (is_printed byte) (list_all is_printed word) e).0
+each_printed (byte ∷ word) e (suc k) d less = each_printed word (and_parts (is_printed byte) (list_all is_printed word) e).1 k d (omega arith)
 
-name_there : (line : Text) (span : Span) → span.start < span.end → span.end ≤ length line → is_printed (cut line span) ≡ true → IsName (cut line span)
+name_there : (line : Text) (span : Span) → span.start < span.end → span.end ≤ length line → is_printed_word (cut line span) ≡ true → IsName (cut line span)
 name_there line span some within printed =
     let left : length (drop span.start line) ≡ length line - span.start = length-drop span.start line in
     let size : length (cut line span) ≡ span.end - span.start = length-take-le (span.end - span.start) (drop span.start line) (omega (arith, left, within)) in
@@ -44,6 +44,6 @@ name_there line span some within printed =
 pub names_there : (line : Text) (spans : List Span) → AreWithin line spans → are_printed (map (cut line) spans) ≡ true → (k : ℕ) (d : Span) → k < length spans → IsName (cut line (get_or spans k d))
 names_there line [] within e k d less = absurd (omega arith)
 names_there line (s ∷ spans) within e zero d less =
-    name_there line s (within 0 d less).0 (within 0 d less).1 (and_parts (is_printed (cut line s)) (are_printed (map (cut line) spans)) e).0
+    name_there line s (within 0 d less).0 (within 0 d less).1 (and_parts (is_printed_word (cut line s)) (are_printed (map (cut line) spans)) e).0
 names_there line (s ∷ spans) within e (suc k) d less =
-    names_there line spans (λ j x small. within (suc j) x (omega arith)) (and_parts (is_printed (cut line s)) (are_printed (map (cut line) spans)) e).1 k d (omega arith)
+    names_there line spans (λ j x small. within (suc j) x (omega arith)) (and_parts (is_printed_word (cut line s)) (are_printed (map (cut line) spans)) e).1 k d (omega arith)

@@ -1,2 +1,4 @@
 pub mod PrintedLemmas
 pub mod PartLemmas
+pub mod RestLemmas
+pub mod FrontLemmas

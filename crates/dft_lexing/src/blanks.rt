@@ -5,6 +5,8 @@ ghost use Rattle.std.specs.List.{prefix_len};
 ghost use Rattle.std.specs.Char.{is_ascii_digit};
 ghost use Rattle.dft_lexing.specs.Blanks as spec;
 
+use dft_base::is_printed;
+
 /// Whether a byte separates tokens: a tab, a line feed, a form feed, a carriage return or a space.
 #[inline(always)]
 pub fn is_space(byte: u8) -> bool
@@ -13,12 +15,20 @@ pub fn is_space(byte: u8) -> bool
     byte == b'\t' || byte == b'\n' || byte == 12 || byte == b'\r' || byte == b' '
 }
 
-/// Whether a byte is printed, and no blank.
+/// Whether a byte is a letter, a digit or `_`.
 #[inline(always)]
-pub fn is_printed(byte: u8) -> bool
-    ensures { result ≡ spec.is_printed byte }
+pub fn is_word_byte(byte: u8) -> bool
+    ensures { result ≡ spec.is_word_byte byte }
 {
-    33 <= byte && byte <= 126
+    byte.is_ascii_alphanumeric() || byte == b'_'
+}
+
+/// How many letters, digits and `_` stand at the front.
+pub fn word_bytes(text: &[u8]) -> usize
+    ensures value { result ≡ prefix_len spec.is_word_byte text.now }
+    ensures within { result ≤ length text.now }
+{
+    text.iter().take_while(|byte| is_word_byte(**byte)).count()
 }
 
 /// How many bytes at the front are printed.
@@ -53,15 +63,14 @@ pub fn begins_with_pair(text: &[u8], first: u8, second: u8) -> bool
     matches!(text, [a, b, ..] if *a == first && *b == second)
 }
 
-#[tactic(auto, unfolding(crate::specs::Blanks::comment_rest))]
-/// How many bytes a comment has from behind its opening to behind the next `*/`.
-pub fn comment_rest(text: &[u8]) -> Option<usize>
-    ensures value { result ≡ spec.comment_rest text.now }
+/// How many bytes stand to behind the first place where these two bytes stand, as `*/` behind the opening of a comment.
+pub fn rest_to(text: &[u8], first: u8, second: u8) -> Option<usize>
+    ensures value { result ≡ spec.rest_to (first ∷ second ∷ []) text.now }
     ensures within { IfSome result (λ len. len ≤ length text.now) }
 {
     let mut rest = text;
     while let [_, behind @ ..] = rest {
-        if begins_with_pair(rest, b'*', b'/') {
+        if begins_with_pair(rest, first, second) {
             return Some(text.len() - rest.len() + 2);
         }
         rest = behind;

@@ -2,8 +2,11 @@
 #![tactic(auto)]
 
 mod blanks;
+mod read_error;
 
 pub use blanks::{
-    begins_with_pair, closed_len, comment_rest, decimal_len, is_printed, is_space, printed_len,
-    to_line_end,
+    begins_with_pair, closed_len, decimal_len, is_space, is_word_byte, printed_len, rest_to,
+    to_line_end, word_bytes,
 };
+pub use dft_base::is_printed;
+pub use read_error::ReadError;

@@ -1,6 +1,7 @@
 -- Texts of lines of words: lines end at byte 10, words stand between spaces, tabs and returns, and `#` at the beginning of a word begins a comment.
-use Rattle.std.specs.Prelude.{ℕ, ◌==◌, ◌||◌, ◌&&◌, Bool, true, false, List, [], ◌∷◌, ◌++◌, map, ◌-◌, ◌≤◌, ◌<◌, ◌≡◌, Option, None, Some, length, take, drop, if◌then◌else◌, nat_le}
+use Rattle.std.specs.Prelude.{ℕ, ◌==◌, ◌||◌, Bool, true, false, List, [], ◌∷◌, ◌++◌, map, ◌-◌, ◌≤◌, ◌<◌, ◌≡◌, Option, None, Some, length, take, drop, if◌then◌else◌}
 use Rattle.std.specs.List.{All, list_all}
+pub use Rattle.dft_base.specs.Bytes.{is_printed}
 use Rattle.dft_base.specs.Lexing.{Text}
 use Rattle.dft_lines.specs.declared.words.Span.{Span}
 
@@ -33,16 +34,13 @@ words_from false (b ∷ text) = if is_gap b then words_from false text else if b
 abbrev pub words_of : Text → List Text
 words_of line = words_from false line
 
--- a printed byte that is no blank, 33 to 126
-abbrev pub is_printed_byte : (byte : ℕ) → Bool
-is_printed_byte b = nat_le 33 b && nat_le b 126
-
-abbrev pub is_printed : Text → Bool
-is_printed word = list_all is_printed_byte word
+-- whether all bytes of a word are printed, and none a blank
+abbrev pub is_printed_word : Text → Bool
+is_printed_word word = list_all is_printed word
 
 -- whether all bytes of these words are printed
 abbrev pub are_printed : List Text → Bool
-are_printed words = list_all is_printed words
+are_printed words = list_all is_printed_word words
 
 -- ---- words by where they stand
 

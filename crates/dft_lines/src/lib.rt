@@ -3,4 +3,4 @@
 
 mod words;
 
-pub use words::{Span, are_printed, line_len, words_of};
+pub use words::{Span, are_printed, is_printed_word, line_len, words_of};

@@ -5,6 +5,7 @@ ghost use Rattle.std.specs.List.{prefix_len};
 ghost use Rattle.dft_lines.specs.Lines as spec;
 ghost use Rattle.dft_lines.specs.Lines.{AreWithin, IsNextWord, cut};
 
+use dft_base::is_printed;
 use std::alloc::AllocError;
 
 /// Where a word stands in its line: its first byte, and the byte behind its last.
@@ -84,11 +85,11 @@ pub fn words_of(line: &[u8], words: &mut Vec<Span>) -> Result<(), AllocError>
     Ok(())
 }
 
-// Whether all bytes of a word are printed: 33 to 126.
-fn is_printed(word: &[u8]) -> bool
-    ensures { result ≡ spec.is_printed word.now }
+/// Whether all bytes of a word are printed: 33 to 126.
+pub fn is_printed_word(word: &[u8]) -> bool
+    ensures { result ≡ spec.is_printed_word word.now }
 {
-    word.iter().all(|byte| matches!(*byte, 33..=126))
+    word.iter().all(|byte| is_printed(*byte))
 }
 
 /// Whether all bytes of these words of a line are printed: 33 to 126.
@@ -97,7 +98,7 @@ pub fn are_printed(line: &[u8], words: &[Span]) -> bool
     ensures { result ≡ spec.are_printed (map (cut line.now) words.now) }
 {
     for word in words {
-        if !is_printed(word.of(line)) {
+        if !is_printed_word(word.of(line)) {
             return false;
         }
     }

@@ -2,7 +2,7 @@
 
 ghost use Rattle.std.specs.Prelude.{◌≡◌, ℕ, length, map, option_map, IfOk};
 ghost use Rattle.std.specs.Option.{ForSome};
-ghost use Rattle.dft_netlist.specs.Drivers.{shape_of, source_of, connections_of, is_input as takes_input};
+ghost use Rattle.dft_netlist.specs.Drivers.{shape_of, source_of, connections_of};
 ghost use Rattle.dft_netlist.specs.Sound.{AreLive};
 ghost use Rattle.dft_logic.specs.Circuit.{source_at};
 ghost use Rattle.dft_logic.specs.Compiling.{wired_at, wired_by, inputs_in, found_in, IsLiveOperand, AreLiveWires};
@@ -64,23 +64,13 @@ pub(crate) fn find(wires: &[Wire], role: Role) -> Option<Operand>
     None
 }
 
-/// Whether a pin is an input of a gate.
-fn is_input(role: Role) -> bool
-    ensures { result ≡ takes_input role }
-{
-    match role {
-        Role::Input => true,
-        _ => false,
-    }
-}
-
 /// What the inputs of a gate take their values from.
 pub(crate) fn gate_inputs(alloc: Global, wires: &[Wire]) -> Result<Operands, AllocError>
     ensures { IfOk result (λ inputs. map source_at inputs ≡ inputs_in (map wired_at wires.now)) }
 {
     let mut inputs = Operands::new(alloc);
     for wire in wires {
-        if is_input(wire.role) {
+        if wire.role.is_input() {
             inputs.push(wire.source)?;
         }
     }

@@ -6,6 +6,7 @@ use Rattle.dft_cells.specs.declared.kind.Kind.TheVariants as kind
 use Rattle.dft_cells.specs.declared.kind.Role.{Role}
 use Rattle.dft_cells.specs.declared.kind.Role.TheVariants as role
 use Rattle.dft_cells.specs.declared.cell.Cell.{Cell}
+pub use Rattle.dft_cells.specs.Pins.{is_input}
 use Rattle.dft_netlist.specs.declared.ids.NetId.{NetId}
 use Rattle.dft_netlist.specs.declared.instance.Signal.{Signal}
 use Rattle.dft_netlist.specs.declared.instance.Signal.TheVariants as signal
@@ -66,17 +67,6 @@ abbrev pub source_of : (instance pin : ℕ) → Signal → Source
 source_of instance pin (signal.Net net) = Net net.0
 source_of instance pin (signal.Constant bit) = Tied bit
 source_of instance pin signal.Unconnected = Loose instance pin
-
-abbrev pub is_input : Role → Bool
-is_input role.Input = true
-is_input role.Clock = false
-is_input role.Din = false
-is_input role.Reset = false
-is_input role.Preset = false
-is_input role.ScanIn = false
-is_input role.ScanEnable = false
-is_input role.Output = false
-is_input role.Inverted = false
 
 -- the sources of a gate's inputs, in the order of its pins
 abbrev pub inputs_of : (instance : ℕ) → List Connection → List Source

@@ -1,10 +1,11 @@
 -- The printed names of a netlist: of nets, among them the bits of ports, of vector ports and of instances (IEEE 1364, identifiers).
-use Rattle.std.specs.Prelude.{ℕ, zero, suc, ◌-◌, ◌≡◌, Bool, false, List, [], ◌∷◌, ◌++◌, map, Option, None, Some, slice_get, if◌then◌else◌, nat_le}
+use Rattle.std.specs.Prelude.{ℕ, suc, ◌≡◌, Bool, false, List, [], ◌∷◌, ◌++◌, map, Option, None, Some, slice_get, if◌then◌else◌}
 use Rattle.std.specs.List.{filter_map}
 use Rattle.std.specs.Option.{option_and_then}
 use Rattle.std.specs.Str.{bytes_eq}
 use Rattle.std.specs.Fmt.{decimal}
 use Rattle.dft_base.specs.declared.place.Range.{Range}
+pub use Rattle.dft_base.specs.Ranges.{going_up, going_down, indices_of}
 use Rattle.dft_cells.specs.WellFormed.{has_name}
 use Rattle.dft_netlist.specs.declared.ids.NetId.{NetId}
 use Rattle.dft_netlist.specs.declared.ids.InstanceId.{InstanceId}
@@ -20,19 +21,6 @@ use Rattle.dft_base.specs.Lexing.{Text}
 -- the printed name of a bit of a vector: the vector's name and the bit's index in brackets, in decimal
 abbrev pub bit_name : Text → (index : ℕ) → Text
 bit_name name index = name ++ (91 ∷ decimal index) ++ 93 ∷ []
-
--- numbers that go up, or down, from a number
-abbrev pub going_up : (from count : ℕ) → List ℕ
-going_up from zero = []
-going_up from (suc count) = from ∷ going_up (suc from) count
-
-abbrev pub going_down : (from count : ℕ) → List ℕ
-going_down from zero = []
-going_down from (suc count) = from ∷ going_down (from - 1) count
-
--- the indices of a range, its left one first
-abbrev pub indices_of : Range → List ℕ
-indices_of range = if nat_le range.left range.right then going_up range.left (suc (range.right - range.left)) else going_down range.left (suc (range.left - range.right))
 
 -- the printed names of a port's bits, the leftmost first; a scalar port has one bit, of its own name
 abbrev pub bit_names : Text → Option Range → List Text

@@ -3,8 +3,8 @@ use Rattle.std.specs.Prelude.{ℕ, ◌≡◌, ◌<◌, ◌≤◌, Bool, true, fa
 use Rattle.dft_cells.specs.declared.kind.Kind.{Kind}
 use Rattle.dft_cells.specs.declared.kind.Kind.TheVariants.{Buf, Inv, And, Nand, Or, Nor, Xor, Xnor}
 use Rattle.dft_cells.specs.declared.kind.Role.{Role}
-use Rattle.dft_cells.specs.declared.kind.Role.TheVariants.{Output, Inverted}
 use Rattle.dft_cells.specs.declared.cell.Cell.{Cell}
+pub use Rattle.dft_cells.specs.Pins.{is_output}
 use Rattle.dft_cells.specs.WellFormed.{TakesInputs}
 use Rattle.dft_netlist.specs.declared.ids.NetId.{NetId}
 use Rattle.dft_netlist.specs.declared.port.Port.{Port}
@@ -47,11 +47,6 @@ IsLive count Unconnected = Unit {0}
 -- each net of these signals is one of the first `count`
 abbrev pub AreLive : (count : ℕ) → List Signal → Type 0
 AreLive count signals = (place : ℕ) (signal : Signal) → slice_get signals place ≡ Some signal → IsLive count signal
-
-abbrev pub is_output : Role → Bool
-is_output Output = true
-is_output Inverted = true
-is_output _ = false
 
 -- no output pin is joined to a constant
 abbrev pub NoConstantOutput : List Role → List Signal → Type 0

@@ -6,7 +6,6 @@ ghost use Rattle.dft_netlist.specs.Connections as connections;
 ghost use Rattle.dft_netlist.specs.Drivers.{connections_of, gate_roles, shape_of};
 ghost use Rattle.dft_netlist.specs.Logic.{same_role};
 ghost use Rattle.dft_netlist.specs.Reading as spec;
-ghost use Rattle.dft_netlist.specs.Sound as sound;
 
 use crate::instance::{CellRef, Instance, Signal};
 use dft_cells::{Cell, Kind, Role};
@@ -116,13 +115,6 @@ pub(crate) fn known_role(cells: &[Cell], cell: CellRef, pin: usize) -> Role
             }
         }
     }
-}
-
-/// Whether this is an output pin.
-pub(crate) fn is_output(role: Role) -> bool
-    ensures { result ≡ sound.is_output role }
-{
-    matches!(role, Role::Output | Role::Inverted)
 }
 
 /// Whether the output of a cell of this kind reads a pin of this role at the same moment.

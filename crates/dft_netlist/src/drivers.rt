@@ -11,7 +11,7 @@ ghost use Rattle.dft_netlist.specs.Notes.{all_noted, port_drives, instance_drive
 ghost use Rattle.dft_netlist.specs.Sound.{IsInstance, IsLive};
 
 use crate::builder::DesignBuilder;
-use crate::cells::{is_output, known_role};
+use crate::cells::known_role;
 use crate::driver_notes::DriverNotes;
 use crate::error::NetlistError;
 use crate::ids::InstanceId;
@@ -86,7 +86,7 @@ fn note_pin(notes: &mut DriverNotes, id: InstanceId, pin: usize, role: Role, sig
     requires { IsLive (length notes.old.found) signal }
     ensures { notes.new ≡ all_noted notes.old (pin_drives id.0 pin role signal) }
 {
-    if is_output(role) {
+    if role.is_output() {
         if let Signal::Net(net) = signal {
             notes.note(net, NetDriver::Pin { instance: id, pin });
         }

@@ -3,11 +3,12 @@ use Rattle.std.specs.Prelude.{ℕ, suc, ◌+◌, ◌-◌, Bool, true, false, not
 use Rattle.std.specs.List.{prefix_len}
 use Rattle.std.specs.Char.{is_ascii_digit, is_ascii_alphanumeric}
 use Rattle.std.specs.Str.{bytes_eq}
-use Rattle.dft_base.specs.Lexing.{Text, Front, Blank, Cut, tokens_from}
+use Rattle.dft_base.specs.Lexing.{Text, Front, Cut, tokens_from}
 use Rattle.dft_base.specs.Lexing as lexing
 use Rattle.dft_base.specs.Words.{begins_word, continues_word, is_reserved}
 pub use Rattle.dft_lexing.specs.Blanks.{is_space, is_printed, begins_with, closed_len}
 unfoldable pub use Rattle.dft_lexing.specs.Blanks.{comment_rest}
+use Rattle.dft_lexing.specs.Blanks.{is_word_byte, blank_or}
 use Rattle.dft_netlist_text.specs.declared.text.TokenKind.{TokenKind}
 use Rattle.dft_netlist_text.specs.declared.text.TokenKind.TheVariants as kind
 
@@ -23,7 +24,7 @@ is_in_line b = not (b == 10) && (is_space b || is_printed b)
 
 -- what may stand in the digits behind a base
 abbrev pub is_in_digits : ℕ → Bool
-is_in_digits b = is_ascii_alphanumeric b || b == 95
+is_in_digits b = is_word_byte b
 
 -- ---- blanks
 
@@ -169,9 +170,7 @@ is_base_kind _ = false
 
 -- what stands at the front
 abbrev pub front : (behind_base : Bool) → Text → Front TokenKind Bool
-front behind_base text =
-    if blank_len text == 0 then Cut (token_of (lexeme behind_base text) text) (lexeme behind_base text).len (is_base_kind (lexeme behind_base text).kind)
-    else Blank (blank_len text)
+front behind_base text = blank_or (blank_len text) (Cut (token_of (lexeme behind_base text) text) (lexeme behind_base text).len (is_base_kind (lexeme behind_base text).kind))
 
 -- the tokens of a text, in order
 abbrev pub tokens : Text → List Token

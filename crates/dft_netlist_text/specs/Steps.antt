@@ -23,8 +23,7 @@ Rule A = parser.Parser Token Fault A
 
 -- what the next token is; at the end of the text, the end
 unfoldable pub kind_of : List Token → TokenKind
-kind_of [] = kind.End
-kind_of (t ∷ ts) = t.kind
+kind_of ts = steps.kind_or kind.End ts
 
 -- whether two kinds are the same
 unfoldable pub same_kind : TokenKind → TokenKind → Bool
@@ -72,11 +71,11 @@ refuse = λ ts. Err (refusal ts)
 
 -- takes a token of this kind, which must come next
 unfoldable pub expect : TokenKind → Rule Text
-expect k = λ ts. if sees k ts then Ok (bytes ts, next ts) else refuse ts
+expect k = steps.take_if (sees k) refusal
 
 -- the tokens behind a token of this kind, if it comes next
 unfoldable pub after : TokenKind → List Token → List Token
-after k ts = if sees k ts then next ts else ts
+after k ts = steps.behind_if (sees k) ts
 
 -- takes a token of this kind, if it comes next
 abbrev pub eat : TokenKind → Rule Bool

@@ -2,7 +2,7 @@
 use Rattle.std.specs.Prelude.{ℕ, ◌+◌, ◌-◌, ◌*◌, ◌==◌, ◌&&◌, Bool, false, List, [], ◌∷◌, length, Option, None, Some, option_and_then, nat_le, nat_lt, if◌then◌else◌}
 use Rattle.std.specs.List.{slice_split}
 use Rattle.dft_base.specs.Lexing.{Text}
-use Rattle.dft_lines.specs.Lines.{is_printed}
+use Rattle.dft_lines.specs.Lines.{is_printed_word}
 
 -- the lines of a text; behind a last byte 10 there is one more, which is empty
 abbrev pub lines_of : Text → List Text
@@ -16,7 +16,7 @@ words_of line = slice_split (λ b. b == 32) line
 
 -- some bytes, each printed
 abbrev pub is_name : Text → Bool
-is_name word = nat_lt 0 (length word) && is_printed word
+is_name word = nat_lt 0 (length word) && is_printed_word word
 
 -- ---- numbers
 

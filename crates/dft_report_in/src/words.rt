@@ -2,9 +2,9 @@
 
 ghost use Rattle.std.specs.Prelude.{◌≡◌, ◌+◌, ◌<◌, ◌≤◌, true, IfOk, length, map};
 ghost use Rattle.dft_base.specs.Name.{IsName};
-ghost use Rattle.dft_lines.specs.Lines as lines;
 ghost use Rattle.dft_report_in.specs.Words as spec;
 
+use dft_lines::is_printed_word;
 use std::alloc::{AllocError, Global};
 
 /// The lines of a text; behind a last byte 10 there is one more, which is empty.
@@ -23,17 +23,10 @@ pub(crate) fn words_of(alloc: Global, line: &[u8]) -> Result<Vec<&[u8]>, AllocEr
     line.split(|byte| *byte == b' ').collect(alloc)
 }
 
-// Whether all bytes of a word are 33 to 126.
-fn is_printed(word: &[u8]) -> bool
-    ensures { result ≡ lines.is_printed word.now }
-{
-    word.iter().all(|byte| matches!(*byte, 33..=126))
-}
-
 /// Whether a word may be a name: some bytes, each of 33 to 126.
 pub(crate) fn is_name(word: &[u8]) -> bool
     ensures is { result ≡ spec.is_name word.now }
     ensures name { result ≡ true → IsName word.now }
 {
-    0 < word.len() && is_printed(word)
+    0 < word.len() && is_printed_word(word)
 }

@@ -16,7 +16,7 @@ use Rattle.dft_base.specs.Lexing.{Text}
 use Rattle.dft_base.specs.Name.{IsName}
 use Rattle.dft_base.specs.declared.rule.Rule.{Rule}
 use Rattle.dft_base.specs.declared.rule.Rule.TheVariants.{S1, S2, S3, S4}
-use Rattle.dft_lines.specs.Lines.{is_printed, is_printed_byte}
+use Rattle.dft_lines.specs.Lines.{is_printed_word, is_printed}
 use Rattle.dft_report.specs.declared.report.Variable.{Variable}
 use Rattle.dft_report.specs.Written.{rule_text, variable_text, variables_text}
 use Rattle.dft_report_in.specs.Words.{is_name, number_of}
@@ -40,13 +40,13 @@ both_hold false b e f = absurd cc
 
 pub name_heard : (name : Text) → IsName name → is_name name ≡ true
 name_heard name is =
-    both_hold (nat_lt 0 (length name)) (is_printed name) (some (length name) is.some)
-    (list_all-from_AllPass is_printed_byte name (λ k d less. printed (get_or name k d) (is.each k d less).0 (is.each k d less).1))
+    both_hold (nat_lt 0 (length name)) (is_printed_word name) (some (length name) is.some)
+    (list_all-from_AllPass is_printed name (λ k d less. printed (get_or name k d) (is.each k d less).0 (is.each k d less).1))
   where
     some : (n : ℕ) → 0 < n → nat_lt 0 n ≡ true
     some n h = grind (arith, nat_tests)
 
-    printed : (b : ℕ) → 33 ≤ b → b ≤ 126 → is_printed_byte b ≡ true
+    printed : (b : ℕ) → 33 ≤ b → b ≤ 126 → is_printed b ≡ true
     printed b h k = grind (arith, nat_tests)
 
 -- ---- lines

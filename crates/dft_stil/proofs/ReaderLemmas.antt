@@ -12,7 +12,7 @@ use Rattle.dft_patterns.specs.declared.steadiness.Unsteady.{Unsteady}
 use Rattle.dft_stil_text.specs.declared.error.StilError.{StilError}
 use Rattle.dft_stil_text.specs.declared.error.StilError.TheVariants as told
 use Rattle.dft_stil_text.specs.declared.limits.TheConstants.{MAX_VECTORS}
-use Rattle.dft_stil_tokens.specs.declared.read_error.ReadError.{ReadError}
+use Rattle.dft_stil_tokens.specs.Reading.{ReadError}
 use Rattle.dft_stil_tokens.specs.Reading.{ReadsText}
 use Rattle.dft_stil_tokens.specs.Lexemes.{Token, tokens}
 use Rattle.dft_patterns.specs.Patterns.{Patterns, IsVector, IsWellFormed}

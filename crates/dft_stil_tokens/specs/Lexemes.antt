@@ -2,11 +2,12 @@
 use Rattle.std.specs.Prelude.{ℕ, zero, suc, ◌+◌, ◌-◌, Bool, true, false, not, ◌&&◌, ◌||◌, ◌==◌, nat_lt, if◌then◌else◌, List, [], ◌∷◌, length, take, drop, codes, Option, Some, None, option_map, is_some, slice_index}
 use Rattle.std.specs.List.{prefix_len}
 use Rattle.std.specs.Char.{is_ascii_digit, is_ascii_alphanumeric}
-use Rattle.dft_base.specs.Lexing.{Text, Front, Blank, Cut, tokens_from}
+use Rattle.dft_base.specs.Lexing.{Text, Front, Cut, tokens_from}
 use Rattle.dft_base.specs.Lexing as lexing
 use Rattle.dft_base.specs.Words.{begins_word}
 pub use Rattle.dft_lexing.specs.Blanks.{is_space, is_printed, begins_with, closed_len}
 unfoldable pub use Rattle.dft_lexing.specs.Blanks.{comment_rest}
+use Rattle.dft_lexing.specs.Blanks.{is_word_byte, rest_to, blank_or}
 use Rattle.dft_stil_tokens.specs.declared.text.TokenKind.{TokenKind}
 use Rattle.dft_stil_tokens.specs.declared.text.TokenKind.TheVariants as kind
 
@@ -18,7 +19,7 @@ Token = lexing.Token TokenKind
 
 -- what may stand in a word behind its first letter
 abbrev pub continues_name : ℕ → Bool
-continues_name b = is_ascii_alphanumeric b || b == 95
+continues_name b = is_word_byte b
 
 -- what may stand in a number behind its first digit
 abbrev pub is_in_number : (quoted : Bool) → ℕ → Bool
@@ -41,8 +42,7 @@ word_len text = prefix_len continues_name text + index_len (drop (prefix_len con
 
 -- how many bytes an annotation has from behind its opening to behind the next `*}`
 unfoldable pub note_rest : Text → Option ℕ
-note_rest [] = None
-note_rest (b ∷ text) = if begins_with (codes "*}") (b ∷ text) then Some 2 else option_map suc (note_rest text)
+note_rest text = rest_to (codes "*}") text
 
 -- how many bytes a space or a comment at the front has
 unfoldable pub gap_len : Text → ℕ
@@ -164,9 +164,7 @@ quoted_behind _ quoted = quoted
 
 -- what stands at the front
 abbrev pub front : (quoted : Bool) → Text → Front TokenKind Bool
-front quoted text =
-    if blank_len text == 0 then Cut (token_of (lexeme quoted text) text) (lexeme quoted text).len (quoted_behind (lexeme quoted text).kind quoted)
-    else Blank (blank_len text)
+front quoted text = blank_or (blank_len text) (Cut (token_of (lexeme quoted text) text) (lexeme quoted text).len (quoted_behind (lexeme quoted text).kind quoted))
 
 -- the tokens of a text, in order
 abbrev pub tokens : Text → List Token

@@ -26,8 +26,7 @@ Rule A = parser.Parser Token Fault A
 
 -- what the next token is; at the end of the text, the end
 unfoldable pub kind_of : List Token → TokenKind
-kind_of [] = kind.End
-kind_of (t ∷ ts) = t.kind
+kind_of ts = steps.kind_or kind.End ts
 
 -- whether a token of this kind comes next
 unfoldable pub sees : TokenKind → List Token → Bool
@@ -89,11 +88,11 @@ keyword_refusal ts = if sees_capital ts then unsupported ts else no_token ts
 
 -- takes a token of this kind, which must come next
 unfoldable pub expect : TokenKind → Rule Text
-expect k = λ ts. if sees k ts then Ok (bytes ts, next ts) else Err (mark_refusal ts)
+expect k = steps.take_if (sees k) mark_refusal
 
 -- the tokens behind a token of this kind, if it comes next
 unfoldable pub after : TokenKind → List Token → List Token
-after k ts = if sees k ts then next ts else ts
+after k ts = steps.behind_if (sees k) ts
 
 -- takes a token of this kind, if it comes next
 abbrev pub eat : TokenKind → Rule Bool
@@ -101,7 +100,7 @@ eat k = λ ts. Ok (sees k ts, after k ts)
 
 -- the tokens behind this word, if it comes next
 unfoldable pub after_word : Text → List Token → List Token
-after_word word ts = if sees_word word ts then next ts else ts
+after_word word ts = steps.behind_if (sees_word word) ts
 
 -- takes this keyword, if it comes next
 abbrev pub eat_word : Text → Rule Bool
@@ -109,7 +108,7 @@ eat_word word = λ ts. Ok (sees_word word ts, after_word word ts)
 
 -- takes this keyword, which must come next
 unfoldable pub keyword : Text → Rule Text
-keyword word = λ ts. if sees_word word ts then Ok (bytes ts, next ts) else Err (keyword_refusal ts)
+keyword word = steps.take_if (sees_word word) keyword_refusal
 
 -- whether a name comes next, with quotes or without
 unfoldable pub sees_name : List Token → Bool
@@ -117,7 +116,7 @@ sees_name ts = sees kind.Word ts || sees kind.Quoted ts
 
 -- takes a name, which must come next
 unfoldable pub name : Rule Text
-name = λ ts. if sees_name ts then Ok (bytes ts, next ts) else refuse ts
+name = steps.take_if sees_name no_token
 
 -- what must hold, or else a meaning is refused at this place
 abbrev pub needed : {A : Type 0} → Cause → ℕ → Bool → Rule A → Rule A

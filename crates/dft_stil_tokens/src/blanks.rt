@@ -5,27 +5,10 @@ ghost use Rattle.std.specs.List.{prefix_len};
 ghost use Rattle.std.specs.Char.{is_ascii_digit};
 ghost use Rattle.dft_stil_tokens.specs.Lexemes as spec;
 
-use dft_lexing::{begins_with_pair, closed_len, comment_rest, decimal_len, is_space, to_line_end};
+use dft_lexing::{begins_with_pair, closed_len, decimal_len, is_space, rest_to, to_line_end, word_bytes};
 
 /// The most bytes that a pattern text may have: 256 MiB.
 pub const MAX_TEXT: usize = 268_435_456;
-
-// Whether a byte may stand in a word behind its first letter.
-fn continues_name(byte: u8) -> bool
-    ensures { result ≡ spec.continues_name byte }
-{
-    byte.is_ascii_alphanumeric() || byte == b'_'
-}
-
-// How many bytes at the front may stand in a word.
-fn name_len(text: &[u8]) -> usize
-    ensures value { result ≡ prefix_len spec.continues_name text.now }
-    ensures within { result ≤ length text.now }
-{
-    text.iter()
-        .take_while(|byte| continues_name(**byte))
-        .count()
-}
 
 // How many bytes digits in brackets have; none where the text does not begin with such.
 fn index_len(text: &[u8]) -> usize
@@ -50,27 +33,11 @@ pub fn word_len(text: &[u8]) -> usize
     ensures value { result ≡ spec.word_len text.now }
     ensures within { result ≤ length text.now }
 {
-    let len = name_len(text);
+    let len = word_bytes(text);
     len + index_len(&text[len..])
 }
 
-#[tactic(auto, unfolding(crate::specs::Lexemes::note_rest))]
-// How many bytes an annotation has from behind its opening to behind the next `*}`.
-fn note_rest(text: &[u8]) -> Option<usize>
-    ensures value { result ≡ spec.note_rest text.now }
-    ensures within { IfSome result (λ len. len ≤ length text.now) }
-{
-    let mut rest = text;
-    while let [_, behind @ ..] = rest {
-        if begins_with_pair(rest, b'*', b'}') {
-            return Some(text.len() - rest.len() + 2);
-        }
-        rest = behind;
-    }
-    None
-}
-
-#[tactic(auto, unfolding(crate::specs::Lexemes::gap_len))]
+#[tactic(auto, unfolding(crate::specs::Lexemes::gap_len, dft_lexing::specs::Blanks::comment_rest))]
 // How many bytes a space or a comment at the front has.
 fn gap_len(text: &[u8]) -> usize
     requires { length text.now ≤ MAX_TEXT }
@@ -81,7 +48,7 @@ fn gap_len(text: &[u8]) -> usize
         [] => 0,
         [first, ..] if is_space(*first) => 1,
         [b'/', b'/', ..] => to_line_end(text),
-        [b'/', b'*', behind @ ..] => closed_len(comment_rest(behind)),
+        [b'/', b'*', behind @ ..] => closed_len(rest_to(behind, b'*', b'/')),
         _ => 0,
     }
 }
@@ -143,6 +110,7 @@ fn semicolon_len(text: &[u8]) -> usize
     }
 }
 
+#[tactic(auto, unfolding(crate::specs::Lexemes::note_rest))]
 // What an annotation has whose opening has so many bytes, with its semicolon; none where the text does not close it.
 fn note_len(text: &[u8], opening: usize) -> usize
     requires inside { opening ≤ length text.now }
@@ -150,7 +118,7 @@ fn note_len(text: &[u8], opening: usize) -> usize
     ensures value { result ≡ spec.blank_behind text.now (Option.Some opening) }
     ensures within { result ≤ length text.now }
 {
-    match note_rest(&text[opening..]) {
+    match rest_to(&text[opening..], b'*', b'}') {
         Some(rest) => opening + rest + semicolon_len(&text[opening + rest..]),
         None => 0,
     }

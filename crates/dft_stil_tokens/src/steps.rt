@@ -7,7 +7,7 @@ ghost use Rattle.std.specs.Char.{is_ascii_alphabetic, is_ascii_alphanumeric};
 ghost use Rattle.dft_base.specs.Name.{IsName};
 ghost use Rattle.dft_stil_tokens.specs.Steps as spec;
 ghost use Rattle.dft_stil_tokens.specs.declared.text.TokenKind.TheVariants as kind;
-ghost use Rattle.dft_stil_tokens.specs.Reading.{ReadsText, Faults};
+ghost use Rattle.dft_stil_tokens.specs.Reading.{Reads, Faults};
 
 use crate::faults::fault_at;
 use crate::read_error::ReadError;
@@ -153,7 +153,7 @@ impl<'a> Tokens<'a> {
     #[tactic(auto, unfolding(crate::specs::Steps::expect))]
     /// Takes a token of this kind, which must come next.
     pub fn expect(&mut self, kind: TokenKind) -> Result<&'a [u8], ReadError>
-        ensures { ReadsText (λ bytes. bytes.now) (spec.expect kind self.old) result self.new }
+        ensures { Reads (λ bytes. bytes.now) (spec.expect kind self.old) result self.new }
     {
         if self.sees(kind) {
             Ok(self.take())
@@ -165,7 +165,7 @@ impl<'a> Tokens<'a> {
     #[tactic(auto, unfolding(crate::specs::Steps::keyword))]
     /// Takes this keyword, which must come next.
     pub fn keyword(&mut self, word: &[u8]) -> Result<&'a [u8], ReadError>
-        ensures { ReadsText (λ bytes. bytes.now) (spec.keyword word.now self.old) result self.new }
+        ensures { Reads (λ bytes. bytes.now) (spec.keyword word.now self.old) result self.new }
     {
         if self.sees_word(word) {
             Ok(self.take())
@@ -186,7 +186,7 @@ impl<'a> Tokens<'a> {
     #[tactic(auto, unfolding(crate::specs::Steps::name))]
     /// Takes a name, which must come next.
     pub fn name(&mut self) -> Result<&'a [u8], ReadError>
-        ensures read { ReadsText (λ bytes. bytes.now) (spec.name self.old) result self.new }
+        ensures read { Reads (λ bytes. bytes.now) (spec.name self.old) result self.new }
         ensures name { IfOk result (λ bytes. IsName bytes.now) }
     {
         if self.sees_name() {
@@ -224,7 +224,7 @@ impl<'a> Tokens<'a> {
     #[tactic(auto, using(crate::proofs::CharacterNames::characters_are_names), unfolding(crate::specs::Steps::one_character))]
     /// The one letter or digit that comes next, which is not taken yet; the profile leaves out a run of more.
     pub fn character(&self) -> Result<u8, ReadError>
-        ensures read { ReadsText (λ b. b) (spec.one_character self.now) result self.now }
+        ensures read { Reads (λ b. b) (spec.one_character self.now) result self.now }
         ensures name { IfOk result (λ b. IsName (b ∷ [])) }
     {
         if !self.sees_run() {
@@ -241,7 +241,7 @@ impl<'a> Tokens<'a> {
     #[tactic(auto, unfolding(crate::specs::Steps::one_letter))]
     /// The one letter that comes next, which is not taken yet; the profile leaves out a run of more letters or digits.
     pub fn letter(&self) -> Result<u8, ReadError>
-        ensures read { ReadsText (λ b. b) (spec.one_letter self.now) result self.now }
+        ensures read { Reads (λ b. b) (spec.one_letter self.now) result self.now }
         ensures name { IfOk result (λ b. IsName (b ∷ [])) }
     {
         if self.sees_run() && is_letter_or_long(self.run()) {
@@ -254,7 +254,7 @@ impl<'a> Tokens<'a> {
     #[tactic(auto, unfolding(crate::specs::Steps::single))]
     /// Takes the letter or digit that comes next. What follows it in its token, as `_`, `.` or `[`, fits no rule.
     pub fn single(&mut self) -> Result<&'a [u8], ReadError>
-        ensures { ReadsText (λ bytes. bytes.now) (spec.single self.old) result self.new }
+        ensures { Reads (λ bytes. bytes.now) (spec.single self.old) result self.new }
     {
         if self.bytes().len() == 1 {
             Ok(self.take())
@@ -266,7 +266,7 @@ impl<'a> Tokens<'a> {
     #[tactic(auto, unfolding(crate::specs::Steps::small_number))]
     /// Takes a whole number below 10 ^ 9.
     pub fn small_number(&mut self) -> Result<u64, ReadError>
-        ensures read { ReadsText (λ n. n) (spec.small_number self.old) result self.new }
+        ensures read { Reads (λ n. n) (spec.small_number self.old) result self.new }
         ensures small { IfOk result (λ n. n < 1000000000) }
     {
         if !self.sees(TokenKind::Number) {
@@ -284,7 +284,7 @@ impl<'a> Tokens<'a> {
     #[tactic(auto, unfolding(crate::specs::Steps::unit))]
     /// Takes a unit: how many picoseconds it has.
     pub fn unit(&mut self) -> Result<u64, ReadError>
-        ensures read { ReadsText (λ n. n) (spec.unit self.old) result self.new }
+        ensures read { Reads (λ n. n) (spec.unit self.old) result self.new }
         ensures small { IfOk result (λ n. n ≤ 1000) }
     {
         if self.sees_word(b"ns") {

@@ -8,7 +8,7 @@ ghost use Rattle.dft_stil_tokens.specs.Steps as spec;
 ghost use Rattle.dft_stil_tokens.specs.declared.text.TokenKind.TheVariants as kinds;
 ghost use Rattle.dft_stil_tokens.specs.declared.text.Cause.TheVariants as causes;
 ghost use Rattle.dft_stil_tokens.specs.Cut.{carries_name};
-ghost use Rattle.dft_stil_tokens.specs.Reading.{ReadsText, Faults};
+ghost use Rattle.dft_stil_tokens.specs.Reading.{Reads, Faults};
 
 use crate::blanks::{MAX_TEXT, blank_len};
 use crate::faults::unsupported_at;

@@ -1,13 +1,10 @@
 -- What the keys of a table hold.
 use Rattle.std.specs.Prelude.{ℕ, ℤ, Bool, true, false, ◌&&◌, ◌||◌, List, [], ◌∷◌, map, length, Option, Some, None, is_some, option_map, option_and_then, nat_le, nat_lt, if◌then◌else◌}
 use Rattle.std.specs.Str.{bytes_eq}
+pub use Rattle.dft_base.specs.Bytes.{is_printed}
 use Rattle.toml.specs.Data.{Data, Items, no_items, item, Members, no_members, member, get_member, as_str, as_integer, as_array, as_table}
 
--- whether a byte is printed and no blank
-abbrev pub is_printed : ℕ → Bool
-is_printed byte = nat_le 33 byte && nat_le byte 126
-
--- whether each byte is
+-- whether each byte is printed
 abbrev pub all_printed : List ℕ → Bool
 all_printed [] = true
 all_printed (byte ∷ bytes) = is_printed byte && all_printed bytes

@@ -1,7 +1,7 @@
 ghost use Rattle.std.specs.Prelude.{◌≡◌, [], ◌∷◌, ◌++◌, IfOk, OnOk};
 ghost use Rattle.dft_toml.specs.Values as spec;
 
-use dft_base::Name;
+use dft_base::{Name, is_printed};
 use std::alloc::{AllocError, Global};
 use std::marker::Model;
 
@@ -21,12 +21,6 @@ fn are_printed(bytes: &[u8]) -> bool
         }
     }
     true
-}
-
-fn is_printed(byte: u8) -> bool
-    ensures { result ≡ spec.is_printed byte }
-{
-    33 <= byte && byte <= 126
 }
 
 /// The name with these bytes, where they are one.

@@ -5,7 +5,7 @@ ghost use Rattle.dft_netlist_text.specs.NetlistText as spec;
 ghost use Rattle.dft_netlist_text.specs.NetlistText.{StandsFor};
 ghost use Rattle.dft_verilog_tokens.specs.Reading.{Reads};
 ghost use Rattle.dft_verilog.specs.Refusals.{IsRefused, told_of, told_whole as told_as_whole, most};
-ghost use Rattle.dft_verilog_tokens.specs.Checking.{Checks};
+ghost use Rattle.dft_verilog_tokens.specs.Reading.{Checks};
 ghost use Rattle.dft_base.specs.Lexing.{place_of as place_in};
 
 use crate::error::VerilogError;

@@ -15,9 +15,8 @@ use Rattle.dft_netlist_text.specs.declared.text.Shape.{Shape}
 use Rattle.dft_netlist_text.specs.declared.text.Site.{Site}
 use Rattle.dft_netlist_text.specs.Modules.{Draft, meaning_of, net_count}
 use Rattle.dft_netlist_text.specs.Expressions.{SelectedName, Operand, selected_in, fitting, bits_of_meaning, bits_of_name, implies, is_whole}
-use Rattle.dft_verilog_tokens.specs.Checking.{Checks}
-use Rattle.dft_verilog_tokens.specs.declared.read_error.ReadError.{ReadError}
-use Rattle.dft_verilog_tokens.specs.declared.read_error.ReadError.TheVariants as error
+use Rattle.dft_lexing.specs.declared.read_error.ReadError.TheVariants as error
+use Rattle.dft_verilog_tokens.specs.Reading.{Checks, ReadError}
 use Rattle.dft_verilog_draft.specs.Drafts.{IsShapeWithin, IsMeaningWithin}
 use Rattle.dft_verilog_draft.specs.Selecting.{behind_bits, lone, lone_of, lone_net, net_of_scalar}
 

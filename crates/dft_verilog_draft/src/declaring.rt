@@ -3,7 +3,7 @@
 ghost use Rattle.std.specs.Prelude.{◌≡◌, ◌+◌, ◌<◌, ◌≤◌, ◌++◌, length, not, nat_lt, None, Some, Ok, IfOk, option_copied};
 ghost use Rattle.dft_base.specs.Name.{IsName};
 ghost use Rattle.dft_netlist_text.specs.Modules as spec;
-ghost use Rattle.dft_verilog_tokens.specs.Checking.{Checks};
+ghost use Rattle.dft_verilog_tokens.specs.Reading.{Checks};
 ghost use Rattle.dft_verilog_draft.specs.Free.{AreBitsApart, new_bits};
 
 use crate::bits::bit_names;

@@ -4,7 +4,7 @@ ghost use Rattle.std.specs.Prelude.{◌≡◌, [], ◌∷◌, OnOk, IfOk, IfSome
 ghost use Rattle.dft_base.specs.Name.{IsName};
 ghost use Rattle.dft_netlist_text.specs.Expressions as spec;
 ghost use Rattle.dft_netlist_text.specs.Modules.{Draft, meaning_of};
-ghost use Rattle.dft_verilog_tokens.specs.Checking.{Checks};
+ghost use Rattle.dft_verilog_tokens.specs.Reading.{Checks};
 ghost use Rattle.dft_verilog_draft.specs.Drafts.{IsMeaningWithin};
 ghost use Rattle.dft_verilog_draft.specs.Operands.{Grows, AreBits, IsBit};
 ghost use Rattle.dft_verilog_draft.specs.Selecting.{behind_bits, lone, lone_of, lone_net};

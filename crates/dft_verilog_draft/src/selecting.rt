@@ -4,7 +4,7 @@ ghost use Rattle.std.specs.Prelude.{◌≡◌, ◌≤◌, ◌+◌, ◌<◌, ◌^
 ghost use Rattle.dft_base.specs.Name.{IsName};
 ghost use Rattle.dft_netlist_text.specs.Expressions as spec;
 ghost use Rattle.dft_netlist_text.specs.Modules.{declare_nets, declared_at, meaning_of};
-ghost use Rattle.dft_verilog_tokens.specs.Checking.{Checks};
+ghost use Rattle.dft_verilog_tokens.specs.Reading.{Checks};
 ghost use Rattle.dft_verilog_draft.specs.Drafts.{IsMeaningWithin};
 ghost use Rattle.dft_verilog_draft.specs.Selecting.{signals_of_run, behind_bits, and_selected};
 

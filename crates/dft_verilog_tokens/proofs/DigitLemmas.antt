@@ -7,7 +7,7 @@ use Rattle.std.proofs.lemmas.Bool.Decides.{nat_tests}
 use Rattle.dft_netlist_text.specs.Expressions.{bits_of_value, bare_digits}
 use Rattle.dft_netlist.specs.declared.instance.Signal.{Signal}
 use Rattle.dft_netlist.specs.declared.instance.Signal.TheVariants as signal
-use Rattle.dft_verilog_tokens.specs.Digits.{below}
+use Rattle.dft_verilog_tokens.specs.Digits.{if_below}
 
 grows : (n radix : ℕ) → 1 ≤ radix → n ≤ n * radix
 grows n zero one = absurd (omega arith)
@@ -25,12 +25,12 @@ none_by : (t : Bool) (bound n : ℕ) → nat_lt n bound ≡ t → (if t then Som
 none_by true bound n e h = grind (arith, nat_tests)
 none_by false bound n e h = grind (arith, nat_tests)
 
-pub below_none : (bound n : ℕ) → below bound n ≡ None → bound ≤ n
+pub below_none : (bound n : ℕ) → if_below bound n ≡ None → bound ≤ n
 below_none bound n h = none_by (nat_lt n bound) bound n refl h
 
 -- a value with one digit more that is too large makes the whole too large
 pub overflows : (radix bound v i d total : ℕ) (word : List ℕ) → 1 ≤ radix → i < length word → digits_value_after radix v (drop i word) ≡ total →
-    below bound (v * radix + digit_value (get_or word i d)) ≡ None → bound ≤ total
+    if_below bound (v * radix + digit_value (get_or word i d)) ≡ None → bound ≤ total
 overflows radix bound v i d total word one less e none =
     let step = ap (digits_value_after radix v) (drop_more word i d less) in
     let more = digits_grow radix (v * radix + digit_value (get_or word i d)) (drop (i + 1) word) one in
@@ -55,7 +55,7 @@ bare_more true b rest same h = absurd cc
 bare_more false b rest same h = ap (λ t. if not t then b ∷ bare_digits rest else bare_digits rest) same
 
 pub overflows_bare : (radix bound v i d total : ℕ) (word : List ℕ) → 1 ≤ radix → i < length word → (get_or word i d == 95) ≡ false →
-    digits_value_after radix v (bare_digits (drop i word)) ≡ total → below bound (v * radix + digit_value (get_or word i d)) ≡ None → bound ≤ total
+    digits_value_after radix v (bare_digits (drop i word)) ≡ total → if_below bound (v * radix + digit_value (get_or word i d)) ≡ None → bound ≤ total
 overflows_bare radix bound v i d total word one less digit e none =
     let step = ap (λ w. digits_value_after radix v (bare_digits w)) (drop_more word i d less) ∙ ap (digits_value_after radix v) (bare_more (get_or word i d == 95) (get_or word i d) (drop (i + 1) word) refl digit) in
     let more = digits_grow radix (v * radix + digit_value (get_or word i d)) (bare_digits (drop (i + 1) word)) one in

@@ -3,7 +3,6 @@ pub mod Classes
 pub mod Cut
 pub mod Reading
 pub mod TokensAhead
-pub mod Checking
 pub mod Constants
 pub mod Digits
 pub mod SmallWords

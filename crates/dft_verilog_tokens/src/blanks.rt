@@ -6,7 +6,7 @@ ghost use Rattle.dft_base.specs.Words as words;
 ghost use Rattle.dft_netlist_text.specs.Lexemes as spec;
 
 use crate::classes::{is_in_word, is_lone_paren, is_plain};
-use dft_lexing::{begins_with_pair, closed_len, comment_rest, is_printed, is_space, to_line_end};
+use dft_lexing::{begins_with_pair, closed_len, is_printed, is_space, rest_to, to_line_end};
 
 /// The most bytes that a netlist text may have: 64 MiB.
 pub const MAX_TEXT: usize = 67_108_864;
@@ -98,7 +98,7 @@ pub fn blank_len(text: &[u8]) -> usize
     }
 }
 
-#[tactic(auto, unfolding(dft_netlist_text::specs::Lexemes::blank_len))]
+#[tactic(auto, unfolding(dft_netlist_text::specs::Lexemes::blank_len, dft_lexing::specs::Blanks::comment_rest))]
 // How many bytes of blank stand at the front.
 #[inline(never)]
 fn any_blank_len(text: &[u8]) -> usize
@@ -110,7 +110,7 @@ fn any_blank_len(text: &[u8]) -> usize
         [] => 0,
         [first, ..] if is_space(*first) => 1,
         [b'/', b'/', ..] => to_line_end(text),
-        [b'/', b'*', behind @ ..] => closed_len(comment_rest(behind)),
+        [b'/', b'*', behind @ ..] => closed_len(rest_to(behind, b'*', b'/')),
         [b'(', b'*', behind @ ..] => closed_len(attribute_rest(behind)),
         _ if is_passed_directive(text) => directive_len(text),
         _ => 0,

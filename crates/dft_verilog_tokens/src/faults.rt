@@ -3,7 +3,7 @@
 ghost use Rattle.std.specs.Prelude.{◌≡◌};
 ghost use Rattle.dft_base.specs.Name.{IsName};
 ghost use Rattle.dft_netlist_text.specs.Steps.{fault};
-ghost use Rattle.dft_verilog_tokens.specs.Checking.{Refuses};
+ghost use Rattle.dft_verilog_tokens.specs.Reading.{Faults};
 
 use crate::read_error::ReadError;
 use dft_base::Name;
@@ -15,7 +15,7 @@ use std::alloc::Global;
 #[cold]
 pub fn taken(alloc: Global, place: usize, word: &[u8]) -> ReadError
     requires { IsName word.now }
-    ensures { Refuses (fault (Cause.Taken word.now) place) result }
+    ensures { Faults (fault (Cause.Taken word.now) place) result }
 {
     match Name::from_slice(alloc, word) {
         Ok(name) => ReadError::Fault(Fault {
@@ -30,7 +30,7 @@ pub fn taken(alloc: Global, place: usize, word: &[u8]) -> ReadError
 #[cold]
 pub fn undeclared(alloc: Global, place: usize, word: &[u8]) -> ReadError
     requires { IsName word.now }
-    ensures { Refuses (fault (Cause.Undeclared word.now) place) result }
+    ensures { Faults (fault (Cause.Undeclared word.now) place) result }
 {
     match Name::from_slice(alloc, word) {
         Ok(name) => ReadError::Fault(Fault {
@@ -45,7 +45,7 @@ pub fn undeclared(alloc: Global, place: usize, word: &[u8]) -> ReadError
 #[cold]
 pub fn no_cell(alloc: Global, place: usize, word: &[u8]) -> ReadError
     requires { IsName word.now }
-    ensures { Refuses (fault (Cause.NoCell word.now) place) result }
+    ensures { Faults (fault (Cause.NoCell word.now) place) result }
 {
     match Name::from_slice(alloc, word) {
         Ok(name) => ReadError::Fault(Fault {
@@ -60,7 +60,7 @@ pub fn no_cell(alloc: Global, place: usize, word: &[u8]) -> ReadError
 #[cold]
 pub fn no_pin(alloc: Global, place: usize, word: &[u8]) -> ReadError
     requires { IsName word.now }
-    ensures { Refuses (fault (Cause.NoPin word.now) place) result }
+    ensures { Faults (fault (Cause.NoPin word.now) place) result }
 {
     match Name::from_slice(alloc, word) {
         Ok(name) => ReadError::Fault(Fault {
@@ -75,7 +75,7 @@ pub fn no_pin(alloc: Global, place: usize, word: &[u8]) -> ReadError
 #[cold]
 pub fn joined_twice(alloc: Global, place: usize, word: &[u8]) -> ReadError
     requires { IsName word.now }
-    ensures { Refuses (fault (Cause.JoinedTwice word.now) place) result }
+    ensures { Faults (fault (Cause.JoinedTwice word.now) place) result }
 {
     match Name::from_slice(alloc, word) {
         Ok(name) => ReadError::Fault(Fault {

@@ -12,7 +12,7 @@ ghost use Rattle.dft_verilog_tokens.specs.Cut.{carries_name, shown};
 use crate::blanks::{MAX_TEXT, begins_blank, word_len};
 use crate::classes::{begins_word, is_lone_paren, is_mark, lone_mark_kind};
 use crate::words::{mark_kind, word_kind};
-use dft_lexing::{decimal_len, is_space, printed_len};
+use dft_lexing::{decimal_len, is_space, is_word_byte, printed_len, word_bytes};
 use dft_netlist_text::TokenKind;
 
 /// The token at the front of a text.
@@ -63,21 +63,6 @@ impl Lexeme {
     }
 }
 
-// Whether a byte may stand in the digits behind a base.
-fn is_in_digits(byte: u8) -> bool
-    ensures { result ≡ spec.is_in_digits byte }
-{
-    byte.is_ascii_alphanumeric() || byte == b'_'
-}
-
-// How many bytes the digits behind a base have.
-fn digits_len(text: &[u8]) -> usize
-    ensures value { result ≡ prefix_len spec.is_in_digits text.now }
-    ensures within { result ≤ length text.now }
-{
-    text.iter().take_while(|byte| is_in_digits(**byte)).count()
-}
-
 #[tactic(auto, using(crate::proofs::NameLemmas::digits_are_names))]
 // The digits at the front of a text.
 #[inline(never)]
@@ -88,7 +73,7 @@ fn digits(text: &[u8]) -> Lexeme
     ensures begin { result.at ≡ 0 }
     ensures name { 0 < length text.now → spec.is_in_digits (slice_index text.now 0) ≡ true → IsName (take result.len text.now) }
 {
-    Lexeme::plain(TokenKind::Digits, digits_len(text))
+    Lexeme::plain(TokenKind::Digits, word_bytes(text))
 }
 
 // How many bytes stand before the next space.
@@ -227,7 +212,7 @@ fn cut_any(behind_base: bool, text: &[u8]) -> Lexeme
 {
     match text {
         [] => Lexeme::plain(TokenKind::End, 0),
-        [first, ..] if behind_base && is_in_digits(*first) => digits(text),
+        [first, ..] if behind_base && is_word_byte(*first) => digits(text),
         [first, ..] if begins_word(*first) => word(text),
         [first, ..] if first.is_ascii_digit() => Lexeme::plain(
             TokenKind::Number,

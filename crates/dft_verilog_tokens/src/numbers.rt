@@ -4,7 +4,7 @@ ghost use Rattle.std.specs.Prelude.{◌≡◌, ◌≤◌, ◌++◌, ◌+◌, ◌
 ghost use Rattle.std.specs.Char.{digit_value};
 ghost use Rattle.dft_netlist_text.specs.Expressions as spec;
 ghost use Rattle.dft_netlist.specs.declared.instance.Signal.TheVariants as signal;
-ghost use Rattle.dft_verilog_tokens.specs.Digits.{below};
+ghost use Rattle.dft_verilog_tokens.specs.Digits.{if_below};
 
 use dft_netlist::{PinSignals, Signal};
 use std::alloc::AllocError;
@@ -38,14 +38,14 @@ pub fn small_number(word: &[u8]) -> Option<u16>
 
 // A number with one decimal digit more.
 fn with_digit(value: u16, byte: u8) -> Option<u16>
-    ensures { result ≡ below (2 ^ 16) (value * 10 + digit_value byte) }
+    ensures { result ≡ if_below (2 ^ 16) (value * 10 + digit_value byte) }
 {
     value.checked_mul(10)?.checked_add(u16::from(digit(byte)))
 }
 
 // A value with one digit of a radix more.
 fn with_wide_digit(value: u128, radix: u8, byte: u8) -> Option<u128>
-    ensures { result ≡ below (2 ^ 128) (value * radix + digit_value byte) }
+    ensures { result ≡ if_below (2 ^ 128) (value * radix + digit_value byte) }
 {
     value
         .checked_mul(u128::from(radix))?
