@@ -13,7 +13,7 @@ use Rattle.dft_stil_text.specs.declared.error.StilError.{StilError}
 use Rattle.dft_stil_text.specs.declared.error.StilError.TheVariants as told
 use Rattle.dft_stil_text.specs.declared.limits.TheConstants.{MAX_VECTORS}
 use Rattle.dft_stil_tokens.specs.Reading.{ReadError}
-use Rattle.dft_stil_tokens.specs.Reading.{ReadsText}
+use Rattle.dft_stil_tokens.specs.Reading.{Reads}
 use Rattle.dft_stil_tokens.specs.Lexemes.{Token, tokens}
 use Rattle.dft_patterns.specs.Patterns.{Patterns, IsVector, IsWellFormed}
 use Rattle.dft_stil_text.specs.PatternText.{stil_text, patterns_in, tested, steady_or, StandsFor, At, Unsteadily, name_of_signal}
@@ -49,11 +49,11 @@ pub have_few : (most : ℕ) (text : Text) (p : Patterns) → value_of (stil_text
 have_few most text p e = (fitting most text p e).few
 
 -- the same of what a reader of tokens gives
-pub lengths_read : (most : ℕ) (text : Text) (start rest : List Token) (r : Result Patterns ReadError) → start ≡ tokens text → ReadsText (λ p. p) (stil_text most start) r rest → IfOk r (λ p. HaveLength (length p.signals) p.vectors)
+pub lengths_read : (most : ℕ) (text : Text) (start rest : List Token) (r : Result Patterns ReadError) → start ≡ tokens text → Reads (λ p. p) (stil_text most start) r rest → IfOk r (λ p. HaveLength (length p.signals) p.vectors)
 lengths_read most text start rest (Ok p) s h = have_length most text p (ap value_of (ap (stil_text most) (sym s) ∙ h))
 lengths_read most text start rest (Err e) s h = tt
 
-pub few_read : (most : ℕ) (text : Text) (start rest : List Token) (r : Result Patterns ReadError) → start ≡ tokens text → ReadsText (λ p. p) (stil_text most start) r rest → IfOk r (λ p. length p.vectors ≤ most)
+pub few_read : (most : ℕ) (text : Text) (start rest : List Token) (r : Result Patterns ReadError) → start ≡ tokens text → Reads (λ p. p) (stil_text most start) r rest → IfOk r (λ p. length p.vectors ≤ most)
 few_read most text start rest (Ok p) s h = have_few most text p (ap value_of (ap (stil_text most) (sym s) ∙ h))
 few_read most text start rest (Err e) s h = tt
 
@@ -117,7 +117,7 @@ by_cause text cause.Token at h = h
 by_cause text (cause.Unsupported word) at h = h
 by_cause text (cause.Unknown word) at h = h
 by_cause text cause.Count at h = h
-by_cause text cause.NoShape at h = h
+by_cause text cause.NoWaveform at h = h
 by_cause text cause.Times at h = h
 by_cause text (cause.Taken word) at h = h
 

@@ -18,7 +18,7 @@ told_at cause.Token at = told.P1 at
 told_at (cause.Unsupported word) at = told.P2 at word
 told_at (cause.Unknown word) at = told.P3 at word
 told_at cause.Count at = told.P4 at
-told_at cause.NoShape at = told.P5 at
+told_at cause.NoWaveform at = told.P5 at
 told_at cause.Times at = told.P8 at
 told_at (cause.Taken word) at = told.P9 at word
 

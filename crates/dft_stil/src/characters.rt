@@ -6,7 +6,7 @@ ghost use Rattle.dft_stil_tokens.specs.Steps.{left};
 ghost use Rattle.dft_stil.specs.MembersShown.{AreBelow};
 ghost use Rattle.dft_stil.specs.WaveformsShown.{IsWide};
 ghost use Rattle.dft_stil.specs.CharactersShown.{filling_as};
-ghost use Rattle.dft_stil_tokens.specs.Reading.{ReadsText, Checks, Faults};
+ghost use Rattle.dft_stil_tokens.specs.Reading.{Reads, Checks, Faults};
 
 use crate::waveforms::Waveforms;
 use dft_patterns::{Act, Acts};
@@ -52,7 +52,7 @@ fn fill_one(
             filling.ahead = rest;
             Ok(())
         }
-        None => Err(fault_at(Cause::NoShape, place)),
+        None => Err(fault_at(Cause::NoWaveform, place)),
     }
 }
 
@@ -99,7 +99,7 @@ fn run(
 ) -> Result<(), ReadError>
     requires wide { IfSome waveforms (λ s. IsWide (length filling.old.acts) s.now) }
     requires ahead { AreBelow (length filling.old.acts) filling.old.ahead.now }
-    ensures read { ReadsText (λ _. filling_as filling.new) (spec.run_of_characters (option_map (λ s. s.now) waveforms.entry) (filling_as filling.old) tokens.old) result tokens.new }
+    ensures read { Reads (λ _. filling_as filling.new) (spec.run_of_characters (option_map (λ s. s.now) waveforms.entry) (filling_as filling.old) tokens.old) result tokens.new }
     ensures ahead { OnOk result (AreBelow (length filling.new.acts) filling.new.ahead.now) }
     ensures length { OnOk result (length filling.new.acts ≡ length filling.old.acts) }
 {
@@ -119,7 +119,7 @@ fn runs(
 ) -> Result<(), ReadError>
     requires wide { IfSome waveforms (λ s. IsWide (length filling.old.acts) s.now) }
     requires ahead { AreBelow (length filling.old.acts) filling.old.ahead.now }
-    ensures read { ReadsText (λ _. filling_as filling.new) (spec.runs_from (left tokens.old) (option_map (λ s. s.now) waveforms.entry) (filling_as filling.old) tokens.old) result tokens.new }
+    ensures read { Reads (λ _. filling_as filling.new) (spec.runs_from (left tokens.old) (option_map (λ s. s.now) waveforms.entry) (filling_as filling.old) tokens.old) result tokens.new }
     ensures length { OnOk result (length filling.new.acts ≡ length filling.old.acts) }
 {
     'turns: for _turn in 0..tokens.left() {
@@ -149,7 +149,7 @@ pub fn characters(
 ) -> Result<Acts, ReadError>
     requires wide { IfSome waveforms (λ s. IsWide (length acts) s.now) }
     requires ahead { AreBelow (length acts) signals.now }
-    ensures read { ReadsText (λ a. a) (spec.characters (option_map (λ s. s.now) waveforms.entry) signals.now acts tokens.old) result tokens.new }
+    ensures read { Reads (λ a. a) (spec.characters (option_map (λ s. s.now) waveforms.entry) signals.now acts tokens.old) result tokens.new }
     ensures length { IfOk result (λ a. length a ≡ length acts) }
 {
     let mut filling = Filling {

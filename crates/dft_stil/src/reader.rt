@@ -38,7 +38,7 @@ fn told_at(cause: Cause, place: Place) -> StilError
         Cause::Unsupported(name) => StilError::P2 { place, name },
         Cause::Unknown(name) => StilError::P3 { place, name },
         Cause::Count => StilError::P4 { place },
-        Cause::NoShape => StilError::P5 { place },
+        Cause::NoWaveform => StilError::P5 { place },
         Cause::Times => StilError::P8 { place },
         Cause::Taken(name) => StilError::P9 { place, name },
     }

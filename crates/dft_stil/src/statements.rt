@@ -7,7 +7,7 @@ ghost use Rattle.dft_stil.specs.TablesShown.{AreWide};
 ghost use Rattle.dft_stil.specs.PatternShown.{pattern_as};
 ghost use Rattle.dft_stil.specs.WaveformsShown.{IsWide};
 ghost use Rattle.dft_stil.specs.VectorShown.{vector_as};
-ghost use Rattle.dft_stil_tokens.specs.Reading.{ReadsText};
+ghost use Rattle.dft_stil_tokens.specs.Reading.{Reads};
 
 use crate::names::Names;
 use crate::waveforms::Waveforms;
@@ -56,7 +56,7 @@ fn assignments(
     requires acts { length begun.acts ≡ length names.now.signals }
     requires told { length begun.told.items ≡ length names.now.signals }
     requires wide { IfSome waveforms (λ s. IsWide (length names.now.signals) s.now) }
-    ensures read { ReadsText vector_as (spec.assignments_from (left tokens.old) names.now (option_map (λ s. s.now) waveforms.entry) (vector_as begun) tokens.old) result tokens.new }
+    ensures read { Reads vector_as (spec.assignments_from (left tokens.old) names.now (option_map (λ s. s.now) waveforms.entry) (vector_as begun) tokens.old) result tokens.new }
     ensures acts { IfOk result (λ v. length v.acts ≡ length names.now.signals) }
 {
     let mut vector = begun;
@@ -80,7 +80,7 @@ fn assigned(
 ) -> Result<VectorStatement, ReadError>
     requires acts { length acts ≡ length names.now.signals }
     requires wide { AreWide (length names.now.signals) tables.now }
-    ensures read { ReadsText vector_as (spec.assignments_from (left tokens.old) names.now (spec.waveforms_at tables.now table) (spec.vector_after acts) tokens.old) result tokens.new }
+    ensures read { Reads vector_as (spec.assignments_from (left tokens.old) names.now (spec.waveforms_at tables.now table) (spec.vector_after acts) tokens.old) result tokens.new }
     ensures acts { IfOk result (λ v. length v.acts ≡ length names.now.signals) }
 {
     let begun = vector_after(alloc, acts)?;
@@ -118,7 +118,7 @@ fn vector(
 ) -> Result<(), ReadError>
     requires acts { length pattern.old.acts ≡ length names.now.signals }
     requires wide { AreWide (length names.now.signals) tables.now }
-    ensures read { ReadsText (λ _. pattern_as pattern.new) (spec.vector most names.now tables.now (pattern_as pattern.old) tokens.old) result tokens.new }
+    ensures read { Reads (λ _. pattern_as pattern.new) (spec.vector most names.now tables.now (pattern_as pattern.old) tokens.old) result tokens.new }
     ensures acts { OnOk result (length pattern.new.acts ≡ length names.now.signals) }
 {
     let place = tokens.left();
@@ -141,7 +141,7 @@ fn table_used(
     pattern: &mut PatternBlock,
     tokens: &mut Tokens<'_>,
 ) -> Result<(), ReadError>
-    ensures read { ReadsText (λ _. pattern_as pattern.new) (spec.table_used tables.now (pattern_as pattern.old) tokens.old) result tokens.new }
+    ensures read { Reads (λ _. pattern_as pattern.new) (spec.table_used tables.now (pattern_as pattern.old) tokens.old) result tokens.new }
     ensures acts { OnOk result (length pattern.new.acts ≡ length pattern.old.acts) }
 {
     let place = tokens.left();
@@ -166,7 +166,7 @@ fn labelled(
 ) -> Result<(), ReadError>
     requires acts { length pattern.old.acts ≡ length names.now.signals }
     requires wide { AreWide (length names.now.signals) tables.now }
-    ensures read { ReadsText (λ _. pattern_as pattern.new) (spec.labelled most names.now tables.now (pattern_as pattern.old) tokens.old) result tokens.new }
+    ensures read { Reads (λ _. pattern_as pattern.new) (spec.labelled most names.now tables.now (pattern_as pattern.old) tokens.old) result tokens.new }
     ensures acts { OnOk result (length pattern.new.acts ≡ length names.now.signals) }
 {
     tokens.name()?;
@@ -186,7 +186,7 @@ fn statement(
 ) -> Result<(), ReadError>
     requires acts { length pattern.old.acts ≡ length names.now.signals }
     requires wide { AreWide (length names.now.signals) tables.now }
-    ensures read { ReadsText (λ _. pattern_as pattern.new) (spec.statement most names.now tables.now (pattern_as pattern.old) tokens.old) result tokens.new }
+    ensures read { Reads (λ _. pattern_as pattern.new) (spec.statement most names.now tables.now (pattern_as pattern.old) tokens.old) result tokens.new }
     ensures acts { OnOk result (length pattern.new.acts ≡ length names.now.signals) }
 {
     if tokens.sees_word(b"W") {
@@ -212,7 +212,7 @@ pub fn statements(
 ) -> Result<(), ReadError>
     requires acts { length pattern.old.acts ≡ length names.now.signals }
     requires wide { AreWide (length names.now.signals) tables.now }
-    ensures { ReadsText (λ _. pattern_as pattern.new) (spec.statements_from (left tokens.old) most names.now tables.now (pattern_as pattern.old) tokens.old) result tokens.new }
+    ensures { Reads (λ _. pattern_as pattern.new) (spec.statements_from (left tokens.old) most names.now tables.now (pattern_as pattern.old) tokens.old) result tokens.new }
 {
     'turns: for _turn in 0..tokens.left() {
         if tokens.eat(TokenKind::CloseBrace) {

@@ -2,7 +2,7 @@
 
 ghost use Rattle.std.specs.Prelude.{length, IfOk, OnOk};
 ghost use Rattle.dft_stil_tokens.specs.Steps.{left};
-ghost use Rattle.dft_stil_tokens.specs.Reading.{ReadsText};
+ghost use Rattle.dft_stil_tokens.specs.Reading.{Reads};
 ghost use Rattle.dft_stil_text.specs.WaveformTables as spec;
 ghost use Rattle.dft_stil.specs.TablesShown.{timing_as, AreWide};
 
@@ -22,7 +22,7 @@ fn one_table(
     tokens: &mut Tokens<'_>,
 ) -> Result<(), ReadError>
     requires { AreWide (length names.now.signals) tables.old }
-    ensures read { ReadsText (λ _. tables.new) (spec.waveform_table names.now tables.old tokens.old) result tokens.new }
+    ensures read { Reads (λ _. tables.new) (spec.waveform_table names.now tables.old tokens.old) result tokens.new }
     ensures wide { OnOk result (AreWide (length names.now.signals) tables.new) }
 {
     tokens.keyword(b"WaveformTable")?;
@@ -39,7 +39,7 @@ fn one_table(
 #[tactic(auto, using(crate::proofs::TableLemmas::wide_tables))]
 // The tables of the block, and its brace.
 fn all_tables(alloc: Global, names: &Names, tokens: &mut Tokens<'_>) -> Result<Tables, ReadError>
-    ensures read { ReadsText (λ t. t) (spec.waveform_tables_from (left tokens.old) names.now spec.no_tables tokens.old) result tokens.new }
+    ensures read { Reads (λ t. t) (spec.waveform_tables_from (left tokens.old) names.now spec.no_tables tokens.old) result tokens.new }
     ensures wide { IfOk result (λ t. AreWide (length names.now.signals) t) }
 {
     let mut tables = Tables::new(alloc);
@@ -66,7 +66,7 @@ pub fn timing_block<'a>(
     names: &Names,
     tokens: &mut Tokens<'a>,
 ) -> Result<Timing<'a>, ReadError>
-    ensures read { ReadsText timing_as (spec.timing names.now tokens.old) result tokens.new }
+    ensures read { Reads timing_as (spec.timing names.now tokens.old) result tokens.new }
     ensures wide { IfOk result (λ t. AreWide (length names.now.signals) t.tables) }
 {
     tokens.keyword(b"Timing")?;

@@ -7,7 +7,7 @@ ghost use Rattle.dft_stil_tokens.specs.Steps.{left};
 ghost use Rattle.dft_stil.specs.MembersShown.{AreBelow, meant as meant_as};
 ghost use Rattle.dft_stil.specs.WaveformsShown.{IsWide};
 ghost use Rattle.dft_stil.specs.VectorShown.{vector_as, flagged_in};
-ghost use Rattle.dft_stil_tokens.specs.Reading.{ReadsText};
+ghost use Rattle.dft_stil_tokens.specs.Reading.{Reads};
 
 use crate::characters::characters;
 use crate::members::Meant;
@@ -68,7 +68,7 @@ pub fn assignment(
     requires acts { length vector.acts ≡ length names.now.signals }
     requires told { length vector.told.items ≡ length names.now.signals }
     requires wide { IfSome waveforms (λ s. IsWide (length names.now.signals) s.now) }
-    ensures read { ReadsText vector_as (spec.assignment names.now (option_map (λ s. s.now) waveforms.entry) (vector_as vector) tokens.old) result tokens.new }
+    ensures read { Reads vector_as (spec.assignment names.now (option_map (λ s. s.now) waveforms.entry) (vector_as vector) tokens.old) result tokens.new }
     ensures acts { IfOk result (λ v. length v.acts ≡ length names.now.signals) }
     ensures told { IfOk result (λ v. length v.told.items ≡ length names.now.signals) }
 {

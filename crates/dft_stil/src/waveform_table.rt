@@ -9,7 +9,7 @@ ghost use Rattle.dft_stil.specs.MembersShown.{AreBelow};
 ghost use Rattle.dft_stil.specs.WaveformsShown.{IsWide};
 ghost use Rattle.dft_stil.specs.TablesShown.{table_as};
 ghost use Rattle.dft_patterns.specs.declared.shapes.Drawing.TheVariants as drawings;
-ghost use Rattle.dft_stil_tokens.specs.Reading.{ReadsText};
+ghost use Rattle.dft_stil_tokens.specs.Reading.{Reads};
 
 use crate::names::Names;
 use crate::waveforms::Waveforms;
@@ -29,7 +29,7 @@ pub struct WaveformTable {
 #[tactic(auto, unfolding(dft_stil_text::specs::WaveformTables::time))]
 // A time between single quotes, in picoseconds.
 fn time(tokens: &mut Tokens<'_>) -> Result<u64, ReadError>
-    ensures { ReadsText (λ n. n) (spec.time tokens.old) result tokens.new }
+    ensures { Reads (λ n. n) (spec.time tokens.old) result tokens.new }
 {
     tokens.expect(TokenKind::Quote)?;
     let value = tokens.small_number()?;
@@ -57,7 +57,7 @@ fn event_letter(
     time: u64,
     tokens: &mut Tokens<'_>,
 ) -> Result<Drawing, ReadError>
-    ensures { ReadsText (λ d. d) (spec.event_letter names.now signals.now drawing time tokens.old) result tokens.new }
+    ensures { Reads (λ d. d) (spec.event_letter names.now signals.now drawing time tokens.old) result tokens.new }
 {
     let place = tokens.left();
     let letter = tokens.letter()?;
@@ -78,7 +78,7 @@ fn event(
     drawing: Drawing,
     tokens: &mut Tokens<'_>,
 ) -> Result<Drawing, ReadError>
-    ensures { ReadsText (λ d. d) (spec.event names.now signals.now drawing tokens.old) result tokens.new }
+    ensures { Reads (λ d. d) (spec.event names.now signals.now drawing tokens.old) result tokens.new }
 {
     let at = time(tokens)?;
     let more = event_letter(alloc, names, signals, drawing, at, tokens)?;
@@ -89,7 +89,7 @@ fn event(
 // The brace that ends a waveform, which may not come too early.
 fn waveform_end(drawing: Drawing, tokens: &mut Tokens<'_>) -> Result<Drawing, ReadError>
     requires { IsName (bytes tokens.old) }
-    ensures { ReadsText (λ d. d) (spec.waveform_end drawing (drawn.act_of_events drawing) tokens.old) result tokens.new }
+    ensures { Reads (λ d. d) (spec.waveform_end drawing (drawn.act_of_events drawing) tokens.old) result tokens.new }
 {
     match act_of_events(drawing) {
         Some(_) => {
@@ -107,7 +107,7 @@ fn events(
     signals: &[usize],
     tokens: &mut Tokens<'_>,
 ) -> Result<Drawing, ReadError>
-    ensures { ReadsText (λ d. d) (spec.events_from (left tokens.old) names.now signals.now drawings.Begun tokens.old) result tokens.new }
+    ensures { Reads (λ d. d) (spec.events_from (left tokens.old) names.now signals.now drawings.Begun tokens.old) result tokens.new }
 {
     let mut drawing = Drawing::Begun;
     'turns: for _turn in 0..tokens.left() {
@@ -131,7 +131,7 @@ fn waveform(
 ) -> Result<(), ReadError>
     requires wide { IsWide (length names.now.signals) table.old.waveforms }
     requires inside { AreBelow (length names.now.signals) signals.now }
-    ensures read { ReadsText (λ _. table_as table.new) (spec.waveform names.now signals.now (table_as table.old) tokens.old) result tokens.new }
+    ensures read { Reads (λ _. table_as table.new) (spec.waveform names.now signals.now (table_as table.old) tokens.old) result tokens.new }
     ensures wide { OnOk result (IsWide (length names.now.signals) table.new.waveforms) }
 {
     let place = tokens.left();
@@ -159,7 +159,7 @@ fn waveforms(
 ) -> Result<(), ReadError>
     requires wide { IsWide (length names.now.signals) table.old.waveforms }
     requires inside { AreBelow (length names.now.signals) signals.now }
-    ensures read { ReadsText (λ _. table_as table.new) (spec.waveforms_from (left tokens.old) names.now signals.now (table_as table.old) tokens.old) result tokens.new }
+    ensures read { Reads (λ _. table_as table.new) (spec.waveforms_from (left tokens.old) names.now signals.now (table_as table.old) tokens.old) result tokens.new }
     ensures wide { OnOk result (IsWide (length names.now.signals) table.new.waveforms) }
 {
     'turns: for _turn in 0..tokens.left() {
@@ -180,7 +180,7 @@ fn signal_waveforms(
     tokens: &mut Tokens<'_>,
 ) -> Result<(), ReadError>
     requires { IsWide (length names.now.signals) table.old.waveforms }
-    ensures read { ReadsText (λ _. table_as table.new) (spec.signal_waveforms names.now (table_as table.old) tokens.old) result tokens.new }
+    ensures read { Reads (λ _. table_as table.new) (spec.signal_waveforms names.now (table_as table.old) tokens.old) result tokens.new }
     ensures wide { OnOk result (IsWide (length names.now.signals) table.new.waveforms) }
 {
     let place = tokens.left();
@@ -200,7 +200,7 @@ fn all_waveforms(
     tokens: &mut Tokens<'_>,
 ) -> Result<(), ReadError>
     requires { IsWide (length names.now.signals) table.old.waveforms }
-    ensures read { ReadsText (λ _. table_as table.new) (spec.signal_waveforms_from (left tokens.old) names.now (table_as table.old) tokens.old) result tokens.new }
+    ensures read { Reads (λ _. table_as table.new) (spec.signal_waveforms_from (left tokens.old) names.now (table_as table.old) tokens.old) result tokens.new }
     ensures wide { OnOk result (IsWide (length names.now.signals) table.new.waveforms) }
 {
     'turns: for _turn in 0..tokens.left() {
@@ -214,7 +214,7 @@ fn all_waveforms(
 
 // The last brace of a table with this period, whose times must fit.
 fn table_end(table: WaveformTable, period: u64, tokens: &mut Tokens<'_>) -> Result<Waveforms, ReadError>
-    ensures read { ReadsText (λ s. s) (spec.table_end period (table_as table) tokens.old) result tokens.new }
+    ensures read { Reads (λ s. s) (spec.table_end period (table_as table) tokens.old) result tokens.new }
     ensures same { IfOk result (λ s. s ≡ table.waveforms) }
 {
     let place = tokens.left();
@@ -233,7 +233,7 @@ fn waveforms_block(
     period: u64,
     tokens: &mut Tokens<'_>,
 ) -> Result<Waveforms, ReadError>
-    ensures read { ReadsText (λ s. s) (spec.waveforms_block names.now period tokens.old) result tokens.new }
+    ensures read { Reads (λ s. s) (spec.waveforms_block names.now period tokens.old) result tokens.new }
     ensures wide { IfOk result (λ s. IsWide (length names.now.signals) s) }
 {
     tokens.keyword(b"Waveforms")?;
@@ -253,7 +253,7 @@ pub fn table_body(
     names: &Names,
     tokens: &mut Tokens<'_>,
 ) -> Result<Waveforms, ReadError>
-    ensures read { ReadsText (λ s. s) (spec.table_body names.now tokens.old) result tokens.new }
+    ensures read { Reads (λ s. s) (spec.table_body names.now tokens.old) result tokens.new }
     ensures wide { IfOk result (λ s. IsWide (length names.now.signals) s) }
 {
     tokens.expect(TokenKind::OpenBrace)?;

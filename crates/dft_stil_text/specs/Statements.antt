@@ -38,7 +38,7 @@ waveforms_at tables number = option_and_then (λ n. slice_get tables.waveforms n
 
 -- the next signal does this; a character without a waveform is refused at its place
 abbrev pub with_next_act : ℕ → ℕ → List ℕ → Option Act → Filling → Checked Fault Filling
-with_next_act place signal signals None f = Err (fault cause.NoShape place)
+with_next_act place signal signals None f = Err (fault cause.NoWaveform place)
 with_next_act place signal signals (Some a) f = Ok (record f { acts = slice_set f.acts signal a; ahead = signals })
 
 -- one character more
