@@ -36,7 +36,7 @@ use Rattle.dft_vectors.specs.Signals.{bits_in, input_bits, signal_of, signals_of
 use Rattle.dft_vectors.specs.VectorList.{first_vector, notes_of, pattern_note, vectors_of}
 use Rattle.dft_encode.specs.Compiled.{ArePatterns, merged_of}
 use Rattle.dft_encode.specs.Laws.{vectors_in, width}
-use Rattle.dft_encode.proofs.PlanLemmas.{limits}
+use Rattle.dft_stitch.proofs.ChainLimits.{limits}
 use Rattle.dft_encode.proofs.WidthLemmas.{vectors_wide}
 use Rattle.dft_compile.specs.Laws.{BytesAreTold}
 use Rattle.dft_compile.specs.Refusals.{pattern_bytes}

@@ -44,7 +44,7 @@ use Rattle.dft_scan.proofs.ListLemmas.{filter_shorter}
 use Rattle.dft_scan.proofs.ShapeLemmas.{few_chains, judgement_count, short_chains}
 use Rattle.dft_outcomes.specs.Outcomes.{cell_name, cube_report, cube_reports, named_outcome, outcome_of, sum_as, sum_at, sum_line, sums_of, variable_of}
 use Rattle.dft_encode.specs.Compiled.{Placing}
-use Rattle.dft_encode.proofs.PlanLemmas.{limits}
+use Rattle.dft_stitch.proofs.ChainLimits.{limits}
 use Rattle.dft_compile.specs.Named.{AreCubesNamed, AreInstancesNamed, AreNames, CanBeTold, IsNameIfAny}
 use Rattle.dft_compile.specs.Reports.{compile_report}
 use Rattle.dft_compile.specs.Texts.{report_text}

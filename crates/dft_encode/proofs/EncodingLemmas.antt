@@ -21,7 +21,7 @@ use Rattle.dft_encode.specs.declared.finder.Finder.{Finder}
 use Rattle.dft_encode.specs.Compiled.{ArePatterns}
 use Rattle.dft_encode.specs.Encoding.{IsEncoded}
 use Rattle.dft_encode.specs.Finding.{HasPatterns, IsFinder, last_found}
-use Rattle.dft_encode.proofs.PlanLemmas.{chains_count, chains_short, limits}
+use Rattle.dft_stitch.proofs.ChainLimits.{chains_count, chains_short, limits}
 
 pub is_finder : (f : Finder) → IsInRange f.config.now → rules.refusal f.design.now f.config.now ≡ None → stitch.refusal f.design.now f.config.now ≡ None → f.chains.now ≡ plan_of f.design.now f.config.now → f.always.now ≡ always_of f.config.now →
     f.merger.now.chains ≡ f.chains.now.chains → f.merger.now.rows.columns ≡ columns_of f.config.now f.chains.now → length f.merger.now.patterns ≤ 65536 → IsFinder f

@@ -35,7 +35,7 @@ use Rattle.dft_encode.specs.declared.loads.Load.{Load}
 use Rattle.dft_encode.specs.Compiled.{IsPattern}
 use Rattle.dft_encode.specs.Finding.{AreLoaded, AreLoads, Captured, FitsFound, IsFinder, IsLoad, IsLoaded, data_found}
 use Rattle.dft_encode.proofs.FillingLemmas.{pushed}
-use Rattle.dft_encode.proofs.PlanLemmas.{blocks_count}
+use Rattle.dft_stitch.proofs.ChainLimits.{blocks_count}
 
 -- ---- bits
 

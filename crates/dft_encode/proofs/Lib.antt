@@ -1,5 +1,4 @@
 pub mod PlacingLemmas
-pub mod PlanLemmas
 pub mod FillingLemmas
 pub mod FindingLemmas
 pub mod EncodingLemmas

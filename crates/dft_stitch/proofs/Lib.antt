@@ -1,5 +1,6 @@
 pub mod RangeLemmas
 pub mod BlockLemmas
+pub mod ChainLimits
 pub mod TableLemmas
 pub mod PlanLemmas
 pub mod EvenLemmas

@@ -5,7 +5,7 @@ use Rattle.std.proofs.lemmas.List.{length-map}
 use Rattle.std.proofs.lemmas.List.Elements.{All-map}
 use Rattle.dft_netlist.specs.declared.ids.InstanceId.{InstanceId}
 use Rattle.dft_stitch.specs.Plans.{Plan}
-use Rattle.dft_encode.proofs.PlanLemmas.{chains_count, chains_short}
+use Rattle.dft_stitch.proofs.ChainLimits.{chains_count, chains_short}
 use Rattle.dft_compile.proofs.work.load_equations.Goals as goal
 
 pub lengths_of-requires-clause-cells : goal.lengths_of-requires-clause-cells

@@ -4,7 +4,7 @@ use Rattle.std.specs.List.{All}
 use Rattle.dft_netlist.specs.declared.ids.InstanceId.{InstanceId}
 use Rattle.dft_config.specs.Range.{IsRingInRange}
 use Rattle.dft_stitch.specs.Plans.{Plan}
-use Rattle.dft_encode.proofs.PlanLemmas.{chains_count, chains_short}
+use Rattle.dft_stitch.proofs.ChainLimits.{chains_count, chains_short}
 use Rattle.dft_pattern_rows.proofs.captures.load_of.Goals as goal
 
 pub loaded-requires-clause-ring : goal.loaded-requires-clause-ring

@@ -4,7 +4,7 @@ use Rattle.std.specs.List.{All}
 use Rattle.std.proofs.lemmas.List.Elements.{All-weaker}
 use Rattle.dft_config.specs.Range.{IsRingInRange, IsSet}
 use Rattle.dft_stitch.specs.Plans.{Plan}
-use Rattle.dft_encode.proofs.PlanLemmas.{chains_count}
+use Rattle.dft_stitch.proofs.ChainLimits.{chains_count}
 use Rattle.dft_pattern_rows.proofs.captures.push_unload.Goals as goal
 
 pub expected-requires-clause-ring : goal.expected-requires-clause-ring
