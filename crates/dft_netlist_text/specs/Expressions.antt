@@ -7,6 +7,7 @@ use Rattle.dft_base.specs.declared.place.Range.{Range}
 use Rattle.dft_base.specs.Lexing.{Text}
 use Rattle.dft_base.specs.Parser.{Checked, pure, ◌>>=◌, ◌>>◌}
 use Rattle.dft_base.specs.Words.{is_reserved}
+use Rattle.dft_base.specs.Ranges.{going_up, width, has_index, place_in, has_part}
 use Rattle.dft_netlist.specs.declared.instance.Signal.{Signal}
 use Rattle.dft_netlist.specs.declared.instance.Signal.TheVariants as signal
 use Rattle.dft_netlist_text.specs.declared.text.TokenKind.{TokenKind}
@@ -23,7 +24,7 @@ use Rattle.dft_netlist_text.specs.declared.text.Select.TheVariants as select
 use Rattle.dft_netlist_text.specs.declared.text.Site.{Site}
 use Rattle.dft_netlist_text.specs.declared.text.Site.TheVariants as site
 use Rattle.dft_netlist_text.specs.Steps.{Rule, kind_of, left, next, sees, refuse, expect, fault, needed, checked}
-use Rattle.dft_netlist_text.specs.Modules.{Draft, meaning_of, declared_at, declare_nets, falls, width, count_from}
+use Rattle.dft_netlist_text.specs.Modules.{Draft, meaning_of, declared_at, declare_nets}
 
 -- ---- numbers
 
@@ -115,19 +116,7 @@ constant = λ ts. (number >>= (λ size. needed cause.Misfit (left ts) (nat_lt 0 
 
 -- the bits of nets, leftmost first
 abbrev pub nets_of_shape : ℕ → ℕ → List Signal
-nets_of_shape first count = map (λ net. signal.Net (record { 0 = net })) (count_from first count)
-
--- whether a range has the index, and how far it is from the left
-abbrev pub has_index : Range → ℕ → Bool
-has_index r index = if falls r then nat_le r.right index && nat_le index r.left else nat_le r.left index && nat_le index r.right
-
--- how far an index is from the left of a range
-abbrev pub place_in : Range → ℕ → ℕ
-place_in r index = if falls r then r.left - index else index - r.left
-
--- whether a part lies in a range and goes its way
-abbrev pub has_part : Range → Range → Bool
-has_part r part = has_index r part.left && has_index r part.right && nat_le (place_in r part.left) (place_in r part.right)
+nets_of_shape first count = map (λ net. signal.Net (record { 0 = net })) (going_up first count)
 
 -- what is selected of nets with this range, if it is there
 abbrev pub selected_of_vector : Shape → Range → Select → Option (List Signal)

@@ -11,6 +11,7 @@ use Rattle.dft_cells.specs.declared.kind.Role.TheVariants as role
 use Rattle.dft_cells.specs.declared.cell.CellId.{CellId}
 use Rattle.dft_cells.specs.declared.cell.Pin.{Pin}
 use Rattle.dft_cells.specs.declared.cell.Cell.{Cell}
+use Rattle.dft_cells.specs.Pins.{is_output, takes_inputs}
 use Rattle.dft_cells.specs.Cells.{find_cell}
 use Rattle.dft_netlist.specs.declared.ids.NetId.{NetId}
 use Rattle.dft_base.specs.declared.dir.Dir.{Dir}
@@ -145,12 +146,6 @@ gate_kind kind.Buf = Some primitive.Buf
 gate_kind kind.Not = Some primitive.Inv
 gate_kind _ = None
 
--- whether a gate may have this number of inputs: a buffer and an inverter one, another gate one to eight
-abbrev pub has_inputs : Kind → ℕ → Bool
-has_inputs primitive.Buf n = n == 1
-has_inputs primitive.Inv n = n == 1
-has_inputs _ n = nat_le 1 n && nat_le n 8
-
 -- a terminal; its width is tested at its first token
 unfoldable pub terminal : (drives : Bool) → Draft → Rule One
 terminal drives d = λ ts. (expression (site.Terminal drives) d >>= (λ o. one_bit (left ts) o.0 o.1)) ts
@@ -176,7 +171,7 @@ terminals k word place d = do
   output ← terminal true d
   ins ← input_terminals output.0
   expect kind.CloseParen
-  needed cause.Misfit place (has_inputs k (length ins.1)) (pure (with_instance (gate_instance k word output.1 ins.1) ins.0))
+  needed cause.Misfit place (takes_inputs k (length ins.1)) (pure (with_instance (gate_instance k word output.1 ins.1) ins.0))
 
 -- a gate with a name
 unfoldable pub named_gate : Kind → Draft → Rule Draft
@@ -229,16 +224,10 @@ unjoined cell = replicate (length cell.pins) None
 abbrev pub pin_place : Cell → Text → Option ℕ
 pin_place cell word = position (λ (p : Pin). bytes_eq p.name word) cell.pins
 
--- whether a pin of this role drives its net
-abbrev pub is_driving : Role → Bool
-is_driving role.Output = true
-is_driving role.Inverted = true
-is_driving _ = false
-
 -- whether this pin drives its net
 abbrev pub pin_drives : Option Pin → Bool
 pin_drives None = false
-pin_drives (Some pin) = is_driving pin.role
+pin_drives (Some pin) = is_output pin.role
 
 -- whether a pin was named before, be it with nothing between the brackets
 abbrev pub was_joined : Option (Option Signal) → Bool

@@ -2,6 +2,7 @@
 use Rattle.std.specs.Prelude.{ℕ, zero, suc, ◌+◌, ◌-◌, Bool, true, false, not, ◌&&◌, ◌==◌, nat_le, nat_lt, if◌then◌else◌, List, [], ◌∷◌, ◌++◌, length, find, Option, Some, None, option_map, option_and_then, is_some, slice_get, slice_set, Ok, Err}
 use Rattle.std.specs.Str.{bytes_eq}
 use Rattle.dft_base.specs.declared.place.Range.{Range}
+use Rattle.dft_base.specs.Ranges.{width}
 use Rattle.dft_base.specs.Lexing.{Text}
 use Rattle.dft_base.specs.Parser.{Checked}
 use Rattle.dft_cells.specs.declared.cell.Cell.{Cell}
@@ -61,19 +62,6 @@ abbrev pub with_name : Text → Meaning → Draft → Draft
 with_name word meant d = record d { names = d.names ++ record { name = word; meaning = meant } ∷ [] }
 
 -- ---- vectors
-
--- whether the left index is the higher one
-abbrev pub falls : Range → Bool
-falls r = nat_le r.right r.left
-
--- how many bits a range has
-abbrev pub width : Range → ℕ
-width r = suc (if falls r then r.left - r.right else r.right - r.left)
-
--- the numbers from one on, as many as this
-abbrev pub count_from : ℕ → ℕ → List ℕ
-count_from from zero = []
-count_from from (suc n) = from ∷ count_from (suc from) n
 
 -- how many nets a name with this range has
 abbrev pub net_count : Option Range → ℕ

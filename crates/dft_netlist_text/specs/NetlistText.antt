@@ -8,6 +8,7 @@ use Rattle.dft_cells.specs.declared.cell.Cell.{Cell}
 use Rattle.dft_netlist.specs.declared.ids.NetId.{NetId}
 use Rattle.dft_base.specs.declared.dir.Dir.{Dir}
 use Rattle.dft_base.specs.declared.dir.Dir.TheVariants as dir
+use Rattle.dft_base.specs.Ranges.{going_up}
 use Rattle.dft_netlist.specs.declared.instance.Signal.{Signal}
 use Rattle.dft_netlist.specs.declared.instance.Signal.TheVariants as signal
 use Rattle.dft_netlist.specs.declared.instance.Instance.{Instance}
@@ -24,7 +25,7 @@ use Rattle.dft_netlist.specs.Finishing.{IsFinished}
 use Rattle.dft_netlist.specs.Netlist.{Netlist}
 use Rattle.dft_netlist_text.specs.Lexemes.{Token, tokens}
 use Rattle.dft_netlist_text.specs.Steps.{Rule, left, next, sees, refuse, expect, eat, fault, checked}
-use Rattle.dft_netlist_text.specs.Modules.{Draft, HeaderPort, empty_draft, announce, declare_new_port, net_count, count_from}
+use Rattle.dft_netlist_text.specs.Modules.{Draft, HeaderPort, empty_draft, announce, declare_new_port, net_count}
 use Rattle.dft_netlist_text.specs.Expressions.{range_if_any}
 use Rattle.dft_netlist_text.specs.Items.{items}
 
@@ -141,7 +142,7 @@ module_text library = do
 -- the nets of a port, leftmost first
 abbrev pub nets_of_port : Option Declared → List ℕ
 nets_of_port None = []
-nets_of_port (Some declared) = count_from declared.shape.first.0 (net_count declared.shape.range)
+nets_of_port (Some declared) = going_up declared.shape.first.0 (net_count declared.shape.range)
 
 -- the nets of ports, one port after another
 abbrev pub nets_of_ports : List HeaderPort → List ℕ
@@ -150,7 +151,7 @@ nets_of_ports (port ∷ ports) = nets_of_port port.declared ++ nets_of_ports por
 
 -- the nets that are no port's bits, as they were first named
 abbrev pub other_nets : Draft → List ℕ
-other_nets d = filter (λ net. not (list_any (λ bit. bit == net) (nets_of_ports d.ports))) (count_from 0 (length d.nets))
+other_nets d = filter (λ net. not (list_any (λ bit. bit == net) (nets_of_ports d.ports))) (going_up 0 (length d.nets))
 
 -- the nets in the order of their final numbers: the ports' bits in header order, then the others
 abbrev pub net_order : Draft → List ℕ

@@ -10,6 +10,7 @@ use Rattle.dft_cells.specs.declared.kind.Kind.{Kind}
 use Rattle.dft_cells.specs.declared.cell.CellId.{CellId}
 use Rattle.dft_cells.specs.declared.cell.Cell.{Cell}
 use Rattle.dft_cells.specs.Cells.{find_cell}
+use Rattle.dft_cells.specs.Pins.{takes_inputs}
 use Rattle.dft_base.specs.declared.dir.Dir.{Dir}
 use Rattle.dft_base.specs.declared.dir.Dir.TheVariants as dir
 use Rattle.dft_netlist.specs.declared.instance.Signal.{Signal}
@@ -27,7 +28,7 @@ use Rattle.dft_netlist_text.specs.Lexemes.{Token, tokens}
 use Rattle.dft_netlist_text.specs.Steps.{Rule, Outcome, kind_of, left, next, sees, expect, eat, needed, checked}
 use Rattle.dft_netlist_text.specs.Modules.{Draft, empty_draft, announce, declare_nets, declare_new_port, declare_port, declare_wire, declared_at, meaning_of, name_instance, room_for_instance}
 use Rattle.dft_netlist_text.specs.Expressions.{unless_too_large, number, rest_of_range, range, range_if_any, SelectedName, fitting, implied_net, bits_of_port, bits_of_meaning, bits_of_name, implies, is_whole, selected, named_operand, constant_operand, constant, selection, followed, drives, operand, OpenConcatenations, unread, is_read, opening, closing, turn, concatenations_from, expression}
-use Rattle.dft_netlist_text.specs.Items.{Declaring, Ports, Wires, declare, declared_name, declared_names_from, declared_names, declaration, port_item, wire_item, with_joins, right_side, net_assignment, net_assignments_from, net_assignments, assign_item, one_bit, gate_kind, has_inputs, terminal, input_terminals_from, input_terminals, gate_instance, terminals, named_gate, unnamed_gate, one_gate, gates_from, gates, gate_item, unjoined, connected_pin, Connected, pin_signal, pin_content, named_connection, named_connections_from, named_connections, connections, cell_instance, instance, instances_from, instances, instances_of, instances_named, cell_item, gate_or_cell, item_of, item, items_from, items}
+use Rattle.dft_netlist_text.specs.Items.{Declaring, Ports, Wires, declare, declared_name, declared_names_from, declared_names, declaration, port_item, wire_item, with_joins, right_side, net_assignment, net_assignments_from, net_assignments, assign_item, one_bit, gate_kind, terminal, input_terminals_from, input_terminals, gate_instance, terminals, named_gate, unnamed_gate, one_gate, gates_from, gates, gate_item, unjoined, connected_pin, Connected, pin_signal, pin_content, named_connection, named_connections_from, named_connections, connections, cell_instance, instance, instances_from, instances, instances_of, instances_named, cell_item, gate_or_cell, item_of, item, items_from, items}
 use Rattle.dft_netlist_text.specs.NetlistText.{announced_name, announced_names_from, announced_names, declared_port, PortDeclaration, port_declaration_of, port_declaration, declared_ports_from, declared_ports, sees_direction, header_names, header, heading, first_undeclared, all_declared, module_end, end_of_text, module_text, module_of}
 use Rattle.dft_verilog.specs.Buildable.{IsBuildable, ModulesAreBuildable}
 use Rattle.dft_verilog.proofs.SaidLemmas.{IsSaid, Gives, IsShort, said_is_buildable, nets_said, announce_said, new_port_said, port_said, wire_said, name_said, room_said, instance_said}
@@ -364,7 +365,7 @@ terminals_said k word place d h ts =
     behind (SaidFirst 1 (own_names word)) (IsSaid 0 []) (terminal true d ts) _ (terminal_said 1 (own_names word) true d h ts) (λ output m us.
     behind (SaidFirst 1 (own_names word)) (IsSaid 0 []) (input_terminals output.0 us) _ (inputs_all 1 (own_names word) output.0 m us) (λ ins n vs.
     passed (IsSaid 0 []) (expect kind.CloseParen vs) _ (λ w ws.
-    of_need (IsSaid 0 []) _ place (has_inputs k (length ins.1)) _ ws (instance_said (gate_instance k word output.1 ins.1) ins.0 n))))
+    of_need (IsSaid 0 []) _ place (takes_inputs k (length ins.1)) _ ws (instance_said (gate_instance k word output.1 ins.1) ins.0 n))))
 
 named_gate_said : (k : Kind) (d : Draft) → IsSaid 0 [] d → (ts : List Token) → Yields (IsSaid 0 []) (named_gate k d ts)
 unfolding named_gate

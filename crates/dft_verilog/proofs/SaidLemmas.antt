@@ -21,13 +21,13 @@ use Rattle.dft_netlist.specs.declared.limits.TheConstants.{MAX_PORTS, MAX_NETS, 
 use Rattle.dft_netlist.specs.Names.{bit_names, port_names}
 use Rattle.dft_netlist.specs.Building.{own_names}
 use Rattle.dft_netlist_text.specs.Steps.{fault}
-use Rattle.dft_netlist_text.specs.Modules.{Draft, HeaderPort, TakenName, meaning_of, is_taken, with_name, net_count, count_from, names_of_bits, first_taken, free_bits, with_bits, next_shape, with_nets, declare_nets, declared_at, port_place, announce, with_declared, declare_found, declare_port, declare_new_port, same_range, repeat_port, declare_wire_as, declare_wire, room_for_instance, name_instance, with_instance}
+use Rattle.dft_netlist_text.specs.Modules.{Draft, HeaderPort, TakenName, meaning_of, is_taken, with_name, net_count, names_of_bits, first_taken, free_bits, with_bits, next_shape, with_nets, declare_nets, declared_at, port_place, announce, with_declared, declare_found, declare_port, declare_new_port, same_range, repeat_port, declare_wire_as, declare_wire, room_for_instance, name_instance, with_instance}
 use Rattle.dft_netlist_text.specs.NetlistText.{nets_of_port, nets_of_ports, other_nets, names_of_others}
 use Rattle.dft_verilog_draft.specs.Free.{AreApart, taken_bit}
 use Rattle.dft_verilog.specs.Buildable.{names_of_port, names_of_header, names_of_instances, printed_names, IsBuildable}
 use Rattle.dft_verilog_draft.proofs.ApartLemmas.{bit_names-apart}
-use Rattle.dft_verilog_draft.proofs.DeclareLemmas.{length-bit_names}
-use Rattle.dft_verilog.proofs.NumberingLemmas.{AreBelow, AreBelow-append, AreBelow-count, length-count_from}
+use Rattle.dft_verilog_draft.proofs.DeclareLemmas.{length-bit_names, length-going_up}
+use Rattle.dft_verilog.proofs.NumberingLemmas.{AreBelow, AreBelow-append, AreBelow-count}
 use Rattle.dft_verilog.proofs.CountLemmas.{count, count-append, AreOnce, apart_if_once, names_of, AreFreeIn, first_taken-none, free_once, eq_same}
 use Rattle.dft_verilog.proofs.OtherNetLemmas.{is_among, others_from, others_more, others_kept, name_at, names_kept, names_new}
 
@@ -140,7 +140,7 @@ count_said word d = omega (arith, count-append word (said_of_header d.ports) (na
 
 -- new nets are a port's
 port_steps : (room : ℕ) (more : List Text) (d : Draft) (names : List TakenName) (bits words : List Text) (ports : List HeaderPort) → IsSaid room more d → names_of names ≡ names_of d.names ++ words
-    → PortGains d.ports ports (count_from (length d.nets) (length bits)) words → ArePlaced (port_list ports) names → length ports ≤ MAX_PORTS → length d.nets + length bits ≤ MAX_NETS
+    → PortGains d.ports ports (going_up (length d.nets) (length bits)) words → ArePlaced (port_list ports) names → length ports ≤ MAX_PORTS → length d.nets + length bits ≤ MAX_NETS
     → Steps d (record d { names = names; ports = ports; nets = d.nets ++ bits }) words
 port_steps room more d names bits words ports h named g placed few fits =
     let e : Draft = record d { names = names; ports = ports; nets = d.nets ++ bits } in
@@ -150,7 +150,7 @@ port_steps room more d names bits words ports h named g placed few fits =
     record {
       names = named;
       said_more = λ word. omega (arith, count_said word d, count_said word e, ap (count word) same, g.header word);
-      numbered = omega (arith, all, g.len, length-count_from (length d.nets) (length bits), ap (λ (ns : List ℕ). length ns) kept, h.numbered);
+      numbered = omega (arith, all, g.len, length-going_up (length d.nets) (length bits), ap (λ (ns : List ℕ). length ns) kept, h.numbered);
       below = subst (λ n. AreBelow n (nets_of_ports ports)) (sym all)
           (g.below (length d.nets + length bits) (below_more (length d.nets) (length d.nets + length bits) (nets_of_ports d.ports) (omega arith) h.below) (AreBelow-count (length d.nets + length bits) (length d.nets) (length bits) (omega arith)));
       places = placed;
@@ -165,14 +165,14 @@ wire_steps : (room : ℕ) (more : List Text) (d : Draft) (names : List TakenName
 wire_steps room more d names bits words h named few placed fits =
     let e : Draft = record d { names = names; nets = d.nets ++ bits } in
     let all : length (d.nets ++ bits) ≡ length d.nets + length bits = length-append d.nets bits in
-    let new = count_from (length d.nets) (length bits) in
+    let new = going_up (length d.nets) (length bits) in
     let grown : other_nets e ≡ other_nets d ++ new = ap (others_from (nets_of_ports d.ports) 0) all ∙ others_more (nets_of_ports d.ports) (length d.nets) (length bits) h.below in
     let named_more : names_of_others e ≡ names_of_others d ++ bits =
     ap (map (name_at (d.nets ++ bits))) grown ∙ map-append (name_at (d.nets ++ bits)) (other_nets d) new ∙ ap₂ (λ xs ys. xs ++ ys) (names_kept (nets_of_ports d.ports) d.nets bits) (names_new d.nets bits) in
     record {
       names = named;
       said_more = λ word. omega (arith, count_said word d, count_said word e, ap (count word) named_more, count-append word (names_of_others d) bits, few word);
-      numbered = omega (arith, all, ap (λ (ns : List ℕ). length ns) grown, length-append (other_nets d) new, length-count_from (length d.nets) (length bits), h.numbered);
+      numbered = omega (arith, all, ap (λ (ns : List ℕ). length ns) grown, length-append (other_nets d) new, length-going_up (length d.nets) (length bits), h.numbered);
       below = subst (λ n. AreBelow n (nets_of_ports d.ports)) (sym all) (below_more (length d.nets) (length d.nets + length bits) (nets_of_ports d.ports) (omega arith) h.below);
       places = placed;
       few_ports = h.few_ports;
@@ -394,7 +394,7 @@ ports_by : (n : ℕ) → nat_le MAX_PORTS n ≡ false → n + 1 ≤ MAX_PORTS
 ports_by n h = grind (arith, nat_tests)
 
 -- a new port, declared or not
-push_said : (room : ℕ) (more : List Text) (d : Draft) (word : Text) (declared : Option Declared) (bits ws : List Text) → IsSaid room more d → said_of_port word declared ≡ word ∷ ws → nets_of_port declared ≡ count_from (length d.nets) (length bits)
+push_said : (room : ℕ) (more : List Text) (d : Draft) (word : Text) (declared : Option Declared) (bits ws : List Text) → IsSaid room more d → said_of_port word declared ≡ word ∷ ws → nets_of_port declared ≡ going_up (length d.nets) (length bits)
     → nat_le MAX_PORTS (length d.ports) ≡ false → length d.nets + length bits ≤ MAX_NETS → AreFreeIn d (word ∷ ws) → AreApart (word ∷ ws)
     → IsSaid room more (record d { names = (d.names ++ entry word (meaning.Port (length d.ports)) ∷ []) ++ map taken_bit ws; ports = d.ports ++ port_named word declared ∷ []; nets = d.nets ++ bits })
 push_said room more d word declared bits ws h own nets few fits free apart =
@@ -403,7 +403,7 @@ push_said room more d word declared bits ws h own nets few fits free apart =
     let names = (d.names ++ mine ∷ []) ++ map taken_bit ws in
     let listed : port_list ports ≡ port_list d.ports ++ word ∷ [] = map-append (λ (p : HeaderPort). p.name) d.ports (port_named word declared ∷ []) in
     let last : slice_get (port_list d.ports ++ word ∷ []) (length d.ports) ≡ Some word = subst (λ k. slice_get (port_list d.ports ++ word ∷ []) k ≡ Some word) (length-map d.ports (λ (p : HeaderPort). p.name)) (get_last (port_list d.ports) word) in
-    let gains : PortGains d.ports ports (count_from (length d.nets) (length bits)) (word ∷ ws) = subst (λ ns. PortGains d.ports ports ns (word ∷ ws)) nets (subst (PortGains d.ports ports (nets_of_port declared)) own (gains_push d.ports word declared)) in
+    let gains : PortGains d.ports ports (going_up (length d.nets) (length bits)) (word ∷ ws) = subst (λ ns. PortGains d.ports ports ns (word ∷ ws)) nets (subst (PortGains d.ports ports (nets_of_port declared)) own (gains_push d.ports word declared)) in
     let placed : ArePlaced (port_list d.ports ++ word ∷ []) names =
     placed_append (port_list d.ports ++ word ∷ []) (d.names ++ mine ∷ []) (map taken_bit ws)
     (placed_append (port_list d.ports ++ word ∷ []) d.names (mine ∷ []) (placed_left (port_list d.ports) (word ∷ []) d.names h.places) (last, tt)) (placed_bits (port_list d.ports ++ word ∷ []) ws) in
@@ -423,8 +423,8 @@ announce_said room more place word d h =
     (subst (λ (nets : List Text). IsSaid room more (record d { names = (d.names ++ mine ∷ []) ++ []; ports = ports; nets = nets })) (append-nil d.nets)
     (push_said room more d word None [] [] h refl refl few (omega (arith, h.few_nets)) (free, tt) (tt, tt))))
 
-shape_nets : (word : Text) (dir : Dir) (range : Option Range) (d : Draft) → nets_of_port (Some (record { dir = dir; shape = next_shape d range; repeated = false })) ≡ count_from (length d.nets) (length (bit_names word range))
-shape_nets word dir range d = ap (λ n. count_from (length d.nets) n) (sym (length-bit_names word range))
+shape_nets : (word : Text) (dir : Dir) (range : Option Range) (d : Draft) → nets_of_port (Some (record { dir = dir; shape = next_shape d range; repeated = false })) ≡ going_up (length d.nets) (length (bit_names word range))
+shape_nets word dir range d = ap (λ n. going_up (length d.nets) n) (sym (length-bit_names word range))
 
 abbrev facing : Dir → Option Range → Draft → Declared
 facing dir range d = record { dir = dir; shape = next_shape d range; repeated = false }

@@ -8,7 +8,7 @@ ghost use Rattle.dft_verilog_tokens.specs.Reading.{Reads};
 
 use crate::joined_pins::JoinedPins;
 use crate::single_bits::single_bit;
-use dft_cells::{Cell, Role};
+use dft_cells::Cell;
 use dft_netlist::Signal;
 use dft_netlist_text::{Site, TokenKind};
 use dft_verilog_draft::ModuleDraft;
@@ -34,19 +34,12 @@ fn pin_place(cell: &Cell, word: &[u8]) -> Option<usize>
         .position(|pin| pin.name.as_slice() == word)
 }
 
-// Whether a pin of this role drives its net.
-fn is_driving(role: Role) -> bool
-    ensures { result ≡ spec.is_driving role }
-{
-    matches!(role, Role::Output | Role::Inverted)
-}
-
 // Whether this pin drives its net.
 fn pin_drives(cell: &Cell, pin: usize) -> bool
     ensures { result ≡ spec.pin_drives (slice_get cell.now.pins pin) }
 {
     match cell.pins.as_slice().get(pin) {
-        Some(pin) => is_driving(pin.role),
+        Some(pin) => pin.role.is_output(),
         None => false,
     }
 }

@@ -33,16 +33,6 @@ pub fn gate_kind(kind: TokenKind) -> Option<Kind>
     }
 }
 
-// Whether a gate may have this number of inputs: a buffer and an inverter one, another gate one to eight.
-fn has_inputs(kind: Kind, count: usize) -> bool
-    ensures { result ≡ spec.has_inputs kind count }
-{
-    match kind {
-        Kind::Buf | Kind::Inv => count == 1,
-        _ => 1 <= count && count <= 8,
-    }
-}
-
 #[tactic(auto, unfolding(dft_netlist_text::specs::Items::terminal))]
 // A terminal of a gate; its width is tested at its first token.
 fn terminal<'a>(
@@ -99,7 +89,7 @@ fn terminals<'a>(
     let mut pins = input_terminals(draft, tokens)?;
     tokens.expect(TokenKind::CloseParen)?;
     let count = input_count(&pins);
-    if !has_inputs(kind, count) {
+    if !kind.takes_inputs(count) {
         return Err(refused(place, Cause::Misfit));
     }
     pins.push(output)?;

@@ -6,6 +6,7 @@ use Rattle.std.specs.List.{All}
 use Rattle.std.proofs.lemmas.List.Elements.{All-head, All-tail, All-append}
 use Rattle.dft_base.specs.declared.place.Range.{Range}
 use Rattle.dft_base.specs.Parser.{Checked}
+use Rattle.dft_base.specs.Ranges.{falls, width, has_index, place_in, has_part}
 use Rattle.dft_netlist.specs.declared.instance.Signal.{Signal}
 use Rattle.dft_netlist.specs.declared.instance.Signal.TheVariants as signal
 use Rattle.dft_netlist_text.specs.declared.text.Declared.{Declared}
@@ -20,8 +21,8 @@ use Rattle.dft_netlist_text.specs.declared.text.Select.{Select}
 use Rattle.dft_netlist_text.specs.declared.text.Select.TheVariants as select
 use Rattle.dft_netlist_text.specs.declared.text.Shape.{Shape}
 use Rattle.dft_netlist_text.specs.declared.text.Site.{Site}
-use Rattle.dft_netlist_text.specs.Modules.{Draft, HeaderPort, meaning_of, declared_at, declare_nets, net_count, falls, width, is_taken, with_name, with_nets, next_shape}
-use Rattle.dft_netlist_text.specs.Expressions.{SelectedName, Operand, nets_of_shape, has_index, place_in, has_part, selected_in, selected, fitting, implied_net, bits_of_port, bits_of_meaning, bits_of_name, implies, is_whole}
+use Rattle.dft_netlist_text.specs.Modules.{Draft, HeaderPort, meaning_of, declared_at, declare_nets, net_count, is_taken, with_name, with_nets, next_shape}
+use Rattle.dft_netlist_text.specs.Expressions.{SelectedName, Operand, nets_of_shape, selected_in, selected, fitting, implied_net, bits_of_port, bits_of_meaning, bits_of_name, implies, is_whole}
 use Rattle.dft_verilog_draft.specs.Drafts.{IsDraft, IsShapeWithin, IsMeaningWithin, IsDeclaredWithin}
 use Rattle.dft_verilog_draft.specs.Operands.{Grows, IsBit, AreBits}
 use Rattle.dft_verilog_draft.specs.Selecting.{behind_bits}

@@ -2,6 +2,7 @@
 
 ghost use Rattle.std.specs.Prelude.{◌≡◌, ◌≤◌, ◌+◌, ◌<◌, ◌^◌, ◌++◌, ◌&&◌, None, length, option_map, IfSome, OnOk};
 ghost use Rattle.dft_base.specs.Name.{IsName};
+ghost use Rattle.dft_base.specs.Ranges as ranges;
 ghost use Rattle.dft_netlist_text.specs.Expressions as spec;
 ghost use Rattle.dft_netlist_text.specs.Modules.{declare_nets, declared_at, meaning_of};
 ghost use Rattle.dft_verilog_tokens.specs.Reading.{Checks};
@@ -25,7 +26,7 @@ pub struct Run {
 
 /// Whether a range has this index.
 fn has_index(range: Range, index: u16) -> bool
-    ensures { result ≡ spec.has_index range index }
+    ensures { result ≡ ranges.has_index range index }
 {
     if range.right <= range.left {
         range.right <= index && index <= range.left
@@ -36,7 +37,7 @@ fn has_index(range: Range, index: u16) -> bool
 
 /// How far an index is from the left of its range.
 fn place_in(range: Range, index: u16) -> u16
-    ensures { result ≡ spec.place_in range index }
+    ensures { result ≡ ranges.place_in range index }
 {
     if range.right <= range.left {
         range.left.saturating_sub(index)
@@ -47,7 +48,7 @@ fn place_in(range: Range, index: u16) -> u16
 
 /// Whether a part lies in a range and goes its way.
 fn has_part(range: Range, part: Range) -> bool
-    ensures { result ≡ spec.has_part range part }
+    ensures { result ≡ ranges.has_part range part }
 {
     has_index(range, part.left)
         && has_index(range, part.right)

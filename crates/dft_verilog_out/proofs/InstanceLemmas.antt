@@ -9,6 +9,7 @@ use Rattle.dft_cells.specs.declared.cell.CellId.{CellId}
 use Rattle.dft_cells.specs.declared.cell.Pin.{Pin}
 use Rattle.dft_cells.specs.declared.cell.Cell.{Cell}
 use Rattle.dft_cells.specs.Cells.{find_cell}
+use Rattle.dft_cells.specs.Pins.{takes_inputs, is_output}
 use Rattle.dft_netlist.specs.declared.instance.Signal.{Signal}
 use Rattle.dft_netlist.specs.declared.instance.Signal.TheVariants as signal
 use Rattle.dft_netlist_text.specs.declared.text.TokenKind.{TokenKind}
@@ -20,7 +21,7 @@ use Rattle.dft_netlist_text.specs.Lexemes.{Token}
 use Rattle.dft_netlist_text.specs.Steps.{kind_of, left, same_kind, sees}
 use Rattle.dft_netlist_text.specs.Modules.{Draft, name_instance, room_for_instance, with_instance}
 use Rattle.dft_netlist_text.specs.Expressions.{ends, expression}
-use Rattle.dft_netlist_text.specs.Items.{item, input_terminals_from, input_terminals, has_inputs, gate_instance, terminals, Joined, Connected, unjoined, pin_place, is_driving, pin_drives, was_joined, named_connection, named_connections_from, connections, signal_at, cell_instance}
+use Rattle.dft_netlist_text.specs.Items.{item, input_terminals_from, input_terminals, gate_instance, terminals, Joined, Connected, unjoined, pin_place, pin_drives, was_joined, named_connection, named_connections_from, connections, signal_at, cell_instance}
 use Rattle.dft_verilog_out.specs.Written.{name_text, signal_text, list_text, list_text_behind, connection_text, is_joined, connection_texts, gate_text, own_name_text}
 use Rattle.dft_verilog_out.proofs.CutLemmas.{cut_up, token, cut_up-buf, cut_up-not, cut_up-and, cut_up-nand, cut_up-or, cut_up-nor, cut_up-xor, cut_up-xnor, cut_up-point, cut_up-comma, cut_up-close, cut_up-semicolon, cut_up-space, cut_up-line, cut_up-opened, name_at, Opens}
 use Rattle.dft_verilog_out.proofs.ItemLemmas.{gate_token, gate-named, gate-unnamed, terminal-at, input_terminals_from-more, input_terminals_from-end, terminals-at, named_connection-at, cell-at, connections-none, connections-some, named_connections_from-more, named_connections_from-end}
@@ -86,7 +87,7 @@ unfolding input_terminals
 input_terminals-is d us = refl
 
 terminals_read : (k : Kind) (d : Draft) (name : Option Text) (nets : List Text) (output : Signal) (ins : List Signal) (place : ℕ) (rest : Text)
-    → Operand d (site.Terminal true) (signal_text nets output) output → Operands d (site.Terminal false) nets ins → has_inputs k (length ins) ≡ true
+    → Operand d (site.Terminal true) (signal_text nets output) output → Operands d (site.Terminal false) nets ins → takes_inputs k (length ins) ≡ true
     → terminals k name place d (cut_up (list_text (map (signal_text nets) (output ∷ ins)) ++ 41 ∷ rest)) ≡ Ok (with_instance (gate_instance k name output ins) d, cut_up rest)
 terminals_read k d name nets output ins place rest out ops fits =
     let texts : List Text = map (signal_text nets) ins in
@@ -149,7 +150,7 @@ pub record IsGate (d : Draft) (nets : List Text) (k : Kind) (output : Signal) (i
   pub primitive : is_primitive k ≡ true
   pub output_reads : Operand d (site.Terminal true) (signal_text nets output) output
   pub inputs_read : Operands d (site.Terminal false) nets ins
-  pub fits : has_inputs k (length ins) ≡ true
+  pub fits : takes_inputs k (length ins) ≡ true
 
 -- the brackets of an instance, and what stands in them
 abbrev bracketed : Text → Text → Text
@@ -267,7 +268,7 @@ pub record IsPin (d : Draft) (nets : List Text) (cell : Cell) (place : ℕ) (pin
   pub found : pin_place cell pin.name ≡ Some place
   pub at : slice_get cell.pins place ≡ Some pin
   pub name : is_joined to ≡ true → IsName pin.name
-  pub reads : is_joined to ≡ true → Operand d (site.Pin (is_driving pin.role)) (signal_text nets to) to
+  pub reads : is_joined to ≡ true → Operand d (site.Pin (is_output pin.role)) (signal_text nets to) to
 
 abbrev pub ArePins : Draft → List Text → Cell → (place : ℕ) → List Pin → List Signal → Type 0
 ArePins d nets cell place [] [] = Unit {0}
@@ -297,7 +298,7 @@ connection_read d nets cell place pin to done rest behind p is e =
     let op = p.reads is in
     let us : Text = signal_text nets to ++ 41 ∷ behind in
     let n = name_at pin.name 40 us (p.name is) refl in
-    let role : pin_drives (slice_get cell.pins place) ≡ is_driving pin.role = ap pin_drives p.at in
+    let role : pin_drives (slice_get cell.pins place) ≡ is_output pin.role = ap pin_drives p.at in
     ap (λ t. named_connection cell (d, done ++ None ∷ rest) (cut_up t)) (joined_parts nets pin.name to behind)
     ∙ ap (named_connection cell (d, done ++ None ∷ rest)) (cut_up-point (name_text pin.name ++ 40 ∷ us) ∙ ap (λ ts. token kind.Point (46 ∷ []) (suc (length (name_text pin.name ++ 40 ∷ us))) ∷ ts)
     (n.at ∙ ap (λ ts. token kind.Name pin.name (suc n.left) ∷ ts) (cut_up-opened us (op.opens (41 ∷ behind)))))

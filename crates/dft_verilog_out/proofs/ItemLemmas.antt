@@ -7,6 +7,7 @@ use Rattle.dft_cells.specs.declared.kind.Kind.TheVariants as primitive
 use Rattle.dft_cells.specs.declared.cell.CellId.{CellId}
 use Rattle.dft_cells.specs.declared.cell.Cell.{Cell}
 use Rattle.dft_cells.specs.Cells.{find_cell}
+use Rattle.dft_cells.specs.Pins.{takes_inputs}
 use Rattle.dft_netlist.specs.declared.ids.NetId.{NetId}
 use Rattle.dft_base.specs.declared.dir.Dir.{Dir}
 use Rattle.dft_base.specs.declared.dir.Dir.TheVariants as dir
@@ -19,7 +20,7 @@ use Rattle.dft_netlist_text.specs.Lexemes.{Token}
 use Rattle.dft_netlist_text.specs.Steps.{kind_of, bytes, left, next, same_kind, sees, expect, after}
 use Rattle.dft_netlist_text.specs.Modules.{Draft, empty_draft, announce, declare_port, declare_wire, name_instance, room_for_instance, with_instance, with_join}
 use Rattle.dft_netlist_text.specs.Expressions.{range_if_any, expression}
-use Rattle.dft_netlist_text.specs.Items.{Declaring, Ports, Wires, declare, declared_name, declared_names_from, declared_names, declaration, port_item, wire_item, right_side, net_assignment, net_assignments_from, net_assignments, assign_item, terminal, input_terminals_from, input_terminals, has_inputs, gate_instance, terminals, named_gate, unnamed_gate, one_gate, gates_from, gates, gate_item, Joined, Connected, unjoined, pin_place, pin_drives, was_joined, connected_pin, pin_signal, pin_content, named_connection, named_connections_from, named_connections, connections, cell_instance, instance, instances_from, instances, cell_item, item, items_from, items}
+use Rattle.dft_netlist_text.specs.Items.{Declaring, Ports, Wires, declare, declared_name, declared_names_from, declared_names, declaration, port_item, wire_item, right_side, net_assignment, net_assignments_from, net_assignments, assign_item, terminal, input_terminals_from, input_terminals, gate_instance, terminals, named_gate, unnamed_gate, one_gate, gates_from, gates, gate_item, Joined, Connected, unjoined, pin_place, pin_drives, was_joined, connected_pin, pin_signal, pin_content, named_connection, named_connections_from, named_connections, connections, cell_instance, instance, instances_from, instances, cell_item, item, items_from, items}
 use Rattle.dft_netlist.specs.Sound.{is_primitive}
 use Rattle.dft_base.specs.Parser.{value_of}
 use Rattle.dft_netlist_text.specs.NetlistText.{announced_name, announced_names_from, announced_names, header_names, header, heading, first_undeclared, module_end, end_of_text, module_text}
@@ -87,7 +88,7 @@ cell-at d named id cell joined word name a l b c m us ts found there free joins 
 -- ---- gates
 
 pub terminals-at : (k : Kind) (d : Draft) (name : Option Text) (output : Signal) (ins : List Signal) (place m e : ℕ) (us vs ts : List Token)
-    → terminal true d us ≡ Ok ((d, output), vs) → input_terminals d vs ≡ Ok ((d, ins), token kind.CloseParen (41 ∷ []) m ∷ ts) → has_inputs k (length ins) ≡ true
+    → terminal true d us ≡ Ok ((d, output), vs) → input_terminals d vs ≡ Ok ((d, ins), token kind.CloseParen (41 ∷ []) m ∷ ts) → takes_inputs k (length ins) ≡ true
     → terminals k name place d us ≡ Ok (with_instance (gate_instance k name output ins) d, ts)
 unfolding terminals expect sees kind_of same_kind bytes left next after
 terminals-at k d name output ins place m e us vs ts out is fits = rw (out, is, fits) refl

@@ -8,6 +8,7 @@ use Rattle.dft_base.specs.Parser as parser
 use Rattle.dft_base.specs.Parser.{Checked}
 use Rattle.dft_cells.specs.declared.cell.Cell.{Cell}
 use Rattle.dft_base.specs.declared.dir.Dir.{Dir}
+use Rattle.dft_base.specs.Ranges.{width, has_index, place_in, has_part}
 use Rattle.dft_netlist.specs.declared.instance.Signal.{Signal}
 use Rattle.dft_netlist.specs.declared.instance.Signal.TheVariants as signal
 use Rattle.dft_netlist.specs.declared.instance.Instance.{Instance}
@@ -24,8 +25,8 @@ use Rattle.dft_netlist_text.specs.declared.text.Site.{Site}
 use Rattle.dft_netlist.specs.declared.limits.TheConstants.{MAX_PORTS, MAX_NETS, MAX_INSTANCES}
 use Rattle.dft_netlist_text.specs.Lexemes.{Token}
 use Rattle.dft_netlist_text.specs.Steps.{Rule, Outcome, left, sees, expect, needed, checked}
-use Rattle.dft_netlist_text.specs.Modules.{Draft, meaning_of, is_taken, width, net_count, names_of_bits, first_taken, free_bits, with_bits, declare_nets, declared_at, port_place, announce, declare_found, declare_port, declare_new_port, same_range, repeat_port, declare_wire_as, declare_wire, room_for_instance, name_instance}
-use Rattle.dft_netlist_text.specs.Expressions.{nets_of_shape, has_index, place_in, has_part, selected_in, selected, implies, is_whole, drives, SelectedName, Operand, fitting, implied_net, bits_of_port, bits_of_meaning, bits_of_name, selection, followed, constant, named_operand, constant_operand, operand, OpenConcatenations, unread, is_read, opening, closing, turn, concatenations_from, expression}
+use Rattle.dft_netlist_text.specs.Modules.{Draft, meaning_of, is_taken, net_count, names_of_bits, first_taken, free_bits, with_bits, declare_nets, declared_at, port_place, announce, declare_found, declare_port, declare_new_port, same_range, repeat_port, declare_wire_as, declare_wire, room_for_instance, name_instance}
+use Rattle.dft_netlist_text.specs.Expressions.{nets_of_shape, selected_in, selected, implies, is_whole, drives, SelectedName, Operand, fitting, implied_net, bits_of_port, bits_of_meaning, bits_of_name, selection, followed, constant, named_operand, constant_operand, operand, OpenConcatenations, unread, is_read, opening, closing, turn, concatenations_from, expression}
 use Rattle.dft_verilog_out.specs.Written.{is_joined}
 use Rattle.dft_verilog_out.specs.Named.{is_joined_gate}
 

@@ -7,6 +7,7 @@ use Rattle.dft_cells.specs.declared.kind.Kind.{Kind}
 use Rattle.dft_cells.specs.declared.cell.CellId.{CellId}
 use Rattle.dft_cells.specs.declared.cell.Cell.{Cell}
 use Rattle.dft_cells.specs.Cells.{find_cell}
+use Rattle.dft_cells.specs.Pins.{takes_inputs}
 use Rattle.dft_base.specs.declared.dir.Dir.{Dir}
 use Rattle.dft_base.specs.declared.dir.Dir.TheVariants as dir
 use Rattle.dft_netlist.specs.declared.instance.Signal.{Signal}
@@ -18,7 +19,7 @@ use Rattle.dft_netlist_text.specs.Lexemes.{Token}
 use Rattle.dft_netlist_text.specs.Steps.{Rule, kind_of, left, next, sees, expect, eat, checked}
 use Rattle.dft_netlist_text.specs.Modules.{Draft, empty_draft, announce, declare_new_port, declare_port, declare_wire, name_instance, room_for_instance, with_instance}
 use Rattle.dft_netlist_text.specs.Expressions.{range_if_any, expression}
-use Rattle.dft_netlist_text.specs.Items.{Declaring, Ports, Wires, declare, declared_name, declared_names_from, declared_names, declaration, port_item, wire_item, with_joins, right_side, net_assignment, net_assignments_from, net_assignments, assign_item, One, one_bit, gate_kind, has_inputs, terminal, input_terminals_from, input_terminals, gate_instance, terminals, named_gate, unnamed_gate, one_gate, gates_from, gates, gate_item, unjoined, connected_pin, Connected, pin_signal, pin_content, named_connection, named_connections_from, named_connections, connections, cell_instance, instance, instances_from, instances, instances_of, instances_named, cell_item, gate_or_cell, item_of, item, items_from, items}
+use Rattle.dft_netlist_text.specs.Items.{Declaring, Ports, Wires, declare, declared_name, declared_names_from, declared_names, declaration, port_item, wire_item, with_joins, right_side, net_assignment, net_assignments_from, net_assignments, assign_item, One, one_bit, gate_kind, terminal, input_terminals_from, input_terminals, gate_instance, terminals, named_gate, unnamed_gate, one_gate, gates_from, gates, gate_item, unjoined, connected_pin, Connected, pin_signal, pin_content, named_connection, named_connections_from, named_connections, connections, cell_instance, instance, instances_from, instances, instances_of, instances_named, cell_item, gate_or_cell, item_of, item, items_from, items}
 use Rattle.dft_netlist_text.specs.NetlistText.{announced_name, announced_names_from, announced_names, declared_port, PortDeclaration, port_declaration, declared_ports_from, declared_ports, sees_direction, header_names, header, heading, first_undeclared, all_declared, module_end, end_of_text, module_text}
 use Rattle.dft_verilog_out.specs.Written.{is_joined}
 use Rattle.dft_verilog_out.specs.Named.{is_joined_gate}
@@ -180,7 +181,7 @@ terminals_joined library k word place d h ts =
     behind (IsJoinedBit library) (IsJoinedDraft library) (terminal true d ts) _ (terminal_joined library true d h ts) (λ output m us.
     behind (IsJoinedOperand library) (IsJoinedDraft library) (input_terminals output.0 us) _ (inputs_all library output.0 m.0 us) (λ ins n vs.
     passed (IsJoinedDraft library) (expect kind.CloseParen vs) _ (λ w ws.
-    of_need (IsJoinedDraft library) _ place (has_inputs k (length ins.1)) _ ws (instance_joined library (gate_instance k word output.1 ins.1) ins.0 (gate_is_joined k word output.1 ins.1 m.1 n.1) n.0))))
+    of_need (IsJoinedDraft library) _ place (takes_inputs k (length ins.1)) _ ws (instance_joined library (gate_instance k word output.1 ins.1) ins.0 (gate_is_joined k word output.1 ins.1 m.1 n.1) n.0))))
 
 named_gate_joined : (library : List Cell) (k : Kind) → Keeps library (named_gate k)
 unfolding named_gate

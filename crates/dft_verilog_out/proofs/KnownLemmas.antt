@@ -8,6 +8,7 @@ use Rattle.std.proofs.lemmas.Bool.Decides.{nat_tests}
 use Rattle.dft_base.specs.declared.place.Range.{Range}
 use Rattle.dft_base.specs.Lexing.{Text}
 use Rattle.dft_base.specs.Name.{IsName}
+use Rattle.dft_base.specs.Ranges.{has_index, place_in}
 use Rattle.dft_netlist.specs.declared.port.Port.{Port}
 use Rattle.dft_netlist_text.specs.declared.text.Meaning.TheVariants as meaning
 use Rattle.dft_netlist_text.specs.declared.text.Declared.{Declared}
@@ -15,7 +16,6 @@ use Rattle.dft_netlist.specs.Netlist.{Netlist}
 use Rattle.dft_netlist.specs.Names.{bit_names, indices_of, going_up, going_down, names_taken, vector_name, vector_name_in, instance_name}
 use Rattle.dft_netlist.specs.Sound.{bit_names_of}
 use Rattle.dft_netlist_text.specs.Modules.{HeaderPort, TakenName, names_of_bits}
-use Rattle.dft_netlist_text.specs.Expressions.{has_index, place_in}
 use Rattle.dft_netlist.proofs.BitLemmas.{rising, falling}
 use Rattle.dft_verilog_out.specs.Named.{IsSmallRange}
 use Rattle.dft_verilog_out.specs.Written.{name_text, bit_select_text, bit_texts, port_texts}

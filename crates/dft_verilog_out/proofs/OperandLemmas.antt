@@ -6,6 +6,7 @@ use Rattle.dft_base.specs.declared.place.Range.{Range}
 use Rattle.dft_base.specs.Lexing.{Text}
 use Rattle.dft_base.specs.Name.{IsName}
 use Rattle.dft_base.specs.Words.{begins_word, continues_word, is_word, is_reserved, is_later_reserved, needs_escape}
+use Rattle.dft_base.specs.Ranges.{has_index, place_in}
 use Rattle.dft_netlist.specs.declared.ids.NetId.{NetId}
 use Rattle.dft_netlist.specs.declared.instance.Signal.{Signal}
 use Rattle.dft_netlist.specs.declared.instance.Signal.TheVariants as signal
@@ -22,7 +23,7 @@ use Rattle.dft_netlist.specs.Sound.{IsLive, IsConnected}
 use Rattle.dft_netlist_text.specs.Lexemes.{Token}
 use Rattle.dft_netlist_text.specs.Steps.{kind_of, left, same_kind, sees}
 use Rattle.dft_netlist_text.specs.Modules.{HeaderPort, TakenName, Draft, meaning_of}
-use Rattle.dft_netlist_text.specs.Expressions.{small_number, bits_of_meaning, fitting, selected, implies, drives, ends, has_index, place_in, expression}
+use Rattle.dft_netlist_text.specs.Expressions.{small_number, bits_of_meaning, fitting, selected, implies, drives, ends, expression}
 use Rattle.dft_verilog_out.specs.Written.{name_text, bit_select_text, signal_text}
 use Rattle.dft_verilog_out.proofs.CutLemmas.{cut_up, token, digit, constant_tokens, Close, Comma, Semicolon, Space, cut_up-constant, cut_up-close, cut_up-comma, cut_up-semicolon, cut_up-equals, cut_up-open_bracket, cut_up-close_bracket, cut_up-space, cut_up-line, name_at, IsSmall, number_at, Opens}
 use Rattle.dft_verilog_out.proofs.RuleLemmas.{whole-at, bit-at, constant-at}

@@ -12,6 +12,7 @@ use Rattle.dft_cells.specs.declared.kind.Role.TheVariants as role
 use Rattle.dft_cells.specs.declared.cell.Pin.{Pin}
 use Rattle.dft_cells.specs.declared.cell.Cell.{Cell}
 use Rattle.dft_cells.specs.WellFormed.{TakesInputs, IsWellFormed, all_differ, pin_name}
+use Rattle.dft_cells.specs.Pins.{takes_inputs}
 use Rattle.dft_netlist.specs.declared.instance.Signal.{Signal}
 use Rattle.dft_netlist.specs.declared.instance.Signal.TheVariants as signal
 use Rattle.dft_netlist.specs.declared.instance.CellRef.{CellRef}
@@ -28,7 +29,7 @@ use Rattle.dft_netlist.specs.Drivers.{shape_of, shape_of_cell, gate_roles}
 use Rattle.dft_netlist.specs.Sound.{is_primitive, IsLive, AreLive, IsInstance, IsConnected, IsAJoin, is_output}
 use Rattle.dft_netlist_text.specs.Modules.{HeaderPort, TakenName, Draft}
 use Rattle.dft_netlist_text.specs.Expressions.{drives}
-use Rattle.dft_netlist_text.specs.Items.{has_inputs, gate_instance, is_driving, cell_instance}
+use Rattle.dft_netlist_text.specs.Items.{gate_instance, cell_instance}
 use Rattle.dft_verilog_out.specs.Named.{IsNamedCell, IsNamedInstance, IsJoinedGate}
 use Rattle.dft_verilog_out.specs.Written.{join_line, is_joined, output_first, gate_line, cell_line, found_cell_line, instance_line}
 use Rattle.dft_verilog_out.proofs.CountLemmas.{Once, look, words}
@@ -90,7 +91,7 @@ last_signal [] s (suc count) e = absurd (omega arith)
 last_signal (i ∷ ins) s zero e = absurd (omega arith)
 last_signal (i ∷ ins) s (suc count) e = last_signal ins s count (omega arith)
 
-takes_by : (k : Kind) (n : ℕ) → is_primitive k ≡ true → TakesInputs k n → has_inputs k n ≡ true
+takes_by : (k : Kind) (n : ℕ) → is_primitive k ≡ true → TakesInputs k n → takes_inputs k n ≡ true
 takes_by primitive.Buf n p t = grind (arith, nat_tests)
 takes_by primitive.Inv n p t = grind (arith, nat_tests)
 takes_by primitive.And n p t = grind (arith, nat_tests)
@@ -137,7 +138,7 @@ gate_of d library texts name k inputs pins p known stands joined =
       primitive = stands.fits.0;
       output_reads = signal_operand d (site.Terminal true) texts p.output known (stands.live inputs p.output last) (joined inputs p.output last) (λ bit e. absurd (free bit e));
       inputs_read = operands_of d texts p.ins known (joined_front (length texts) p.ins (p.output ∷ []) live both);
-      fits = ap (has_inputs k) p.size ∙ takes_by k inputs stands.fits.0 stands.fits.1;
+      fits = ap (takes_inputs k) p.size ∙ takes_by k inputs stands.fits.0 stands.fits.1;
     }
 
 first_is : (ins : List Signal) (output : Signal) → output_first (ins ++ output ∷ []) ≡ output ∷ ins
@@ -150,17 +151,6 @@ unfolding gate_line
 gate_line-is texts k i ins output e = rw (e, first_is ins output) refl
 
 -- ---- cells
-
-drives_is : (r : Role) → is_driving r ≡ is_output r
-drives_is role.Input = refl
-drives_is role.Clock = refl
-drives_is role.Din = refl
-drives_is role.Reset = refl
-drives_is role.Preset = refl
-drives_is role.ScanIn = refl
-drives_is role.ScanEnable = refl
-drives_is role.Output = refl
-drives_is role.Inverted = refl
 
 false_by : (t : Bool) → (t ≡ true → ⊥) → t ≡ false
 false_by true h = absurd (h refl)
@@ -177,14 +167,14 @@ record OfCell (d : Draft) (texts : List Text) (cell : Cell) (signals : List Sign
   named : IsNamedCell cell signals
   differ : all_differ (map pin_name cell.pins) ≡ true
   live : AreLive (length texts) signals
-  outputs : (place : ℕ) (pin : Pin) (bit : Bool) → slice_get cell.pins place ≡ Some pin → slice_get signals place ≡ Some (signal.Constant bit) → is_driving pin.role ≡ false
+  outputs : (place : ℕ) (pin : Pin) (bit : Bool) → slice_get cell.pins place ≡ Some pin → slice_get signals place ≡ Some (signal.Constant bit) → is_output pin.role ≡ false
 
 pin_of : (d : Draft) (texts : List Text) (cell : Cell) (signals : List Signal) (place : ℕ) (pin : Pin) (to : Signal) → OfCell d texts cell signals → slice_get cell.pins place ≡ Some pin → slice_get signals place ≡ Some to → IsPin d texts cell place pin to
 pin_of d texts cell signals place pin to c at is = record {
   found = pin_place-at cell place pin c.differ at;
   at = at;
   name = λ joined. c.named.pins place pin to at is joined;
-  reads = λ joined. signal_operand d (site.Pin (is_driving pin.role)) texts to c.nets (c.live place to is) (joined_is to joined) (λ bit e. c.outputs place pin bit at (is ∙ ap Some e));
+  reads = λ joined. signal_operand d (site.Pin (is_output pin.role)) texts to c.nets (c.live place to is) (joined_is to joined) (λ bit e. c.outputs place pin bit at (is ∙ ap Some e));
 }
 
 pins_of : (d : Draft) (texts : List Text) (cell : Cell) (all : List Signal) (place : ℕ) (pins : List Pin) (signals : List Signal) → OfCell d texts cell all → length signals ≡ length pins
@@ -276,7 +266,7 @@ instance_step n (Some w) (cell_ref.Library id) pins names ports nets done joins 
       differ = is_cell.differ;
       live = r.stands.live;
       outputs = λ place pin bit here to.
-          drives_is pin.role ∙ false_by (is_output pin.role) (λ out. r.stands.outputs place pin.role bit (ap (λ (rs : List Role). slice_get rs place) roles ∙ role_at cell.pins place pin here) out to);
+          false_by (is_output pin.role) (λ out. r.stands.outputs place pin.role bit (ap (λ (rs : List Role). slice_get rs place) roles ∙ role_at cell.pins place pin here) out to);
     } in
     let line = cell_read start named texts id cell w pins (find_cell-at n.library id.0 cell well.names at.1) at.1 is_named.name r.named.own (λ place. name_instance-is place w start (free w refl) room)
     (pins_of named texts cell pins 0 cell.pins pins c width (from_zero cell.pins) (from_zero pins)) width in
