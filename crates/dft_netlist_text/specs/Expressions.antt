@@ -1,4 +1,4 @@
--- Expressions of netlist texts: names, their bits and parts, constants and concatenations (IEEE 1364).
+-- Expressions of netlist texts: names, bit-selects, part-selects, constants and concatenations (IEEE 1364).
 use Rattle.std.specs.Prelude.{ℕ, zero, suc, ◌+◌, ◌-◌, ◌/◌, ◌%◌, ◌^◌, Bool, true, false, not, ◌&&◌, ◌||◌, ◌==◌, nat_le, nat_lt, if◌then◌else◌, List, [], ◌∷◌, ◌++◌, length, map, filter, find, Option, Some, None, Ok, Err, slice_index}
 use Rattle.std.specs.List.{list_all}
 use Rattle.std.specs.Char.{is_digit}

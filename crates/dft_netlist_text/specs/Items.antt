@@ -1,4 +1,5 @@
--- The items of a module: declarations, assignments, gates and instances of cells (IEEE 1364, structural part).
+-- The items of a module: port and net declarations, continuous assignments, gate instantiations, and module instantiations, which are of cells
+-- (IEEE 1364, structural part).
 use Rattle.std.specs.Prelude.{ℕ, zero, suc, Bool, true, false, not, ◌&&◌, ◌==◌, nat_le, if◌then◌else◌, List, [], ◌∷◌, ◌++◌, length, map, replicate, position, Option, Some, None, slice_get, slice_set, Ok, Err}
 use Rattle.std.specs.Str.{bytes_eq}
 use Rattle.dft_base.specs.declared.place.Range.{Range}
@@ -28,7 +29,7 @@ use Rattle.dft_netlist_text.specs.Steps.{Rule, kind_of, left, next, sees, refuse
 use Rattle.dft_netlist_text.specs.Modules.{Draft, declare_port, declare_wire, name_instance, room_for_instance, with_instance, with_join}
 use Rattle.dft_netlist_text.specs.Expressions.{range_if_any, expression, drives}
 
--- ---- declarations of ports and wires
+-- ---- port declarations and net declarations
 
 -- what a declaration declares: ports of a direction, or wires
 pub data Declaring : Type 0 where
@@ -72,7 +73,7 @@ port_item dir d = λ ts. (eat kind.Wire >>= (λ wire. declaration (Ports dir) d)
 unfoldable pub wire_item : Draft → Rule Draft
 wire_item d = λ ts. declaration Wires d (next ts)
 
--- ---- assignments
+-- ---- continuous assignments
 
 -- the net of a signal that is driven; constants are not
 abbrev pub driven_net : Signal → NetId
@@ -132,7 +133,7 @@ one_bit place d (bit ∷ []) = pure (d, bit)
 one_bit place d [] = λ ts. Err (fault cause.Misfit place)
 one_bit place d (bit ∷ more ∷ bits) = λ ts. Err (fault cause.Misfit place)
 
--- ---- gates
+-- ---- gate instantiations
 
 -- the kind of a gate primitive
 abbrev pub gate_kind : TokenKind → Option Kind
@@ -210,7 +211,7 @@ gate_item k d = λ ts. (do
   expect kind.Semicolon
   pure more) (next ts)
 
--- ---- instances of cells
+-- ---- module instantiations, of cells
 
 -- what each pin of a cell is joined to, so far
 abbrev pub Joined : Type 0

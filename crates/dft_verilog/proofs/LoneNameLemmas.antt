@@ -13,7 +13,7 @@ use Rattle.dft_netlist_text.specs.Modules.{Draft}
 use Rattle.dft_netlist_text.specs.Steps.{Outcome, Rule, kind_of, left, sees, same_kind, expect, checked, refusal}
 use Rattle.dft_netlist_text.specs.Expressions.{Operand, bits_of_name, may_follow, followed, selection, constant_operand, named_operand, operand, expression}
 use Rattle.dft_netlist_text.specs.Items.{One, one_bit}
-use Rattle.dft_verilog_draft.specs.Selecting.{lone, lone_of}
+use Rattle.dft_verilog_draft.specs.Selects.{lone, lone_of}
 use Rattle.dft_verilog_draft.specs.Operands.{operand_behind}
 use Rattle.dft_verilog.specs.LoneNames.{lone_name}
 use Rattle.dft_verilog.proofs.OneOperandLemmas.{lone as lone_operand, behind_none}

@@ -18,7 +18,7 @@ use Rattle.dft_netlist_text.specs.Expressions.{SelectedName, Operand, selected_i
 use Rattle.dft_lexing.specs.declared.read_error.ReadError.TheVariants as error
 use Rattle.dft_verilog_tokens.specs.Reading.{Checks, ReadError}
 use Rattle.dft_verilog_draft.specs.Drafts.{IsShapeWithin, IsMeaningWithin}
-use Rattle.dft_verilog_draft.specs.Selecting.{behind_bits, lone, lone_of, lone_net, net_of_scalar}
+use Rattle.dft_verilog_draft.specs.Selects.{behind_bits, lone, lone_of, lone_net, net_of_scalar}
 
 -- ---- the net of a name without a range
 

@@ -25,7 +25,7 @@ use Rattle.dft_netlist_text.specs.Modules.{Draft, HeaderPort, meaning_of, declar
 use Rattle.dft_netlist_text.specs.Expressions.{SelectedName, Operand, nets_of_shape, selected_in, selected, fitting, implied_net, bits_of_port, bits_of_meaning, bits_of_name, implies, is_whole}
 use Rattle.dft_verilog_draft.specs.Drafts.{IsDraft, IsShapeWithin, IsMeaningWithin, IsDeclaredWithin}
 use Rattle.dft_verilog_draft.specs.Operands.{Grows, IsBit, AreBits}
-use Rattle.dft_verilog_draft.specs.Selecting.{behind_bits}
+use Rattle.dft_verilog_draft.specs.Selects.{behind_bits}
 use Rattle.dft_verilog_draft.proofs.DraftLemmas.{meaning-within}
 use Rattle.dft_verilog_draft.proofs.OperandLemmas.{grows_not, bits_more}
 

@@ -7,10 +7,10 @@ ghost use Rattle.dft_netlist_text.specs.Modules.{Draft, meaning_of};
 ghost use Rattle.dft_verilog_tokens.specs.Reading.{Checks};
 ghost use Rattle.dft_verilog_draft.specs.Drafts.{IsMeaningWithin};
 ghost use Rattle.dft_verilog_draft.specs.Operands.{Grows, AreBits, IsBit};
-ghost use Rattle.dft_verilog_draft.specs.Selecting.{behind_bits, lone, lone_of, lone_net};
+ghost use Rattle.dft_verilog_draft.specs.Selects.{behind_bits, lone, lone_of, lone_net};
 
 use crate::module_draft::ModuleDraft;
-use crate::selecting::Spot;
+use crate::selects::Spot;
 use dft_netlist::{NetId, PinSignals, Signal};
 use dft_netlist_text::{Cause, Meaning, Select};
 use dft_verilog_tokens::{ReadError, refused};

@@ -6,7 +6,7 @@ use Rattle.dft_netlist_text.specs.declared.text.Fault.{Fault}
 use Rattle.dft_netlist_text.specs.Modules.{Draft}
 use Rattle.dft_netlist_text.specs.Expressions.{SelectedName, Operand, bits_of_name}
 use Rattle.dft_verilog_tokens.specs.Reading.{Checks}
-use Rattle.dft_verilog_draft.specs.Selecting.{lone_of}
+use Rattle.dft_verilog_draft.specs.Selects.{lone_of}
 use Rattle.dft_verilog_draft.proofs.LoneLemmas.{lone-made, lone-refused}
 use Rattle.dft_verilog_draft.proofs.module_draft.ModuleDraft.lone_bit_of.Goals as goal
 

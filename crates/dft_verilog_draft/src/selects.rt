@@ -1,4 +1,4 @@
-//! What a name gives where it stands in an expression: nets, their bits and parts (IEEE 1364).
+//! What a name gives where it stands in an expression: nets, bit-selects and part-selects (IEEE 1364).
 
 ghost use Rattle.std.specs.Prelude.{◌≡◌, ◌≤◌, ◌+◌, ◌<◌, ◌^◌, ◌++◌, ◌&&◌, None, length, option_map, IfSome, OnOk};
 ghost use Rattle.dft_base.specs.Name.{IsName};
@@ -7,7 +7,7 @@ ghost use Rattle.dft_netlist_text.specs.Expressions as spec;
 ghost use Rattle.dft_netlist_text.specs.Modules.{declare_nets, declared_at, meaning_of};
 ghost use Rattle.dft_verilog_tokens.specs.Reading.{Checks};
 ghost use Rattle.dft_verilog_draft.specs.Drafts.{IsMeaningWithin};
-ghost use Rattle.dft_verilog_draft.specs.Selecting.{signals_of_run, behind_bits, and_selected};
+ghost use Rattle.dft_verilog_draft.specs.Selects.{signals_of_run, behind_bits, and_selected};
 
 use crate::bits::width;
 use crate::module_draft::ModuleDraft;

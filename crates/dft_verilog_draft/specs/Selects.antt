@@ -1,4 +1,4 @@
--- The nets that a selection takes, and what a name adds to the bits of an expression.
+-- Bit-selects and part-selects (IEEE 1364): the nets that they take, and what a name adds to the bits of an expression.
 use Rattle.std.specs.Prelude.{ℕ, List, [], ◌∷◌, ◌++◌, Option, Some, None, Ok, Err}
 use Rattle.dft_base.specs.Parser.{Checked}
 use Rattle.dft_netlist.specs.declared.instance.Signal.{Signal}
@@ -13,7 +13,7 @@ use Rattle.dft_netlist_text.specs.declared.text.Select.{Select}
 use Rattle.dft_netlist_text.specs.declared.text.Select.TheVariants as select
 use Rattle.dft_netlist_text.specs.Modules.{Draft}
 use Rattle.dft_netlist_text.specs.Expressions.{Operand, nets_of_shape}
-use Rattle.dft_verilog_draft.specs.declared.selecting.Run.{Run}
+use Rattle.dft_verilog_draft.specs.declared.selects.Run.{Run}
 
 -- the signals of nets with numbers one after the other
 abbrev pub signals_of_run : Run → List Signal

@@ -1,7 +1,7 @@
 use Rattle.std.proofs.Common.{◌∙◌, ◌+◌, ◌++◌, ◌∷◌, [], List, ap}
 use Rattle.dft_netlist.specs.declared.instance.Signal.{Signal}
 use Rattle.dft_verilog_draft.proofs.SelectLemmas.{net_signal, nets_more}
-use Rattle.dft_verilog_draft.proofs.selecting.push_run.Goals as goal
+use Rattle.dft_verilog_draft.proofs.selects.push_run.Goals as goal
 
 pub loop-place-preserved : goal.loop-place-preserved
 loop-place-preserved c =
