@@ -14,7 +14,7 @@ pub mod PatternShown
 pub mod VectorShown
 pub mod CharactersShown
 pub mod WaveformsShown
-pub mod TablesShown
+pub mod WaveformTablesShown
 pub mod NamesShown
 pub mod KnownNamesShown
 pub mod MembersShown

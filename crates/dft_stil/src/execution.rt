@@ -3,11 +3,11 @@
 ghost use Rattle.std.specs.Prelude.{◌≡◌, option_map};
 ghost use Rattle.dft_stil_tokens.specs.Reading.{Reads};
 ghost use Rattle.dft_stil_text.specs.PatternText as spec;
-ghost use Rattle.dft_stil.specs.TablesShown.{timing_as};
+ghost use Rattle.dft_stil.specs.WaveformTablesShown.{timing_as};
 ghost use Rattle.dft_stil.specs.PatternShown.{burst_as};
 
 use crate::signal_groups::name_if_any;
-use crate::table_block::Timing;
+use crate::timing::Timing;
 use dft_stil_tokens::{ReadError, TokenKind, Tokens, unknown};
 use std::alloc::Global;
 

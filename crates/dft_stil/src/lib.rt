@@ -11,10 +11,10 @@ mod pattern_text;
 mod reader;
 mod signal_groups;
 mod statements;
-mod table_block;
-mod tables;
+mod timing;
 mod vector;
 mod waveform_table;
+mod waveform_tables;
 mod waveforms;
 
 pub use dft_patterns::{

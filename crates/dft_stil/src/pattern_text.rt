@@ -4,7 +4,7 @@ ghost use Rattle.std.specs.Prelude.{◌≡◌, ◌<◌, ◌^◌, length, IfOk};
 ghost use Rattle.dft_stil_text.specs.SignalGroups.{no_names};
 ghost use Rattle.dft_stil_text.specs.PatternText as spec;
 ghost use Rattle.dft_stil_tokens.specs.Steps.{left};
-ghost use Rattle.dft_stil.specs.TablesShown.{timing_as, AreWide};
+ghost use Rattle.dft_stil.specs.WaveformTablesShown.{timing_as, AreWide};
 ghost use Rattle.dft_stil.specs.PatternShown.{pattern_as, burst_as, patterns_with};
 ghost use Rattle.dft_stil_tokens.specs.Reading.{Reads};
 
@@ -12,7 +12,7 @@ use crate::execution::{Burst, exec, known_name, the_burst};
 use crate::names::Names;
 use crate::signal_groups::{group_blocks, signals_block};
 use crate::statements::{PatternBlock, statements};
-use crate::table_block::{Timing, timing_block};
+use crate::timing::{Timing, timing_block};
 use dft_patterns::{Acts, PatternSet};
 use dft_stil_tokens::{Cause, ReadError, TokenKind, Tokens, fault_at};
 use std::alloc::{AllocError, Global};

@@ -3,7 +3,7 @@
 ghost use Rattle.std.specs.Prelude.{◌≡◌, ℕ, [], length, option_map, OnOk, IfOk, IfSome};
 ghost use Rattle.dft_stil_text.specs.Statements as spec;
 ghost use Rattle.dft_stil_tokens.specs.Steps.{left};
-ghost use Rattle.dft_stil.specs.TablesShown.{AreWide};
+ghost use Rattle.dft_stil.specs.WaveformTablesShown.{AreWide};
 ghost use Rattle.dft_stil.specs.PatternShown.{pattern_as};
 ghost use Rattle.dft_stil.specs.WaveformsShown.{IsWide};
 ghost use Rattle.dft_stil.specs.VectorShown.{vector_as};
@@ -11,7 +11,7 @@ ghost use Rattle.dft_stil_tokens.specs.Reading.{Reads};
 
 use crate::names::Names;
 use crate::waveforms::Waveforms;
-use crate::tables::Tables;
+use crate::waveform_tables::WaveformTables;
 use crate::vector::{VectorStatement, assignment};
 use dft_patterns::Acts;
 use dft_stil_tokens::{Cause, ReadError, TokenKind, Tokens, fault_at, unknown};
@@ -28,7 +28,7 @@ pub struct PatternBlock {
 }
 
 // The waveforms of a table by number, if there is one.
-fn waveforms_at(tables: &Tables, number: Option<usize>) -> Option<&Waveforms>
+fn waveforms_at(tables: &WaveformTables, number: Option<usize>) -> Option<&Waveforms>
     ensures value { option_map (λ s. s.now) result ≡ spec.waveforms_at tables.now number }
     ensures wide { (count : ℕ) → AreWide count tables.now → IfSome result (λ s. IsWide count s.now) }
 {
@@ -73,7 +73,7 @@ fn assignments(
 fn assigned(
     alloc: Global,
     names: &Names,
-    tables: &Tables,
+    tables: &WaveformTables,
     table: Option<usize>,
     acts: Acts,
     tokens: &mut Tokens<'_>,
@@ -111,7 +111,7 @@ fn add_acts(alloc: Global, pattern: &mut PatternBlock, acts: Acts) -> Result<(),
 fn vector(
     alloc: Global,
     names: &Names,
-    tables: &Tables,
+    tables: &WaveformTables,
     most: usize,
     pattern: &mut PatternBlock,
     tokens: &mut Tokens<'_>,
@@ -137,7 +137,7 @@ fn vector(
 // The name of a table, and a semicolon.
 fn table_used(
     alloc: Global,
-    tables: &Tables,
+    tables: &WaveformTables,
     pattern: &mut PatternBlock,
     tokens: &mut Tokens<'_>,
 ) -> Result<(), ReadError>
@@ -159,7 +159,7 @@ fn table_used(
 fn labelled(
     alloc: Global,
     names: &Names,
-    tables: &Tables,
+    tables: &WaveformTables,
     most: usize,
     pattern: &mut PatternBlock,
     tokens: &mut Tokens<'_>,
@@ -179,7 +179,7 @@ fn labelled(
 fn statement(
     alloc: Global,
     names: &Names,
-    tables: &Tables,
+    tables: &WaveformTables,
     most: usize,
     pattern: &mut PatternBlock,
     tokens: &mut Tokens<'_>,
@@ -205,7 +205,7 @@ fn statement(
 pub fn statements(
     alloc: Global,
     names: &Names,
-    tables: &Tables,
+    tables: &WaveformTables,
     most: usize,
     pattern: &mut PatternBlock,
     tokens: &mut Tokens<'_>,

@@ -7,7 +7,7 @@ ghost use Rattle.dft_stil_text.specs.WaveformTables as spec;
 ghost use Rattle.dft_stil_tokens.specs.Steps.{left, bytes};
 ghost use Rattle.dft_stil.specs.MembersShown.{AreBelow};
 ghost use Rattle.dft_stil.specs.WaveformsShown.{IsWide};
-ghost use Rattle.dft_stil.specs.TablesShown.{table_as};
+ghost use Rattle.dft_stil.specs.WaveformTablesShown.{table_as};
 ghost use Rattle.dft_patterns.specs.declared.shapes.Drawing.TheVariants as drawings;
 ghost use Rattle.dft_stil_tokens.specs.Reading.{Reads};
 

@@ -12,7 +12,7 @@ use Rattle.dft_stil_out.specs.Letters.{letter}
 use Rattle.dft_stil_tokens.specs.Lexemes.{Token}
 use Rattle.dft_stil_tokens.specs.Steps.{kind_of, bytes, next, sees, sees_word, after}
 use Rattle.dft_stil_text.specs.SignalGroups.{Names}
-use Rattle.dft_stil_text.specs.WaveformTables.{Waveforms, Tables}
+use Rattle.dft_stil_text.specs.WaveformTables.{Waveforms, WaveformTables}
 use Rattle.dft_stil_text.specs.Statements.{PatternBlock, vector, statement, statements_from}
 use Rattle.dft_stil_out.specs.Written.{vector_line, note_line, due, noted_lines}
 use Rattle.dft_stil_out.specs.Written as form
@@ -79,12 +79,12 @@ line_read most ins outs waveforms acts olds vectors rest mi mo some p old room =
 
 -- ---- statements
 
-statements_from-more : (k most : ℕ) (names : Names) (tables : Tables) (p new : PatternBlock) (l : ℕ) (ts us : List Token) → vector most names tables p (token kind.Word (codes "V") l ∷ ts) ≡ Ok (new, us)
+statements_from-more : (k most : ℕ) (names : Names) (tables : WaveformTables) (p new : PatternBlock) (l : ℕ) (ts us : List Token) → vector most names tables p (token kind.Word (codes "V") l ∷ ts) ≡ Ok (new, us)
     → statements_from (suc k) most names tables p (token kind.Word (codes "V") l ∷ ts) ≡ statements_from k most names tables new us
 unfolding statements_from statement sees_word sees kind_of bytes after
 statements_from-more k most names tables p new l ts us e = rw e refl
 
-statements_from-end : (k most : ℕ) (names : Names) (tables : Tables) (p : PatternBlock) (word : Text) (l : ℕ) (ts : List Token) → statements_from (suc k) most names tables p (token kind.CloseBrace word l ∷ ts) ≡ Ok (p, ts)
+statements_from-end : (k most : ℕ) (names : Names) (tables : WaveformTables) (p : PatternBlock) (word : Text) (l : ℕ) (ts : List Token) → statements_from (suc k) most names tables p (token kind.CloseBrace word l ∷ ts) ≡ Ok (p, ts)
 unfolding statements_from sees kind_of after next
 statements_from-end k most names tables p word l ts = refl
 

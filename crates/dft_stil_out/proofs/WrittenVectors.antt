@@ -17,7 +17,7 @@ use Rattle.dft_stil_out.specs.Letters.{letter}
 use Rattle.dft_stil_tokens.specs.Lexemes.{Token}
 use Rattle.dft_stil_tokens.specs.Steps.{kind_of, bytes, left, next, sees, sees_word, sees_name, expect, after, keyword, name}
 use Rattle.dft_stil_text.specs.SignalGroups.{Names, Members, elsewhere}
-use Rattle.dft_stil_text.specs.WaveformTables.{Waveforms, Tables}
+use Rattle.dft_stil_text.specs.WaveformTables.{Waveforms, WaveformTables}
 use Rattle.dft_stil_text.specs.Statements.{PatternBlock, Filling, act_in, waveforms_at, filled_by, sees_characters, run_of_characters, runs_from, characters, VectorStatement, vector_after, is_told, with_told, assignment, assignments_from, vector}
 use Rattle.dft_stil_out.proofs.WrittenTokens.{cut_up, token, ahead, AllTold, run_kind, run_text, letter_passes, cut_up-run, cut_up-vector, cut_up-ins_set, cut_up-outs_set, cut_up-vector_end}
 use Rattle.dft_stil_out.proofs.WrittenSignals.{left-token}
@@ -99,7 +99,7 @@ assignments_from-end : (k : ℕ) (names : Names) (t : Option Waveforms) (v : Vec
 unfolding assignments_from sees kind_of after next
 assignments_from-end k names t v word l ts = refl
 
-vector-at : (most : ℕ) (names : Names) (tables : Tables) (p : PatternBlock) (v : VectorStatement) (a b : ℕ) (us vs : List Token) → nat_lt (length p.vectors) most ≡ true → assignments_from (left us) names (waveforms_at tables p.table) (vector_after p.acts) us ≡ Ok (v, vs)
+vector-at : (most : ℕ) (names : Names) (tables : WaveformTables) (p : PatternBlock) (v : VectorStatement) (a b : ℕ) (us vs : List Token) → nat_lt (length p.vectors) most ≡ true → assignments_from (left us) names (waveforms_at tables p.table) (vector_after p.acts) us ≡ Ok (v, vs)
     → vector most names tables p (token kind.Word (codes "V") a ∷ token kind.OpenBrace (codes "{") b ∷ us) ≡ Ok (record { table = p.table; acts = v.acts; vectors = p.vectors ++ v.acts ∷ [] }, vs)
 unfolding vector keyword sees_word sees kind_of bytes left next expect
 vector-at most names tables p v a b us vs room e = rw (room, e) refl
@@ -122,7 +122,7 @@ abbrev pub so_far : List Act → List (List Act) → PatternBlock
 so_far acts vectors = record { table = Some 0; acts = acts; vectors = vectors }
 
 -- the tables of one table
-abbrev pub one_table : Waveforms → Tables
+abbrev pub one_table : Waveforms → WaveformTables
 one_table waveforms = record { names = codes "w" ∷ []; waveforms = waveforms ∷ [] }
 
 -- a vector of inputs alone

@@ -18,7 +18,7 @@ use Rattle.dft_patterns.specs.Acts.{IsActOf}
 use Rattle.dft_patterns.specs.Patterns.{IsVector}
 use Rattle.dft_stil_tokens.specs.Steps.{left, next, no_token, unsupported, bytes, sees, expect, eat, keyword, name, sees_word, sees_left_out, checked, needed, Rule}
 use Rattle.dft_stil_text.specs.SignalGroups.{Names, Members, number_of, elsewhere}
-use Rattle.dft_stil_text.specs.WaveformTables.{Waveforms, Tables, dir_of}
+use Rattle.dft_stil_text.specs.WaveformTables.{Waveforms, WaveformTables, dir_of}
 use Rattle.dft_stil_text.specs.Statements as spec
 use Rattle.dft_stil_text.specs.Statements.{run_of_characters, runs_from, characters, assignment, assignments_from, vector, table_used, labelled, statement, statements_from}
 use Rattle.dft_stil_text.proofs.GivenRules.{Gives, after_any, then_gives, pure_gives, refuse_gives, if_gives, if_of, ok_gives, err_gives, needed_gives, given_gives}
@@ -152,7 +152,7 @@ abbrev waveforms_or : Waveforms → Option Waveforms → Waveforms
 waveforms_or d (Some s) = s
 waveforms_or d None = d
 
-used_fits : (names : Names) (tables : Tables) (number : Option ℕ) → AllFit names tables → UsedFits names (spec.waveforms_at tables number)
+used_fits : (names : Names) (tables : WaveformTables) (number : Option ℕ) → AllFit names tables → UsedFits names (spec.waveforms_at tables number)
 used_fits names tables None f s e = absurd (true≢false (sym (ap is_some e)))
 used_fits names tables (Some n) f s e = found tables.waveforms n f e where
   found : (all : List Waveforms) (n : ℕ) → All (λ s. Fit names s) all → slice_get all n ≡ Some s → Fit names s
@@ -160,7 +160,7 @@ used_fits names tables (Some n) f s e = found tables.waveforms n f e where
   found (t ∷ all) zero g h = subst (λ (s : Waveforms). Fit names s) (ap (waveforms_or t) h) (g 0 t (omega arith))
   found (t ∷ all) (suc n) g h = found all n (λ k d l. g (suc k) d (omega arith)) h
 
-vector_fits : (most : ℕ) (names : Names) (tables : Tables) (p : spec.PatternBlock) → AllFit names tables → PatternFits most names p → Gives (PatternFits most names) (vector most names tables p)
+vector_fits : (most : ℕ) (names : Names) (tables : WaveformTables) (p : spec.PatternBlock) → AllFit names tables → PatternFits most names p → Gives (PatternFits most names) (vector most names tables p)
 unfolding vector
 vector_fits most names tables p f h ts =
     after_any (PatternFits most names) (keyword _) _ (λ u. needed_gives (PatternFits most names) _ _ _ _ (λ room. after_any (PatternFits most names) (expect kind.OpenBrace) _ (λ x.
@@ -178,17 +178,17 @@ using_fits : (most : ℕ) (names : Names) (word : Text) (place : ℕ) (p : spec.
 using_fits most names word place p (Some n) h = pure_gives (PatternFits most names) (record p { table = Some n }) (record { acts = h.acts; vectors = h.vectors; few = h.few })
 using_fits most names word place p None h = λ ts. err_gives (PatternFits most names) _
 
-used_table_fits : (most : ℕ) (names : Names) (tables : Tables) (p : spec.PatternBlock) → PatternFits most names p → Gives (PatternFits most names) (table_used tables p)
+used_table_fits : (most : ℕ) (names : Names) (tables : WaveformTables) (p : spec.PatternBlock) → PatternFits most names p → Gives (PatternFits most names) (table_used tables p)
 unfolding table_used
 used_table_fits most names tables p h ts =
     after_any (PatternFits most names) name _ (λ word. then_gives (PatternFits most names) (PatternFits most names) _ _ (using_fits most names word (left ts) p (number_of tables.names word) h)
     (λ more g. after_any (PatternFits most names) (expect kind.Semicolon) _ (λ u. pure_gives (PatternFits most names) more g))) ts
 
-labelled_fits : (most : ℕ) (names : Names) (tables : Tables) (p : spec.PatternBlock) → AllFit names tables → PatternFits most names p → Gives (PatternFits most names) (labelled most names tables p)
+labelled_fits : (most : ℕ) (names : Names) (tables : WaveformTables) (p : spec.PatternBlock) → AllFit names tables → PatternFits most names p → Gives (PatternFits most names) (labelled most names tables p)
 unfolding labelled
 labelled_fits most names tables p f h = after_any (PatternFits most names) name _ (λ u. after_any (PatternFits most names) (expect kind.Colon) _ (λ v. vector_fits most names tables p f h))
 
-statement_fits : (most : ℕ) (names : Names) (tables : Tables) (p : spec.PatternBlock) → AllFit names tables → PatternFits most names p → Gives (PatternFits most names) (statement most names tables p)
+statement_fits : (most : ℕ) (names : Names) (tables : WaveformTables) (p : spec.PatternBlock) → AllFit names tables → PatternFits most names p → Gives (PatternFits most names) (statement most names tables p)
 unfolding statement
 statement_fits most names tables p f h ts =
     if_of (PatternFits most names) (sees_word (codes "W") ts) (table_used tables p (next ts)) (cond (sees_word (codes "V") ts) (vector most names tables p ts) (cond (sees_left_out ts) (Err (unsupported ts)) (labelled most names tables p ts)))
@@ -196,7 +196,7 @@ statement_fits most names tables p f h ts =
     (λ _. if_of (PatternFits most names) (sees_word (codes "V") ts) (vector most names tables p ts) (cond (sees_left_out ts) (Err (unsupported ts)) (labelled most names tables p ts)) (λ _. vector_fits most names tables p f h ts)
     (λ _. if_of (PatternFits most names) (sees_left_out ts) (Err (unsupported ts)) (labelled most names tables p ts) (λ _. err_gives (PatternFits most names) (unsupported ts)) (λ _. labelled_fits most names tables p f h ts)))
 
-pub statements_fit : (n most : ℕ) (names : Names) (tables : Tables) (p : spec.PatternBlock) → AllFit names tables → PatternFits most names p → Gives (PatternFits most names) (statements_from n most names tables p)
+pub statements_fit : (n most : ℕ) (names : Names) (tables : WaveformTables) (p : spec.PatternBlock) → AllFit names tables → PatternFits most names p → Gives (PatternFits most names) (statements_from n most names tables p)
 unfolding statements_from
 statements_fit zero most names tables p f h = refuse_gives (PatternFits most names) no_token
 statements_fit (suc n) most names tables p f h =

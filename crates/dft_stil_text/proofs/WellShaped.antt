@@ -228,20 +228,20 @@ body_fits names =
     (λ t f ts. after_any (Fit names) (expect kind.CloseBrace) _ (λ z. needed_gives (Fit names) _ _ _ _ (λ _. pure_gives (Fit names) t.waveforms f)) ts)))))))
 
 -- each table fits
-abbrev pub AllFit : Names → spec.Tables → Type 0
+abbrev pub AllFit : Names → spec.WaveformTables → Type 0
 AllFit names tables = All (λ s. Fit names s) tables.waveforms
 
 one_fits : (names : Names) (s : spec.Waveforms) → Fit names s → All (λ s. Fit names s) (s ∷ [])
 one_fits names s f zero d h = f
 one_fits names s f (suc k) d h = absurd (omega arith)
 
-table_fits : (names : Names) (tables : spec.Tables) → AllFit names tables → Gives (AllFit names) (waveform_table names tables)
+table_fits : (names : Names) (tables : spec.WaveformTables) → AllFit names tables → Gives (AllFit names) (waveform_table names tables)
 unfolding waveform_table
 table_fits names tables f =
     after_any (AllFit names) (keyword _) _ (λ u ts. after_any (AllFit names) name _ (λ word. needed_gives (AllFit names) _ _ _ _ (λ fresh.
     then_gives (Fit names) (AllFit names) (table_body names) _ (body_fits names) (λ s g. pure_gives (AllFit names) (spec.with_table tables word s) (All-append (λ s. Fit names s) tables.waveforms (s ∷ []) f (one_fits names s g))))) ts)
 
-tables_fit : (n : ℕ) (names : Names) (tables : spec.Tables) → AllFit names tables → Gives (AllFit names) (waveform_tables_from n names tables)
+tables_fit : (n : ℕ) (names : Names) (tables : spec.WaveformTables) → AllFit names tables → Gives (AllFit names) (waveform_tables_from n names tables)
 unfolding waveform_tables_from
 tables_fit zero names tables f = refuse_gives (AllFit names) no_token
 tables_fit (suc n) names tables f =

@@ -11,7 +11,7 @@ use Rattle.dft_patterns.specs.declared.act.Act.{Act}
 use Rattle.dft_stil_tokens.specs.Lexemes.{Token}
 use Rattle.dft_stil_tokens.specs.Steps.{Rule, bytes, left, next, sees, sees_word, sees_left_out, refuse, no_token, unsupported, expect, eat, keyword, name, needed, fault, checked}
 use Rattle.dft_stil_text.specs.SignalGroups.{Names, Members, number_of, given, elsewhere, has_signal}
-use Rattle.dft_stil_text.specs.WaveformTables.{Waveforms, Tables, act_of}
+use Rattle.dft_stil_text.specs.WaveformTables.{Waveforms, WaveformTables, act_of}
 
 -- A pattern so far: the table of the last `W`, by number, the acts of the last vector, and the vectors.
 pub record PatternBlock : Type 0 where
@@ -33,7 +33,7 @@ act_in None signal c = None
 act_in (Some waveforms) signal c = act_of waveforms signal c
 
 -- the waveforms of a table by number, if there is one
-abbrev pub waveforms_at : Tables → Option ℕ → Option Waveforms
+abbrev pub waveforms_at : WaveformTables → Option ℕ → Option Waveforms
 waveforms_at tables number = option_and_then (λ n. slice_get tables.waveforms n) number
 
 -- the next signal does this; a character without a waveform is refused at its place
@@ -129,7 +129,7 @@ abbrev pub with_acts : List Act → PatternBlock → PatternBlock
 with_acts acts p = record p { acts = acts; vectors = p.vectors ++ acts ∷ [] }
 
 -- `V` and its assignments. There may be so many vectors at most.
-unfoldable pub vector : (most : ℕ) → Names → Tables → PatternBlock → Rule PatternBlock
+unfoldable pub vector : (most : ℕ) → Names → WaveformTables → PatternBlock → Rule PatternBlock
 vector most names tables p = λ ts. (do
   keyword (codes "V")
   needed cause.Count (left ts) (nat_lt (length p.vectors) most) (do
@@ -145,7 +145,7 @@ using_table word place p None = λ ts. Err (fault (cause.Unknown word) place)
 using_table word place p (Some n) = pure (record p { table = Some n })
 
 -- the name of a table, and a semicolon
-unfoldable pub table_used : Tables → PatternBlock → Rule PatternBlock
+unfoldable pub table_used : WaveformTables → PatternBlock → Rule PatternBlock
 table_used tables p = λ ts. (do
   word ← name
   more ← using_table word (left ts) p (number_of tables.names word)
@@ -153,21 +153,21 @@ table_used tables p = λ ts. (do
   pure more) ts
 
 -- a label, and a vector
-unfoldable pub labelled : (most : ℕ) → Names → Tables → PatternBlock → Rule PatternBlock
+unfoldable pub labelled : (most : ℕ) → Names → WaveformTables → PatternBlock → Rule PatternBlock
 labelled most names tables p = do
   name
   expect kind.Colon
   vector most names tables p
 
 -- a statement: `W` without quotes, `V` without quotes, or a label
-unfoldable pub statement : (most : ℕ) → Names → Tables → PatternBlock → Rule PatternBlock
+unfoldable pub statement : (most : ℕ) → Names → WaveformTables → PatternBlock → Rule PatternBlock
 statement most names tables p = λ ts.
     if sees_word (codes "W") ts then table_used tables p (next ts)
     else (if sees_word (codes "V") ts then vector most names tables p ts
     else (if sees_left_out ts then Err (unsupported ts) else labelled most names tables p ts))
 
 -- the statements that are left of a pattern
-unfoldable pub statements_from : ℕ → (most : ℕ) → Names → Tables → PatternBlock → Rule PatternBlock
+unfoldable pub statements_from : ℕ → (most : ℕ) → Names → WaveformTables → PatternBlock → Rule PatternBlock
 statements_from zero most names tables p = refuse
 statements_from (suc n) most names tables p = do
   end ← eat kind.CloseBrace

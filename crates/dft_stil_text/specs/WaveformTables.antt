@@ -167,20 +167,20 @@ table_body names = do
   waveforms_block names period
 
 -- the tables so far, by name
-pub record Tables : Type 0 where
+pub record WaveformTables : Type 0 where
   pub names : List Text
   pub waveforms : List Waveforms
 
 -- no table
-abbrev pub no_tables : Tables
+abbrev pub no_tables : WaveformTables
 no_tables = record { names = []; waveforms = [] }
 
 -- a table more
-abbrev pub with_table : Tables → Text → Waveforms → Tables
+abbrev pub with_table : WaveformTables → Text → Waveforms → WaveformTables
 with_table tables word waveforms = record { names = tables.names ++ word ∷ []; waveforms = tables.waveforms ++ waveforms ∷ [] }
 
 -- a table, whose name no other may have so far
-unfoldable pub waveform_table : Names → Tables → Rule Tables
+unfoldable pub waveform_table : Names → WaveformTables → Rule WaveformTables
 waveform_table names tables = do
   keyword (codes "WaveformTable")
   λ ts. (do
@@ -190,7 +190,7 @@ waveform_table names tables = do
       pure (with_table tables word waveforms))) ts
 
 -- the tables that are left of the block
-unfoldable pub waveform_tables_from : ℕ → Names → Tables → Rule Tables
+unfoldable pub waveform_tables_from : ℕ → Names → WaveformTables → Rule WaveformTables
 waveform_tables_from zero names tables = refuse
 waveform_tables_from (suc n) names tables = do
   end ← eat kind.CloseBrace
@@ -201,7 +201,7 @@ waveform_tables_from (suc n) names tables = do
 -- the block of tables: its name, if it has one, and the tables
 pub record Timing : Type 0 where
   pub name : Option Text
-  pub tables : Tables
+  pub tables : WaveformTables
 
 -- the block of tables
 unfoldable pub timing : Names → Rule Timing

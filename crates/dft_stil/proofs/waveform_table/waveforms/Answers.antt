@@ -3,7 +3,7 @@ use Rattle.std.proofs.lemmas.Grind.{common_steps}
 use Rattle.dft_base.proofs.Turns.{one_more, no_more}
 use Rattle.dft_stil_text.specs.WaveformTables.{waveforms_from}
 use Rattle.dft_stil_text.specs.WaveformTables as spec
-use Rattle.dft_stil.specs.TablesShown.{table_as}
+use Rattle.dft_stil.specs.WaveformTablesShown.{table_as}
 use Rattle.dft_stil.proofs.waveform_table.waveforms.Goals as goal
 
 pub returns-then-eat-clause-read : goal.returns-then-eat-clause-read

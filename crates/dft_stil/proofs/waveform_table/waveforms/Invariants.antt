@@ -3,7 +3,7 @@ use Rattle.dft_stil_tokens.specs.Steps.{left}
 use Rattle.dft_stil_text.specs.WaveformTables as spec
 use Rattle.std.proofs.Common.{length}
 use Rattle.dft_stil.specs.WaveformsShown.{IsWide}
-use Rattle.dft_stil.specs.TablesShown.{table_as}
+use Rattle.dft_stil.specs.WaveformTablesShown.{table_as}
 use Rattle.dft_stil.proofs.waveform_table.waveforms.Given as goal
 
 -- each turn reads one

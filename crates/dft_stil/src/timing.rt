@@ -4,11 +4,11 @@ ghost use Rattle.std.specs.Prelude.{length, IfOk, OnOk};
 ghost use Rattle.dft_stil_tokens.specs.Steps.{left};
 ghost use Rattle.dft_stil_tokens.specs.Reading.{Reads};
 ghost use Rattle.dft_stil_text.specs.WaveformTables as spec;
-ghost use Rattle.dft_stil.specs.TablesShown.{timing_as, AreWide};
+ghost use Rattle.dft_stil.specs.WaveformTablesShown.{timing_as, AreWide};
 
 use crate::names::Names;
 use crate::signal_groups::name_if_any;
-use crate::tables::Tables;
+use crate::waveform_tables::WaveformTables;
 use crate::waveform_table::table_body;
 use dft_stil_tokens::{ReadError, TokenKind, Tokens, taken};
 use std::alloc::Global;
@@ -18,7 +18,7 @@ use std::alloc::Global;
 fn one_table(
     alloc: Global,
     names: &Names,
-    tables: &mut Tables,
+    tables: &mut WaveformTables,
     tokens: &mut Tokens<'_>,
 ) -> Result<(), ReadError>
     requires { AreWide (length names.now.signals) tables.old }
@@ -38,11 +38,11 @@ fn one_table(
 
 #[tactic(auto, using(crate::proofs::TableLemmas::wide_tables))]
 // The tables of the block, and its brace.
-fn all_tables(alloc: Global, names: &Names, tokens: &mut Tokens<'_>) -> Result<Tables, ReadError>
+fn all_tables(alloc: Global, names: &Names, tokens: &mut Tokens<'_>) -> Result<WaveformTables, ReadError>
     ensures read { Reads (λ t. t) (spec.waveform_tables_from (left tokens.old) names.now spec.no_tables tokens.old) result tokens.new }
     ensures wide { IfOk result (λ t. AreWide (length names.now.signals) t) }
 {
-    let mut tables = Tables::new(alloc);
+    let mut tables = WaveformTables::new(alloc);
     'turns: for _turn in 0..tokens.left() {
         if tokens.eat(TokenKind::CloseBrace) {
             return Ok(tables);
@@ -56,7 +56,7 @@ fn all_tables(alloc: Global, names: &Names, tokens: &mut Tokens<'_>) -> Result<T
 #[derive(Debug, Drop)]
 pub struct Timing<'a> {
     pub name: Option<&'a [u8]>,
-    pub tables: Tables,
+    pub tables: WaveformTables,
 }
 
 #[tactic(auto, unfolding(dft_stil_text::specs::WaveformTables::timing))]

@@ -9,27 +9,27 @@ use std::marker::Model;
 
 /// The tables of a pattern text, found by name (IEEE 1450-1999 `WaveformTable`).
 #[derive(Debug, Drop)]
-pub struct Tables {
+pub struct WaveformTables {
     names: KnownNames,
     waveforms: Vec<Waveforms>,
 }
 
-impl Model for Tables {
+impl Model for WaveformTables {
     ghost use Rattle.dft_stil_text.specs.WaveformTables as tables;
 
-    ghost Value = { tables.Tables };
+    ghost Value = { tables.WaveformTables };
 
-    ghost use Rattle.dft_stil.specs.TablesShown.{tables_of};
+    ghost use Rattle.dft_stil.specs.WaveformTablesShown.{tables_of};
 
     ghost view = { tables_of };
 }
 
-impl Tables {
+impl WaveformTables {
     /// No table.
-    pub fn new(alloc: Global) -> Tables
+    pub fn new(alloc: Global) -> WaveformTables
         ensures { result ≡ spec.no_tables }
     {
-        Tables {
+        WaveformTables {
             names: KnownNames::new(alloc),
             waveforms: Vec::new(alloc),
         }

@@ -3,7 +3,7 @@ use Rattle.std.proofs.lemmas.Grind.{common_steps}
 use Rattle.dft_base.proofs.Turns.{one_more, no_more}
 use Rattle.dft_stil_text.specs.WaveformTables.{waveform_tables_from}
 use Rattle.dft_stil_text.specs.WaveformTables as spec
-use Rattle.dft_stil.proofs.table_block.all_tables.Goals as goal
+use Rattle.dft_stil.proofs.timing.all_tables.Goals as goal
 
 pub returns-then-eat-clause-read : goal.returns-then-eat-clause-read
 unfolding waveform_tables_from

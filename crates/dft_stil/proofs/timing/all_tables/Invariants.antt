@@ -2,8 +2,8 @@ use Rattle.std.proofs.Common.{◌≡◌, ◌-◌}
 use Rattle.dft_stil_tokens.specs.Steps.{left}
 use Rattle.dft_stil_text.specs.WaveformTables as spec
 use Rattle.std.proofs.Common.{length}
-use Rattle.dft_stil.specs.TablesShown.{AreWide}
-use Rattle.dft_stil.proofs.table_block.all_tables.Given as goal
+use Rattle.dft_stil.specs.WaveformTablesShown.{AreWide}
+use Rattle.dft_stil.proofs.timing.all_tables.Given as goal
 
 -- each turn reads one
 abbrev pub invariant-turns : goal.invariant-turns
