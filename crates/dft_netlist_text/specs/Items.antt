@@ -1,14 +1,12 @@
 -- The items of a module: port and net declarations, continuous assignments, gate instantiations, and module instantiations, which are of cells
 -- (IEEE 1364, structural part).
-use Rattle.std.specs.Prelude.{ℕ, zero, suc, Bool, true, false, not, ◌&&◌, ◌==◌, nat_le, if◌then◌else◌, List, [], ◌∷◌, ◌++◌, length, map, replicate, position, Option, Some, None, slice_get, slice_set, Ok, Err}
+use Rattle.std.specs.Prelude.{ℕ, zero, suc, Bool, true, false, not, ◌==◌, if◌then◌else◌, List, [], ◌∷◌, ◌++◌, length, map, replicate, position, Option, Some, None, slice_get, slice_set, Ok, Err}
 use Rattle.std.specs.Str.{bytes_eq}
 use Rattle.dft_base.specs.declared.place.Range.{Range}
 use Rattle.dft_base.specs.Lexing.{Text}
 use Rattle.dft_base.specs.Parser.{pure, ◌>>=◌, ◌>>◌}
 use Rattle.dft_cells.specs.declared.kind.Kind.{Kind}
 use Rattle.dft_cells.specs.declared.kind.Kind.TheVariants as primitive
-use Rattle.dft_cells.specs.declared.kind.Role.{Role}
-use Rattle.dft_cells.specs.declared.kind.Role.TheVariants as role
 use Rattle.dft_cells.specs.declared.cell.CellId.{CellId}
 use Rattle.dft_cells.specs.declared.cell.Pin.{Pin}
 use Rattle.dft_cells.specs.declared.cell.Cell.{Cell}
