@@ -1,5 +1,5 @@
 -- The bytes of texts, and the comments between tokens: those of netlist texts (IEEE 1364) and of pattern texts (IEEE 1450) are the same.
-use Rattle.std.specs.Prelude.{ℕ, suc, ◌+◌, Bool, ◌&&◌, ◌||◌, ◌==◌, nat_eq, nat_le, if◌then◌else◌, [], ◌∷◌, codes, Option, Some, None, option_map, length}
+use Rattle.std.specs.Prelude.{ℕ, suc, ◌+◌, Bool, ◌||◌, ◌==◌, nat_eq, if◌then◌else◌, [], ◌∷◌, codes, Option, Some, None, option_map, length}
 use Rattle.std.specs.List.{starts_with}
 use Rattle.std.specs.Char.{is_ascii_alphanumeric}
 pub use Rattle.dft_base.specs.Bytes.{is_printed}

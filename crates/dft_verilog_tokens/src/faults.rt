@@ -2,6 +2,7 @@
 
 ghost use Rattle.std.specs.Prelude.{◌≡◌};
 ghost use Rattle.dft_base.specs.Name.{IsName};
+ghost use Rattle.dft_lexing.specs.declared.read_error.ReadError.TheVariants as errors;
 ghost use Rattle.dft_netlist_text.specs.Steps.{fault};
 ghost use Rattle.dft_verilog_tokens.specs.Reading.{Faults};
 
@@ -88,7 +89,7 @@ pub fn joined_twice(alloc: Global, place: usize, word: &[u8]) -> ReadError
 
 /// There are as many as there may be.
 pub fn full(place: usize, what: Counted) -> ReadError
-    ensures { result ≡ ReadError.Fault (fault (Cause.Full what) place) }
+    ensures { result ≡ errors.Fault (fault (Cause.Full what) place) }
 {
     ReadError::Fault(Fault {
         cause: Cause::Full(what),
@@ -98,7 +99,7 @@ pub fn full(place: usize, what: Counted) -> ReadError
 
 /// No such token may stand here, or a selection does not fit.
 pub fn refused(place: usize, cause: Cause) -> ReadError
-    ensures { result ≡ ReadError.Fault (fault cause place) }
+    ensures { result ≡ errors.Fault (fault cause place) }
 {
     ReadError::Fault(Fault { cause, left: place })
 }
