@@ -6,39 +6,39 @@ use Rattle.dft_netlist_text.specs.declared.text.TokenKind.TheVariants as kind
 use Rattle.dft_netlist_text.specs.Lexemes.{Token}
 use Rattle.dft_netlist_text.specs.Modules.{Draft}
 use Rattle.dft_netlist_text.specs.Steps.{Outcome, next, sees, refusal}
-use Rattle.dft_netlist_text.specs.Expressions.{Operand, Nest, nest_from, operand}
-use Rattle.dft_netlist_laws.specs.Nesting.{IsExpression, Single, Concatenation, AreMembers, Last, More}
+use Rattle.dft_netlist_text.specs.Expressions.{Operand, OpenConcatenations, concatenations_from, operand}
+use Rattle.dft_netlist_laws.specs.Concatenations.{IsExpression, Single, Concatenation, AreMembers, Last, More}
 use Rattle.dft_netlist_laws.proofs.NextTokens.{seen}
 use Rattle.dft_netlist_laws.proofs.Steps.{awaiting, held, never, stops, brace_opens, operand_comes, operand_fails, comma_goes, brace_closes, neither}
 
 -- an expression was read, and reading goes on behind it
-pub record Opened (at : Site) (n depth : ℕ) (d : Draft) (ts : List Token) (bits : List Signal) (r : (Draft × Nest) × List Token) : Type 0 where
+pub record Opened (at : Site) (n depth : ℕ) (d : Draft) (ts : List Token) (bits : List Signal) (r : (Draft × OpenConcatenations) × List Token) : Type 0 where
   pub m : ℕ
   pub fewer : m < n
   pub o : Operand
   pub mid : List Token
   pub is : IsExpression at depth d ts o mid
-  pub on : nest_from m at o.0 (held depth (bits ++ o.1)) mid ≡ Ok r
+  pub on : concatenations_from m at o.0 (held depth (bits ++ o.1)) mid ≡ Ok r
 
 -- the other members of a concatenation were read, and reading goes on behind it
-record Closed (at : Site) (n depth : ℕ) (d : Draft) (ts : List Token) (bits : List Signal) (r : (Draft × Nest) × List Token) : Type 0 where
+record Closed (at : Site) (n depth : ℕ) (d : Draft) (ts : List Token) (bits : List Signal) (r : (Draft × OpenConcatenations) × List Token) : Type 0 where
   pub m : ℕ
   pub fewer : m < n
   pub others : Operand
   pub mid : List Token
   pub are : (e : Draft) (us : List Token) (first : List Signal) → IsExpression at (suc depth) e us (d, first) ts → AreMembers at depth e us (others.0, first ++ others.1) mid
-  pub on : nest_from m at others.0 (held depth (bits ++ others.1)) mid ≡ Ok r
+  pub on : concatenations_from m at others.0 (held depth (bits ++ others.1)) mid ≡ Ok r
 
 record Claims (most : ℕ) : Type 0 where
-  pub opened : (n : ℕ) → n ≤ most → (at : Site) (depth : ℕ) (d : Draft) (ts : List Token) (bits : List Signal) (r : (Draft × Nest) × List Token) →
-      nest_from n at d (awaiting depth bits) ts ≡ Ok r → Opened at n depth d ts bits r
-  pub closed : (n : ℕ) → n ≤ most → (at : Site) (depth : ℕ) (d : Draft) (ts : List Token) (bits : List Signal) (r : (Draft × Nest) × List Token) →
-      nest_from n at d (held (suc depth) bits) ts ≡ Ok r → Closed at n depth d ts bits r
+  pub opened : (n : ℕ) → n ≤ most → (at : Site) (depth : ℕ) (d : Draft) (ts : List Token) (bits : List Signal) (r : (Draft × OpenConcatenations) × List Token) →
+      concatenations_from n at d (awaiting depth bits) ts ≡ Ok r → Opened at n depth d ts bits r
+  pub closed : (n : ℕ) → n ≤ most → (at : Site) (depth : ℕ) (d : Draft) (ts : List Token) (bits : List Signal) (r : (Draft × OpenConcatenations) × List Token) →
+      concatenations_from n at d (held (suc depth) bits) ts ≡ Ok r → Closed at n depth d ts bits r
 
 -- ---- an expression
 
-concatenation : (most : ℕ) → Claims most → (n : ℕ) → n ≤ most → (at : Site) (depth : ℕ) (d : Draft) (ts : List Token) (bits : List Signal) (r : (Draft × Nest) × List Token) →
-    sees kind.OpenBrace ts ≡ true → nest_from n at d (awaiting (suc depth) bits) (next ts) ≡ Ok r → Opened at (suc n) depth d ts bits r
+concatenation : (most : ℕ) → Claims most → (n : ℕ) → n ≤ most → (at : Site) (depth : ℕ) (d : Draft) (ts : List Token) (bits : List Signal) (r : (Draft × OpenConcatenations) × List Token) →
+    sees kind.OpenBrace ts ≡ true → concatenations_from n at d (awaiting (suc depth) bits) (next ts) ≡ Ok r → Opened at (suc n) depth d ts bits r
 concatenation most claims n le at depth d ts bits r h e =
     let a = claims.opened n le at (suc depth) d (next ts) bits r e in
     let few : a.m ≤ most = omega (arith, a.fewer, le) in
@@ -49,11 +49,11 @@ concatenation most claims n le at depth d ts bits r h e =
       o = (b.others.0, a.o.1 ++ b.others.1);
       mid = b.mid;
       is = Concatenation (seen kind.OpenBrace ts h) (b.are d (next ts) a.o.1 a.is);
-      on = ap (λ (x : List Signal). nest_from b.m at b.others.0 (held depth x) b.mid) (sym (append_assoc bits a.o.1 b.others.1)) ∙ b.on;
+      on = ap (λ (x : List Signal). concatenations_from b.m at b.others.0 (held depth x) b.mid) (sym (append_assoc bits a.o.1 b.others.1)) ∙ b.on;
     }
 
-single : (n : ℕ) (at : Site) (depth : ℕ) (d : Draft) (ts : List Token) (bits : List Signal) (r : (Draft × Nest) × List Token) (x : Outcome Operand) →
-    sees kind.OpenBrace ts ≡ false → operand at depth d ts ≡ x → nest_from (suc n) at d (awaiting depth bits) ts ≡ Ok r → Opened at (suc n) depth d ts bits r
+single : (n : ℕ) (at : Site) (depth : ℕ) (d : Draft) (ts : List Token) (bits : List Signal) (r : (Draft × OpenConcatenations) × List Token) (x : Outcome Operand) →
+    sees kind.OpenBrace ts ≡ false → operand at depth d ts ≡ x → concatenations_from (suc n) at d (awaiting depth bits) ts ≡ Ok r → Opened at (suc n) depth d ts bits r
 single n at depth d ts bits r (Ok p) h is e = record {
   m = n;
   fewer = omega arith;
@@ -64,20 +64,20 @@ single n at depth d ts bits r (Ok p) h is e = record {
 }
 single n at depth d ts bits r (Err f) h is e = never f r (sym (operand_fails n at depth d ts bits f h is) ∙ e)
 
-opened_by : (most : ℕ) → Claims most → (n : ℕ) → n ≤ most → (at : Site) (depth : ℕ) (d : Draft) (ts : List Token) (bits : List Signal) (r : (Draft × Nest) × List Token) (b : Bool) →
-    sees kind.OpenBrace ts ≡ b → nest_from (suc n) at d (awaiting depth bits) ts ≡ Ok r → Opened at (suc n) depth d ts bits r
+opened_by : (most : ℕ) → Claims most → (n : ℕ) → n ≤ most → (at : Site) (depth : ℕ) (d : Draft) (ts : List Token) (bits : List Signal) (r : (Draft × OpenConcatenations) × List Token) (b : Bool) →
+    sees kind.OpenBrace ts ≡ b → concatenations_from (suc n) at d (awaiting depth bits) ts ≡ Ok r → Opened at (suc n) depth d ts bits r
 opened_by most claims n le at depth d ts bits r true h e = concatenation most claims n le at depth d ts bits r h (sym (brace_opens n at depth d ts bits h) ∙ e)
 opened_by most claims n le at depth d ts bits r false h e = single n at depth d ts bits r (operand at depth d ts) h refl e
 
-opened_step : (most : ℕ) → Claims most → (n : ℕ) → n ≤ suc most → (at : Site) (depth : ℕ) (d : Draft) (ts : List Token) (bits : List Signal) (r : (Draft × Nest) × List Token) →
-    nest_from n at d (awaiting depth bits) ts ≡ Ok r → Opened at n depth d ts bits r
+opened_step : (most : ℕ) → Claims most → (n : ℕ) → n ≤ suc most → (at : Site) (depth : ℕ) (d : Draft) (ts : List Token) (bits : List Signal) (r : (Draft × OpenConcatenations) × List Token) →
+    concatenations_from n at d (awaiting depth bits) ts ≡ Ok r → Opened at n depth d ts bits r
 opened_step most claims zero le at depth d ts bits r e = never (refusal ts) r (sym (stops at d (awaiting depth bits) ts) ∙ e)
 opened_step most claims (suc n) le at depth d ts bits r e = opened_by most claims n (omega (arith, le)) at depth d ts bits r (sees kind.OpenBrace ts) refl e
 
 -- ---- behind an expression
 
-another : (most : ℕ) → Claims most → (n : ℕ) → n ≤ most → (at : Site) (depth : ℕ) (d : Draft) (ts : List Token) (bits : List Signal) (r : (Draft × Nest) × List Token) →
-    sees kind.Comma ts ≡ true → nest_from n at d (awaiting (suc depth) bits) (next ts) ≡ Ok r → Closed at (suc n) depth d ts bits r
+another : (most : ℕ) → Claims most → (n : ℕ) → n ≤ most → (at : Site) (depth : ℕ) (d : Draft) (ts : List Token) (bits : List Signal) (r : (Draft × OpenConcatenations) × List Token) →
+    sees kind.Comma ts ≡ true → concatenations_from n at d (awaiting (suc depth) bits) (next ts) ≡ Ok r → Closed at (suc n) depth d ts bits r
 another most claims n le at depth d ts bits r h e =
     let a = claims.opened n le at (suc depth) d (next ts) bits r e in
     let few : a.m ≤ most = omega (arith, a.fewer, le) in
@@ -88,32 +88,32 @@ another most claims n le at depth d ts bits r h e =
       others = (b.others.0, a.o.1 ++ b.others.1);
       mid = b.mid;
       are = λ e us first is. More is (seen kind.Comma ts h) (b.are d (next ts) a.o.1 a.is);
-      on = ap (λ (x : List Signal). nest_from b.m at b.others.0 (held depth x) b.mid) (sym (append_assoc bits a.o.1 b.others.1)) ∙ b.on;
+      on = ap (λ (x : List Signal). concatenations_from b.m at b.others.0 (held depth x) b.mid) (sym (append_assoc bits a.o.1 b.others.1)) ∙ b.on;
     }
 
-last : (n : ℕ) (at : Site) (depth : ℕ) (d : Draft) (ts : List Token) (bits : List Signal) (r : (Draft × Nest) × List Token) →
-    sees kind.CloseBrace ts ≡ true → nest_from n at d (held depth bits) (next ts) ≡ Ok r → Closed at (suc n) depth d ts bits r
+last : (n : ℕ) (at : Site) (depth : ℕ) (d : Draft) (ts : List Token) (bits : List Signal) (r : (Draft × OpenConcatenations) × List Token) →
+    sees kind.CloseBrace ts ≡ true → concatenations_from n at d (held depth bits) (next ts) ≡ Ok r → Closed at (suc n) depth d ts bits r
 last n at depth d ts bits r c e = record {
   m = n;
   fewer = omega arith;
   others = (d, []);
   mid = next ts;
   are = λ e us first is. subst (λ (x : List Signal). AreMembers at depth e us (d, x) (next ts)) (sym (append-nil first)) (Last is (seen kind.CloseBrace ts c));
-  on = ap (λ (x : List Signal). nest_from n at d (held depth x) (next ts)) (append-nil bits) ∙ e;
+  on = ap (λ (x : List Signal). concatenations_from n at d (held depth x) (next ts)) (append-nil bits) ∙ e;
 }
 
-closed_or : (n : ℕ) (at : Site) (depth : ℕ) (d : Draft) (ts : List Token) (bits : List Signal) (r : (Draft × Nest) × List Token) (b : Bool) →
-    sees kind.Comma ts ≡ false → sees kind.CloseBrace ts ≡ b → nest_from (suc n) at d (held (suc depth) bits) ts ≡ Ok r → Closed at (suc n) depth d ts bits r
+closed_or : (n : ℕ) (at : Site) (depth : ℕ) (d : Draft) (ts : List Token) (bits : List Signal) (r : (Draft × OpenConcatenations) × List Token) (b : Bool) →
+    sees kind.Comma ts ≡ false → sees kind.CloseBrace ts ≡ b → concatenations_from (suc n) at d (held (suc depth) bits) ts ≡ Ok r → Closed at (suc n) depth d ts bits r
 closed_or n at depth d ts bits r true h c e = last n at depth d ts bits r c (sym (brace_closes n at depth d ts bits h c) ∙ e)
 closed_or n at depth d ts bits r false h c e = never (refusal ts) r (sym (neither n at depth d ts bits h c) ∙ e)
 
-closed_by : (most : ℕ) → Claims most → (n : ℕ) → n ≤ most → (at : Site) (depth : ℕ) (d : Draft) (ts : List Token) (bits : List Signal) (r : (Draft × Nest) × List Token) (b : Bool) →
-    sees kind.Comma ts ≡ b → nest_from (suc n) at d (held (suc depth) bits) ts ≡ Ok r → Closed at (suc n) depth d ts bits r
+closed_by : (most : ℕ) → Claims most → (n : ℕ) → n ≤ most → (at : Site) (depth : ℕ) (d : Draft) (ts : List Token) (bits : List Signal) (r : (Draft × OpenConcatenations) × List Token) (b : Bool) →
+    sees kind.Comma ts ≡ b → concatenations_from (suc n) at d (held (suc depth) bits) ts ≡ Ok r → Closed at (suc n) depth d ts bits r
 closed_by most claims n le at depth d ts bits r true h e = another most claims n le at depth d ts bits r h (sym (comma_goes n at depth d ts bits h) ∙ e)
 closed_by most claims n le at depth d ts bits r false h e = closed_or n at depth d ts bits r (sees kind.CloseBrace ts) h refl e
 
-closed_step : (most : ℕ) → Claims most → (n : ℕ) → n ≤ suc most → (at : Site) (depth : ℕ) (d : Draft) (ts : List Token) (bits : List Signal) (r : (Draft × Nest) × List Token) →
-    nest_from n at d (held (suc depth) bits) ts ≡ Ok r → Closed at n depth d ts bits r
+closed_step : (most : ℕ) → Claims most → (n : ℕ) → n ≤ suc most → (at : Site) (depth : ℕ) (d : Draft) (ts : List Token) (bits : List Signal) (r : (Draft × OpenConcatenations) × List Token) →
+    concatenations_from n at d (held (suc depth) bits) ts ≡ Ok r → Closed at n depth d ts bits r
 closed_step most claims zero le at depth d ts bits r e = never (refusal ts) r (sym (stops at d (held (suc depth) bits) ts) ∙ e)
 closed_step most claims (suc n) le at depth d ts bits r e = closed_by most claims n (omega (arith, le)) at depth d ts bits r (sees kind.Comma ts) refl e
 
@@ -124,14 +124,14 @@ none n le = omega (arith, le)
 
 nothing : Claims zero
 nothing = record {
-  opened = λ n le at depth d ts bits r e. never (refusal ts) r (sym (stops at d (awaiting depth bits) ts) ∙ ap (λ (k : ℕ). nest_from k at d (awaiting depth bits) ts) (none n le) ∙ e);
-  closed = λ n le at depth d ts bits r e. never (refusal ts) r (sym (stops at d (held (suc depth) bits) ts) ∙ ap (λ (k : ℕ). nest_from k at d (held (suc depth) bits) ts) (none n le) ∙ e);
+  opened = λ n le at depth d ts bits r e. never (refusal ts) r (sym (stops at d (awaiting depth bits) ts) ∙ ap (λ (k : ℕ). concatenations_from k at d (awaiting depth bits) ts) (none n le) ∙ e);
+  closed = λ n le at depth d ts bits r e. never (refusal ts) r (sym (stops at d (held (suc depth) bits) ts) ∙ ap (λ (k : ℕ). concatenations_from k at d (held (suc depth) bits) ts) (none n le) ∙ e);
 }
 
 claims : (most : ℕ) → Claims most
 claims zero = nothing
 claims (suc most) = record { opened = opened_step most (claims most); closed = closed_step most (claims most) }
 
-pub opened : (n : ℕ) (at : Site) (depth : ℕ) (d : Draft) (ts : List Token) (bits : List Signal) (r : (Draft × Nest) × List Token) →
-    nest_from n at d (awaiting depth bits) ts ≡ Ok r → Opened at n depth d ts bits r
+pub opened : (n : ℕ) (at : Site) (depth : ℕ) (d : Draft) (ts : List Token) (bits : List Signal) (r : (Draft × OpenConcatenations) × List Token) →
+    concatenations_from n at d (awaiting depth bits) ts ≡ Ok r → Opened at n depth d ts bits r
 opened n = (claims n).opened n (le_refl n)

@@ -6,8 +6,8 @@ use Rattle.dft_netlist_text.specs.declared.text.TokenKind.TheVariants as kind
 use Rattle.dft_netlist_text.specs.Lexemes.{Token}
 use Rattle.dft_netlist_text.specs.Modules.{Draft}
 use Rattle.dft_netlist_text.specs.Steps.{kind_of, next}
-use Rattle.dft_netlist_text.specs.Expressions.{Operand, nest_from, operand}
-use Rattle.dft_netlist_laws.specs.Nesting.{IsExpression, Single, Concatenation, AreMembers, Last, More}
+use Rattle.dft_netlist_text.specs.Expressions.{Operand, concatenations_from, operand}
+use Rattle.dft_netlist_laws.specs.Concatenations.{IsExpression, Single, Concatenation, AreMembers, Last, More}
 use Rattle.dft_netlist_laws.proofs.NextTokens.{sees_by, open_open, comma_comma, close_comma, close_close, end_open, end_comma, end_close, begins_operand}
 use Rattle.dft_netlist_laws.proofs.Steps.{awaiting, held, brace_opens, operand_comes, comma_goes, brace_closes}
 use Rattle.dft_netlist_laws.proofs.Shrinking.{Below, operand_takes, taken}
@@ -16,13 +16,13 @@ use Rattle.dft_netlist_laws.proofs.Shrinking.{Below, operand_takes, taken}
 pub record Reads (at : Site) (depth : ℕ) (d : Draft) (ts : List Token) (o : Operand) (mid : List Token) : Type 0 where
   pub turns : ℕ
   pub few : turns + length mid ≤ length ts
-  pub on : (bits : List Signal) (n : ℕ) → nest_from (turns + n) at d (awaiting depth bits) ts ≡ nest_from n at o.0 (held depth (bits ++ o.1)) mid
+  pub on : (bits : List Signal) (n : ℕ) → concatenations_from (turns + n) at d (awaiting depth bits) ts ≡ concatenations_from n at o.0 (held depth (bits ++ o.1)) mid
 
 -- and so are the members of a concatenation, up to the brace that closes it
 record ReadsAll (at : Site) (depth : ℕ) (d : Draft) (ts : List Token) (o : Operand) (mid : List Token) : Type 0 where
   pub turns : ℕ
   pub few : turns + length mid ≤ length ts
-  pub on : (bits : List Signal) (n : ℕ) → nest_from (turns + n) at d (awaiting (suc depth) bits) ts ≡ nest_from n at o.0 (held depth (bits ++ o.1)) mid
+  pub on : (bits : List Signal) (n : ℕ) → concatenations_from (turns + n) at d (awaiting (suc depth) bits) ts ≡ concatenations_from n at o.0 (held depth (bits ++ o.1)) mid
 
 -- ---- turns
 
@@ -44,7 +44,7 @@ single : (at : Site) (depth : ℕ) (d : Draft) (ts rest : List Token) (o : Opera
 single at depth d ts rest o is = record {
   turns = 1;
   few = omega (arith, subst (Below (length ts)) is (operand_takes at depth d ts));
-  on = λ bits n. ap (λ (k : ℕ). nest_from k at d (awaiting depth bits) ts) (one n) ∙ operand_comes n at depth d ts rest bits o (begins_operand at depth d ts o rest is) is;
+  on = λ bits n. ap (λ (k : ℕ). concatenations_from k at d (awaiting depth bits) ts) (one n) ∙ operand_comes n at depth d ts rest bits o (begins_operand at depth d ts o rest is) is;
 }
 
 concatenation : (at : Site) (depth : ℕ) (d : Draft) (ts rest : List Token) (o : Operand) → kind_of ts ≡ kind.OpenBrace → ReadsAll at depth d (next ts) o rest → Reads at depth d ts o rest
@@ -53,7 +53,7 @@ concatenation at depth d ts rest o is all =
     record {
       turns = suc all.turns;
       few = omega (arith, all.few, taken kind.OpenBrace ts end_open opens);
-      on = λ bits n. ap (λ (k : ℕ). nest_from k at d (awaiting depth bits) ts) (first all.turns n) ∙ brace_opens (all.turns + n) at depth d ts bits opens ∙ all.on bits n;
+      on = λ bits n. ap (λ (k : ℕ). concatenations_from k at d (awaiting depth bits) ts) (first all.turns n) ∙ brace_opens (all.turns + n) at depth d ts bits opens ∙ all.on bits n;
     }
 
 -- ---- members
@@ -65,7 +65,7 @@ last at depth d ts rest o r is =
     record {
       turns = r.turns + 1;
       few = omega (arith, r.few, taken kind.CloseBrace rest end_close closes);
-      on = λ bits n. ap (λ (k : ℕ). nest_from k at d (awaiting (suc depth) bits) ts) (behind r.turns n) ∙ r.on bits (suc n) ∙ brace_closes n at depth o.0 rest (bits ++ o.1) none closes;
+      on = λ bits n. ap (λ (k : ℕ). concatenations_from k at d (awaiting (suc depth) bits) ts) (behind r.turns n) ∙ r.on bits (suc n) ∙ brace_closes n at depth o.0 rest (bits ++ o.1) none closes;
     }
 
 more : (at : Site) (depth : ℕ) (d : Draft) (ts rest mid : List Token) (o others : Operand) → Reads at (suc depth) d ts o rest → kind_of rest ≡ kind.Comma → ReadsAll at depth o.0 (next rest) others mid →
@@ -76,11 +76,11 @@ more at depth d ts rest mid o others r is all =
       turns = r.turns + suc all.turns;
       few = omega (arith, r.few, all.few, taken kind.Comma rest end_comma comma);
       on = λ bits n.
-          ap (λ (k : ℕ). nest_from k at d (awaiting (suc depth) bits) ts) (between r.turns all.turns n)
+          ap (λ (k : ℕ). concatenations_from k at d (awaiting (suc depth) bits) ts) (between r.turns all.turns n)
           ∙ r.on bits (suc (all.turns + n))
           ∙ comma_goes (all.turns + n) at depth o.0 rest (bits ++ o.1) comma
           ∙ all.on (bits ++ o.1) n
-          ∙ ap (λ (x : List Signal). nest_from n at others.0 (held depth x) mid) (append_assoc bits o.1 others.1);
+          ∙ ap (λ (x : List Signal). concatenations_from n at others.0 (held depth x) mid) (append_assoc bits o.1 others.1);
     }
 
 -- ---- both

@@ -7,8 +7,8 @@ use Rattle.dft_netlist_text.specs.declared.text.TokenKind.TheVariants as kind
 use Rattle.dft_netlist_text.specs.Lexemes.{Token, tokens}
 use Rattle.dft_netlist_text.specs.Modules.{Draft}
 use Rattle.dft_netlist_text.specs.Steps.{Outcome, kind_of, left, refusal}
-use Rattle.dft_netlist_text.specs.Expressions.{Operand, Nest, unread, nest_from, may_follow, followed, expression}
-use Rattle.dft_netlist_laws.specs.Nesting.{IsExpression, Single, Concatenation, ConcatenationsNest}
+use Rattle.dft_netlist_text.specs.Expressions.{Operand, OpenConcatenations, unread, concatenations_from, may_follow, followed, expression}
+use Rattle.dft_netlist_laws.specs.Concatenations.{IsExpression, Single, Concatenation, ConcatenationsNest}
 use Rattle.dft_netlist_laws.proofs.NextTokens.{Fronts, operand_fronts}
 use Rattle.dft_netlist_laws.proofs.Steps.{awaiting, held, never, stops, reads, same_value}
 use Rattle.dft_netlist_laws.proofs.Reading.{opened}
@@ -17,10 +17,10 @@ use Rattle.dft_netlist_laws.proofs.Tails.{enough}
 
 -- ---- what follows
 
-behind : Site → Outcome (Draft × Nest) → Outcome Operand
+behind : Site → Outcome (Draft × OpenConcatenations) → Outcome Operand
 behind at o = and_then o (λ p us. and_then (followed at 0 us) (λ _ vs. Ok ((p.0, p.1.bits), vs)))
 
-expression_is : (at : Site) (d : Draft) (ts : List Token) → expression at d ts ≡ behind at (nest_from (suc (left ts)) at d unread ts)
+expression_is : (at : Site) (d : Draft) (ts : List Token) → expression at d ts ≡ behind at (concatenations_from (suc (left ts)) at d unread ts)
 unfolding expression behind
 expression_is at d ts = refl
 
@@ -32,11 +32,11 @@ may_not : (at : Site) (vs : List Token) → may_follow at 0 (kind_of vs) ≡ fal
 unfolding followed
 may_not at vs e = ap (λ (t : Bool). cond t (Ok (tt, vs)) (Err (refusal vs))) e
 
-passes : (at : Site) (p : Draft × Nest) (vs : List Token) → may_follow at 0 (kind_of vs) ≡ true → behind at (Ok (p, vs)) ≡ Ok ((p.0, p.1.bits), vs)
+passes : (at : Site) (p : Draft × OpenConcatenations) (vs : List Token) → may_follow at 0 (kind_of vs) ≡ true → behind at (Ok (p, vs)) ≡ Ok ((p.0, p.1.bits), vs)
 unfolding behind
 passes at p vs e = ap (λ (x : Outcome (Unit {0})). and_then x (λ _ ws. Ok ((p.0, p.1.bits), ws))) (may at vs e)
 
-stays : (at : Site) (p : Draft × Nest) (vs : List Token) → may_follow at 0 (kind_of vs) ≡ false → behind at (Ok (p, vs)) ≡ Err (refusal vs)
+stays : (at : Site) (p : Draft × OpenConcatenations) (vs : List Token) → may_follow at 0 (kind_of vs) ≡ false → behind at (Ok (p, vs)) ≡ Err (refusal vs)
 unfolding behind
 stays at p vs e = ap (λ (x : Outcome (Unit {0})). and_then x (λ _ ws. Ok ((p.0, p.1.bits), ws))) (may_not at vs e)
 
@@ -49,8 +49,8 @@ fails at f = refl
 abbrev IsRead : (at : Site) (d : Draft) (ts : List Token) (o : Operand) (rest : List Token) → Type 0
 IsRead at d ts o rest = IsExpression at 0 d ts o rest × (may_follow at 0 (kind_of rest) ≡ true)
 
-ended : (at : Site) (d : Draft) (ts : List Token) (r : (Draft × Nest) × List Token) (m : ℕ) (o : Operand) (mid : List Token) →
-    nest_from m at o.0 (held 0 o.1) mid ≡ Ok r → ((o.0, held 0 o.1), mid) ≡ r
+ended : (at : Site) (d : Draft) (ts : List Token) (r : (Draft × OpenConcatenations) × List Token) (m : ℕ) (o : Operand) (mid : List Token) →
+    concatenations_from m at o.0 (held 0 o.1) mid ≡ Ok r → ((o.0, held 0 o.1), mid) ≡ r
 ended at d ts r zero o mid e = never (refusal mid) r (sym (stops at o.0 (held 0 o.1) mid) ∙ e)
 ended at d ts r (suc m) o mid e = same_value ((o.0, held 0 o.1), mid) r (sym (reads m at o.0 mid o.1) ∙ e)
 
@@ -61,16 +61,16 @@ following at d ts mid p o rest true may is e =
     subst (λ (q : Operand × List Token). IsRead at d ts q.0 q.1) same (is, may)
 following at d ts mid p o rest false may is e = never (refusal mid) (o, rest) (sym (stays at (p.0, held 0 p.1) mid may) ∙ e)
 
-read_by : (at : Site) (d : Draft) (ts : List Token) (o : Operand) (rest : List Token) (x : Outcome (Draft × Nest)) → nest_from (suc (left ts)) at d (awaiting 0 []) ts ≡ x →
+read_by : (at : Site) (d : Draft) (ts : List Token) (o : Operand) (rest : List Token) (x : Outcome (Draft × OpenConcatenations)) → concatenations_from (suc (left ts)) at d (awaiting 0 []) ts ≡ x →
     behind at x ≡ Ok (o, rest) → IsRead at d ts o rest
 read_by at d ts o rest (Err f) is e = never f (o, rest) (sym (fails at f) ∙ e)
 read_by at d ts o rest (Ok r) is e =
     let a = opened (suc (left ts)) at 0 d ts [] r is in
     following at d ts a.mid a.o o rest (may_follow at 0 (kind_of a.mid)) refl a.is
-    (ap (λ (q : (Draft × Nest) × List Token). behind at (Ok q)) (ended at d ts r a.m a.o a.mid a.on) ∙ e)
+    (ap (λ (q : (Draft × OpenConcatenations) × List Token). behind at (Ok q)) (ended at d ts r a.m a.o a.mid a.on) ∙ e)
 
 is_read : (at : Site) (d : Draft) (ts : List Token) (o : Operand) (rest : List Token) → expression at d ts ≡ Ok (o, rest) → IsRead at d ts o rest
-is_read at d ts o rest e = read_by at d ts o rest (nest_from (suc (left ts)) at d (awaiting 0 []) ts) refl (sym (expression_is at d ts) ∙ e)
+is_read at d ts o rest e = read_by at d ts o rest (concatenations_from (suc (left ts)) at d (awaiting 0 []) ts) refl (sym (expression_is at d ts) ∙ e)
 
 -- ---- an expression is read
 
@@ -89,8 +89,8 @@ read_whole : (at : Site) (d : Draft) (ts : List Token) (o : Operand) (rest : Lis
     expression at d ts ≡ Ok (o, rest)
 read_whole at d ts o rest room may r =
     expression_is at d ts
-    ∙ ap (λ (k : ℕ). behind at (nest_from k at d (awaiting 0 []) ts)) (turns_left r.turns (left ts) (omega (arith, room, r.few)))
-    ∙ ap (λ (x : Outcome (Draft × Nest)). behind at x) (r.on [] (suc (left ts - r.turns)) ∙ reads (left ts - r.turns) at o.0 rest o.1)
+    ∙ ap (λ (k : ℕ). behind at (concatenations_from k at d (awaiting 0 []) ts)) (turns_left r.turns (left ts) (omega (arith, room, r.few)))
+    ∙ ap (λ (x : Outcome (Draft × OpenConcatenations)). behind at x) (r.on [] (suc (left ts - r.turns)) ∙ reads (left ts - r.turns) at o.0 rest o.1)
     ∙ passes at (o.0, held 0 o.1) rest may
 
 pub concatenations_nest : ConcatenationsNest

@@ -6,9 +6,9 @@ use Rattle.dft_base.specs.Lexing.{place_after, next_place}
 use Rattle.dft_netlist_text.specs.declared.text.Cause.TheVariants as cause
 use Rattle.dft_netlist_text.specs.Lexemes.{comment_rest, attribute_rest, blank_len, begins_blank, to_blank, word_kind, mark_kind, escaped, quote, directive, lexeme}
 use Rattle.dft_netlist_text.specs.Steps.{kind_of, bytes, left, next, same_kind, sees, refusal, expect, after}
-use Rattle.dft_netlist_text.specs.Expressions.{number, rest_of_range, range, range_if_any, digits, constant, followed, rest_of_select, selection, named_operand, constant_operand, operand, opening, closing, nest_from, expression}
-use Rattle.dft_netlist_text.specs.Items.{declared_name, declared_names_from, declared_names, declaration, port_item, wire_item, right_side, assignment, assignments_from, assignments, assign_item, terminal, inputs_from, inputs, terminals, named_gate, unnamed_gate, one_gate, gates_from, gates, gate_item, pin_name, pin_signal, pin_content, connection, connections_from, some_connections, connections, instance, instances_from, instances, cell_item, item, items_from, items}
-use Rattle.dft_netlist_text.specs.NetlistText.{announced_name, announced_names_from, announced_names, new_port, facing_of, facing, new_ports_from, new_ports, header_names, header, heading, module_end, end_of_text, module_text, module_of}
+use Rattle.dft_netlist_text.specs.Expressions.{number, rest_of_range, range, range_if_any, digits, constant, followed, rest_of_select, selection, named_operand, constant_operand, operand, opening, closing, concatenations_from, expression}
+use Rattle.dft_netlist_text.specs.Items.{declared_name, declared_names_from, declared_names, declaration, port_item, wire_item, right_side, net_assignment, net_assignments_from, net_assignments, assign_item, terminal, input_terminals_from, input_terminals, terminals, named_gate, unnamed_gate, one_gate, gates_from, gates, gate_item, connected_pin, pin_signal, pin_content, named_connection, named_connections_from, named_connections, connections, instance, instances_from, instances, cell_item, item, items_from, items}
+use Rattle.dft_netlist_text.specs.NetlistText.{announced_name, announced_names_from, announced_names, declared_port, port_declaration_of, port_declaration, declared_ports_from, declared_ports, header_names, header, heading, module_end, end_of_text, module_text, module_of}
 use Rattle.dft_netlist_text.proofs.Outcomes.{outcome, refused}
 
 pub gates_1 :
@@ -20,7 +20,7 @@ pub gates_1 :
     × (outcome (codes "module m (a); input a; and (y,a,a,a,a,a,a,a,a,{a,a}); endmodule") ≡ refused cause.Misfit 1 47)
     × (outcome (codes "module m (a); input a; and g (y,a,a,a,a,a,a,a,a,a); endmodule") ≡ refused cause.Misfit 1 30)
     × (outcome (codes "module m (a); input a; not (y,a,a); endmodule") ≡ refused cause.Misfit 1 28)
-unfolding comment_rest attribute_rest blank_len begins_blank to_blank word_kind mark_kind escaped quote directive lexeme kind_of bytes left next same_kind sees refusal expect after number rest_of_range range range_if_any digits constant followed rest_of_select selection named_operand constant_operand operand opening closing nest_from expression declared_name declared_names_from declared_names declaration port_item wire_item right_side assignment assignments_from assignments assign_item terminal inputs_from inputs terminals named_gate unnamed_gate one_gate gates_from gates gate_item pin_name pin_signal pin_content connection connections_from some_connections connections instance instances_from instances cell_item item items_from items announced_name announced_names_from announced_names new_port facing_of facing new_ports_from new_ports header_names header heading module_end end_of_text module_text module_of place_after next_place words.reserved_words fmt.digits
+unfolding comment_rest attribute_rest blank_len begins_blank to_blank word_kind mark_kind escaped quote directive lexeme kind_of bytes left next same_kind sees refusal expect after number rest_of_range range range_if_any digits constant followed rest_of_select selection named_operand constant_operand operand opening closing concatenations_from expression declared_name declared_names_from declared_names declaration port_item wire_item right_side net_assignment net_assignments_from net_assignments assign_item terminal input_terminals_from input_terminals terminals named_gate unnamed_gate one_gate gates_from gates gate_item connected_pin pin_signal pin_content named_connection named_connections_from named_connections connections instance instances_from instances cell_item item items_from items announced_name announced_names_from announced_names declared_port port_declaration_of port_declaration declared_ports_from declared_ports header_names header heading module_end end_of_text module_text module_of place_after next_place words.reserved_words fmt.digits
 gates_1 = (refl, refl, refl, refl, refl, refl, refl, refl)
 
 pub gates_2 :
@@ -32,7 +32,7 @@ pub gates_2 :
     × (outcome (codes "module m (a); input a; and #1 (y,a); endmodule") ≡ refused (cause.Unsupported (codes "#1")) 1 28)
     × (outcome (codes "module m (a); input a; and (y a); endmodule") ≡ refused cause.Token 1 31)
     × (outcome (codes "module m (a); input a; and (y,{a,a},zz[0]); endmodule") ≡ refused cause.Misfit 1 31)
-unfolding comment_rest attribute_rest blank_len begins_blank to_blank word_kind mark_kind escaped quote directive lexeme kind_of bytes left next same_kind sees refusal expect after number rest_of_range range range_if_any digits constant followed rest_of_select selection named_operand constant_operand operand opening closing nest_from expression declared_name declared_names_from declared_names declaration port_item wire_item right_side assignment assignments_from assignments assign_item terminal inputs_from inputs terminals named_gate unnamed_gate one_gate gates_from gates gate_item pin_name pin_signal pin_content connection connections_from some_connections connections instance instances_from instances cell_item item items_from items announced_name announced_names_from announced_names new_port facing_of facing new_ports_from new_ports header_names header heading module_end end_of_text module_text module_of place_after next_place words.reserved_words fmt.digits
+unfolding comment_rest attribute_rest blank_len begins_blank to_blank word_kind mark_kind escaped quote directive lexeme kind_of bytes left next same_kind sees refusal expect after number rest_of_range range range_if_any digits constant followed rest_of_select selection named_operand constant_operand operand opening closing concatenations_from expression declared_name declared_names_from declared_names declaration port_item wire_item right_side net_assignment net_assignments_from net_assignments assign_item terminal input_terminals_from input_terminals terminals named_gate unnamed_gate one_gate gates_from gates gate_item connected_pin pin_signal pin_content named_connection named_connections_from named_connections connections instance instances_from instances cell_item item items_from items announced_name announced_names_from announced_names declared_port port_declaration_of port_declaration declared_ports_from declared_ports header_names header heading module_end end_of_text module_text module_of place_after next_place words.reserved_words fmt.digits
 gates_2 = (refl, refl, refl, refl, refl, refl, refl, refl)
 
 pub gates_3 :
@@ -42,5 +42,5 @@ pub gates_3 :
     × (outcome (codes "module m (a); input a; and g (y,a),; endmodule") ≡ refused cause.Token 1 36)
     × (outcome (codes "module m (a); input a; and \\and (y,a); endmodule") ≡ None)
     × (outcome (codes "module m (a); input a; xnor (y,a); xor (z,a,a); nor (w,a); nand (v,a); or (t,a); buf (s,a); not (r,a); endmodule") ≡ None)
-unfolding comment_rest attribute_rest blank_len begins_blank to_blank word_kind mark_kind escaped quote directive lexeme kind_of bytes left next same_kind sees refusal expect after number rest_of_range range range_if_any digits constant followed rest_of_select selection named_operand constant_operand operand opening closing nest_from expression declared_name declared_names_from declared_names declaration port_item wire_item right_side assignment assignments_from assignments assign_item terminal inputs_from inputs terminals named_gate unnamed_gate one_gate gates_from gates gate_item pin_name pin_signal pin_content connection connections_from some_connections connections instance instances_from instances cell_item item items_from items announced_name announced_names_from announced_names new_port facing_of facing new_ports_from new_ports header_names header heading module_end end_of_text module_text module_of place_after next_place words.reserved_words fmt.digits
+unfolding comment_rest attribute_rest blank_len begins_blank to_blank word_kind mark_kind escaped quote directive lexeme kind_of bytes left next same_kind sees refusal expect after number rest_of_range range range_if_any digits constant followed rest_of_select selection named_operand constant_operand operand opening closing concatenations_from expression declared_name declared_names_from declared_names declaration port_item wire_item right_side net_assignment net_assignments_from net_assignments assign_item terminal input_terminals_from input_terminals terminals named_gate unnamed_gate one_gate gates_from gates gate_item connected_pin pin_signal pin_content named_connection named_connections_from named_connections connections instance instances_from instances cell_item item items_from items announced_name announced_names_from announced_names declared_port port_declaration_of port_declaration declared_ports_from declared_ports header_names header heading module_end end_of_text module_text module_of place_after next_place words.reserved_words fmt.digits
 gates_3 = (refl, refl, refl, refl, refl, refl)

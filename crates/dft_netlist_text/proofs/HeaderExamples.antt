@@ -6,9 +6,9 @@ use Rattle.dft_base.specs.Lexing.{place_after, next_place}
 use Rattle.dft_netlist_text.specs.declared.text.Cause.TheVariants as cause
 use Rattle.dft_netlist_text.specs.Lexemes.{comment_rest, attribute_rest, blank_len, begins_blank, to_blank, word_kind, mark_kind, escaped, quote, directive, lexeme}
 use Rattle.dft_netlist_text.specs.Steps.{kind_of, bytes, left, next, same_kind, sees, refusal, expect, after}
-use Rattle.dft_netlist_text.specs.Expressions.{number, rest_of_range, range, range_if_any, digits, constant, followed, rest_of_select, selection, named_operand, constant_operand, operand, opening, closing, nest_from, expression}
-use Rattle.dft_netlist_text.specs.Items.{declared_name, declared_names_from, declared_names, declaration, port_item, wire_item, right_side, assignment, assignments_from, assignments, assign_item, terminal, inputs_from, inputs, terminals, named_gate, unnamed_gate, one_gate, gates_from, gates, gate_item, pin_name, pin_signal, pin_content, connection, connections_from, some_connections, connections, instance, instances_from, instances, cell_item, item, items_from, items}
-use Rattle.dft_netlist_text.specs.NetlistText.{announced_name, announced_names_from, announced_names, new_port, facing_of, facing, new_ports_from, new_ports, header_names, header, heading, module_end, end_of_text, module_text, module_of}
+use Rattle.dft_netlist_text.specs.Expressions.{number, rest_of_range, range, range_if_any, digits, constant, followed, rest_of_select, selection, named_operand, constant_operand, operand, opening, closing, concatenations_from, expression}
+use Rattle.dft_netlist_text.specs.Items.{declared_name, declared_names_from, declared_names, declaration, port_item, wire_item, right_side, net_assignment, net_assignments_from, net_assignments, assign_item, terminal, input_terminals_from, input_terminals, terminals, named_gate, unnamed_gate, one_gate, gates_from, gates, gate_item, connected_pin, pin_signal, pin_content, named_connection, named_connections_from, named_connections, connections, instance, instances_from, instances, cell_item, item, items_from, items}
+use Rattle.dft_netlist_text.specs.NetlistText.{announced_name, announced_names_from, announced_names, declared_port, port_declaration_of, port_declaration, declared_ports_from, declared_ports, header_names, header, heading, module_end, end_of_text, module_text, module_of}
 use Rattle.dft_netlist_text.proofs.Outcomes.{outcome, refused}
 
 pub headers_1 :
@@ -20,7 +20,7 @@ pub headers_1 :
     × (outcome (codes "module inout;") ≡ refused cause.Inout 1 8)
     × (outcome (codes "module \\m;n") ≡ refused cause.Ended 1 12)
     × (outcome (codes "module m; endmodule ;") ≡ refused cause.Token 1 21)
-unfolding comment_rest attribute_rest blank_len begins_blank to_blank word_kind mark_kind escaped quote directive lexeme kind_of bytes left next same_kind sees refusal expect after number rest_of_range range range_if_any digits constant followed rest_of_select selection named_operand constant_operand operand opening closing nest_from expression declared_name declared_names_from declared_names declaration port_item wire_item right_side assignment assignments_from assignments assign_item terminal inputs_from inputs terminals named_gate unnamed_gate one_gate gates_from gates gate_item pin_name pin_signal pin_content connection connections_from some_connections connections instance instances_from instances cell_item item items_from items announced_name announced_names_from announced_names new_port facing_of facing new_ports_from new_ports header_names header heading module_end end_of_text module_text module_of place_after next_place words.reserved_words fmt.digits
+unfolding comment_rest attribute_rest blank_len begins_blank to_blank word_kind mark_kind escaped quote directive lexeme kind_of bytes left next same_kind sees refusal expect after number rest_of_range range range_if_any digits constant followed rest_of_select selection named_operand constant_operand operand opening closing concatenations_from expression declared_name declared_names_from declared_names declaration port_item wire_item right_side net_assignment net_assignments_from net_assignments assign_item terminal input_terminals_from input_terminals terminals named_gate unnamed_gate one_gate gates_from gates gate_item connected_pin pin_signal pin_content named_connection named_connections_from named_connections connections instance instances_from instances cell_item item items_from items announced_name announced_names_from announced_names declared_port port_declaration_of port_declaration declared_ports_from declared_ports header_names header heading module_end end_of_text module_text module_of place_after next_place words.reserved_words fmt.digits
 headers_1 = (refl, refl, refl, refl, refl, refl, refl, refl)
 
 pub headers_2 :
@@ -32,7 +32,7 @@ pub headers_2 :
     × (outcome (codes "module m (,a);") ≡ refused cause.Token 1 11)
     × (outcome (codes "module m (input a,);") ≡ refused cause.Token 1 19)
     × (outcome (codes "module m (input a, wire b);") ≡ refused (cause.Unsupported (codes "wire")) 1 20)
-unfolding comment_rest attribute_rest blank_len begins_blank to_blank word_kind mark_kind escaped quote directive lexeme kind_of bytes left next same_kind sees refusal expect after number rest_of_range range range_if_any digits constant followed rest_of_select selection named_operand constant_operand operand opening closing nest_from expression declared_name declared_names_from declared_names declaration port_item wire_item right_side assignment assignments_from assignments assign_item terminal inputs_from inputs terminals named_gate unnamed_gate one_gate gates_from gates gate_item pin_name pin_signal pin_content connection connections_from some_connections connections instance instances_from instances cell_item item items_from items announced_name announced_names_from announced_names new_port facing_of facing new_ports_from new_ports header_names header heading module_end end_of_text module_text module_of place_after next_place words.reserved_words fmt.digits
+unfolding comment_rest attribute_rest blank_len begins_blank to_blank word_kind mark_kind escaped quote directive lexeme kind_of bytes left next same_kind sees refusal expect after number rest_of_range range range_if_any digits constant followed rest_of_select selection named_operand constant_operand operand opening closing concatenations_from expression declared_name declared_names_from declared_names declaration port_item wire_item right_side net_assignment net_assignments_from net_assignments assign_item terminal input_terminals_from input_terminals terminals named_gate unnamed_gate one_gate gates_from gates gate_item connected_pin pin_signal pin_content named_connection named_connections_from named_connections connections instance instances_from instances cell_item item items_from items announced_name announced_names_from announced_names declared_port port_declaration_of port_declaration declared_ports_from declared_ports header_names header heading module_end end_of_text module_text module_of place_after next_place words.reserved_words fmt.digits
 headers_2 = (refl, refl, refl, refl, refl, refl, refl, refl)
 
 pub headers_3 :
@@ -44,7 +44,7 @@ pub headers_3 :
     × (outcome (codes "module m (\\a[0] , a); input [1:0] a; endmodule") ≡ refused (cause.Taken (codes "a[0]")) 1 35)
     × (outcome (codes "module m (\\a[0] , a); input \\a[0] ; input a; endmodule") ≡ None)
     × (outcome (codes "module m (input a, output a);") ≡ refused (cause.Taken (codes "a")) 1 27)
-unfolding comment_rest attribute_rest blank_len begins_blank to_blank word_kind mark_kind escaped quote directive lexeme kind_of bytes left next same_kind sees refusal expect after number rest_of_range range range_if_any digits constant followed rest_of_select selection named_operand constant_operand operand opening closing nest_from expression declared_name declared_names_from declared_names declaration port_item wire_item right_side assignment assignments_from assignments assign_item terminal inputs_from inputs terminals named_gate unnamed_gate one_gate gates_from gates gate_item pin_name pin_signal pin_content connection connections_from some_connections connections instance instances_from instances cell_item item items_from items announced_name announced_names_from announced_names new_port facing_of facing new_ports_from new_ports header_names header heading module_end end_of_text module_text module_of place_after next_place words.reserved_words fmt.digits
+unfolding comment_rest attribute_rest blank_len begins_blank to_blank word_kind mark_kind escaped quote directive lexeme kind_of bytes left next same_kind sees refusal expect after number rest_of_range range range_if_any digits constant followed rest_of_select selection named_operand constant_operand operand opening closing concatenations_from expression declared_name declared_names_from declared_names declaration port_item wire_item right_side net_assignment net_assignments_from net_assignments assign_item terminal input_terminals_from input_terminals terminals named_gate unnamed_gate one_gate gates_from gates gate_item connected_pin pin_signal pin_content named_connection named_connections_from named_connections connections instance instances_from instances cell_item item items_from items announced_name announced_names_from announced_names declared_port port_declaration_of port_declaration declared_ports_from declared_ports header_names header heading module_end end_of_text module_text module_of place_after next_place words.reserved_words fmt.digits
 headers_3 = (refl, refl, refl, refl, refl, refl, refl, refl)
 
 pub headers_4 :
@@ -56,7 +56,7 @@ pub headers_4 :
     × (outcome (codes "module m (a b);") ≡ refused cause.Token 1 13)
     × (outcome (codes "module m (a[0]);") ≡ refused cause.Token 1 12)
     × (outcome (codes "module m (a, b, c); input b; endmodule") ≡ refused (cause.Undeclared (codes "a")) 1 30)
-unfolding comment_rest attribute_rest blank_len begins_blank to_blank word_kind mark_kind escaped quote directive lexeme kind_of bytes left next same_kind sees refusal expect after number rest_of_range range range_if_any digits constant followed rest_of_select selection named_operand constant_operand operand opening closing nest_from expression declared_name declared_names_from declared_names declaration port_item wire_item right_side assignment assignments_from assignments assign_item terminal inputs_from inputs terminals named_gate unnamed_gate one_gate gates_from gates gate_item pin_name pin_signal pin_content connection connections_from some_connections connections instance instances_from instances cell_item item items_from items announced_name announced_names_from announced_names new_port facing_of facing new_ports_from new_ports header_names header heading module_end end_of_text module_text module_of place_after next_place words.reserved_words fmt.digits
+unfolding comment_rest attribute_rest blank_len begins_blank to_blank word_kind mark_kind escaped quote directive lexeme kind_of bytes left next same_kind sees refusal expect after number rest_of_range range range_if_any digits constant followed rest_of_select selection named_operand constant_operand operand opening closing concatenations_from expression declared_name declared_names_from declared_names declaration port_item wire_item right_side net_assignment net_assignments_from net_assignments assign_item terminal input_terminals_from input_terminals terminals named_gate unnamed_gate one_gate gates_from gates gate_item connected_pin pin_signal pin_content named_connection named_connections_from named_connections connections instance instances_from instances cell_item item items_from items announced_name announced_names_from announced_names declared_port port_declaration_of port_declaration declared_ports_from declared_ports header_names header heading module_end end_of_text module_text module_of place_after next_place words.reserved_words fmt.digits
 headers_4 = (refl, refl, refl, refl, refl, refl, refl, refl)
 
 pub headers_5 :
@@ -66,5 +66,5 @@ pub headers_5 :
     × (outcome (codes "module m (m); input m; endmodule") ≡ None)
     × (outcome (codes "module m (input a); input b; endmodule") ≡ refused cause.Token 1 27)
     × (outcome (codes "module m (input a); output a; endmodule") ≡ refused (cause.Taken (codes "a")) 1 28)
-unfolding comment_rest attribute_rest blank_len begins_blank to_blank word_kind mark_kind escaped quote directive lexeme kind_of bytes left next same_kind sees refusal expect after number rest_of_range range range_if_any digits constant followed rest_of_select selection named_operand constant_operand operand opening closing nest_from expression declared_name declared_names_from declared_names declaration port_item wire_item right_side assignment assignments_from assignments assign_item terminal inputs_from inputs terminals named_gate unnamed_gate one_gate gates_from gates gate_item pin_name pin_signal pin_content connection connections_from some_connections connections instance instances_from instances cell_item item items_from items announced_name announced_names_from announced_names new_port facing_of facing new_ports_from new_ports header_names header heading module_end end_of_text module_text module_of place_after next_place words.reserved_words fmt.digits
+unfolding comment_rest attribute_rest blank_len begins_blank to_blank word_kind mark_kind escaped quote directive lexeme kind_of bytes left next same_kind sees refusal expect after number rest_of_range range range_if_any digits constant followed rest_of_select selection named_operand constant_operand operand opening closing concatenations_from expression declared_name declared_names_from declared_names declaration port_item wire_item right_side net_assignment net_assignments_from net_assignments assign_item terminal input_terminals_from input_terminals terminals named_gate unnamed_gate one_gate gates_from gates gate_item connected_pin pin_signal pin_content named_connection named_connections_from named_connections connections instance instances_from instances cell_item item items_from items announced_name announced_names_from announced_names declared_port port_declaration_of port_declaration declared_ports_from declared_ports header_names header heading module_end end_of_text module_text module_of place_after next_place words.reserved_words fmt.digits
 headers_5 = (refl, refl, refl, refl, refl, refl)

@@ -9,9 +9,9 @@ use Rattle.dft_netlist.specs.declared.instance.Signal.TheVariants as signal
 use Rattle.dft_netlist.specs.declared.instance.CellRef.TheVariants as cell_ref
 use Rattle.dft_netlist_text.specs.Lexemes.{comment_rest, attribute_rest, blank_len, begins_blank, to_blank, word_kind, mark_kind, escaped, quote, directive, lexeme}
 use Rattle.dft_netlist_text.specs.Steps.{kind_of, bytes, left, next, same_kind, sees, refusal, expect, after}
-use Rattle.dft_netlist_text.specs.Expressions.{number, rest_of_range, range, range_if_any, digits, constant, followed, rest_of_select, selection, named_operand, constant_operand, operand, opening, closing, nest_from, expression}
-use Rattle.dft_netlist_text.specs.Items.{declared_name, declared_names_from, declared_names, declaration, port_item, wire_item, right_side, assignment, assignments_from, assignments, assign_item, terminal, inputs_from, inputs, terminals, named_gate, unnamed_gate, one_gate, gates_from, gates, gate_item, pin_name, pin_signal, pin_content, connection, connections_from, some_connections, connections, instance, instances_from, instances, cell_item, item, items_from, items}
-use Rattle.dft_netlist_text.specs.NetlistText.{announced_name, announced_names_from, announced_names, new_port, facing_of, facing, new_ports_from, new_ports, header_names, header, heading, module_end, end_of_text, module_text, module_of, built}
+use Rattle.dft_netlist_text.specs.Expressions.{number, rest_of_range, range, range_if_any, digits, constant, followed, rest_of_select, selection, named_operand, constant_operand, operand, opening, closing, concatenations_from, expression}
+use Rattle.dft_netlist_text.specs.Items.{declared_name, declared_names_from, declared_names, declaration, port_item, wire_item, right_side, net_assignment, net_assignments_from, net_assignments, assign_item, terminal, input_terminals_from, input_terminals, terminals, named_gate, unnamed_gate, one_gate, gates_from, gates, gate_item, connected_pin, pin_signal, pin_content, named_connection, named_connections_from, named_connections, connections, instance, instances_from, instances, cell_item, item, items_from, items}
+use Rattle.dft_netlist_text.specs.NetlistText.{announced_name, announced_names_from, announced_names, declared_port, port_declaration_of, port_declaration, declared_ports_from, declared_ports, header_names, header, heading, module_end, end_of_text, module_text, module_of, built}
 use Rattle.dft_netlist_text.proofs.Outcomes.{netlist, reads}
 
 pub modules_1 :
@@ -28,7 +28,7 @@ pub modules_1 :
     ∷ record { name = Some (codes "n"); cell = cell_ref.Gate primitive.Inv 1; pins = signal.Net (record { 0 = 4 }) ∷ signal.Net (record { 0 = 5 }) ∷ [] }
     ∷ [])
     []
-unfolding comment_rest attribute_rest blank_len begins_blank to_blank word_kind mark_kind escaped quote directive lexeme kind_of bytes left next same_kind sees refusal expect after number rest_of_range range range_if_any digits constant followed rest_of_select selection named_operand constant_operand operand opening closing nest_from expression declared_name declared_names_from declared_names declaration port_item wire_item right_side assignment assignments_from assignments assign_item terminal inputs_from inputs terminals named_gate unnamed_gate one_gate gates_from gates gate_item pin_name pin_signal pin_content connection connections_from some_connections connections instance instances_from instances cell_item item items_from items announced_name announced_names_from announced_names new_port facing_of facing new_ports_from new_ports header_names header heading module_end end_of_text module_text module_of place_after next_place words.reserved_words fmt.digits built
+unfolding comment_rest attribute_rest blank_len begins_blank to_blank word_kind mark_kind escaped quote directive lexeme kind_of bytes left next same_kind sees refusal expect after number rest_of_range range range_if_any digits constant followed rest_of_select selection named_operand constant_operand operand opening closing concatenations_from expression declared_name declared_names_from declared_names declaration port_item wire_item right_side net_assignment net_assignments_from net_assignments assign_item terminal input_terminals_from input_terminals terminals named_gate unnamed_gate one_gate gates_from gates gate_item connected_pin pin_signal pin_content named_connection named_connections_from named_connections connections instance instances_from instances cell_item item items_from items announced_name announced_names_from announced_names declared_port port_declaration_of port_declaration declared_ports_from declared_ports header_names header heading module_end end_of_text module_text module_of place_after next_place words.reserved_words fmt.digits built
 modules_1 = refl
 
 pub modules_2 :
@@ -41,7 +41,7 @@ pub modules_2 :
     ∷ record { name = Some (codes "f"); cell = cell_ref.Library (record { 0 = 6 }); pins = signal.Net (record { 0 = 0 }) ∷ signal.Net (record { 0 = 1 }) ∷ signal.Constant true ∷ signal.Net (record { 0 = 2 }) ∷ signal.Unconnected ∷ [] }
     ∷ [])
     []
-unfolding comment_rest attribute_rest blank_len begins_blank to_blank word_kind mark_kind escaped quote directive lexeme kind_of bytes left next same_kind sees refusal expect after number rest_of_range range range_if_any digits constant followed rest_of_select selection named_operand constant_operand operand opening closing nest_from expression declared_name declared_names_from declared_names declaration port_item wire_item right_side assignment assignments_from assignments assign_item terminal inputs_from inputs terminals named_gate unnamed_gate one_gate gates_from gates gate_item pin_name pin_signal pin_content connection connections_from some_connections connections instance instances_from instances cell_item item items_from items announced_name announced_names_from announced_names new_port facing_of facing new_ports_from new_ports header_names header heading module_end end_of_text module_text module_of place_after next_place words.reserved_words fmt.digits built
+unfolding comment_rest attribute_rest blank_len begins_blank to_blank word_kind mark_kind escaped quote directive lexeme kind_of bytes left next same_kind sees refusal expect after number rest_of_range range range_if_any digits constant followed rest_of_select selection named_operand constant_operand operand opening closing concatenations_from expression declared_name declared_names_from declared_names declaration port_item wire_item right_side net_assignment net_assignments_from net_assignments assign_item terminal input_terminals_from input_terminals terminals named_gate unnamed_gate one_gate gates_from gates gate_item connected_pin pin_signal pin_content named_connection named_connections_from named_connections connections instance instances_from instances cell_item item items_from items announced_name announced_names_from announced_names declared_port port_declaration_of port_declaration declared_ports_from declared_ports header_names header heading module_end end_of_text module_text module_of place_after next_place words.reserved_words fmt.digits built
 modules_2 = refl
 
 pub modules_3 :
@@ -54,7 +54,7 @@ pub modules_3 :
     ∷ record { name = Some (codes "v"); cell = cell_ref.Library (record { 0 = 8 }); pins = signal.Net (record { 0 = 1 }) ∷ signal.Net (record { 0 = 2 }) ∷ [] }
     ∷ [])
     []
-unfolding comment_rest attribute_rest blank_len begins_blank to_blank word_kind mark_kind escaped quote directive lexeme kind_of bytes left next same_kind sees refusal expect after number rest_of_range range range_if_any digits constant followed rest_of_select selection named_operand constant_operand operand opening closing nest_from expression declared_name declared_names_from declared_names declaration port_item wire_item right_side assignment assignments_from assignments assign_item terminal inputs_from inputs terminals named_gate unnamed_gate one_gate gates_from gates gate_item pin_name pin_signal pin_content connection connections_from some_connections connections instance instances_from instances cell_item item items_from items announced_name announced_names_from announced_names new_port facing_of facing new_ports_from new_ports header_names header heading module_end end_of_text module_text module_of place_after next_place words.reserved_words fmt.digits built
+unfolding comment_rest attribute_rest blank_len begins_blank to_blank word_kind mark_kind escaped quote directive lexeme kind_of bytes left next same_kind sees refusal expect after number rest_of_range range range_if_any digits constant followed rest_of_select selection named_operand constant_operand operand opening closing concatenations_from expression declared_name declared_names_from declared_names declaration port_item wire_item right_side net_assignment net_assignments_from net_assignments assign_item terminal input_terminals_from input_terminals terminals named_gate unnamed_gate one_gate gates_from gates gate_item connected_pin pin_signal pin_content named_connection named_connections_from named_connections connections instance instances_from instances cell_item item items_from items announced_name announced_names_from announced_names declared_port port_declaration_of port_declaration declared_ports_from declared_ports header_names header heading module_end end_of_text module_text module_of place_after next_place words.reserved_words fmt.digits built
 modules_3 = refl
 
 pub modules_4 :
@@ -69,7 +69,7 @@ pub modules_4 :
     ∷ record { target = (record { 0 = 3 }); source = signal.Net (record { 0 = 0 }) }
     ∷ record { target = (record { 0 = 6 }); source = signal.Net (record { 0 = 3 }) }
     ∷ [])
-unfolding comment_rest attribute_rest blank_len begins_blank to_blank word_kind mark_kind escaped quote directive lexeme kind_of bytes left next same_kind sees refusal expect after number rest_of_range range range_if_any digits constant followed rest_of_select selection named_operand constant_operand operand opening closing nest_from expression declared_name declared_names_from declared_names declaration port_item wire_item right_side assignment assignments_from assignments assign_item terminal inputs_from inputs terminals named_gate unnamed_gate one_gate gates_from gates gate_item pin_name pin_signal pin_content connection connections_from some_connections connections instance instances_from instances cell_item item items_from items announced_name announced_names_from announced_names new_port facing_of facing new_ports_from new_ports header_names header heading module_end end_of_text module_text module_of place_after next_place words.reserved_words fmt.digits built
+unfolding comment_rest attribute_rest blank_len begins_blank to_blank word_kind mark_kind escaped quote directive lexeme kind_of bytes left next same_kind sees refusal expect after number rest_of_range range range_if_any digits constant followed rest_of_select selection named_operand constant_operand operand opening closing concatenations_from expression declared_name declared_names_from declared_names declaration port_item wire_item right_side net_assignment net_assignments_from net_assignments assign_item terminal input_terminals_from input_terminals terminals named_gate unnamed_gate one_gate gates_from gates gate_item connected_pin pin_signal pin_content named_connection named_connections_from named_connections connections instance instances_from instances cell_item item items_from items announced_name announced_names_from announced_names declared_port port_declaration_of port_declaration declared_ports_from declared_ports header_names header heading module_end end_of_text module_text module_of place_after next_place words.reserved_words fmt.digits built
 modules_4 = refl
 
 pub modules_5 :
@@ -89,7 +89,7 @@ pub modules_5 :
     ∷ record { name = Some (codes "g1"); cell = cell_ref.Library (record { 0 = 8 }); pins = signal.Net (record { 0 = 3 }) ∷ signal.Net (record { 0 = 2 }) ∷ [] }
     ∷ [])
     []
-unfolding comment_rest attribute_rest blank_len begins_blank to_blank word_kind mark_kind escaped quote directive lexeme kind_of bytes left next same_kind sees refusal expect after number rest_of_range range range_if_any digits constant followed rest_of_select selection named_operand constant_operand operand opening closing nest_from expression declared_name declared_names_from declared_names declaration port_item wire_item right_side assignment assignments_from assignments assign_item terminal inputs_from inputs terminals named_gate unnamed_gate one_gate gates_from gates gate_item pin_name pin_signal pin_content connection connections_from some_connections connections instance instances_from instances cell_item item items_from items announced_name announced_names_from announced_names new_port facing_of facing new_ports_from new_ports header_names header heading module_end end_of_text module_text module_of place_after next_place words.reserved_words fmt.digits built
+unfolding comment_rest attribute_rest blank_len begins_blank to_blank word_kind mark_kind escaped quote directive lexeme kind_of bytes left next same_kind sees refusal expect after number rest_of_range range range_if_any digits constant followed rest_of_select selection named_operand constant_operand operand opening closing concatenations_from expression declared_name declared_names_from declared_names declaration port_item wire_item right_side net_assignment net_assignments_from net_assignments assign_item terminal input_terminals_from input_terminals terminals named_gate unnamed_gate one_gate gates_from gates gate_item connected_pin pin_signal pin_content named_connection named_connections_from named_connections connections instance instances_from instances cell_item item items_from items announced_name announced_names_from announced_names declared_port port_declaration_of port_declaration declared_ports_from declared_ports header_names header heading module_end end_of_text module_text module_of place_after next_place words.reserved_words fmt.digits built
 modules_5 = refl
 
 pub modules_6 :
@@ -115,5 +115,5 @@ pub modules_6 :
     ∷ record { target = (record { 0 = 6 }); source = signal.Constant false }
     ∷ record { target = (record { 0 = 7 }); source = signal.Constant false }
     ∷ [])
-unfolding comment_rest attribute_rest blank_len begins_blank to_blank word_kind mark_kind escaped quote directive lexeme kind_of bytes left next same_kind sees refusal expect after number rest_of_range range range_if_any digits constant followed rest_of_select selection named_operand constant_operand operand opening closing nest_from expression declared_name declared_names_from declared_names declaration port_item wire_item right_side assignment assignments_from assignments assign_item terminal inputs_from inputs terminals named_gate unnamed_gate one_gate gates_from gates gate_item pin_name pin_signal pin_content connection connections_from some_connections connections instance instances_from instances cell_item item items_from items announced_name announced_names_from announced_names new_port facing_of facing new_ports_from new_ports header_names header heading module_end end_of_text module_text module_of place_after next_place words.reserved_words fmt.digits built
+unfolding comment_rest attribute_rest blank_len begins_blank to_blank word_kind mark_kind escaped quote directive lexeme kind_of bytes left next same_kind sees refusal expect after number rest_of_range range range_if_any digits constant followed rest_of_select selection named_operand constant_operand operand opening closing concatenations_from expression declared_name declared_names_from declared_names declaration port_item wire_item right_side net_assignment net_assignments_from net_assignments assign_item terminal input_terminals_from input_terminals terminals named_gate unnamed_gate one_gate gates_from gates gate_item connected_pin pin_signal pin_content named_connection named_connections_from named_connections connections instance instances_from instances cell_item item items_from items announced_name announced_names_from announced_names declared_port port_declaration_of port_declaration declared_ports_from declared_ports header_names header heading module_end end_of_text module_text module_of place_after next_place words.reserved_words fmt.digits built
 modules_6 = refl

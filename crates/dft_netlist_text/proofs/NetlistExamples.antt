@@ -8,9 +8,9 @@ use Rattle.dft_netlist.specs.declared.instance.Signal.TheVariants as signal
 use Rattle.dft_netlist.specs.declared.instance.CellRef.TheVariants as cell_ref
 use Rattle.dft_netlist_text.specs.Lexemes.{comment_rest, attribute_rest, blank_len, begins_blank, to_blank, word_kind, mark_kind, escaped, quote, directive, lexeme}
 use Rattle.dft_netlist_text.specs.Steps.{kind_of, bytes, left, next, same_kind, sees, refusal, expect, after}
-use Rattle.dft_netlist_text.specs.Expressions.{number, rest_of_range, range, range_if_any, digits, constant, followed, rest_of_select, selection, named_operand, constant_operand, operand, opening, closing, nest_from, expression}
-use Rattle.dft_netlist_text.specs.Items.{declared_name, declared_names_from, declared_names, declaration, port_item, wire_item, right_side, assignment, assignments_from, assignments, assign_item, terminal, inputs_from, inputs, terminals, named_gate, unnamed_gate, one_gate, gates_from, gates, gate_item, pin_name, pin_signal, pin_content, connection, connections_from, some_connections, connections, instance, instances_from, instances, cell_item, item, items_from, items}
-use Rattle.dft_netlist_text.specs.NetlistText.{announced_name, announced_names_from, announced_names, new_port, facing_of, facing, new_ports_from, new_ports, header_names, header, heading, module_end, end_of_text, module_text, module_of, built}
+use Rattle.dft_netlist_text.specs.Expressions.{number, rest_of_range, range, range_if_any, digits, constant, followed, rest_of_select, selection, named_operand, constant_operand, operand, opening, closing, concatenations_from, expression}
+use Rattle.dft_netlist_text.specs.Items.{declared_name, declared_names_from, declared_names, declaration, port_item, wire_item, right_side, net_assignment, net_assignments_from, net_assignments, assign_item, terminal, input_terminals_from, input_terminals, terminals, named_gate, unnamed_gate, one_gate, gates_from, gates, gate_item, connected_pin, pin_signal, pin_content, named_connection, named_connections_from, named_connections, connections, instance, instances_from, instances, cell_item, item, items_from, items}
+use Rattle.dft_netlist_text.specs.NetlistText.{announced_name, announced_names_from, announced_names, declared_port, port_declaration_of, port_declaration, declared_ports_from, declared_ports, header_names, header, heading, module_end, end_of_text, module_text, module_of, built}
 use Rattle.dft_netlist_text.proofs.Outcomes.{netlist, reads}
 
 pub netlists_1 :
@@ -24,7 +24,7 @@ pub netlists_1 :
     ∷ [])
     (record { target = (record { 0 = 0 }); source = signal.Net (record { 0 = 3 }) }
     ∷ [])
-unfolding comment_rest attribute_rest blank_len begins_blank to_blank word_kind mark_kind escaped quote directive lexeme kind_of bytes left next same_kind sees refusal expect after number rest_of_range range range_if_any digits constant followed rest_of_select selection named_operand constant_operand operand opening closing nest_from expression declared_name declared_names_from declared_names declaration port_item wire_item right_side assignment assignments_from assignments assign_item terminal inputs_from inputs terminals named_gate unnamed_gate one_gate gates_from gates gate_item pin_name pin_signal pin_content connection connections_from some_connections connections instance instances_from instances cell_item item items_from items announced_name announced_names_from announced_names new_port facing_of facing new_ports_from new_ports header_names header heading module_end end_of_text module_text module_of place_after next_place words.reserved_words fmt.digits built
+unfolding comment_rest attribute_rest blank_len begins_blank to_blank word_kind mark_kind escaped quote directive lexeme kind_of bytes left next same_kind sees refusal expect after number rest_of_range range range_if_any digits constant followed rest_of_select selection named_operand constant_operand operand opening closing concatenations_from expression declared_name declared_names_from declared_names declaration port_item wire_item right_side net_assignment net_assignments_from net_assignments assign_item terminal input_terminals_from input_terminals terminals named_gate unnamed_gate one_gate gates_from gates gate_item connected_pin pin_signal pin_content named_connection named_connections_from named_connections connections instance instances_from instances cell_item item items_from items announced_name announced_names_from announced_names declared_port port_declaration_of port_declaration declared_ports_from declared_ports header_names header heading module_end end_of_text module_text module_of place_after next_place words.reserved_words fmt.digits built
 netlists_1 = refl
 
 pub netlists_2 :
@@ -37,7 +37,7 @@ pub netlists_2 :
     (codes "a[0]" ∷ codes "a[1]" ∷ codes "b[0]" ∷ codes "b[1]" ∷ codes "y" ∷ [])
     []
     []
-unfolding comment_rest attribute_rest blank_len begins_blank to_blank word_kind mark_kind escaped quote directive lexeme kind_of bytes left next same_kind sees refusal expect after number rest_of_range range range_if_any digits constant followed rest_of_select selection named_operand constant_operand operand opening closing nest_from expression declared_name declared_names_from declared_names declaration port_item wire_item right_side assignment assignments_from assignments assign_item terminal inputs_from inputs terminals named_gate unnamed_gate one_gate gates_from gates gate_item pin_name pin_signal pin_content connection connections_from some_connections connections instance instances_from instances cell_item item items_from items announced_name announced_names_from announced_names new_port facing_of facing new_ports_from new_ports header_names header heading module_end end_of_text module_text module_of place_after next_place words.reserved_words fmt.digits built
+unfolding comment_rest attribute_rest blank_len begins_blank to_blank word_kind mark_kind escaped quote directive lexeme kind_of bytes left next same_kind sees refusal expect after number rest_of_range range range_if_any digits constant followed rest_of_select selection named_operand constant_operand operand opening closing concatenations_from expression declared_name declared_names_from declared_names declaration port_item wire_item right_side net_assignment net_assignments_from net_assignments assign_item terminal input_terminals_from input_terminals terminals named_gate unnamed_gate one_gate gates_from gates gate_item connected_pin pin_signal pin_content named_connection named_connections_from named_connections connections instance instances_from instances cell_item item items_from items announced_name announced_names_from announced_names declared_port port_declaration_of port_declaration declared_ports_from declared_ports header_names header heading module_end end_of_text module_text module_of place_after next_place words.reserved_words fmt.digits built
 netlists_2 = refl
 
 pub netlists_3 :
@@ -51,7 +51,7 @@ pub netlists_3 :
     (codes "a" ∷ codes "y[2]" ∷ codes "z[2]" ∷ codes "d[3]" ∷ codes "d[2]" ∷ [])
     []
     []
-unfolding comment_rest attribute_rest blank_len begins_blank to_blank word_kind mark_kind escaped quote directive lexeme kind_of bytes left next same_kind sees refusal expect after number rest_of_range range range_if_any digits constant followed rest_of_select selection named_operand constant_operand operand opening closing nest_from expression declared_name declared_names_from declared_names declaration port_item wire_item right_side assignment assignments_from assignments assign_item terminal inputs_from inputs terminals named_gate unnamed_gate one_gate gates_from gates gate_item pin_name pin_signal pin_content connection connections_from some_connections connections instance instances_from instances cell_item item items_from items announced_name announced_names_from announced_names new_port facing_of facing new_ports_from new_ports header_names header heading module_end end_of_text module_text module_of place_after next_place words.reserved_words fmt.digits built
+unfolding comment_rest attribute_rest blank_len begins_blank to_blank word_kind mark_kind escaped quote directive lexeme kind_of bytes left next same_kind sees refusal expect after number rest_of_range range range_if_any digits constant followed rest_of_select selection named_operand constant_operand operand opening closing concatenations_from expression declared_name declared_names_from declared_names declaration port_item wire_item right_side net_assignment net_assignments_from net_assignments assign_item terminal input_terminals_from input_terminals terminals named_gate unnamed_gate one_gate gates_from gates gate_item connected_pin pin_signal pin_content named_connection named_connections_from named_connections connections instance instances_from instances cell_item item items_from items announced_name announced_names_from announced_names declared_port port_declaration_of port_declaration declared_ports_from declared_ports header_names header heading module_end end_of_text module_text module_of place_after next_place words.reserved_words fmt.digits built
 netlists_3 = refl
 
 pub netlists_4 :
@@ -64,7 +64,7 @@ pub netlists_4 :
     ∷ record { name = Some (codes "v"); cell = cell_ref.Library (record { 0 = 8 }); pins = signal.Net (record { 0 = 2 }) ∷ signal.Net (record { 0 = 1 }) ∷ [] }
     ∷ [])
     []
-unfolding comment_rest attribute_rest blank_len begins_blank to_blank word_kind mark_kind escaped quote directive lexeme kind_of bytes left next same_kind sees refusal expect after number rest_of_range range range_if_any digits constant followed rest_of_select selection named_operand constant_operand operand opening closing nest_from expression declared_name declared_names_from declared_names declaration port_item wire_item right_side assignment assignments_from assignments assign_item terminal inputs_from inputs terminals named_gate unnamed_gate one_gate gates_from gates gate_item pin_name pin_signal pin_content connection connections_from some_connections connections instance instances_from instances cell_item item items_from items announced_name announced_names_from announced_names new_port facing_of facing new_ports_from new_ports header_names header heading module_end end_of_text module_text module_of place_after next_place words.reserved_words fmt.digits built
+unfolding comment_rest attribute_rest blank_len begins_blank to_blank word_kind mark_kind escaped quote directive lexeme kind_of bytes left next same_kind sees refusal expect after number rest_of_range range range_if_any digits constant followed rest_of_select selection named_operand constant_operand operand opening closing concatenations_from expression declared_name declared_names_from declared_names declaration port_item wire_item right_side net_assignment net_assignments_from net_assignments assign_item terminal input_terminals_from input_terminals terminals named_gate unnamed_gate one_gate gates_from gates gate_item connected_pin pin_signal pin_content named_connection named_connections_from named_connections connections instance instances_from instances cell_item item items_from items announced_name announced_names_from announced_names declared_port port_declaration_of port_declaration declared_ports_from declared_ports header_names header heading module_end end_of_text module_text module_of place_after next_place words.reserved_words fmt.digits built
 netlists_4 = refl
 
 pub netlists_5 :
@@ -80,7 +80,7 @@ pub netlists_5 :
     ∷ record { target = (record { 0 = 6 }); source = signal.Net (record { 0 = 3 }) }
     ∷ record { target = (record { 0 = 5 }); source = signal.Constant true }
     ∷ [])
-unfolding comment_rest attribute_rest blank_len begins_blank to_blank word_kind mark_kind escaped quote directive lexeme kind_of bytes left next same_kind sees refusal expect after number rest_of_range range range_if_any digits constant followed rest_of_select selection named_operand constant_operand operand opening closing nest_from expression declared_name declared_names_from declared_names declaration port_item wire_item right_side assignment assignments_from assignments assign_item terminal inputs_from inputs terminals named_gate unnamed_gate one_gate gates_from gates gate_item pin_name pin_signal pin_content connection connections_from some_connections connections instance instances_from instances cell_item item items_from items announced_name announced_names_from announced_names new_port facing_of facing new_ports_from new_ports header_names header heading module_end end_of_text module_text module_of place_after next_place words.reserved_words fmt.digits built
+unfolding comment_rest attribute_rest blank_len begins_blank to_blank word_kind mark_kind escaped quote directive lexeme kind_of bytes left next same_kind sees refusal expect after number rest_of_range range range_if_any digits constant followed rest_of_select selection named_operand constant_operand operand opening closing concatenations_from expression declared_name declared_names_from declared_names declaration port_item wire_item right_side net_assignment net_assignments_from net_assignments assign_item terminal input_terminals_from input_terminals terminals named_gate unnamed_gate one_gate gates_from gates gate_item connected_pin pin_signal pin_content named_connection named_connections_from named_connections connections instance instances_from instances cell_item item items_from items announced_name announced_names_from announced_names declared_port port_declaration_of port_declaration declared_ports_from declared_ports header_names header heading module_end end_of_text module_text module_of place_after next_place words.reserved_words fmt.digits built
 netlists_5 = refl
 
 pub netlists_6 :
@@ -95,7 +95,7 @@ pub netlists_6 :
     ∷ record { target = (record { 0 = 2 }); source = signal.Constant true }
     ∷ record { target = (record { 0 = 3 }); source = signal.Constant false }
     ∷ [])
-unfolding comment_rest attribute_rest blank_len begins_blank to_blank word_kind mark_kind escaped quote directive lexeme kind_of bytes left next same_kind sees refusal expect after number rest_of_range range range_if_any digits constant followed rest_of_select selection named_operand constant_operand operand opening closing nest_from expression declared_name declared_names_from declared_names declaration port_item wire_item right_side assignment assignments_from assignments assign_item terminal inputs_from inputs terminals named_gate unnamed_gate one_gate gates_from gates gate_item pin_name pin_signal pin_content connection connections_from some_connections connections instance instances_from instances cell_item item items_from items announced_name announced_names_from announced_names new_port facing_of facing new_ports_from new_ports header_names header heading module_end end_of_text module_text module_of place_after next_place words.reserved_words fmt.digits built
+unfolding comment_rest attribute_rest blank_len begins_blank to_blank word_kind mark_kind escaped quote directive lexeme kind_of bytes left next same_kind sees refusal expect after number rest_of_range range range_if_any digits constant followed rest_of_select selection named_operand constant_operand operand opening closing concatenations_from expression declared_name declared_names_from declared_names declaration port_item wire_item right_side net_assignment net_assignments_from net_assignments assign_item terminal input_terminals_from input_terminals terminals named_gate unnamed_gate one_gate gates_from gates gate_item connected_pin pin_signal pin_content named_connection named_connections_from named_connections connections instance instances_from instances cell_item item items_from items announced_name announced_names_from announced_names declared_port port_declaration_of port_declaration declared_ports_from declared_ports header_names header heading module_end end_of_text module_text module_of place_after next_place words.reserved_words fmt.digits built
 netlists_6 = refl
 
 pub netlists_7 :
@@ -110,7 +110,7 @@ pub netlists_7 :
     ∷ record { target = (record { 0 = 3 }); source = signal.Constant true }
     ∷ record { target = (record { 0 = 0 }); source = signal.Constant false }
     ∷ [])
-unfolding comment_rest attribute_rest blank_len begins_blank to_blank word_kind mark_kind escaped quote directive lexeme kind_of bytes left next same_kind sees refusal expect after number rest_of_range range range_if_any digits constant followed rest_of_select selection named_operand constant_operand operand opening closing nest_from expression declared_name declared_names_from declared_names declaration port_item wire_item right_side assignment assignments_from assignments assign_item terminal inputs_from inputs terminals named_gate unnamed_gate one_gate gates_from gates gate_item pin_name pin_signal pin_content connection connections_from some_connections connections instance instances_from instances cell_item item items_from items announced_name announced_names_from announced_names new_port facing_of facing new_ports_from new_ports header_names header heading module_end end_of_text module_text module_of place_after next_place words.reserved_words fmt.digits built
+unfolding comment_rest attribute_rest blank_len begins_blank to_blank word_kind mark_kind escaped quote directive lexeme kind_of bytes left next same_kind sees refusal expect after number rest_of_range range range_if_any digits constant followed rest_of_select selection named_operand constant_operand operand opening closing concatenations_from expression declared_name declared_names_from declared_names declaration port_item wire_item right_side net_assignment net_assignments_from net_assignments assign_item terminal input_terminals_from input_terminals terminals named_gate unnamed_gate one_gate gates_from gates gate_item connected_pin pin_signal pin_content named_connection named_connections_from named_connections connections instance instances_from instances cell_item item items_from items announced_name announced_names_from announced_names declared_port port_declaration_of port_declaration declared_ports_from declared_ports header_names header heading module_end end_of_text module_text module_of place_after next_place words.reserved_words fmt.digits built
 netlists_7 = refl
 
 pub netlists_8 :
@@ -129,5 +129,5 @@ pub netlists_8 :
     ∷ record { target = (record { 0 = 6 }); source = signal.Constant true }
     ∷ record { target = (record { 0 = 7 }); source = signal.Constant true }
     ∷ [])
-unfolding comment_rest attribute_rest blank_len begins_blank to_blank word_kind mark_kind escaped quote directive lexeme kind_of bytes left next same_kind sees refusal expect after number rest_of_range range range_if_any digits constant followed rest_of_select selection named_operand constant_operand operand opening closing nest_from expression declared_name declared_names_from declared_names declaration port_item wire_item right_side assignment assignments_from assignments assign_item terminal inputs_from inputs terminals named_gate unnamed_gate one_gate gates_from gates gate_item pin_name pin_signal pin_content connection connections_from some_connections connections instance instances_from instances cell_item item items_from items announced_name announced_names_from announced_names new_port facing_of facing new_ports_from new_ports header_names header heading module_end end_of_text module_text module_of place_after next_place words.reserved_words fmt.digits built
+unfolding comment_rest attribute_rest blank_len begins_blank to_blank word_kind mark_kind escaped quote directive lexeme kind_of bytes left next same_kind sees refusal expect after number rest_of_range range range_if_any digits constant followed rest_of_select selection named_operand constant_operand operand opening closing concatenations_from expression declared_name declared_names_from declared_names declaration port_item wire_item right_side net_assignment net_assignments_from net_assignments assign_item terminal input_terminals_from input_terminals terminals named_gate unnamed_gate one_gate gates_from gates gate_item connected_pin pin_signal pin_content named_connection named_connections_from named_connections connections instance instances_from instances cell_item item items_from items announced_name announced_names_from announced_names declared_port port_declaration_of port_declaration declared_ports_from declared_ports header_names header heading module_end end_of_text module_text module_of place_after next_place words.reserved_words fmt.digits built
 netlists_8 = refl

@@ -6,9 +6,9 @@ use Rattle.dft_base.specs.Lexing.{place_after, next_place}
 use Rattle.dft_netlist_text.specs.declared.text.Cause.TheVariants as cause
 use Rattle.dft_netlist_text.specs.Lexemes.{comment_rest, attribute_rest, blank_len, begins_blank, to_blank, word_kind, mark_kind, escaped, quote, directive, lexeme}
 use Rattle.dft_netlist_text.specs.Steps.{kind_of, bytes, left, next, same_kind, sees, refusal, expect, after}
-use Rattle.dft_netlist_text.specs.Expressions.{number, rest_of_range, range, range_if_any, digits, constant, followed, rest_of_select, selection, named_operand, constant_operand, operand, opening, closing, nest_from, expression}
-use Rattle.dft_netlist_text.specs.Items.{declared_name, declared_names_from, declared_names, declaration, port_item, wire_item, right_side, assignment, assignments_from, assignments, assign_item, terminal, inputs_from, inputs, terminals, named_gate, unnamed_gate, one_gate, gates_from, gates, gate_item, pin_name, pin_signal, pin_content, connection, connections_from, some_connections, connections, instance, instances_from, instances, cell_item, item, items_from, items}
-use Rattle.dft_netlist_text.specs.NetlistText.{announced_name, announced_names_from, announced_names, new_port, facing_of, facing, new_ports_from, new_ports, header_names, header, heading, module_end, end_of_text, module_text, module_of}
+use Rattle.dft_netlist_text.specs.Expressions.{number, rest_of_range, range, range_if_any, digits, constant, followed, rest_of_select, selection, named_operand, constant_operand, operand, opening, closing, concatenations_from, expression}
+use Rattle.dft_netlist_text.specs.Items.{declared_name, declared_names_from, declared_names, declaration, port_item, wire_item, right_side, net_assignment, net_assignments_from, net_assignments, assign_item, terminal, input_terminals_from, input_terminals, terminals, named_gate, unnamed_gate, one_gate, gates_from, gates, gate_item, connected_pin, pin_signal, pin_content, named_connection, named_connections_from, named_connections, connections, instance, instances_from, instances, cell_item, item, items_from, items}
+use Rattle.dft_netlist_text.specs.NetlistText.{announced_name, announced_names_from, announced_names, declared_port, port_declaration_of, port_declaration, declared_ports_from, declared_ports, header_names, header, heading, module_end, end_of_text, module_text, module_of}
 use Rattle.dft_netlist_text.proofs.Outcomes.{outcome, refused}
 
 pub worked_1 :
@@ -20,7 +20,7 @@ pub worked_1 :
     × (outcome (codes "module m; endmodule /* x") ≡ refused cause.Ended 1 25)
     × (outcome (codes "module m; endmodule (* x \" *) ") ≡ refused cause.Ended 1 31)
     × (outcome (codes "module m; endmodule (* x \" *) \" *) // y") ≡ None)
-unfolding comment_rest attribute_rest blank_len begins_blank to_blank word_kind mark_kind escaped quote directive lexeme kind_of bytes left next same_kind sees refusal expect after number rest_of_range range range_if_any digits constant followed rest_of_select selection named_operand constant_operand operand opening closing nest_from expression declared_name declared_names_from declared_names declaration port_item wire_item right_side assignment assignments_from assignments assign_item terminal inputs_from inputs terminals named_gate unnamed_gate one_gate gates_from gates gate_item pin_name pin_signal pin_content connection connections_from some_connections connections instance instances_from instances cell_item item items_from items announced_name announced_names_from announced_names new_port facing_of facing new_ports_from new_ports header_names header heading module_end end_of_text module_text module_of place_after next_place words.reserved_words fmt.digits
+unfolding comment_rest attribute_rest blank_len begins_blank to_blank word_kind mark_kind escaped quote directive lexeme kind_of bytes left next same_kind sees refusal expect after number rest_of_range range range_if_any digits constant followed rest_of_select selection named_operand constant_operand operand opening closing concatenations_from expression declared_name declared_names_from declared_names declaration port_item wire_item right_side net_assignment net_assignments_from net_assignments assign_item terminal input_terminals_from input_terminals terminals named_gate unnamed_gate one_gate gates_from gates gate_item connected_pin pin_signal pin_content named_connection named_connections_from named_connections connections instance instances_from instances cell_item item items_from items announced_name announced_names_from announced_names declared_port port_declaration_of port_declaration declared_ports_from declared_ports header_names header heading module_end end_of_text module_text module_of place_after next_place words.reserved_words fmt.digits
 worked_1 = (refl, refl, refl, refl, refl, refl, refl, refl)
 
 pub worked_2 :
@@ -32,7 +32,7 @@ pub worked_2 :
     × (outcome (codes "module m; `include/*c*/x") ≡ refused (cause.Unsupported (codes "`include")) 1 11)
     × (outcome (codes "module m #(*k*) ;") ≡ refused (cause.Unsupported (codes "#")) 1 10)
     × (outcome (codes "`timescale 1ns/1ps\n`resetall\nmodule m; endmodule") ≡ None)
-unfolding comment_rest attribute_rest blank_len begins_blank to_blank word_kind mark_kind escaped quote directive lexeme kind_of bytes left next same_kind sees refusal expect after number rest_of_range range range_if_any digits constant followed rest_of_select selection named_operand constant_operand operand opening closing nest_from expression declared_name declared_names_from declared_names declaration port_item wire_item right_side assignment assignments_from assignments assign_item terminal inputs_from inputs terminals named_gate unnamed_gate one_gate gates_from gates gate_item pin_name pin_signal pin_content connection connections_from some_connections connections instance instances_from instances cell_item item items_from items announced_name announced_names_from announced_names new_port facing_of facing new_ports_from new_ports header_names header heading module_end end_of_text module_text module_of place_after next_place words.reserved_words fmt.digits
+unfolding comment_rest attribute_rest blank_len begins_blank to_blank word_kind mark_kind escaped quote directive lexeme kind_of bytes left next same_kind sees refusal expect after number rest_of_range range range_if_any digits constant followed rest_of_select selection named_operand constant_operand operand opening closing concatenations_from expression declared_name declared_names_from declared_names declaration port_item wire_item right_side net_assignment net_assignments_from net_assignments assign_item terminal input_terminals_from input_terminals terminals named_gate unnamed_gate one_gate gates_from gates gate_item connected_pin pin_signal pin_content named_connection named_connections_from named_connections connections instance instances_from instances cell_item item items_from items announced_name announced_names_from announced_names declared_port port_declaration_of port_declaration declared_ports_from declared_ports header_names header heading module_end end_of_text module_text module_of place_after next_place words.reserved_words fmt.digits
 worked_2 = (refl, refl, refl, refl, refl, refl, refl, refl)
 
 pub worked_3 :
@@ -44,7 +44,7 @@ pub worked_3 :
     × (outcome (codes "module m; input b; endmodule") ≡ refused cause.Token 1 17)
     × (outcome (codes "module m (a); input a; input a; endmodule") ≡ refused (cause.Taken (codes "a")) 1 30)
     × (outcome (codes "module m (input a, b, output wire [1:0] y); endmodule") ≡ None)
-unfolding comment_rest attribute_rest blank_len begins_blank to_blank word_kind mark_kind escaped quote directive lexeme kind_of bytes left next same_kind sees refusal expect after number rest_of_range range range_if_any digits constant followed rest_of_select selection named_operand constant_operand operand opening closing nest_from expression declared_name declared_names_from declared_names declaration port_item wire_item right_side assignment assignments_from assignments assign_item terminal inputs_from inputs terminals named_gate unnamed_gate one_gate gates_from gates gate_item pin_name pin_signal pin_content connection connections_from some_connections connections instance instances_from instances cell_item item items_from items announced_name announced_names_from announced_names new_port facing_of facing new_ports_from new_ports header_names header heading module_end end_of_text module_text module_of place_after next_place words.reserved_words fmt.digits
+unfolding comment_rest attribute_rest blank_len begins_blank to_blank word_kind mark_kind escaped quote directive lexeme kind_of bytes left next same_kind sees refusal expect after number rest_of_range range range_if_any digits constant followed rest_of_select selection named_operand constant_operand operand opening closing concatenations_from expression declared_name declared_names_from declared_names declaration port_item wire_item right_side net_assignment net_assignments_from net_assignments assign_item terminal input_terminals_from input_terminals terminals named_gate unnamed_gate one_gate gates_from gates gate_item connected_pin pin_signal pin_content named_connection named_connections_from named_connections connections instance instances_from instances cell_item item items_from items announced_name announced_names_from announced_names declared_port port_declaration_of port_declaration declared_ports_from declared_ports header_names header heading module_end end_of_text module_text module_of place_after next_place words.reserved_words fmt.digits
 worked_3 = (refl, refl, refl, refl, refl, refl, refl, refl)
 
 pub worked_4 :
@@ -56,7 +56,7 @@ pub worked_4 :
     × (outcome (codes "module m (a); input [3:0] a; wire [3:0] a; endmodule") ≡ None)
     × (outcome (codes "module m (a); wire a; input a; endmodule") ≡ refused (cause.Taken (codes "a")) 1 20)
     × (outcome (codes "module m (a); wire zz; input zz; endmodule") ≡ refused cause.Token 1 30)
-unfolding comment_rest attribute_rest blank_len begins_blank to_blank word_kind mark_kind escaped quote directive lexeme kind_of bytes left next same_kind sees refusal expect after number rest_of_range range range_if_any digits constant followed rest_of_select selection named_operand constant_operand operand opening closing nest_from expression declared_name declared_names_from declared_names declaration port_item wire_item right_side assignment assignments_from assignments assign_item terminal inputs_from inputs terminals named_gate unnamed_gate one_gate gates_from gates gate_item pin_name pin_signal pin_content connection connections_from some_connections connections instance instances_from instances cell_item item items_from items announced_name announced_names_from announced_names new_port facing_of facing new_ports_from new_ports header_names header heading module_end end_of_text module_text module_of place_after next_place words.reserved_words fmt.digits
+unfolding comment_rest attribute_rest blank_len begins_blank to_blank word_kind mark_kind escaped quote directive lexeme kind_of bytes left next same_kind sees refusal expect after number rest_of_range range range_if_any digits constant followed rest_of_select selection named_operand constant_operand operand opening closing concatenations_from expression declared_name declared_names_from declared_names declaration port_item wire_item right_side net_assignment net_assignments_from net_assignments assign_item terminal input_terminals_from input_terminals terminals named_gate unnamed_gate one_gate gates_from gates gate_item connected_pin pin_signal pin_content named_connection named_connections_from named_connections connections instance instances_from instances cell_item item items_from items announced_name announced_names_from announced_names declared_port port_declaration_of port_declaration declared_ports_from declared_ports header_names header heading module_end end_of_text module_text module_of place_after next_place words.reserved_words fmt.digits
 worked_4 = (refl, refl, refl, refl, refl, refl, refl, refl)
 
 pub worked_5 :
@@ -68,7 +68,7 @@ pub worked_5 :
     × (outcome (codes "module m; endmodule inout") ≡ refused cause.Inout 1 21)
     × (outcome (codes "module m; endmodule module") ≡ refused cause.SecondModule 1 21)
     × (outcome (codes "module m; endmodule reg") ≡ refused (cause.Unsupported (codes "reg")) 1 21)
-unfolding comment_rest attribute_rest blank_len begins_blank to_blank word_kind mark_kind escaped quote directive lexeme kind_of bytes left next same_kind sees refusal expect after number rest_of_range range range_if_any digits constant followed rest_of_select selection named_operand constant_operand operand opening closing nest_from expression declared_name declared_names_from declared_names declaration port_item wire_item right_side assignment assignments_from assignments assign_item terminal inputs_from inputs terminals named_gate unnamed_gate one_gate gates_from gates gate_item pin_name pin_signal pin_content connection connections_from some_connections connections instance instances_from instances cell_item item items_from items announced_name announced_names_from announced_names new_port facing_of facing new_ports_from new_ports header_names header heading module_end end_of_text module_text module_of place_after next_place words.reserved_words fmt.digits
+unfolding comment_rest attribute_rest blank_len begins_blank to_blank word_kind mark_kind escaped quote directive lexeme kind_of bytes left next same_kind sees refusal expect after number rest_of_range range range_if_any digits constant followed rest_of_select selection named_operand constant_operand operand opening closing concatenations_from expression declared_name declared_names_from declared_names declaration port_item wire_item right_side net_assignment net_assignments_from net_assignments assign_item terminal input_terminals_from input_terminals terminals named_gate unnamed_gate one_gate gates_from gates gate_item connected_pin pin_signal pin_content named_connection named_connections_from named_connections connections instance instances_from instances cell_item item items_from items announced_name announced_names_from announced_names declared_port port_declaration_of port_declaration declared_ports_from declared_ports header_names header heading module_end end_of_text module_text module_of place_after next_place words.reserved_words fmt.digits
 worked_5 = (refl, refl, refl, refl, refl, refl, refl, refl)
 
 pub worked_6 :
@@ -80,7 +80,7 @@ pub worked_6 :
     × (outcome (codes "module m (a); input a; INV u (.A(a), .A(a), .Y(n)); endmodule") ≡ refused (cause.JoinedTwice (codes "A")) 1 39)
     × (outcome (codes "module m (a); input a; INV u (.A(), .A(a), .Y(n)); endmodule") ≡ refused (cause.JoinedTwice (codes "A")) 1 38)
     × (outcome (codes "module m (a); input a; INV a (.B(a));") ≡ refused (cause.Taken (codes "a")) 1 28)
-unfolding comment_rest attribute_rest blank_len begins_blank to_blank word_kind mark_kind escaped quote directive lexeme kind_of bytes left next same_kind sees refusal expect after number rest_of_range range range_if_any digits constant followed rest_of_select selection named_operand constant_operand operand opening closing nest_from expression declared_name declared_names_from declared_names declaration port_item wire_item right_side assignment assignments_from assignments assign_item terminal inputs_from inputs terminals named_gate unnamed_gate one_gate gates_from gates gate_item pin_name pin_signal pin_content connection connections_from some_connections connections instance instances_from instances cell_item item items_from items announced_name announced_names_from announced_names new_port facing_of facing new_ports_from new_ports header_names header heading module_end end_of_text module_text module_of place_after next_place words.reserved_words fmt.digits
+unfolding comment_rest attribute_rest blank_len begins_blank to_blank word_kind mark_kind escaped quote directive lexeme kind_of bytes left next same_kind sees refusal expect after number rest_of_range range range_if_any digits constant followed rest_of_select selection named_operand constant_operand operand opening closing concatenations_from expression declared_name declared_names_from declared_names declaration port_item wire_item right_side net_assignment net_assignments_from net_assignments assign_item terminal input_terminals_from input_terminals terminals named_gate unnamed_gate one_gate gates_from gates gate_item connected_pin pin_signal pin_content named_connection named_connections_from named_connections connections instance instances_from instances cell_item item items_from items announced_name announced_names_from announced_names declared_port port_declaration_of port_declaration declared_ports_from declared_ports header_names header heading module_end end_of_text module_text module_of place_after next_place words.reserved_words fmt.digits
 worked_6 = (refl, refl, refl, refl, refl, refl, refl, refl)
 
 pub worked_7 :
@@ -92,7 +92,7 @@ pub worked_7 :
     × (outcome (codes "module m (a); input a; INV u (.A(a), .Y(1'b0)); endmodule") ≡ refused cause.Token 1 41)
     × (outcome (codes "module m (a); input a; INV u (.A(a), .Y({n,1'b0})); endmodule") ≡ refused cause.Token 1 44)
     × (outcome (codes "module m (a); input a; INV u (.A(2'b0), .Y(n)); endmodule") ≡ refused cause.Misfit 1 31)
-unfolding comment_rest attribute_rest blank_len begins_blank to_blank word_kind mark_kind escaped quote directive lexeme kind_of bytes left next same_kind sees refusal expect after number rest_of_range range range_if_any digits constant followed rest_of_select selection named_operand constant_operand operand opening closing nest_from expression declared_name declared_names_from declared_names declaration port_item wire_item right_side assignment assignments_from assignments assign_item terminal inputs_from inputs terminals named_gate unnamed_gate one_gate gates_from gates gate_item pin_name pin_signal pin_content connection connections_from some_connections connections instance instances_from instances cell_item item items_from items announced_name announced_names_from announced_names new_port facing_of facing new_ports_from new_ports header_names header heading module_end end_of_text module_text module_of place_after next_place words.reserved_words fmt.digits
+unfolding comment_rest attribute_rest blank_len begins_blank to_blank word_kind mark_kind escaped quote directive lexeme kind_of bytes left next same_kind sees refusal expect after number rest_of_range range range_if_any digits constant followed rest_of_select selection named_operand constant_operand operand opening closing concatenations_from expression declared_name declared_names_from declared_names declaration port_item wire_item right_side net_assignment net_assignments_from net_assignments assign_item terminal input_terminals_from input_terminals terminals named_gate unnamed_gate one_gate gates_from gates gate_item connected_pin pin_signal pin_content named_connection named_connections_from named_connections connections instance instances_from instances cell_item item items_from items announced_name announced_names_from announced_names declared_port port_declaration_of port_declaration declared_ports_from declared_ports header_names header heading module_end end_of_text module_text module_of place_after next_place words.reserved_words fmt.digits
 worked_7 = (refl, refl, refl, refl, refl, refl, refl, refl)
 
 pub worked_8 :
@@ -104,7 +104,7 @@ pub worked_8 :
     × (outcome (codes "module m (a); input a; assign n = a; endmodule") ≡ None)
     × (outcome (codes "module m (a); input a; assign n = zz; endmodule") ≡ refused (cause.Undeclared (codes "zz")) 1 35)
     × (outcome (codes "module m (a); input a; assign {zz} = a; endmodule") ≡ refused (cause.Undeclared (codes "zz")) 1 32)
-unfolding comment_rest attribute_rest blank_len begins_blank to_blank word_kind mark_kind escaped quote directive lexeme kind_of bytes left next same_kind sees refusal expect after number rest_of_range range range_if_any digits constant followed rest_of_select selection named_operand constant_operand operand opening closing nest_from expression declared_name declared_names_from declared_names declaration port_item wire_item right_side assignment assignments_from assignments assign_item terminal inputs_from inputs terminals named_gate unnamed_gate one_gate gates_from gates gate_item pin_name pin_signal pin_content connection connections_from some_connections connections instance instances_from instances cell_item item items_from items announced_name announced_names_from announced_names new_port facing_of facing new_ports_from new_ports header_names header heading module_end end_of_text module_text module_of place_after next_place words.reserved_words fmt.digits
+unfolding comment_rest attribute_rest blank_len begins_blank to_blank word_kind mark_kind escaped quote directive lexeme kind_of bytes left next same_kind sees refusal expect after number rest_of_range range range_if_any digits constant followed rest_of_select selection named_operand constant_operand operand opening closing concatenations_from expression declared_name declared_names_from declared_names declaration port_item wire_item right_side net_assignment net_assignments_from net_assignments assign_item terminal input_terminals_from input_terminals terminals named_gate unnamed_gate one_gate gates_from gates gate_item connected_pin pin_signal pin_content named_connection named_connections_from named_connections connections instance instances_from instances cell_item item items_from items announced_name announced_names_from announced_names declared_port port_declaration_of port_declaration declared_ports_from declared_ports header_names header heading module_end end_of_text module_text module_of place_after next_place words.reserved_words fmt.digits
 worked_8 = (refl, refl, refl, refl, refl, refl, refl, refl)
 
 pub worked_9 :
@@ -116,7 +116,7 @@ pub worked_9 :
     × (outcome (codes "module m (a); input a; wire [3:0] d; INV u (.A(d[2])); endmodule") ≡ None)
     × (outcome (codes "module m (a); input a; wire [3:0] d; INV u (.A(d[4])); endmodule") ≡ refused cause.Misfit 1 48)
     × (outcome (codes "module m (a); input a; INV u (.A(a[0])); endmodule") ≡ refused cause.Misfit 1 34)
-unfolding comment_rest attribute_rest blank_len begins_blank to_blank word_kind mark_kind escaped quote directive lexeme kind_of bytes left next same_kind sees refusal expect after number rest_of_range range range_if_any digits constant followed rest_of_select selection named_operand constant_operand operand opening closing nest_from expression declared_name declared_names_from declared_names declaration port_item wire_item right_side assignment assignments_from assignments assign_item terminal inputs_from inputs terminals named_gate unnamed_gate one_gate gates_from gates gate_item pin_name pin_signal pin_content connection connections_from some_connections connections instance instances_from instances cell_item item items_from items announced_name announced_names_from announced_names new_port facing_of facing new_ports_from new_ports header_names header heading module_end end_of_text module_text module_of place_after next_place words.reserved_words fmt.digits
+unfolding comment_rest attribute_rest blank_len begins_blank to_blank word_kind mark_kind escaped quote directive lexeme kind_of bytes left next same_kind sees refusal expect after number rest_of_range range range_if_any digits constant followed rest_of_select selection named_operand constant_operand operand opening closing concatenations_from expression declared_name declared_names_from declared_names declaration port_item wire_item right_side net_assignment net_assignments_from net_assignments assign_item terminal input_terminals_from input_terminals terminals named_gate unnamed_gate one_gate gates_from gates gate_item connected_pin pin_signal pin_content named_connection named_connections_from named_connections connections instance instances_from instances cell_item item items_from items announced_name announced_names_from announced_names declared_port port_declaration_of port_declaration declared_ports_from declared_ports header_names header heading module_end end_of_text module_text module_of place_after next_place words.reserved_words fmt.digits
 worked_9 = (refl, refl, refl, refl, refl, refl, refl, refl)
 
 pub worked_10 :
@@ -128,7 +128,7 @@ pub worked_10 :
     × (outcome (codes "module m (a); input a; assign n = 0'bx; endmodule") ≡ refused cause.Misfit 1 35)
     × (outcome (codes "module m (a); input a; assign n = 129'bx; endmodule") ≡ refused cause.TooLarge 1 35)
     × (outcome (codes "module m (a); input a; assign n = 1'bx; endmodule") ≡ refused (cause.Unsupported (codes "x")) 1 38)
-unfolding comment_rest attribute_rest blank_len begins_blank to_blank word_kind mark_kind escaped quote directive lexeme kind_of bytes left next same_kind sees refusal expect after number rest_of_range range range_if_any digits constant followed rest_of_select selection named_operand constant_operand operand opening closing nest_from expression declared_name declared_names_from declared_names declaration port_item wire_item right_side assignment assignments_from assignments assign_item terminal inputs_from inputs terminals named_gate unnamed_gate one_gate gates_from gates gate_item pin_name pin_signal pin_content connection connections_from some_connections connections instance instances_from instances cell_item item items_from items announced_name announced_names_from announced_names new_port facing_of facing new_ports_from new_ports header_names header heading module_end end_of_text module_text module_of place_after next_place words.reserved_words fmt.digits
+unfolding comment_rest attribute_rest blank_len begins_blank to_blank word_kind mark_kind escaped quote directive lexeme kind_of bytes left next same_kind sees refusal expect after number rest_of_range range range_if_any digits constant followed rest_of_select selection named_operand constant_operand operand opening closing concatenations_from expression declared_name declared_names_from declared_names declaration port_item wire_item right_side net_assignment net_assignments_from net_assignments assign_item terminal input_terminals_from input_terminals terminals named_gate unnamed_gate one_gate gates_from gates gate_item connected_pin pin_signal pin_content named_connection named_connections_from named_connections connections instance instances_from instances cell_item item items_from items announced_name announced_names_from announced_names declared_port port_declaration_of port_declaration declared_ports_from declared_ports header_names header heading module_end end_of_text module_text module_of place_after next_place words.reserved_words fmt.digits
 worked_10 = (refl, refl, refl, refl, refl, refl, refl, refl)
 
 pub worked_11 :
@@ -140,7 +140,7 @@ pub worked_11 :
     × (outcome (codes "module m (a); input a; assign n = 1 'B 1; endmodule") ≡ None)
     × (outcome (codes "module m (a); input a; assign n = 1'q1; endmodule") ≡ refused cause.Token 1 36)
     × (outcome (codes "module m (a); input a; assign n = 1'") ≡ refused cause.Ended 1 37)
-unfolding comment_rest attribute_rest blank_len begins_blank to_blank word_kind mark_kind escaped quote directive lexeme kind_of bytes left next same_kind sees refusal expect after number rest_of_range range range_if_any digits constant followed rest_of_select selection named_operand constant_operand operand opening closing nest_from expression declared_name declared_names_from declared_names declaration port_item wire_item right_side assignment assignments_from assignments assign_item terminal inputs_from inputs terminals named_gate unnamed_gate one_gate gates_from gates gate_item pin_name pin_signal pin_content connection connections_from some_connections connections instance instances_from instances cell_item item items_from items announced_name announced_names_from announced_names new_port facing_of facing new_ports_from new_ports header_names header heading module_end end_of_text module_text module_of place_after next_place words.reserved_words fmt.digits
+unfolding comment_rest attribute_rest blank_len begins_blank to_blank word_kind mark_kind escaped quote directive lexeme kind_of bytes left next same_kind sees refusal expect after number rest_of_range range range_if_any digits constant followed rest_of_select selection named_operand constant_operand operand opening closing concatenations_from expression declared_name declared_names_from declared_names declaration port_item wire_item right_side net_assignment net_assignments_from net_assignments assign_item terminal input_terminals_from input_terminals terminals named_gate unnamed_gate one_gate gates_from gates gate_item connected_pin pin_signal pin_content named_connection named_connections_from named_connections connections instance instances_from instances cell_item item items_from items announced_name announced_names_from announced_names declared_port port_declaration_of port_declaration declared_ports_from declared_ports header_names header heading module_end end_of_text module_text module_of place_after next_place words.reserved_words fmt.digits
 worked_11 = (refl, refl, refl, refl, refl, refl, refl, refl)
 
 pub worked_12 :
@@ -152,7 +152,7 @@ pub worked_12 :
     × (outcome (codes "module m (a); input a; wire n; assign {n, 1'b0} = a; endmodule") ≡ refused cause.Token 1 43)
     × (outcome (codes "module m (a); input a; assign n = 1'd340282366920938463463374607431768211456; endmodule") ≡ refused cause.TooLarge 1 38)
     × (outcome (codes "module m (a); input a; assign n = 1'd340282366920938463463374607431768211455; endmodule") ≡ None)
-unfolding comment_rest attribute_rest blank_len begins_blank to_blank word_kind mark_kind escaped quote directive lexeme kind_of bytes left next same_kind sees refusal expect after number rest_of_range range range_if_any digits constant followed rest_of_select selection named_operand constant_operand operand opening closing nest_from expression declared_name declared_names_from declared_names declaration port_item wire_item right_side assignment assignments_from assignments assign_item terminal inputs_from inputs terminals named_gate unnamed_gate one_gate gates_from gates gate_item pin_name pin_signal pin_content connection connections_from some_connections connections instance instances_from instances cell_item item items_from items announced_name announced_names_from announced_names new_port facing_of facing new_ports_from new_ports header_names header heading module_end end_of_text module_text module_of place_after next_place words.reserved_words fmt.digits
+unfolding comment_rest attribute_rest blank_len begins_blank to_blank word_kind mark_kind escaped quote directive lexeme kind_of bytes left next same_kind sees refusal expect after number rest_of_range range range_if_any digits constant followed rest_of_select selection named_operand constant_operand operand opening closing concatenations_from expression declared_name declared_names_from declared_names declaration port_item wire_item right_side net_assignment net_assignments_from net_assignments assign_item terminal input_terminals_from input_terminals terminals named_gate unnamed_gate one_gate gates_from gates gate_item connected_pin pin_signal pin_content named_connection named_connections_from named_connections connections instance instances_from instances cell_item item items_from items announced_name announced_names_from announced_names declared_port port_declaration_of port_declaration declared_ports_from declared_ports header_names header heading module_end end_of_text module_text module_of place_after next_place words.reserved_words fmt.digits
 worked_12 = (refl, refl, refl, refl, refl, refl, refl, refl)
 
 pub worked_13 :
@@ -164,7 +164,7 @@ pub worked_13 :
     × (outcome (codes "module m (a); input a; buf (y,z,a); endmodule") ≡ refused cause.Misfit 1 28)
     × (outcome (codes "module m (a); input a; not n (1'b0,a); endmodule") ≡ refused cause.Token 1 31)
     × (outcome (codes "module m (a); input a; not (y,{a,a}); endmodule") ≡ refused cause.Misfit 1 31)
-unfolding comment_rest attribute_rest blank_len begins_blank to_blank word_kind mark_kind escaped quote directive lexeme kind_of bytes left next same_kind sees refusal expect after number rest_of_range range range_if_any digits constant followed rest_of_select selection named_operand constant_operand operand opening closing nest_from expression declared_name declared_names_from declared_names declaration port_item wire_item right_side assignment assignments_from assignments assign_item terminal inputs_from inputs terminals named_gate unnamed_gate one_gate gates_from gates gate_item pin_name pin_signal pin_content connection connections_from some_connections connections instance instances_from instances cell_item item items_from items announced_name announced_names_from announced_names new_port facing_of facing new_ports_from new_ports header_names header heading module_end end_of_text module_text module_of place_after next_place words.reserved_words fmt.digits
+unfolding comment_rest attribute_rest blank_len begins_blank to_blank word_kind mark_kind escaped quote directive lexeme kind_of bytes left next same_kind sees refusal expect after number rest_of_range range range_if_any digits constant followed rest_of_select selection named_operand constant_operand operand opening closing concatenations_from expression declared_name declared_names_from declared_names declaration port_item wire_item right_side net_assignment net_assignments_from net_assignments assign_item terminal input_terminals_from input_terminals terminals named_gate unnamed_gate one_gate gates_from gates gate_item connected_pin pin_signal pin_content named_connection named_connections_from named_connections connections instance instances_from instances cell_item item items_from items announced_name announced_names_from announced_names declared_port port_declaration_of port_declaration declared_ports_from declared_ports header_names header heading module_end end_of_text module_text module_of place_after next_place words.reserved_words fmt.digits
 worked_13 = (refl, refl, refl, refl, refl, refl, refl, refl)
 
 pub worked_14 :
@@ -176,5 +176,5 @@ pub worked_14 :
     × (outcome (codes "(* keep = \"*)\" *) module m (a); (* x *) input a; endmodule") ≡ None)
     × (outcome (codes "module m (a); input a; INV u (.A(a) /* * / */, .Y(n)); // c\nendmodule") ≡ None)
     × (outcome (codes "module m (a)\n; input a;\n  zz") ≡ refused (cause.NoCell (codes "zz")) 3 3)
-unfolding comment_rest attribute_rest blank_len begins_blank to_blank word_kind mark_kind escaped quote directive lexeme kind_of bytes left next same_kind sees refusal expect after number rest_of_range range range_if_any digits constant followed rest_of_select selection named_operand constant_operand operand opening closing nest_from expression declared_name declared_names_from declared_names declaration port_item wire_item right_side assignment assignments_from assignments assign_item terminal inputs_from inputs terminals named_gate unnamed_gate one_gate gates_from gates gate_item pin_name pin_signal pin_content connection connections_from some_connections connections instance instances_from instances cell_item item items_from items announced_name announced_names_from announced_names new_port facing_of facing new_ports_from new_ports header_names header heading module_end end_of_text module_text module_of place_after next_place words.reserved_words fmt.digits
+unfolding comment_rest attribute_rest blank_len begins_blank to_blank word_kind mark_kind escaped quote directive lexeme kind_of bytes left next same_kind sees refusal expect after number rest_of_range range range_if_any digits constant followed rest_of_select selection named_operand constant_operand operand opening closing concatenations_from expression declared_name declared_names_from declared_names declaration port_item wire_item right_side net_assignment net_assignments_from net_assignments assign_item terminal input_terminals_from input_terminals terminals named_gate unnamed_gate one_gate gates_from gates gate_item connected_pin pin_signal pin_content named_connection named_connections_from named_connections connections instance instances_from instances cell_item item items_from items announced_name announced_names_from announced_names declared_port port_declaration_of port_declaration declared_ports_from declared_ports header_names header heading module_end end_of_text module_text module_of place_after next_place words.reserved_words fmt.digits
 worked_14 = (refl, refl, refl, refl, refl, refl, refl, refl)

@@ -1,4 +1,4 @@
--- Expressions of netlist texts: names, their bits and parts, constants and concatenations (IEEE 1364).
+-- Expressions of netlist texts: names, bit-selects, part-selects, constants and concatenations (IEEE 1364).
 use Rattle.std.specs.Prelude.{ℕ, zero, suc, ◌+◌, ◌-◌, ◌/◌, ◌%◌, ◌^◌, Bool, true, false, not, ◌&&◌, ◌||◌, ◌==◌, nat_le, nat_lt, if◌then◌else◌, List, [], ◌∷◌, ◌++◌, length, map, filter, find, Option, Some, None, Ok, Err, slice_index}
 use Rattle.std.specs.List.{list_all}
 use Rattle.std.specs.Char.{is_digit}
@@ -7,6 +7,7 @@ use Rattle.dft_base.specs.declared.place.Range.{Range}
 use Rattle.dft_base.specs.Lexing.{Text}
 use Rattle.dft_base.specs.Parser.{Checked, pure, ◌>>=◌, ◌>>◌}
 use Rattle.dft_base.specs.Words.{is_reserved}
+use Rattle.dft_base.specs.Ranges.{going_up, width, has_index, place_in, has_part}
 use Rattle.dft_netlist.specs.declared.instance.Signal.{Signal}
 use Rattle.dft_netlist.specs.declared.instance.Signal.TheVariants as signal
 use Rattle.dft_netlist_text.specs.declared.text.TokenKind.{TokenKind}
@@ -23,7 +24,7 @@ use Rattle.dft_netlist_text.specs.declared.text.Select.TheVariants as select
 use Rattle.dft_netlist_text.specs.declared.text.Site.{Site}
 use Rattle.dft_netlist_text.specs.declared.text.Site.TheVariants as site
 use Rattle.dft_netlist_text.specs.Steps.{Rule, kind_of, left, next, sees, refuse, expect, fault, needed, checked}
-use Rattle.dft_netlist_text.specs.Modules.{Draft, meaning_of, declared_at, declare_nets, falls, width, count_from}
+use Rattle.dft_netlist_text.specs.Modules.{Draft, meaning_of, declared_at, declare_nets}
 
 -- ---- numbers
 
@@ -115,19 +116,7 @@ constant = λ ts. (number >>= (λ size. needed cause.Misfit (left ts) (nat_lt 0 
 
 -- the bits of nets, leftmost first
 abbrev pub nets_of_shape : ℕ → ℕ → List Signal
-nets_of_shape first count = map (λ net. signal.Net (record { 0 = net })) (count_from first count)
-
--- whether a range has the index, and how far it is from the left
-abbrev pub has_index : Range → ℕ → Bool
-has_index r index = if falls r then nat_le r.right index && nat_le index r.left else nat_le r.left index && nat_le index r.right
-
--- how far an index is from the left of a range
-abbrev pub place_in : Range → ℕ → ℕ
-place_in r index = if falls r then r.left - index else index - r.left
-
--- whether a part lies in a range and goes its way
-abbrev pub has_part : Range → Range → Bool
-has_part r part = has_index r part.left && has_index r part.right && nat_le (place_in r part.left) (place_in r part.right)
+nets_of_shape first count = map (λ net. signal.Net (record { 0 = net })) (going_up first count)
 
 -- what is selected of nets with this range, if it is there
 abbrev pub selected_of_vector : Shape → Range → Select → Option (List Signal)
@@ -171,7 +160,7 @@ drives site.Target = true
 drives site.Source = false
 
 -- a name with its selection and its place
-pub record Named : Type 0 where
+pub record SelectedName : Type 0 where
   pub word : Text
   pub what : Select
   pub place : ℕ
@@ -186,17 +175,17 @@ fitting place d None = Err (fault cause.Misfit place)
 fitting place d (Some bits) = Ok (d, bits)
 
 -- the net that a name stands for which was declared just now
-abbrev pub implied_net : Named → Draft → Checked Fault Draft → Checked Fault Operand
+abbrev pub implied_net : SelectedName → Draft → Checked Fault Draft → Checked Fault Operand
 implied_net named old (Err f) = Err f
 implied_net named old (Ok new) = Ok (new, nets_of_shape (length old.nets) 1)
 
 -- the bits of a port, which must have been declared
-abbrev pub bits_of_port : Named → Draft → Option Declared → Checked Fault Operand
+abbrev pub bits_of_port : SelectedName → Draft → Option Declared → Checked Fault Operand
 bits_of_port named d None = Err (fault (cause.Undeclared named.word) named.place)
 bits_of_port named d (Some declared) = fitting named.place d (selected declared.shape named.what)
 
 -- What a name gives: nets, or a net that it implies, or why it is refused.
-abbrev pub bits_of_meaning : (implied : Bool) → Named → Draft → Option Meaning → Checked Fault Operand
+abbrev pub bits_of_meaning : (implied : Bool) → SelectedName → Draft → Option Meaning → Checked Fault Operand
 bits_of_meaning implied named d (Some (meaning.Nets shape)) = fitting named.place d (selected shape named.what)
 bits_of_meaning implied named d (Some (meaning.Port port)) = bits_of_port named d (declared_at d port)
 bits_of_meaning implied named d (Some meaning.Bit) = Err (fault (cause.Taken named.word) named.place)
@@ -206,7 +195,7 @@ bits_of_meaning true named d None = implied_net named d (declare_nets named.plac
 bits_of_meaning false named d None = Err (fault (cause.Undeclared named.word) named.place)
 
 -- what a name gives where it stands; only a whole name may be implied
-abbrev pub bits_of_name : Site → (depth : ℕ) → Named → Draft → Checked Fault Operand
+abbrev pub bits_of_name : Site → (depth : ℕ) → SelectedName → Draft → Checked Fault Operand
 bits_of_name at depth named d = bits_of_meaning (implies at depth && is_whole named.what) named d (meaning_of d named.word)
 
 -- ---- operands
@@ -266,43 +255,43 @@ operand at depth d = λ ts. if sees kind.Number ts then constant_operand at dept
 -- ---- concatenations
 
 -- how far an expression is read: how many concatenations are open, whether an operand comes next, and the bits so far
-pub record Nest : Type 0 where
+pub record OpenConcatenations : Type 0 where
   pub depth : ℕ
   pub awaits : Bool
   pub bits : List Signal
 
 -- nothing is read yet
-abbrev pub unread : Nest
+abbrev pub unread : OpenConcatenations
 unread = record { depth = 0; awaits = true; bits = [] }
 
 -- whether the expression is read
-abbrev pub is_read : Nest → Bool
-is_read nest = not nest.awaits && nest.depth == 0
+abbrev pub is_read : OpenConcatenations → Bool
+is_read so_far = not so_far.awaits && so_far.depth == 0
 
 -- the bits of an operand come behind those before
-abbrev pub with_operand : Nest → Operand → Draft × Nest
-with_operand nest o = (o.0, record nest { awaits = false; bits = nest.bits ++ o.1 })
+abbrev pub with_operand : OpenConcatenations → Operand → Draft × OpenConcatenations
+with_operand so_far o = (o.0, record so_far { awaits = false; bits = so_far.bits ++ o.1 })
 
 -- a concatenation opens, or an operand comes
-unfoldable pub opening : Site → Draft → Nest → Rule (Draft × Nest)
-opening at d nest = λ ts. if sees kind.OpenBrace ts then Ok ((d, record nest { depth = suc nest.depth }), next ts) else (operand at nest.depth d >>= (λ o. pure (with_operand nest o))) ts
+unfoldable pub opening : Site → Draft → OpenConcatenations → Rule (Draft × OpenConcatenations)
+opening at d so_far = λ ts. if sees kind.OpenBrace ts then Ok ((d, record so_far { depth = suc so_far.depth }), next ts) else (operand at so_far.depth d >>= (λ o. pure (with_operand so_far o))) ts
 
 -- behind an operand of a concatenation comes a comma, or the concatenation closes
-unfoldable pub closing : Draft → Nest → Rule (Draft × Nest)
-closing d nest = λ ts. if sees kind.Comma ts then Ok ((d, record nest { awaits = true }), next ts) else (expect kind.CloseBrace >> pure (d, record nest { depth = nest.depth - 1 })) ts
+unfoldable pub closing : Draft → OpenConcatenations → Rule (Draft × OpenConcatenations)
+closing d so_far = λ ts. if sees kind.Comma ts then Ok ((d, record so_far { awaits = true }), next ts) else (expect kind.CloseBrace >> pure (d, record so_far { depth = so_far.depth - 1 })) ts
 
 -- one step through an expression
-abbrev pub turn : Site → Draft → Nest → Rule (Draft × Nest)
-turn at d nest = if nest.awaits then opening at d nest else closing d nest
+abbrev pub turn : Site → Draft → OpenConcatenations → Rule (Draft × OpenConcatenations)
+turn at d so_far = if so_far.awaits then opening at d so_far else closing d so_far
 
 -- the rest of an expression
-unfoldable pub nest_from : ℕ → Site → Draft → Nest → Rule (Draft × Nest)
-nest_from zero at d nest = refuse
-nest_from (suc n) at d nest = λ ts. if is_read nest then Ok ((d, nest), ts) else (turn at d nest >>= (λ p. nest_from n at p.0 p.1)) ts
+unfoldable pub concatenations_from : ℕ → Site → Draft → OpenConcatenations → Rule (Draft × OpenConcatenations)
+concatenations_from zero at d so_far = refuse
+concatenations_from (suc n) at d so_far = λ ts. if is_read so_far then Ok ((d, so_far), ts) else (turn at d so_far >>= (λ p. concatenations_from n at p.0 p.1)) ts
 
 -- An expression: its bits, leftmost first. Each turn takes a byte at least.
 unfoldable pub expression : Site → Draft → Rule Operand
 expression at d = λ ts. (do
-  p ← nest_from (suc (left ts)) at d unread
+  p ← concatenations_from (suc (left ts)) at d unread
   followed at 0
   pure (p.0, p.1.bits)) ts

@@ -1,16 +1,16 @@
--- The items of a module: declarations, assignments, gates and instances of cells (IEEE 1364, structural part).
-use Rattle.std.specs.Prelude.{ℕ, zero, suc, Bool, true, false, not, ◌&&◌, ◌==◌, nat_le, if◌then◌else◌, List, [], ◌∷◌, ◌++◌, length, map, replicate, position, Option, Some, None, slice_get, slice_set, Ok, Err}
+-- The items of a module: port and net declarations, continuous assignments, gate instantiations, and module instantiations, which are of cells
+-- (IEEE 1364, structural part).
+use Rattle.std.specs.Prelude.{ℕ, zero, suc, Bool, true, false, not, ◌==◌, if◌then◌else◌, List, [], ◌∷◌, ◌++◌, length, map, replicate, position, Option, Some, None, slice_get, slice_set, Ok, Err}
 use Rattle.std.specs.Str.{bytes_eq}
 use Rattle.dft_base.specs.declared.place.Range.{Range}
 use Rattle.dft_base.specs.Lexing.{Text}
 use Rattle.dft_base.specs.Parser.{pure, ◌>>=◌, ◌>>◌}
 use Rattle.dft_cells.specs.declared.kind.Kind.{Kind}
 use Rattle.dft_cells.specs.declared.kind.Kind.TheVariants as primitive
-use Rattle.dft_cells.specs.declared.kind.Role.{Role}
-use Rattle.dft_cells.specs.declared.kind.Role.TheVariants as role
 use Rattle.dft_cells.specs.declared.cell.CellId.{CellId}
 use Rattle.dft_cells.specs.declared.cell.Pin.{Pin}
 use Rattle.dft_cells.specs.declared.cell.Cell.{Cell}
+use Rattle.dft_cells.specs.Pins.{is_output, takes_inputs}
 use Rattle.dft_cells.specs.Cells.{find_cell}
 use Rattle.dft_netlist.specs.declared.ids.NetId.{NetId}
 use Rattle.dft_base.specs.declared.dir.Dir.{Dir}
@@ -27,7 +27,7 @@ use Rattle.dft_netlist_text.specs.Steps.{Rule, kind_of, left, next, sees, refuse
 use Rattle.dft_netlist_text.specs.Modules.{Draft, declare_port, declare_wire, name_instance, room_for_instance, with_instance, with_join}
 use Rattle.dft_netlist_text.specs.Expressions.{range_if_any, expression, drives}
 
--- ---- declarations of ports and wires
+-- ---- port declarations and net declarations
 
 -- what a declaration declares: ports of a direction, or wires
 pub data Declaring : Type 0 where
@@ -71,51 +71,51 @@ port_item dir d = λ ts. (eat kind.Wire >>= (λ wire. declaration (Ports dir) d)
 unfoldable pub wire_item : Draft → Rule Draft
 wire_item d = λ ts. declaration Wires d (next ts)
 
--- ---- assignments
+-- ---- continuous assignments
 
 -- the net of a signal that is driven; constants are not
-abbrev pub net_of : Signal → NetId
-net_of (signal.Net net) = net
-net_of (signal.Constant bit) = record { 0 = 0 }
-net_of signal.Unconnected = record { 0 = 0 }
+abbrev pub driven_net : Signal → NetId
+driven_net (signal.Net net) = net
+driven_net (signal.Constant bit) = record { 0 = 0 }
+driven_net signal.Unconnected = record { 0 = 0 }
 
 -- each bit on the left has the bit on the right, leftmost first
 abbrev pub with_joins : List Signal → List Signal → Draft → Draft
 with_joins [] sources d = d
 with_joins (target ∷ targets) [] d = d
-with_joins (target ∷ targets) (source ∷ sources) d = with_joins targets sources (with_join (record { target = net_of target; source = source }) d)
+with_joins (target ∷ targets) (source ∷ sources) d = with_joins targets sources (with_join (record { target = driven_net target; source = source }) d)
 
 -- the sides are as wide; the right side is read from this place on
-abbrev pub joined : ℕ → List Signal → List Signal → Draft → Rule Draft
-joined place targets sources d = needed cause.Misfit place (length targets == length sources) (pure (with_joins targets sources d))
+abbrev pub assigned : ℕ → List Signal → List Signal → Draft → Rule Draft
+assigned place targets sources d = needed cause.Misfit place (length targets == length sources) (pure (with_joins targets sources d))
 
 -- the right side of an assignment, for these bits on the left
 unfoldable pub right_side : List Signal → Draft → Rule Draft
-right_side targets d = λ ts. (expression site.Source d >>= (λ o. joined (left ts) targets o.1 o.0)) ts
+right_side targets d = λ ts. (expression site.Source d >>= (λ o. assigned (left ts) targets o.1 o.0)) ts
 
 -- a left side, `=`, and a right side
-unfoldable pub assignment : Draft → Rule Draft
-assignment d = do
+unfoldable pub net_assignment : Draft → Rule Draft
+net_assignment d = do
   o ← expression site.Target d
   expect kind.Equals
   right_side o.1 o.0
 
 -- the assignments that are left of a list
-unfoldable pub assignments_from : ℕ → Draft → Rule Draft
-assignments_from zero d = refuse
-assignments_from (suc n) d = do
-  more ← assignment d
+unfoldable pub net_assignments_from : ℕ → Draft → Rule Draft
+net_assignments_from zero d = refuse
+net_assignments_from (suc n) d = do
+  more ← net_assignment d
   comma ← eat kind.Comma
-  if comma then assignments_from n more else pure more
+  if comma then net_assignments_from n more else pure more
 
 -- assignments with commas between them
-unfoldable pub assignments : Draft → Rule Draft
-assignments d = λ ts. assignments_from (left ts) d ts
+unfoldable pub net_assignments : Draft → Rule Draft
+net_assignments d = λ ts. net_assignments_from (left ts) d ts
 
 -- `assign` and its assignments
 unfoldable pub assign_item : Draft → Rule Draft
 assign_item d = λ ts. (do
-  more ← assignments d
+  more ← net_assignments d
   expect kind.Semicolon
   pure more) (next ts)
 
@@ -131,7 +131,7 @@ one_bit place d (bit ∷ []) = pure (d, bit)
 one_bit place d [] = λ ts. Err (fault cause.Misfit place)
 one_bit place d (bit ∷ more ∷ bits) = λ ts. Err (fault cause.Misfit place)
 
--- ---- gates
+-- ---- gate instantiations
 
 -- the kind of a gate primitive
 abbrev pub gate_kind : TokenKind → Option Kind
@@ -145,26 +145,20 @@ gate_kind kind.Buf = Some primitive.Buf
 gate_kind kind.Not = Some primitive.Inv
 gate_kind _ = None
 
--- whether a gate may have this number of inputs: a buffer and an inverter one, another gate one to eight
-abbrev pub has_inputs : Kind → ℕ → Bool
-has_inputs primitive.Buf n = n == 1
-has_inputs primitive.Inv n = n == 1
-has_inputs _ n = nat_le 1 n && nat_le n 8
-
 -- a terminal; its width is tested at its first token
 unfoldable pub terminal : (drives : Bool) → Draft → Rule One
 terminal drives d = λ ts. (expression (site.Terminal drives) d >>= (λ o. one_bit (left ts) o.0 o.1)) ts
 
 -- the terminals behind the first
-unfoldable pub inputs_from : ℕ → Draft → List Signal → Rule (Draft × List Signal)
-inputs_from zero d inputs = refuse
-inputs_from (suc n) d inputs = do
+unfoldable pub input_terminals_from : ℕ → Draft → List Signal → Rule (Draft × List Signal)
+input_terminals_from zero d input_terminals = refuse
+input_terminals_from (suc n) d input_terminals = do
   comma ← eat kind.Comma
-  if comma then (terminal false d >>= (λ o. inputs_from n o.0 (inputs ++ o.1 ∷ []))) else pure (d, inputs)
+  if comma then (terminal false d >>= (λ o. input_terminals_from n o.0 (input_terminals ++ o.1 ∷ []))) else pure (d, input_terminals)
 
 -- all terminals behind the first
-unfoldable pub inputs : Draft → Rule (Draft × List Signal)
-inputs d = λ ts. inputs_from (left ts) d [] ts
+unfoldable pub input_terminals : Draft → Rule (Draft × List Signal)
+input_terminals d = λ ts. input_terminals_from (left ts) d [] ts
 
 -- a gate's pins are its inputs, then its output
 abbrev pub gate_instance : Kind → Option Text → Signal → List Signal → Instance
@@ -174,9 +168,9 @@ gate_instance k word output ins = record { name = word; cell = cell_ref.Gate k (
 unfoldable pub terminals : Kind → Option Text → ℕ → Draft → Rule Draft
 terminals k word place d = do
   output ← terminal true d
-  ins ← inputs output.0
+  ins ← input_terminals output.0
   expect kind.CloseParen
-  needed cause.Misfit place (has_inputs k (length ins.1)) (pure (with_instance (gate_instance k word output.1 ins.1) ins.0))
+  needed cause.Misfit place (takes_inputs k (length ins.1)) (pure (with_instance (gate_instance k word output.1 ins.1) ins.0))
 
 -- a gate with a name
 unfoldable pub named_gate : Kind → Draft → Rule Draft
@@ -215,7 +209,7 @@ gate_item k d = λ ts. (do
   expect kind.Semicolon
   pure more) (next ts)
 
--- ---- instances of cells
+-- ---- module instantiations, of cells
 
 -- what each pin of a cell is joined to, so far
 abbrev pub Joined : Type 0
@@ -229,16 +223,10 @@ unjoined cell = replicate (length cell.pins) None
 abbrev pub pin_place : Cell → Text → Option ℕ
 pin_place cell word = position (λ (p : Pin). bytes_eq p.name word) cell.pins
 
--- whether a pin of this role drives its net
-abbrev pub is_driving : Role → Bool
-is_driving role.Output = true
-is_driving role.Inverted = true
-is_driving _ = false
-
 -- whether this pin drives its net
 abbrev pub pin_drives : Option Pin → Bool
 pin_drives None = false
-pin_drives (Some pin) = is_driving pin.role
+pin_drives (Some pin) = is_output pin.role
 
 -- whether a pin was named before, be it with nothing between the brackets
 abbrev pub was_joined : Option (Option Signal) → Bool
@@ -251,8 +239,8 @@ found_pin place word joined None = λ ts. Err (fault (cause.NoPin word) place)
 found_pin place word joined (Some pin) = needed (cause.JoinedTwice word) place (not (was_joined (slice_get joined pin))) (pure pin)
 
 -- the name of a pin, which is tested at itself
-unfoldable pub pin_name : Cell → Joined → Rule ℕ
-pin_name cell joined = λ ts. (expect kind.Name >>= (λ word. found_pin (left ts) word joined (pin_place cell word))) ts
+unfoldable pub connected_pin : Cell → Joined → Rule ℕ
+connected_pin cell joined = λ ts. (expect kind.Name >>= (λ word. found_pin (left ts) word joined (pin_place cell word))) ts
 
 -- the draft behind a connection, and what the pins are joined to then
 abbrev pub Connected : Type 0
@@ -269,30 +257,30 @@ unfoldable pub pin_content : Cell → ℕ → Draft → ℕ → Rule One
 pin_content cell place d pin = λ ts. if sees kind.CloseParen ts then Ok ((d, signal.Unconnected), ts) else pin_signal cell place d pin ts
 
 -- a point, a pin, and what it is joined to; the width is tested at the point
-unfoldable pub connection : Cell → Connected → Rule Connected
-connection cell c = λ ts. (do
+unfoldable pub named_connection : Cell → Connected → Rule Connected
+named_connection cell c = λ ts. (do
   expect kind.Point
-  pin ← pin_name cell c.1
+  pin ← connected_pin cell c.1
   expect kind.OpenParen
   to ← pin_content cell (left ts) c.0 pin
   expect kind.CloseParen
   pure (to.0, slice_set c.1 pin (Some to.1))) ts
 
 -- the connections that are left of a list
-unfoldable pub connections_from : ℕ → Cell → Connected → Rule Connected
-connections_from zero cell c = refuse
-connections_from (suc n) cell c = do
-  more ← connection cell c
+unfoldable pub named_connections_from : ℕ → Cell → Connected → Rule Connected
+named_connections_from zero cell c = refuse
+named_connections_from (suc n) cell c = do
+  more ← named_connection cell c
   comma ← eat kind.Comma
-  if comma then connections_from n cell more else pure more
+  if comma then named_connections_from n cell more else pure more
 
 -- connections with commas between them
-unfoldable pub some_connections : Cell → Connected → Rule Connected
-some_connections cell c = λ ts. connections_from (left ts) cell c ts
+unfoldable pub named_connections : Cell → Connected → Rule Connected
+named_connections cell c = λ ts. named_connections_from (left ts) cell c ts
 
 -- connections, or none
 unfoldable pub connections : Cell → Connected → Rule Connected
-connections cell c = λ ts. if sees kind.CloseParen ts then Ok (c, ts) else some_connections cell c ts
+connections cell c = λ ts. if sees kind.CloseParen ts then Ok (c, ts) else named_connections cell c ts
 
 -- a pin that was not named is not connected
 abbrev pub signal_at : Option Signal → Signal

@@ -1,7 +1,7 @@
 -- The tokens of a netlist text (IEEE 1364, lexical conventions), and the blanks between them.
 use Rattle.std.specs.Prelude.{ℕ, suc, ◌+◌, ◌-◌, Bool, true, false, not, ◌&&◌, ◌||◌, ◌==◌, nat_lt, if◌then◌else◌, List, [], ◌∷◌, length, take, drop, codes, Option, Some, None, option_map, slice_index}
 use Rattle.std.specs.List.{prefix_len}
-use Rattle.std.specs.Char.{is_ascii_digit, is_ascii_alphanumeric}
+use Rattle.std.specs.Char.{is_ascii_digit}
 use Rattle.std.specs.Str.{bytes_eq}
 use Rattle.dft_base.specs.Lexing.{Text, Front, Cut, tokens_from}
 use Rattle.dft_base.specs.Lexing as lexing

@@ -1,7 +1,8 @@
 -- What a module has said so far, and how its names grow (IEEE 1364).
-use Rattle.std.specs.Prelude.{ℕ, zero, suc, ◌+◌, ◌-◌, Bool, true, false, not, ◌&&◌, ◌==◌, nat_le, nat_lt, if◌then◌else◌, List, [], ◌∷◌, ◌++◌, length, find, Option, Some, None, option_map, option_and_then, is_some, slice_get, slice_set, Ok, Err}
+use Rattle.std.specs.Prelude.{ℕ, ◌+◌, Bool, true, false, not, ◌&&◌, ◌==◌, nat_le, nat_lt, if◌then◌else◌, List, [], ◌∷◌, ◌++◌, length, find, Option, Some, None, option_map, option_and_then, is_some, slice_get, slice_set, Ok, Err}
 use Rattle.std.specs.Str.{bytes_eq}
 use Rattle.dft_base.specs.declared.place.Range.{Range}
+use Rattle.dft_base.specs.Ranges.{width}
 use Rattle.dft_base.specs.Lexing.{Text}
 use Rattle.dft_base.specs.Parser.{Checked}
 use Rattle.dft_cells.specs.declared.cell.Cell.{Cell}
@@ -25,7 +26,7 @@ pub record HeaderPort : Type 0 where
   pub declared : Option Declared
 
 -- a name that is taken, and what it stands for
-pub record Entry : Type 0 where
+pub record TakenName : Type 0 where
   pub name : Text
   pub meaning : Meaning
 
@@ -34,7 +35,7 @@ pub record Draft : Type 0 where
   pub name : Text
   pub library : List Cell
   -- every name that is taken
-  pub names : List Entry
+  pub names : List TakenName
   -- the ports in the order of the header
   pub ports : List HeaderPort
   -- the printed name of each net
@@ -43,14 +44,14 @@ pub record Draft : Type 0 where
   pub joins : List Join
 
 -- the module with this name that has said nothing yet
-abbrev pub begun : Text → List Cell → Draft
-begun name library = record { name = name; library = library; names = []; ports = []; nets = []; instances = []; joins = [] }
+abbrev pub empty_draft : Text → List Cell → Draft
+empty_draft name library = record { name = name; library = library; names = []; ports = []; nets = []; instances = []; joins = [] }
 
 -- ---- names
 
 -- what a name stands for, if it is taken
 abbrev pub meaning_of : Draft → Text → Option Meaning
-meaning_of d word = option_map (λ (e : Entry). e.meaning) (find (λ e. bytes_eq e.name word) d.names)
+meaning_of d word = option_map (λ (e : TakenName). e.meaning) (find (λ e. bytes_eq e.name word) d.names)
 
 -- whether a name is taken
 abbrev pub is_taken : Draft → Text → Bool
@@ -61,19 +62,6 @@ abbrev pub with_name : Text → Meaning → Draft → Draft
 with_name word meant d = record d { names = d.names ++ record { name = word; meaning = meant } ∷ [] }
 
 -- ---- vectors
-
--- whether the left index is the higher one
-abbrev pub falls : Range → Bool
-falls r = nat_le r.right r.left
-
--- how many bits a range has
-abbrev pub width : Range → ℕ
-width r = suc (if falls r then r.left - r.right else r.right - r.left)
-
--- the numbers from one on, as many as this
-abbrev pub count_from : ℕ → ℕ → List ℕ
-count_from from zero = []
-count_from from (suc n) = from ∷ count_from (suc from) n
 
 -- how many nets a name with this range has
 abbrev pub net_count : Option Range → ℕ

@@ -8,6 +8,7 @@ use Rattle.dft_cells.specs.declared.cell.Cell.{Cell}
 use Rattle.dft_netlist.specs.declared.ids.NetId.{NetId}
 use Rattle.dft_base.specs.declared.dir.Dir.{Dir}
 use Rattle.dft_base.specs.declared.dir.Dir.TheVariants as dir
+use Rattle.dft_base.specs.Ranges.{going_up}
 use Rattle.dft_netlist.specs.declared.instance.Signal.{Signal}
 use Rattle.dft_netlist.specs.declared.instance.Signal.TheVariants as signal
 use Rattle.dft_netlist.specs.declared.instance.Instance.{Instance}
@@ -24,7 +25,7 @@ use Rattle.dft_netlist.specs.Finishing.{IsFinished}
 use Rattle.dft_netlist.specs.Netlist.{Netlist}
 use Rattle.dft_netlist_text.specs.Lexemes.{Token, tokens}
 use Rattle.dft_netlist_text.specs.Steps.{Rule, left, next, sees, refuse, expect, eat, fault, checked}
-use Rattle.dft_netlist_text.specs.Modules.{Draft, HeaderPort, begun, announce, declare_new_port, net_count, count_from}
+use Rattle.dft_netlist_text.specs.Modules.{Draft, HeaderPort, empty_draft, announce, declare_new_port, net_count}
 use Rattle.dft_netlist_text.specs.Expressions.{range_if_any}
 use Rattle.dft_netlist_text.specs.Items.{items}
 
@@ -47,36 +48,36 @@ unfoldable pub announced_names : Draft → Rule Draft
 announced_names d = λ ts. announced_names_from (left ts) d ts
 
 -- one name of a header with directions
-unfoldable pub new_port : Dir → Option Range → Draft → Rule Draft
-new_port dir range d = λ ts. (expect kind.Name >>= (λ word. checked (declare_new_port (left ts) word dir range d))) ts
+unfoldable pub declared_port : Dir → Option Range → Draft → Rule Draft
+declared_port dir range d = λ ts. (expect kind.Name >>= (λ word. checked (declare_new_port (left ts) word dir range d))) ts
 
 -- what the names behind a direction have: the direction and the range
-pub record Facing : Type 0 where
+pub record PortDeclaration : Type 0 where
   pub dir : Dir
   pub range : Option Range
 
 -- `input` or `output`, perhaps `wire`, perhaps a range
-unfoldable pub facing_of : Dir → Rule Facing
-facing_of dir = λ ts. (eat kind.Wire >>= (λ wire. range_if_any >>= (λ range. pure (record { dir = dir; range = range })))) (next ts)
+unfoldable pub port_declaration_of : Dir → Rule PortDeclaration
+port_declaration_of dir = λ ts. (eat kind.Wire >>= (λ wire. range_if_any >>= (λ range. pure (record { dir = dir; range = range })))) (next ts)
 
 -- a new direction, or the one of the name before
-unfoldable pub facing : Facing → Rule Facing
-facing before = λ ts.
-    if sees kind.Input ts then facing_of dir.Input ts
-    else (if sees kind.Output ts then facing_of dir.Output ts else Ok (before, ts))
+unfoldable pub port_declaration : PortDeclaration → Rule PortDeclaration
+port_declaration before = λ ts.
+    if sees kind.Input ts then port_declaration_of dir.Input ts
+    else (if sees kind.Output ts then port_declaration_of dir.Output ts else Ok (before, ts))
 
 -- the names that are left of a header with directions
-unfoldable pub new_ports_from : ℕ → Facing → Draft → Rule Draft
-new_ports_from zero before d = refuse
-new_ports_from (suc n) before d = do
-  here ← facing before
-  more ← new_port here.dir here.range d
+unfoldable pub declared_ports_from : ℕ → PortDeclaration → Draft → Rule Draft
+declared_ports_from zero before d = refuse
+declared_ports_from (suc n) before d = do
+  here ← port_declaration before
+  more ← declared_port here.dir here.range d
   comma ← eat kind.Comma
-  if comma then new_ports_from n here more else pure more
+  if comma then declared_ports_from n here more else pure more
 
 -- the first name has a direction of its own
-unfoldable pub new_ports : Draft → Rule Draft
-new_ports d = λ ts. new_ports_from (left ts) (record { dir = dir.Input; range = None }) d ts
+unfoldable pub declared_ports : Draft → Rule Draft
+declared_ports d = λ ts. declared_ports_from (left ts) (record { dir = dir.Input; range = None }) d ts
 
 -- whether the first name has a direction
 abbrev pub sees_direction : List Token → Bool
@@ -86,7 +87,7 @@ sees_direction ts = if sees kind.Input ts then true else sees kind.Output ts
 unfoldable pub header_names : Draft → Rule Draft
 header_names d = λ ts.
     if sees kind.CloseParen ts then Ok (d, ts)
-    else (if sees_direction ts then new_ports d ts else announced_names d ts)
+    else (if sees_direction ts then declared_ports d ts else announced_names d ts)
 
 -- the header in brackets, or none
 unfoldable pub header : Draft → Rule Draft
@@ -97,7 +98,7 @@ unfoldable pub heading : List Cell → Rule Draft
 heading library = do
   expect kind.Module
   word ← expect kind.Name
-  d ← header (begun word library)
+  d ← header (empty_draft word library)
   expect kind.Semicolon
   pure d
 
@@ -141,7 +142,7 @@ module_text library = do
 -- the nets of a port, leftmost first
 abbrev pub nets_of_port : Option Declared → List ℕ
 nets_of_port None = []
-nets_of_port (Some declared) = count_from declared.shape.first.0 (net_count declared.shape.range)
+nets_of_port (Some declared) = going_up declared.shape.first.0 (net_count declared.shape.range)
 
 -- the nets of ports, one port after another
 abbrev pub nets_of_ports : List HeaderPort → List ℕ
@@ -150,7 +151,7 @@ nets_of_ports (port ∷ ports) = nets_of_port port.declared ++ nets_of_ports por
 
 -- the nets that are no port's bits, as they were first named
 abbrev pub other_nets : Draft → List ℕ
-other_nets d = filter (λ net. not (list_any (λ bit. bit == net) (nets_of_ports d.ports))) (count_from 0 (length d.nets))
+other_nets d = filter (λ net. not (list_any (λ bit. bit == net) (nets_of_ports d.ports))) (going_up 0 (length d.nets))
 
 -- the nets in the order of their final numbers: the ports' bits in header order, then the others
 abbrev pub net_order : Draft → List ℕ

@@ -129,9 +129,9 @@ pub struct Declared {
 pub enum Select {
     /// All of it.
     Whole,
-    /// One bit of a vector.
+    /// A bit-select: one bit of a vector.
     Bit(u16),
-    /// A part of a vector.
+    /// A part-select: a part of a vector.
     Part(Range),
 }
 

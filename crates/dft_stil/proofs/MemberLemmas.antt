@@ -14,10 +14,10 @@ or_left : (a b : Bool) → a ≡ true → (a || b) ≡ true
 or_left true b h = refl
 or_left false b h = absurd (true≢false (sym h))
 
-has_element : (ns : List ℕ) (k d : ℕ) → k < length ns → spec.has ns (get_or ns k d) ≡ true
+has_element : (ns : List ℕ) (k d : ℕ) → k < length ns → spec.has_signal ns (get_or ns k d) ≡ true
 has_element [] k d h = absurd (omega arith)
-has_element (n ∷ ns) zero d h = or_left (eqb n n) (spec.has ns n) (grind (arith, nat_tests))
-has_element (n ∷ ns) (suc k) d h = or_right (eqb n (get_or ns k d)) (spec.has ns (get_or ns k d)) (has_element ns k d (omega arith))
+has_element (n ∷ ns) zero d h = or_left (eqb n n) (spec.has_signal ns n) (grind (arith, nat_tests))
+has_element (n ∷ ns) (suc k) d h = or_right (eqb n (get_or ns k d)) (spec.has_signal ns (get_or ns k d)) (has_element ns k d (omega arith))
 
 flag_inside : (seen : List Bool) (n : ℕ) → get_or seen n false ≡ true → ((n < length seen) ⊎ (length seen ≤ n)) → n < length seen
 flag_inside seen n e (inl less) = less

@@ -13,10 +13,10 @@ use Rattle.dft_stil_text.specs.declared.error.StilError.{StilError}
 use Rattle.dft_stil_text.specs.declared.error.StilError.TheVariants as told
 use Rattle.dft_stil_text.specs.declared.limits.TheConstants.{MAX_VECTORS}
 use Rattle.dft_stil_tokens.specs.Reading.{ReadError}
-use Rattle.dft_stil_tokens.specs.Reading.{ReadsText}
+use Rattle.dft_stil_tokens.specs.Reading.{Reads}
 use Rattle.dft_stil_tokens.specs.Lexemes.{Token, tokens}
 use Rattle.dft_patterns.specs.Patterns.{Patterns, IsVector, IsWellFormed}
-use Rattle.dft_stil_text.specs.PatternText.{pattern_text, patterns_of, tested, steady_or, StandsFor, At, Unsteadily, name_of_signal}
+use Rattle.dft_stil_text.specs.PatternText.{stil_text, patterns_in, tested, steady_or, StandsFor, At, Unsteadily, name_of_signal}
 use Rattle.dft_stil.specs.Refusals.{IsFirstRefusal, IsRefused, IsFirstUnsteady, IsUnsteadyAs, told_at}
 use Rattle.dft_patterns.specs.Steadiness.{HaveLength, is_not_low, first_not_low, first_unsteady, first_unsteady_from, found_or, pulses}
 use Rattle.dft_stil_text.proofs.WellFormed.{fitting, well_formed}
@@ -41,20 +41,20 @@ vector_length (s ∷ signals) [] v = absurd v
 vector_length (s ∷ signals) (a ∷ acts) v = ap suc (vector_length signals acts v.1)
 
 -- each vector of a text has one act a signal
-pub have_length : (most : ℕ) (text : Text) (p : Patterns) → value_of (pattern_text most (tokens text)) ≡ Ok p → HaveLength (length p.signals) p.vectors
+pub have_length : (most : ℕ) (text : Text) (p : Patterns) → value_of (stil_text most (tokens text)) ≡ Ok p → HaveLength (length p.signals) p.vectors
 have_length most text p e k d l = vector_length p.signals (get_or p.vectors k d) ((fitting most text p e).fits k d l)
 
 -- and they are not more than there may be
-pub have_few : (most : ℕ) (text : Text) (p : Patterns) → value_of (pattern_text most (tokens text)) ≡ Ok p → length p.vectors ≤ most
+pub have_few : (most : ℕ) (text : Text) (p : Patterns) → value_of (stil_text most (tokens text)) ≡ Ok p → length p.vectors ≤ most
 have_few most text p e = (fitting most text p e).few
 
 -- the same of what a reader of tokens gives
-pub lengths_read : (most : ℕ) (text : Text) (start rest : List Token) (r : Result Patterns ReadError) → start ≡ tokens text → ReadsText (λ p. p) (pattern_text most start) r rest → IfOk r (λ p. HaveLength (length p.signals) p.vectors)
-lengths_read most text start rest (Ok p) s h = have_length most text p (ap value_of (ap (pattern_text most) (sym s) ∙ h))
+pub lengths_read : (most : ℕ) (text : Text) (start rest : List Token) (r : Result Patterns ReadError) → start ≡ tokens text → Reads (λ p. p) (stil_text most start) r rest → IfOk r (λ p. HaveLength (length p.signals) p.vectors)
+lengths_read most text start rest (Ok p) s h = have_length most text p (ap value_of (ap (stil_text most) (sym s) ∙ h))
 lengths_read most text start rest (Err e) s h = tt
 
-pub few_read : (most : ℕ) (text : Text) (start rest : List Token) (r : Result Patterns ReadError) → start ≡ tokens text → ReadsText (λ p. p) (pattern_text most start) r rest → IfOk r (λ p. length p.vectors ≤ most)
-few_read most text start rest (Ok p) s h = have_few most text p (ap value_of (ap (pattern_text most) (sym s) ∙ h))
+pub few_read : (most : ℕ) (text : Text) (start rest : List Token) (r : Result Patterns ReadError) → start ≡ tokens text → Reads (λ p. p) (stil_text most start) r rest → IfOk r (λ p. length p.vectors ≤ most)
+few_read most text start rest (Ok p) s h = have_few most text p (ap value_of (ap (stil_text most) (sym s) ∙ h))
 few_read most text start rest (Err e) s h = tt
 
 -- ---- the first one that is not low
@@ -102,14 +102,14 @@ pub ruleset inside = (found_vector, found_signal)
 -- ---- outcomes
 
 -- patterns whose pulses are steady are read, and are what the text stands for
-given : (text : Text) (p : Patterns) → value_of (pattern_text MAX_VECTORS (tokens text)) ≡ Ok p → first_unsteady p ≡ None → patterns_of MAX_VECTORS text ≡ Ok p
-unfolding patterns_of
+given : (text : Text) (p : Patterns) → value_of (stil_text MAX_VECTORS (tokens text)) ≡ Ok p → first_unsteady p ≡ None → patterns_in MAX_VECTORS text ≡ Ok p
+unfolding patterns_in
 given text p e none = ap tested e ∙ ap (steady_or p) none
 
-pub stands : (text : Text) (p : Patterns) → value_of (pattern_text MAX_VECTORS (tokens text)) ≡ Ok p → first_unsteady p ≡ None → StandsFor text p
+pub stands : (text : Text) (p : Patterns) → value_of (stil_text MAX_VECTORS (tokens text)) ≡ Ok p → first_unsteady p ≡ None → StandsFor text p
 stands text p e none = stands_within MAX_VECTORS text p (given text p e none)
 
-pub formed : (text : Text) (p : Patterns) → value_of (pattern_text MAX_VECTORS (tokens text)) ≡ Ok p → first_unsteady p ≡ None → IsWellFormed p
+pub formed : (text : Text) (p : Patterns) → value_of (stil_text MAX_VECTORS (tokens text)) ≡ Ok p → first_unsteady p ≡ None → IsWellFormed p
 formed text p e none = well_formed MAX_VECTORS text p (given text p e none) (omega arith)
 
 by_cause : (text : Text) (why : Cause) (at : Place) → IsFirstRefusal text (told_at why at) → IsRefused text (told_at why at)
@@ -117,21 +117,21 @@ by_cause text cause.Token at h = h
 by_cause text (cause.Unsupported word) at h = h
 by_cause text (cause.Unknown word) at h = h
 by_cause text cause.Count at h = h
-by_cause text cause.NoShape at h = h
+by_cause text cause.NoWaveform at h = h
 by_cause text cause.Times at h = h
 by_cause text (cause.Taken word) at h = h
 
 -- a fault is told with its place
-pub refused_first : (text : Text) (f : Fault) → value_of (pattern_text MAX_VECTORS (tokens text)) ≡ Err f → IsRefused text (told_at f.cause (place_of text f.left))
-unfolding patterns_of
+pub refused_first : (text : Text) (f : Fault) → value_of (stil_text MAX_VECTORS (tokens text)) ≡ Err f → IsRefused text (told_at f.cause (place_of text f.left))
+unfolding patterns_in
 refused_first text f e = by_cause text f.cause (place_of text f.left) (record { refusal = At f; first = ap tested e; told = refl })
 
-unsteadily : (text : Text) (p : Patterns) (error : StilError) → value_of (pattern_text MAX_VECTORS (tokens text)) ≡ Ok p → IsFirstUnsteady p error → IsFirstRefusal text error
-unfolding patterns_of
+unsteadily : (text : Text) (p : Patterns) (error : StilError) → value_of (stil_text MAX_VECTORS (tokens text)) ≡ Ok p → IsFirstUnsteady p error → IsFirstRefusal text error
+unfolding patterns_in
 unsteadily text p error e h = record { refusal = Unsteadily h.found.vector (name_of_signal p h.found.signal); first = ap tested e ∙ ap (steady_or p) h.first; told = h.told }
 
 -- and a signal that is not steady behind all faults
-pub refused_unsteady : (text : Text) (p : Patterns) (error : StilError) → value_of (pattern_text MAX_VECTORS (tokens text)) ≡ Ok p → IsUnsteadyAs p error → IsRefused text error
+pub refused_unsteady : (text : Text) (p : Patterns) (error : StilError) → value_of (stil_text MAX_VECTORS (tokens text)) ≡ Ok p → IsUnsteadyAs p error → IsRefused text error
 refused_unsteady text p (told.P1 at) e h = unsteadily text p (told.P1 at) e h
 refused_unsteady text p (told.P2 at word) e h = unsteadily text p (told.P2 at word) e h
 refused_unsteady text p (told.P3 at word) e h = unsteadily text p (told.P3 at word) e h

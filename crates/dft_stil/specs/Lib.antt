@@ -13,8 +13,8 @@ pub mod Refusals
 pub mod PatternShown
 pub mod VectorShown
 pub mod CharactersShown
-pub mod ShapeTableShown
-pub mod TablesShown
+pub mod WaveformsShown
+pub mod WaveformTablesShown
 pub mod NamesShown
 pub mod KnownNamesShown
 pub mod MembersShown

@@ -13,7 +13,7 @@ meant m = record { signals = m.signals.now; repeated = m.repeated }
 
 -- the signals of these members are flagged, and no others
 abbrev pub Sees : spec.Members → List Bool → Type 0
-Sees m seen = (k : ℕ) → get_or seen k false ≡ spec.has m.signals k
+Sees m seen = (k : ℕ) → get_or seen k false ≡ spec.has_signal m.signals k
 
 -- each of these numbers is below a count
 abbrev pub AreBelow : ℕ → List ℕ → Type 0

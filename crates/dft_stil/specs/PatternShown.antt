@@ -1,6 +1,6 @@
 -- A pattern so far, as the definitions have it.
 use Rattle.std.specs.Prelude.{List, []}
-use Rattle.dft_stil.specs.declared.statements.Pattern.{Pattern}
+use Rattle.dft_stil.specs.declared.statements.PatternBlock.{PatternBlock}
 use Rattle.dft_stil.specs.declared.execution.Burst.{Burst}
 use Rattle.dft_patterns.specs.declared.act.Act.{Act}
 use Rattle.dft_patterns.specs.Patterns.{Patterns}
@@ -8,7 +8,7 @@ use Rattle.dft_stil_text.specs.SignalGroups.{Names}
 use Rattle.dft_stil_text.specs.PatternText as text
 use Rattle.dft_stil_text.specs.Statements as spec
 
-abbrev pub pattern_as : Pattern → spec.Pattern
+abbrev pub pattern_as : PatternBlock → spec.PatternBlock
 pattern_as p = record { table = p.table; acts = p.acts; vectors = p.vectors.items }
 
 abbrev pub burst_as : Burst → text.Burst

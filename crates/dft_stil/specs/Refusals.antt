@@ -10,7 +10,7 @@ use Rattle.dft_stil_text.specs.declared.error.StilError.TheVariants as told
 use Rattle.dft_stil_text.specs.declared.limits.TheConstants.{MAX_VECTORS}
 use Rattle.dft_patterns.specs.Patterns.{Patterns}
 use Rattle.dft_patterns.specs.Steadiness.{first_unsteady}
-use Rattle.dft_stil_text.specs.PatternText.{Refusal, At, Unsteadily, patterns_of, name_of_signal}
+use Rattle.dft_stil_text.specs.PatternText.{Refusal, At, Unsteadily, patterns_in, name_of_signal}
 
 -- how a cause is told of this place
 abbrev pub told_at : Cause → Place → StilError
@@ -18,7 +18,7 @@ told_at cause.Token at = told.P1 at
 told_at (cause.Unsupported word) at = told.P2 at word
 told_at (cause.Unknown word) at = told.P3 at word
 told_at cause.Count at = told.P4 at
-told_at cause.NoShape at = told.P5 at
+told_at cause.NoWaveform at = told.P5 at
 told_at cause.Times at = told.P8 at
 told_at (cause.Taken word) at = told.P9 at word
 
@@ -30,7 +30,7 @@ told_of text (Unsteadily vector name) = told.P10 (pos vector) name
 -- the first refusal of the text is told so
 pub record IsFirstRefusal (text : Text) (error : StilError) : Type 0 where
   pub refusal : Refusal
-  pub first : patterns_of MAX_VECTORS text ≡ Err refusal
+  pub first : patterns_in MAX_VECTORS text ≡ Err refusal
   pub told : error ≡ told_of text refusal
 
 -- Why a text is refused: by its first refusal, which is never the writer's P6. Nothing is said where memory runs out.

@@ -4,11 +4,11 @@ ghost use Rattle.std.specs.Prelude.{◌≡◌, ◌<◌, ◌-◌, length, option_
 ghost use Rattle.dft_stil_text.specs.Statements as spec;
 ghost use Rattle.dft_stil_tokens.specs.Steps.{left};
 ghost use Rattle.dft_stil.specs.MembersShown.{AreBelow};
-ghost use Rattle.dft_stil.specs.ShapeTableShown.{IsWide};
+ghost use Rattle.dft_stil.specs.WaveformsShown.{IsWide};
 ghost use Rattle.dft_stil.specs.CharactersShown.{filling_as};
-ghost use Rattle.dft_stil_tokens.specs.Reading.{ReadsText, Checks, Faults};
+ghost use Rattle.dft_stil_tokens.specs.Reading.{Reads, Checks, Faults};
 
-use crate::shape_table::ShapeTable;
+use crate::waveforms::Waveforms;
 use dft_patterns::{Act, Acts};
 use dft_stil_tokens::{Cause, ReadError, TokenKind, Tokens, fault_at};
 
@@ -21,24 +21,24 @@ pub struct Filling<'a> {
 }
 
 // What a character means for a signal in a table, if there is one.
-fn act_in(shapes: Option<&ShapeTable>, count: usize, signal: usize, character: u8) -> Option<Act>
-    requires wide { IfSome shapes (λ s. IsWide count s.now) }
+fn act_in(waveforms: Option<&Waveforms>, count: usize, signal: usize, character: u8) -> Option<Act>
+    requires wide { IfSome waveforms (λ s. IsWide count s.now) }
     requires inside { signal < count }
-    ensures { result ≡ spec.act_in (option_map (λ s. s.now) shapes.entry) signal character }
+    ensures { result ≡ spec.act_in (option_map (λ s. s.now) waveforms.entry) signal character }
 {
-    shapes?.act(count, signal, character)
+    waveforms?.act(count, signal, character)
 }
 
 // One character more.
 fn fill_one(
-    shapes: Option<&ShapeTable>,
+    waveforms: Option<&Waveforms>,
     place: usize,
     character: u8,
     filling: &mut Filling<'_>,
 ) -> Result<(), ReadError>
-    requires wide { IfSome shapes (λ s. IsWide (length filling.old.acts) s.now) }
+    requires wide { IfSome waveforms (λ s. IsWide (length filling.old.acts) s.now) }
     requires ahead { AreBelow (length filling.old.acts) filling.old.ahead.now }
-    ensures check { Checks (λ _. filling_as filling.new) (spec.filled (option_map (λ s. s.now) shapes.entry) place character (filling_as filling.old).ahead (filling_as filling.old)) result }
+    ensures check { Checks (λ _. filling_as filling.new) (spec.filled (option_map (λ s. s.now) waveforms.entry) place character (filling_as filling.old).ahead (filling_as filling.old)) result }
     ensures ahead { OnOk result (AreBelow (length filling.new.acts) filling.new.ahead.now) }
     ensures length { OnOk result (length filling.new.acts ≡ length filling.old.acts) }
 {
@@ -46,26 +46,26 @@ fn fill_one(
         filling.over = true;
         return Ok(());
     };
-    match act_in(shapes, filling.acts.count(), *signal, character) {
+    match act_in(waveforms, filling.acts.count(), *signal, character) {
         Some(act) => {
             filling.acts.set(*signal, act);
             filling.ahead = rest;
             Ok(())
         }
-        None => Err(fault_at(Cause::NoShape, place)),
+        None => Err(fault_at(Cause::NoWaveform, place)),
     }
 }
 
 // These characters more, which begin at this place.
 fn fill(
-    shapes: Option<&ShapeTable>,
+    waveforms: Option<&Waveforms>,
     place: usize,
     characters: &[u8],
     filling: &mut Filling<'_>,
 ) -> Result<(), ReadError>
-    requires wide { IfSome shapes (λ s. IsWide (length filling.old.acts) s.now) }
+    requires wide { IfSome waveforms (λ s. IsWide (length filling.old.acts) s.now) }
     requires ahead { AreBelow (length filling.old.acts) filling.old.ahead.now }
-    ensures check { Checks (λ _. filling_as filling.new) (spec.filled_by (option_map (λ s. s.now) shapes.entry) place characters.now (filling_as filling.old)) result }
+    ensures check { Checks (λ _. filling_as filling.new) (spec.filled_by (option_map (λ s. s.now) waveforms.entry) place characters.now (filling_as filling.old)) result }
     ensures ahead { OnOk result (AreBelow (length filling.new.acts) filling.new.ahead.now) }
     ensures length { OnOk result (length filling.new.acts ≡ length filling.old.acts) }
 {
@@ -73,7 +73,7 @@ fn fill(
         if !character.is_ascii_alphanumeric() {
             return Err(fault_at(Cause::Token, place.saturating_sub(index)));
         }
-        fill_one(shapes, place.saturating_sub(index), *character, filling)?;
+        fill_one(waveforms, place.saturating_sub(index), *character, filling)?;
     }
     Ok(())
 }
@@ -93,13 +93,13 @@ fn characters_refusal(tokens: &Tokens<'_>) -> ReadError
 #[tactic(auto, unfolding(dft_stil_text::specs::Statements::run_of_characters, dft_stil_text::specs::Statements::sees_characters))]
 // One run of characters.
 fn run(
-    shapes: Option<&ShapeTable>,
+    waveforms: Option<&Waveforms>,
     filling: &mut Filling<'_>,
     tokens: &mut Tokens<'_>,
 ) -> Result<(), ReadError>
-    requires wide { IfSome shapes (λ s. IsWide (length filling.old.acts) s.now) }
+    requires wide { IfSome waveforms (λ s. IsWide (length filling.old.acts) s.now) }
     requires ahead { AreBelow (length filling.old.acts) filling.old.ahead.now }
-    ensures read { ReadsText (λ _. filling_as filling.new) (spec.run_of_characters (option_map (λ s. s.now) shapes.entry) (filling_as filling.old) tokens.old) result tokens.new }
+    ensures read { Reads (λ _. filling_as filling.new) (spec.run_of_characters (option_map (λ s. s.now) waveforms.entry) (filling_as filling.old) tokens.old) result tokens.new }
     ensures ahead { OnOk result (AreBelow (length filling.new.acts) filling.new.ahead.now) }
     ensures length { OnOk result (length filling.new.acts ≡ length filling.old.acts) }
 {
@@ -108,22 +108,22 @@ fn run(
     }
     let place = tokens.left();
     let characters = tokens.take();
-    fill(shapes, place, characters, filling)
+    fill(waveforms, place, characters, filling)
 }
 
 // The runs of characters before a semicolon.
 fn runs(
-    shapes: Option<&ShapeTable>,
+    waveforms: Option<&Waveforms>,
     filling: &mut Filling<'_>,
     tokens: &mut Tokens<'_>,
 ) -> Result<(), ReadError>
-    requires wide { IfSome shapes (λ s. IsWide (length filling.old.acts) s.now) }
+    requires wide { IfSome waveforms (λ s. IsWide (length filling.old.acts) s.now) }
     requires ahead { AreBelow (length filling.old.acts) filling.old.ahead.now }
-    ensures read { ReadsText (λ _. filling_as filling.new) (spec.runs_from (left tokens.old) (option_map (λ s. s.now) shapes.entry) (filling_as filling.old) tokens.old) result tokens.new }
+    ensures read { Reads (λ _. filling_as filling.new) (spec.runs_from (left tokens.old) (option_map (λ s. s.now) waveforms.entry) (filling_as filling.old) tokens.old) result tokens.new }
     ensures length { OnOk result (length filling.new.acts ≡ length filling.old.acts) }
 {
     'turns: for _turn in 0..tokens.left() {
-        run(shapes, filling, tokens)?;
+        run(waveforms, filling, tokens)?;
         if tokens.sees(TokenKind::Semicolon) {
             return Ok(());
         }
@@ -142,14 +142,14 @@ fn is_full(filling: &Filling<'_>) -> bool
 #[tactic(auto, unfolding(dft_stil_text::specs::Statements::characters))]
 /// The characters of some signals, and the semicolon behind them, where their number is tested.
 pub fn characters(
-    shapes: Option<&ShapeTable>,
+    waveforms: Option<&Waveforms>,
     signals: &[usize],
     acts: Acts,
     tokens: &mut Tokens<'_>,
 ) -> Result<Acts, ReadError>
-    requires wide { IfSome shapes (λ s. IsWide (length acts) s.now) }
+    requires wide { IfSome waveforms (λ s. IsWide (length acts) s.now) }
     requires ahead { AreBelow (length acts) signals.now }
-    ensures read { ReadsText (λ a. a) (spec.characters (option_map (λ s. s.now) shapes.entry) signals.now acts tokens.old) result tokens.new }
+    ensures read { Reads (λ a. a) (spec.characters (option_map (λ s. s.now) waveforms.entry) signals.now acts tokens.old) result tokens.new }
     ensures length { IfOk result (λ a. length a ≡ length acts) }
 {
     let mut filling = Filling {
@@ -157,7 +157,7 @@ pub fn characters(
         ahead: signals,
         over: false,
     };
-    runs(shapes, &mut filling, tokens)?;
+    runs(waveforms, &mut filling, tokens)?;
     let place = tokens.left();
     tokens.expect(TokenKind::Semicolon)?;
     if is_full(&filling) {

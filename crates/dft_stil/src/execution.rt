@@ -1,13 +1,13 @@
 //! The burst of a pattern text, and what is executed (IEEE 1450-1999 `PatternBurst` and `PatternExec`).
 
 ghost use Rattle.std.specs.Prelude.{◌≡◌, option_map};
-ghost use Rattle.dft_stil_tokens.specs.Reading.{ReadsText};
+ghost use Rattle.dft_stil_tokens.specs.Reading.{Reads};
 ghost use Rattle.dft_stil_text.specs.PatternText as spec;
-ghost use Rattle.dft_stil.specs.TablesShown.{timing_as};
+ghost use Rattle.dft_stil.specs.WaveformTablesShown.{timing_as};
 ghost use Rattle.dft_stil.specs.PatternShown.{burst_as};
 
 use crate::signal_groups::name_if_any;
-use crate::table_block::Timing;
+use crate::timing::Timing;
 use dft_stil_tokens::{ReadError, TokenKind, Tokens, unknown};
 use std::alloc::Global;
 
@@ -21,7 +21,7 @@ pub struct Burst<'a> {
 #[tactic(auto, unfolding(dft_stil_text::specs::PatternText::listed_pattern))]
 // The one pattern that a burst lists.
 fn listed_pattern<'a>(tokens: &mut Tokens<'a>) -> Result<&'a [u8], ReadError>
-    ensures { ReadsText (λ w. w.now) (spec.listed_pattern tokens.old) result tokens.new }
+    ensures { Reads (λ w. w.now) (spec.listed_pattern tokens.old) result tokens.new }
 {
     tokens.keyword(b"PatList")?;
     tokens.expect(TokenKind::OpenBrace)?;
@@ -34,7 +34,7 @@ fn listed_pattern<'a>(tokens: &mut Tokens<'a>) -> Result<&'a [u8], ReadError>
 #[tactic(auto, unfolding(dft_stil_text::specs::PatternText::burst))]
 /// The burst.
 pub fn the_burst<'a>(tokens: &mut Tokens<'a>) -> Result<Burst<'a>, ReadError>
-    ensures { ReadsText burst_as (spec.burst tokens.old) result tokens.new }
+    ensures { Reads burst_as (spec.burst tokens.old) result tokens.new }
 {
     tokens.keyword(b"PatternBurst")?;
     let name = tokens.name()?;
@@ -46,7 +46,7 @@ pub fn the_burst<'a>(tokens: &mut Tokens<'a>) -> Result<Burst<'a>, ReadError>
 
 // Whether a name was given so.
 fn is_name(known: Option<&[u8]>, word: &[u8]) -> bool
-    ensures { result ≡ spec.is_name (option_map (λ w. w.now) known.entry) word.now }
+    ensures { result ≡ spec.is_named (option_map (λ w. w.now) known.entry) word.now }
 {
     match known {
         Some(known) => known == word,
@@ -61,7 +61,7 @@ pub fn known_name<'a>(
     known: Option<&[u8]>,
     tokens: &mut Tokens<'a>,
 ) -> Result<&'a [u8], ReadError>
-    ensures { ReadsText (λ w. w.now) (spec.known_name (option_map (λ w. w.now) known.entry) tokens.old) result tokens.new }
+    ensures { Reads (λ w. w.now) (spec.known_name (option_map (λ w. w.now) known.entry) tokens.old) result tokens.new }
 {
     let place = tokens.left();
     let word = tokens.name()?;
@@ -79,7 +79,7 @@ fn known_name_if_any(
     known: Option<&[u8]>,
     tokens: &mut Tokens<'_>,
 ) -> Result<bool, ReadError>
-    ensures { ReadsText (λ b. b) (spec.known_name_if_any (option_map (λ w. w.now) known.entry) tokens.old) result tokens.new }
+    ensures { Reads (λ b. b) (spec.known_name_if_any (option_map (λ w. w.now) known.entry) tokens.old) result tokens.new }
 {
     if tokens.sees(TokenKind::Semicolon) {
         return Ok(false);
@@ -95,7 +95,7 @@ fn used_timing(
     timing: &Timing<'_>,
     tokens: &mut Tokens<'_>,
 ) -> Result<bool, ReadError>
-    ensures { ReadsText (λ b. b) (spec.used_timing (timing_as timing.now) tokens.old) result tokens.new }
+    ensures { Reads (λ b. b) (spec.used_timing (timing_as timing.now) tokens.old) result tokens.new }
 {
     if !tokens.eat_word(b"Timing") {
         return Ok(false);
@@ -108,7 +108,7 @@ fn used_timing(
 #[tactic(auto, unfolding(dft_stil_text::specs::PatternText::executed))]
 // The burst that is executed, and the end of the block.
 fn executed(alloc: Global, burst: Burst<'_>, tokens: &mut Tokens<'_>) -> Result<bool, ReadError>
-    ensures { ReadsText (λ b. b) (spec.executed (burst_as burst.entry) tokens.old) result tokens.new }
+    ensures { Reads (λ b. b) (spec.executed (burst_as burst.entry) tokens.old) result tokens.new }
 {
     tokens.keyword(b"PatternBurst")?;
     known_name(alloc, Some(burst.name), tokens)?;
@@ -125,7 +125,7 @@ pub fn exec(
     burst: Burst<'_>,
     tokens: &mut Tokens<'_>,
 ) -> Result<bool, ReadError>
-    ensures { ReadsText (λ b. b) (spec.exec (timing_as timing.now) (burst_as burst.entry) tokens.old) result tokens.new }
+    ensures { Reads (λ b. b) (spec.exec (timing_as timing.now) (burst_as burst.entry) tokens.old) result tokens.new }
 {
     tokens.keyword(b"PatternExec")?;
     name_if_any(tokens)?;

@@ -9,13 +9,13 @@ mod members;
 mod names;
 mod pattern_text;
 mod reader;
-mod shape_table;
 mod signal_groups;
 mod statements;
-mod table_block;
-mod tables;
+mod timing;
 mod vector;
 mod waveform_table;
+mod waveform_tables;
+mod waveforms;
 
 pub use dft_patterns::{
     Act, Acts, Drawing, Event, Note, NoteKind, PatternSet, StilSignal, Times, Unsteady,

@@ -85,7 +85,7 @@ impl Members {
     pub fn add(&mut self, seen: &mut [bool], more: Meant<'_>) -> Result<(), AllocError>
         requires inside { AreBelow (length seen.old) more.signals.now }
         requires sees { Sees self.old seen.old }
-        ensures ok { OnOk result (self.new ≡ spec.joined self.old (meant more.entry)) }
+        ensures ok { OnOk result (self.new ≡ spec.with_members self.old (meant more.entry)) }
         ensures sees { OnOk result (Sees self.new seen.new) }
         ensures length { length seen.new ≡ length seen.old }
     {

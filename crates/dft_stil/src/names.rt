@@ -64,14 +64,14 @@ impl Names {
 
     /// Whether a signal has this name.
     pub fn is_signal(&self, word: &[u8]) -> bool
-        ensures { result ≡ spec.is_known (spec.names_of_signals self.now.signals) word.now }
+        ensures { result ≡ spec.is_declared (spec.names_of_signals self.now.signals) word.now }
     {
         self.signal_names.number(word).is_some()
     }
 
     /// Whether a group has this name.
     pub fn is_group(&self, word: &[u8]) -> bool
-        ensures { result ≡ spec.is_known self.now.group_names word.now }
+        ensures { result ≡ spec.is_declared self.now.group_names word.now }
     {
         self.group_names.number(word).is_some()
     }

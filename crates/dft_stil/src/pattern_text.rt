@@ -4,15 +4,15 @@ ghost use Rattle.std.specs.Prelude.{◌≡◌, ◌<◌, ◌^◌, length, IfOk};
 ghost use Rattle.dft_stil_text.specs.SignalGroups.{no_names};
 ghost use Rattle.dft_stil_text.specs.PatternText as spec;
 ghost use Rattle.dft_stil_tokens.specs.Steps.{left};
-ghost use Rattle.dft_stil.specs.TablesShown.{timing_as, AreWide};
+ghost use Rattle.dft_stil.specs.WaveformTablesShown.{timing_as, AreWide};
 ghost use Rattle.dft_stil.specs.PatternShown.{pattern_as, burst_as, patterns_with};
-ghost use Rattle.dft_stil_tokens.specs.Reading.{ReadsText};
+ghost use Rattle.dft_stil_tokens.specs.Reading.{Reads};
 
 use crate::execution::{Burst, exec, known_name, the_burst};
 use crate::names::Names;
 use crate::signal_groups::{group_blocks, signals_block};
-use crate::statements::{Pattern, statements};
-use crate::table_block::{Timing, timing_block};
+use crate::statements::{PatternBlock, statements};
+use crate::timing::{Timing, timing_block};
 use dft_patterns::{Acts, PatternSet};
 use dft_stil_tokens::{Cause, ReadError, TokenKind, Tokens, fault_at};
 use std::alloc::{AllocError, Global};
@@ -20,7 +20,7 @@ use std::alloc::{AllocError, Global};
 #[tactic(auto, unfolding(dft_stil_text::specs::PatternText::version))]
 // The version of the standard.
 fn version<'a>(tokens: &mut Tokens<'a>) -> Result<&'a [u8], ReadError>
-    ensures { ReadsText (λ w. w.now) (spec.version tokens.old) result tokens.new }
+    ensures { Reads (λ w. w.now) (spec.version tokens.old) result tokens.new }
 {
     if !tokens.sees(TokenKind::Number) {
         return Err(tokens.mark_refusal());
@@ -66,7 +66,7 @@ fn block_place(kind: TokenKind, place: usize) -> usize
 
 // The tokens of a block behind its first brace.
 fn block_rest(tokens: &mut Tokens<'_>) -> Result<(), ReadError>
-    ensures { ReadsText (λ _. 0) (spec.block_from (left tokens.old) 1 tokens.old) result tokens.new }
+    ensures { Reads (λ _. 0) (spec.block_from (left tokens.old) 1 tokens.old) result tokens.new }
 {
     let mut depth = 1;
     'turns: for _turn in 0..tokens.left() {
@@ -86,7 +86,7 @@ fn block_rest(tokens: &mut Tokens<'_>) -> Result<(), ReadError>
 #[tactic(auto, unfolding(dft_stil_text::specs::PatternText::block))]
 // Braces that balance.
 fn block(tokens: &mut Tokens<'_>) -> Result<(), ReadError>
-    ensures { ReadsText (λ _. 0) (spec.block tokens.old) result tokens.new }
+    ensures { Reads (λ _. 0) (spec.block tokens.old) result tokens.new }
 {
     tokens.expect(TokenKind::OpenBrace)?;
     block_rest(tokens)
@@ -95,7 +95,7 @@ fn block(tokens: &mut Tokens<'_>) -> Result<(), ReadError>
 #[tactic(auto, unfolding(dft_stil_text::specs::PatternText::header_if_any))]
 // A block behind `Header`, if there is one.
 fn header_if_any(tokens: &mut Tokens<'_>) -> Result<bool, ReadError>
-    ensures { ReadsText (λ b. b) (spec.header_if_any tokens.old) result tokens.new }
+    ensures { Reads (λ b. b) (spec.header_if_any tokens.old) result tokens.new }
 {
     if !tokens.eat_word(b"Header") {
         return Ok(false);
@@ -105,10 +105,10 @@ fn header_if_any(tokens: &mut Tokens<'_>) -> Result<bool, ReadError>
 }
 
 // A pattern that has no vector yet.
-fn no_vector(alloc: Global, count: usize) -> Result<Pattern, AllocError>
+fn no_vector(alloc: Global, count: usize) -> Result<PatternBlock, AllocError>
     ensures { IfOk result (λ p. pattern_as p ≡ spec.no_vector_of count) }
 {
-    Ok(Pattern {
+    Ok(PatternBlock {
         table: None,
         acts: Acts::unset(alloc, count)?,
         vectors: Vec::new(alloc),
@@ -124,9 +124,9 @@ fn the_pattern(
     timing: &Timing<'_>,
     burst: Burst<'_>,
     tokens: &mut Tokens<'_>,
-) -> Result<Pattern, ReadError>
+) -> Result<PatternBlock, ReadError>
     requires { AreWide (length names.now.signals) timing.now.tables }
-    ensures { ReadsText pattern_as (spec.pattern most names.now (timing_as timing.now) (burst_as burst.entry) tokens.old) result tokens.new }
+    ensures { Reads pattern_as (spec.pattern most names.now (timing_as timing.now) (burst_as burst.entry) tokens.old) result tokens.new }
 {
     tokens.keyword(b"Pattern")?;
     known_name(alloc, Some(burst.pattern), tokens)?;
@@ -146,7 +146,7 @@ fn vectors(
     tokens: &mut Tokens<'_>,
 ) -> Result<Vec<Acts>, ReadError>
     requires { AreWide (length names.now.signals) timing.now.tables }
-    ensures { ReadsText (λ v. patterns_with names.now v.items) (spec.pattern_part most names.now (timing_as timing.now) tokens.old) result tokens.new }
+    ensures { Reads (λ v. patterns_with names.now v.items) (spec.pattern_part most names.now (timing_as timing.now) tokens.old) result tokens.new }
 {
     let burst = the_burst(tokens)?;
     exec(alloc, timing, burst, tokens)?;
@@ -162,7 +162,7 @@ fn timed_part(
     names: &Names,
     tokens: &mut Tokens<'_>,
 ) -> Result<Vec<Acts>, ReadError>
-    ensures { ReadsText (λ v. patterns_with names.now v.items) (spec.timed_part most names.now tokens.old) result tokens.new }
+    ensures { Reads (λ v. patterns_with names.now v.items) (spec.timed_part most names.now tokens.old) result tokens.new }
 {
     let timing = timing_block(alloc, names, tokens)?;
     vectors(alloc, most, names, &timing, tokens)
@@ -176,7 +176,7 @@ fn named_part(
     tokens: &mut Tokens<'_>,
 ) -> Result<Vec<Acts>, ReadError>
     requires { names.old ≡ no_names }
-    ensures { ReadsText (λ v. patterns_with names.new v.items) (spec.named_part most tokens.old) result tokens.new }
+    ensures { Reads (λ v. patterns_with names.new v.items) (spec.named_part most tokens.old) result tokens.new }
 {
     signals_block(alloc, names, tokens)?;
     group_blocks(alloc, names, tokens)?;
@@ -189,21 +189,21 @@ fn named_patterns(
     most: usize,
     tokens: &mut Tokens<'_>,
 ) -> Result<PatternSet, ReadError>
-    ensures { ReadsText (λ set. set) (spec.named_part most tokens.old) result tokens.new }
+    ensures { Reads (λ set. set) (spec.named_part most tokens.old) result tokens.new }
 {
     let mut names = Names::new(alloc);
     let vectors = named_part(alloc, most, &mut names, tokens)?;
     Ok(PatternSet::new(alloc, names.into_signals(), vectors))
 }
 
-#[tactic(auto, unfolding(dft_stil_text::specs::PatternText::pattern_text))]
+#[tactic(auto, unfolding(dft_stil_text::specs::PatternText::stil_text))]
 /// The whole text, with so many vectors at most.
 pub fn pattern_text(
     alloc: Global,
     most: usize,
     tokens: &mut Tokens<'_>,
 ) -> Result<PatternSet, ReadError>
-    ensures { ReadsText (λ set. set) (spec.pattern_text most tokens.old) result tokens.new }
+    ensures { Reads (λ set. set) (spec.stil_text most tokens.old) result tokens.new }
 {
     tokens.keyword(b"STIL")?;
     version(tokens)?;

@@ -22,7 +22,7 @@ use std::alloc::Global;
 // The patterns of a text, steady or not.
 fn patterns(alloc: Global, bytes: &[u8]) -> Result<PatternSet, ReadError>
     requires { length bytes.now ≤ MAX_TEXT }
-    ensures value { Checks (λ set. set) (value_of (spec.pattern_text MAX_VECTORS (tokens_of bytes.now))) result }
+    ensures value { Checks (λ set. set) (value_of (spec.stil_text MAX_VECTORS (tokens_of bytes.now))) result }
     ensures lengths { IfOk result (λ set. HaveLength (length set.signals) set.vectors) }
     ensures few { IfOk result (λ set. length set.vectors ≤ MAX_VECTORS) }
 {
@@ -38,7 +38,7 @@ fn told_at(cause: Cause, place: Place) -> StilError
         Cause::Unsupported(name) => StilError::P2 { place, name },
         Cause::Unknown(name) => StilError::P3 { place, name },
         Cause::Count => StilError::P4 { place },
-        Cause::NoShape => StilError::P5 { place },
+        Cause::NoWaveform => StilError::P5 { place },
         Cause::Times => StilError::P8 { place },
         Cause::Taken(name) => StilError::P9 { place, name },
     }

@@ -4,7 +4,7 @@ ghost use Rattle.std.specs.Prelude.{◌≡◌, length, IfOk, OnOk, option_map};
 ghost use Rattle.dft_stil_text.specs.SignalGroups as spec;
 ghost use Rattle.dft_stil_tokens.specs.Steps.{left};
 ghost use Rattle.dft_stil.specs.MembersShown.{meant, Sees, AreBelow};
-ghost use Rattle.dft_stil_tokens.specs.Reading.{ReadsText};
+ghost use Rattle.dft_stil_tokens.specs.Reading.{Reads};
 
 use crate::members::{Meant, Members};
 use crate::names::Names;
@@ -15,7 +15,7 @@ use std::alloc::Global;
 #[tactic(auto, unfolding(dft_stil_text::specs::SignalGroups::direction))]
 // `In` or `Out`.
 fn direction(tokens: &mut Tokens<'_>) -> Result<Dir, ReadError>
-    ensures { ReadsText (λ d. d) (spec.direction tokens.old) result tokens.new }
+    ensures { Reads (λ d. d) (spec.direction tokens.old) result tokens.new }
 {
     if tokens.sees_word(b"In") {
         tokens.take();
@@ -31,7 +31,7 @@ fn direction(tokens: &mut Tokens<'_>) -> Result<Dir, ReadError>
 #[tactic(auto, unfolding(dft_stil_text::specs::SignalGroups::signal))]
 // A name, which no signal may have so far, and its direction.
 fn signal(alloc: Global, names: &mut Names, tokens: &mut Tokens<'_>) -> Result<(), ReadError>
-    ensures { ReadsText (λ _. names.new) (spec.signal names.old tokens.old) result tokens.new }
+    ensures { Reads (λ _. names.new) (spec.signal names.old tokens.old) result tokens.new }
 {
     let place = tokens.left();
     let word = tokens.name()?;
@@ -46,7 +46,7 @@ fn signal(alloc: Global, names: &mut Names, tokens: &mut Tokens<'_>) -> Result<(
 
 // The signals of a block, and its brace.
 fn signals(alloc: Global, names: &mut Names, tokens: &mut Tokens<'_>) -> Result<(), ReadError>
-    ensures { ReadsText (λ _. names.new) (spec.signals_from (left tokens.old) names.old tokens.old) result tokens.new }
+    ensures { Reads (λ _. names.new) (spec.signals_from (left tokens.old) names.old tokens.old) result tokens.new }
 {
     'turns: for _turn in 0..tokens.left() {
         if tokens.eat(TokenKind::CloseBrace) {
@@ -65,7 +65,7 @@ pub fn signals_block(
     tokens: &mut Tokens<'_>,
 ) -> Result<(), ReadError>
     requires { names.old ≡ spec.no_names }
-    ensures { ReadsText (λ _. names.new) (spec.signals_block tokens.old) result tokens.new }
+    ensures { Reads (λ _. names.new) (spec.signals_block tokens.old) result tokens.new }
 {
     tokens.keyword(b"Signals")?;
     tokens.expect(TokenKind::OpenBrace)?;
@@ -79,7 +79,7 @@ fn member<'n>(
     names: &'n Names,
     tokens: &mut Tokens<'_>,
 ) -> Result<Meant<'n>, ReadError>
-    ensures read { ReadsText (λ m. meant m) (spec.member names.now tokens.old) result tokens.new }
+    ensures read { Reads (λ m. meant m) (spec.member names.now tokens.old) result tokens.new }
     ensures inside { IfOk result (λ m. AreBelow (length names.now.signals) m.signals.now) }
 {
     let place = tokens.left();
@@ -100,7 +100,7 @@ fn more_members(
 ) -> Result<(), ReadError>
     requires count { length seen.old ≡ length names.now.signals }
     requires sees { Sees members.old seen.old }
-    ensures read { ReadsText (λ _. members.new) (spec.members_from (left tokens.old) names.now members.old tokens.old) result tokens.new }
+    ensures read { Reads (λ _. members.new) (spec.members_from (left tokens.old) names.now members.old tokens.old) result tokens.new }
     ensures sees { OnOk result (Sees members.new seen.new) }
     ensures count { length seen.new ≡ length names.now.signals }
 {
@@ -117,7 +117,7 @@ fn more_members(
 #[tactic(auto, using(crate::proofs::MemberLemmas::flags), unfolding(dft_stil_text::specs::SignalGroups::members))]
 // A group's list.
 fn members(alloc: Global, names: &Names, tokens: &mut Tokens<'_>) -> Result<Members, ReadError>
-    ensures read { ReadsText (λ m. m) (spec.members names.now tokens.old) result tokens.new }
+    ensures read { Reads (λ m. m) (spec.members names.now tokens.old) result tokens.new }
     ensures inside { IfOk result (λ m. AreBelow (length names.now.signals) m.signals) }
 {
     let mut seen = vec![in alloc; false; names.count()]?;
@@ -131,7 +131,7 @@ fn members(alloc: Global, names: &Names, tokens: &mut Tokens<'_>) -> Result<Memb
 #[tactic(auto, unfolding(dft_stil_text::specs::SignalGroups::group))]
 // A name, which no group may have so far, and its list.
 fn group(alloc: Global, names: &mut Names, tokens: &mut Tokens<'_>) -> Result<(), ReadError>
-    ensures { ReadsText (λ _. names.new) (spec.group names.old tokens.old) result tokens.new }
+    ensures { Reads (λ _. names.new) (spec.group names.old tokens.old) result tokens.new }
 {
     let place = tokens.left();
     let word = tokens.name()?;
@@ -149,7 +149,7 @@ fn group(alloc: Global, names: &mut Names, tokens: &mut Tokens<'_>) -> Result<()
 
 // The groups of a block, and its brace.
 fn groups(alloc: Global, names: &mut Names, tokens: &mut Tokens<'_>) -> Result<(), ReadError>
-    ensures { ReadsText (λ _. names.new) (spec.groups_from (left tokens.old) names.old tokens.old) result tokens.new }
+    ensures { Reads (λ _. names.new) (spec.groups_from (left tokens.old) names.old tokens.old) result tokens.new }
 {
     'turns: for _turn in 0..tokens.left() {
         if tokens.eat(TokenKind::CloseBrace) {
@@ -163,7 +163,7 @@ fn groups(alloc: Global, names: &mut Names, tokens: &mut Tokens<'_>) -> Result<(
 #[tactic(auto, unfolding(dft_stil_text::specs::SignalGroups::name_if_any))]
 /// A name, if one comes next.
 pub fn name_if_any<'a>(tokens: &mut Tokens<'a>) -> Result<Option<&'a [u8]>, ReadError>
-    ensures { ReadsText (λ word. option_map (λ w. w.now) word) (spec.name_if_any tokens.old) result tokens.new }
+    ensures { Reads (λ word. option_map (λ w. w.now) word) (spec.name_if_any tokens.old) result tokens.new }
 {
     if tokens.sees_name() {
         Ok(Some(tokens.name()?))
@@ -175,7 +175,7 @@ pub fn name_if_any<'a>(tokens: &mut Tokens<'a>) -> Result<Option<&'a [u8]>, Read
 #[tactic(auto, unfolding(dft_stil_text::specs::SignalGroups::group_block))]
 // The groups of a block, whose name may come first.
 fn group_block(alloc: Global, names: &mut Names, tokens: &mut Tokens<'_>) -> Result<(), ReadError>
-    ensures { ReadsText (λ _. names.new) (spec.group_block names.old tokens.old) result tokens.new }
+    ensures { Reads (λ _. names.new) (spec.group_block names.old tokens.old) result tokens.new }
 {
     name_if_any(tokens)?;
     tokens.expect(TokenKind::OpenBrace)?;
@@ -193,7 +193,7 @@ fn eat_groups(tokens: &mut Tokens<'_>) -> bool
 
 // The blocks of groups.
 fn all_groups(alloc: Global, names: &mut Names, tokens: &mut Tokens<'_>) -> Result<(), ReadError>
-    ensures { ReadsText (λ _. names.new) (spec.group_blocks_from (left tokens.old) names.old tokens.old) result tokens.new }
+    ensures { Reads (λ _. names.new) (spec.group_blocks_from (left tokens.old) names.old tokens.old) result tokens.new }
 {
     'turns: for _turn in 0..tokens.left() {
         if !eat_groups(tokens) {
@@ -211,7 +211,7 @@ pub fn group_blocks(
     names: &mut Names,
     tokens: &mut Tokens<'_>,
 ) -> Result<(), ReadError>
-    ensures { ReadsText (λ _. names.new) (spec.group_blocks names.old tokens.old) result tokens.new }
+    ensures { Reads (λ _. names.new) (spec.group_blocks names.old tokens.old) result tokens.new }
 {
     all_groups(alloc, names, tokens)
 }

@@ -3,16 +3,16 @@
 ghost use Rattle.std.specs.Prelude.{◌≡◌, ℕ, [], length, option_map, OnOk, IfOk, IfSome};
 ghost use Rattle.dft_stil_text.specs.Statements as spec;
 ghost use Rattle.dft_stil_tokens.specs.Steps.{left};
-ghost use Rattle.dft_stil.specs.TablesShown.{AreWide};
+ghost use Rattle.dft_stil.specs.WaveformTablesShown.{AreWide};
 ghost use Rattle.dft_stil.specs.PatternShown.{pattern_as};
-ghost use Rattle.dft_stil.specs.ShapeTableShown.{IsWide};
+ghost use Rattle.dft_stil.specs.WaveformsShown.{IsWide};
 ghost use Rattle.dft_stil.specs.VectorShown.{vector_as};
-ghost use Rattle.dft_stil_tokens.specs.Reading.{ReadsText};
+ghost use Rattle.dft_stil_tokens.specs.Reading.{Reads};
 
 use crate::names::Names;
-use crate::shape_table::ShapeTable;
-use crate::tables::Tables;
-use crate::vector::{Vector, assignment};
+use crate::waveforms::Waveforms;
+use crate::waveform_tables::WaveformTables;
+use crate::vector::{VectorStatement, assignment};
 use dft_patterns::Acts;
 use dft_stil_tokens::{Cause, ReadError, TokenKind, Tokens, fault_at, unknown};
 use std::alloc::{AllocError, Global};
@@ -21,42 +21,42 @@ use std::mem::replace;
 /// A pattern so far: the table of the last `W`, by number, the acts of the last vector, and the vectors. While a vector is
 /// read, its acts are out.
 #[derive(Debug, Drop)]
-pub struct Pattern {
+pub struct PatternBlock {
     pub table: Option<usize>,
     pub acts: Acts,
     pub vectors: Vec<Acts>,
 }
 
-// The shapes of a table by number, if there is one.
-fn shapes_at(tables: &Tables, number: Option<usize>) -> Option<&ShapeTable>
-    ensures value { option_map (λ s. s.now) result ≡ spec.shapes_at tables.now number }
+// The waveforms of a table by number, if there is one.
+fn waveforms_at(tables: &WaveformTables, number: Option<usize>) -> Option<&Waveforms>
+    ensures value { option_map (λ s. s.now) result ≡ spec.waveforms_at tables.now number }
     ensures wide { (count : ℕ) → AreWide count tables.now → IfSome result (λ s. IsWide count s.now) }
 {
-    tables.shapes(number?)
+    tables.waveforms(number?)
 }
 
 // A vector that mentions no signal, behind one with these acts.
-fn begun(alloc: Global, acts: Acts) -> Result<Vector, AllocError>
-    ensures value { IfOk result (λ v. vector_as v ≡ spec.begun acts) }
+fn vector_after(alloc: Global, acts: Acts) -> Result<VectorStatement, AllocError>
+    ensures value { IfOk result (λ v. vector_as v ≡ spec.vector_after acts) }
     ensures acts { IfOk result (λ v. length v.acts ≡ length acts) }
     ensures told { IfOk result (λ v. length v.told.items ≡ length acts) }
 {
     let told = vec![in alloc; false; acts.count()]?;
-    Ok(Vector { acts, told })
+    Ok(VectorStatement { acts, told })
 }
 
 // The assignments of a vector, and its brace.
 fn assignments(
     alloc: Global,
     names: &Names,
-    shapes: Option<&ShapeTable>,
-    begun: Vector,
+    waveforms: Option<&Waveforms>,
+    begun: VectorStatement,
     tokens: &mut Tokens<'_>,
-) -> Result<Vector, ReadError>
+) -> Result<VectorStatement, ReadError>
     requires acts { length begun.acts ≡ length names.now.signals }
     requires told { length begun.told.items ≡ length names.now.signals }
-    requires wide { IfSome shapes (λ s. IsWide (length names.now.signals) s.now) }
-    ensures read { ReadsText vector_as (spec.assignments_from (left tokens.old) names.now (option_map (λ s. s.now) shapes.entry) (vector_as begun) tokens.old) result tokens.new }
+    requires wide { IfSome waveforms (λ s. IsWide (length names.now.signals) s.now) }
+    ensures read { Reads vector_as (spec.assignments_from (left tokens.old) names.now (option_map (λ s. s.now) waveforms.entry) (vector_as begun) tokens.old) result tokens.new }
     ensures acts { IfOk result (λ v. length v.acts ≡ length names.now.signals) }
 {
     let mut vector = begun;
@@ -64,7 +64,7 @@ fn assignments(
         if tokens.eat(TokenKind::CloseBrace) {
             return Ok(vector);
         }
-        vector = assignment(alloc, names, shapes, vector, tokens)?;
+        vector = assignment(alloc, names, waveforms, vector, tokens)?;
     }
     Err(tokens.no_token())
 }
@@ -73,23 +73,23 @@ fn assignments(
 fn assigned(
     alloc: Global,
     names: &Names,
-    tables: &Tables,
+    tables: &WaveformTables,
     table: Option<usize>,
     acts: Acts,
     tokens: &mut Tokens<'_>,
-) -> Result<Vector, ReadError>
+) -> Result<VectorStatement, ReadError>
     requires acts { length acts ≡ length names.now.signals }
     requires wide { AreWide (length names.now.signals) tables.now }
-    ensures read { ReadsText vector_as (spec.assignments_from (left tokens.old) names.now (spec.shapes_at tables.now table) (spec.begun acts) tokens.old) result tokens.new }
+    ensures read { Reads vector_as (spec.assignments_from (left tokens.old) names.now (spec.waveforms_at tables.now table) (spec.vector_after acts) tokens.old) result tokens.new }
     ensures acts { IfOk result (λ v. length v.acts ≡ length names.now.signals) }
 {
-    let begun = begun(alloc, acts)?;
-    let shapes = shapes_at(tables, table);
-    assignments(alloc, names, shapes, begun, tokens)
+    let begun = vector_after(alloc, acts)?;
+    let waveforms = waveforms_at(tables, table);
+    assignments(alloc, names, waveforms, begun, tokens)
 }
 
 // Takes the acts of the last vector out of a pattern.
-fn taken_acts(alloc: Global, pattern: &mut Pattern) -> Acts
+fn taken_acts(alloc: Global, pattern: &mut PatternBlock) -> Acts
     ensures acts { result ≡ pattern.old.acts }
     ensures left { pattern_as pattern.new ≡ record (pattern_as pattern.old) { acts = [] } }
 {
@@ -97,7 +97,7 @@ fn taken_acts(alloc: Global, pattern: &mut Pattern) -> Acts
 }
 
 // Adds a vector with these acts, which are copied into it.
-fn add_acts(alloc: Global, pattern: &mut Pattern, acts: Acts) -> Result<(), AllocError>
+fn add_acts(alloc: Global, pattern: &mut PatternBlock, acts: Acts) -> Result<(), AllocError>
     ensures added { OnOk result (pattern_as pattern.new ≡ spec.with_acts acts (pattern_as pattern.old)) }
     ensures acts { OnOk result (pattern.new.acts ≡ acts) }
 {
@@ -111,14 +111,14 @@ fn add_acts(alloc: Global, pattern: &mut Pattern, acts: Acts) -> Result<(), Allo
 fn vector(
     alloc: Global,
     names: &Names,
-    tables: &Tables,
+    tables: &WaveformTables,
     most: usize,
-    pattern: &mut Pattern,
+    pattern: &mut PatternBlock,
     tokens: &mut Tokens<'_>,
 ) -> Result<(), ReadError>
     requires acts { length pattern.old.acts ≡ length names.now.signals }
     requires wide { AreWide (length names.now.signals) tables.now }
-    ensures read { ReadsText (λ _. pattern_as pattern.new) (spec.vector most names.now tables.now (pattern_as pattern.old) tokens.old) result tokens.new }
+    ensures read { Reads (λ _. pattern_as pattern.new) (spec.vector most names.now tables.now (pattern_as pattern.old) tokens.old) result tokens.new }
     ensures acts { OnOk result (length pattern.new.acts ≡ length names.now.signals) }
 {
     let place = tokens.left();
@@ -137,11 +137,11 @@ fn vector(
 // The name of a table, and a semicolon.
 fn table_used(
     alloc: Global,
-    tables: &Tables,
-    pattern: &mut Pattern,
+    tables: &WaveformTables,
+    pattern: &mut PatternBlock,
     tokens: &mut Tokens<'_>,
 ) -> Result<(), ReadError>
-    ensures read { ReadsText (λ _. pattern_as pattern.new) (spec.table_used tables.now (pattern_as pattern.old) tokens.old) result tokens.new }
+    ensures read { Reads (λ _. pattern_as pattern.new) (spec.table_used tables.now (pattern_as pattern.old) tokens.old) result tokens.new }
     ensures acts { OnOk result (length pattern.new.acts ≡ length pattern.old.acts) }
 {
     let place = tokens.left();
@@ -159,14 +159,14 @@ fn table_used(
 fn labelled(
     alloc: Global,
     names: &Names,
-    tables: &Tables,
+    tables: &WaveformTables,
     most: usize,
-    pattern: &mut Pattern,
+    pattern: &mut PatternBlock,
     tokens: &mut Tokens<'_>,
 ) -> Result<(), ReadError>
     requires acts { length pattern.old.acts ≡ length names.now.signals }
     requires wide { AreWide (length names.now.signals) tables.now }
-    ensures read { ReadsText (λ _. pattern_as pattern.new) (spec.labelled most names.now tables.now (pattern_as pattern.old) tokens.old) result tokens.new }
+    ensures read { Reads (λ _. pattern_as pattern.new) (spec.labelled most names.now tables.now (pattern_as pattern.old) tokens.old) result tokens.new }
     ensures acts { OnOk result (length pattern.new.acts ≡ length names.now.signals) }
 {
     tokens.name()?;
@@ -179,14 +179,14 @@ fn labelled(
 fn statement(
     alloc: Global,
     names: &Names,
-    tables: &Tables,
+    tables: &WaveformTables,
     most: usize,
-    pattern: &mut Pattern,
+    pattern: &mut PatternBlock,
     tokens: &mut Tokens<'_>,
 ) -> Result<(), ReadError>
     requires acts { length pattern.old.acts ≡ length names.now.signals }
     requires wide { AreWide (length names.now.signals) tables.now }
-    ensures read { ReadsText (λ _. pattern_as pattern.new) (spec.statement most names.now tables.now (pattern_as pattern.old) tokens.old) result tokens.new }
+    ensures read { Reads (λ _. pattern_as pattern.new) (spec.statement most names.now tables.now (pattern_as pattern.old) tokens.old) result tokens.new }
     ensures acts { OnOk result (length pattern.new.acts ≡ length names.now.signals) }
 {
     if tokens.sees_word(b"W") {
@@ -205,14 +205,14 @@ fn statement(
 pub fn statements(
     alloc: Global,
     names: &Names,
-    tables: &Tables,
+    tables: &WaveformTables,
     most: usize,
-    pattern: &mut Pattern,
+    pattern: &mut PatternBlock,
     tokens: &mut Tokens<'_>,
 ) -> Result<(), ReadError>
     requires acts { length pattern.old.acts ≡ length names.now.signals }
     requires wide { AreWide (length names.now.signals) tables.now }
-    ensures { ReadsText (λ _. pattern_as pattern.new) (spec.statements_from (left tokens.old) most names.now tables.now (pattern_as pattern.old) tokens.old) result tokens.new }
+    ensures { Reads (λ _. pattern_as pattern.new) (spec.statements_from (left tokens.old) most names.now tables.now (pattern_as pattern.old) tokens.old) result tokens.new }
 {
     'turns: for _turn in 0..tokens.left() {
         if tokens.eat(TokenKind::CloseBrace) {

@@ -5,21 +5,21 @@ ghost use Rattle.std.specs.List.{list_any};
 ghost use Rattle.dft_stil_text.specs.Statements as spec;
 ghost use Rattle.dft_stil_tokens.specs.Steps.{left};
 ghost use Rattle.dft_stil.specs.MembersShown.{AreBelow, meant as meant_as};
-ghost use Rattle.dft_stil.specs.ShapeTableShown.{IsWide};
+ghost use Rattle.dft_stil.specs.WaveformsShown.{IsWide};
 ghost use Rattle.dft_stil.specs.VectorShown.{vector_as, flagged_in};
-ghost use Rattle.dft_stil_tokens.specs.Reading.{ReadsText};
+ghost use Rattle.dft_stil_tokens.specs.Reading.{Reads};
 
 use crate::characters::characters;
 use crate::members::Meant;
 use crate::names::Names;
-use crate::shape_table::ShapeTable;
+use crate::waveforms::Waveforms;
 use dft_patterns::Acts;
 use dft_stil_tokens::{ReadError, TokenKind, Tokens, taken, unknown};
 use std::alloc::Global;
 
 /// A vector so far: its acts, and flags for the signals that it mentions.
 #[derive(Debug, Drop)]
-pub struct Vector {
+pub struct VectorStatement {
     pub acts: Acts,
     pub told: Vec<bool>,
 }
@@ -49,7 +49,7 @@ fn flag(told: &mut [bool], signals: &[usize])
 }
 
 // Whether the vector mentions one of these signals, or they mention one twice.
-fn is_told(vector: &Vector, meant: Meant<'_>) -> bool
+fn is_told(vector: &VectorStatement, meant: Meant<'_>) -> bool
     requires { AreBelow (length vector.now.told.items) meant.signals.now }
     ensures { result ≡ spec.is_told (vector_as vector.now) (meant_as meant.entry) }
 {
@@ -61,14 +61,14 @@ fn is_told(vector: &Vector, meant: Meant<'_>) -> bool
 pub fn assignment(
     alloc: Global,
     names: &Names,
-    shapes: Option<&ShapeTable>,
-    vector: Vector,
+    waveforms: Option<&Waveforms>,
+    vector: VectorStatement,
     tokens: &mut Tokens<'_>,
-) -> Result<Vector, ReadError>
+) -> Result<VectorStatement, ReadError>
     requires acts { length vector.acts ≡ length names.now.signals }
     requires told { length vector.told.items ≡ length names.now.signals }
-    requires wide { IfSome shapes (λ s. IsWide (length names.now.signals) s.now) }
-    ensures read { ReadsText vector_as (spec.assignment names.now (option_map (λ s. s.now) shapes.entry) (vector_as vector) tokens.old) result tokens.new }
+    requires wide { IfSome waveforms (λ s. IsWide (length names.now.signals) s.now) }
+    ensures read { Reads vector_as (spec.assignment names.now (option_map (λ s. s.now) waveforms.entry) (vector_as vector) tokens.old) result tokens.new }
     ensures acts { IfOk result (λ v. length v.acts ≡ length names.now.signals) }
     ensures told { IfOk result (λ v. length v.told.items ≡ length names.now.signals) }
 {
@@ -81,8 +81,8 @@ pub fn assignment(
         return Err(taken(alloc, word, place));
     }
     tokens.expect(TokenKind::Equals)?;
-    let Vector { acts, mut told } = vector;
-    let acts = characters(shapes, meant.signals, acts, tokens)?;
+    let VectorStatement { acts, mut told } = vector;
+    let acts = characters(waveforms, meant.signals, acts, tokens)?;
     flag(&mut told, meant.signals);
-    Ok(Vector { acts, told })
+    Ok(VectorStatement { acts, told })
 }

@@ -15,8 +15,8 @@ use Rattle.dft_patterns.specs.declared.signal.StilSignal.{StilSignal}
 use Rattle.dft_patterns.specs.Steadiness.{HaveLength}
 use Rattle.dft_patterns.specs.Patterns.{inputs, outputs, input_count}
 use Rattle.dft_stil_out.specs.Letters.{letter}
-use Rattle.dft_stil_out.specs.Written.{declaration, quoted, group_line, input_waves, output_waves, middle, head, assignment_text, vector_line, note_line, note_words, due, noted_lines, noted}
-use Rattle.dft_stil_length.specs.WrittenLength.{name_bytes, group_length, waves_length, assignment_length, line_length, notes_length, head_length, frame_length}
+use Rattle.dft_stil_out.specs.Written.{signal_line, quoted, group_line, input_waveforms, output_waveforms, middle, head, assignment_text, vector_line, note_line, note_words, due, noted_lines, noted}
+use Rattle.dft_stil_length.specs.WrittenLength.{name_bytes, group_length, waveforms_length, assignment_length, line_length, notes_length, head_length, frame_length}
 use Rattle.dft_stil_length.specs.Laws.{HasWrittenLength}
 
 -- ---- groups
@@ -101,21 +101,21 @@ length-lines count inputs outputs place (acts ∷ vectors) notes wide ahead belo
 
 -- ---- the text
 
-length-input_waves : (signals : List StilSignal) → length (input_waves signals) ≡ waves_length (length signals) 73
-length-input_waves [] = refl
-length-input_waves (s ∷ signals) = refl
+length-input_waveforms : (signals : List StilSignal) → length (input_waveforms signals) ≡ waveforms_length (length signals) 73
+length-input_waveforms [] = refl
+length-input_waveforms (s ∷ signals) = refl
 
-length-output_waves : (signals : List StilSignal) → length (output_waves signals) ≡ waves_length (length signals) 74
-length-output_waves [] = refl
-length-output_waves (s ∷ signals) = refl
+length-output_waveforms : (signals : List StilSignal) → length (output_waveforms signals) ≡ waveforms_length (length signals) 74
+length-output_waveforms [] = refl
+length-output_waveforms (s ∷ signals) = refl
 
 length-middle : (ins outs : List StilSignal) → length (middle ins outs) + 22 ≡ frame_length (length ins) (name_bytes ins) (length outs) (name_bytes outs)
 unfolding middle
 length-middle ins outs =
     let a = group_line (codes "ins") ins in
     let b = group_line (codes "outs") outs in
-    let c = input_waves ins in
-    let d = output_waves outs in
+    let c = input_waveforms ins in
+    let d = output_waveforms outs in
     let last = codes "}\n}\n}\nPatternBurst b { PatList { p; } }\nPatternExec { PatternBurst b; }\nPattern p {\nW w;\n" in
     let timing = codes "}\nTiming {\nWaveformTable w {\nPeriod '100ns';\nWaveforms {\n" in
     omega (
@@ -126,16 +126,16 @@ length-middle ins outs =
       length-append d (last ++ []),
       length-group (codes "ins") ins,
       length-group (codes "outs") outs,
-      length-input_waves ins,
-      length-output_waves outs,
+      length-input_waveforms ins,
+      length-output_waveforms outs,
     )
 
 length-head : (signals : List StilSignal) → length (head signals) + 2 ≡ head_length signals
 unfolding head
 length-head signals =
-    let names = flat_map declaration signals in
+    let names = flat_map signal_line signals in
     let rest = middle (inputs signals) (outputs signals) in
-    omega (arith, length-append names rest, length-flat_map declaration signals, length-middle (inputs signals) (outputs signals))
+    omega (arith, length-append names rest, length-flat_map signal_line signals, length-middle (inputs signals) (outputs signals))
 
 -- each vector has its inputs and its outputs
 wide_of : (signals : List StilSignal) (vectors : List (List Act)) → HaveLength (length signals) vectors →

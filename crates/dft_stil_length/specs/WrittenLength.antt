@@ -5,7 +5,7 @@ use Rattle.std.specs.List.{sum_by}
 use Rattle.dft_patterns.specs.declared.notes.Note.{Note}
 use Rattle.dft_patterns.specs.declared.signal.StilSignal.{StilSignal}
 use Rattle.dft_patterns.specs.Patterns.{inputs, outputs}
-use Rattle.dft_stil_out.specs.Written.{declaration, note_line}
+use Rattle.dft_stil_out.specs.Written.{signal_line, note_line}
 
 -- ---- declarations and groups
 
@@ -15,7 +15,7 @@ name_bytes signals = sum_by (λ s. length s.name) signals
 
 -- the lines that declare signals
 abbrev pub declarations_length : List StilSignal → ℕ
-declarations_length signals = sum_by (λ s. length (declaration s)) signals
+declarations_length signals = sum_by (λ s. length (signal_line s)) signals
 
 -- the line of a group with a label of so many letters: quotes around each name, a plus sign between two, and 7 bytes besides
 abbrev pub group_length : (label signals names : ℕ) → ℕ
@@ -23,9 +23,9 @@ group_length label zero names = 0
 group_length label (suc others) names = label + names + 3 * others + 9
 
 -- the lines of waveforms of inputs and of outputs
-abbrev pub waves_length : (signals bytes : ℕ) → ℕ
-waves_length zero bytes = 0
-waves_length (suc others) bytes = bytes
+abbrev pub waveforms_length : (signals bytes : ℕ) → ℕ
+waveforms_length zero bytes = 0
+waveforms_length (suc others) bytes = bytes
 
 -- ---- vectors
 
@@ -47,7 +47,7 @@ notes_length notes = sum_by (λ n. length (note_line n)) notes
 -- the lines around all these, and the groups and waveforms of so many inputs and outputs
 abbrev pub frame_length : (inputs input_names outputs output_names : ℕ) → ℕ
 frame_length inputs input_names outputs output_names =
-    185 + group_length 3 inputs input_names + group_length 4 outputs output_names + waves_length inputs 73 + waves_length outputs 74
+    185 + group_length 3 inputs input_names + group_length 4 outputs output_names + waveforms_length inputs 73 + waveforms_length outputs 74
 
 -- all but the lines of vectors and notes
 abbrev pub head_length : List StilSignal → ℕ

@@ -22,8 +22,8 @@ pub(crate) fn name_bytes(signals: &[StilSignal]) -> Option<u64>
 }
 
 fn declaration_length(signal: &StilSignal) -> Option<u64>
-    ensures length { IfSome result (λ n. n ≡ length (form.declaration signal.now)) }
-    ensures large { result ≡ None → 2 ^ 64 ≤ length (form.declaration signal.now) }
+    ensures length { IfSome result (λ n. n ≡ length (form.signal_line signal.now)) }
+    ensures large { result ≡ None → 2 ^ 64 ≤ length (form.signal_line signal.now) }
 {
     let name = signal.name.as_slice().len() as u64;
     match signal.dir {
@@ -60,8 +60,8 @@ pub(crate) fn group_length(label: u64, signals: &[StilSignal]) -> Option<u64>
 }
 
 /// A line of so many bytes, if there is a signal.
-pub(crate) fn waves_length(signals: &[StilSignal], bytes: u64) -> u64
-    ensures { result ≡ spec.waves_length (length signals.now) bytes }
+pub(crate) fn waveforms_length(signals: &[StilSignal], bytes: u64) -> u64
+    ensures { result ≡ spec.waveforms_length (length signals.now) bytes }
 {
     if signals.is_empty() { 0 } else { bytes }
 }

@@ -11,7 +11,7 @@ use Rattle.dft_patterns.specs.declared.signal.StilSignal.{StilSignal}
 use Rattle.dft_stil_tokens.specs.declared.text.TokenKind.TheVariants as kind
 use Rattle.dft_stil_tokens.specs.Lexemes.{Token}
 use Rattle.dft_stil_tokens.specs.Steps.{kind_of, bytes, left, next, sees, sees_word, sees_name, expect, after, after_word, name}
-use Rattle.dft_stil_text.specs.SignalGroups.{Names, Members, number_of, is_known, names_of_signals, one_signal, has, joined, member, members_from, members, with_group, group, groups_from, name_if_any, group_block, sees_groups, after_groups, group_blocks_from, group_blocks}
+use Rattle.dft_stil_text.specs.SignalGroups.{Names, Members, number_of, is_declared, names_of_signals, one_signal, has_signal, with_members, member, members_from, members, with_group, group, groups_from, name_if_any, group_block, sees_groups, after_groups, group_blocks_from, group_blocks}
 use Rattle.dft_stil_out.specs.Written.{quoted}
 use Rattle.dft_stil_out.specs.Written as form
 use Rattle.dft_stil_out.proofs.WrittenTokens.{cut_up, token, ahead, cut_up-name, cut_up-ins_are, cut_up-outs_are, cut_up-plus, cut_up-listed, cut_up-close, cut_up-timing}
@@ -29,7 +29,7 @@ unfolding counted
 counted-push from zero m e = let f : m ≡ from = omega arith in ap (λ k. k ∷ []) f
 counted-push from (suc n) m e = ap (λ ns. from ∷ ns) (counted-push (suc from) n m (omega arith))
 
-pub has-past : (from n m : ℕ) → ((m < from) ⊎ (from + n ≤ m)) → has (counted from n) m ≡ false
+pub has-past : (from n m : ℕ) → ((m < from) ⊎ (from + n ≤ m)) → has_signal (counted from n) m ≡ false
 unfolding counted
 has-past from zero m h = refl
 has-past from (suc n) m (inl h) =
@@ -43,10 +43,10 @@ has-past from (suc n) m (inr h) =
 abbrev pub group_of : (from count : ℕ) → Members
 group_of from n = record { signals = counted from n; repeated = false }
 
-joined-one : (from n m : ℕ) → m ≡ from + n → joined (group_of from n) (one_signal m) ≡ group_of from (suc n)
+joined-one : (from n m : ℕ) → m ≡ from + n → with_members (group_of from n) (one_signal m) ≡ group_of from (suc n)
 joined-one from n m e = rw (has-past from n m (inr (omega arith)), counted-push from n m e) refl
 
-joined-first : (from : ℕ) → joined (record { signals = []; repeated = false }) (one_signal from) ≡ group_of from 1
+joined-first : (from : ℕ) → with_members (record { signals = []; repeated = false }) (one_signal from) ≡ group_of from 1
 unfolding counted
 joined-first from = refl
 
@@ -78,7 +78,7 @@ join-is s [] = sym (append-nil (quoted s))
 join-is s (t ∷ ss) = ap (λ x. quoted s ++ 43 ∷ x) (join-is t ss)
 
 members_from-more : (k : ℕ) (names : Names) (m x : Members) (word : Text) (l : ℕ) (ts us : List Token) → member names ts ≡ Ok (x, us)
-    → members_from (suc k) names m (token kind.Plus word l ∷ ts) ≡ members_from k names (joined m x) us
+    → members_from (suc k) names m (token kind.Plus word l ∷ ts) ≡ members_from k names (with_members m x) us
 unfolding members_from sees kind_of after next
 members_from-more k names m x word l ts us e = rw e refl
 
@@ -128,7 +128,7 @@ behind_long (s ∷ todo) rest =
 -- ---- a list
 
 members-at : (names : Names) (first : Members) (word : Text) (l : ℕ) (ts : List Token) → member names (token kind.Quoted word l ∷ ts) ≡ Ok (first, ts)
-    → members names (token kind.Quoted word l ∷ ts) ≡ members_from (left ts) names (joined (record { signals = []; repeated = false }) first) ts
+    → members names (token kind.Quoted word l ∷ ts) ≡ members_from (left ts) names (with_members (record { signals = []; repeated = false }) first) ts
 unfolding members
 members-at names first word l ts e = rw e refl
 
@@ -141,7 +141,7 @@ list_read names prefix s todo last rest is quotable new =
     let size : left (cut_up true later) ≡ suc (length later - 1) = behind_left todo rest ∙ (omega arith) in
     ap (members names) (cut_up-name true s.name later quotable.0)
     ∙ members-at names (one_signal from) s.name _ (cut_up true later) (member-at names s.name from _ (cut_up true later) (number_here names.signals prefix s (todo ++ last) is new.0))
-    ∙ ap (λ n. members_from n names (joined (record { signals = []; repeated = false }) (one_signal from)) (cut_up true later)) size
+    ∙ ap (λ n. members_from n names (with_members (record { signals = []; repeated = false }) (one_signal from)) (cut_up true later)) size
     ∙ ap (λ m. members_from (suc (length later - 1)) names m (cut_up true later)) (joined-first from)
     ∙ behind_read (length later - 1) from 1 (suc (length todo)) names (prefix ++ s ∷ []) todo last rest (omega arith) (is ∙ sym (append_assoc prefix (s ∷ []) (todo ++ last))) (omega (arith, length-append prefix (s ∷ []))) (omega arith) quotable.1 new.1
 
@@ -165,7 +165,7 @@ unfolding label
 listed_at Input rest = record { a = ahead 7 rest; b = ahead 3 rest; c = ahead 1 rest; at = cut_up-ins_are rest; size = refl }
 listed_at Output rest = record { a = ahead 8 rest; b = ahead 3 rest; c = ahead 1 rest; at = cut_up-outs_are rest; size = refl }
 
-group-at : (names : Names) (m : Members) (word e q r s : Text) (a b c d f : ℕ) (us vs : List Token) → is_known names.group_names word ≡ false → members names us ≡ Ok (m, token kind.Quote r d ∷ token kind.Semicolon s f ∷ vs)
+group-at : (names : Names) (m : Members) (word e q r s : Text) (a b c d f : ℕ) (us vs : List Token) → is_declared names.group_names word ≡ false → members names us ≡ Ok (m, token kind.Quote r d ∷ token kind.Semicolon s f ∷ vs)
     → group names (token kind.Word word a ∷ token kind.Equals e b ∷ token kind.Quote q c ∷ us) ≡ Ok (with_group names word m, vs)
 unfolding group name sees_name sees kind_of bytes left next expect
 group-at names m word e q r s a b c d f us vs free is = rw (free, is) refl
@@ -195,7 +195,7 @@ group-text d s ss rest =
     ∙ ap (λ t. label d ++ (codes " = '" ++ t)) (append_assoc (join_with_byte 43 (map quoted (s ∷ ss))) (codes "';\n") rest
     ∙ ap (λ t. t ++ (codes "';\n" ++ rest)) (join-is s ss) ∙ append_assoc (quoted s) (list_behind ss) (codes "';\n" ++ rest) ∙ quoted_text s (list_behind ss ++ (codes "';\n" ++ rest)))
 
-group_read : (d : Dir) (k : ℕ) (names : Names) (prefix ss last : List StilSignal) (rest : Text) → names.signals ≡ prefix ++ (ss ++ last) → AllQuotable ss → AllNew prefix (ss ++ last) → is_known names.group_names (label d) ≡ false
+group_read : (d : Dir) (k : ℕ) (names : Names) (prefix ss last : List StilSignal) (rest : Text) → names.signals ≡ prefix ++ (ss ++ last) → AllQuotable ss → AllNew prefix (ss ++ last) → is_declared names.group_names (label d) ≡ false
     → groups_from (turns ss k) names (cut_up false (form.group_line (label d) ss ++ rest)) ≡ groups_from k (grown d (length prefix) ss names) (cut_up false rest)
 unfolding grown turns
 group_read d k names prefix [] last rest is quotable new free = refl
@@ -240,10 +240,10 @@ enough (i ∷ ins) (o ∷ outs) n h = record { more = n - 3; is = omega arith }
 abbrev pub grouped : (ins outs : List StilSignal) → Names
 grouped ins outs = grown Output (length ins) outs (grown Input 0 ins (alone (ins ++ outs)))
 
-first_free : (d : Dir) (ss : List StilSignal) → is_known (alone ss).group_names (label d) ≡ false
+first_free : (d : Dir) (ss : List StilSignal) → is_declared (alone ss).group_names (label d) ≡ false
 first_free d ss = refl
 
-second_free : (ins all : List StilSignal) → is_known (grown Input 0 ins (alone all)).group_names (label Output) ≡ false
+second_free : (ins all : List StilSignal) → is_declared (grown Input 0 ins (alone all)).group_names (label Output) ≡ false
 unfolding grown label
 second_free [] all = refl
 second_free (i ∷ ins) all = refl

@@ -12,8 +12,8 @@ use Rattle.dft_stil_out.specs.Letters.{letter}
 use Rattle.dft_stil_tokens.specs.Lexemes.{Token}
 use Rattle.dft_stil_tokens.specs.Steps.{kind_of, bytes, next, sees, sees_word, after}
 use Rattle.dft_stil_text.specs.SignalGroups.{Names}
-use Rattle.dft_stil_text.specs.WaveformTables.{Shapes, Tables}
-use Rattle.dft_stil_text.specs.Statements.{Pattern, vector, statement, statements_from}
+use Rattle.dft_stil_text.specs.WaveformTables.{Waveforms, WaveformTables}
+use Rattle.dft_stil_text.specs.Statements.{PatternBlock, vector, statement, statements_from}
 use Rattle.dft_stil_out.specs.Written.{vector_line, note_line, due, noted_lines}
 use Rattle.dft_stil_out.specs.Written as form
 use Rattle.dft_stil_out.proofs.WrittenTokens.{cut_up, token, ahead, run_text, cut_up-vector, cut_up-end, IsLine, AVector, cut_up-note, note_is_line}
@@ -48,43 +48,43 @@ line-both x xs y ys rest =
     ∙ ap (λ t. codes "V { ins = " ++ t) (append_assoc (map letter (x ∷ xs)) (codes "; outs = " ++ (map letter (y ∷ ys) ++ codes "; }\n")) rest
     ∙ ap (λ t. map letter (x ∷ xs) ++ (codes "; outs = " ++ t)) (append_assoc (map letter (y ∷ ys)) (codes "; }\n") rest))
 
-line_by : (most : ℕ) (ins outs : List StilSignal) (shapes : Shapes) (xs ys olds others : List Act) (vectors : List (List Act)) (rest : Text) → Means (Some shapes) Input 0 (length ins) → Means (Some shapes) Output (length ins) (length outs)
+line_by : (most : ℕ) (ins outs : List StilSignal) (waveforms : Waveforms) (xs ys olds others : List Act) (vectors : List (List Act)) (rest : Text) → Means (Some waveforms) Input 0 (length ins) → Means (Some waveforms) Output (length ins) (length outs)
     → 0 < length ins → AllActs Input xs → AllActs Output ys → length xs ≡ length ins → length ys ≡ length outs → length olds ≡ length ins → length others ≡ length outs → length vectors < most
-    → vector most (grouped ins outs) (one_table shapes) (so_far (olds ++ others) vectors) (cut_up false (vector_line (length xs) (xs ++ ys) ++ rest)) ≡ Ok (so_far (xs ++ ys) (vectors ++ (xs ++ ys) ∷ []), cut_up false rest)
-line_by most [] outs shapes xs ys olds others vectors rest mi mo some hi ho ci co ki ko room = absurd (omega arith)
-line_by most (i ∷ ins) outs shapes [] ys olds others vectors rest mi mo some hi ho ci co ki ko room = absurd (omega arith)
-line_by most (i ∷ ins) [] shapes (x ∷ xs) (y ∷ ys) olds others vectors rest mi mo some hi ho ci co ki ko room = absurd (omega arith)
-line_by most (i ∷ ins) [] shapes (x ∷ xs) [] olds (o ∷ others) vectors rest mi mo some hi ho ci co ki ko room = absurd (omega arith)
-line_by most (i ∷ ins) [] shapes (x ∷ xs) [] olds [] vectors rest mi mo some hi ho ci co ki ko room =
-    ap (λ t. vector most (grouped (i ∷ ins) []) (one_table shapes) (so_far (olds ++ []) vectors) (cut_up false t)) (line-inputs x xs rest)
-    ∙ ap (λ (o : List Act). vector most (grouped (i ∷ ins) []) (one_table shapes) (so_far o vectors) (cut_up false (codes "V { " ++ (codes "ins = " ++ run_text x xs (codes " }\n" ++ rest))))) (append-nil olds)
-    ∙ inputs_read most i ins shapes x xs olds vectors rest mi hi (omega arith) ki room
+    → vector most (grouped ins outs) (one_table waveforms) (so_far (olds ++ others) vectors) (cut_up false (vector_line (length xs) (xs ++ ys) ++ rest)) ≡ Ok (so_far (xs ++ ys) (vectors ++ (xs ++ ys) ∷ []), cut_up false rest)
+line_by most [] outs waveforms xs ys olds others vectors rest mi mo some hi ho ci co ki ko room = absurd (omega arith)
+line_by most (i ∷ ins) outs waveforms [] ys olds others vectors rest mi mo some hi ho ci co ki ko room = absurd (omega arith)
+line_by most (i ∷ ins) [] waveforms (x ∷ xs) (y ∷ ys) olds others vectors rest mi mo some hi ho ci co ki ko room = absurd (omega arith)
+line_by most (i ∷ ins) [] waveforms (x ∷ xs) [] olds (o ∷ others) vectors rest mi mo some hi ho ci co ki ko room = absurd (omega arith)
+line_by most (i ∷ ins) [] waveforms (x ∷ xs) [] olds [] vectors rest mi mo some hi ho ci co ki ko room =
+    ap (λ t. vector most (grouped (i ∷ ins) []) (one_table waveforms) (so_far (olds ++ []) vectors) (cut_up false t)) (line-inputs x xs rest)
+    ∙ ap (λ (o : List Act). vector most (grouped (i ∷ ins) []) (one_table waveforms) (so_far o vectors) (cut_up false (codes "V { " ++ (codes "ins = " ++ run_text x xs (codes " }\n" ++ rest))))) (append-nil olds)
+    ∙ inputs_read most i ins waveforms x xs olds vectors rest mi hi (omega arith) ki room
     ∙ ap (λ (a : List Act). Ok (so_far a (vectors ++ a ∷ []), cut_up false rest)) (sym (append-nil (x ∷ xs)))
-line_by most (i ∷ ins) (o ∷ outs) shapes (x ∷ xs) [] olds others vectors rest mi mo some hi ho ci co ki ko room = absurd (omega arith)
-line_by most (i ∷ ins) (o ∷ outs) shapes (x ∷ xs) (y ∷ ys) olds others vectors rest mi mo some hi ho ci co ki ko room =
-    ap (λ t. vector most (grouped (i ∷ ins) (o ∷ outs)) (one_table shapes) (so_far (olds ++ others) vectors) (cut_up false t)) (line-both x xs y ys rest)
-    ∙ both_read most i ins o outs shapes x xs y ys olds others vectors rest mi mo hi ho (omega arith) (omega arith) ki ko room
+line_by most (i ∷ ins) (o ∷ outs) waveforms (x ∷ xs) [] olds others vectors rest mi mo some hi ho ci co ki ko room = absurd (omega arith)
+line_by most (i ∷ ins) (o ∷ outs) waveforms (x ∷ xs) (y ∷ ys) olds others vectors rest mi mo some hi ho ci co ki ko room =
+    ap (λ t. vector most (grouped (i ∷ ins) (o ∷ outs)) (one_table waveforms) (so_far (olds ++ others) vectors) (cut_up false t)) (line-both x xs y ys rest)
+    ∙ both_read most i ins o outs waveforms x xs y ys olds others vectors rest mi mo hi ho (omega arith) (omega arith) ki ko room
 
-line_read : (most : ℕ) (ins outs : List StilSignal) (shapes : Shapes) (acts olds : List Act) (vectors : List (List Act)) (rest : Text) → Means (Some shapes) Input 0 (length ins) → Means (Some shapes) Output (length ins) (length outs)
+line_read : (most : ℕ) (ins outs : List StilSignal) (waveforms : Waveforms) (acts olds : List Act) (vectors : List (List Act)) (rest : Text) → Means (Some waveforms) Input 0 (length ins) → Means (Some waveforms) Output (length ins) (length outs)
     → 0 < length ins → Parted ins outs acts → length olds ≡ length ins + length outs → length vectors < most
-    → vector most (grouped ins outs) (one_table shapes) (so_far olds vectors) (cut_up false (vector_line (length ins) acts ++ rest)) ≡ Ok (so_far acts (vectors ++ acts ∷ []), cut_up false rest)
-line_read most ins outs shapes acts olds vectors rest mi mo some p old room =
+    → vector most (grouped ins outs) (one_table waveforms) (so_far olds vectors) (cut_up false (vector_line (length ins) acts ++ rest)) ≡ Ok (so_far acts (vectors ++ acts ∷ []), cut_up false rest)
+line_read most ins outs waveforms acts olds vectors rest mi mo some p old room =
     let n : ℕ = length ins in
     let N : Names = grouped ins outs in
-    ap (λ k. vector most N (one_table shapes) (so_far olds vectors) (cut_up false (vector_line k acts ++ rest))) (sym p.count)
-    ∙ ap (λ (a : List Act). vector most N (one_table shapes) (so_far olds vectors) (cut_up false (vector_line (length p.first) a ++ rest))) p.is
-    ∙ ap (λ (o : List Act). vector most N (one_table shapes) (so_far o vectors) (cut_up false (vector_line (length p.first) (p.first ++ p.others) ++ rest))) (sym (take-append-drop n olds))
-    ∙ line_by most ins outs shapes p.first p.others (take n olds) (drop n olds) vectors rest mi mo some p.inputs p.outputs p.count p.rest (omega (arith, length-take n olds)) (omega (arith, length-drop n olds)) room
+    ap (λ k. vector most N (one_table waveforms) (so_far olds vectors) (cut_up false (vector_line k acts ++ rest))) (sym p.count)
+    ∙ ap (λ (a : List Act). vector most N (one_table waveforms) (so_far olds vectors) (cut_up false (vector_line (length p.first) a ++ rest))) p.is
+    ∙ ap (λ (o : List Act). vector most N (one_table waveforms) (so_far o vectors) (cut_up false (vector_line (length p.first) (p.first ++ p.others) ++ rest))) (sym (take-append-drop n olds))
+    ∙ line_by most ins outs waveforms p.first p.others (take n olds) (drop n olds) vectors rest mi mo some p.inputs p.outputs p.count p.rest (omega (arith, length-take n olds)) (omega (arith, length-drop n olds)) room
     ∙ ap (λ (a : List Act). Ok (so_far a (vectors ++ a ∷ []), cut_up false rest)) (sym p.is)
 
 -- ---- statements
 
-statements_from-more : (k most : ℕ) (names : Names) (tables : Tables) (p new : Pattern) (l : ℕ) (ts us : List Token) → vector most names tables p (token kind.Word (codes "V") l ∷ ts) ≡ Ok (new, us)
+statements_from-more : (k most : ℕ) (names : Names) (tables : WaveformTables) (p new : PatternBlock) (l : ℕ) (ts us : List Token) → vector most names tables p (token kind.Word (codes "V") l ∷ ts) ≡ Ok (new, us)
     → statements_from (suc k) most names tables p (token kind.Word (codes "V") l ∷ ts) ≡ statements_from k most names tables new us
 unfolding statements_from statement sees_word sees kind_of bytes after
 statements_from-more k most names tables p new l ts us e = rw e refl
 
-statements_from-end : (k most : ℕ) (names : Names) (tables : Tables) (p : Pattern) (word : Text) (l : ℕ) (ts : List Token) → statements_from (suc k) most names tables p (token kind.CloseBrace word l ∷ ts) ≡ Ok (p, ts)
+statements_from-end : (k most : ℕ) (names : Names) (tables : WaveformTables) (p : PatternBlock) (word : Text) (l : ℕ) (ts : List Token) → statements_from (suc k) most names tables p (token kind.CloseBrace word l ∷ ts) ≡ Ok (p, ts)
 unfolding statements_from sees kind_of after next
 statements_from-end k most names tables p word l ts = refl
 
@@ -162,16 +162,16 @@ some_input : (acts : List Act) (vectors : List (List Act)) (n : ℕ) → ((acts 
 some_input acts vectors n (inl e) = let h = ap length e in absurd (omega arith)
 some_input acts vectors n (inr h) = h
 
-pub lines_read : (k most : ℕ) (ins outs : List StilSignal) (shapes : Shapes) (place : ℕ) (vectors : List (List Act)) (notes : List Note) (olds : List Act) (done : List (List Act)) → Means (Some shapes) Input 0 (length ins) → Means (Some shapes) Output (length ins) (length outs)
+pub lines_read : (k most : ℕ) (ins outs : List StilSignal) (waveforms : Waveforms) (place : ℕ) (vectors : List (List Act)) (notes : List Note) (olds : List Act) (done : List (List Act)) → Means (Some waveforms) Input 0 (length ins) → Means (Some waveforms) Output (length ins) (length outs)
     → ((vectors ≡ []) ⊎ (0 < length ins)) → AllParted ins outs vectors → length olds ≡ length ins + length outs → length done + length vectors ≤ most → length vectors ≤ k
-    → statements_from (suc k) most (grouped ins outs) (one_table shapes) (so_far olds done) (cut_up false (noted_lines (length ins) place vectors notes ++ end_text)) ≡ Ok (so_far (last_acts olds vectors) (done ++ vectors), [])
+    → statements_from (suc k) most (grouped ins outs) (one_table waveforms) (so_far olds done) (cut_up false (noted_lines (length ins) place vectors notes ++ end_text)) ≡ Ok (so_far (last_acts olds vectors) (done ++ vectors), [])
 unfolding last_acts
-lines_read k most ins outs shapes place [] notes olds done mi mo some parted old room fuel =
-    ap (λ t. statements_from (suc k) most (grouped ins outs) (one_table shapes) (so_far olds done) (cut_up false t)) (lines-none (length ins) place notes)
-    ∙ ap (statements_from (suc k) most (grouped ins outs) (one_table shapes) (so_far olds done)) cut_up-end
-    ∙ statements_from-end k most (grouped ins outs) (one_table shapes) (so_far olds done) (codes "}") 2 [] ∙ ap (λ vs. Ok (so_far olds vs, [])) (sym (append-nil done))
-lines_read zero most ins outs shapes place (acts ∷ vectors) notes olds done mi mo some parted old room fuel = absurd (omega arith)
-lines_read (suc k) most ins outs shapes place (acts ∷ vectors) notes olds done mi mo some parted old room fuel =
+lines_read k most ins outs waveforms place [] notes olds done mi mo some parted old room fuel =
+    ap (λ t. statements_from (suc k) most (grouped ins outs) (one_table waveforms) (so_far olds done) (cut_up false t)) (lines-none (length ins) place notes)
+    ∙ ap (statements_from (suc k) most (grouped ins outs) (one_table waveforms) (so_far olds done)) cut_up-end
+    ∙ statements_from-end k most (grouped ins outs) (one_table waveforms) (so_far olds done) (codes "}") 2 [] ∙ ap (λ vs. Ok (so_far olds vs, [])) (sym (append-nil done))
+lines_read zero most ins outs waveforms place (acts ∷ vectors) notes olds done mi mo some parted old room fuel = absurd (omega arith)
+lines_read (suc k) most ins outs waveforms place (acts ∷ vectors) notes olds done mi mo some parted old room fuel =
     let N : Names = grouped ins outs in
     let n : ℕ = length ins in
     let later_notes : List Note = drop (due place notes) notes in
@@ -179,10 +179,10 @@ lines_read (suc k) most ins outs shapes place (acts ∷ vectors) notes olds done
     let line : Text = vector_line n acts ++ later in
     let b = begun_at acts n later in
     let there : 0 < length ins = some_input acts vectors (length ins) some in
-    let step : vector most N (one_table shapes) (so_far olds done) (token kind.Word (codes "V") b.l ∷ b.ts) ≡ Ok (so_far acts (done ++ acts ∷ []), cut_up false later) =
-    ap (vector most N (one_table shapes) (so_far olds done)) (sym b.at) ∙ line_read most ins outs shapes acts olds done later mi mo there parted.0 old (omega arith) in
-    ap (λ t. statements_from (suc (suc k)) most N (one_table shapes) (so_far olds done) (cut_up false t)) (lines-more n place acts vectors notes)
-    ∙ ap (statements_from (suc (suc k)) most N (one_table shapes) (so_far olds done)) (notes_passed (take (due place notes) notes) line (vector_is_line acts n later) ∙ b.at)
-    ∙ statements_from-more (suc k) most N (one_table shapes) (so_far olds done) (so_far acts (done ++ acts ∷ [])) b.l b.ts (cut_up false later) step
-    ∙ lines_read k most ins outs shapes (suc place) vectors later_notes acts (done ++ acts ∷ []) mi mo (inr there) parted.1 (parted-length ins outs acts parted.0) (omega (arith, length-append done (acts ∷ []))) (omega arith)
+    let step : vector most N (one_table waveforms) (so_far olds done) (token kind.Word (codes "V") b.l ∷ b.ts) ≡ Ok (so_far acts (done ++ acts ∷ []), cut_up false later) =
+    ap (vector most N (one_table waveforms) (so_far olds done)) (sym b.at) ∙ line_read most ins outs waveforms acts olds done later mi mo there parted.0 old (omega arith) in
+    ap (λ t. statements_from (suc (suc k)) most N (one_table waveforms) (so_far olds done) (cut_up false t)) (lines-more n place acts vectors notes)
+    ∙ ap (statements_from (suc (suc k)) most N (one_table waveforms) (so_far olds done)) (notes_passed (take (due place notes) notes) line (vector_is_line acts n later) ∙ b.at)
+    ∙ statements_from-more (suc k) most N (one_table waveforms) (so_far olds done) (so_far acts (done ++ acts ∷ [])) b.l b.ts (cut_up false later) step
+    ∙ lines_read k most ins outs waveforms (suc place) vectors later_notes acts (done ++ acts ∷ []) mi mo (inr there) parted.1 (parted-length ins outs acts parted.0) (omega (arith, length-append done (acts ∷ []))) (omega arith)
     ∙ ap (λ vs. Ok (so_far (last_acts acts vectors) vs, [])) (append_assoc done (acts ∷ []) vectors)

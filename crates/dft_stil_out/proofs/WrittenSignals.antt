@@ -15,9 +15,9 @@ use Rattle.dft_stil_tokens.specs.declared.text.TokenKind.{TokenKind}
 use Rattle.dft_stil_tokens.specs.declared.text.TokenKind.TheVariants as kind
 use Rattle.dft_stil_tokens.specs.Lexemes.{Token}
 use Rattle.dft_stil_tokens.specs.Steps.{kind_of, bytes, left, next, sees, sees_word, sees_name, expect, after, keyword, name}
-use Rattle.dft_stil_text.specs.SignalGroups.{Names, number_of, is_known, names_of_signals, direction, signal, signals_from, signals_block, with_new_signal}
+use Rattle.dft_stil_text.specs.SignalGroups.{Names, number_of, is_declared, names_of_signals, direction, signal, signals_from, signals_block, with_new_signal}
 use Rattle.dft_stil_out.specs.Writable.{IsQuotable}
-use Rattle.dft_stil_out.specs.Written.{way, declaration}
+use Rattle.dft_stil_out.specs.Written.{way, signal_line}
 use Rattle.dft_stil_out.proofs.WrittenTokens.{cut_up, token, ahead, cut_up-name, cut_up-in, cut_up-out, cut_up-close}
 
 -- ---- names that are not given yet
@@ -104,16 +104,16 @@ pub dir_word : Dir → Text
 dir_word Input = codes "In"
 dir_word Output = codes "Out"
 
-known_none : (names : List Text) (word : Text) → are_others names word ≡ true → is_known names word ≡ false
+known_none : (names : List Text) (word : Text) → are_others names word ≡ true → is_declared names word ≡ false
 known_none names word h = ap is_some (no_number names word h)
 
-signal-at : (names : Names) (word : Text) (dir : Dir) (a b c : ℕ) (ts : List Token) → is_known (names_of_signals names.signals) word ≡ false
+signal-at : (names : Names) (word : Text) (dir : Dir) (a b c : ℕ) (ts : List Token) → is_declared (names_of_signals names.signals) word ≡ false
     → signal names (token kind.Quoted word a ∷ token kind.Word (dir_word dir) b ∷ token kind.Semicolon (codes ";") c ∷ ts) ≡ Ok (with_new_signal names word dir, ts)
 unfolding signal name sees_name sees kind_of bytes left next direction sees_word expect dir_word
 signal-at names word Input a b c ts free = rw free refl
 signal-at names word Output a b c ts free = rw free refl
 
-declared-text : (s : StilSignal) (rest : Text) → declaration s ++ rest ≡ 34 ∷ (s.name ++ (way s.dir ++ rest))
+declared-text : (s : StilSignal) (rest : Text) → signal_line s ++ rest ≡ 34 ∷ (s.name ++ (way s.dir ++ rest))
 declared-text s rest = ap (λ t. 34 ∷ t) (append_assoc s.name (way s.dir) rest)
 
 -- the tokens of a declaration
@@ -121,8 +121,8 @@ pub record Declared (s : StilSignal) (rest : Text) : Type 0 where
   pub a : ℕ
   pub b : ℕ
   pub c : ℕ
-  pub at : cut_up false (declaration s ++ rest) ≡ token kind.Quoted s.name (suc a) ∷ token kind.Word (dir_word s.dir) b ∷ token kind.Semicolon (codes ";") c ∷ cut_up false rest
-  pub size : length (declaration s ++ rest) ≡ suc a
+  pub at : cut_up false (signal_line s ++ rest) ≡ token kind.Quoted s.name (suc a) ∷ token kind.Word (dir_word s.dir) b ∷ token kind.Semicolon (codes ";") c ∷ cut_up false rest
+  pub size : length (signal_line s ++ rest) ≡ suc a
 
 declared_by : (dir : Dir) (name rest : Text) → IsQuotable name → Declared (record { name = name; dir = dir }) rest
 unfolding dir_word
@@ -158,24 +158,24 @@ unfolding signals_from sees kind_of after next
 signals_from-end k names word l ts = refl
 
 signals_read : (k : ℕ) (done todo : List StilSignal) (rest : Text) → length todo ≤ k → AllQuotable todo → AllNew done todo
-    → signals_from (suc k) (alone done) (cut_up false (flat_map declaration todo ++ (codes "}" ++ rest))) ≡ Ok (alone (done ++ todo), cut_up false rest)
+    → signals_from (suc k) (alone done) (cut_up false (flat_map signal_line todo ++ (codes "}" ++ rest))) ≡ Ok (alone (done ++ todo), cut_up false rest)
 signals_read k done [] rest few quotable new =
     ap (signals_from (suc k) (alone done)) (cut_up-close rest) ∙ signals_from-end k (alone done) (codes "}") (ahead 1 rest) (cut_up false rest) ∙ ap (λ ss. Ok (alone ss, cut_up false rest)) (sym (append-nil done))
 signals_read zero done (s ∷ todo) rest few quotable new = absurd (omega arith)
 signals_read (suc k) done (s ∷ todo) rest few quotable new =
-    let later : Text = flat_map declaration todo ++ (codes "}" ++ rest) in
+    let later : Text = flat_map signal_line todo ++ (codes "}" ++ rest) in
     let d = declared_at s later quotable.0 in
-    ap (λ t. signals_from (suc (suc k)) (alone done) (cut_up false t)) (append_assoc (declaration s) (flat_map declaration todo) (codes "}" ++ rest))
+    ap (λ t. signals_from (suc (suc k)) (alone done) (cut_up false t)) (append_assoc (signal_line s) (flat_map signal_line todo) (codes "}" ++ rest))
     ∙ ap (signals_from (suc (suc k)) (alone done)) d.at
     ∙ signals_from-more (suc k) (alone done) (alone (done ++ s ∷ [])) s.name (suc d.a) _ (cut_up false later) (signal-at (alone done) s.name s.dir (suc d.a) d.b d.c (cut_up false later) (known_none (names_of_signals done) s.name new.0))
     ∙ signals_read k (done ++ s ∷ []) todo rest (omega arith) quotable.1 new.1
     ∙ ap (λ ss. Ok (alone ss, cut_up false rest)) (append_assoc done (s ∷ []) todo)
 
-declared_long : (ss : List StilSignal) (rest : Text) → suc (length ss) ≤ length (flat_map declaration ss ++ (codes "}" ++ rest))
+declared_long : (ss : List StilSignal) (rest : Text) → suc (length ss) ≤ length (flat_map signal_line ss ++ (codes "}" ++ rest))
 declared_long [] rest = omega arith
 declared_long (s ∷ ss) rest =
     let ih = declared_long ss rest in
-    omega (arith, ih, ap length (append_assoc (declaration s) (flat_map declaration ss) (codes "}" ++ rest)), length-append (declaration s) (flat_map declaration ss ++ (codes "}" ++ rest)))
+    omega (arith, ih, ap length (append_assoc (signal_line s) (flat_map signal_line ss) (codes "}" ++ rest)), length-append (signal_line s) (flat_map signal_line ss ++ (codes "}" ++ rest)))
 
 left_of : (ts us : List Token) → ts ≡ us → left ts ≡ left us
 left_of ts us e = ap left e
@@ -184,12 +184,12 @@ pub left-token : (k : TokenKind) (word : Text) (l : ℕ) (ts : List Token) → l
 unfolding left
 left-token k word l ts = refl
 
-declared_left : (ss : List StilSignal) (rest : Text) → AllQuotable ss → left (cut_up false (flat_map declaration ss ++ (codes "}" ++ rest))) ≡ length (flat_map declaration ss ++ (codes "}" ++ rest))
+declared_left : (ss : List StilSignal) (rest : Text) → AllQuotable ss → left (cut_up false (flat_map signal_line ss ++ (codes "}" ++ rest))) ≡ length (flat_map signal_line ss ++ (codes "}" ++ rest))
 declared_left [] rest h = left_of _ _ (cut_up-close rest) ∙ left-token kind.CloseBrace (codes "}") (ahead 1 rest) (cut_up false rest)
 declared_left (s ∷ ss) rest h =
-    let later : Text = flat_map declaration ss ++ (codes "}" ++ rest) in
+    let later : Text = flat_map signal_line ss ++ (codes "}" ++ rest) in
     let d = declared_at s later h.0 in
-    let e = append_assoc (declaration s) (flat_map declaration ss) (codes "}" ++ rest) in
+    let e = append_assoc (signal_line s) (flat_map signal_line ss) (codes "}" ++ rest) in
     ap (λ t. left (cut_up false t)) e ∙ left_of _ _ d.at ∙ left-token kind.Quoted s.name (suc d.a) _ ∙ sym d.size ∙ sym (ap length e)
 
 block-at : (a b : ℕ) (ts us : List Token) (names : Names) → signals_from (left ts) (alone []) ts ≡ Ok (names, us)
@@ -198,9 +198,9 @@ unfolding signals_block keyword sees_word sees kind_of bytes next expect
 block-at a b ts us names e = e
 
 pub declarations_read : (ss : List StilSignal) (a b : ℕ) (rest : Text) → AllQuotable ss → AllNew [] ss
-    → signals_block (token kind.Word (codes "Signals") a ∷ token kind.OpenBrace (codes "{") b ∷ cut_up false (flat_map declaration ss ++ (codes "}" ++ rest))) ≡ Ok (alone ss, cut_up false rest)
+    → signals_block (token kind.Word (codes "Signals") a ∷ token kind.OpenBrace (codes "{") b ∷ cut_up false (flat_map signal_line ss ++ (codes "}" ++ rest))) ≡ Ok (alone ss, cut_up false rest)
 declarations_read ss a b rest quotable new =
-    let text : Text = flat_map declaration ss ++ (codes "}" ++ rest) in
+    let text : Text = flat_map signal_line ss ++ (codes "}" ++ rest) in
     let long = declared_long ss rest in
     let e : left (cut_up false text) ≡ suc (length text - 1) = declared_left ss rest quotable ∙ (omega arith) in
     block-at a b (cut_up false text) (cut_up false rest) (alone ss)

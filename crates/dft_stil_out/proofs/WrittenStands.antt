@@ -19,11 +19,11 @@ use Rattle.dft_patterns.specs.Patterns.{Patterns, IsWellFormed, IsSteady, is_inp
 use Rattle.dft_patterns.specs.Steadiness.{first_unsteady}
 use Rattle.dft_stil_tokens.specs.Steps.{Outcome, kind_of, bytes, left, next, sees, sees_word, sees_name, expect, after, after_word, keyword, name}
 use Rattle.dft_stil_text.specs.SignalGroups.{Names, signals_block, group_blocks, name_if_any}
-use Rattle.dft_stil_text.specs.WaveformTables.{Timing, Table, timing}
-use Rattle.dft_stil_text.specs.Statements.{Pattern, table_used, statement, statements_from}
-use Rattle.dft_stil_text.specs.PatternText.{version, header_if_any, Burst, listed_pattern, burst, known_name, used_timing, exec, executed, pattern, pattern_part, pattern_text, steady_or, tested, patterns_of, StandsFor}
+use Rattle.dft_stil_text.specs.WaveformTables.{Timing, WaveformTable, timing}
+use Rattle.dft_stil_text.specs.Statements.{PatternBlock, table_used, statement, statements_from}
+use Rattle.dft_stil_text.specs.PatternText.{version, header_if_any, Burst, listed_pattern, burst, known_name, used_timing, exec, executed, pattern, pattern_part, stil_text, steady_or, tested, patterns_in, StandsFor}
 use Rattle.dft_stil_out.specs.Writable.{IsWritable}
-use Rattle.dft_stil_out.specs.Written.{declaration, input_waves, output_waves, middle, head, noted_lines, noted}
+use Rattle.dft_stil_out.specs.Written.{signal_line, input_waveforms, output_waveforms, middle, head, noted_lines, noted}
 use Rattle.dft_stil_out.specs.Written as form
 use Rattle.dft_stil_out.specs.Laws.{ReadsBack}
 use Rattle.dft_patterns.proofs.SteadyLemmas.{some_is_unsteady}
@@ -44,26 +44,26 @@ burst-at : (rest : Text) (us : List Token) → burst (token kind.Word (codes "Pa
 unfolding burst listed_pattern keyword sees_word sees kind_of bytes next name sees_name expect
 burst-at rest us = refl
 
-exec-at : (table : Table) (rest : Text) (us : List Token) → exec (record { name = None; tables = one_table table.shapes }) the_burst (token kind.Word (codes "PatternExec") (ahead 32 rest) ∷ token kind.OpenBrace (codes "{") (ahead 20 rest) ∷ token kind.Word (codes "PatternBurst") (ahead 18 rest) ∷ token kind.Word (codes "b") (ahead 5 rest) ∷ token kind.Semicolon (codes ";") (ahead 4 rest) ∷ token kind.CloseBrace (codes "}") (ahead 2 rest) ∷ us) ≡ Ok (true, us)
+exec-at : (table : WaveformTable) (rest : Text) (us : List Token) → exec (record { name = None; tables = one_table table.waveforms }) the_burst (token kind.Word (codes "PatternExec") (ahead 32 rest) ∷ token kind.OpenBrace (codes "{") (ahead 20 rest) ∷ token kind.Word (codes "PatternBurst") (ahead 18 rest) ∷ token kind.Word (codes "b") (ahead 5 rest) ∷ token kind.Semicolon (codes ";") (ahead 4 rest) ∷ token kind.CloseBrace (codes "}") (ahead 2 rest) ∷ us) ≡ Ok (true, us)
 unfolding exec executed keyword sees_word sees kind_of bytes left next name sees_name expect name_if_any used_timing after_word known_name
 exec-at table rest us = refl
 
-pattern-at : (most : ℕ) (names : Names) (table : Table) (rest : Text) (us : List Token)
-    → pattern most names (record { name = None; tables = one_table table.shapes }) the_burst (token kind.Word (codes "Pattern") (ahead 17 rest) ∷ token kind.Word (codes "p") (ahead 9 rest) ∷ token kind.OpenBrace (codes "{") (ahead 7 rest) ∷ token kind.Word (codes "W") (ahead 5 rest) ∷ token kind.Word (codes "w") (ahead 3 rest) ∷ token kind.Semicolon (codes ";") (ahead 2 rest) ∷ us) ≡ statements_from (ahead 4 rest) most names (one_table table.shapes) (so_far (replicate (length names.signals) Unset) []) us
+pattern-at : (most : ℕ) (names : Names) (table : WaveformTable) (rest : Text) (us : List Token)
+    → pattern most names (record { name = None; tables = one_table table.waveforms }) the_burst (token kind.Word (codes "Pattern") (ahead 17 rest) ∷ token kind.Word (codes "p") (ahead 9 rest) ∷ token kind.OpenBrace (codes "{") (ahead 7 rest) ∷ token kind.Word (codes "W") (ahead 5 rest) ∷ token kind.Word (codes "w") (ahead 3 rest) ∷ token kind.Semicolon (codes ";") (ahead 2 rest) ∷ us) ≡ statements_from (ahead 4 rest) most names (one_table table.waveforms) (so_far (replicate (length names.signals) Unset) []) us
 unfolding pattern keyword sees_word sees kind_of bytes left next name sees_name expect known_name statements_from statement table_used after
 pattern-at most names table rest us = refl
 
-text-at : (most : ℕ) (first names : Names) (t : Timing) (b : Burst) (p : Pattern) (rest : Text) (ts us vs ws xs ys : List Token) → signals_block (token kind.Word (codes "Signals") (ahead 10 rest) ∷ token kind.OpenBrace (codes "{") (ahead 2 rest) ∷ ts) ≡ Ok (first, us)
+text-at : (most : ℕ) (first names : Names) (t : Timing) (b : Burst) (p : PatternBlock) (rest : Text) (ts us vs ws xs ys : List Token) → signals_block (token kind.Word (codes "Signals") (ahead 10 rest) ∷ token kind.OpenBrace (codes "{") (ahead 2 rest) ∷ ts) ≡ Ok (first, us)
     → group_blocks first us ≡ Ok (names, vs) → timing names vs ≡ Ok (t, ws) → burst ws ≡ Ok (b, xs) → exec t b xs ≡ Ok (true, ys) → pattern most names t b ys ≡ Ok (p, [])
-    → pattern_text most (token kind.Word (codes "STIL") (ahead 20 rest) ∷ token kind.Number (codes "1.0") (ahead 15 rest) ∷ token kind.Semicolon (codes ";") (ahead 12 rest) ∷ token kind.Word (codes "Signals") (ahead 10 rest) ∷ token kind.OpenBrace (codes "{") (ahead 2 rest) ∷ ts) ≡ Ok (record { signals = names.signals; vectors = p.vectors; notes = [] }, [])
-unfolding pattern_text pattern_part version header_if_any keyword sees_word after_word sees kind_of bytes left next expect
+    → stil_text most (token kind.Word (codes "STIL") (ahead 20 rest) ∷ token kind.Number (codes "1.0") (ahead 15 rest) ∷ token kind.Semicolon (codes ";") (ahead 12 rest) ∷ token kind.Word (codes "Signals") (ahead 10 rest) ∷ token kind.OpenBrace (codes "{") (ahead 2 rest) ∷ ts) ≡ Ok (record { signals = names.signals; vectors = p.vectors; notes = [] }, [])
+unfolding stil_text pattern_part version header_if_any keyword sees_word after_word sees kind_of bytes left next expect
 text-at most first names t b p rest ts us vs ws xs ys e f g h i j = rw (e, f, g, h, i, j) refl
 
 -- ---- the text in its parts
 
 -- all between declarations and burst, and what follows
 abbrev middle_text : List StilSignal → List StilSignal → Text → Text
-middle_text ins outs rest = codes "}" ++ (codes "\nSignalGroups {\n" ++ (form.group_line (codes "ins") ins ++ (form.group_line (codes "outs") outs ++ (codes "}" ++ timing_text (input_waves ins ++ (output_waves outs ++ (codes "}" ++ (codes "\n}\n}\n" ++ rest))))))))
+middle_text ins outs rest = codes "}" ++ (codes "\nSignalGroups {\n" ++ (form.group_line (codes "ins") ins ++ (form.group_line (codes "outs") outs ++ (codes "}" ++ timing_text (input_waveforms ins ++ (output_waveforms outs ++ (codes "}" ++ (codes "\n}\n}\n" ++ rest))))))))
 
 -- the burst, its execution and the head of the pattern, and what follows
 abbrev tail_text : Text → Text
@@ -74,26 +74,26 @@ unfolding middle
 middle-parts ins outs rest =
     let g : Text = form.group_line (codes "ins") ins in
     let h : Text = form.group_line (codes "outs") outs in
-    let v : Text = input_waves ins in
-    let w : Text = output_waves outs in
+    let v : Text = input_waveforms ins in
+    let w : Text = output_waveforms outs in
     let last : Text = codes "}\n}\n}\nPatternBurst b { PatList { p; } }\nPatternExec { PatternBurst b; }\nPattern p {\nW w;\n" in
     let table : Text = codes "}\nTiming {\nWaveformTable w {\nPeriod '100ns';\nWaveforms {\n" in
     ap (λ t. codes "}\nSignalGroups {\n" ++ t) (append_assoc g (h ++ (table ++ (v ++ (w ++ last)))) rest
     ∙ ap (λ t. g ++ t) (append_assoc h (table ++ (v ++ (w ++ last))) rest
     ∙ ap (λ t. h ++ (table ++ t)) (append_assoc v (w ++ last) rest ∙ ap (λ t. v ++ t) (append_assoc w last rest))))
 
-head-parts : (ss : List StilSignal) (rest : Text) → head ss ++ rest ≡ codes "STIL 1.0;\nSignals {\n" ++ (flat_map declaration ss ++ (middle (inputs ss) (outputs ss) ++ rest))
+head-parts : (ss : List StilSignal) (rest : Text) → head ss ++ rest ≡ codes "STIL 1.0;\nSignals {\n" ++ (flat_map signal_line ss ++ (middle (inputs ss) (outputs ss) ++ rest))
 unfolding head
-head-parts ss rest = ap (λ t. codes "STIL 1.0;\nSignals {\n" ++ t) (append_assoc (flat_map declaration ss) (middle (inputs ss) (outputs ss)) rest)
+head-parts ss rest = ap (λ t. codes "STIL 1.0;\nSignals {\n" ++ t) (append_assoc (flat_map signal_line ss) (middle (inputs ss) (outputs ss)) rest)
 
 -- the lines of vectors and notes, and the end
 abbrev all_lines : Patterns → Text
 all_lines p = noted_lines (input_count p.signals) 0 p.vectors p.notes ++ end_text
 
-noted-parts : (p : Patterns) → noted p ≡ codes "STIL 1.0;\nSignals {\n" ++ (flat_map declaration p.signals ++ middle_text (inputs p.signals) (outputs p.signals) (tail_text (all_lines p)))
+noted-parts : (p : Patterns) → noted p ≡ codes "STIL 1.0;\nSignals {\n" ++ (flat_map signal_line p.signals ++ middle_text (inputs p.signals) (outputs p.signals) (tail_text (all_lines p)))
 unfolding noted
 noted-parts p =
-    head-parts p.signals (all_lines p) ∙ ap (λ t. codes "STIL 1.0;\nSignals {\n" ++ (flat_map declaration p.signals ++ t)) (middle-parts (inputs p.signals) (outputs p.signals) (all_lines p))
+    head-parts p.signals (all_lines p) ∙ ap (λ t. codes "STIL 1.0;\nSignals {\n" ++ (flat_map signal_line p.signals ++ t)) (middle-parts (inputs p.signals) (outputs p.signals) (all_lines p))
 
 -- ---- what is known of the signals and vectors
 
@@ -139,21 +139,21 @@ all_parted : (ins outs : List StilSignal) (vectors : List (List Act)) → AllDir
 all_parted ins outs [] hi ho h = tt
 all_parted ins outs (acts ∷ vectors) hi ho h = (parted ins outs acts hi ho (h 0 acts (omega arith)), all_parted ins outs vectors hi ho (λ k d l. h (suc k) d (omega arith)))
 
-ins_mean : (ins outs : List StilSignal) → Means (Some (written_table ins outs).shapes) Input 0 (length ins)
+ins_mean : (ins outs : List StilSignal) → Means (Some (written_table ins outs).waveforms) Input 0 (length ins)
 ins_mean ins outs i a low l h told = input_acts ins outs i a (omega arith) h told
 
-outs_mean : (ins outs : List StilSignal) → Means (Some (written_table ins outs).shapes) Output (length ins) (length outs)
+outs_mean : (ins outs : List StilSignal) → Means (Some (written_table ins outs).waveforms) Output (length ins) (length outs)
 outs_mean ins outs i a low l h told = output_acts ins outs i a low l h told
 
 -- ---- the whole text
 
 -- signals and lines of a text, by inputs and outputs
 abbrev whole_text : (ins outs : List StilSignal) (lines : Text) → Text
-whole_text ins outs lines = codes "STIL 1.0;\nSignals {\n" ++ (flat_map declaration (ins ++ outs) ++ middle_text ins outs (tail_text lines))
+whole_text ins outs lines = codes "STIL 1.0;\nSignals {\n" ++ (flat_map signal_line (ins ++ outs) ++ middle_text ins outs (tail_text lines))
 
-text_read : (most : ℕ) (ins outs : List StilSignal) (lines : Text) (p : Pattern) → AllDir Input ins → AllDir Output outs → AllQuotable (ins ++ outs) → AllNew [] (ins ++ outs)
-    → statements_from (ahead 4 lines) most (grouped ins outs) (one_table (written_table ins outs).shapes) (so_far (replicate (length (grouped ins outs).signals) Unset) []) (cut_up false lines) ≡ Ok (p, [])
-    → pattern_text most (cut_up false (whole_text ins outs lines)) ≡ Ok (record { signals = (grouped ins outs).signals; vectors = p.vectors; notes = [] }, [])
+text_read : (most : ℕ) (ins outs : List StilSignal) (lines : Text) (p : PatternBlock) → AllDir Input ins → AllDir Output outs → AllQuotable (ins ++ outs) → AllNew [] (ins ++ outs)
+    → statements_from (ahead 4 lines) most (grouped ins outs) (one_table (written_table ins outs).waveforms) (so_far (replicate (length (grouped ins outs).signals) Unset) []) (cut_up false lines) ≡ Ok (p, [])
+    → stil_text most (cut_up false (whole_text ins outs lines)) ≡ Ok (record { signals = (grouped ins outs).signals; vectors = p.vectors; notes = [] }, [])
 text_read most ins outs lines p hi ho quotable new e =
     let N : Names = grouped ins outs in
     let T : Timing = written_timing ins outs in
@@ -161,14 +161,14 @@ text_read most ins outs lines p hi ho quotable new e =
     let last : Text = codes "Pattern p {\nW w;\n" ++ lines in
     let then : Text = codes "PatternExec { PatternBurst b; }\n" ++ last in
     let tail : Text = tail_text lines in
-    let tables : Text = timing_text (input_waves ins ++ (output_waves outs ++ (codes "}" ++ (codes "\n}\n}\n" ++ tail)))) in
+    let tables : Text = timing_text (input_waveforms ins ++ (output_waveforms outs ++ (codes "}" ++ (codes "\n}\n}\n" ++ tail)))) in
     let groups : Text = form.group_line (codes "ins") ins ++ (form.group_line (codes "outs") outs ++ (codes "}" ++ tables)) in
     let block : Text = codes "\nSignalGroups {\n" ++ groups in
-    let declared : Text = flat_map declaration (ins ++ outs) ++ (codes "}" ++ block) in
-    ap (pattern_text most) (cut_up-start declared)
+    let declared : Text = flat_map signal_line (ins ++ outs) ++ (codes "}" ++ block) in
+    ap (stil_text most) (cut_up-start declared)
     ∙ text-at most (alone (ins ++ outs)) N T the_burst p declared (cut_up false declared) (cut_up false block) (cut_up false tables) (cut_up false tail) (cut_up false then) (cut_up false last)
     (declarations_read (ins ++ outs) (ahead 10 declared) (ahead 2 declared) block quotable new)
-    (ap (group_blocks (alone (ins ++ outs))) (cut_up-groups groups) ∙ groups_read ins outs (ahead 13 groups) (ahead 2 groups) (input_waves ins ++ (output_waves outs ++ (codes "}" ++ (codes "\n}\n}\n" ++ tail)))) q.0 q.1 new)
+    (ap (group_blocks (alone (ins ++ outs))) (cut_up-groups groups) ∙ groups_read ins outs (ahead 13 groups) (ahead 2 groups) (input_waveforms ins ++ (output_waveforms outs ++ (codes "}" ++ (codes "\n}\n}\n" ++ tail)))) q.0 q.1 new)
     (timing_read ins outs tail hi ho)
     (ap burst (cut_up-burst then) ∙ burst-at then (cut_up false then))
     (ap (exec T the_burst) (cut_up-exec last) ∙ exec-at (written_table ins outs) last (cut_up false last))
@@ -179,14 +179,14 @@ count-is ins outs = length-replicate (length (grouped ins outs).signals) Unset �
 
 text_reads : (most count : ℕ) (ins outs : List StilSignal) (p : Patterns) → p.signals ≡ ins ++ outs → count ≡ length ins → AllDir Input ins → AllDir Output outs → AllQuotable (ins ++ outs) → AllNew [] (ins ++ outs)
     → All (λ acts. AllZip (λ s a. IsActOf s.dir a × IsTold a) (ins ++ outs) acts) p.vectors → ((p.vectors ≡ []) ⊎ (0 < length ins)) → length p.vectors ≤ most
-    → pattern_text most (cut_up false (whole_text ins outs (noted_lines count 0 p.vectors p.notes ++ end_text))) ≡ Ok (record { signals = p.signals; vectors = p.vectors; notes = [] }, [])
+    → stil_text most (cut_up false (whole_text ins outs (noted_lines count 0 p.vectors p.notes ++ end_text))) ≡ Ok (record { signals = p.signals; vectors = p.vectors; notes = [] }, [])
 text_reads most count ins outs p is size hi ho quotable new full some room =
     let lines : Text = noted_lines (length ins) 0 p.vectors p.notes ++ end_text in
     let unset : List Act = replicate (length (grouped ins outs).signals) Unset in
     let long = lines_long (length ins) 0 p.vectors p.notes in
-    ap (λ n. pattern_text most (cut_up false (whole_text ins outs (noted_lines n 0 p.vectors p.notes ++ end_text)))) size
+    ap (λ n. stil_text most (cut_up false (whole_text ins outs (noted_lines n 0 p.vectors p.notes ++ end_text)))) size
     ∙ text_read most ins outs lines (so_far (last_acts unset p.vectors) p.vectors) hi ho quotable new
-    (lines_read (ahead 3 lines) most ins outs (written_table ins outs).shapes 0 p.vectors p.notes unset [] (ins_mean ins outs) (outs_mean ins outs) some (all_parted ins outs p.vectors hi ho full) (count-is ins outs) (omega arith) (omega arith))
+    (lines_read (ahead 3 lines) most ins outs (written_table ins outs).waveforms 0 p.vectors p.notes unset [] (ins_mean ins outs) (outs_mean ins outs) some (all_parted ins outs p.vectors hi ho full) (count-is ins outs) (omega arith) (omega arith))
     ∙ ap (λ (ss : List StilSignal). Ok (record { signals = ss; vectors = p.vectors; notes = [] }, [])) (grouped-signals ins outs ∙ sym is)
 
 none_unsteady : (o : Option Unsteady) (p : Patterns) → first_unsteady p ≡ o → IsSteady p → o ≡ None
@@ -202,8 +202,8 @@ steady_told : (p : Patterns) → IsSteady p → steady_or (record { signals = p.
 steady_told p h = ap (steady_or (record { signals = p.signals; vectors = p.vectors; notes = [] })) (none_unsteady _ p refl h)
 
 -- what a reader of so many vectors at most gives of what is written
-pub written_reads : (most : ℕ) (p : Patterns) → IsWellFormed p → IsWritable p → length p.vectors ≤ most → patterns_of most (noted p) ≡ Ok (record { signals = p.signals; vectors = p.vectors; notes = [] })
-unfolding patterns_of
+pub written_reads : (most : ℕ) (p : Patterns) → IsWellFormed p → IsWritable p → length p.vectors ≤ most → patterns_in most (noted p) ≡ Ok (record { signals = p.signals; vectors = p.vectors; notes = [] })
+unfolding patterns_in
 written_reads most p well writable room =
     let ss : List StilSignal = p.signals in
     let ins : List StilSignal = inputs ss in
@@ -212,7 +212,7 @@ written_reads most p well writable room =
     let quotable = subst AllQuotable (sym is) (all_quotable ss writable.quotable) in
     let new = all_new [] (ins ++ outs) (subst (λ ss. AllPairs (λ (s t : StilSignal). s.name ≢ t.name) ss) (sym is) well.distinct) in
     let full = subst (λ ss. All (λ acts. AllZip (λ (s : StilSignal) (a : Act). IsActOf s.dir a × IsTold a) ss acts) p.vectors) (sym is) writable.full in
-    ap (λ ts. tested (value_of (pattern_text most ts))) (cut_up-is (noted p) ∙ ap (cut_up false) (noted-parts p ∙ ap (λ ss. codes "STIL 1.0;\nSignals {\n" ++ (flat_map declaration ss ++ middle_text ins outs (tail_text (all_lines p)))) (sym is)))
+    ap (λ ts. tested (value_of (stil_text most ts))) (cut_up-is (noted p) ∙ ap (cut_up false) (noted-parts p ∙ ap (λ ss. codes "STIL 1.0;\nSignals {\n" ++ (flat_map signal_line ss ++ middle_text ins outs (tail_text (all_lines p)))) (sym is)))
     ∙ ap (λ (o : Outcome Patterns). tested (value_of o)) (text_reads most (input_count ss) ins outs p (sym is) (sym (length-prefix_len (λ (s : StilSignal). is_input s.dir) ss)) (inputs_dir ss) (outputs_dir outs writable.ordered) quotable new full writable.some room)
     ∙ steady_told p well.steady
 

@@ -80,13 +80,13 @@ pub cut_up-timing : (rest : Text) → cut_up false (codes "\nTiming {\nWaveformT
 unfolding cut_up comment_rest note_rest gap_len gaps_from blank_len mark_kind quoted_text word_or_note lexeme
 cut_up-timing rest = simp minus_zero
 
-pub cut_up-input_waves : (rest : Text) → cut_up false (codes "ins { 0 { '0ns' D; } 1 { '0ns' U; } P { '0ns' D; '50ns' U; '80ns' D; } }\n" ++ rest) ≡ token kind.Word (codes "ins") (ahead 73 rest) ∷ token kind.OpenBrace (codes "{") (ahead 69 rest) ∷ token kind.Number (codes "0") (ahead 67 rest) ∷ token kind.OpenBrace (codes "{") (ahead 65 rest) ∷ token kind.Quote (codes "'") (ahead 63 rest) ∷ token kind.Number (codes "0") (ahead 62 rest) ∷ token kind.Word (codes "ns") (ahead 61 rest) ∷ token kind.Quote (codes "'") (ahead 59 rest) ∷ token kind.Word (codes "D") (ahead 57 rest) ∷ token kind.Semicolon (codes ";") (ahead 56 rest) ∷ token kind.CloseBrace (codes "}") (ahead 54 rest) ∷ token kind.Number (codes "1") (ahead 52 rest) ∷ token kind.OpenBrace (codes "{") (ahead 50 rest) ∷ token kind.Quote (codes "'") (ahead 48 rest) ∷ token kind.Number (codes "0") (ahead 47 rest) ∷ token kind.Word (codes "ns") (ahead 46 rest) ∷ token kind.Quote (codes "'") (ahead 44 rest) ∷ token kind.Word (codes "U") (ahead 42 rest) ∷ token kind.Semicolon (codes ";") (ahead 41 rest) ∷ token kind.CloseBrace (codes "}") (ahead 39 rest) ∷ token kind.Word (codes "P") (ahead 37 rest) ∷ token kind.OpenBrace (codes "{") (ahead 35 rest) ∷ token kind.Quote (codes "'") (ahead 33 rest) ∷ token kind.Number (codes "0") (ahead 32 rest) ∷ token kind.Word (codes "ns") (ahead 31 rest) ∷ token kind.Quote (codes "'") (ahead 29 rest) ∷ token kind.Word (codes "D") (ahead 27 rest) ∷ token kind.Semicolon (codes ";") (ahead 26 rest) ∷ token kind.Quote (codes "'") (ahead 24 rest) ∷ token kind.Number (codes "50") (ahead 23 rest) ∷ token kind.Word (codes "ns") (ahead 21 rest) ∷ token kind.Quote (codes "'") (ahead 19 rest) ∷ token kind.Word (codes "U") (ahead 17 rest) ∷ token kind.Semicolon (codes ";") (ahead 16 rest) ∷ token kind.Quote (codes "'") (ahead 14 rest) ∷ token kind.Number (codes "80") (ahead 13 rest) ∷ token kind.Word (codes "ns") (ahead 11 rest) ∷ token kind.Quote (codes "'") (ahead 9 rest) ∷ token kind.Word (codes "D") (ahead 7 rest) ∷ token kind.Semicolon (codes ";") (ahead 6 rest) ∷ token kind.CloseBrace (codes "}") (ahead 4 rest) ∷ token kind.CloseBrace (codes "}") (ahead 2 rest) ∷ cut_up false rest
+pub cut_up-input_waveforms : (rest : Text) → cut_up false (codes "ins { 0 { '0ns' D; } 1 { '0ns' U; } P { '0ns' D; '50ns' U; '80ns' D; } }\n" ++ rest) ≡ token kind.Word (codes "ins") (ahead 73 rest) ∷ token kind.OpenBrace (codes "{") (ahead 69 rest) ∷ token kind.Number (codes "0") (ahead 67 rest) ∷ token kind.OpenBrace (codes "{") (ahead 65 rest) ∷ token kind.Quote (codes "'") (ahead 63 rest) ∷ token kind.Number (codes "0") (ahead 62 rest) ∷ token kind.Word (codes "ns") (ahead 61 rest) ∷ token kind.Quote (codes "'") (ahead 59 rest) ∷ token kind.Word (codes "D") (ahead 57 rest) ∷ token kind.Semicolon (codes ";") (ahead 56 rest) ∷ token kind.CloseBrace (codes "}") (ahead 54 rest) ∷ token kind.Number (codes "1") (ahead 52 rest) ∷ token kind.OpenBrace (codes "{") (ahead 50 rest) ∷ token kind.Quote (codes "'") (ahead 48 rest) ∷ token kind.Number (codes "0") (ahead 47 rest) ∷ token kind.Word (codes "ns") (ahead 46 rest) ∷ token kind.Quote (codes "'") (ahead 44 rest) ∷ token kind.Word (codes "U") (ahead 42 rest) ∷ token kind.Semicolon (codes ";") (ahead 41 rest) ∷ token kind.CloseBrace (codes "}") (ahead 39 rest) ∷ token kind.Word (codes "P") (ahead 37 rest) ∷ token kind.OpenBrace (codes "{") (ahead 35 rest) ∷ token kind.Quote (codes "'") (ahead 33 rest) ∷ token kind.Number (codes "0") (ahead 32 rest) ∷ token kind.Word (codes "ns") (ahead 31 rest) ∷ token kind.Quote (codes "'") (ahead 29 rest) ∷ token kind.Word (codes "D") (ahead 27 rest) ∷ token kind.Semicolon (codes ";") (ahead 26 rest) ∷ token kind.Quote (codes "'") (ahead 24 rest) ∷ token kind.Number (codes "50") (ahead 23 rest) ∷ token kind.Word (codes "ns") (ahead 21 rest) ∷ token kind.Quote (codes "'") (ahead 19 rest) ∷ token kind.Word (codes "U") (ahead 17 rest) ∷ token kind.Semicolon (codes ";") (ahead 16 rest) ∷ token kind.Quote (codes "'") (ahead 14 rest) ∷ token kind.Number (codes "80") (ahead 13 rest) ∷ token kind.Word (codes "ns") (ahead 11 rest) ∷ token kind.Quote (codes "'") (ahead 9 rest) ∷ token kind.Word (codes "D") (ahead 7 rest) ∷ token kind.Semicolon (codes ";") (ahead 6 rest) ∷ token kind.CloseBrace (codes "}") (ahead 4 rest) ∷ token kind.CloseBrace (codes "}") (ahead 2 rest) ∷ cut_up false rest
 unfolding cut_up comment_rest note_rest gap_len gaps_from blank_len mark_kind quoted_text word_or_note lexeme
-cut_up-input_waves rest = simp minus_zero
+cut_up-input_waveforms rest = simp minus_zero
 
-pub cut_up-output_waves : (rest : Text) → cut_up false (codes "outs { L { '0ns' X; '40ns' L; } H { '0ns' X; '40ns' H; } X { '0ns' X; } }\n" ++ rest) ≡ token kind.Word (codes "outs") (ahead 74 rest) ∷ token kind.OpenBrace (codes "{") (ahead 69 rest) ∷ token kind.Word (codes "L") (ahead 67 rest) ∷ token kind.OpenBrace (codes "{") (ahead 65 rest) ∷ token kind.Quote (codes "'") (ahead 63 rest) ∷ token kind.Number (codes "0") (ahead 62 rest) ∷ token kind.Word (codes "ns") (ahead 61 rest) ∷ token kind.Quote (codes "'") (ahead 59 rest) ∷ token kind.Word (codes "X") (ahead 57 rest) ∷ token kind.Semicolon (codes ";") (ahead 56 rest) ∷ token kind.Quote (codes "'") (ahead 54 rest) ∷ token kind.Number (codes "40") (ahead 53 rest) ∷ token kind.Word (codes "ns") (ahead 51 rest) ∷ token kind.Quote (codes "'") (ahead 49 rest) ∷ token kind.Word (codes "L") (ahead 47 rest) ∷ token kind.Semicolon (codes ";") (ahead 46 rest) ∷ token kind.CloseBrace (codes "}") (ahead 44 rest) ∷ token kind.Word (codes "H") (ahead 42 rest) ∷ token kind.OpenBrace (codes "{") (ahead 40 rest) ∷ token kind.Quote (codes "'") (ahead 38 rest) ∷ token kind.Number (codes "0") (ahead 37 rest) ∷ token kind.Word (codes "ns") (ahead 36 rest) ∷ token kind.Quote (codes "'") (ahead 34 rest) ∷ token kind.Word (codes "X") (ahead 32 rest) ∷ token kind.Semicolon (codes ";") (ahead 31 rest) ∷ token kind.Quote (codes "'") (ahead 29 rest) ∷ token kind.Number (codes "40") (ahead 28 rest) ∷ token kind.Word (codes "ns") (ahead 26 rest) ∷ token kind.Quote (codes "'") (ahead 24 rest) ∷ token kind.Word (codes "H") (ahead 22 rest) ∷ token kind.Semicolon (codes ";") (ahead 21 rest) ∷ token kind.CloseBrace (codes "}") (ahead 19 rest) ∷ token kind.Word (codes "X") (ahead 17 rest) ∷ token kind.OpenBrace (codes "{") (ahead 15 rest) ∷ token kind.Quote (codes "'") (ahead 13 rest) ∷ token kind.Number (codes "0") (ahead 12 rest) ∷ token kind.Word (codes "ns") (ahead 11 rest) ∷ token kind.Quote (codes "'") (ahead 9 rest) ∷ token kind.Word (codes "X") (ahead 7 rest) ∷ token kind.Semicolon (codes ";") (ahead 6 rest) ∷ token kind.CloseBrace (codes "}") (ahead 4 rest) ∷ token kind.CloseBrace (codes "}") (ahead 2 rest) ∷ cut_up false rest
+pub cut_up-output_waveforms : (rest : Text) → cut_up false (codes "outs { L { '0ns' X; '40ns' L; } H { '0ns' X; '40ns' H; } X { '0ns' X; } }\n" ++ rest) ≡ token kind.Word (codes "outs") (ahead 74 rest) ∷ token kind.OpenBrace (codes "{") (ahead 69 rest) ∷ token kind.Word (codes "L") (ahead 67 rest) ∷ token kind.OpenBrace (codes "{") (ahead 65 rest) ∷ token kind.Quote (codes "'") (ahead 63 rest) ∷ token kind.Number (codes "0") (ahead 62 rest) ∷ token kind.Word (codes "ns") (ahead 61 rest) ∷ token kind.Quote (codes "'") (ahead 59 rest) ∷ token kind.Word (codes "X") (ahead 57 rest) ∷ token kind.Semicolon (codes ";") (ahead 56 rest) ∷ token kind.Quote (codes "'") (ahead 54 rest) ∷ token kind.Number (codes "40") (ahead 53 rest) ∷ token kind.Word (codes "ns") (ahead 51 rest) ∷ token kind.Quote (codes "'") (ahead 49 rest) ∷ token kind.Word (codes "L") (ahead 47 rest) ∷ token kind.Semicolon (codes ";") (ahead 46 rest) ∷ token kind.CloseBrace (codes "}") (ahead 44 rest) ∷ token kind.Word (codes "H") (ahead 42 rest) ∷ token kind.OpenBrace (codes "{") (ahead 40 rest) ∷ token kind.Quote (codes "'") (ahead 38 rest) ∷ token kind.Number (codes "0") (ahead 37 rest) ∷ token kind.Word (codes "ns") (ahead 36 rest) ∷ token kind.Quote (codes "'") (ahead 34 rest) ∷ token kind.Word (codes "X") (ahead 32 rest) ∷ token kind.Semicolon (codes ";") (ahead 31 rest) ∷ token kind.Quote (codes "'") (ahead 29 rest) ∷ token kind.Number (codes "40") (ahead 28 rest) ∷ token kind.Word (codes "ns") (ahead 26 rest) ∷ token kind.Quote (codes "'") (ahead 24 rest) ∷ token kind.Word (codes "H") (ahead 22 rest) ∷ token kind.Semicolon (codes ";") (ahead 21 rest) ∷ token kind.CloseBrace (codes "}") (ahead 19 rest) ∷ token kind.Word (codes "X") (ahead 17 rest) ∷ token kind.OpenBrace (codes "{") (ahead 15 rest) ∷ token kind.Quote (codes "'") (ahead 13 rest) ∷ token kind.Number (codes "0") (ahead 12 rest) ∷ token kind.Word (codes "ns") (ahead 11 rest) ∷ token kind.Quote (codes "'") (ahead 9 rest) ∷ token kind.Word (codes "X") (ahead 7 rest) ∷ token kind.Semicolon (codes ";") (ahead 6 rest) ∷ token kind.CloseBrace (codes "}") (ahead 4 rest) ∷ token kind.CloseBrace (codes "}") (ahead 2 rest) ∷ cut_up false rest
 unfolding cut_up comment_rest note_rest gap_len gaps_from blank_len mark_kind quoted_text word_or_note lexeme
-cut_up-output_waves rest = simp minus_zero
+cut_up-output_waveforms rest = simp minus_zero
 
 pub cut_up-table_end : (rest : Text) → cut_up false (codes "\n}\n}\n" ++ rest) ≡ token kind.CloseBrace (codes "}") (ahead 4 rest) ∷ token kind.CloseBrace (codes "}") (ahead 2 rest) ∷ cut_up false rest
 unfolding cut_up comment_rest note_rest gap_len gaps_from blank_len mark_kind quoted_text word_or_note lexeme

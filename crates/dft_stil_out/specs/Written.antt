@@ -19,8 +19,8 @@ way Input = codes "\" In;\n"
 way Output = codes "\" Out;\n"
 
 -- the line that declares a signal, as `"clk" In;`
-abbrev pub declaration : StilSignal → List ℕ
-declaration s = codes "\"" ++ (s.name ++ way s.dir)
+abbrev pub signal_line : StilSignal → List ℕ
+signal_line s = codes "\"" ++ (s.name ++ way s.dir)
 
 -- a name between quotes
 abbrev pub quoted : StilSignal → List ℕ
@@ -34,14 +34,14 @@ group_line label (s ∷ ss) = label ++ (codes " = '" ++ (join_with_byte 43 (map 
 -- ---- timing
 
 -- inputs change at 0 ns, and a pulse lasts from 50 ns to 80 ns
-abbrev pub input_waves : List StilSignal → List ℕ
-input_waves [] = []
-input_waves (s ∷ ss) = codes "ins { 0 { '0ns' D; } 1 { '0ns' U; } P { '0ns' D; '50ns' U; '80ns' D; } }\n"
+abbrev pub input_waveforms : List StilSignal → List ℕ
+input_waveforms [] = []
+input_waveforms (s ∷ ss) = codes "ins { 0 { '0ns' D; } 1 { '0ns' U; } P { '0ns' D; '50ns' U; '80ns' D; } }\n"
 
 -- outputs are compared at 40 ns
-abbrev pub output_waves : List StilSignal → List ℕ
-output_waves [] = []
-output_waves (s ∷ ss) = codes "outs { L { '0ns' X; '40ns' L; } H { '0ns' X; '40ns' H; } X { '0ns' X; } }\n"
+abbrev pub output_waveforms : List StilSignal → List ℕ
+output_waveforms [] = []
+output_waveforms (s ∷ ss) = codes "outs { L { '0ns' X; '40ns' L; } H { '0ns' X; '40ns' H; } X { '0ns' X; } }\n"
 
 -- all between the declarations and the vectors
 unfoldable pub middle : List StilSignal → List StilSignal → List ℕ
@@ -50,14 +50,14 @@ middle ins outs = concat (
     ∷ group_line (codes "ins") ins
     ∷ group_line (codes "outs") outs
     ∷ codes "}\nTiming {\nWaveformTable w {\nPeriod '100ns';\nWaveforms {\n"
-    ∷ input_waves ins
-    ∷ output_waves outs
+    ∷ input_waveforms ins
+    ∷ output_waveforms outs
     ∷ codes "}\n}\n}\nPatternBurst b { PatList { p; } }\nPatternExec { PatternBurst b; }\nPattern p {\nW w;\n"
     ∷ [])
 
 -- all before the vectors
 unfoldable pub head : List StilSignal → List ℕ
-head signals = codes "STIL 1.0;\nSignals {\n" ++ (flat_map declaration signals ++ middle (inputs signals) (outputs signals))
+head signals = codes "STIL 1.0;\nSignals {\n" ++ (flat_map signal_line signals ++ middle (inputs signals) (outputs signals))
 
 -- ---- vectors
 

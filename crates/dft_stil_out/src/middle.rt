@@ -43,8 +43,8 @@ fn add_group(out: &mut Vec<u8>, label: &[u8], signals: &[StilSignal]) -> Result<
     }
 }
 
-fn add_input_waves(out: &mut Vec<u8>, signals: &[StilSignal]) -> Result<(), AllocError>
-    ensures { OnOk result (out.new.items ≡ out.old.items ++ form.input_waves signals.now) }
+fn add_input_waveforms(out: &mut Vec<u8>, signals: &[StilSignal]) -> Result<(), AllocError>
+    ensures { OnOk result (out.new.items ≡ out.old.items ++ form.input_waveforms signals.now) }
 {
     if signals.is_empty() {
         return Ok(());
@@ -54,8 +54,8 @@ fn add_input_waves(out: &mut Vec<u8>, signals: &[StilSignal]) -> Result<(), Allo
     )
 }
 
-fn add_output_waves(out: &mut Vec<u8>, signals: &[StilSignal]) -> Result<(), AllocError>
-    ensures { OnOk result (out.new.items ≡ out.old.items ++ form.output_waves signals.now) }
+fn add_output_waveforms(out: &mut Vec<u8>, signals: &[StilSignal]) -> Result<(), AllocError>
+    ensures { OnOk result (out.new.items ≡ out.old.items ++ form.output_waveforms signals.now) }
 {
     if signals.is_empty() {
         return Ok(());
@@ -75,8 +75,8 @@ pub fn middle(alloc: Global, ins: &[StilSignal], outs: &[StilSignal]) -> Result<
     add_group(&mut out, b"ins", ins)?;
     add_group(&mut out, b"outs", outs)?;
     out.extend_from_slice(b"}\nTiming {\nWaveformTable w {\nPeriod '100ns';\nWaveforms {\n")?;
-    add_input_waves(&mut out, ins)?;
-    add_output_waves(&mut out, outs)?;
+    add_input_waveforms(&mut out, ins)?;
+    add_output_waveforms(&mut out, outs)?;
     out.extend_from_slice(
         b"}\n}\n}\nPatternBurst b { PatList { p; } }\nPatternExec { PatternBurst b; }\nPattern p {\nW w;\n",
     )?;

@@ -39,7 +39,7 @@ fn way(dir: Dir) -> &'static [u8]
 
 // The lines that declare signals.
 fn add_declarations(out: &mut Vec<u8>, signals: &[StilSignal]) -> Result<(), AllocError>
-    ensures { OnOk result (out.new.items ≡ out.old.items ++ flat_map form.declaration signals.now) }
+    ensures { OnOk result (out.new.items ≡ out.old.items ++ flat_map form.signal_line signals.now) }
 {
     for signal in signals {
         out.extend_from_slice(b"\"")?;

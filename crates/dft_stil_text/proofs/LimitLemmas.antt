@@ -12,10 +12,10 @@ use Rattle.dft_patterns.specs.Steadiness.{first_unsteady}
 use Rattle.dft_stil_tokens.specs.Lexemes.{Token, tokens}
 use Rattle.dft_stil_tokens.specs.Steps.{Rule, Outcome, left, next, no_token, unsupported, expect, eat, keyword, name, needed, sees_word, sees_left_out}
 use Rattle.dft_stil_text.specs.SignalGroups.{Names, number_of, signals_block, group_blocks}
-use Rattle.dft_stil_text.specs.WaveformTables.{Tables, Timing, timing}
+use Rattle.dft_stil_text.specs.WaveformTables.{WaveformTables, Timing, timing}
 use Rattle.dft_stil_text.specs.Statements as spec
-use Rattle.dft_stil_text.specs.Statements.{Pattern, assignments_from, vector, table_used, labelled, statement, statements_from}
-use Rattle.dft_stil_text.specs.PatternText.{Burst, Refusal, version, header_if_any, burst, exec, known_name, pattern, pattern_part, pattern_text, steady_or, tested, patterns_of, StandsFor}
+use Rattle.dft_stil_text.specs.Statements.{PatternBlock, assignments_from, vector, table_used, labelled, statement, statements_from}
+use Rattle.dft_stil_text.specs.PatternText.{Burst, Refusal, version, header_if_any, burst, exec, known_name, pattern, pattern_part, stil_text, steady_or, tested, patterns_in, StandsFor}
 use Rattle.dft_stil_text.specs.Laws.{IsReadWithin, IsReadWellFormed, StandsForOne}
 use Rattle.dft_stil_text.proofs.GivenRules.{Gives, after_any, then_gives, pure_gives, refuse_gives, if_gives, if_of, err_gives, needed_gives}
 use Rattle.dft_stil_text.proofs.WellFormed.{few_vectors, well_formed}
@@ -58,70 +58,70 @@ needed_kept size n why place false u rule ts h a x e few = absurd (true≢false 
 -- ---- vectors
 
 -- how many vectors a pattern has so far
-abbrev count : Pattern → ℕ
+abbrev count : PatternBlock → ℕ
 count p = length p.vectors
 
 -- at least as many vectors as this one
-abbrev Grown : Pattern → Pattern → Type 0
+abbrev Grown : PatternBlock → PatternBlock → Type 0
 Grown p q = count p ≤ count q
 
-one_more : (names : Names) (tables : Tables) (p : Pattern)
-    → Gives (λ q. count q ≡ suc (count p)) (expect kind.OpenBrace >> ((λ us. assignments_from (left us) names (spec.shapes_at tables p.table) (spec.begun p.acts) us) >>= (λ v. pure (spec.with_acts v.acts p))))
+one_more : (names : Names) (tables : WaveformTables) (p : PatternBlock)
+    → Gives (λ q. count q ≡ suc (count p)) (expect kind.OpenBrace >> ((λ us. assignments_from (left us) names (spec.waveforms_at tables p.table) (spec.vector_after p.acts) us) >>= (λ v. pure (spec.with_acts v.acts p))))
 one_more names tables p =
     after_any (λ q. count q ≡ suc (count p)) (expect kind.OpenBrace) _ (λ u. after_any (λ q. count q ≡ suc (count p)) _ _ (λ v.
     pure_gives (λ q. count q ≡ suc (count p)) (spec.with_acts v.acts p) (let long = length-append p.vectors (v.acts ∷ []) in omega arith)))
 
-vector_kept : (m n : ℕ) (names : Names) (tables : Tables) (p : Pattern) (ts : List Token) → Kept count n (vector m names tables p ts) (vector n names tables p ts)
+vector_kept : (m n : ℕ) (names : Names) (tables : WaveformTables) (p : PatternBlock) (ts : List Token) → Kept count n (vector m names tables p ts) (vector n names tables p ts)
 unfolding vector
 vector_kept m n names tables p ts =
     after_kept count n (keyword (codes "V") ts) _ _ (λ u us. needed_kept count n cause.Count (left ts) (nat_lt (count p) m) (nat_lt (count p) n) _ us (λ q x e few.
     (let one : count q ≡ suc (count p) = one_more names tables p us q x e in grind (arith, nat_tests))))
 
-vector_grows : (m : ℕ) (names : Names) (tables : Tables) (p : Pattern) → Gives (Grown p) (vector m names tables p)
+vector_grows : (m : ℕ) (names : Names) (tables : WaveformTables) (p : PatternBlock) → Gives (Grown p) (vector m names tables p)
 unfolding vector
 vector_grows m names tables p ts =
     after_any (Grown p) (keyword _) _ (λ u. needed_gives (Grown p) _ _ _ _ (λ room us q x e. (let one : count q ≡ suc (count p) = one_more names tables p us q x e in omega arith))) ts
 
 -- ---- statements
 
-labelled_kept : (m n : ℕ) (names : Names) (tables : Tables) (p : Pattern) (ts : List Token) → Kept count n (labelled m names tables p ts) (labelled n names tables p ts)
+labelled_kept : (m n : ℕ) (names : Names) (tables : WaveformTables) (p : PatternBlock) (ts : List Token) → Kept count n (labelled m names tables p ts) (labelled n names tables p ts)
 unfolding labelled
 labelled_kept m n names tables p ts =
     after_kept count n (name ts) _ _ (λ u us. after_kept count n (expect kind.Colon us) _ _ (λ v vs. vector_kept m n names tables p vs))
 
-statement_kept : (m n : ℕ) (names : Names) (tables : Tables) (p : Pattern) (ts : List Token) → Kept count n (statement m names tables p ts) (statement n names tables p ts)
+statement_kept : (m n : ℕ) (names : Names) (tables : WaveformTables) (p : PatternBlock) (ts : List Token) → Kept count n (statement m names tables p ts) (statement n names tables p ts)
 unfolding statement
 statement_kept m n names tables p ts =
     if_kept count n (sees_word (codes "W") ts) _ _ _ _ (same_kept count n (table_used tables p (next ts))) (if_kept count n (sees_word (codes "V") ts) _ _ _ _ (vector_kept m n names tables p ts)
     (if_kept count n (sees_left_out ts) _ _ _ _ (same_kept count n (Err (unsupported ts))) (labelled_kept m n names tables p ts)))
 
-using_grows : (word : Text) (place : ℕ) (p : Pattern) (o : Option ℕ) → Gives (Grown p) (spec.using_table word place p o)
+using_grows : (word : Text) (place : ℕ) (p : PatternBlock) (o : Option ℕ) → Gives (Grown p) (spec.using_table word place p o)
 using_grows word place p (Some n) = pure_gives (Grown p) (record p { table = Some n }) (omega arith)
 using_grows word place p None = λ ts. err_gives (Grown p) _
 
-table_grows : (tables : Tables) (p : Pattern) → Gives (Grown p) (table_used tables p)
+table_grows : (tables : WaveformTables) (p : PatternBlock) → Gives (Grown p) (table_used tables p)
 unfolding table_used
 table_grows tables p ts =
     after_any (Grown p) name _ (λ word. then_gives (Grown p) (Grown p) _ _ (using_grows word (left ts) p (number_of tables.names word)) (λ more g. after_any (Grown p) (expect kind.Semicolon) _ (λ u. pure_gives (Grown p) more g))) ts
 
-labelled_grows : (m : ℕ) (names : Names) (tables : Tables) (p : Pattern) → Gives (Grown p) (labelled m names tables p)
+labelled_grows : (m : ℕ) (names : Names) (tables : WaveformTables) (p : PatternBlock) → Gives (Grown p) (labelled m names tables p)
 unfolding labelled
 labelled_grows m names tables p = after_any (Grown p) name _ (λ u. after_any (Grown p) (expect kind.Colon) _ (λ v. vector_grows m names tables p))
 
-statement_grows : (m : ℕ) (names : Names) (tables : Tables) (p : Pattern) → Gives (Grown p) (statement m names tables p)
+statement_grows : (m : ℕ) (names : Names) (tables : WaveformTables) (p : PatternBlock) → Gives (Grown p) (statement m names tables p)
 unfolding statement
 statement_grows m names tables p ts =
     if_of (Grown p) (sees_word (codes "W") ts) _ _ (λ _. table_grows tables p (next ts)) (λ _. if_of (Grown p) (sees_word (codes "V") ts) _ _ (λ _. vector_grows m names tables p ts)
     (λ _. if_of (Grown p) (sees_left_out ts) _ _ (λ _. err_gives (Grown p) (unsupported ts)) (λ _. labelled_grows m names tables p ts)))
 
-statements_grow : (k m : ℕ) (names : Names) (tables : Tables) (p : Pattern) → Gives (Grown p) (statements_from k m names tables p)
+statements_grow : (k m : ℕ) (names : Names) (tables : WaveformTables) (p : PatternBlock) → Gives (Grown p) (statements_from k m names tables p)
 unfolding statements_from
 statements_grow zero m names tables p = refuse_gives (Grown p) no_token
 statements_grow (suc k) m names tables p =
     after_any (Grown p) (eat kind.CloseBrace) _ (λ end. if_gives (Grown p) end _ _ (λ _. pure_gives (Grown p) p (omega arith))
     (λ _. then_gives (Grown p) (Grown p) (statement m names tables p) _ (statement_grows m names tables p) (λ more g ts q x e. (let less : Grown more q = statements_grow k m names tables more ts q x e in omega arith))))
 
-statements_kept : (k m n : ℕ) (names : Names) (tables : Tables) (p : Pattern) (ts : List Token) → Kept count n (statements_from k m names tables p ts) (statements_from k n names tables p ts)
+statements_kept : (k m n : ℕ) (names : Names) (tables : WaveformTables) (p : PatternBlock) (ts : List Token) → Kept count n (statements_from k m names tables p ts) (statements_from k n names tables p ts)
 unfolding statements_from
 statements_kept zero m n names tables p ts = same_kept count n (Err (no_token ts))
 statements_kept (suc k) m n names tables p ts =
@@ -139,8 +139,8 @@ pattern_kept m n names t b ts =
 abbrev vectors : Patterns → ℕ
 vectors p = length p.vectors
 
-text_kept : (m n : ℕ) (ts : List Token) → Kept vectors n (pattern_text m ts) (pattern_text n ts)
-unfolding pattern_text pattern_part
+text_kept : (m n : ℕ) (ts : List Token) → Kept vectors n (stil_text m ts) (stil_text n ts)
+unfolding stil_text pattern_part
 text_kept m n ts =
     after_kept vectors n (keyword _ ts) _ _ (λ a ts. after_kept vectors n (version ts) _ _ (λ b ts. after_kept vectors n (expect kind.Semicolon ts) _ _ (λ c ts. after_kept vectors n (header_if_any ts) _ _ (λ d ts.
     after_kept vectors n (signals_block ts) _ _ (λ first ts. after_kept vectors n (group_blocks first ts) _ _ (λ names ts. after_kept vectors n (timing names ts) _ _ (λ t ts.
@@ -165,11 +165,11 @@ tested_kept n (Ok q) o' p k e few =
 tested_kept n (Err f) o' p k e few = absurd (true≢false (sym (ap is_ok e)))
 
 -- a text that is read under one limit is read so under each that its vectors keep
-pub kept_within : (m n : ℕ) (text : Text) (p : Patterns) → patterns_of m text ≡ Ok p → length p.vectors ≤ n → patterns_of n text ≡ Ok p
-unfolding patterns_of
-kept_within m n text p e few = tested_kept n (pattern_text m (tokens text)) (pattern_text n (tokens text)) p (text_kept m n (tokens text)) e few
+pub kept_within : (m n : ℕ) (text : Text) (p : Patterns) → patterns_in m text ≡ Ok p → length p.vectors ≤ n → patterns_in n text ≡ Ok p
+unfolding patterns_in
+kept_within m n text p e few = tested_kept n (stil_text m (tokens text)) (stil_text n (tokens text)) p (text_kept m n (tokens text)) e few
 
-pub stands_within : (most : ℕ) (text : Text) (p : Patterns) → patterns_of most text ≡ Ok p → StandsFor text p
+pub stands_within : (most : ℕ) (text : Text) (p : Patterns) → patterns_in most text ≡ Ok p → StandsFor text p
 stands_within most text p e = kept_within most (length p.vectors) text p e (omega arith)
 
 pub read_within : IsReadWithin

@@ -13,7 +13,7 @@ use Rattle.dft_stil_tokens.specs.Steps.{Outcome, left, expect, keyword}
 use Rattle.dft_stil_text.specs.SignalGroups.{Names, signals_block, group_blocks}
 use Rattle.dft_stil_text.specs.WaveformTables.{Timing, timing}
 use Rattle.dft_stil_text.specs.PatternText as spec
-use Rattle.dft_stil_text.specs.PatternText.{version, header_if_any, burst, exec, known_name, pattern, pattern_part, pattern_text, patterns_of}
+use Rattle.dft_stil_text.specs.PatternText.{version, header_if_any, burst, exec, known_name, pattern, pattern_part, stil_text, patterns_in}
 use Rattle.dft_stil_text.proofs.GivenRules.{Gives, GivesOf, after_any, then_gives, pure_gives}
 use Rattle.dft_patterns.proofs.SteadyLemmas.{none_is_steady}
 use Rattle.dft_stil_text.proofs.WellNamed.{Differ, Keeps, block_differs, groups_kept}
@@ -34,8 +34,8 @@ pub record IsFitting (most : ℕ) (p : Patterns) : Type 0 where
   pub few : length p.vectors ≤ most
   pub fits : All (λ acts. IsVector p.signals acts) p.vectors
 
-text_fits : (most : ℕ) → Gives (IsFitting most) (pattern_text most)
-unfolding pattern_text pattern_part
+text_fits : (most : ℕ) → Gives (IsFitting most) (stil_text most)
+unfolding stil_text pattern_part
 text_fits most =
     after_any (IsFitting most) (keyword _) _ (λ a. after_any (IsFitting most) version _ (λ b. after_any (IsFitting most) (expect kind.Semicolon) _ (λ c. after_any (IsFitting most) header_if_any _ (λ d.
     then_gives Differ (IsFitting most) signals_block _ block_differs (λ first differ. then_gives (Keeps first) (IsFitting most) (group_blocks first) _ (groups_kept first) (λ names kept.
@@ -56,8 +56,8 @@ value_fitting most (Ok q) p h e = subst (λ (r : Patterns). IsFitting most r) (a
 value_fitting most (Err f) p h e = absurd (true≢false (sym (ap is_ok e)))
 
 -- what a text says before its pulses are tested
-pub fitting : (most : ℕ) (text : Text) (p : Patterns) → value_of (pattern_text most (tokens text)) ≡ Ok p → IsFitting most p
-fitting most text p e = value_fitting most (pattern_text most (tokens text)) p (text_fits most (tokens text)) e
+pub fitting : (most : ℕ) (text : Text) (p : Patterns) → value_of (stil_text most (tokens text)) ≡ Ok p → IsFitting most p
+fitting most text p e = value_fitting most (stil_text most (tokens text)) p (text_fits most (tokens text)) e
 
 value_fits : (most : ℕ) (o : Outcome Patterns) (p : Patterns) → GivesOf (IsFitting most) o → spec.tested (value_of o) ≡ Ok p → (IsFitting most p) × (first_unsteady p ≡ None)
 value_fits most (Ok q) p h e = steady q.0 (first_unsteady q.0) refl (h q.0 q.1 refl) e where
@@ -70,13 +70,13 @@ value_fits most (Ok q) p h e = steady q.0 (first_unsteady q.0) refl (h q.0 q.1 r
   steady q (Some u) n g e = absurd (true≢false (sym (ap is_ok e)))
 value_fits most (Err f) p h e = absurd (true≢false (sym (ap is_ok e)))
 
-pub well_formed : (most : ℕ) (text : Text) (p : Patterns) → patterns_of most text ≡ Ok p → most < 2 ^ 32 → IsWellFormed p
-unfolding patterns_of
+pub well_formed : (most : ℕ) (text : Text) (p : Patterns) → patterns_in most text ≡ Ok p → most < 2 ^ 32 → IsWellFormed p
+unfolding patterns_in
 well_formed most text p e small =
-    let f = value_fits most (pattern_text most (tokens text)) p (text_fits most (tokens text)) e in
+    let f = value_fits most (stil_text most (tokens text)) p (text_fits most (tokens text)) e in
     record { distinct = f.0.distinct; few = (let few = f.0.few in omega arith); fits = f.0.fits; steady = none_is_steady p f.1 }
 
 -- and it has no more vectors than its reader takes
-pub few_vectors : (most : ℕ) (text : Text) (p : Patterns) → patterns_of most text ≡ Ok p → length p.vectors ≤ most
-unfolding patterns_of
-few_vectors most text p e = (value_fits most (pattern_text most (tokens text)) p (text_fits most (tokens text)) e).0.few
+pub few_vectors : (most : ℕ) (text : Text) (p : Patterns) → patterns_in most text ≡ Ok p → length p.vectors ≤ most
+unfolding patterns_in
+few_vectors most text p e = (value_fits most (stil_text most (tokens text)) p (text_fits most (tokens text)) e).0.few

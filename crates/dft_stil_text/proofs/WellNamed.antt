@@ -48,7 +48,7 @@ not_some : (o : Option ℕ) → not (is_some o) ≡ true → o ≡ None
 not_some None e = refl
 not_some (Some n) e = absurd (true≢false (sym e))
 
-differ_more : (signals : List StilSignal) (word : Text) (d : Dir) → AllPairs (λ s t. s.name ≢ t.name) signals → not (spec.is_known (spec.names_of_signals signals) word) ≡ true
+differ_more : (signals : List StilSignal) (word : Text) (d : Dir) → AllPairs (λ s t. s.name ≢ t.name) signals → not (spec.is_declared (spec.names_of_signals signals) word) ≡ true
     → AllPairs (λ (s t : StilSignal). s.name ≢ t.name) (signals ++ record { name = word; dir = d } ∷ [])
 differ_more signals word d h fresh =
     let none = sym (position_map (λ known. bytes_eq known word) (λ (s : StilSignal). s.name) signals) ∙ not_some (spec.number_of (spec.names_of_signals signals) word) fresh in

@@ -1,7 +1,7 @@
 -- What is known of every pattern text (IEEE 1450-1999, in a subset of its forms).
 use Rattle.std.specs.Prelude.{◌≡◌, ◌<◌, ◌≤◌, ◌^◌, ℕ, List, length, Ok}
 use Rattle.dft_patterns.specs.Patterns.{Patterns, IsWellFormed}
-use Rattle.dft_stil_text.specs.PatternText.{StandsFor, patterns_of}
+use Rattle.dft_stil_text.specs.PatternText.{StandsFor, patterns_in}
 
 -- what a text stands for, with fewer than 2 ^ 32 vectors, is well formed
 abbrev pub IsReadWellFormed : Type 0
@@ -14,4 +14,4 @@ StandsForOne = (text : List ℕ) (p q : Patterns) → StandsFor text p → Stand
 -- a reader that takes so many vectors at most gives what the text stands for, with no more than these, and gives all that is such
 abbrev pub IsReadWithin : Type 0
 IsReadWithin = (most : ℕ) (text : List ℕ) (p : Patterns)
-    → (patterns_of most text ≡ Ok p → StandsFor text p × (length p.vectors ≤ most)) × (StandsFor text p → length p.vectors ≤ most → patterns_of most text ≡ Ok p)
+    → (patterns_in most text ≡ Ok p → StandsFor text p × (length p.vectors ≤ most)) × (StandsFor text p → length p.vectors ≤ most → patterns_in most text ≡ Ok p)

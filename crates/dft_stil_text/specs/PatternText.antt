@@ -13,7 +13,7 @@ use Rattle.dft_stil_tokens.specs.Lexemes.{tokens}
 use Rattle.dft_stil_tokens.specs.Steps.{Rule, kind_of, bytes, left, next, sees, refuse, mark_refusal, expect, eat_word, keyword, name, needed, fault}
 use Rattle.dft_stil_text.specs.SignalGroups.{Names, signals_block, group_blocks, name_if_any}
 use Rattle.dft_stil_text.specs.WaveformTables.{Timing, timing}
-use Rattle.dft_stil_text.specs.Statements.{Pattern, statements_from}
+use Rattle.dft_stil_text.specs.Statements.{PatternBlock, statements_from}
 use Rattle.dft_patterns.specs.Patterns.{Patterns}
 use Rattle.dft_patterns.specs.Steadiness.{first_unsteady}
 
@@ -90,15 +90,15 @@ burst = do
 -- ---- what is executed
 
 -- whether a name was given so
-abbrev pub is_name : Option Text → Text → Bool
-is_name None word = false
-is_name (Some known) word = bytes_eq known word
+abbrev pub is_named : Option Text → Text → Bool
+is_named None word = false
+is_named (Some known) word = bytes_eq known word
 
 -- a name, which must be this one
 unfoldable pub known_name : Option Text → Rule Text
 known_name known = λ ts. (do
   word ← name
-  needed (cause.Unknown word) (left ts) (is_name known word) (pure word)) ts
+  needed (cause.Unknown word) (left ts) (is_named known word) (pure word)) ts
 
 -- a name, if one comes next, which must be this one
 unfoldable pub known_name_if_any : Option Text → Rule Bool
@@ -130,11 +130,11 @@ exec t b = do
 -- ---- the pattern
 
 -- a pattern of so many signals that has no vector yet
-abbrev pub no_vector_of : ℕ → Pattern
+abbrev pub no_vector_of : ℕ → PatternBlock
 no_vector_of count = record { table = None; acts = replicate count act.Unset; vectors = [] }
 
 -- the pattern of the burst
-unfoldable pub pattern : (most : ℕ) → Names → Timing → Burst → Rule Pattern
+unfoldable pub pattern : (most : ℕ) → Names → Timing → Burst → Rule PatternBlock
 pattern most names t b = do
   keyword (codes "Pattern")
   known_name (Some b.pattern)
@@ -164,8 +164,8 @@ named_part most = do
   timed_part most names
 
 -- the whole text
-unfoldable pub pattern_text : (most : ℕ) → Rule Patterns
-pattern_text most = do
+unfoldable pub stil_text : (most : ℕ) → Rule Patterns
+stil_text most = do
   keyword (codes "STIL")
   version
   expect kind.Semicolon
@@ -193,9 +193,9 @@ tested (Ok p) = steady_or p (first_unsteady p)
 tested (Err f) = Err (At f)
 
 -- What a reader gives that takes so many vectors at most: the patterns of a text, or why it is refused. Pulses are tested behind the whole text.
-unfoldable pub patterns_of : (most : ℕ) → Text → Result Patterns Refusal
-patterns_of most text = tested (value_of (pattern_text most (tokens text)))
+unfoldable pub patterns_in : (most : ℕ) → Text → Result Patterns Refusal
+patterns_in most text = tested (value_of (stil_text most (tokens text)))
 
 -- The text stands for these patterns, however many vectors they have: it is read as them where there may be so many.
 abbrev pub StandsFor : Text → Patterns → Type 0
-StandsFor text p = patterns_of (length p.vectors) text ≡ Ok p
+StandsFor text p = patterns_in (length p.vectors) text ≡ Ok p

@@ -32,8 +32,8 @@ abbrev pub number_of : List Text → Text → Option ℕ
 number_of names word = position (λ known. bytes_eq known word) names
 
 -- whether a name is among these
-abbrev pub is_known : List Text → Text → Bool
-is_known names word = is_some (number_of names word)
+abbrev pub is_declared : List Text → Text → Bool
+is_declared names word = is_some (number_of names word)
 
 -- the names of signals
 abbrev pub names_of_signals : List StilSignal → List Text
@@ -69,12 +69,12 @@ abbrev pub elsewhere : Names → Text → Option Members
 elsewhere names word = either (as_group names word) (as_signal names word)
 
 -- whether a number is among these
-abbrev pub has : List ℕ → ℕ → Bool
-has ns n = list_any (λ m. m == n) ns
+abbrev pub has_signal : List ℕ → ℕ → Bool
+has_signal ns n = list_any (λ m. m == n) ns
 
 -- one signal more
 abbrev pub with_signal : Members → ℕ → Members
-with_signal m n = if has m.signals n then record m { repeated = true } else record m { signals = m.signals ++ n ∷ [] }
+with_signal m n = if has_signal m.signals n then record m { repeated = true } else record m { signals = m.signals ++ n ∷ [] }
 
 -- these signals more
 abbrev pub with_signals : Members → List ℕ → Members
@@ -82,8 +82,8 @@ with_signals m [] = m
 with_signals m (n ∷ ns) = with_signals (with_signal m n) ns
 
 -- the signals of two, one behind the other
-abbrev pub joined : Members → Members → Members
-joined m other = record (with_signals m other.signals) { repeated = (with_signals m other.signals).repeated || other.repeated }
+abbrev pub with_members : Members → Members → Members
+with_members m other = record (with_signals m other.signals) { repeated = (with_signals m other.signals).repeated || other.repeated }
 
 -- the members of a name, which must have been given
 abbrev pub given : {A : Type 0} → Text → ℕ → Option Members → (Members → Rule A) → Rule A
@@ -106,7 +106,7 @@ with_new_signal names word d = record names { signals = names.signals ++ record 
 unfoldable pub signal : Names → Rule Names
 signal names = λ ts. (do
   word ← name
-  needed (cause.Taken word) (left ts) (not (is_known (names_of_signals names.signals) word)) (do
+  needed (cause.Taken word) (left ts) (not (is_declared (names_of_signals names.signals) word)) (do
     d ← direction
     expect kind.Semicolon
     pure (with_new_signal names word d))) ts
@@ -142,13 +142,13 @@ members_from (suc n) names m = do
   plus ← eat kind.Plus
   if plus then (do
     more ← member names
-    members_from n names (joined m more)) else pure m
+    members_from n names (with_members m more)) else pure m
 
 -- a group's list
 unfoldable pub members : Names → Rule Members
 members names = do
   first ← member names
-  λ ts. members_from (left ts) names (joined no_members first) ts
+  λ ts. members_from (left ts) names (with_members no_members first) ts
 
 -- one group more
 abbrev pub with_group : Names → Text → Members → Names
@@ -158,7 +158,7 @@ with_group names word m = record names { group_names = names.group_names ++ word
 unfoldable pub group : Names → Rule Names
 group names = λ ts. (do
   word ← name
-  needed (cause.Taken word) (left ts) (not (is_known names.group_names word)) (do
+  needed (cause.Taken word) (left ts) (not (is_declared names.group_names word)) (do
     expect kind.Equals
     expect kind.Quote
     m ← members names

@@ -11,19 +11,19 @@ use std::alloc::AllocError;
 pub enum StilError {
     /// A byte that no text may have there, or a token that stands where none such may; or the text ends too early.
     P1 { place: Place },
-    /// A word, a letter or a shape that the profile leaves out.
+    /// A word, a letter or a waveform that the profile leaves out.
     P2 { place: Place, name: Name },
     /// A name that was not given.
     P3 { place: Place, name: Name },
     /// More or fewer characters than signals, or one vector more than there may be.
     P4 { place: Place },
-    /// A character without a shape.
+    /// A character without a waveform.
     P5 { place: Place },
     /// The text would have so many bytes, which are more than there may be.
     P6 { first: i64 },
     /// Times of a table that do not fit.
     P8 { place: Place },
-    /// A name, or a shape, that was given before.
+    /// A name, or a waveform, that was given before.
     P9 { place: Place, name: Name },
     /// A signal that pulses in some vector is high or was never set in this one, numbered from 0.
     P10 { first: i64, name: Name },

@@ -38,17 +38,17 @@ pub enum TokenKind {
 pub enum Cause {
     /// P1: a byte, or a token that stands where none such may; or the text ends too early.
     Token,
-    /// P2: a word, a letter or a shape that the profile leaves out.
+    /// P2: a word, a letter or a waveform that the profile leaves out.
     Unsupported(Name),
     /// P3: a name that was not given.
     Unknown(Name),
     /// P4: more or fewer characters than signals, or one vector more than there may be.
     Count,
-    /// P5: a character without a shape.
-    NoShape,
+    /// P5: a character without a waveform.
+    NoWaveform,
     /// P8: times of a table that do not fit.
     Times,
-    /// P9: a name, or a shape, that was given before.
+    /// P9: a name, or a waveform, that was given before.
     Taken(Name),
 }
 

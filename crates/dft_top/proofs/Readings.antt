@@ -35,7 +35,7 @@ use Rattle.dft_compile.specs.declared.error.CompileError.{CompileError}
 use Rattle.dft_compile.specs.declared.prepared.Prepared.{Prepared}
 use Rattle.dft_compile.specs.Prepared.{IsPrepared}
 use Rattle.dft_compile.specs.Refusals.{first_refusal as design_refusal}
-use Rattle.dft_stil_text.specs.PatternText.{patterns_of}
+use Rattle.dft_stil_text.specs.PatternText.{patterns_in}
 use Rattle.dft_stil_text.specs.PatternText as PatternText
 use Rattle.dft_stil_text.proofs.LimitLemmas.{kept_within, one_set}
 use Rattle.dft_stil.specs.Refusals as StilRefusals
@@ -252,7 +252,7 @@ patterns_or_refused : (text : List ℕ) (p : Patterns) (error : StilError) → A
 patterns_or_refused text p error x y = let e : Ok p ≡ Err y.refusal = sym (kept_within (length p.vectors) MAX_VECTORS text p x.stands x.few) ∙ y.first in cc
 
 stil_one : (text : List ℕ) (a b : StilError) → IsFirstRefusal text a → IsFirstRefusal text b → a ≡ b
-stil_one text a b x y = x.told ∙ ap (StilRefusals.told_of text) (err_same (patterns_of MAX_VECTORS text) x.refusal y.refusal x.first y.first) ∙ sym y.told
+stil_one text a b x y = x.told ∙ ap (StilRefusals.told_of text) (err_same (patterns_in MAX_VECTORS text) x.refusal y.refusal x.first y.first) ∙ sym y.told
 
 first_refusal : (text : List ℕ) (error : StilError) (refusal : Refusal) → StilRefusals.IsRefused text error → stil_refusal error ≡ Some refusal → IsFirstRefusal text error
 first_refusal text (stil.P1 place) refusal refused is = refused

@@ -24,8 +24,7 @@ use Rattle.dft_netlist_text.specs.Modules.{HeaderPort, net_count}
 use Rattle.dft_netlist_text.specs.NetlistText.{Grown, final_signal, unless_refused, and_grown, add_declared, add_ports, add_net, add_nets, add_instance, add_instances, add_joins, built, nets_of_port, nets_of_ports, net_order, other_nets, names_of_others}
 use Rattle.dft_verilog_draft.specs.Free.{IsApart, AreApart}
 use Rattle.dft_verilog.specs.Buildable.{names_of_port, names_of_header, names_of_instances, printed_names, BuildableAreBuilt}
-use Rattle.dft_verilog_draft.proofs.DeclareLemmas.{length-bit_names}
-use Rattle.dft_verilog.proofs.NumberingLemmas.{length-count_from}
+use Rattle.dft_verilog_draft.proofs.DeclareLemmas.{length-bit_names, length-going_up}
 use Rattle.dft_verilog.proofs.GrowLemmas.{add_port-Ok, add_ports-Ok, add_declared-Ok}
 
 -- ---- names that are new
@@ -213,7 +212,7 @@ declared-built : (n : Netlist) (before : List Text) (word : Text) (declared : Op
 declared-built n before word None free new ports nets = record { new = n; built = refl; frees = subst (Frees n) (sym (append-nil before)) free; instances = refl }
 declared-built n before word (Some d) free new ports nets =
     let range = d.shape.range in
-    let count : length (bit_names word range) ≡ length (nets_of_port (Some d)) = length-bit_names word range ∙ sym (length-count_from d.shape.first.0 (net_count range)) in
+    let count : length (bit_names word range) ≡ length (nets_of_port (Some d)) = length-bit_names word range ∙ sym (length-going_up d.shape.first.0 (net_count range)) in
     let bits = nets_from (length n.nets) (length (bit_names word range)) in
     let m : Netlist = record n { ports = n.ports ++ port_of word d.dir range bits ∷ []; nets = n.nets ++ bit_names word range } in
     record {

@@ -5,7 +5,6 @@ use Rattle.std.proofs.lemmas.List.{length-map}
 use Rattle.std.proofs.lemmas.Option.{slice_get_within}
 use Rattle.dft_base.specs.Lexing.{Text}
 use Rattle.dft_cells.specs.declared.kind.Role.{Role}
-use Rattle.dft_cells.specs.declared.kind.Role.TheVariants as role
 use Rattle.dft_cells.specs.declared.cell.CellId.{CellId}
 use Rattle.dft_cells.specs.declared.cell.Pin.{Pin}
 use Rattle.dft_cells.specs.declared.cell.Cell.{Cell}
@@ -15,7 +14,7 @@ use Rattle.dft_netlist.specs.declared.instance.Signal.TheVariants as signal
 use Rattle.dft_netlist.specs.Drivers.{shape_of_cell}
 use Rattle.dft_netlist.specs.Sound.{IsLive, is_output, IsInstanceOf}
 use Rattle.dft_netlist_text.specs.Modules.{Draft}
-use Rattle.dft_netlist_text.specs.Items.{Joined, unjoined, pin_drives, is_driving, signal_at, cell_instance}
+use Rattle.dft_netlist_text.specs.Items.{Joined, unjoined, pin_drives, signal_at, cell_instance}
 use Rattle.dft_verilog_draft.specs.Drafts.{InstanceFits, nets_alone}
 use Rattle.dft_verilog_draft.specs.Operands.{IsBit}
 use Rattle.dft_verilog.specs.JoinedPins.{IsPinSignal, FitsCell}
@@ -107,11 +106,6 @@ live_at count (Some to ∷ joined) drives h zero s at =
     let e : to ≡ s = cc in subst (λ (x : Signal). IsLive count x) e (live_signal count (drives 0) to (h zero to refl))
 live_at count (j ∷ joined) drives h (suc place) s at = live_at count joined (λ p. drives (suc p)) (λ p. h (suc p)) place s at
 
-driving : (r : Role) → is_output r ≡ true → is_driving r ≡ true
-driving role.Output h = refl
-driving role.Inverted h = refl
-driving r h = absurd (cc)
-
 undriven : (count : ℕ) (drives : Bool) (to : Signal) (bit : Bool) → drives ≡ true → to ≡ signal.Constant bit → IsPinSignal count drives to → ⊥
 undriven count true (signal.Constant b) bit d e h = h
 undriven count false to bit d e h = cc
@@ -126,7 +120,7 @@ constant_free count (p ∷ pins) (None ∷ joined) h zero r bit at out to = cc
 constant_free count (p ∷ pins) (Some s ∷ joined) h zero r bit at out to =
     let same : p.role ≡ r = cc in
     let e : s ≡ signal.Constant bit = cc in
-    undriven count (is_driving p.role) s bit (driving p.role (ap is_output same ∙ out)) e (h zero s refl)
+    undriven count (is_output p.role) s bit (ap is_output same ∙ out) e (h zero s refl)
 constant_free count (p ∷ pins) (j ∷ joined) h (suc pin) r bit at out to = constant_free count pins joined (λ q. h (suc q)) pin r bit at out to
 
 -- an instance whose pins are joined so can stand among the nets

@@ -3,7 +3,7 @@ use Rattle.std.proofs.Common.{◌≡◌, ℕ, ◌+◌, ◌≤◌, Bool, true, fa
 use Rattle.std.specs.Str.{bytes_eq}
 use Rattle.std.proofs.lemmas.Slice.Eq.{bytes_eq-Decides}
 use Rattle.dft_base.specs.Lexing.{Text}
-use Rattle.dft_netlist_text.specs.Modules.{Draft, Entry, first_taken, is_taken}
+use Rattle.dft_netlist_text.specs.Modules.{Draft, TakenName, first_taken, is_taken}
 use Rattle.dft_verilog_draft.specs.Free.{IsApart, AreApart}
 
 -- one, or none
@@ -59,24 +59,24 @@ none_apart word (x ∷ xs) h = omega (arith, ap once (flip_false word x h.0), no
 -- ---- names that are taken
 
 -- the names of these entries
-abbrev pub names_of : List Entry → List Text
-names_of entries = map (λ (e : Entry). e.name) entries
+abbrev pub names_of : List TakenName → List Text
+names_of entries = map (λ (e : TakenName). e.name) entries
 
-none_by : (b : Bool) (e : Entry) (rest : Option Entry) (n : ℕ) → is_some (cond b (Some e) rest) ≡ false → (is_some rest ≡ false → n ≡ 0) → once b + n ≡ 0
+none_by : (b : Bool) (e : TakenName) (rest : Option TakenName) (n : ℕ) → is_some (cond b (Some e) rest) ≡ false → (is_some rest ≡ false → n ≡ 0) → once b + n ≡ 0
 none_by true e rest n h more = absurd (cc)
 none_by false e rest n h more = omega (arith, more h)
 
-find_none : (entries : List Entry) (word : Text) → is_some (find (λ (e : Entry). bytes_eq e.name word) entries) ≡ false → count word (names_of entries) ≡ 0
+find_none : (entries : List TakenName) (word : Text) → is_some (find (λ (e : TakenName). bytes_eq e.name word) entries) ≡ false → count word (names_of entries) ≡ 0
 find_none [] word h = refl
-find_none (e ∷ es) word h = none_by (bytes_eq e.name word) e (find (λ (e : Entry). bytes_eq e.name word) es) (count word (names_of es)) h (find_none es word)
+find_none (e ∷ es) word h = none_by (bytes_eq e.name word) e (find (λ (e : TakenName). bytes_eq e.name word) es) (count word (names_of es)) h (find_none es word)
 
-shown_none : (o : Option Entry) → is_some (option_map (λ (e : Entry). e.meaning) o) ≡ false → is_some o ≡ false
+shown_none : (o : Option TakenName) → is_some (option_map (λ (e : TakenName). e.meaning) o) ≡ false → is_some o ≡ false
 shown_none None h = refl
 shown_none (Some e) h = h
 
 -- a name that is free is none of those that are taken
 pub free_none : (d : Draft) (word : Text) → is_taken d word ≡ false → count word (names_of d.names) ≡ 0
-free_none d word h = find_none d.names word (shown_none (find (λ (e : Entry). bytes_eq e.name word) d.names) h)
+free_none d word h = find_none d.names word (shown_none (find (λ (e : TakenName). bytes_eq e.name word) d.names) h)
 
 find_by : (b : Bool) (w : Text) (rest : Option Text) → cond b (Some w) rest ≡ None → (b ≡ false) × (rest ≡ None)
 find_by true w rest h = absurd (cc)

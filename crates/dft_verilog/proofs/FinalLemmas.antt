@@ -7,17 +7,18 @@ use Rattle.std.proofs.lemmas.List.Elements.{All-nil, All-cons}
 use Rattle.std.proofs.lemmas.List.Quantifiers.{position-Some}
 use Rattle.dft_base.specs.Lexing.{Text}
 use Rattle.dft_netlist.specs.declared.ids.NetId.{NetId}
-use Rattle.dft_netlist_text.specs.Modules.{Draft, count_from}
+use Rattle.dft_netlist_text.specs.Modules.{Draft}
 use Rattle.dft_netlist_text.specs.NetlistText.{nets_of_ports, other_nets, net_order, final_net, names_of_others}
 use Rattle.dft_verilog.specs.FinalNets.{number_among, numbers_among, without_number, all_numbered, AreFinal}
-use Rattle.dft_verilog.proofs.NumberingLemmas.{position-cons, position-append, or_behind, id_of, is_net, length-count_from}
+use Rattle.dft_verilog.proofs.NumberingLemmas.{position-cons, position-append, or_behind, id_of, is_net}
+use Rattle.dft_verilog_draft.proofs.DeclareLemmas.{length-going_up}
 
 -- the nets that are none of these
 abbrev pub is_other : List ℕ → ℕ → Bool
 is_other nets net = not (list_any (λ bit. eqb bit net) nets)
 
 abbrev pub others_from : List ℕ → (from count : ℕ) → List ℕ
-others_from nets from count = filter (is_other nets) (count_from from count)
+others_from nets from count = filter (is_other nets) (going_up from count)
 
 some_cons : (b c : Bool) (o : Option ℕ) → c ≡ is_some o → (b || c) ≡ is_some (cond b (Some 0) (option_map suc o))
 some_cons true c o e = refl
@@ -39,11 +40,11 @@ name_by (Some k) true x xs net f numbers rest e here there = there
 name_by (Some k) false x xs net f numbers rest e here there = absurd (cc)
 
 names-by : (nets : List ℕ) (f : ℕ → Text) (from : ℕ) (xs : List Text) → ((k : ℕ) → k < length xs → f (from + k) ≡ get_or xs k [])
-    → without_number xs (map (number_among nets) (count_from from (length xs))) ≡ map f (others_from nets from (length xs))
+    → without_number xs (map (number_among nets) (going_up from (length xs))) ≡ map f (others_from nets from (length xs))
 names-by nets f from [] at = refl
 names-by nets f from (x ∷ xs) at =
     name_by (position (is_net from) nets) (list_any (λ bit. eqb bit from) nets) x xs from f
-    (map (number_among nets) (count_from (suc from) (length xs))) (others_from nets (suc from) (length xs))
+    (map (number_among nets) (going_up (suc from) (length xs))) (others_from nets (suc from) (length xs))
     (any_some nets from) (ap f (sym (add-zero from)) ∙ at 0 (omega arith))
     (names-by nets f (suc from) xs (λ k lt. let move : suc from + k ≡ from + suc k = omega arith in ap f move ∙ at (suc k) (omega arith)))
 
@@ -89,15 +90,15 @@ next_by (Some p) mine true net other next k numbers rest e ne there = there next
 next_by (Some p) mine false net other next k numbers rest e ne there = absurd (cc)
 
 numbered-at : (nets : List ℕ) (next from n k y : ℕ) → k < n → y ≡ from + k
-    → slice_get (all_numbered next (map (number_among nets) (count_from from n))) k ≡ Some (or_zero (or_behind next (position (is_net y) nets) (position (is_net y) (others_from nets from n))))
+    → slice_get (all_numbered next (map (number_among nets) (going_up from n))) k ≡ Some (or_zero (or_behind next (position (is_net y) nets) (position (is_net y) (others_from nets from n))))
 numbered-at nets next from zero k y lt e = absurd (omega arith)
 numbered-at nets next from (suc n) zero y lt e =
     let same : from ≡ y = omega arith in
-    subst (λ z. slice_get (all_numbered next (map (number_among nets) (count_from from (suc n)))) 0 ≡ Some (or_zero (or_behind next (position (is_net z) nets) (position (is_net z) (others_from nets from (suc n)))))) same
-    (first_by (position (is_net from) nets) (list_any (λ bit. eqb bit from) nets) from next (map (number_among nets) (count_from (suc from) n)) (others_from nets (suc from) n) (any_some nets from))
+    subst (λ z. slice_get (all_numbered next (map (number_among nets) (going_up from (suc n)))) 0 ≡ Some (or_zero (or_behind next (position (is_net z) nets) (position (is_net z) (others_from nets from (suc n)))))) same
+    (first_by (position (is_net from) nets) (list_any (λ bit. eqb bit from) nets) from next (map (number_among nets) (going_up (suc from) n)) (others_from nets (suc from) n) (any_some nets from))
 numbered-at nets next from (suc n) (suc k) y lt e =
     next_by (position (is_net from) nets) (position (is_net y) nets) (list_any (λ bit. eqb bit from) nets) from y next k
-    (map (number_among nets) (count_from (suc from) n)) (others_from nets (suc from) n) (any_some nets from) (λ same. absurd (omega arith))
+    (map (number_among nets) (going_up (suc from) n)) (others_from nets (suc from) n) (any_some nets from) (λ same. absurd (omega arith))
     (λ m. numbered-at nets m (suc from) n k y (omega arith) (omega arith))
 
 -- ---- each is below the number of nets
@@ -125,7 +126,7 @@ within_by : (count : ℕ) (o : Option ℕ) → ((k : ℕ) → o ≡ Some k → k
 within_by count None h = tt
 within_by count (Some k) h = h k refl
 
-among-within : (nets : List ℕ) (count from n : ℕ) → length nets ≤ count → AreWithin count (map (number_among nets) (count_from from n))
+among-within : (nets : List ℕ) (count from n : ℕ) → length nets ≤ count → AreWithin count (map (number_among nets) (going_up from n))
 among-within nets count from zero le = tt
 among-within nets count from (suc n) le =
     (within_by count (position (is_net from) nets) (λ k e. let lt : k < length nets = (position-Some (is_net from) nets k 0 e).0 in omega arith), among-within nets count (suc from) n le)
@@ -136,10 +137,10 @@ one_other None false net numbers rest e h = ap suc h
 one_other (Some k) true net numbers rest e h = h
 one_other (Some k) false net numbers rest e h = absurd (cc)
 
-unnumbered-others : (nets : List ℕ) (from n : ℕ) → unnumbered (map (number_among nets) (count_from from n)) ≡ length (others_from nets from n)
+unnumbered-others : (nets : List ℕ) (from n : ℕ) → unnumbered (map (number_among nets) (going_up from n)) ≡ length (others_from nets from n)
 unnumbered-others nets from zero = refl
 unnumbered-others nets from (suc n) =
-    one_other (position (is_net from) nets) (list_any (λ bit. eqb bit from) nets) from (map (number_among nets) (count_from (suc from) n)) (others_from nets (suc from) n) (any_some nets from) (unnumbered-others nets (suc from) n)
+    one_other (position (is_net from) nets) (list_any (λ bit. eqb bit from) nets) from (map (number_among nets) (going_up (suc from) n)) (others_from nets (suc from) n) (any_some nets from) (unnumbered-others nets (suc from) n)
 
 -- ---- the final numbers
 
@@ -152,7 +153,7 @@ AreFinal-numbered d next e =
     let bits = nets_of_ports d.ports in
     let numbers = numbers_among bits (length d.nets) in
     record {
-      count = length-all_numbered next numbers ∙ length-map (count_from 0 (length d.nets)) (number_among bits) ∙ length-count_from 0 (length d.nets);
+      count = length-all_numbered next numbers ∙ length-map (going_up 0 (length d.nets)) (number_among bits) ∙ length-going_up 0 (length d.nets);
       each = λ net lt.
           numbered-at bits next 0 (length d.nets) net.0 net.0 lt (omega arith)
           ∙ ap (λ n. Some (or_zero (or_behind n (position (is_net net.0) bits) (position (is_net net.0) (other_nets d))))) e

@@ -7,6 +7,7 @@ use Rattle.dft_cells.specs.declared.kind.Kind.TheVariants as primitive
 use Rattle.dft_cells.specs.declared.kind.Role.{Role}
 use Rattle.dft_cells.specs.declared.kind.Role.TheVariants as role
 use Rattle.dft_cells.specs.WellFormed.{TakesInputs}
+use Rattle.dft_cells.specs.Pins.{takes_inputs}
 use Rattle.dft_netlist.specs.declared.instance.Signal.{Signal}
 use Rattle.dft_netlist.specs.declared.instance.Signal.TheVariants as signal
 use Rattle.dft_netlist.specs.declared.instance.CellRef.TheVariants as cell_ref
@@ -18,12 +19,12 @@ use Rattle.dft_netlist.specs.Drivers.{gate_roles}
 use Rattle.dft_netlist.specs.Sound.{IsLive, AreLive, is_primitive, is_output, NoConstantOutput, IsInstanceOf}
 use Rattle.dft_netlist_text.specs.Steps.{fault}
 use Rattle.dft_netlist_text.specs.Modules.{Draft, name_instance, room_for_instance, is_taken, with_name}
-use Rattle.dft_netlist_text.specs.Items.{has_inputs, gate_instance}
+use Rattle.dft_netlist_text.specs.Items.{gate_instance}
 use Rattle.dft_verilog_draft.specs.Drafts.{InstanceFits, nets_alone}
 use Rattle.dft_verilog_draft.specs.Operands.{IsBit, AreBits}
 use Rattle.dft_verilog_draft.proofs.OperandLemmas.{live_bit, bit_more, bits_more, grows_on, grows_not}
 
-takes : (k : Kind) (n : ℕ) → IsTrue (is_primitive k) → has_inputs k n ≡ true → TakesInputs k n
+takes : (k : Kind) (n : ℕ) → IsTrue (is_primitive k) → takes_inputs k n ≡ true → TakesInputs k n
 takes primitive.Buf n p h = grind (arith, nat_tests)
 takes primitive.Inv n p h = grind (arith, nat_tests)
 takes primitive.And n p h = grind (arith, nat_tests)
@@ -69,7 +70,7 @@ driven count (i ∷ inputs) output h zero r bit at out to = input_free r at out
 driven count (i ∷ inputs) output h (suc pin) r bit at out to = driven count inputs output h pin r bit at out to
 
 -- a gate of inputs that are bits, and an output that is driven, can stand among the nets
-pub gate_fits : (d : Draft) (k : Kind) (word : Option Text) (inputs : List Signal) (output : Signal) → IsTrue (is_primitive k) → has_inputs k (length inputs) ≡ true →
+pub gate_fits : (d : Draft) (k : Kind) (word : Option Text) (inputs : List Signal) (output : Signal) → IsTrue (is_primitive k) → takes_inputs k (length inputs) ≡ true →
     AreBits (length d.nets) false inputs → IsBit (length d.nets) true output → InstanceFits (nets_alone d) (gate_instance k word output inputs)
 gate_fits d k word inputs output p takes_them h o = record {
   fits = (p, takes k (length inputs) p takes_them);
@@ -80,17 +81,23 @@ gate_fits d k word inputs output p takes_them h o = record {
 
 -- and so where its parts are known by equations
 pub gate_stands : (d : Draft) (k : Kind) (word : Option Text) (inputs pins : List Signal) (n : ℕ) (output : Signal) → n ≡ length inputs → pins ≡ inputs ++ output ∷ [] →
-    IsTrue (is_primitive k) → has_inputs k n ≡ true → AreBits (length d.nets) false inputs → IsBit (length d.nets) true output → IsInstanceOf (nets_alone d) word (cell_ref.Gate k n) pins
+    IsTrue (is_primitive k) → takes_inputs k n ≡ true → AreBits (length d.nets) false inputs → IsBit (length d.nets) true output → IsInstanceOf (nets_alone d) word (cell_ref.Gate k n) pins
 gate_stands d k word inputs pins n output count all p takes_them h o =
     subst (λ (m : ℕ). IsInstanceOf (nets_alone d) word (cell_ref.Gate k m) pins) (sym count)
     (subst (λ (x : List Signal). IsInstanceOf (nets_alone d) word (cell_ref.Gate k (length inputs)) x) (sym all)
-    (gate_fits d k word inputs output p (ap (has_inputs k) (sym count) ∙ takes_them) h o))
+    (gate_fits d k word inputs output p (ap (takes_inputs k) (sym count) ∙ takes_them) h o))
 
 -- a gate has few inputs
-pub few_inputs : (k : Kind) (n : ℕ) → has_inputs k n ≡ true → n ≤ 8
-few_inputs primitive.Buf n h = grind (arith, nat_tests)
-few_inputs primitive.Inv n h = grind (arith, nat_tests)
-few_inputs k n h = grind (arith, nat_tests)
+pub few_inputs : (k : Kind) (n : ℕ) → IsTrue (is_primitive k) → takes_inputs k n ≡ true → n ≤ 8
+few_inputs primitive.Buf n p h = grind (arith, nat_tests)
+few_inputs primitive.Inv n p h = grind (arith, nat_tests)
+few_inputs primitive.And n p h = grind (arith, nat_tests)
+few_inputs primitive.Nand n p h = grind (arith, nat_tests)
+few_inputs primitive.Or n p h = grind (arith, nat_tests)
+few_inputs primitive.Nor n p h = grind (arith, nat_tests)
+few_inputs primitive.Xor n p h = grind (arith, nat_tests)
+few_inputs primitive.Xnor n p h = grind (arith, nat_tests)
+few_inputs k n p h = absurd (search rules)
 
 -- ---- the room for an instance
 

@@ -10,6 +10,7 @@ use Rattle.dft_cells.specs.declared.kind.Kind.{Kind}
 use Rattle.dft_cells.specs.declared.cell.CellId.{CellId}
 use Rattle.dft_cells.specs.declared.cell.Cell.{Cell}
 use Rattle.dft_cells.specs.Cells.{find_cell}
+use Rattle.dft_cells.specs.Pins.{takes_inputs}
 use Rattle.dft_base.specs.declared.dir.Dir.{Dir}
 use Rattle.dft_base.specs.declared.dir.Dir.TheVariants as dir
 use Rattle.dft_netlist.specs.declared.instance.Signal.{Signal}
@@ -25,10 +26,10 @@ use Rattle.dft_netlist_text.specs.declared.text.Site.TheVariants as site
 use Rattle.dft_netlist.specs.Building.{own_names}
 use Rattle.dft_netlist_text.specs.Lexemes.{Token, tokens}
 use Rattle.dft_netlist_text.specs.Steps.{Rule, Outcome, kind_of, left, next, sees, expect, eat, needed, checked}
-use Rattle.dft_netlist_text.specs.Modules.{Draft, begun, announce, declare_nets, declare_new_port, declare_port, declare_wire, declared_at, meaning_of, name_instance, room_for_instance}
-use Rattle.dft_netlist_text.specs.Expressions.{unless_too_large, number, rest_of_range, range, range_if_any, Named, fitting, implied_net, bits_of_port, bits_of_meaning, bits_of_name, implies, is_whole, selected, named_operand, constant_operand, constant, selection, followed, drives, operand, Nest, unread, is_read, opening, closing, turn, nest_from, expression}
-use Rattle.dft_netlist_text.specs.Items.{Declaring, Ports, Wires, declare, declared_name, declared_names_from, declared_names, declaration, port_item, wire_item, with_joins, right_side, assignment, assignments_from, assignments, assign_item, one_bit, gate_kind, has_inputs, terminal, inputs_from, inputs, gate_instance, terminals, named_gate, unnamed_gate, one_gate, gates_from, gates, gate_item, unjoined, pin_name, Connected, pin_signal, pin_content, connection, connections_from, some_connections, connections, cell_instance, instance, instances_from, instances, instances_of, instances_named, cell_item, gate_or_cell, item_of, item, items_from, items}
-use Rattle.dft_netlist_text.specs.NetlistText.{announced_name, announced_names_from, announced_names, new_port, Facing, facing_of, facing, new_ports_from, new_ports, sees_direction, header_names, header, heading, first_undeclared, all_declared, module_end, end_of_text, module_text, module_of}
+use Rattle.dft_netlist_text.specs.Modules.{Draft, empty_draft, announce, declare_nets, declare_new_port, declare_port, declare_wire, declared_at, meaning_of, name_instance, room_for_instance}
+use Rattle.dft_netlist_text.specs.Expressions.{unless_too_large, number, rest_of_range, range, range_if_any, SelectedName, fitting, implied_net, bits_of_port, bits_of_meaning, bits_of_name, implies, is_whole, selected, named_operand, constant_operand, constant, selection, followed, drives, operand, OpenConcatenations, unread, is_read, opening, closing, turn, concatenations_from, expression}
+use Rattle.dft_netlist_text.specs.Items.{Declaring, Ports, Wires, declare, declared_name, declared_names_from, declared_names, declaration, port_item, wire_item, with_joins, right_side, net_assignment, net_assignments_from, net_assignments, assign_item, one_bit, gate_kind, terminal, input_terminals_from, input_terminals, gate_instance, terminals, named_gate, unnamed_gate, one_gate, gates_from, gates, gate_item, unjoined, connected_pin, Connected, pin_signal, pin_content, named_connection, named_connections_from, named_connections, connections, cell_instance, instance, instances_from, instances, instances_of, instances_named, cell_item, gate_or_cell, item_of, item, items_from, items}
+use Rattle.dft_netlist_text.specs.NetlistText.{announced_name, announced_names_from, announced_names, declared_port, PortDeclaration, port_declaration_of, port_declaration, declared_ports_from, declared_ports, sees_direction, header_names, header, heading, first_undeclared, all_declared, module_end, end_of_text, module_text, module_of}
 use Rattle.dft_verilog.specs.Buildable.{IsBuildable, ModulesAreBuildable}
 use Rattle.dft_verilog.proofs.SaidLemmas.{IsSaid, Gives, IsShort, said_is_buildable, nets_said, announce_said, new_port_said, port_said, wire_said, name_said, room_said, instance_said}
 
@@ -122,33 +123,33 @@ announced_all : (d : Draft) → IsSaid 0 [] d → (ts : List Token) → Yields (
 unfolding announced_names
 announced_all d h ts = announced_from (left ts) d h ts
 
-port_new : (dir : Dir) (range : Option Range) (d : Draft) → IsShort range → IsSaid 0 [] d → (ts : List Token) → Yields (IsSaid 0 []) (new_port dir range d ts)
-unfolding new_port
+port_new : (dir : Dir) (range : Option Range) (d : Draft) → IsShort range → IsSaid 0 [] d → (ts : List Token) → Yields (IsSaid 0 []) (declared_port dir range d ts)
+unfolding declared_port
 port_new dir range d short h ts =
     passed (IsSaid 0 []) (expect kind.Name ts) _ (λ word us. of_check (IsSaid 0 []) (declare_new_port (left ts) word dir range d) us (new_port_said 0 [] (left ts) word dir range d h short))
 
-abbrev IsShortFacing : Facing → Type 0
+abbrev IsShortFacing : PortDeclaration → Type 0
 IsShortFacing f = IsShort f.range
 
-facing_of_short : (dir : Dir) (ts : List Token) → Yields IsShortFacing (facing_of dir ts)
-unfolding facing_of
+facing_of_short : (dir : Dir) (ts : List Token) → Yields IsShortFacing (port_declaration_of dir ts)
+unfolding port_declaration_of
 facing_of_short dir ts = passed IsShortFacing (eat kind.Wire (next ts)) _ (λ wire us. behind IsShort IsShortFacing (range_if_any us) (λ r. parser.pure (record { dir = dir; range = r })) (range_if_short us) (λ r short vs. short))
 
-facing_short : (before : Facing) → IsShortFacing before → (ts : List Token) → Yields IsShortFacing (facing before ts)
-unfolding facing
+facing_short : (before : PortDeclaration) → IsShortFacing before → (ts : List Token) → Yields IsShortFacing (port_declaration before ts)
+unfolding port_declaration
 facing_short before h ts =
     either IsShortFacing (sees kind.Input ts) _ _ (facing_of_short dir.Input ts) (either IsShortFacing (sees kind.Output ts) _ _ (facing_of_short dir.Output ts) h)
 
-ports_from : (n : ℕ) (before : Facing) (d : Draft) → IsShortFacing before → IsSaid 0 [] d → (ts : List Token) → Yields (IsSaid 0 []) (new_ports_from n before d ts)
-unfolding new_ports_from
+ports_from : (n : ℕ) (before : PortDeclaration) (d : Draft) → IsShortFacing before → IsSaid 0 [] d → (ts : List Token) → Yields (IsSaid 0 []) (declared_ports_from n before d ts)
+unfolding declared_ports_from
 ports_from zero before d short h ts = tt
 ports_from (suc n) before d short h ts =
-    behind IsShortFacing (IsSaid 0 []) (facing before ts) _ (facing_short before short ts) (λ here fits us.
-    behind (IsSaid 0 []) (IsSaid 0 []) (new_port here.dir here.range d us) _ (port_new here.dir here.range d fits h us) (λ more m vs.
-    passed (IsSaid 0 []) (eat kind.Comma vs) _ (λ comma ws. turns (IsSaid 0 []) comma more (new_ports_from n here more) m (λ xs. ports_from n here more fits m xs) ws)))
+    behind IsShortFacing (IsSaid 0 []) (port_declaration before ts) _ (facing_short before short ts) (λ here fits us.
+    behind (IsSaid 0 []) (IsSaid 0 []) (declared_port here.dir here.range d us) _ (port_new here.dir here.range d fits h us) (λ more m vs.
+    passed (IsSaid 0 []) (eat kind.Comma vs) _ (λ comma ws. turns (IsSaid 0 []) comma more (declared_ports_from n here more) m (λ xs. ports_from n here more fits m xs) ws)))
 
-ports_all : (d : Draft) → IsSaid 0 [] d → (ts : List Token) → Yields (IsSaid 0 []) (new_ports d ts)
-unfolding new_ports
+ports_all : (d : Draft) → IsSaid 0 [] d → (ts : List Token) → Yields (IsSaid 0 []) (declared_ports d ts)
+unfolding declared_ports
 ports_all d h ts = ports_from (left ts) (record { dir = dir.Input; range = None }) d tt h ts
 
 header_names_said : (d : Draft) → IsSaid 0 [] d → (ts : List Token) → Yields (IsSaid 0 []) (header_names d ts)
@@ -161,7 +162,7 @@ header_said d h ts =
     either (IsSaid 0 []) (sees kind.OpenParen ts) _ _
     (behind (IsSaid 0 []) (IsSaid 0 []) (header_names d (next ts)) _ (header_names_said d h (next ts)) (λ more m us. passed (IsSaid 0 []) (expect kind.CloseParen us) _ (λ w vs. m))) h
 
-begun_said : (name : Text) (library : List Cell) → IsSaid 0 [] (begun name library)
+begun_said : (name : Text) (library : List Cell) → IsSaid 0 [] (empty_draft name library)
 begun_said name library = record {
   names = λ word. omega arith;
   taken = λ word. omega arith;
@@ -178,7 +179,7 @@ unfolding heading
 heading_said library ts =
     passed (IsSaid 0 []) (expect kind.Module ts) _ (λ w us.
     passed (IsSaid 0 []) (expect kind.Name us) _ (λ word vs.
-    behind (IsSaid 0 []) (IsSaid 0 []) (header (begun word library) vs) _ (header_said (begun word library) (begun_said word library) vs) (λ d h ws.
+    behind (IsSaid 0 []) (IsSaid 0 []) (header (empty_draft word library) vs) _ (header_said (empty_draft word library) (begun_said word library) vs) (λ d h ws.
     passed (IsSaid 0 []) (expect kind.Semicolon ws) _ (λ x xs. h))))
 
 -- ---- declarations
@@ -227,15 +228,15 @@ fitting_said : (room : ℕ) (more : List Text) (place : ℕ) (d : Draft) (bits :
 fitting_said room more place d None h = tt
 fitting_said room more place d (Some bits) h = h
 
-implied_said : (room : ℕ) (more : List Text) (named : Named) (old : Draft) (new : Checked Fault Draft) → Gives (IsSaid room more) new → Gives (SaidFirst room more) (implied_net named old new)
+implied_said : (room : ℕ) (more : List Text) (named : SelectedName) (old : Draft) (new : Checked Fault Draft) → Gives (IsSaid room more) new → Gives (SaidFirst room more) (implied_net named old new)
 implied_said room more named old (Err f) h = tt
 implied_said room more named old (Ok new) h = h
 
-bits_of_port_said : (room : ℕ) (more : List Text) (named : Named) (d : Draft) (declared : Option Declared) → IsSaid room more d → Gives (SaidFirst room more) (bits_of_port named d declared)
+bits_of_port_said : (room : ℕ) (more : List Text) (named : SelectedName) (d : Draft) (declared : Option Declared) → IsSaid room more d → Gives (SaidFirst room more) (bits_of_port named d declared)
 bits_of_port_said room more named d None h = tt
 bits_of_port_said room more named d (Some declared) h = fitting_said room more named.place d (selected declared.shape named.what) h
 
-meaning_said : (room : ℕ) (more : List Text) (implied : Bool) (named : Named) (d : Draft) (m : Option Meaning) → IsSaid room more d → Gives (SaidFirst room more) (bits_of_meaning implied named d m)
+meaning_said : (room : ℕ) (more : List Text) (implied : Bool) (named : SelectedName) (d : Draft) (m : Option Meaning) → IsSaid room more d → Gives (SaidFirst room more) (bits_of_meaning implied named d m)
 meaning_said room more implied named d (Some (meaning.Nets shape)) h = fitting_said room more named.place d (selected shape named.what) h
 meaning_said room more implied named d (Some (meaning.Port port)) h = bits_of_port_said room more named d (declared_at d port) h
 meaning_said room more implied named d (Some meaning.Bit) h = tt
@@ -250,7 +251,7 @@ named_said room more at depth d h ts =
     passed (SaidFirst room more) (expect kind.Name ts) _ (λ word us.
     passed (SaidFirst room more) (selection us) _ (λ what vs.
     passed (SaidFirst room more) (followed at depth vs) _ (λ w ws.
-    let named : Named = record { word = word; what = what; place = left ts } in
+    let named : SelectedName = record { word = word; what = what; place = left ts } in
     of_check (SaidFirst room more) (bits_of_name at depth named d) ws (meaning_said room more (implies at depth && is_whole what) named d (meaning_of d word) h))))
 
 constant_said : (room : ℕ) (more : List Text) (at : Site) (depth : ℕ) (d : Draft) → IsSaid room more d → (ts : List Token) → Yields (SaidFirst room more) (constant_operand at depth d ts)
@@ -263,31 +264,31 @@ operand_said : (room : ℕ) (more : List Text) (at : Site) (depth : ℕ) (d : Dr
 unfolding operand
 operand_said room more at depth d h ts = either (SaidFirst room more) (sees kind.Number ts) _ _ (constant_said room more at depth d h ts) (named_said room more at depth d h ts)
 
-opening_said : (room : ℕ) (more : List Text) (at : Site) (d : Draft) (nest : Nest) → IsSaid room more d → (ts : List Token) → Yields (SaidFirst room more) (opening at d nest ts)
+opening_said : (room : ℕ) (more : List Text) (at : Site) (d : Draft) (so_far : OpenConcatenations) → IsSaid room more d → (ts : List Token) → Yields (SaidFirst room more) (opening at d so_far ts)
 unfolding opening
-opening_said room more at d nest h ts =
+opening_said room more at d so_far h ts =
     either (SaidFirst room more) (sees kind.OpenBrace ts) _ _ h
-    (behind (SaidFirst room more) (SaidFirst room more) (operand at nest.depth d ts) _ (operand_said room more at nest.depth d h ts) (λ o m us. m))
+    (behind (SaidFirst room more) (SaidFirst room more) (operand at so_far.depth d ts) _ (operand_said room more at so_far.depth d h ts) (λ o m us. m))
 
-closing_said : (room : ℕ) (more : List Text) (d : Draft) (nest : Nest) → IsSaid room more d → (ts : List Token) → Yields (SaidFirst room more) (closing d nest ts)
+closing_said : (room : ℕ) (more : List Text) (d : Draft) (so_far : OpenConcatenations) → IsSaid room more d → (ts : List Token) → Yields (SaidFirst room more) (closing d so_far ts)
 unfolding closing
-closing_said room more d nest h ts = either (SaidFirst room more) (sees kind.Comma ts) _ _ h (passed (SaidFirst room more) (expect kind.CloseBrace ts) _ (λ w us. h))
+closing_said room more d so_far h ts = either (SaidFirst room more) (sees kind.Comma ts) _ _ h (passed (SaidFirst room more) (expect kind.CloseBrace ts) _ (λ w us. h))
 
-turn_by : (room : ℕ) (more : List Text) (awaits : Bool) (at : Site) (d : Draft) (nest : Nest) → IsSaid room more d → (ts : List Token) → Yields (SaidFirst room more) ((cond awaits (opening at d nest) (closing d nest)) ts)
-turn_by room more true at d nest h ts = opening_said room more at d nest h ts
-turn_by room more false at d nest h ts = closing_said room more d nest h ts
+turn_by : (room : ℕ) (more : List Text) (awaits : Bool) (at : Site) (d : Draft) (so_far : OpenConcatenations) → IsSaid room more d → (ts : List Token) → Yields (SaidFirst room more) ((cond awaits (opening at d so_far) (closing d so_far)) ts)
+turn_by room more true at d so_far h ts = opening_said room more at d so_far h ts
+turn_by room more false at d so_far h ts = closing_said room more d so_far h ts
 
-nest_said : (room : ℕ) (more : List Text) (n : ℕ) (at : Site) (d : Draft) (nest : Nest) → IsSaid room more d → (ts : List Token) → Yields (SaidFirst room more) (nest_from n at d nest ts)
-unfolding nest_from
-nest_said room more zero at d nest h ts = tt
-nest_said room more (suc n) at d nest h ts =
-    either (SaidFirst room more) (is_read nest) _ _ h
-    (behind (SaidFirst room more) (SaidFirst room more) (turn at d nest ts) _ (turn_by room more nest.awaits at d nest h ts) (λ p m us. nest_said room more n at p.0 p.1 m us))
+concatenations_said : (room : ℕ) (more : List Text) (n : ℕ) (at : Site) (d : Draft) (so_far : OpenConcatenations) → IsSaid room more d → (ts : List Token) → Yields (SaidFirst room more) (concatenations_from n at d so_far ts)
+unfolding concatenations_from
+concatenations_said room more zero at d so_far h ts = tt
+concatenations_said room more (suc n) at d so_far h ts =
+    either (SaidFirst room more) (is_read so_far) _ _ h
+    (behind (SaidFirst room more) (SaidFirst room more) (turn at d so_far ts) _ (turn_by room more so_far.awaits at d so_far h ts) (λ p m us. concatenations_said room more n at p.0 p.1 m us))
 
 expression_said : (room : ℕ) (more : List Text) (at : Site) (d : Draft) → IsSaid room more d → (ts : List Token) → Yields (SaidFirst room more) (expression at d ts)
 unfolding expression
 expression_said room more at d h ts =
-    behind (SaidFirst room more) (SaidFirst room more) (nest_from (suc (left ts)) at d unread ts) _ (nest_said room more (suc (left ts)) at d unread h ts) (λ p m us.
+    behind (SaidFirst room more) (SaidFirst room more) (concatenations_from (suc (left ts)) at d unread ts) _ (concatenations_said room more (suc (left ts)) at d unread h ts) (λ p m us.
     passed (SaidFirst room more) (followed at 0 us) _ (λ w vs. m))
 
 -- ---- assignments
@@ -312,27 +313,27 @@ right_said targets d h ts =
     behind (SaidFirst 0 []) (IsSaid 0 []) (expression site.Source d ts) _ (expression_said 0 [] site.Source d h ts) (λ o m us.
     of_need (IsSaid 0 []) _ (left ts) (length targets == length o.1) _ us (joins_said targets o.1 o.0 m))
 
-assignment_said : (d : Draft) → IsSaid 0 [] d → (ts : List Token) → Yields (IsSaid 0 []) (assignment d ts)
-unfolding assignment
+assignment_said : (d : Draft) → IsSaid 0 [] d → (ts : List Token) → Yields (IsSaid 0 []) (net_assignment d ts)
+unfolding net_assignment
 assignment_said d h ts =
     behind (SaidFirst 0 []) (IsSaid 0 []) (expression site.Target d ts) _ (expression_said 0 [] site.Target d h ts) (λ o m us.
     passed (IsSaid 0 []) (expect kind.Equals us) _ (λ w vs. right_said o.1 o.0 m vs))
 
-assignments_of : (n : ℕ) (d : Draft) → IsSaid 0 [] d → (ts : List Token) → Yields (IsSaid 0 []) (assignments_from n d ts)
-unfolding assignments_from
+assignments_of : (n : ℕ) (d : Draft) → IsSaid 0 [] d → (ts : List Token) → Yields (IsSaid 0 []) (net_assignments_from n d ts)
+unfolding net_assignments_from
 assignments_of zero d h ts = tt
 assignments_of (suc n) d h ts =
-    behind (IsSaid 0 []) (IsSaid 0 []) (assignment d ts) _ (assignment_said d h ts) (λ more m us.
-    passed (IsSaid 0 []) (eat kind.Comma us) _ (λ comma vs. turns (IsSaid 0 []) comma more (assignments_from n more) m (λ ws. assignments_of n more m ws) vs))
+    behind (IsSaid 0 []) (IsSaid 0 []) (net_assignment d ts) _ (assignment_said d h ts) (λ more m us.
+    passed (IsSaid 0 []) (eat kind.Comma us) _ (λ comma vs. turns (IsSaid 0 []) comma more (net_assignments_from n more) m (λ ws. assignments_of n more m ws) vs))
 
-assignments_all : (d : Draft) → IsSaid 0 [] d → (ts : List Token) → Yields (IsSaid 0 []) (assignments d ts)
-unfolding assignments
+assignments_all : (d : Draft) → IsSaid 0 [] d → (ts : List Token) → Yields (IsSaid 0 []) (net_assignments d ts)
+unfolding net_assignments
 assignments_all d h ts = assignments_of (left ts) d h ts
 
 assign_item_said : (d : Draft) → IsSaid 0 [] d → (ts : List Token) → Yields (IsSaid 0 []) (assign_item d ts)
 unfolding assign_item
 assign_item_said d h ts =
-    behind (IsSaid 0 []) (IsSaid 0 []) (assignments d (next ts)) _ (assignments_all d h (next ts)) (λ more m us.
+    behind (IsSaid 0 []) (IsSaid 0 []) (net_assignments d (next ts)) _ (assignments_all d h (next ts)) (λ more m us.
     passed (IsSaid 0 []) (expect kind.Semicolon us) _ (λ w vs. m))
 
 -- ---- gates
@@ -347,24 +348,24 @@ unfolding terminal
 terminal_said room more drives d h ts =
     behind (SaidFirst room more) (SaidFirst room more) (expression (site.Terminal drives) d ts) _ (expression_said room more (site.Terminal drives) d h ts) (λ o m us. one_said room more (left ts) o.0 o.1 m us)
 
-inputs_of : (room : ℕ) (more : List Text) (n : ℕ) (d : Draft) (ins : List Signal) → IsSaid room more d → (ts : List Token) → Yields (SaidFirst room more) (inputs_from n d ins ts)
-unfolding inputs_from
+inputs_of : (room : ℕ) (more : List Text) (n : ℕ) (d : Draft) (ins : List Signal) → IsSaid room more d → (ts : List Token) → Yields (SaidFirst room more) (input_terminals_from n d ins ts)
+unfolding input_terminals_from
 inputs_of room more zero d ins h ts = tt
 inputs_of room more (suc n) d ins h ts =
     passed (SaidFirst room more) (eat kind.Comma ts) _ (λ comma us.
     turns (SaidFirst room more) comma (d, ins) _ h (λ vs. behind (SaidFirst room more) (SaidFirst room more) (terminal false d vs) _ (terminal_said room more false d h vs) (λ o m ws. inputs_of room more n o.0 (ins ++ o.1 ∷ []) m ws)) us)
 
-inputs_all : (room : ℕ) (more : List Text) (d : Draft) → IsSaid room more d → (ts : List Token) → Yields (SaidFirst room more) (inputs d ts)
-unfolding inputs
+inputs_all : (room : ℕ) (more : List Text) (d : Draft) → IsSaid room more d → (ts : List Token) → Yields (SaidFirst room more) (input_terminals d ts)
+unfolding input_terminals
 inputs_all room more d h ts = inputs_of room more (left ts) d [] h ts
 
 terminals_said : (k : Kind) (word : Option Text) (place : ℕ) (d : Draft) → IsSaid 1 (own_names word) d → (ts : List Token) → Yields (IsSaid 0 []) (terminals k word place d ts)
 unfolding terminals
 terminals_said k word place d h ts =
     behind (SaidFirst 1 (own_names word)) (IsSaid 0 []) (terminal true d ts) _ (terminal_said 1 (own_names word) true d h ts) (λ output m us.
-    behind (SaidFirst 1 (own_names word)) (IsSaid 0 []) (inputs output.0 us) _ (inputs_all 1 (own_names word) output.0 m us) (λ ins n vs.
+    behind (SaidFirst 1 (own_names word)) (IsSaid 0 []) (input_terminals output.0 us) _ (inputs_all 1 (own_names word) output.0 m us) (λ ins n vs.
     passed (IsSaid 0 []) (expect kind.CloseParen vs) _ (λ w ws.
-    of_need (IsSaid 0 []) _ place (has_inputs k (length ins.1)) _ ws (instance_said (gate_instance k word output.1 ins.1) ins.0 n))))
+    of_need (IsSaid 0 []) _ place (takes_inputs k (length ins.1)) _ ws (instance_said (gate_instance k word output.1 ins.1) ins.0 n))))
 
 named_gate_said : (k : Kind) (d : Draft) → IsSaid 0 [] d → (ts : List Token) → Yields (IsSaid 0 []) (named_gate k d ts)
 unfolding named_gate
@@ -411,24 +412,24 @@ pin_content_said : (word : Text) (cell : Cell) (place : ℕ) (d : Draft) (pin : 
 unfolding pin_content
 pin_content_said word cell place d pin h ts = either (SaidFirst 1 (word ∷ [])) (sees kind.CloseParen ts) _ _ h (pin_signal_said word cell place d pin h ts)
 
-connection_said : (word : Text) (cell : Cell) (c : Connected) → IsSaid 1 (word ∷ []) c.0 → (ts : List Token) → Yields (SaidFirst 1 (word ∷ [])) (connection cell c ts)
-unfolding connection
+connection_said : (word : Text) (cell : Cell) (c : Connected) → IsSaid 1 (word ∷ []) c.0 → (ts : List Token) → Yields (SaidFirst 1 (word ∷ [])) (named_connection cell c ts)
+unfolding named_connection
 connection_said word cell c h ts =
     passed (SaidFirst 1 (word ∷ [])) (expect kind.Point ts) _ (λ w us.
-    passed (SaidFirst 1 (word ∷ [])) (pin_name cell c.1 us) _ (λ pin vs.
+    passed (SaidFirst 1 (word ∷ [])) (connected_pin cell c.1 us) _ (λ pin vs.
     passed (SaidFirst 1 (word ∷ [])) (expect kind.OpenParen vs) _ (λ w ws.
     behind (SaidFirst 1 (word ∷ [])) (SaidFirst 1 (word ∷ [])) (pin_content cell (left ts) c.0 pin ws) _ (pin_content_said word cell (left ts) c.0 pin h ws) (λ to m xs.
     passed (SaidFirst 1 (word ∷ [])) (expect kind.CloseParen xs) _ (λ w ys. m)))))
 
-connections_of : (word : Text) (n : ℕ) (cell : Cell) (c : Connected) → IsSaid 1 (word ∷ []) c.0 → (ts : List Token) → Yields (SaidFirst 1 (word ∷ [])) (connections_from n cell c ts)
-unfolding connections_from
+connections_of : (word : Text) (n : ℕ) (cell : Cell) (c : Connected) → IsSaid 1 (word ∷ []) c.0 → (ts : List Token) → Yields (SaidFirst 1 (word ∷ [])) (named_connections_from n cell c ts)
+unfolding named_connections_from
 connections_of word zero cell c h ts = tt
 connections_of word (suc n) cell c h ts =
-    behind (SaidFirst 1 (word ∷ [])) (SaidFirst 1 (word ∷ [])) (connection cell c ts) _ (connection_said word cell c h ts) (λ more m us.
-    passed (SaidFirst 1 (word ∷ [])) (eat kind.Comma us) _ (λ comma vs. turns (SaidFirst 1 (word ∷ [])) comma more (connections_from n cell more) m (λ ws. connections_of word n cell more m ws) vs))
+    behind (SaidFirst 1 (word ∷ [])) (SaidFirst 1 (word ∷ [])) (named_connection cell c ts) _ (connection_said word cell c h ts) (λ more m us.
+    passed (SaidFirst 1 (word ∷ [])) (eat kind.Comma us) _ (λ comma vs. turns (SaidFirst 1 (word ∷ [])) comma more (named_connections_from n cell more) m (λ ws. connections_of word n cell more m ws) vs))
 
-some_said : (word : Text) (cell : Cell) (c : Connected) → IsSaid 1 (word ∷ []) c.0 → (ts : List Token) → Yields (SaidFirst 1 (word ∷ [])) (some_connections cell c ts)
-unfolding some_connections
+some_said : (word : Text) (cell : Cell) (c : Connected) → IsSaid 1 (word ∷ []) c.0 → (ts : List Token) → Yields (SaidFirst 1 (word ∷ [])) (named_connections cell c ts)
+unfolding named_connections
 some_said word cell c h ts = connections_of word (left ts) cell c h ts
 
 connections_said : (word : Text) (cell : Cell) (c : Connected) → IsSaid 1 (word ∷ []) c.0 → (ts : List Token) → Yields (SaidFirst 1 (word ∷ [])) (connections cell c ts)

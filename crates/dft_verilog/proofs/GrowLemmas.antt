@@ -22,8 +22,7 @@ use Rattle.dft_netlist.specs.Sound.{HasOnlyPorts, bits_of}
 use Rattle.dft_netlist_text.specs.Modules.{HeaderPort, Draft, net_count}
 use Rattle.dft_netlist_text.specs.NetlistText.{Grown, add_port, nets_of_port, nets_of_ports, net_order, unless_refused, and_grown, add_declared, add_ports, add_net, add_nets, add_instance, add_instances, add_joins, final_join, final_signal}
 use Rattle.dft_verilog.specs.FinalNets.{name_unless, without_number, all_numbered}
-use Rattle.dft_verilog_draft.proofs.DeclareLemmas.{length-bit_names}
-use Rattle.dft_verilog.proofs.NumberingLemmas.{length-count_from}
+use Rattle.dft_verilog_draft.proofs.DeclareLemmas.{length-bit_names, length-going_up}
 use Rattle.dft_verilog.specs.Built.{IsGrown, IsRefusal, HasNetsOf}
 
 -- ---- one step behind another
@@ -105,7 +104,7 @@ pub add_declared-Ok : (n m : Netlist) (word : Text) (declared : Option Declared)
 add_declared-Ok n m word None e = let same : m ≡ n = cc in record { library = ap (λ (x : Netlist). x.library) same; nets = ap (λ (x : Netlist). length x.nets) same ∙ sym (add-zero (length n.nets)) }
 add_declared-Ok n m word (Some d) e =
     let grown = add_port-Ok n m word d.dir d.shape.range e in
-    let count : length (bit_names word d.shape.range) ≡ length (nets_of_port (Some d)) = length-bit_names word d.shape.range ∙ sym (length-count_from d.shape.first.0 (net_count d.shape.range)) in
+    let count : length (bit_names word d.shape.range) ≡ length (nets_of_port (Some d)) = length-bit_names word d.shape.range ∙ sym (length-going_up d.shape.first.0 (net_count d.shape.range)) in
     record {
       library = ap (λ (x : Netlist). x.library) grown;
       nets = ap (λ (x : Netlist). length x.nets) grown ∙ length-append n.nets (bit_names word d.shape.range) ∙ ap (λ k. length n.nets + k) count;

@@ -1,4 +1,4 @@
-pub mod NestLemmas
+pub mod OneOperandLemmas
 pub mod LoneNameLemmas
 pub mod ConnectionLemmas
 pub mod FaultLemmas

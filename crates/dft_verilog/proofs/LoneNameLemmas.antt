@@ -13,10 +13,10 @@ use Rattle.dft_netlist_text.specs.Modules.{Draft}
 use Rattle.dft_netlist_text.specs.Steps.{Outcome, Rule, kind_of, left, sees, same_kind, expect, checked, refusal}
 use Rattle.dft_netlist_text.specs.Expressions.{Operand, bits_of_name, may_follow, followed, selection, constant_operand, named_operand, operand, expression}
 use Rattle.dft_netlist_text.specs.Items.{One, one_bit}
-use Rattle.dft_verilog_draft.specs.Selecting.{lone, lone_of}
+use Rattle.dft_verilog_draft.specs.Selects.{lone, lone_of}
 use Rattle.dft_verilog_draft.specs.Operands.{operand_behind}
 use Rattle.dft_verilog.specs.LoneNames.{lone_name}
-use Rattle.dft_verilog.proofs.NestLemmas.{lone as lone_operand, behind_none}
+use Rattle.dft_verilog.proofs.OneOperandLemmas.{lone as lone_operand, behind_none}
 
 -- rules one behind the other are read in either grouping
 under : {A B C : Type 0} (r : Outcome A) (f : A → Rule B) (g : B → Rule C) (h : A → Rule C) → ((a : A) (us : List Token) → and_then (f a us) g ≡ h a us) → and_then (and_then r f) g ≡ and_then r h

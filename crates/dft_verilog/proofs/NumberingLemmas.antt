@@ -5,11 +5,13 @@ use Rattle.std.proofs.lemmas.List.Elements.{All-head, All-tail}
 use Rattle.std.proofs.lemmas.Bool.{lt-ltb, eqb-true, eq-eqb, ne_eqb}
 use Rattle.std.proofs.lemmas.Bool.Decides.{nat_tests}
 use Rattle.std.proofs.lemmas.List.{length_push, length-set, append_assoc}
+use Rattle.dft_base.specs.Ranges.{going_up}
 use Rattle.dft_netlist.specs.declared.ids.NetId.{NetId}
 use Rattle.dft_netlist_text.specs.declared.text.Declared.{Declared}
-use Rattle.dft_netlist_text.specs.Modules.{HeaderPort, count_from, net_count}
+use Rattle.dft_netlist_text.specs.Modules.{HeaderPort, net_count}
 use Rattle.dft_netlist_text.specs.NetlistText.{nets_of_port, nets_of_ports}
 use Rattle.dft_verilog_draft.specs.Drafts.{IsDeclaredWithin}
+use Rattle.dft_verilog_draft.proofs.DeclareLemmas.{length-going_up}
 use Rattle.dft_verilog.specs.FinalNets.{number_among, numbers_among, with_number, with_numbers}
 
 -- ---- the first place
@@ -104,13 +106,13 @@ new_by count None h = refl
 -- ---- lists of numbers
 
 -- values at numbers one after the other
-same-map : {A : Type 0} (f g : ℕ → A) (from count : ℕ) → ((y : ℕ) → from ≤ y → g y ≡ f y) → map f (count_from from count) ≡ map g (count_from from count)
+same-map : {A : Type 0} (f g : ℕ → A) (from count : ℕ) → ((y : ℕ) → from ≤ y → g y ≡ f y) → map f (going_up from count) ≡ map g (going_up from count)
 same-map f g from zero same = refl
 same-map f g from (suc count) same =
     ap₂ (λ x xs. x ∷ xs) (sym (same from (omega arith))) (same-map f g (suc from) count (λ y le. same y (omega arith)))
 
 -- one of them changed
-set-map : {A : Type 0} (f g : ℕ → A) (v : A) (from count k : ℕ) → k < count → g (from + k) ≡ v → ((y : ℕ) → y ≢ from + k → g y ≡ f y) → set (map f (count_from from count)) k v ≡ map g (count_from from count)
+set-map : {A : Type 0} (f g : ℕ → A) (v : A) (from count k : ℕ) → k < count → g (from + k) ≡ v → ((y : ℕ) → y ≢ from + k → g y ≡ f y) → set (map f (going_up from count)) k v ≡ map g (going_up from count)
 set-map f g v from zero k lt at other = absurd (omega arith)
 set-map f g v from (suc count) zero lt at other =
     let here : g from ≡ v = ap g (sym (add-zero from)) ∙ at in
@@ -120,7 +122,7 @@ set-map f g v from (suc count) (suc k) lt at other =
     ap₂ (λ x xs. x ∷ xs) (sym (other from (omega arith)))
     (set-map f g v (suc from) count k (omega arith) (ap g move ∙ at) (λ y ne. other y (λ e. ne (e ∙ sym move))))
 
-get_or-count : {A : Type 0} (f : ℕ → A) (from count k : ℕ) (d : A) → k < count → get_or (map f (count_from from count)) k d ≡ f (from + k)
+get_or-count : {A : Type 0} (f : ℕ → A) (from count k : ℕ) (d : A) → k < count → get_or (map f (going_up from count)) k d ≡ f (from + k)
 get_or-count f from zero k d lt = absurd (omega arith)
 get_or-count f from (suc count) zero d lt = ap f (sym (add-zero from))
 get_or-count f from (suc count) (suc k) d lt =
@@ -174,7 +176,7 @@ with_numbers-behind done (net ∷ nets) count below =
     ∙ with_numbers-behind (done ++ net ∷ []) nets count below.1
     ∙ ap (λ xs. numbers_among xs count) (append_assoc done (net ∷ []) nets)
 
-none_among : (from count : ℕ) → replicate count None ≡ map (number_among []) (count_from from count)
+none_among : (from count : ℕ) → replicate count None ≡ map (number_among []) (going_up from count)
 none_among from zero = refl
 none_among from (suc count) = ap (λ xs. None ∷ xs) (none_among (suc from) count)
 
@@ -186,13 +188,13 @@ with_numbers-all nets count below = ap (with_numbers nets 0) (none_among 0 count
 
 -- one bit more has its number
 pub bits_more : (first count bit next : ℕ) (numbers : List (Option NetId)) → bit < count
-    → with_numbers (count_from (first + bit) (count - bit)) (next + bit) numbers ≡ with_numbers (count_from (first + (bit + 1)) (count - (bit + 1))) (next + (bit + 1)) (with_number (first + bit) (next + bit) numbers)
+    → with_numbers (going_up (first + bit) (count - bit)) (next + bit) numbers ≡ with_numbers (going_up (first + (bit + 1)) (count - (bit + 1))) (next + (bit + 1)) (with_number (first + bit) (next + bit) numbers)
 bits_more first count bit next numbers lt =
     let more : count - bit ≡ suc (count - (bit + 1)) = omega arith in
     let net : suc (first + bit) ≡ first + (bit + 1) = omega arith in
     let number : suc (next + bit) ≡ next + (bit + 1) = omega arith in
-    ap (λ n. with_numbers (count_from (first + bit) n) (next + bit) numbers) more
-    ∙ ap₂ (λ a n. with_numbers (count_from a (count - (bit + 1))) n (with_number (first + bit) (next + bit) numbers)) net number
+    ap (λ n. with_numbers (going_up (first + bit) n) (next + bit) numbers) more
+    ∙ ap₂ (λ a n. with_numbers (going_up a (count - (bit + 1))) n (with_number (first + bit) (next + bit) numbers)) net number
 
 pub with_numbers-append : (xs ys : List ℕ) (next : ℕ) (numbers : List (Option NetId)) → with_numbers (xs ++ ys) next numbers ≡ with_numbers ys (next + length xs) (with_numbers xs next numbers)
 with_numbers-append [] ys next numbers = ap (λ n. with_numbers ys n numbers) (sym (add-zero next))
@@ -226,7 +228,7 @@ NumbersPorts-more count all index port ahead next after numbers new grown moved 
   few = omega (arith, few, h.few);
 }
 
-pub AreBelow-count : (count from n : ℕ) → from + n ≤ count → AreBelow count (count_from from n)
+pub AreBelow-count : (count from n : ℕ) → from + n ≤ count → AreBelow count (going_up from n)
 AreBelow-count count from zero le = tt
 AreBelow-count count from (suc n) le = (omega arith, AreBelow-count count (suc from) n (omega arith))
 
@@ -246,9 +248,5 @@ AreBelow-ports count (port ∷ ports) h =
     (AreBelow-port count port.declared (All-head (λ (p : HeaderPort). IsDeclaredWithin count p.declared) port ports h))
     (AreBelow-ports count ports (All-tail (λ (p : HeaderPort). IsDeclaredWithin count p.declared) port ports h))
 
-pub length-count_from : (from n : ℕ) → length (count_from from n) ≡ n
-length-count_from from zero = refl
-length-count_from from (suc n) = ap suc (length-count_from (suc from) n)
-
 pub length-of_port : (declared : Option Declared) (d : Declared) (n : ℕ) → declared ≡ Some d → n ≡ net_count d.shape.range → n ≡ length (nets_of_port declared)
-length-of_port declared d n is e = e ∙ sym (length-count_from d.shape.first.0 (net_count d.shape.range)) ∙ ap (λ o. length (nets_of_port o)) (sym is)
+length-of_port declared d n is e = e ∙ sym (length-going_up d.shape.first.0 (net_count d.shape.range)) ∙ ap (λ o. length (nets_of_port o)) (sym is)

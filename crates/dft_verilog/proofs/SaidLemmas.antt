@@ -21,13 +21,13 @@ use Rattle.dft_netlist.specs.declared.limits.TheConstants.{MAX_PORTS, MAX_NETS, 
 use Rattle.dft_netlist.specs.Names.{bit_names, port_names}
 use Rattle.dft_netlist.specs.Building.{own_names}
 use Rattle.dft_netlist_text.specs.Steps.{fault}
-use Rattle.dft_netlist_text.specs.Modules.{Draft, HeaderPort, Entry, meaning_of, is_taken, with_name, net_count, count_from, names_of_bits, first_taken, free_bits, with_bits, next_shape, with_nets, declare_nets, declared_at, port_place, announce, with_declared, declare_found, declare_port, declare_new_port, same_range, repeat_port, declare_wire_as, declare_wire, room_for_instance, name_instance, with_instance}
+use Rattle.dft_netlist_text.specs.Modules.{Draft, HeaderPort, TakenName, meaning_of, is_taken, with_name, net_count, names_of_bits, first_taken, free_bits, with_bits, next_shape, with_nets, declare_nets, declared_at, port_place, announce, with_declared, declare_found, declare_port, declare_new_port, same_range, repeat_port, declare_wire_as, declare_wire, room_for_instance, name_instance, with_instance}
 use Rattle.dft_netlist_text.specs.NetlistText.{nets_of_port, nets_of_ports, other_nets, names_of_others}
-use Rattle.dft_verilog_draft.specs.Free.{AreApart, bit_entry}
+use Rattle.dft_verilog_draft.specs.Free.{AreApart, taken_bit}
 use Rattle.dft_verilog.specs.Buildable.{names_of_port, names_of_header, names_of_instances, printed_names, IsBuildable}
 use Rattle.dft_verilog_draft.proofs.ApartLemmas.{bit_names-apart}
-use Rattle.dft_verilog_draft.proofs.DeclareLemmas.{length-bit_names}
-use Rattle.dft_verilog.proofs.NumberingLemmas.{AreBelow, AreBelow-append, AreBelow-count, length-count_from}
+use Rattle.dft_verilog_draft.proofs.DeclareLemmas.{length-bit_names, length-going_up}
+use Rattle.dft_verilog.proofs.NumberingLemmas.{AreBelow, AreBelow-append, AreBelow-count}
 use Rattle.dft_verilog.proofs.CountLemmas.{count, count-append, AreOnce, apart_if_once, names_of, AreFreeIn, first_taken-none, free_once, eq_same}
 use Rattle.dft_verilog.proofs.OtherNetLemmas.{is_among, others_from, others_more, others_kept, name_at, names_kept, names_new}
 
@@ -56,7 +56,7 @@ HasPort ports word (meaning.Nets shape) = Unit {0}
 HasPort ports word meaning.Bit = Unit {0}
 HasPort ports word meaning.Instance = Unit {0}
 
-abbrev pub ArePlaced : List Text → List Entry → Type 0
+abbrev pub ArePlaced : List Text → List TakenName → Type 0
 ArePlaced ports [] = Unit {0}
 ArePlaced ports (e ∷ es) = HasPort ports e.name e.meaning × ArePlaced ports es
 
@@ -139,8 +139,8 @@ count_said : (word : Text) (d : Draft) → count word (said d) ≡ count word (s
 count_said word d = omega (arith, count-append word (said_of_header d.ports) (names_of_others d ++ names_of_instances d.instances), count-append word (names_of_others d) (names_of_instances d.instances))
 
 -- new nets are a port's
-port_steps : (room : ℕ) (more : List Text) (d : Draft) (names : List Entry) (bits words : List Text) (ports : List HeaderPort) → IsSaid room more d → names_of names ≡ names_of d.names ++ words
-    → PortGains d.ports ports (count_from (length d.nets) (length bits)) words → ArePlaced (port_list ports) names → length ports ≤ MAX_PORTS → length d.nets + length bits ≤ MAX_NETS
+port_steps : (room : ℕ) (more : List Text) (d : Draft) (names : List TakenName) (bits words : List Text) (ports : List HeaderPort) → IsSaid room more d → names_of names ≡ names_of d.names ++ words
+    → PortGains d.ports ports (going_up (length d.nets) (length bits)) words → ArePlaced (port_list ports) names → length ports ≤ MAX_PORTS → length d.nets + length bits ≤ MAX_NETS
     → Steps d (record d { names = names; ports = ports; nets = d.nets ++ bits }) words
 port_steps room more d names bits words ports h named g placed few fits =
     let e : Draft = record d { names = names; ports = ports; nets = d.nets ++ bits } in
@@ -150,7 +150,7 @@ port_steps room more d names bits words ports h named g placed few fits =
     record {
       names = named;
       said_more = λ word. omega (arith, count_said word d, count_said word e, ap (count word) same, g.header word);
-      numbered = omega (arith, all, g.len, length-count_from (length d.nets) (length bits), ap (λ (ns : List ℕ). length ns) kept, h.numbered);
+      numbered = omega (arith, all, g.len, length-going_up (length d.nets) (length bits), ap (λ (ns : List ℕ). length ns) kept, h.numbered);
       below = subst (λ n. AreBelow n (nets_of_ports ports)) (sym all)
           (g.below (length d.nets + length bits) (below_more (length d.nets) (length d.nets + length bits) (nets_of_ports d.ports) (omega arith) h.below) (AreBelow-count (length d.nets + length bits) (length d.nets) (length bits) (omega arith)));
       places = placed;
@@ -160,19 +160,19 @@ port_steps room more d names bits words ports h named g placed few fits =
     }
 
 -- new nets are no port's
-wire_steps : (room : ℕ) (more : List Text) (d : Draft) (names : List Entry) (bits words : List Text) → IsSaid room more d → names_of names ≡ names_of d.names ++ words
+wire_steps : (room : ℕ) (more : List Text) (d : Draft) (names : List TakenName) (bits words : List Text) → IsSaid room more d → names_of names ≡ names_of d.names ++ words
     → ((word : Text) → count word bits ≤ count word words) → ArePlaced (port_list d.ports) names → length d.nets + length bits ≤ MAX_NETS → Steps d (record d { names = names; nets = d.nets ++ bits }) words
 wire_steps room more d names bits words h named few placed fits =
     let e : Draft = record d { names = names; nets = d.nets ++ bits } in
     let all : length (d.nets ++ bits) ≡ length d.nets + length bits = length-append d.nets bits in
-    let new = count_from (length d.nets) (length bits) in
+    let new = going_up (length d.nets) (length bits) in
     let grown : other_nets e ≡ other_nets d ++ new = ap (others_from (nets_of_ports d.ports) 0) all ∙ others_more (nets_of_ports d.ports) (length d.nets) (length bits) h.below in
     let named_more : names_of_others e ≡ names_of_others d ++ bits =
     ap (map (name_at (d.nets ++ bits))) grown ∙ map-append (name_at (d.nets ++ bits)) (other_nets d) new ∙ ap₂ (λ xs ys. xs ++ ys) (names_kept (nets_of_ports d.ports) d.nets bits) (names_new d.nets bits) in
     record {
       names = named;
       said_more = λ word. omega (arith, count_said word d, count_said word e, ap (count word) named_more, count-append word (names_of_others d) bits, few word);
-      numbered = omega (arith, all, ap (λ (ns : List ℕ). length ns) grown, length-append (other_nets d) new, length-count_from (length d.nets) (length bits), h.numbered);
+      numbered = omega (arith, all, ap (λ (ns : List ℕ). length ns) grown, length-append (other_nets d) new, length-going_up (length d.nets) (length bits), h.numbered);
       below = subst (λ n. AreBelow n (nets_of_ports d.ports)) (sym all) (below_more (length d.nets) (length d.nets + length bits) (nets_of_ports d.ports) (omega arith) h.below);
       places = placed;
       few_ports = h.few_ports;
@@ -287,7 +287,7 @@ get_last : (xs : List Text) (x : Text) → slice_get (xs ++ x ∷ []) (length xs
 get_last [] x = refl
 get_last (y ∷ xs) x = get_last xs x
 
-placed_left : (ports more : List Text) (entries : List Entry) → ArePlaced ports entries → ArePlaced (ports ++ more) entries
+placed_left : (ports more : List Text) (entries : List TakenName) → ArePlaced ports entries → ArePlaced (ports ++ more) entries
 placed_left ports more [] h = tt
 placed_left ports more (e ∷ es) h = (one e.name e.meaning h.0, placed_left ports more es h.1) where
   one : (word : Text) (m : Meaning) → HasPort ports word m → HasPort (ports ++ more) word m
@@ -296,27 +296,27 @@ placed_left ports more (e ∷ es) h = (one e.name e.meaning h.0, placed_left por
   one word meaning.Bit h = tt
   one word meaning.Instance h = tt
 
-placed_append : (ports : List Text) (xs ys : List Entry) → ArePlaced ports xs → ArePlaced ports ys → ArePlaced ports (xs ++ ys)
+placed_append : (ports : List Text) (xs ys : List TakenName) → ArePlaced ports xs → ArePlaced ports ys → ArePlaced ports (xs ++ ys)
 placed_append ports [] ys hx hy = hy
 placed_append ports (x ∷ xs) ys hx hy = (hx.0, placed_append ports xs ys hx.1 hy)
 
-placed_bits : (ports words : List Text) → ArePlaced ports (map bit_entry words)
+placed_bits : (ports words : List Text) → ArePlaced ports (map taken_bit words)
 placed_bits ports [] = tt
 placed_bits ports (word ∷ words) = (tt, placed_bits ports words)
 
-place_by : (b : Bool) (ports : List Text) (e : Entry) (rest : Option Entry) (word : Text) (place : ℕ) → (b ≡ true → e.name ≡ word) → HasPort ports e.name e.meaning
-    → (option_map (λ (e : Entry). e.meaning) rest ≡ Some (meaning.Port place) → slice_get ports place ≡ Some word) → option_map (λ (e : Entry). e.meaning) (cond b (Some e) rest) ≡ Some (meaning.Port place) → slice_get ports place ≡ Some word
+place_by : (b : Bool) (ports : List Text) (e : TakenName) (rest : Option TakenName) (word : Text) (place : ℕ) → (b ≡ true → e.name ≡ word) → HasPort ports e.name e.meaning
+    → (option_map (λ (e : TakenName). e.meaning) rest ≡ Some (meaning.Port place) → slice_get ports place ≡ Some word) → option_map (λ (e : TakenName). e.meaning) (cond b (Some e) rest) ≡ Some (meaning.Port place) → slice_get ports place ≡ Some word
 place_by false ports e rest word place is here more h = more h
 place_by true ports e rest word place is here more h =
     let stands : e.meaning ≡ meaning.Port place = cc in
     subst (λ m. HasPort ports word m) stands (subst (λ w. HasPort ports w e.meaning) (is refl) here)
 
 -- the port that a name stands for has the name
-place_found : (ports : List Text) (entries : List Entry) (word : Text) (place : ℕ) → ArePlaced ports entries
-    → option_map (λ (e : Entry). e.meaning) (find (λ (e : Entry). bytes_eq e.name word) entries) ≡ Some (meaning.Port place) → slice_get ports place ≡ Some word
+place_found : (ports : List Text) (entries : List TakenName) (word : Text) (place : ℕ) → ArePlaced ports entries
+    → option_map (λ (e : TakenName). e.meaning) (find (λ (e : TakenName). bytes_eq e.name word) entries) ≡ Some (meaning.Port place) → slice_get ports place ≡ Some word
 place_found ports [] word place placed h = absurd (cc)
 place_found ports (e ∷ es) word place placed h =
-    place_by (bytes_eq e.name word) ports e (find (λ (e : Entry). bytes_eq e.name word) es) word place (eq_same e.name word) placed.0 (place_found ports es word place placed.1) h
+    place_by (bytes_eq e.name word) ports e (find (λ (e : TakenName). bytes_eq e.name word) es) word place (eq_same e.name word) placed.0 (place_found ports es word place placed.1) h
 
 -- ---- names of bits
 
@@ -337,22 +337,22 @@ bits_few : (word : Text) (range : Option Range) (at : Text) → count at (bit_na
 bits_few word None at = omega arith
 bits_few word (Some r) at = omega arith
 
-with_bits-is : (words : List Text) (d : Draft) → with_bits words d ≡ record d { names = d.names ++ map bit_entry words }
-with_bits-is [] d = ap (λ (names : List Entry). record d { names = names }) (sym (append-nil d.names))
+with_bits-is : (words : List Text) (d : Draft) → with_bits words d ≡ record d { names = d.names ++ map taken_bit words }
+with_bits-is [] d = ap (λ (names : List TakenName). record d { names = names }) (sym (append-nil d.names))
 with_bits-is (word ∷ words) d =
-    with_bits-is words (with_name word meaning.Bit d) ∙ ap (λ (names : List Entry). record d { names = names }) (append_assoc d.names (bit_entry word ∷ []) (map bit_entry words))
+    with_bits-is words (with_name word meaning.Bit d) ∙ ap (λ (names : List TakenName). record d { names = names }) (append_assoc d.names (taken_bit word ∷ []) (map taken_bit words))
 
-names_of_bit_entries : (words : List Text) → names_of (map bit_entry words) ≡ words
+names_of_bit_entries : (words : List Text) → names_of (map taken_bit words) ≡ words
 names_of_bit_entries [] = refl
 names_of_bit_entries (word ∷ words) = ap (λ ws. word ∷ ws) (names_of_bit_entries words)
 
-bits_behind : (entries : List Entry) (words : List Text) → names_of (entries ++ map bit_entry words) ≡ names_of entries ++ words
-bits_behind entries words = map-append (λ (e : Entry). e.name) entries (map bit_entry words) ∙ ap (λ ws. names_of entries ++ ws) (names_of_bit_entries words)
+bits_behind : (entries : List TakenName) (words : List Text) → names_of (entries ++ map taken_bit words) ≡ names_of entries ++ words
+bits_behind entries words = map-append (λ (e : TakenName). e.name) entries (map taken_bit words) ∙ ap (λ ws. names_of entries ++ ws) (names_of_bit_entries words)
 
-one_behind : (entries : List Entry) (e : Entry) → names_of (entries ++ e ∷ []) ≡ names_of entries ++ e.name ∷ []
-one_behind entries e = map-append (λ (e : Entry). e.name) entries (e ∷ [])
+one_behind : (entries : List TakenName) (e : TakenName) → names_of (entries ++ e ∷ []) ≡ names_of entries ++ e.name ∷ []
+one_behind entries e = map-append (λ (e : TakenName). e.name) entries (e ∷ [])
 
-word_behind : (entries : List Entry) (e : Entry) (words : List Text) → names_of ((entries ++ e ∷ []) ++ map bit_entry words) ≡ names_of entries ++ (e.name ∷ words)
+word_behind : (entries : List TakenName) (e : TakenName) (words : List Text) → names_of ((entries ++ e ∷ []) ++ map taken_bit words) ≡ names_of entries ++ (e.name ∷ words)
 word_behind entries e words =
     bits_behind (entries ++ e ∷ []) words ∙ ap (λ ws. ws ++ words) (one_behind entries e) ∙ append_assoc (names_of entries) (e.name ∷ []) words
 
@@ -371,7 +371,7 @@ room_by word range d h = let count = length-bit_names word range in let fits : l
   below_limit : (n : ℕ) → nat_lt MAX_NETS n ≡ false → n ≤ MAX_NETS
   below_limit n h = grind (arith, nat_tests)
 
-abbrev entry : Text → Meaning → Entry
+abbrev entry : Text → Meaning → TakenName
 entry word meant = record { name = word; meaning = meant }
 
 pub nets_said : (room : ℕ) (more : List Text) (place : ℕ) (word : Text) (range : Option Range) (d : Draft) → IsSaid room more d → IsShort range → Gives (IsSaid room more) (declare_nets place word range d)
@@ -379,14 +379,14 @@ nets_said room more place word range d h short =
     let bits = bit_names word range in
     let ws = names_of_bits word range in
     let own = entry word (meaning.Nets (next_shape d range)) in
-    let names = (d.names ++ own ∷ []) ++ map bit_entry ws in
+    let names = (d.names ++ own ∷ []) ++ map taken_bit ws in
     tested (IsSaid room more) (is_taken d word) false (nat_lt MAX_NETS (length d.nets + net_count range)) (first_taken d ws) (fault (cause.Taken word) place) (fault (cause.Taken word) place) (fault (cause.Full counted.Nets) place) place
     (with_nets word range (with_name word (meaning.Nets (next_shape d range)) d))
     (λ free none yes fits.
     subst (IsSaid room more) (sym (with_bits-is ws (record d { names = d.names ++ own ∷ []; nets = d.nets ++ bits })))
     (stepped room more d (record d { names = names; nets = d.nets ++ bits }) (word ∷ ws) h
     (wire_steps room more d names bits (word ∷ ws) h (word_behind d.names own ws) (bits_few word range)
-    (placed_append (port_list d.ports) (d.names ++ own ∷ []) (map bit_entry ws) (placed_append (port_list d.ports) d.names (own ∷ []) h.places (tt, tt)) (placed_bits (port_list d.ports) ws))
+    (placed_append (port_list d.ports) (d.names ++ own ∷ []) (map taken_bit ws) (placed_append (port_list d.ports) d.names (own ∷ []) h.places (tt, tt)) (placed_bits (port_list d.ports) ws))
     (room_by word range d fits))
     (free_once d (word ∷ ws) h.names (free, first_taken-none d ws none) (word_apart word range short))))
 
@@ -394,18 +394,18 @@ ports_by : (n : ℕ) → nat_le MAX_PORTS n ≡ false → n + 1 ≤ MAX_PORTS
 ports_by n h = grind (arith, nat_tests)
 
 -- a new port, declared or not
-push_said : (room : ℕ) (more : List Text) (d : Draft) (word : Text) (declared : Option Declared) (bits ws : List Text) → IsSaid room more d → said_of_port word declared ≡ word ∷ ws → nets_of_port declared ≡ count_from (length d.nets) (length bits)
+push_said : (room : ℕ) (more : List Text) (d : Draft) (word : Text) (declared : Option Declared) (bits ws : List Text) → IsSaid room more d → said_of_port word declared ≡ word ∷ ws → nets_of_port declared ≡ going_up (length d.nets) (length bits)
     → nat_le MAX_PORTS (length d.ports) ≡ false → length d.nets + length bits ≤ MAX_NETS → AreFreeIn d (word ∷ ws) → AreApart (word ∷ ws)
-    → IsSaid room more (record d { names = (d.names ++ entry word (meaning.Port (length d.ports)) ∷ []) ++ map bit_entry ws; ports = d.ports ++ port_named word declared ∷ []; nets = d.nets ++ bits })
+    → IsSaid room more (record d { names = (d.names ++ entry word (meaning.Port (length d.ports)) ∷ []) ++ map taken_bit ws; ports = d.ports ++ port_named word declared ∷ []; nets = d.nets ++ bits })
 push_said room more d word declared bits ws h own nets few fits free apart =
     let ports = d.ports ++ port_named word declared ∷ [] in
     let mine = entry word (meaning.Port (length d.ports)) in
-    let names = (d.names ++ mine ∷ []) ++ map bit_entry ws in
+    let names = (d.names ++ mine ∷ []) ++ map taken_bit ws in
     let listed : port_list ports ≡ port_list d.ports ++ word ∷ [] = map-append (λ (p : HeaderPort). p.name) d.ports (port_named word declared ∷ []) in
     let last : slice_get (port_list d.ports ++ word ∷ []) (length d.ports) ≡ Some word = subst (λ k. slice_get (port_list d.ports ++ word ∷ []) k ≡ Some word) (length-map d.ports (λ (p : HeaderPort). p.name)) (get_last (port_list d.ports) word) in
-    let gains : PortGains d.ports ports (count_from (length d.nets) (length bits)) (word ∷ ws) = subst (λ ns. PortGains d.ports ports ns (word ∷ ws)) nets (subst (PortGains d.ports ports (nets_of_port declared)) own (gains_push d.ports word declared)) in
+    let gains : PortGains d.ports ports (going_up (length d.nets) (length bits)) (word ∷ ws) = subst (λ ns. PortGains d.ports ports ns (word ∷ ws)) nets (subst (PortGains d.ports ports (nets_of_port declared)) own (gains_push d.ports word declared)) in
     let placed : ArePlaced (port_list d.ports ++ word ∷ []) names =
-    placed_append (port_list d.ports ++ word ∷ []) (d.names ++ mine ∷ []) (map bit_entry ws)
+    placed_append (port_list d.ports ++ word ∷ []) (d.names ++ mine ∷ []) (map taken_bit ws)
     (placed_append (port_list d.ports ++ word ∷ []) d.names (mine ∷ []) (placed_left (port_list d.ports) (word ∷ []) d.names h.places) (last, tt)) (placed_bits (port_list d.ports ++ word ∷ []) ws) in
     stepped room more d (record d { names = names; ports = ports; nets = d.nets ++ bits }) (word ∷ ws) h
     (port_steps room more d names bits (word ∷ ws) ports h (word_behind d.names mine ws) gains (subst (λ ps. ArePlaced ps names) (sym listed) placed)
@@ -419,12 +419,12 @@ announce_said room more place word d h =
     tested (IsSaid room more) (is_taken d word) false (nat_le MAX_PORTS (length d.ports)) None (fault (cause.Taken word) place) (fault (cause.Taken word) place) (fault (cause.Full counted.Ports) place) place
     (with_name word (meaning.Port (length d.ports)) (record d { ports = ports }))
     (λ free none yes few.
-    subst (λ (names : List Entry). IsSaid room more (record d { names = names; ports = ports })) (append-nil (d.names ++ mine ∷ []))
+    subst (λ (names : List TakenName). IsSaid room more (record d { names = names; ports = ports })) (append-nil (d.names ++ mine ∷ []))
     (subst (λ (nets : List Text). IsSaid room more (record d { names = (d.names ++ mine ∷ []) ++ []; ports = ports; nets = nets })) (append-nil d.nets)
     (push_said room more d word None [] [] h refl refl few (omega (arith, h.few_nets)) (free, tt) (tt, tt))))
 
-shape_nets : (word : Text) (dir : Dir) (range : Option Range) (d : Draft) → nets_of_port (Some (record { dir = dir; shape = next_shape d range; repeated = false })) ≡ count_from (length d.nets) (length (bit_names word range))
-shape_nets word dir range d = ap (λ n. count_from (length d.nets) n) (sym (length-bit_names word range))
+shape_nets : (word : Text) (dir : Dir) (range : Option Range) (d : Draft) → nets_of_port (Some (record { dir = dir; shape = next_shape d range; repeated = false })) ≡ going_up (length d.nets) (length (bit_names word range))
+shape_nets word dir range d = ap (λ n. going_up (length d.nets) n) (sym (length-bit_names word range))
 
 abbrev facing : Dir → Option Range → Draft → Declared
 facing dir range d = record { dir = dir; shape = next_shape d range; repeated = false }
@@ -452,7 +452,7 @@ at_said room more place word dir range port d h short stands =
     let bits = bit_names word range in
     let ws = names_of_bits word range in
     let ports = set d.ports port (port_named word (Some (facing dir range d))) in
-    let names = d.names ++ map bit_entry ws in
+    let names = d.names ++ map taken_bit ws in
     let named = place_found (port_list d.ports) d.names word port h.places stands in
     let listed = list_set d.ports port word (Some (facing dir range d)) named in
     tested (IsSaid room more) (is_some (declared_at d port)) false (nat_lt MAX_NETS (length d.nets + net_count range)) (first_taken d ws) (fault (cause.Taken word) place) (fault (cause.Taken word) place) (fault (cause.Full counted.Nets) place) place
@@ -462,7 +462,7 @@ at_said room more place word dir range port d h short stands =
     (stepped room more d (record d { names = names; ports = ports; nets = d.nets ++ bits }) ws h
     (port_steps room more d names bits ws ports h (bits_behind d.names ws)
     (subst (λ ns. PortGains d.ports ports ns ws) (shape_nets word dir range d) (gains_set d.ports port word (facing dir range d) named (none_of (declared_at d port) unset)))
-    (subst (λ ps. ArePlaced ps names) (sym listed) (placed_append (port_list d.ports) d.names (map bit_entry ws) h.places (placed_bits (port_list d.ports) ws)))
+    (subst (λ ps. ArePlaced ps names) (sym listed) (placed_append (port_list d.ports) d.names (map taken_bit ws) h.places (placed_bits (port_list d.ports) ws)))
     (omega (arith, length-set d.ports port (port_named word (Some (facing dir range d))), h.few_ports)) (room_by word range d fits))
     (free_once d ws h.names (first_taken-none d ws none) (bits_apart word range short))))
 

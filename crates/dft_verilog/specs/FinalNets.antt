@@ -2,10 +2,11 @@
 use Rattle.std.specs.Prelude.{◌≡◌, ℕ, suc, ◌<◌, ◌==◌, if◌then◌else◌, List, [], ◌∷◌, length, map, position, Option, Some, None, option_map, is_some, slice_get, slice_index_or, slice_set}
 use Rattle.std.specs.List.{All}
 use Rattle.dft_base.specs.Lexing.{Text}
+use Rattle.dft_base.specs.Ranges.{going_up}
 use Rattle.dft_netlist.specs.declared.ids.NetId.{NetId}
 use Rattle.dft_netlist.specs.declared.instance.Signal.{Signal}
 use Rattle.dft_netlist.specs.declared.instance.Signal.TheVariants as signal
-use Rattle.dft_netlist_text.specs.Modules.{Draft, count_from}
+use Rattle.dft_netlist_text.specs.Modules.{Draft}
 use Rattle.dft_netlist_text.specs.NetlistText.{net_order, final_net}
 
 -- the place of a net among these, if it is one of them
@@ -14,7 +15,7 @@ number_among nets net = option_map (λ place. record { 0 = place }) (position (�
 
 -- the places of the first so many nets
 abbrev pub numbers_among : (nets : List ℕ) → (count : ℕ) → List (Option NetId)
-numbers_among nets count = map (number_among nets) (count_from 0 count)
+numbers_among nets count = map (number_among nets) (going_up 0 count)
 
 -- a net has this number, unless it had one before
 abbrev pub with_number : (net number : ℕ) → List (Option NetId) → List (Option NetId)

@@ -1,10 +1,10 @@
 pub use Rattle.dft_netlist_text.specs.NetlistText
 pub mod Built
 pub mod Declarations
-pub mod Facings
+pub mod PortDeclarations
 pub mod JoinedPins
 pub mod LoneNames
-pub mod NestShown
+pub mod ConcatenationsShown
 pub mod Refusals
 pub mod FinalNets
 pub mod Buildable

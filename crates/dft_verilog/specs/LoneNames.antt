@@ -7,7 +7,7 @@ use Rattle.dft_netlist_text.specs.Steps.{Rule, left, expect, checked}
 use Rattle.dft_netlist_text.specs.Modules.{Draft}
 use Rattle.dft_netlist_text.specs.Items.{One}
 use Rattle.dft_netlist_text.specs.Expressions.{bits_of_name, followed, selection}
-use Rattle.dft_verilog_draft.specs.Selecting.{lone}
+use Rattle.dft_verilog_draft.specs.Selects.{lone}
 
 -- the one bit of a name with its selection; another number of bits is refused at this place
 unfoldable pub lone_name : Site → (place : ℕ) → Draft → Rule One

@@ -7,7 +7,7 @@ ghost use Rattle.dft_netlist_text.specs.Modules.{with_join};
 ghost use Rattle.dft_verilog_draft.specs.Operands.{AreBits, IsBit};
 ghost use Rattle.dft_verilog_tokens.specs.Reading.{Reads};
 
-use crate::nesting::expression;
+use crate::concatenations::expression;
 use dft_netlist::{Join, Signal};
 use dft_netlist_text::{Cause, Site, TokenKind};
 use dft_verilog_draft::ModuleDraft;
@@ -19,7 +19,7 @@ use std::alloc::AllocError;
 fn join(draft: &mut ModuleDraft<'_>, target: Signal, source: Signal) -> Result<(), AllocError>
     requires target { IsBit (length draft.old.nets) true target }
     requires source { IsBit (length draft.old.nets) false source }
-    ensures { OnOk result (draft.new ≡ with_join (record { target = spec.net_of target; source = source }) draft.old) }
+    ensures { OnOk result (draft.new ≡ with_join (record { target = spec.driven_net target; source = source }) draft.old) }
 {
     match target {
         Signal::Net(target) => draft.add_join(Join { target, source }),
@@ -66,10 +66,10 @@ fn right_side<'a>(
     Ok(())
 }
 
-#[tactic(auto, unfolding(dft_netlist_text::specs::Items::assignment))]
+#[tactic(auto, unfolding(dft_netlist_text::specs::Items::net_assignment))]
 // A left side, `=`, and a right side.
-fn assignment<'a>(draft: &mut ModuleDraft<'a>, tokens: &mut Tokens<'a>) -> Result<(), ReadError>
-    ensures read { Reads (λ _. draft.new) (spec.assignment draft.old tokens.old) result tokens.new }
+fn net_assignment<'a>(draft: &mut ModuleDraft<'a>, tokens: &mut Tokens<'a>) -> Result<(), ReadError>
+    ensures read { Reads (λ _. draft.new) (spec.net_assignment draft.old tokens.old) result tokens.new }
     ensures library { OnOk result (draft.new.library ≡ draft.old.library) }
 {
     let targets = expression(Site::Target, draft, tokens)?;
@@ -78,12 +78,12 @@ fn assignment<'a>(draft: &mut ModuleDraft<'a>, tokens: &mut Tokens<'a>) -> Resul
 }
 
 // Assignments with commas between them.
-fn assignments<'a>(draft: &mut ModuleDraft<'a>, tokens: &mut Tokens<'a>) -> Result<(), ReadError>
-    ensures read { Reads (λ _. draft.new) (spec.assignments draft.old tokens.old) result tokens.new }
+fn net_assignments<'a>(draft: &mut ModuleDraft<'a>, tokens: &mut Tokens<'a>) -> Result<(), ReadError>
+    ensures read { Reads (λ _. draft.new) (spec.net_assignments draft.old tokens.old) result tokens.new }
     ensures library { OnOk result (draft.new.library ≡ draft.old.library) }
 {
     'turns: for _turn in 0..tokens.left() {
-        assignment(draft, tokens)?;
+        net_assignment(draft, tokens)?;
         if !tokens.eat(TokenKind::Comma) {
             return Ok(());
         }
@@ -101,7 +101,7 @@ pub fn assign_item<'a>(
     ensures library { OnOk result (draft.new.library ≡ draft.old.library) }
 {
     tokens.take();
-    assignments(draft, tokens)?;
+    net_assignments(draft, tokens)?;
     tokens.expect(TokenKind::Semicolon)?;
     Ok(())
 }

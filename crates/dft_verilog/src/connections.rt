@@ -8,7 +8,7 @@ ghost use Rattle.dft_verilog_tokens.specs.Reading.{Reads};
 
 use crate::joined_pins::JoinedPins;
 use crate::single_bits::single_bit;
-use dft_cells::{Cell, Role};
+use dft_cells::Cell;
 use dft_netlist::Signal;
 use dft_netlist_text::{Site, TokenKind};
 use dft_verilog_draft::ModuleDraft;
@@ -34,19 +34,12 @@ fn pin_place(cell: &Cell, word: &[u8]) -> Option<usize>
         .position(|pin| pin.name.as_slice() == word)
 }
 
-// Whether a pin of this role drives its net.
-fn is_driving(role: Role) -> bool
-    ensures { result ≡ spec.is_driving role }
-{
-    matches!(role, Role::Output | Role::Inverted)
-}
-
 // Whether this pin drives its net.
 fn pin_drives(cell: &Cell, pin: usize) -> bool
     ensures { result ≡ spec.pin_drives (slice_get cell.now.pins pin) }
 {
     match cell.pins.as_slice().get(pin) {
-        Some(pin) => is_driving(pin.role),
+        Some(pin) => pin.role.is_output(),
         None => false,
     }
 }
@@ -58,15 +51,15 @@ fn was_joined(joined: &[Option<Signal>], pin: usize) -> bool
     matches!(joined.get(pin), Some(Some(_)))
 }
 
-#[tactic(auto, unfolding(dft_netlist_text::specs::Items::pin_name))]
+#[tactic(auto, unfolding(dft_netlist_text::specs::Items::connected_pin))]
 // The name of a pin, which is tested at itself.
-fn pin_name(
+fn connected_pin(
     alloc: Global,
     cell: &Cell,
     joined: &[Option<Signal>],
     tokens: &mut Tokens<'_>,
 ) -> Result<usize, ReadError>
-    ensures read { Reads (λ pin. pin) (spec.pin_name cell.now joined.now tokens.old) result tokens.new }
+    ensures read { Reads (λ pin. pin) (spec.connected_pin cell.now joined.now tokens.old) result tokens.new }
     ensures within { IfOk result (λ pin. pin < length cell.now.pins) }
 {
     let place = tokens.left();
@@ -115,22 +108,22 @@ fn pin_content<'a>(
     }
 }
 
-#[tactic(auto, using(crate::proofs::ConnectionLemmas::pins), unfolding(dft_netlist_text::specs::Items::connection))]
+#[tactic(auto, using(crate::proofs::ConnectionLemmas::pins), unfolding(dft_netlist_text::specs::Items::named_connection))]
 // A point, a pin, and what it is joined to; the width is tested at the point.
-fn connection<'a>(
+fn named_connection<'a>(
     cell: &Cell,
     joined: &mut JoinedPins,
     draft: &mut ModuleDraft<'a>,
     tokens: &mut Tokens<'a>,
 ) -> Result<(), ReadError>
     requires { FitsCell (length draft.old.nets) cell.now joined.old }
-    ensures read { Reads (λ _. (draft.new, joined.new)) (spec.connection cell.now (draft.old, joined.old) tokens.old) result tokens.new }
+    ensures read { Reads (λ _. (draft.new, joined.new)) (spec.named_connection cell.now (draft.old, joined.old) tokens.old) result tokens.new }
     ensures grown { OnOk result (Grows draft.old draft.new) }
     ensures fits { OnOk result (FitsCell (length draft.new.nets) cell.now joined.new) }
 {
     let place = tokens.left();
     tokens.expect(TokenKind::Point)?;
-    let pin = pin_name(draft.alloc(), cell, joined.as_slice(), tokens)?;
+    let pin = connected_pin(draft.alloc(), cell, joined.as_slice(), tokens)?;
     tokens.expect(TokenKind::OpenParen)?;
     let to = pin_content(cell, place, draft, pin, tokens)?;
     tokens.expect(TokenKind::CloseParen)?;
@@ -139,19 +132,19 @@ fn connection<'a>(
 }
 
 // Connections with commas between them.
-fn some_connections<'a>(
+fn named_connections<'a>(
     cell: &Cell,
     joined: &mut JoinedPins,
     draft: &mut ModuleDraft<'a>,
     tokens: &mut Tokens<'a>,
 ) -> Result<(), ReadError>
     requires { FitsCell (length draft.old.nets) cell.now joined.old }
-    ensures read { Reads (λ _. (draft.new, joined.new)) (spec.some_connections cell.now (draft.old, joined.old) tokens.old) result tokens.new }
+    ensures read { Reads (λ _. (draft.new, joined.new)) (spec.named_connections cell.now (draft.old, joined.old) tokens.old) result tokens.new }
     ensures grown { OnOk result (Grows draft.old draft.new) }
     ensures fits { OnOk result (FitsCell (length draft.new.nets) cell.now joined.new) }
 {
     'turns: for _turn in 0..tokens.left() {
-        connection(cell, joined, draft, tokens)?;
+        named_connection(cell, joined, draft, tokens)?;
         if !tokens.eat(TokenKind::Comma) {
             return Ok(());
         }
@@ -175,5 +168,5 @@ pub fn connections<'a>(
     if tokens.sees(TokenKind::CloseParen) {
         return Ok(());
     }
-    some_connections(cell, joined, draft, tokens)
+    named_connections(cell, joined, draft, tokens)
 }

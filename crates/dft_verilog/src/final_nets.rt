@@ -2,6 +2,7 @@
 
 ghost use Rattle.std.specs.Prelude.{◌≡◌, ◌+◌, ◌*◌, ◌<◌, ◌≤◌, ◌^◌, length, IfOk, Some, slice_get, map};
 ghost use Rattle.std.specs.List.{All};
+ghost use Rattle.dft_base.specs.Ranges.{going_up};
 ghost use Rattle.dft_netlist_text.specs.Modules as spec;
 ghost use Rattle.dft_netlist_text.specs.NetlistText.{nets_of_port, nets_of_ports};
 ghost use Rattle.dft_netlist.specs.Sound.{IsLive, AreLive};
@@ -28,7 +29,7 @@ fn give_number(numbers: &mut [Option<NetId>], net: usize, number: u32)
 fn number_bits(numbers: &mut [Option<NetId>], first: usize, count: usize, next: usize)
     requires within { first + count ≤ length numbers.old }
     requires few { next + count ≤ 2 ^ 32 }
-    ensures { numbers.new ≡ with_numbers (spec.count_from first count) next numbers.old }
+    ensures { numbers.new ≡ with_numbers (going_up first count) next numbers.old }
 {
     for bit in 0..count {
         give_number(numbers, first + bit, (next + bit) as u32);

@@ -33,16 +33,6 @@ pub fn gate_kind(kind: TokenKind) -> Option<Kind>
     }
 }
 
-// Whether a gate may have this number of inputs: a buffer and an inverter one, another gate one to eight.
-fn has_inputs(kind: Kind, count: usize) -> bool
-    ensures { result ≡ spec.has_inputs kind count }
-{
-    match kind {
-        Kind::Buf | Kind::Inv => count == 1,
-        _ => 1 <= count && count <= 8,
-    }
-}
-
 #[tactic(auto, unfolding(dft_netlist_text::specs::Items::terminal))]
 // A terminal of a gate; its width is tested at its first token.
 fn terminal<'a>(
@@ -59,8 +49,8 @@ fn terminal<'a>(
 }
 
 // The terminals behind the first.
-fn inputs<'a>(draft: &mut ModuleDraft<'a>, tokens: &mut Tokens<'a>) -> Result<PinSignals, ReadError>
-    ensures read { Reads (λ inputs. (draft.new, inputs)) (spec.inputs draft.old tokens.old) result tokens.new }
+fn input_terminals<'a>(draft: &mut ModuleDraft<'a>, tokens: &mut Tokens<'a>) -> Result<PinSignals, ReadError>
+    ensures read { Reads (λ inputs. (draft.new, inputs)) (spec.input_terminals draft.old tokens.old) result tokens.new }
     ensures grown { OnOk result (Grows draft.old draft.new) }
     ensures bits { IfOk result (λ inputs. AreBits (length draft.new.nets) false inputs) }
 {
@@ -96,10 +86,10 @@ fn terminals<'a>(
     ensures library { OnOk result (draft.new.library ≡ draft.old.library) }
 {
     let output = terminal(true, draft, tokens)?;
-    let mut pins = inputs(draft, tokens)?;
+    let mut pins = input_terminals(draft, tokens)?;
     tokens.expect(TokenKind::CloseParen)?;
     let count = input_count(&pins);
-    if !has_inputs(kind, count) {
+    if !kind.takes_inputs(count) {
         return Err(refused(place, Cause::Misfit));
     }
     pins.push(output)?;

@@ -2,7 +2,7 @@
 
 ghost use Rattle.std.specs.Prelude.{◌≡◌, IfOk, OnOk};
 ghost use Rattle.dft_netlist_text.specs.NetlistText as spec;
-ghost use Rattle.dft_verilog.specs.Facings.{facing_as};
+ghost use Rattle.dft_verilog.specs.PortDeclarations.{port_declaration_as};
 ghost use Rattle.dft_verilog_tokens.specs.Reading.{Reads};
 
 use dft_base::{Name, Range};
@@ -15,7 +15,7 @@ use std::alloc::Global;
 
 /// What the names behind a direction have.
 #[derive(Clone, Copy, Debug)]
-pub struct Facing {
+pub struct PortDeclaration {
     pub dir: Dir,
     pub range: Option<Range>,
 }
@@ -48,58 +48,58 @@ fn announced_names<'a>(
     Err(tokens.refusal())
 }
 
-#[tactic(auto, using(crate::proofs::KeptLemmas::declared_kept), unfolding(dft_netlist_text::specs::NetlistText::new_port))]
+#[tactic(auto, using(crate::proofs::KeptLemmas::declared_kept), unfolding(dft_netlist_text::specs::NetlistText::declared_port))]
 // One name of a header with directions.
-fn new_port<'a>(
-    facing: Facing,
+fn declared_port<'a>(
+    declared: PortDeclaration,
     draft: &mut ModuleDraft<'a>,
     tokens: &mut Tokens<'a>,
 ) -> Result<(), ReadError>
-    ensures read { Reads (λ _. draft.new) (spec.new_port facing.dir facing.range draft.old tokens.old) result tokens.new }
+    ensures read { Reads (λ _. draft.new) (spec.declared_port declared.dir declared.range draft.old tokens.old) result tokens.new }
     ensures library { OnOk result (draft.new.library ≡ draft.old.library) }
 {
     let place = tokens.left();
     let word = tokens.name()?;
-    draft.declare_new_port(place, word, facing.dir, facing.range)
+    draft.declare_new_port(place, word, declared.dir, declared.range)
 }
 
-#[tactic(auto, unfolding(dft_netlist_text::specs::NetlistText::facing_of))]
+#[tactic(auto, unfolding(dft_netlist_text::specs::NetlistText::port_declaration_of))]
 // `input` or `output`, perhaps `wire`, perhaps a range.
-fn facing_of(dir: Dir, tokens: &mut Tokens<'_>) -> Result<Facing, ReadError>
-    ensures { Reads facing_as (spec.facing_of dir tokens.old) result tokens.new }
+fn port_declaration_of(dir: Dir, tokens: &mut Tokens<'_>) -> Result<PortDeclaration, ReadError>
+    ensures { Reads port_declaration_as (spec.port_declaration_of dir tokens.old) result tokens.new }
 {
     tokens.take();
     tokens.eat(TokenKind::Wire);
     let range = range_if_any(tokens)?;
-    Ok(Facing { dir, range })
+    Ok(PortDeclaration { dir, range })
 }
 
-#[tactic(auto, unfolding(dft_netlist_text::specs::NetlistText::facing))]
+#[tactic(auto, unfolding(dft_netlist_text::specs::NetlistText::port_declaration))]
 // A new direction, or the one of the name before.
-fn next_facing(before: Facing, tokens: &mut Tokens<'_>) -> Result<Facing, ReadError>
-    ensures { Reads facing_as (spec.facing (facing_as before) tokens.old) result tokens.new }
+fn next_port_declaration(before: PortDeclaration, tokens: &mut Tokens<'_>) -> Result<PortDeclaration, ReadError>
+    ensures { Reads port_declaration_as (spec.port_declaration (port_declaration_as before) tokens.old) result tokens.new }
 {
     if tokens.sees(TokenKind::Input) {
-        facing_of(Dir::Input, tokens)
+        port_declaration_of(Dir::Input, tokens)
     } else if tokens.sees(TokenKind::Output) {
-        facing_of(Dir::Output, tokens)
+        port_declaration_of(Dir::Output, tokens)
     } else {
         Ok(before)
     }
 }
 
 // The ports of a header with directions. The first has a direction of its own.
-fn new_ports<'a>(draft: &mut ModuleDraft<'a>, tokens: &mut Tokens<'a>) -> Result<(), ReadError>
-    ensures read { Reads (λ _. draft.new) (spec.new_ports draft.old tokens.old) result tokens.new }
+fn declared_ports<'a>(draft: &mut ModuleDraft<'a>, tokens: &mut Tokens<'a>) -> Result<(), ReadError>
+    ensures read { Reads (λ _. draft.new) (spec.declared_ports draft.old tokens.old) result tokens.new }
     ensures library { OnOk result (draft.new.library ≡ draft.old.library) }
 {
-    let mut here = Facing {
+    let mut here = PortDeclaration {
         dir: Dir::Input,
         range: None,
     };
     'turns: for _turn in 0..tokens.left() {
-        here = next_facing(here, tokens)?;
-        new_port(here, draft, tokens)?;
+        here = next_port_declaration(here, tokens)?;
+        declared_port(here, draft, tokens)?;
         if !tokens.eat(TokenKind::Comma) {
             return Ok(());
         }
@@ -116,7 +116,7 @@ fn header_names<'a>(draft: &mut ModuleDraft<'a>, tokens: &mut Tokens<'a>) -> Res
     if tokens.sees(TokenKind::CloseParen) {
         Ok(())
     } else if tokens.sees(TokenKind::Input) || tokens.sees(TokenKind::Output) {
-        new_ports(draft, tokens)
+        declared_ports(draft, tokens)
     } else {
         announced_names(draft, tokens)
     }

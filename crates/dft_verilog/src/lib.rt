@@ -2,6 +2,7 @@
 #![tactic(auto)]
 
 mod assignments;
+mod concatenations;
 mod connections;
 mod declarations;
 mod error;
@@ -13,7 +14,6 @@ mod instances;
 mod joined_pins;
 mod laws;
 mod module_items;
-mod nesting;
 mod operands;
 mod reader;
 mod single_bits;

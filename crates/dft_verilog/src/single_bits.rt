@@ -10,7 +10,7 @@ ghost use Rattle.dft_verilog.specs.LoneNames.{lone_name};
 ghost use Rattle.dft_verilog_draft.specs.Operands.{Grows, IsBit};
 ghost use Rattle.dft_verilog_tokens.specs.Reading.{Reads};
 
-use crate::nesting::expression;
+use crate::concatenations::expression;
 use crate::operands::followed;
 use dft_netlist::Signal;
 use dft_netlist_text::{Cause, Site, TokenKind};

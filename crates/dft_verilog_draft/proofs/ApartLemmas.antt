@@ -9,8 +9,8 @@ use Rattle.std.proofs.lemmas.Bool.Decides.{same_from_decides, nat_tests}
 use Rattle.dft_base.specs.declared.place.Range.{Range}
 use Rattle.dft_netlist.specs.Names.{bit_name, bit_names, going_up, going_down}
 use Rattle.dft_netlist_text.specs.declared.text.Meaning.{Meaning}
-use Rattle.dft_netlist_text.specs.Modules.{Draft, Entry, first_taken, names_of_bits}
-use Rattle.dft_verilog_draft.specs.Free.{AreFree, AreFreeBits, bit_entry, IsApart, AreApart, AreBitsApart}
+use Rattle.dft_netlist_text.specs.Modules.{Draft, TakenName, first_taken, names_of_bits}
+use Rattle.dft_verilog_draft.specs.Free.{AreFree, AreFreeBits, taken_bit, IsApart, AreApart, AreBitsApart}
 use Rattle.dft_verilog_draft.specs.TakenNames.{meaning_in}
 
 -- ---- the names of bits differ
@@ -72,39 +72,39 @@ find_by : (b : Bool) (w : List ℕ) (rest : Option (List ℕ)) → cond b (Some 
 find_by true w rest h = absurd (cc)
 find_by false w rest h = (refl, h)
 
-abbrev shown : Option Entry → Option Meaning
-shown o = option_map (λ (e : Entry). e.meaning) o
+abbrev shown : Option TakenName → Option Meaning
+shown o = option_map (λ (e : TakenName). e.meaning) o
 
-push_by : (b : Bool) (x : Entry) (old new : Option Entry) → (shown old ≡ None → shown new ≡ None) → shown (cond b (Some x) old) ≡ None → shown (cond b (Some x) new) ≡ None
+push_by : (b : Bool) (x : TakenName) (old new : Option TakenName) → (shown old ≡ None → shown new ≡ None) → shown (cond b (Some x) old) ≡ None → shown (cond b (Some x) new) ≡ None
 push_by true x old new f h = h
 push_by false x old new f h = f h
 
-none_by : (b : Bool) (e : Entry) → b ≡ false → shown (cond b (Some e) None) ≡ None
+none_by : (b : Bool) (e : TakenName) → b ≡ false → shown (cond b (Some e) None) ≡ None
 none_by true e h = absurd (cc)
 none_by false e h = refl
 
-pub meaning_in-push : (names : List Entry) (e : Entry) (w : List ℕ) → meaning_in names w ≡ None → bytes_eq e.name w ≡ false → meaning_in (names ++ e ∷ []) w ≡ None
+pub meaning_in-push : (names : List TakenName) (e : TakenName) (w : List ℕ) → meaning_in names w ≡ None → bytes_eq e.name w ≡ false → meaning_in (names ++ e ∷ []) w ≡ None
 meaning_in-push [] e w free ne = none_by (bytes_eq e.name w) e ne
 meaning_in-push (x ∷ xs) e w free ne = push_by (bytes_eq x.name w) x _ _ (λ h. meaning_in-push xs e w h ne) free
 
-abbrev taken_in : List Entry → List ℕ → Bool
+abbrev taken_in : List TakenName → List ℕ → Bool
 taken_in names w = is_some (meaning_in names w)
 
 find_free : (b : Bool) (w : List ℕ) (rest : Option (List ℕ)) → b ≡ false → rest ≡ None → cond b (Some w) rest ≡ None
 find_free true w rest h r = absurd (cc)
 find_free false w rest h r = r
 
-find_push : (names : List Entry) (e : Entry) (ws : List (List ℕ)) → find (λ w. taken_in names w) ws ≡ None → IsApart e.name ws → find (λ w. taken_in (names ++ e ∷ []) w) ws ≡ None
+find_push : (names : List TakenName) (e : TakenName) (ws : List (List ℕ)) → find (λ w. taken_in names w) ws ≡ None → IsApart e.name ws → find (λ w. taken_in (names ++ e ∷ []) w) ws ≡ None
 find_push names e [] none apart = refl
 find_push names e (w ∷ ws) none apart =
     let h : (taken_in names w ≡ false) × (find (λ w. taken_in names w) ws ≡ None) = find_by (taken_in names w) w _ none in
     find_free (taken_in (names ++ e ∷ []) w) w _ (ap is_some (meaning_in-push names e w (is_none (meaning_in names w) h.0) apart.0)) (find_push names e ws h.1 apart.1)
 
-AreFree-from : (names : List Entry) (ws : List (List ℕ)) → find (λ w. taken_in names w) ws ≡ None → AreApart ws → AreFree names ws
+AreFree-from : (names : List TakenName) (ws : List (List ℕ)) → find (λ w. taken_in names w) ws ≡ None → AreApart ws → AreFree names ws
 AreFree-from names [] none apart = tt
 AreFree-from names (w ∷ ws) none apart =
     let h : (taken_in names w ≡ false) × (find (λ w. taken_in names w) ws ≡ None) = find_by (taken_in names w) w _ none in
-    (is_none (meaning_in names w) h.0, AreFree-from (names ++ bit_entry w ∷ []) ws (find_push names (bit_entry w) ws h.1 apart.0) apart.1)
+    (is_none (meaning_in names w) h.0, AreFree-from (names ++ taken_bit w ∷ []) ws (find_push names (taken_bit w) ws h.1 apart.0) apart.1)
 
 -- the bits are free in the draft
 pub AreFreeBits-plain : (word : List ℕ) (range : Option Range) (d : Draft) → first_taken d (names_of_bits word range) ≡ None → AreBitsApart word range (bit_names word range) → AreFreeBits range d.names (bit_names word range)

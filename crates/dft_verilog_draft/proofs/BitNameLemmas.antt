@@ -7,8 +7,8 @@ use Rattle.std.proofs.lemmas.Fmt.{decimal_by_steps}
 use Rattle.std.proofs.lemmas.Bool.Decides.{nat_tests}
 use Rattle.dft_base.specs.declared.place.Range.{Range}
 use Rattle.dft_base.specs.Name.{IsName}
+use Rattle.dft_base.specs.Ranges.{width}
 use Rattle.dft_netlist.specs.Names.{bit_name, going_up, going_down, indices_of}
-use Rattle.dft_netlist_text.specs.Modules.{width}
 use Rattle.dft_verilog_draft.specs.BitNames.{index_at}
 
 -- ---- the indices

@@ -5,6 +5,7 @@ use Rattle.std.proofs.Math.Seq.{drop-append_seam}
 use Rattle.std.proofs.lemmas.Bool.Decides.{nat_tests}
 use Rattle.dft_base.specs.declared.place.Range.{Range}
 use Rattle.dft_base.specs.Parser.{Checked}
+use Rattle.dft_base.specs.Ranges.{width}
 use Rattle.dft_netlist_text.specs.declared.text.Cause.TheVariants as cause
 use Rattle.dft_netlist.specs.declared.error.Counted.TheVariants as counted
 use Rattle.dft_netlist_text.specs.Steps.{fault}
@@ -12,7 +13,7 @@ use Rattle.dft_netlist_text.specs.declared.text.Fault.{Fault}
 use Rattle.dft_netlist_text.specs.declared.text.Meaning.{Meaning}
 use Rattle.dft_netlist.specs.declared.limits.TheConstants.{MAX_NETS, MAX_PORTS}
 use Rattle.dft_netlist.specs.Names.{bit_names, bit_name, going_up, going_down, indices_of}
-use Rattle.dft_netlist_text.specs.Modules.{Draft, net_count, names_of_bits, first_taken, free_bits, room_for_nets, width, with_nets, with_bits, next_shape}
+use Rattle.dft_netlist_text.specs.Modules.{Draft, net_count, names_of_bits, first_taken, free_bits, room_for_nets, with_nets, with_bits, next_shape}
 use Rattle.dft_verilog_draft.specs.Free.{new_bits, unless_taken, with_bits_of, AreFreeBits}
 use Rattle.dft_verilog_draft.specs.Drafts.{IsShapeWithin}
 use Rattle.dft_verilog_draft.proofs.BitNameLemmas.{first_indices-all}
@@ -46,7 +47,8 @@ full_by full b f next h = ap (λ (t : Bool). cond t (Err f) next) h
 ports_by : (n m : ℕ) → n ≡ m → n < MAX_PORTS → nat_le MAX_PORTS m ≡ false
 ports_by n m at few = grind (arith, nat_tests)
 
-length-going_up : (from n : ℕ) → length (going_up from n) ≡ n
+-- so many numbers going up
+pub length-going_up : (from n : ℕ) → length (going_up from n) ≡ n
 length-going_up from zero = refl
 length-going_up from (suc n) = ap suc (length-going_up (suc from) n)
 

@@ -14,8 +14,8 @@ use Rattle.dft_netlist.specs.declared.instance.Instance.{Instance}
 use Rattle.dft_netlist.specs.declared.instance.Join.{Join}
 use Rattle.dft_netlist.specs.declared.limits.TheConstants.{MAX_NETS}
 use Rattle.dft_netlist.specs.Sound.{IsLive}
-use Rattle.dft_netlist_text.specs.Modules.{Draft, HeaderPort, Entry, next_shape}
-use Rattle.dft_verilog_draft.specs.Drafts.{IsDraft, IsMeaningWithin, AreNamesWithin, IsDeclaredWithin, InstanceFits, JoinFits, bare, nets_alone}
+use Rattle.dft_netlist_text.specs.Modules.{Draft, HeaderPort, TakenName, next_shape}
+use Rattle.dft_verilog_draft.specs.Drafts.{IsDraft, IsMeaningWithin, AreNamesWithin, IsDeclaredWithin, InstanceFits, JoinFits, netlist_of_nets, nets_alone}
 
 -- ---- more nets
 
@@ -34,7 +34,7 @@ live_more a b le (signal.Net net) h = omega arith
 live_more a b le (signal.Constant bit) h = tt
 live_more a b le signal.Unconnected h = tt
 
-instance_more : (name : Text) (library : List Cell) (xs ys : List Text) → length xs ≤ length ys → (i : Instance) → InstanceFits (bare name library xs) i → InstanceFits (bare name library ys) i
+instance_more : (name : Text) (library : List Cell) (xs ys : List Text) → length xs ≤ length ys → (i : Instance) → InstanceFits (netlist_of_nets name library xs) i → InstanceFits (netlist_of_nets name library ys) i
 instance_more name library xs ys le i h = record {
   fits = h.fits;
   width = h.width;
@@ -42,7 +42,7 @@ instance_more name library xs ys le i h = record {
   outputs = h.outputs;
 }
 
-join_more : (name : Text) (library : List Cell) (xs ys : List Text) → length xs ≤ length ys → (j : Join) → JoinFits (bare name library xs) j → JoinFits (bare name library ys) j
+join_more : (name : Text) (library : List Cell) (xs ys : List Text) → length xs ≤ length ys → (j : Join) → JoinFits (netlist_of_nets name library xs) j → JoinFits (netlist_of_nets name library ys) j
 join_more name library xs ys le j h = record {
   target_live = omega (arith, h.target_live);
   source_live = live_more (length xs) (length ys) le j.source h.source_live;
@@ -55,15 +55,15 @@ IsDraft-nets d nets more few h = record {
   few_ports = h.few_ports;
   few_nets = few;
   few_instances = h.few_instances;
-  names = All-weaker (λ (e : Entry). IsMeaningWithin (length d.nets) e.meaning) (λ (e : Entry). IsMeaningWithin (length nets) e.meaning) (λ e w. meaning_more (length d.nets) (length nets) more e.meaning w) d.names h.names;
+  names = All-weaker (λ (e : TakenName). IsMeaningWithin (length d.nets) e.meaning) (λ (e : TakenName). IsMeaningWithin (length nets) e.meaning) (λ e w. meaning_more (length d.nets) (length nets) more e.meaning w) d.names h.names;
   ports = All-weaker (λ (p : HeaderPort). IsDeclaredWithin (length d.nets) p.declared) (λ (p : HeaderPort). IsDeclaredWithin (length nets) p.declared) (λ p w. declared_more (length d.nets) (length nets) more p.declared w) d.ports h.ports;
-  instances = All-weaker (InstanceFits (nets_alone d)) (InstanceFits (bare d.name d.library nets)) (λ i w. instance_more d.name d.library d.nets nets more i w) d.instances h.instances;
-  joins = All-weaker (JoinFits (nets_alone d)) (JoinFits (bare d.name d.library nets)) (λ j w. join_more d.name d.library d.nets nets more j w) d.joins h.joins;
+  instances = All-weaker (InstanceFits (nets_alone d)) (InstanceFits (netlist_of_nets d.name d.library nets)) (λ i w. instance_more d.name d.library d.nets nets more i w) d.instances h.instances;
+  joins = All-weaker (JoinFits (nets_alone d)) (JoinFits (netlist_of_nets d.name d.library nets)) (λ j w. join_more d.name d.library d.nets nets more j w) d.joins h.joins;
 }
 
 -- ---- more of the other parts
 
-pub IsDraft-names : (d : Draft) (names : List Entry) → AreNamesWithin (length d.nets) names → IsDraft d → IsDraft (record d { names = names })
+pub IsDraft-names : (d : Draft) (names : List TakenName) → AreNamesWithin (length d.nets) names → IsDraft d → IsDraft (record d { names = names })
 IsDraft-names d names within h = record { few_ports = h.few_ports; few_nets = h.few_nets; few_instances = h.few_instances; names = within; ports = h.ports; instances = h.instances; joins = h.joins }
 
 -- names put behind others, or not
@@ -71,15 +71,15 @@ pub length-appended : {A : Type 0} (ok : Bool) (xs ys zs : List A) → zs ≡ co
 length-appended true xs ys zs e = (omega (arith, ap length e, length-append xs ys), omega (arith, ap length e, length-append xs ys))
 length-appended false xs ys zs e = (omega (arith, ap length e), omega (arith, ap length e))
 
-within_by : (n : ℕ) (b : Bool) (e : Entry) (rest : Option Entry) → IsMeaningWithin n e.meaning → IfSome (option_map (λ (x : Entry). x.meaning) rest) (IsMeaningWithin n) → IfSome (option_map (λ (x : Entry). x.meaning) (cond b (Some e) rest)) (IsMeaningWithin n)
+within_by : (n : ℕ) (b : Bool) (e : TakenName) (rest : Option TakenName) → IsMeaningWithin n e.meaning → IfSome (option_map (λ (x : TakenName). x.meaning) rest) (IsMeaningWithin n) → IfSome (option_map (λ (x : TakenName). x.meaning) (cond b (Some e) rest)) (IsMeaningWithin n)
 within_by n true e rest here there = here
 within_by n false e rest here there = there
 
 -- what a name stands for is there
-pub meaning-within : (n : ℕ) (names : List Entry) (word : Text) → AreNamesWithin n names → IfSome (meaning_in names word) (IsMeaningWithin n)
+pub meaning-within : (n : ℕ) (names : List TakenName) (word : Text) → AreNamesWithin n names → IfSome (meaning_in names word) (IsMeaningWithin n)
 meaning-within n [] word all = tt
 meaning-within n (e ∷ es) word all =
-    within_by n (bytes_eq e.name word) e _ (All-head (λ (x : Entry). IsMeaningWithin n x.meaning) e es all) (meaning-within n es word (All-tail (λ (x : Entry). IsMeaningWithin n x.meaning) e es all))
+    within_by n (bytes_eq e.name word) e _ (All-head (λ (x : TakenName). IsMeaningWithin n x.meaning) e es all) (meaning-within n es word (All-tail (λ (x : TakenName). IsMeaningWithin n x.meaning) e es all))
 
 -- a name that stands for the next net, which is there too
 pub IsDraft-net : (d : Draft) (word : Text) → length d.nets < MAX_NETS → IsDraft d →
@@ -88,7 +88,7 @@ IsDraft-net d word room h =
     let more = length-append d.nets (word ∷ []) in
     let e : Draft = record d { nets = d.nets ++ word ∷ [] } in
     let grown : IsDraft e = IsDraft-nets d (d.nets ++ word ∷ []) (omega (arith, more)) (omega (arith, more)) h in
-    let name : Entry = record { name = word; meaning = meaning.Nets (next_shape d None) } in
+    let name : TakenName = record { name = word; meaning = meaning.Nets (next_shape d None) } in
     IsDraft-names e (d.names ++ name ∷ [])
-    (All-append (λ (x : Entry). IsMeaningWithin (length e.nets) x.meaning) d.names (name ∷ []) grown.names (All-cons (λ (x : Entry). IsMeaningWithin (length e.nets) x.meaning) name [] (omega (arith, more)) (All-nil (λ (x : Entry). IsMeaningWithin (length e.nets) x.meaning))))
+    (All-append (λ (x : TakenName). IsMeaningWithin (length e.nets) x.meaning) d.names (name ∷ []) grown.names (All-cons (λ (x : TakenName). IsMeaningWithin (length e.nets) x.meaning) name [] (omega (arith, more)) (All-nil (λ (x : TakenName). IsMeaningWithin (length e.nets) x.meaning))))
     grown

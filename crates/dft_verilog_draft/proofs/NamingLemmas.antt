@@ -6,6 +6,7 @@ use Rattle.std.specs.List.{All}
 use Rattle.std.proofs.lemmas.List.Elements.{All-head, All-tail, All-append}
 use Rattle.dft_base.specs.declared.place.Range.{Range}
 use Rattle.dft_base.specs.Parser.{Checked}
+use Rattle.dft_base.specs.Ranges.{falls, width, has_index, place_in, has_part}
 use Rattle.dft_netlist.specs.declared.instance.Signal.{Signal}
 use Rattle.dft_netlist.specs.declared.instance.Signal.TheVariants as signal
 use Rattle.dft_netlist_text.specs.declared.text.Declared.{Declared}
@@ -20,11 +21,11 @@ use Rattle.dft_netlist_text.specs.declared.text.Select.{Select}
 use Rattle.dft_netlist_text.specs.declared.text.Select.TheVariants as select
 use Rattle.dft_netlist_text.specs.declared.text.Shape.{Shape}
 use Rattle.dft_netlist_text.specs.declared.text.Site.{Site}
-use Rattle.dft_netlist_text.specs.Modules.{Draft, HeaderPort, meaning_of, declared_at, declare_nets, net_count, falls, width, is_taken, with_name, with_nets, next_shape}
-use Rattle.dft_netlist_text.specs.Expressions.{Named, Operand, nets_of_shape, has_index, place_in, has_part, selected_in, selected, fitting, implied_net, bits_of_port, bits_of_meaning, bits_of_name, implies, is_whole}
+use Rattle.dft_netlist_text.specs.Modules.{Draft, HeaderPort, meaning_of, declared_at, declare_nets, net_count, is_taken, with_name, with_nets, next_shape}
+use Rattle.dft_netlist_text.specs.Expressions.{SelectedName, Operand, nets_of_shape, selected_in, selected, fitting, implied_net, bits_of_port, bits_of_meaning, bits_of_name, implies, is_whole}
 use Rattle.dft_verilog_draft.specs.Drafts.{IsDraft, IsShapeWithin, IsMeaningWithin, IsDeclaredWithin}
 use Rattle.dft_verilog_draft.specs.Operands.{Grows, IsBit, AreBits}
-use Rattle.dft_verilog_draft.specs.Selecting.{behind}
+use Rattle.dft_verilog_draft.specs.Selects.{behind_bits}
 use Rattle.dft_verilog_draft.proofs.DraftLemmas.{meaning-within}
 use Rattle.dft_verilog_draft.proofs.OperandLemmas.{grows_not, bits_more}
 
@@ -94,7 +95,7 @@ fitted : (place : ℕ) (d : Draft) (o : Operand) (bits : Option (List Signal)) �
 fitted place d o None w h = absurd (cc)
 fitted place d o (Some bits) w h = let same : (d, bits) ≡ o = cc in subst (λ (x : Operand). Kept d x) same (grows_not d, w)
 
-of_port : (named : Named) (d : Draft) (o : Operand) (declared : Option Declared) → IsDeclaredWithin (length d.nets) declared → bits_of_port named d declared ≡ Ok o → Kept d o
+of_port : (named : SelectedName) (d : Draft) (o : Operand) (declared : Option Declared) → IsDeclaredWithin (length d.nets) declared → bits_of_port named d declared ≡ Ok o → Kept d o
 of_port named d o None w h = absurd (cc)
 of_port named d o (Some declared) w h = fitted named.place d o (selected declared.shape named.what) (there (length d.nets) declared.shape named.what w) h
 
@@ -103,7 +104,7 @@ one_more_net true u f g count next new d kept h = absurd (cc)
 one_more_net false true f g count next new d kept h = absurd (cc)
 one_more_net false false f g count next new d kept h = let same : next ≡ new = cc in subst (λ (x : Draft). Kept d (x, nets_of_shape count 1)) same kept
 
-new_net : (named : Named) (d new : Draft) → declare_nets named.place named.word None d ≡ Ok new → Kept d (new, nets_of_shape (length d.nets) 1)
+new_net : (named : SelectedName) (d new : Draft) → declare_nets named.place named.word None d ≡ Ok new → Kept d (new, nets_of_shape (length d.nets) 1)
 new_net named d new h =
     one_more_net (is_taken d named.word) (nat_lt MAX_NETS (length d.nets + 1)) (fault (cause.Taken named.word) named.place) (fault (cause.Full counted.Nets) named.place) (length d.nets)
     (with_nets named.word None (with_name named.word (meaning.Nets (next_shape d None)) d)) new d (
@@ -111,11 +112,11 @@ new_net named d new h =
       λ drives. nets_within (length (d.nets ++ named.word ∷ [])) (length d.nets) 1 drives (omega (arith, length-append d.nets (named.word ∷ []))),
     ) h
 
-implied : (named : Named) (d : Draft) (o : Operand) (outcome : Result Draft Fault) → declare_nets named.place named.word None d ≡ outcome → implied_net named d outcome ≡ Ok o → Kept d o
+implied : (named : SelectedName) (d : Draft) (o : Operand) (outcome : Result Draft Fault) → declare_nets named.place named.word None d ≡ outcome → implied_net named d outcome ≡ Ok o → Kept d o
 implied named d o (Err f) e h = absurd (cc)
 implied named d o (Ok new) e h = let same : (new, nets_of_shape (length d.nets) 1) ≡ o = cc in subst (λ (x : Operand). Kept d x) same (new_net named d new e)
 
-of_meaning : (may : Bool) (named : Named) (d : Draft) (o : Operand) (m : Option Meaning) → IfSome m (IsMeaningWithin (length d.nets)) →
+of_meaning : (may : Bool) (named : SelectedName) (d : Draft) (o : Operand) (m : Option Meaning) → IfSome m (IsMeaningWithin (length d.nets)) →
     ((port : ℕ) → IsDeclaredWithin (length d.nets) (declared_at d port)) → bits_of_meaning may named d m ≡ Ok o → Kept d o
 of_meaning may named d o (Some (meaning.Nets shape)) w ports h = fitted named.place d o (selected shape named.what) (there (length d.nets) shape named.what w) h
 of_meaning may named d o (Some (meaning.Port port)) w ports h = of_port named d o (declared_at d port) (ports port) h
@@ -126,7 +127,7 @@ of_meaning true named d o None w ports h = implied named d o (declare_nets named
 of_meaning false named d o None w ports h = absurd (cc)
 
 -- what a name gives, from what the draft keeps
-pub named_kept : (at : Site) (depth : ℕ) (named : Named) (d : Draft) (o : Operand) → IfSome (meaning_of d named.word) (IsMeaningWithin (length d.nets)) →
+pub named_kept : (at : Site) (depth : ℕ) (named : SelectedName) (d : Draft) (o : Operand) → IfSome (meaning_of d named.word) (IsMeaningWithin (length d.nets)) →
     ((port : ℕ) → IsDeclaredWithin (length d.nets) (declared_at d port)) → bits_of_name at depth named d ≡ Ok o → Kept d o
 named_kept at depth named d o w ports h = of_meaning (implies at depth && is_whole named.what) named d o (meaning_of d named.word) w ports h
 
@@ -136,14 +137,14 @@ declared_in count [] all place = tt
 declared_in count (p ∷ ports) all zero = All-head (λ (x : HeaderPort). IsDeclaredWithin count x.declared) p ports all
 declared_in count (p ∷ ports) all (suc place) = declared_in count ports (All-tail (λ (x : HeaderPort). IsDeclaredWithin count x.declared) p ports all) place
 
-of_name : (at : Site) (depth : ℕ) (named : Named) (d : Draft) (o : Operand) → IsDraft d → bits_of_name at depth named d ≡ Ok o → Kept d o
+of_name : (at : Site) (depth : ℕ) (named : SelectedName) (d : Draft) (o : Operand) → IsDraft d → bits_of_name at depth named d ≡ Ok o → Kept d o
 of_name at depth named d o keeps h = named_kept at depth named d o (meaning-within (length d.nets) d.names named.word keeps.names) (declared_in (length d.nets) d.ports keeps.ports) h
 
 -- what is put behind the bits before
 abbrev KeptBehind : Draft → List Signal → Draft → List Signal → Type 0
 KeptBehind d before new all = Grows d new × ((drives : Bool) → AreBits (length d.nets) drives before → AreBits (length new.nets) drives all)
 
-behind_kept : (outcome : Checked Fault Operand) (d new : Draft) (before all : List Signal) → ((o : Operand) → outcome ≡ Ok o → Kept d o) → behind before outcome ≡ Ok (new, all) → KeptBehind d before new all
+behind_kept : (outcome : Checked Fault Operand) (d new : Draft) (before all : List Signal) → ((o : Operand) → outcome ≡ Ok o → Kept d o) → behind_bits before outcome ≡ Ok (new, all) → KeptBehind d before new all
 behind_kept (Err f) d new before all kept h = absurd (cc)
 behind_kept (Ok o) d new before all kept h =
     let same : (o.0, before ++ o.1) ≡ (new, all) = cc in
@@ -154,10 +155,10 @@ behind_kept (Ok o) d new before all kept h =
     )
 
 -- behind a name the draft has no fewer nets
-pub name_grows : (at : Site) (depth : ℕ) (named : Named) (d new : Draft) (before all : List Signal) → IsDraft d → behind before (bits_of_name at depth named d) ≡ Ok (new, all) → Grows d new
+pub name_grows : (at : Site) (depth : ℕ) (named : SelectedName) (d new : Draft) (before all : List Signal) → IsDraft d → behind_bits before (bits_of_name at depth named d) ≡ Ok (new, all) → Grows d new
 name_grows at depth named d new before all keeps h = (behind_kept (bits_of_name at depth named d) d new before all (λ o e. of_name at depth named d o keeps e) h).0
 
 -- and the bits are among them
-pub name_bits : (at : Site) (depth : ℕ) (named : Named) (d new : Draft) (before all : List Signal) (drives : Bool) → IsDraft d → behind before (bits_of_name at depth named d) ≡ Ok (new, all) →
+pub name_bits : (at : Site) (depth : ℕ) (named : SelectedName) (d new : Draft) (before all : List Signal) (drives : Bool) → IsDraft d → behind_bits before (bits_of_name at depth named d) ≡ Ok (new, all) →
     AreBits (length d.nets) drives before → AreBits (length new.nets) drives all
 name_bits at depth named d new before all drives keeps h = (behind_kept (bits_of_name at depth named d) d new before all (λ o e. of_name at depth named d o keeps e) h).1 drives

@@ -2,7 +2,7 @@
 use Rattle.std.proofs.Common.{◌≡◌, ℕ, zero, suc, ◌+◌, List, [], ◌∷◌, ◌++◌, refl, sym, ap, ◌∙◌, arith, add-zero, add-one, append_assoc, Bool, true, ◌&&◌, Option, None, ap₂}
 use Rattle.dft_netlist.specs.declared.instance.Signal.{Signal}
 use Rattle.dft_netlist.specs.declared.instance.Signal.TheVariants as signal
-use Rattle.dft_netlist_text.specs.Expressions.{nets_of_shape, Named, implies, is_whole, bits_of_name, bits_of_meaning, implied_net}
+use Rattle.dft_netlist_text.specs.Expressions.{nets_of_shape, SelectedName, implies, is_whole, bits_of_name, bits_of_meaning, implied_net}
 use Rattle.dft_netlist_text.specs.declared.text.Site.{Site}
 use Rattle.dft_netlist_text.specs.declared.text.Meaning.{Meaning}
 use Rattle.dft_netlist_text.specs.Modules.{Draft, meaning_of, declare_nets}
@@ -24,5 +24,5 @@ nets_more before first n =
     ∙ ap (λ t. before ++ t) (sym (ap (nets_of_shape first) (add-one n) ∙ nets_next first n))
 
 -- a name that was not declared is implied
-pub name-implied : (at : Site) (depth : ℕ) (named : Named) (d : Draft) → (implies at depth && is_whole named.what) ≡ true → meaning_of d named.word ≡ None → bits_of_name at depth named d ≡ implied_net named d (declare_nets named.place named.word None d)
+pub name-implied : (at : Site) (depth : ℕ) (named : SelectedName) (d : Draft) → (implies at depth && is_whole named.what) ≡ true → meaning_of d named.word ≡ None → bits_of_name at depth named d ≡ implied_net named d (declare_nets named.place named.word None d)
 name-implied at depth named d implied free = ap₂ (λ (b : Bool) (m : Option Meaning). bits_of_meaning b named d m) implied free

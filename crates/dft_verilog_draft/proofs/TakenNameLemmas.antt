@@ -6,18 +6,18 @@ use Rattle.indexmap.specs.IndexMap.{insert_entry}
 use Rattle.std.proofs.lemmas.Slice.Eq.{bytes_eq-Decides}
 use Rattle.std.proofs.lemmas.Bool.Decides.{same_from_decides, Decides-like}
 use Rattle.dft_netlist_text.specs.declared.text.Meaning.{Meaning}
-use Rattle.dft_netlist_text.specs.Modules.{Entry}
+use Rattle.dft_netlist_text.specs.Modules.{TakenName}
 use Rattle.dft_verilog_draft.specs.TakenNames.{meaning_in}
 
 pub bytes_eq-comm : (xs ys : List ℕ) → bytes_eq xs ys ≡ bytes_eq ys xs
 bytes_eq-comm xs ys = same_from_decides (bytes_eq xs ys) (bytes_eq ys xs) (bytes_eq-Decides xs ys) (Decides-like (bytes_eq ys xs) sym sym (bytes_eq-Decides ys xs))
 
 -- the first of two, or else the rest, seen by its meaning
-first_or : (here : Bool) (e : Entry) (rest : Option Meaning) (more : Option Entry) → rest ≡ option_map (λ (o : Entry). o.meaning) more → cond here (Some e.meaning) rest ≡ option_map (λ (o : Entry). o.meaning) (cond here (Some e) more)
+first_or : (here : Bool) (e : TakenName) (rest : Option Meaning) (more : Option TakenName) → rest ≡ option_map (λ (o : TakenName). o.meaning) more → cond here (Some e.meaning) rest ≡ option_map (λ (o : TakenName). o.meaning) (cond here (Some e) more)
 first_or true e rest more same = refl
 first_or false e rest more same = same
 
-abbrev entry_of : {K : Type 0} → (K → List ℕ) → K × Meaning → Entry
+abbrev entry_of : {K : Type 0} → (K → List ℕ) → K × Meaning → TakenName
 entry_of shown e = record { name = shown e.0; meaning = e.1 }
 
 -- a look-up among keys that show their bytes

@@ -12,7 +12,7 @@ use Rattle.dft_netlist.specs.declared.instance.Join.{Join}
 use Rattle.dft_netlist.specs.declared.limits.TheConstants.{MAX_PORTS, MAX_NETS, MAX_INSTANCES}
 use Rattle.dft_netlist.specs.Netlist.{Netlist}
 use Rattle.dft_netlist.specs.Sound.{IsInstanceOf, IsJoinOf}
-use Rattle.dft_netlist_text.specs.Modules.{Draft, HeaderPort, Entry, net_count}
+use Rattle.dft_netlist_text.specs.Modules.{Draft, HeaderPort, TakenName, net_count}
 
 -- the nets of a name are among the first `count`
 abbrev pub IsShapeWithin : (count : ℕ) → Shape → Type 0
@@ -26,8 +26,8 @@ IsMeaningWithin count meaning.Bit = Unit {0}
 IsMeaningWithin count meaning.Instance = Unit {0}
 
 -- the nets of all these names are
-abbrev pub AreNamesWithin : (count : ℕ) → List Entry → Type 0
-AreNamesWithin count names = All (λ (e : Entry). IsMeaningWithin count e.meaning) names
+abbrev pub AreNamesWithin : (count : ℕ) → List TakenName → Type 0
+AreNamesWithin count names = All (λ (e : TakenName). IsMeaningWithin count e.meaning) names
 
 -- the nets of a port that was declared are
 abbrev pub IsDeclaredWithin : (count : ℕ) → Option Declared → Type 0
@@ -35,8 +35,8 @@ IsDeclaredWithin count None = Unit {0}
 IsDeclaredWithin count (Some declared) = IsShapeWithin count declared.shape
 
 -- a netlist of these nets alone, in which instances and joins are to stand
-abbrev pub bare : Text → List Cell → (nets : List Text) → Netlist
-bare name library nets = record { name = name; library = library; ports = []; nets = nets; instances = []; joins = [] }
+abbrev pub netlist_of_nets : Text → List Cell → (nets : List Text) → Netlist
+netlist_of_nets name library nets = record { name = name; library = library; ports = []; nets = nets; instances = []; joins = [] }
 
 -- an instance has a cell and as many pins as the cell, on nets that are there, and no constant at an output
 abbrev pub InstanceFits : Netlist → Instance → Type 0
@@ -47,7 +47,7 @@ JoinFits n j = IsJoinOf n j.target j.source
 
 -- the nets of a draft, among which its instances and joins stand
 abbrev pub nets_alone : Draft → Netlist
-nets_alone d = bare d.name d.library d.nets
+nets_alone d = netlist_of_nets d.name d.library d.nets
 
 -- what each draft keeps
 pub record IsDraft (d : Draft) : Type 0 where

@@ -9,25 +9,25 @@ use Rattle.dft_netlist_text.specs.declared.text.Fault.{Fault}
 use Rattle.dft_netlist_text.specs.declared.text.Meaning.TheVariants as meaning
 use Rattle.dft_netlist.specs.Names.{bit_names}
 use Rattle.dft_netlist_text.specs.Steps.{fault}
-use Rattle.dft_netlist_text.specs.Modules.{Draft, Entry, first_taken, names_of_bits, with_bits}
+use Rattle.dft_netlist_text.specs.Modules.{Draft, TakenName, first_taken, names_of_bits, with_bits}
 use Rattle.dft_verilog_draft.specs.TakenNames.{meaning_in}
 
 -- the name of a bit is taken
-abbrev pub bit_entry : Text → Entry
-bit_entry word = record { name = word; meaning = meaning.Bit }
+abbrev pub taken_bit : Text → TakenName
+taken_bit word = record { name = word; meaning = meaning.Bit }
 
 -- the names of bits are taken, one after another
-abbrev pub and_bits : List Entry → List Text → List Entry
+abbrev pub and_bits : List TakenName → List Text → List TakenName
 and_bits names [] = names
-and_bits names (word ∷ words) = and_bits (names ++ bit_entry word ∷ []) words
+and_bits names (word ∷ words) = and_bits (names ++ taken_bit word ∷ []) words
 
 -- these names are free, each also when those before it are taken
-abbrev pub AreFree : List Entry → List Text → Type 0
+abbrev pub AreFree : List TakenName → List Text → Type 0
 AreFree names [] = Unit {0}
-AreFree names (word ∷ words) = (meaning_in names word ≡ None) × AreFree (names ++ bit_entry word ∷ []) words
+AreFree names (word ∷ words) = (meaning_in names word ≡ None) × AreFree (names ++ taken_bit word ∷ []) words
 
 -- the bits of a vector are, and a scalar has none
-abbrev pub AreFreeBits : Option Range → List Entry → List Text → Type 0
+abbrev pub AreFreeBits : Option Range → List TakenName → List Text → Type 0
 AreFreeBits None names bits = Unit {0}
 AreFreeBits (Some range) names bits = AreFree names bits
 

@@ -7,5 +7,5 @@ pub mod BitNames
 pub mod Free
 pub mod Drafts
 pub mod ModuleDraftShown
-pub mod Selecting
+pub mod Selects
 pub mod Operands

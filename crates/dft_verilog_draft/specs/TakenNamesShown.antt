@@ -1,8 +1,8 @@
 -- What a `TakenNames` shows.
 use Rattle.std.specs.Prelude.{List, map}
 use Rattle.std.specs.Cow.{cow_slice_items}
-use Rattle.dft_netlist_text.specs.Modules.{Entry}
+use Rattle.dft_netlist_text.specs.Modules.{TakenName}
 use Rattle.dft_verilog_draft.specs.declared.taken_names.TakenNames.TheInside.{Inside}
 
-abbrev pub names_of : Inside → List Entry
-names_of t = map (λ e. record { name = cow_slice_items e.0; meaning = e.1 }) t.meanings.entries
+abbrev pub taken_names : Inside → List TakenName
+taken_names t = map (λ e. record { name = cow_slice_items e.0; meaning = e.1 }) t.meanings.entries

@@ -2,7 +2,7 @@
 
 ghost use Rattle.std.specs.Prelude.{◌≡◌, ◌<◌, Some, IfOk};
 ghost use Rattle.dft_base.specs.Name.{IsName};
-ghost use Rattle.dft_netlist_text.specs.Modules as spec;
+ghost use Rattle.dft_base.specs.Ranges as ranges;
 ghost use Rattle.dft_netlist.specs.Names as names;
 ghost use Rattle.dft_verilog_draft.specs.BitNames as bits;
 ghost use Rattle.dft_verilog_draft.specs.Free.{AreBitsApart};
@@ -14,7 +14,7 @@ use std::alloc::{AllocError, Global};
 
 /// How many bits a range has.
 pub fn width(range: Range) -> usize
-    ensures { result ≡ spec.width range }
+    ensures { result ≡ ranges.width range }
 {
     if range.right <= range.left {
         usize::from(range.left - range.right) + 1
@@ -25,7 +25,7 @@ pub fn width(range: Range) -> usize
 
 /// The index of the bit at this place from the left.
 fn index_at(range: Range, place: usize) -> u16
-    requires { place < spec.width range }
+    requires { place < ranges.width range }
     ensures { result ≡ bits.index_at range place }
 {
     if range.left <= range.right {

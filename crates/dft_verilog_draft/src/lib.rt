@@ -7,11 +7,11 @@ mod draft_instance;
 mod header_port;
 mod module_draft;
 mod naming;
-mod selecting;
+mod selects;
 mod taken_names;
 
 pub use bits::width;
 pub use draft_instance::DraftInstance;
 pub use header_port::HeaderPort;
 pub use module_draft::ModuleDraft;
-pub use selecting::Spot;
+pub use selects::Spot;

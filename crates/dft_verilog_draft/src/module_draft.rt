@@ -46,7 +46,7 @@ impl<'a> Model for ModuleDraft<'a> {
 impl<'a> ModuleDraft<'a> {
     /// The module with this name that has said nothing yet.
     pub fn new(alloc: Global, name: Name, library: Library) -> ModuleDraft<'a>
-        ensures { result ≡ spec.begun name library }
+        ensures { result ≡ spec.empty_draft name library }
     {
         ModuleDraft {
             alloc,

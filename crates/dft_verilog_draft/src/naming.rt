@@ -7,10 +7,10 @@ ghost use Rattle.dft_netlist_text.specs.Modules.{Draft, meaning_of};
 ghost use Rattle.dft_verilog_tokens.specs.Reading.{Checks};
 ghost use Rattle.dft_verilog_draft.specs.Drafts.{IsMeaningWithin};
 ghost use Rattle.dft_verilog_draft.specs.Operands.{Grows, AreBits, IsBit};
-ghost use Rattle.dft_verilog_draft.specs.Selecting.{behind, lone, lone_of, lone_net};
+ghost use Rattle.dft_verilog_draft.specs.Selects.{behind_bits, lone, lone_of, lone_net};
 
 use crate::module_draft::ModuleDraft;
-use crate::selecting::Spot;
+use crate::selects::Spot;
 use dft_netlist::{NetId, PinSignals, Signal};
 use dft_netlist_text::{Cause, Meaning, Select};
 use dft_verilog_tokens::{ReadError, refused};
@@ -51,7 +51,7 @@ impl<'a> ModuleDraft<'a> {
         bits: &mut PinSignals,
     ) -> Result<(), ReadError>
         requires { IsName word.now }
-        ensures read { Checks (λ _. (self.new, bits.new)) (behind bits.old (spec.bits_of_name spot.site spot.depth (record { word = word.now; what = what; place = spot.place }) self.old)) result }
+        ensures read { Checks (λ _. (self.new, bits.new)) (behind_bits bits.old (spec.bits_of_name spot.site spot.depth (record { word = word.now; what = what; place = spot.place }) self.old)) result }
         ensures grown { OnOk result (Grows self.old self.new) }
         ensures bits { AreBits (length self.old.nets) (spec.drives spot.site) bits.old → OnOk result (AreBits (length self.new.nets) (spec.drives spot.site) bits.new) }
     {
@@ -71,7 +71,7 @@ impl<'a> ModuleDraft<'a> {
         requires name { IsName word.now }
         requires is { meaning ≡ meaning_of self.old word.now }
         requires within { IfSome meaning (IsMeaningWithin (length self.old.nets)) }
-        ensures read { Checks (λ _. (self.new, bits.new)) (behind bits.old (spec.bits_of_name spot.site spot.depth (record { word = word.now; what = what; place = spot.place }) self.old)) result }
+        ensures read { Checks (λ _. (self.new, bits.new)) (behind_bits bits.old (spec.bits_of_name spot.site spot.depth (record { word = word.now; what = what; place = spot.place }) self.old)) result }
         ensures grown { OnOk result (Grows self.old self.new) }
         ensures bits { AreBits (length self.old.nets) (spec.drives spot.site) bits.old → OnOk result (AreBits (length self.new.nets) (spec.drives spot.site) bits.new) }
     {

@@ -20,13 +20,13 @@ pub struct TakenNames<'a> {
 
 impl<'a> Model for TakenNames<'a> {
     ghost use Rattle.std.specs.Prelude.{List};
-    ghost use Rattle.dft_netlist_text.specs.Modules.{Entry};
+    ghost use Rattle.dft_netlist_text.specs.Modules.{TakenName};
 
-    ghost Value = { List Entry };
+    ghost Value = { List TakenName };
 
-    ghost use Rattle.dft_verilog_draft.specs.TakenNamesShown.{names_of};
+    ghost use Rattle.dft_verilog_draft.specs.TakenNamesShown.{taken_names};
 
-    ghost view = { names_of };
+    ghost view = { taken_names };
 }
 
 impl<'a> TakenNames<'a> {

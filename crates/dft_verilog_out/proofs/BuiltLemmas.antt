@@ -7,6 +7,7 @@ use Rattle.std.proofs.lemmas.Bool.Decides.{nat_tests}
 use Rattle.std.proofs.lemmas.List.Elements.{filter_map-append, filter-append}
 use Rattle.dft_base.specs.declared.place.Range.{Range}
 use Rattle.dft_base.specs.Lexing.{Text}
+use Rattle.dft_base.specs.Ranges.{going_up}
 use Rattle.dft_netlist.specs.declared.ids.NetId.{NetId}
 use Rattle.dft_netlist.specs.declared.port.Port.{Port}
 use Rattle.dft_netlist.specs.declared.instance.Signal.{Signal}
@@ -22,7 +23,7 @@ use Rattle.dft_netlist.specs.Names.{bit_names, port_names, names_taken, is_taken
 use Rattle.dft_netlist.specs.NetNumbers.{nets_from}
 use Rattle.dft_netlist.specs.Sound.{IsLive, AreLive, bits_of, bit_names_of, IsAJoin, IsNetlist}
 use Rattle.dft_netlist.specs.Building.{empty_netlist, port_of, taken_or, port_limit, own_names, port_refusal, instance_refusal}
-use Rattle.dft_netlist_text.specs.Modules.{Entry, Draft, count_from}
+use Rattle.dft_netlist_text.specs.Modules.{TakenName, Draft}
 use Rattle.dft_netlist_text.specs.NetlistText.{nets_of_ports, other_nets, net_order, final_net, final_signal, Grown, unless_refused, and_grown, add_port, add_ports, add_net, add_nets, add_instance, add_instances, final_join, add_joins, names_of_others, built}
 use Rattle.dft_verilog_out.proofs.CountLemmas.{Once, times, times-append, times-head, one_if, has_name-none}
 use Rattle.dft_verilog_out.proofs.FindLemmas.{position-cons}
@@ -30,118 +31,118 @@ use Rattle.dft_verilog_out.proofs.PhaseLemmas.{stage, declared_ports, net_count-
 
 -- ---- numbers
 
-count_append : (from a b : ℕ) → count_from from (a + b) ≡ count_from from a ++ count_from (from + a) b
-count_append from zero b = let e : 0 + b ≡ b = omega arith in let f : from ≡ from + 0 = omega arith in ap (count_from from) e ∙ ap (λ k. count_from k b) f
+count_append : (from a b : ℕ) → going_up from (a + b) ≡ going_up from a ++ going_up (from + a) b
+count_append from zero b = let e : 0 + b ≡ b = omega arith in let f : from ≡ from + 0 = omega arith in ap (going_up from) e ∙ ap (λ k. going_up k b) f
 count_append from (suc a) b =
     let e : suc a + b ≡ suc (a + b) = omega arith in
     let f : suc from + a ≡ from + suc a = omega arith in
-    ap (count_from from) e ∙ ap (λ (ks : List ℕ). from ∷ ks) (count_append (suc from) a b ∙ ap (λ k. count_from (suc from) a ++ count_from k b) f)
+    ap (going_up from) e ∙ ap (λ (ks : List ℕ). from ∷ ks) (count_append (suc from) a b ∙ ap (λ k. going_up (suc from) a ++ going_up k b) f)
 
-ports_count : (first : ℕ) (ps : List Port) → nets_of_ports (declared_ports first ps) ≡ count_from first (length (bit_names_of ps))
+ports_count : (first : ℕ) (ps : List Port) → nets_of_ports (declared_ports first ps) ≡ going_up first (length (bit_names_of ps))
 ports_count first [] = refl
 ports_count first (p ∷ ps) =
     let size : length (bit_names_of (p ∷ ps)) ≡ length (bit_names p.name p.range) + length (bit_names_of ps) = length-append (bit_names p.name p.range) (bit_names_of ps) in
-    ap (λ k. count_from first k ++ nets_of_ports (declared_ports (first + length (bit_names p.name p.range)) ps)) (net_count-is p.name p.range)
-    ∙ ap (λ ks. count_from first (length (bit_names p.name p.range)) ++ ks) (ports_count (first + length (bit_names p.name p.range)) ps)
-    ∙ sym (ap (count_from first) size ∙ count_append first (length (bit_names p.name p.range)) (length (bit_names_of ps)))
+    ap (λ k. going_up first k ++ nets_of_ports (declared_ports (first + length (bit_names p.name p.range)) ps)) (net_count-is p.name p.range)
+    ∙ ap (λ ks. going_up first (length (bit_names p.name p.range)) ++ ks) (ports_count (first + length (bit_names p.name p.range)) ps)
+    ∙ sym (ap (going_up first) size ∙ count_append first (length (bit_names p.name p.range)) (length (bit_names_of ps)))
 
-any_in : (k from n : ℕ) → from ≤ k → k < from + n → list_any (λ bit. eqb bit k) (count_from from n) ≡ true
+any_in : (k from n : ℕ) → from ≤ k → k < from + n → list_any (λ bit. eqb bit k) (going_up from n) ≡ true
 any_in k from zero low high = absurd (omega arith)
 any_in k from (suc n) low high = by (eqb from k) refl (any_in k (suc from) n)
   where
-    by : (t : Bool) → eqb from k ≡ t → (suc from ≤ k → k < suc from + n → list_any (λ bit. eqb bit k) (count_from (suc from) n) ≡ true) → (t || list_any (λ bit. eqb bit k) (count_from (suc from) n)) ≡ true
+    by : (t : Bool) → eqb from k ≡ t → (suc from ≤ k → k < suc from + n → list_any (λ bit. eqb bit k) (going_up (suc from) n) ≡ true) → (t || list_any (λ bit. eqb bit k) (going_up (suc from) n)) ≡ true
     by true is ih = refl
     by false is ih = let other : suc from ≤ k = grind (arith, nat_tests) in ih other (omega arith)
 
-any_out : (k from n : ℕ) → from + n ≤ k → list_any (λ bit. eqb bit k) (count_from from n) ≡ false
+any_out : (k from n : ℕ) → from + n ≤ k → list_any (λ bit. eqb bit k) (going_up from n) ≡ false
 any_out k from zero past = refl
 any_out k from (suc n) past = let e : eqb from k ≡ false = grind (arith, nat_tests) in rw (e, any_out k (suc from) n (omega arith)) refl
 
 abbrev is_other : (bits : ℕ) → ℕ → Bool
-is_other bits net = not (list_any (λ bit. eqb bit net) (count_from 0 bits))
+is_other bits net = not (list_any (λ bit. eqb bit net) (going_up 0 bits))
 
-filter_bits : (bits from n : ℕ) → from + n ≤ bits → filter (is_other bits) (count_from from n) ≡ []
+filter_bits : (bits from n : ℕ) → from + n ≤ bits → filter (is_other bits) (going_up from n) ≡ []
 filter_bits bits from zero le = refl
-filter_bits bits from (suc n) le = let e : list_any (λ bit. eqb bit from) (count_from 0 bits) ≡ true = any_in from 0 bits (omega arith) (omega arith) in rw e (filter_bits bits (suc from) n (omega arith))
+filter_bits bits from (suc n) le = let e : list_any (λ bit. eqb bit from) (going_up 0 bits) ≡ true = any_in from 0 bits (omega arith) (omega arith) in rw e (filter_bits bits (suc from) n (omega arith))
 
-filter_others : (bits from n : ℕ) → bits ≤ from → filter (is_other bits) (count_from from n) ≡ count_from from n
+filter_others : (bits from n : ℕ) → bits ≤ from → filter (is_other bits) (going_up from n) ≡ going_up from n
 filter_others bits from zero le = refl
-filter_others bits from (suc n) le = let e : list_any (λ bit. eqb bit from) (count_from 0 bits) ≡ false = any_out from 0 bits (omega arith) in rw (e, filter_others bits (suc from) n (omega arith)) refl
+filter_others bits from (suc n) le = let e : list_any (λ bit. eqb bit from) (going_up 0 bits) ≡ false = any_out from 0 bits (omega arith) in rw (e, filter_others bits (suc from) n (omega arith)) refl
 
 -- the nets of a draft whose ports have the first numbers are in their order
 module _ (d : Draft) (ps : List Port) (ws : List Text) (ports : d.ports ≡ declared_ports 0 ps) (nets : d.nets ≡ bit_names_of ps ++ ws) where
-  bits_first : nets_of_ports d.ports ≡ count_from 0 (length (bit_names_of ps))
+  bits_first : nets_of_ports d.ports ≡ going_up 0 (length (bit_names_of ps))
   bits_first = ap nets_of_ports ports ∙ ports_count 0 ps
 
-  pub others_count : other_nets d ≡ count_from (length (bit_names_of ps)) (length ws)
+  pub others_count : other_nets d ≡ going_up (length (bit_names_of ps)) (length ws)
   others_count =
       let bits : ℕ = length (bit_names_of ps) in
       let size : length d.nets ≡ bits + length ws = ap length nets ∙ length-append (bit_names_of ps) ws in
       let zeroth : 0 + bits ≡ bits = omega arith in
-      ap (λ (ks : List ℕ). filter (λ net. not (list_any (λ bit. eqb bit net) ks)) (count_from 0 (length d.nets))) bits_first
-      ∙ ap (filter (is_other bits)) (ap (count_from 0) size ∙ count_append 0 bits (length ws) ∙ ap (λ k. count_from 0 bits ++ count_from k (length ws)) zeroth)
-      ∙ filter-append (is_other bits) (count_from 0 bits) (count_from bits (length ws))
-      ∙ ap (λ ks. ks ++ filter (is_other bits) (count_from bits (length ws))) (filter_bits bits 0 bits (omega arith)) ∙ filter_others bits bits (length ws) (omega arith)
+      ap (λ (ks : List ℕ). filter (λ net. not (list_any (λ bit. eqb bit net) ks)) (going_up 0 (length d.nets))) bits_first
+      ∙ ap (filter (is_other bits)) (ap (going_up 0) size ∙ count_append 0 bits (length ws) ∙ ap (λ k. going_up 0 bits ++ going_up k (length ws)) zeroth)
+      ∙ filter-append (is_other bits) (going_up 0 bits) (going_up bits (length ws))
+      ∙ ap (λ ks. ks ++ filter (is_other bits) (going_up bits (length ws))) (filter_bits bits 0 bits (omega arith)) ∙ filter_others bits bits (length ws) (omega arith)
 
-  pub order_count : net_order d ≡ count_from 0 (length d.nets)
+  pub order_count : net_order d ≡ going_up 0 (length d.nets)
   order_count =
       let bits : ℕ = length (bit_names_of ps) in
       let size : length d.nets ≡ bits + length ws = ap length nets ∙ length-append (bit_names_of ps) ws in
       let zeroth : 0 + bits ≡ bits = omega arith in
-      ap (λ ks. ks ++ other_nets d) bits_first ∙ ap (λ ks. count_from 0 bits ++ ks) others_count
-      ∙ sym (ap (count_from 0) size ∙ count_append 0 bits (length ws) ∙ ap (λ k. count_from 0 bits ++ count_from k (length ws)) zeroth)
+      ap (λ ks. ks ++ other_nets d) bits_first ∙ ap (λ ks. going_up 0 bits ++ ks) others_count
+      ∙ sym (ap (going_up 0) size ∙ count_append 0 bits (length ws) ∙ ap (λ k. going_up 0 bits ++ going_up k (length ws)) zeroth)
 
   others_named : names_of_others d ≡ ws
   others_named =
-      ap (map (λ net. slice_index_or d.nets net [])) others_count ∙ ap (λ (xs : List Text). map (λ net. slice_index_or xs net []) (count_from (length (bit_names_of ps)) (length ws))) nets ∙ named_from (bit_names_of ps) ws
+      ap (map (λ net. slice_index_or d.nets net [])) others_count ∙ ap (λ (xs : List Text). map (λ net. slice_index_or xs net []) (going_up (length (bit_names_of ps)) (length ws))) nets ∙ named_from (bit_names_of ps) ws
     where
       here : (front : List Text) (w : Text) (rest : List Text) → get_or (front ++ w ∷ rest) (length front) [] ≡ w
       here [] w rest = refl
       here (x ∷ front) w rest = here front w rest
 
-      named_from : (front rest : List Text) → map (λ net. slice_index_or (front ++ rest) net []) (count_from (length front) (length rest)) ≡ rest
+      named_from : (front rest : List Text) → map (λ net. slice_index_or (front ++ rest) net []) (going_up (length front) (length rest)) ≡ rest
       named_from front [] = refl
       named_from front (w ∷ rest) =
           let next : length (front ++ w ∷ []) ≡ suc (length front) = omega (arith, length-append front (w ∷ [])) in
-          ap (λ x. x ∷ map (λ net. slice_index_or (front ++ w ∷ rest) net []) (count_from (suc (length front)) (length rest))) (here front w rest)
-          ∙ ap (λ xs. w ∷ xs) (ap (λ (xs : List Text). map (λ net. slice_index_or xs net []) (count_from (suc (length front)) (length rest))) (sym (append_assoc front (w ∷ []) rest))
-          ∙ ap (λ k. map (λ net. slice_index_or ((front ++ w ∷ []) ++ rest) net []) (count_from k (length rest))) (sym next) ∙ named_from (front ++ w ∷ []) rest)
+          ap (λ x. x ∷ map (λ net. slice_index_or (front ++ w ∷ rest) net []) (going_up (suc (length front)) (length rest))) (here front w rest)
+          ∙ ap (λ xs. w ∷ xs) (ap (λ (xs : List Text). map (λ net. slice_index_or xs net []) (going_up (suc (length front)) (length rest))) (sym (append_assoc front (w ∷ []) rest))
+          ∙ ap (λ k. map (λ net. slice_index_or ((front ++ w ∷ []) ++ rest) net []) (going_up k (length rest))) (sym next) ∙ named_from (front ++ w ∷ []) rest)
 
 -- ---- final numbers
 
-place_of : (from n k : ℕ) → k < n → position (λ other. eqb other (from + k)) (count_from from n) ≡ Some k
+place_of : (from n k : ℕ) → k < n → position (λ other. eqb other (from + k)) (going_up from n) ≡ Some k
 place_of from zero k lt = absurd (omega arith)
 place_of from (suc n) zero lt =
     let e : eqb from (from + 0) ≡ true = grind (arith, nat_tests) in
-    position-cons (λ other. eqb other (from + 0)) from (count_from (suc from) n) ∙ rw e refl
+    position-cons (λ other. eqb other (from + 0)) from (going_up (suc from) n) ∙ rw e refl
 place_of from (suc n) (suc k) lt =
     let e : eqb from (from + suc k) ≡ false = grind (arith, nat_tests) in
     let next : from + suc k ≡ suc from + k = omega arith in
-    position-cons (λ other. eqb other (from + suc k)) from (count_from (suc from) n)
-    ∙ rw e (ap (λ m. option_map suc (position (λ other. eqb other m) (count_from (suc from) n))) next ∙ ap (option_map suc) (place_of (suc from) n k (omega arith)))
+    position-cons (λ other. eqb other (from + suc k)) from (going_up (suc from) n)
+    ∙ rw e (ap (λ m. option_map suc (position (λ other. eqb other m) (going_up (suc from) n))) next ∙ ap (option_map suc) (place_of (suc from) n k (omega arith)))
 
-pub final_same : (count : ℕ) (net : NetId) → net.0 < count → final_net (count_from 0 count) net ≡ net
+pub final_same : (count : ℕ) (net : NetId) → net.0 < count → final_net (going_up 0 count) net ≡ net
 final_same count net lt =
     let zeroth : 0 + net.0 ≡ net.0 = omega arith in
-    ap (λ (o : Option ℕ). record { 0 = unwrap_or o 0 }) (ap (λ m. position (λ other. eqb other m) (count_from 0 count)) (sym zeroth) ∙ place_of 0 count net.0 lt)
+    ap (λ (o : Option ℕ). record { 0 = unwrap_or o 0 }) (ap (λ m. position (λ other. eqb other m) (going_up 0 count)) (sym zeroth) ∙ place_of 0 count net.0 lt)
 
-signal_same : (count : ℕ) (s : Signal) → IsLive count s → final_signal (count_from 0 count) s ≡ s
+signal_same : (count : ℕ) (s : Signal) → IsLive count s → final_signal (going_up 0 count) s ≡ s
 signal_same count (signal.Net net) live = ap signal.Net (final_same count net live)
 signal_same count (signal.Constant bit) live = refl
 signal_same count signal.Unconnected live = refl
 
-pub pins_same : (count : ℕ) (pins : List Signal) → AreLive count pins → map (final_signal (count_from 0 count)) pins ≡ pins
+pub pins_same : (count : ℕ) (pins : List Signal) → AreLive count pins → map (final_signal (going_up 0 count)) pins ≡ pins
 pins_same count [] live = refl
 pins_same count (s ∷ pins) live =
-    ap (λ x. x ∷ map (final_signal (count_from 0 count)) pins) (signal_same count s (live 0 s refl)) ∙ ap (λ xs. s ∷ xs) (pins_same count pins (λ place t at. live (suc place) t at))
+    ap (λ x. x ∷ map (final_signal (going_up 0 count)) pins) (signal_same count s (live 0 s refl)) ∙ ap (λ xs. s ∷ xs) (pins_same count pins (λ place t at. live (suc place) t at))
 
-joins_same : (count : ℕ) (joins : List Join) → ((place : ℕ) (j : Join) → slice_get joins place ≡ Some j → IsAJoin count j.target j.source) → map (final_join (count_from 0 count)) joins ≡ joins
+joins_same : (count : ℕ) (joins : List Join) → ((place : ℕ) (j : Join) → slice_get joins place ≡ Some j → IsAJoin count j.target j.source) → map (final_join (going_up 0 count)) joins ≡ joins
 joins_same count [] stands = refl
 joins_same count (j ∷ joins) stands =
     let here = stands 0 j refl in
-    let one : final_join (count_from 0 count) j ≡ j =
-    ap (λ (t : NetId). record { target = t; source = final_signal (count_from 0 count) j.source }) (final_same count j.target here.target_live) ∙ ap (λ (s : Signal). record { target = j.target; source = s }) (signal_same count j.source here.source_live) in
-    ap (λ (x : Join). x ∷ map (final_join (count_from 0 count)) joins) one ∙ ap (λ (xs : List Join). j ∷ xs) (joins_same count joins (λ place k at. stands (suc place) k at))
+    let one : final_join (going_up 0 count) j ≡ j =
+    ap (λ (t : NetId). record { target = t; source = final_signal (going_up 0 count) j.source }) (final_same count j.target here.target_live) ∙ ap (λ (s : Signal). record { target = j.target; source = s }) (signal_same count j.source here.source_live) in
+    ap (λ (x : Join). x ∷ map (final_join (going_up 0 count)) joins) one ∙ ap (λ (xs : List Join). j ∷ xs) (joins_same count joins (λ place k at. stands (suc place) k at))
 
 -- ---- parts that are not refused
 
@@ -328,7 +329,7 @@ own_free : (m : Netlist) (name : Option Text) (rest : List Text) → Room m (con
 own_free m None rest room = refl
 own_free m (Some w) rest room = none_taken m (w ∷ []) (λ word some. let r = room word in omega arith)
 
-instances_added : (order : List ℕ) (count : ℕ) (todo : List Instance) (m : Netlist) → order ≡ count_from 0 count → ((place : ℕ) (i : Instance) → slice_get todo place ≡ Some i → AreLive count i.pins)
+instances_added : (order : List ℕ) (count : ℕ) (todo : List Instance) (m : Netlist) → order ≡ going_up 0 count → ((place : ℕ) (i : Instance) → slice_get todo place ≡ Some i → AreLive count i.pins)
     → Room m (filter_map instance_name todo) → length m.instances + length todo ≤ MAX_INSTANCES → add_instances order todo m ≡ Ok (with_more_instances m (m.instances ++ todo))
 instances_added order count [] m ordered live room few = ap (λ (is : List Instance). Ok (with_more_instances m is)) (sym (append-nil m.instances))
 instances_added order count (i ∷ todo) m ordered live room few =
@@ -371,7 +372,7 @@ names_of_all n ws nets once word =
     times_all word' (p ∷ ps) = omega (arith, times-append word (port_names p.name p.range) (all_port_names ps), times_all word' ps, one_by p.name p.range (bit_names_of ps) (filter_map vector_name ps))
 
 -- the draft of a text that was written is built to the netlist
-pub draft_built : (n : Netlist) (names : List Entry) (ws : List Text) → IsNetlist n → n.nets ≡ bit_names_of n.ports ++ ws → Once (names_taken n) → built (stage n names (declared_ports 0 n.ports) (bit_names_of n.ports ++ ws) n.instances n.joins) ≡ Ok n
+pub draft_built : (n : Netlist) (names : List TakenName) (ws : List Text) → IsNetlist n → n.nets ≡ bit_names_of n.ports ++ ws → Once (names_taken n) → built (stage n names (declared_ports 0 n.ports) (bit_names_of n.ports ++ ws) n.instances n.joins) ≡ Ok n
 unfolding built
 draft_built n names ws sound nets once =
     let d = stage n names (declared_ports 0 n.ports) (bit_names_of n.ports ++ ws) n.instances n.joins in

@@ -11,7 +11,7 @@ use Rattle.dft_netlist.specs.declared.named.Named.{Named}
 use Rattle.dft_netlist.specs.declared.named.Named.TheVariants as named
 use Rattle.dft_netlist.specs.Netlist.{Netlist}
 use Rattle.dft_netlist.specs.Names.{NamesDiffer, names_taken, vector_name, instance_name}
-use Rattle.dft_netlist_text.specs.Modules.{Entry}
+use Rattle.dft_netlist_text.specs.Modules.{TakenName}
 
 abbrev pub one_if : Bool → ℕ
 one_if b = cond b 1 0
@@ -49,35 +49,35 @@ has_name-none [] word h = refl
 has_name-none (x ∷ xs) word h = none_by (bytes_eq x word) (has_name xs word) (times word xs) 0 h (has_name-none xs word)
 
 -- the entry of a name
-abbrev pub look : List Entry → Text → Option Entry
+abbrev pub look : List TakenName → Text → Option TakenName
 look es word = find (λ e. bytes_eq e.name word) es
 
-abbrev pub words : List Entry → List Text
-words es = map (λ (e : Entry). e.name) es
+abbrev pub words : List TakenName → List Text
+words es = map (λ (e : TakenName). e.name) es
 
-look_none_by : (b : Bool) (e : Entry) (r : Option Entry) (n : ℕ) → one_if b + n ≡ 0 → (n ≡ 0 → r ≡ None) → cond b (Some e) r ≡ None
+look_none_by : (b : Bool) (e : TakenName) (r : Option TakenName) (n : ℕ) → one_if b + n ≡ 0 → (n ≡ 0 → r ≡ None) → cond b (Some e) r ≡ None
 look_none_by true e r n h ih = absurd (omega arith)
 look_none_by false e r n h ih = ih (omega arith)
 
-pub look-none : (es : List Entry) (word : Text) → times word (words es) ≡ 0 → look es word ≡ None
+pub look-none : (es : List TakenName) (word : Text) → times word (words es) ≡ 0 → look es word ≡ None
 look-none [] word h = refl
 look-none (e ∷ es) word h = look_none_by (bytes_eq e.name word) e (look es word) (times word (words es)) h (look-none es word)
 
-kept_by : (b : Bool) (e x : Entry) (r r' : Option Entry) → (r ≡ Some x → r' ≡ Some x) → cond b (Some e) r ≡ Some x → cond b (Some e) r' ≡ Some x
+kept_by : (b : Bool) (e x : TakenName) (r r' : Option TakenName) → (r ≡ Some x → r' ≡ Some x) → cond b (Some e) r ≡ Some x → cond b (Some e) r' ≡ Some x
 kept_by true e x r r' ih h = h
 kept_by false e x r r' ih h = ih h
 
 -- what is found stays found
-pub look-kept : (es more : List Entry) (word : Text) (x : Entry) → look es word ≡ Some x → look (es ++ more) word ≡ Some x
+pub look-kept : (es more : List TakenName) (word : Text) (x : TakenName) → look es word ≡ Some x → look (es ++ more) word ≡ Some x
 look-kept [] more word x h = absurd (cc)
 look-kept (e ∷ es) more word x h = kept_by (bytes_eq e.name word) e x (look es word) (look (es ++ more) word) (look-kept es more word x) h
 
-new_by : (b : Bool) (e x : Entry) (r r' : Option Entry) (n : ℕ) → one_if b + n ≡ 0 → (n ≡ 0 → r' ≡ Some x) → cond b (Some e) r' ≡ Some x
+new_by : (b : Bool) (e x : TakenName) (r r' : Option TakenName) (n : ℕ) → one_if b + n ≡ 0 → (n ≡ 0 → r' ≡ Some x) → cond b (Some e) r' ≡ Some x
 new_by true e x r r' n h ih = absurd (omega arith)
 new_by false e x r r' n h ih = ih (omega arith)
 
 -- a new name is found behind the others
-pub look-new : (es more : List Entry) (x : Entry) → times x.name (words es) ≡ 0 → look (es ++ x ∷ more) x.name ≡ Some x
+pub look-new : (es more : List TakenName) (x : TakenName) → times x.name (words es) ≡ 0 → look (es ++ x ∷ more) x.name ≡ Some x
 look-new [] more x h = rw (bytes_eq-same x.name) refl
 look-new (e ∷ es) more x h = new_by (bytes_eq e.name x.name) e x None (look (es ++ x ∷ more) x.name) (times x.name (words es)) h (look-new es more x)
 

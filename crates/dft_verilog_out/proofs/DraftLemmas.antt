@@ -9,35 +9,35 @@ use Rattle.dft_netlist.specs.declared.limits.TheConstants.{MAX_PORTS, MAX_NETS, 
 use Rattle.dft_netlist_text.specs.declared.text.Meaning.{Meaning}
 use Rattle.dft_netlist_text.specs.declared.text.Meaning.TheVariants as meaning
 use Rattle.dft_netlist.specs.Names.{bit_names}
-use Rattle.dft_netlist_text.specs.Modules.{Entry, Draft, meaning_of, is_taken, with_name, net_count, names_of_bits, first_taken, with_bits, next_shape, declared_at, announce, declare_port, declare_wire, room_for_instance, name_instance}
+use Rattle.dft_netlist_text.specs.Modules.{TakenName, Draft, meaning_of, is_taken, with_name, net_count, names_of_bits, first_taken, with_bits, next_shape, declared_at, announce, declare_port, declare_wire, room_for_instance, name_instance}
 use Rattle.dft_verilog_out.proofs.CountLemmas.{times, Once, times-append, times-head, look, words, look-none}
 
 -- a name, and what it stands for
-abbrev pub entry : Text → Meaning → Entry
+abbrev pub entry : Text → Meaning → TakenName
 entry word meant = record { name = word; meaning = meant }
 
 -- ---- names that are free
 
 -- a word of these is none before them
-abbrev pub Fresh : List Entry → List Text → Type 0
+abbrev pub Fresh : List TakenName → List Text → Type 0
 Fresh es xs = (word : Text) → 1 ≤ times word xs → times word (words es) ≡ 0
 
-pub fresh_of : (es : List Entry) (xs rest : List Text) → Once (words es ++ (xs ++ rest)) → Fresh es xs
+pub fresh_of : (es : List TakenName) (xs rest : List Text) → Once (words es ++ (xs ++ rest)) → Fresh es xs
 fresh_of es xs rest once word some =
     let o = once word in
     omega (arith, times-append word (words es) (xs ++ rest), times-append word xs rest)
 
 -- the first of new names is free
-pub free_at : (es : List Entry) (word : Text) (rest : List Text) → Once (words es ++ word ∷ rest) → look es word ≡ None
+pub free_at : (es : List TakenName) (word : Text) (rest : List Text) → Once (words es ++ word ∷ rest) → look es word ≡ None
 free_at es word rest once =
     let o = once word in
     look-none es word (omega (arith, times-append word (words es) (word ∷ rest), times-head word rest))
 
 meaning_none : (d : Draft) (word : Text) → look d.names word ≡ None → meaning_of d word ≡ None
-meaning_none d word h = ap (λ o. option_map (λ (e : Entry). e.meaning) o) h
+meaning_none d word h = ap (λ o. option_map (λ (e : TakenName). e.meaning) o) h
 
-pub meaning_some : (d : Draft) (word : Text) (e : Entry) → look d.names word ≡ Some e → meaning_of d word ≡ Some e.meaning
-meaning_some d word e h = ap (λ o. option_map (λ (e : Entry). e.meaning) o) h
+pub meaning_some : (d : Draft) (word : Text) (e : TakenName) → look d.names word ≡ Some e → meaning_of d word ≡ Some e.meaning
+meaning_some d word e h = ap (λ o. option_map (λ (e : TakenName). e.meaning) o) h
 
 first_by : (b : Bool) (x : Text) (r : Option Text) → b ≡ false → r ≡ None → cond b (Some x) r ≡ None
 first_by true x r h e = absurd (cc)
@@ -56,19 +56,19 @@ first_taken-none d (x ∷ xs) fresh =
 
 -- ---- names of bits
 
-abbrev pub bit_entries : List Text → List Entry
+abbrev pub bit_entries : List Text → List TakenName
 bit_entries xs = map (λ (x : Text). entry x meaning.Bit) xs
 
 pub with_bits-is : (xs : List Text) (d : Draft) → with_bits xs d ≡ record d { names = d.names ++ bit_entries xs }
-with_bits-is [] d = ap (λ (names : List Entry). record d { names = names }) (sym (append-nil d.names))
+with_bits-is [] d = ap (λ (names : List TakenName). record d { names = names }) (sym (append-nil d.names))
 with_bits-is (x ∷ xs) d =
-    with_bits-is xs (with_name x meaning.Bit d) ∙ ap (λ (names : List Entry). record d { names = names }) (append_assoc d.names (entry x meaning.Bit ∷ []) (bit_entries xs))
+    with_bits-is xs (with_name x meaning.Bit d) ∙ ap (λ (names : List TakenName). record d { names = names }) (append_assoc d.names (entry x meaning.Bit ∷ []) (bit_entries xs))
 
 pub words-bits : (xs : List Text) → words (bit_entries xs) ≡ xs
 words-bits [] = refl
 words-bits (x ∷ xs) = ap (λ ws. x ∷ ws) (words-bits xs)
 
-pub words-append : (xs ys : List Entry) → words (xs ++ ys) ≡ words xs ++ words ys
+pub words-append : (xs ys : List TakenName) → words (xs ++ ys) ≡ words xs ++ words ys
 words-append [] ys = refl
 words-append (x ∷ xs) ys = ap (λ ws. x.name ∷ ws) (words-append xs ys)
 
@@ -103,7 +103,7 @@ declare_wire-is place word d free room =
     rw (none, none, room_is (length d.nets) 1 room) refl
 
 -- a port
-pub declare_port-is : (place port : ℕ) (word : Text) (dir : Dir) (range : Option Range) (d : Draft) (e : Entry) → look d.names word ≡ Some e → e.meaning ≡ meaning.Port port
+pub declare_port-is : (place port : ℕ) (word : Text) (dir : Dir) (range : Option Range) (d : Draft) (e : TakenName) → look d.names word ≡ Some e → e.meaning ≡ meaning.Port port
     → declared_at d port ≡ None → Fresh d.names (names_of_bits word range) → length d.nets + net_count range ≤ MAX_NETS
     → declare_port place word dir range d ≡ Ok (record d {
       names = d.names ++ bit_entries (names_of_bits word range);

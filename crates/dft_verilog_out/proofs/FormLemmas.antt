@@ -17,19 +17,19 @@ use Rattle.dft_netlist.specs.Netlist.{Netlist}
 use Rattle.dft_netlist.specs.Sound.{bit_names_of, IsNetlist, IsAJoin, IsInstance}
 use Rattle.dft_base.specs.Name.{IsName}
 use Rattle.dft_verilog_out.specs.Named.{IsNamedPort, IsNamedInstance, IsNamedNetlist}
-use Rattle.dft_verilog_out.specs.Written.{name_text, bit_text, bit_texts, port_texts, listed_behind, joined_text, is_joined, connections_of, other_nets, net_texts, heading, port_line, wire_line, join_line, line_of, body, written}
+use Rattle.dft_verilog_out.specs.Written.{name_text, bit_select_text, bit_texts, port_texts, list_text_behind, connection_text, is_joined, connection_texts, wire_names, net_texts, module_line, port_line, wire_line, join_line, instance_line, body, written}
 
 -- ---- the connections from a place on
 
 joined_next : (nets : List Text) (pins : List Pin) (signals : List Signal) (k : ℕ) (p : Pin) (s : Signal) → k < length pins → k < length signals → is_joined (get_or signals k s) ≡ true
-    → connections_of nets (drop k pins) (drop k signals) ≡ joined_text nets (get_or pins k p).name (get_or signals k s) ∷ connections_of nets (drop (suc k) pins) (drop (suc k) signals)
+    → connection_texts nets (drop k pins) (drop k signals) ≡ connection_text nets (get_or pins k p).name (get_or signals k s) ∷ connection_texts nets (drop (suc k) pins) (drop (suc k) signals)
 joined_next nets [] signals k p s a b is = absurd (omega arith)
 joined_next nets (x ∷ pins) [] k p s a b is = absurd (omega arith)
 joined_next nets (x ∷ pins) (y ∷ signals) zero p s a b is = rw is refl
 joined_next nets (x ∷ pins) (y ∷ signals) (suc k) p s a b is = joined_next nets pins signals k p s (omega arith) (omega arith) is
 
 unjoined_next : (nets : List Text) (pins : List Pin) (signals : List Signal) (k : ℕ) (s : Signal) → k < length pins → k < length signals → is_joined (get_or signals k s) ≡ false
-    → connections_of nets (drop k pins) (drop k signals) ≡ connections_of nets (drop (suc k) pins) (drop (suc k) signals)
+    → connection_texts nets (drop k pins) (drop k signals) ≡ connection_texts nets (drop (suc k) pins) (drop (suc k) signals)
 unjoined_next nets [] signals k s a b is = absurd (omega arith)
 unjoined_next nets (x ∷ pins) [] k s a b is = absurd (omega arith)
 unjoined_next nets (x ∷ pins) (y ∷ signals) zero s a b is = rw is refl
@@ -37,26 +37,26 @@ unjoined_next nets (x ∷ pins) (y ∷ signals) (suc k) s a b is = unjoined_next
 
 -- a pin that is joined is written
 pub connections-joined : (nets : List Text) (pins : List Pin) (signals : List Signal) (k : ℕ) (p : Pin) (s : Signal) (old mid new before after whole : Text)
-    → after ≡ codes ", " → k < length pins → k < length signals → is_joined (get_or signals k s) ≡ true → mid ≡ old ++ before → new ≡ mid ++ joined_text nets (get_or pins k p).name (get_or signals k s)
-    → old ++ listed_behind before (connections_of nets (drop k pins) (drop k signals)) ≡ whole
-    → new ++ listed_behind after (connections_of nets (drop (k + 1) pins) (drop (k + 1) signals)) ≡ whole
+    → after ≡ codes ", " → k < length pins → k < length signals → is_joined (get_or signals k s) ≡ true → mid ≡ old ++ before → new ≡ mid ++ connection_text nets (get_or pins k p).name (get_or signals k s)
+    → old ++ list_text_behind before (connection_texts nets (drop k pins) (drop k signals)) ≡ whole
+    → new ++ list_text_behind after (connection_texts nets (drop (k + 1) pins) (drop (k + 1) signals)) ≡ whole
 connections-joined nets pins signals k p s old mid new before after whole comma a b is m n e =
-    let here : Text = joined_text nets (get_or pins k p).name (get_or signals k s) in
-    let rest : Text = listed_behind (codes ", ") (connections_of nets (drop (suc k) pins) (drop (suc k) signals)) in
-    rw (add-one, n, m, comma) (append_assoc (old ++ before) here rest ∙ append_assoc old before (here ++ rest) ∙ ap (λ cs. old ++ listed_behind before cs) (sym (joined_next nets pins signals k p s a b is)) ∙ e)
+    let here : Text = connection_text nets (get_or pins k p).name (get_or signals k s) in
+    let rest : Text = list_text_behind (codes ", ") (connection_texts nets (drop (suc k) pins) (drop (suc k) signals)) in
+    rw (add-one, n, m, comma) (append_assoc (old ++ before) here rest ∙ append_assoc old before (here ++ rest) ∙ ap (λ cs. old ++ list_text_behind before cs) (sym (joined_next nets pins signals k p s a b is)) ∙ e)
 
 -- another is not
 pub connections-unjoined : (nets : List Text) (pins : List Pin) (signals : List Signal) (k : ℕ) (s : Signal) (old before whole : Text) → k < length pins → k < length signals → is_joined (get_or signals k s) ≡ false
-    → old ++ listed_behind before (connections_of nets (drop k pins) (drop k signals)) ≡ whole
-    → old ++ listed_behind before (connections_of nets (drop (k + 1) pins) (drop (k + 1) signals)) ≡ whole
+    → old ++ list_text_behind before (connection_texts nets (drop k pins) (drop k signals)) ≡ whole
+    → old ++ list_text_behind before (connection_texts nets (drop (k + 1) pins) (drop (k + 1) signals)) ≡ whole
 connections-unjoined nets pins signals k s old before whole a b is e =
-    rw add-one (ap (λ cs. old ++ listed_behind before cs) (sym (unjoined_next nets pins signals k s a b is)) ∙ e)
+    rw add-one (ap (λ cs. old ++ list_text_behind before cs) (sym (unjoined_next nets pins signals k s a b is)) ∙ e)
 
 -- ---- the texts of nets
 
 pub length-bit_texts : (name : Text) (range : Option Range) → length (bit_texts name range) ≡ length (bit_names name range)
 length-bit_texts name None = refl
-length-bit_texts name (Some range) = length-map (indices_of range) (bit_text name) ∙ sym (length-map (indices_of range) (bit_name name))
+length-bit_texts name (Some range) = length-map (indices_of range) (bit_select_text name) ∙ sym (length-map (indices_of range) (bit_name name))
 
 pub length-port_texts : (ports : List Port) → length (flat_map port_texts ports) ≡ length (bit_names_of ports)
 length-port_texts [] = refl
@@ -87,7 +87,7 @@ pushed old new x rest whole all n r e = rw n (append_assoc old (x ∷ []) all �
 -- ---- the whole
 
 -- the nets behind those of the ports
-pub others-are : (n : Netlist) → IsNetlist n → n.nets ≡ bit_names_of n.ports ++ other_nets n
+pub others-are : (n : Netlist) → IsNetlist n → n.nets ≡ bit_names_of n.ports ++ wire_names n
 others-are n sound = sound.bits.same ∙ ap (λ rest. bit_names_of n.ports ++ rest) (sym (ap (λ nets. drop (length (bit_names_of n.ports)) nets) sound.bits.same ∙ drop-append_seam (bit_names_of n.ports) sound.bits.rest))
 
 pub ports-fit : (n : Netlist) → IsNetlist n → length (flat_map port_texts n.ports) ≤ length n.nets
@@ -98,33 +98,33 @@ ports-fit n sound =
 pub length-net_texts : (n : Netlist) → IsNetlist n → length (net_texts n) ≡ length n.nets
 length-net_texts n sound =
     let names = length-port_texts n.ports in
-    omega (arith, length-append (flat_map port_texts n.ports) (map name_text (other_nets n)), length-map (other_nets n) name_text, ap length (others-are n sound), length-append (bit_names_of n.ports) (other_nets n))
+    omega (arith, length-append (flat_map port_texts n.ports) (map name_text (wire_names n)), length-map (wire_names n) name_text, ap length (others-are n sound), length-append (bit_names_of n.ports) (wire_names n))
 
 -- the texts of all nets, made in two steps
 pub texts-are : (n : Netlist) (first all : List Text) → first ≡ flat_map port_texts n.ports → all ≡ first ++ map name_text (drop (length first) n.nets) → all ≡ net_texts n
 texts-are n first all f e =
     e ∙ ap (λ xs. xs ++ map name_text (drop (length xs) n.nets)) f ∙ ap (λ k. flat_map port_texts n.ports ++ map name_text (drop k n.nets)) (length-port_texts n.ports)
 
-pub wires-are : (n : Netlist) (first all : List Text) (from : ℕ) → first ≡ flat_map port_texts n.ports → from ≡ length first → all ≡ net_texts n → drop from all ≡ map name_text (other_nets n)
-wires-are n first all from f k e = ap (drop from) e ∙ ap (λ j. drop j (net_texts n)) (k ∙ ap length f) ∙ drop-append_seam (flat_map port_texts n.ports) (map name_text (other_nets n))
+pub wires-are : (n : Netlist) (first all : List Text) (from : ℕ) → first ≡ flat_map port_texts n.ports → from ≡ length first → all ≡ net_texts n → drop from all ≡ map name_text (wire_names n)
+wires-are n first all from f k e = ap (drop from) e ∙ ap (λ j. drop j (net_texts n)) (k ∙ ap length f) ∙ drop-append_seam (flat_map port_texts n.ports) (map name_text (wire_names n))
 
 pub rest-is : {X : Type 0} (xs : List X) (k : ℕ) → take (length xs - k) (drop k xs) ≡ drop k xs
 rest-is xs k = take_all (length xs - k) (drop k xs) (omega (arith, length-drop k xs))
 
-pub heading-is : (n : Netlist) (old new name : Text) (ports : List Port) → old ≡ [] → name ≡ n.name → ports ≡ n.ports → new ≡ old ++ heading name ports → new ≡ heading n.name n.ports
-heading-is n old new name ports o m p e = e ∙ rw (o, m, p) refl
+pub module_line-is : (n : Netlist) (old new name : Text) (ports : List Port) → old ≡ [] → name ≡ n.name → ports ≡ n.ports → new ≡ old ++ module_line name ports → new ≡ module_line n.name n.ports
+module_line-is n old new name ports o m p e = e ∙ rw (o, m, p) refl
 
 -- the parts, one behind the other
-pub assembled : (n : Netlist) (all wires : List Text) (a b c d e f : Text) → all ≡ net_texts n → wires ≡ map name_text (other_nets n)
-    → a ≡ heading n.name n.ports → b ≡ a ++ flat_map port_line n.ports → c ≡ b ++ flat_map wire_line wires → d ≡ c ++ flat_map (join_line all) n.joins → e ≡ d ++ flat_map (line_of n.library all) n.instances
+pub assembled : (n : Netlist) (all wires : List Text) (a b c d e f : Text) → all ≡ net_texts n → wires ≡ map name_text (wire_names n)
+    → a ≡ module_line n.name n.ports → b ≡ a ++ flat_map port_line n.ports → c ≡ b ++ flat_map wire_line wires → d ≡ c ++ flat_map (join_line all) n.joins → e ≡ d ++ flat_map (instance_line n.library all) n.instances
     → f ≡ e ++ codes "endmodule\n" → f ≡ written n
 unfolding written body
 assembled n all wires a b c d e f t w ha hb hc hd he hf =
-    let h : Text = heading n.name n.ports in
+    let h : Text = module_line n.name n.ports in
     let p : Text = flat_map port_line n.ports in
-    let v : Text = flat_map wire_line (map name_text (other_nets n)) in
+    let v : Text = flat_map wire_line (map name_text (wire_names n)) in
     let j : Text = flat_map (join_line (net_texts n)) n.joins in
-    let i : Text = flat_map (line_of n.library (net_texts n)) n.instances in
+    let i : Text = flat_map (instance_line n.library (net_texts n)) n.instances in
     let z : Text = codes "endmodule\n" in
     hf ∙ rw (he, hd, hc, hb, ha, t, w)
     (append_assoc ((((h ++ p) ++ v) ++ j)) i z ∙ append_assoc ((h ++ p) ++ v) j (i ++ z) ∙ append_assoc (h ++ p) v (j ++ (i ++ z)) ∙ append_assoc h p (v ++ (j ++ (i ++ z))))

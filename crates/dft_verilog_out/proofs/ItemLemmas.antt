@@ -7,6 +7,7 @@ use Rattle.dft_cells.specs.declared.kind.Kind.TheVariants as primitive
 use Rattle.dft_cells.specs.declared.cell.CellId.{CellId}
 use Rattle.dft_cells.specs.declared.cell.Cell.{Cell}
 use Rattle.dft_cells.specs.Cells.{find_cell}
+use Rattle.dft_cells.specs.Pins.{takes_inputs}
 use Rattle.dft_netlist.specs.declared.ids.NetId.{NetId}
 use Rattle.dft_base.specs.declared.dir.Dir.{Dir}
 use Rattle.dft_base.specs.declared.dir.Dir.TheVariants as dir
@@ -17,9 +18,9 @@ use Rattle.dft_netlist_text.specs.declared.text.TokenKind.TheVariants as kind
 use Rattle.dft_netlist_text.specs.declared.text.Site.TheVariants as site
 use Rattle.dft_netlist_text.specs.Lexemes.{Token}
 use Rattle.dft_netlist_text.specs.Steps.{kind_of, bytes, left, next, same_kind, sees, expect, after}
-use Rattle.dft_netlist_text.specs.Modules.{Draft, begun, announce, declare_port, declare_wire, name_instance, room_for_instance, with_instance, with_join}
+use Rattle.dft_netlist_text.specs.Modules.{Draft, empty_draft, announce, declare_port, declare_wire, name_instance, room_for_instance, with_instance, with_join}
 use Rattle.dft_netlist_text.specs.Expressions.{range_if_any, expression}
-use Rattle.dft_netlist_text.specs.Items.{Declaring, Ports, Wires, declare, declared_name, declared_names_from, declared_names, declaration, port_item, wire_item, right_side, assignment, assignments_from, assignments, assign_item, terminal, inputs_from, inputs, has_inputs, gate_instance, terminals, named_gate, unnamed_gate, one_gate, gates_from, gates, gate_item, Joined, Connected, unjoined, pin_place, pin_drives, was_joined, pin_name, pin_signal, pin_content, connection, connections_from, some_connections, connections, cell_instance, instance, instances_from, instances, cell_item, item, items_from, items}
+use Rattle.dft_netlist_text.specs.Items.{Declaring, Ports, Wires, declare, declared_name, declared_names_from, declared_names, declaration, port_item, wire_item, right_side, net_assignment, net_assignments_from, net_assignments, assign_item, terminal, input_terminals_from, input_terminals, gate_instance, terminals, named_gate, unnamed_gate, one_gate, gates_from, gates, gate_item, Joined, Connected, unjoined, pin_place, pin_drives, was_joined, connected_pin, pin_signal, pin_content, named_connection, named_connections_from, named_connections, connections, cell_instance, instance, instances_from, instances, cell_item, item, items_from, items}
 use Rattle.dft_netlist.specs.Sound.{is_primitive}
 use Rattle.dft_base.specs.Parser.{value_of}
 use Rattle.dft_netlist_text.specs.NetlistText.{announced_name, announced_names_from, announced_names, header_names, header, heading, first_undeclared, module_end, end_of_text, module_text}
@@ -65,17 +66,17 @@ pub join-at : (d : Draft) (target : NetId) (source : Signal) (first : Text) (a l
     → expression site.Target d us ≡ Ok ((d, signal.Net target ∷ []), token kind.Equals (61 ∷ []) b ∷ vs)
     → expression site.Source d vs ≡ Ok ((d, source ∷ []), token kind.Semicolon (59 ∷ []) m ∷ ts)
     → item d (token kind.Assign first a ∷ us) ≡ Ok (with_join (record { target = target; source = source }) d, ts)
-unfolding item assign_item assignments assignments_from assignment right_side expect sees kind_of same_kind bytes next after
+unfolding item assign_item net_assignments net_assignments_from net_assignment right_side expect sees kind_of same_kind bytes next after
 join-at d target source first a l b m us vs ts some t s = rw (some, t, s) refl
 
 -- ---- instances of cells
 
-pub connection-at : (cell : Cell) (d : Draft) (joined : Joined) (pin : ℕ) (word : Text) (to : Signal) (a b c e : ℕ) (us ts : List Token) → pin_place cell word ≡ Some pin
+pub named_connection-at : (cell : Cell) (d : Draft) (joined : Joined) (pin : ℕ) (word : Text) (to : Signal) (a b c e : ℕ) (us ts : List Token) → pin_place cell word ≡ Some pin
     → was_joined (slice_get joined pin) ≡ false → sees kind.CloseParen us ≡ false
     → expression (site.Pin (pin_drives (slice_get cell.pins pin))) d us ≡ Ok ((d, to ∷ []), token kind.CloseParen (41 ∷ []) e ∷ ts)
-    → connection cell (d, joined) (token kind.Point (46 ∷ []) a ∷ token kind.Name word b ∷ token kind.OpenParen (40 ∷ []) c ∷ us) ≡ Ok ((d, slice_set joined pin (Some to)), ts)
-unfolding connection pin_name pin_content pin_signal expect sees kind_of same_kind bytes left next after
-connection-at cell d joined pin word to a b c e us ts at free some is = rw (at, free, some, is) refl
+    → named_connection cell (d, joined) (token kind.Point (46 ∷ []) a ∷ token kind.Name word b ∷ token kind.OpenParen (40 ∷ []) c ∷ us) ≡ Ok ((d, slice_set joined pin (Some to)), ts)
+unfolding named_connection connected_pin pin_content pin_signal expect sees kind_of same_kind bytes left next after
+named_connection-at cell d joined pin word to a b c e us ts at free some is = rw (at, free, some, is) refl
 
 pub cell-at : (d named : Draft) (id : CellId) (cell : Cell) (joined : Joined) (word name : Text) (a l b c m : ℕ) (us ts : List Token) → find_cell d.library word ≡ Some id
     → slice_get d.library id.0 ≡ Some cell → name_instance (suc l) name d ≡ Ok named
@@ -87,7 +88,7 @@ cell-at d named id cell joined word name a l b c m us ts found there free joins 
 -- ---- gates
 
 pub terminals-at : (k : Kind) (d : Draft) (name : Option Text) (output : Signal) (ins : List Signal) (place m e : ℕ) (us vs ts : List Token)
-    → terminal true d us ≡ Ok ((d, output), vs) → inputs d vs ≡ Ok ((d, ins), token kind.CloseParen (41 ∷ []) m ∷ ts) → has_inputs k (length ins) ≡ true
+    → terminal true d us ≡ Ok ((d, output), vs) → input_terminals d vs ≡ Ok ((d, ins), token kind.CloseParen (41 ∷ []) m ∷ ts) → takes_inputs k (length ins) ≡ true
     → terminals k name place d us ≡ Ok (with_instance (gate_instance k name output ins) d, ts)
 unfolding terminals expect sees kind_of same_kind bytes left next after
 terminals-at k d name output ins place m e us vs ts out is fits = rw (out, is, fits) refl
@@ -154,14 +155,14 @@ pub terminal-at : (drives : Bool) (d : Draft) (to : Signal) (us ts : List Token)
 unfolding terminal
 terminal-at drives d to us ts is = rw is refl
 
-pub inputs_from-more : (n : ℕ) (d : Draft) (to : Signal) (ins : List Signal) (a : ℕ) (us ts : List Token) → expression (site.Terminal false) d us ≡ Ok ((d, to ∷ []), ts)
-    → inputs_from (suc n) d ins (token kind.Comma (44 ∷ []) a ∷ us) ≡ inputs_from n d (ins ++ to ∷ []) ts
-unfolding inputs_from sees kind_of same_kind next after
-inputs_from-more n d to ins a us ts is = rw (terminal-at false d to us ts is) refl
+pub input_terminals_from-more : (n : ℕ) (d : Draft) (to : Signal) (ins : List Signal) (a : ℕ) (us ts : List Token) → expression (site.Terminal false) d us ≡ Ok ((d, to ∷ []), ts)
+    → input_terminals_from (suc n) d ins (token kind.Comma (44 ∷ []) a ∷ us) ≡ input_terminals_from n d (ins ++ to ∷ []) ts
+unfolding input_terminals_from sees kind_of same_kind next after
+input_terminals_from-more n d to ins a us ts is = rw (terminal-at false d to us ts is) refl
 
-pub inputs_from-end : (n : ℕ) (d : Draft) (ins : List Signal) (a : ℕ) (us : List Token) → inputs_from (suc n) d ins (token kind.CloseParen (41 ∷ []) a ∷ us) ≡ Ok ((d, ins), token kind.CloseParen (41 ∷ []) a ∷ us)
-unfolding inputs_from sees kind_of same_kind next after
-inputs_from-end n d ins a us = refl
+pub input_terminals_from-end : (n : ℕ) (d : Draft) (ins : List Signal) (a : ℕ) (us : List Token) → input_terminals_from (suc n) d ins (token kind.CloseParen (41 ∷ []) a ∷ us) ≡ Ok ((d, ins), token kind.CloseParen (41 ∷ []) a ∷ us)
+unfolding input_terminals_from sees kind_of same_kind next after
+input_terminals_from-end n d ins a us = refl
 
 -- ---- lists of connections
 
@@ -169,19 +170,19 @@ pub connections-none : (cell : Cell) (c : Connected) (a : ℕ) (us : List Token)
 unfolding connections sees kind_of same_kind
 connections-none cell c a us = refl
 
-pub connections-some : (cell : Cell) (c : Connected) (a : ℕ) (us : List Token) → connections cell c (token kind.Point (46 ∷ []) a ∷ us) ≡ connections_from a cell c (token kind.Point (46 ∷ []) a ∷ us)
-unfolding connections some_connections sees kind_of same_kind left
+pub connections-some : (cell : Cell) (c : Connected) (a : ℕ) (us : List Token) → connections cell c (token kind.Point (46 ∷ []) a ∷ us) ≡ named_connections_from a cell c (token kind.Point (46 ∷ []) a ∷ us)
+unfolding connections named_connections sees kind_of same_kind left
 connections-some cell c a us = refl
 
-pub connections_from-more : (n : ℕ) (cell : Cell) (c more : Connected) (a : ℕ) (us ts : List Token) → connection cell c us ≡ Ok (more, token kind.Comma (44 ∷ []) a ∷ ts)
-    → connections_from (suc n) cell c us ≡ connections_from n cell more ts
-unfolding connections_from sees kind_of same_kind next after
-connections_from-more n cell c more a us ts is = rw is refl
+pub named_connections_from-more : (n : ℕ) (cell : Cell) (c more : Connected) (a : ℕ) (us ts : List Token) → named_connection cell c us ≡ Ok (more, token kind.Comma (44 ∷ []) a ∷ ts)
+    → named_connections_from (suc n) cell c us ≡ named_connections_from n cell more ts
+unfolding named_connections_from sees kind_of same_kind next after
+named_connections_from-more n cell c more a us ts is = rw is refl
 
-pub connections_from-end : (n : ℕ) (cell : Cell) (c more : Connected) (a : ℕ) (us ts : List Token) → connection cell c us ≡ Ok (more, token kind.CloseParen (41 ∷ []) a ∷ ts)
-    → connections_from (suc n) cell c us ≡ Ok (more, token kind.CloseParen (41 ∷ []) a ∷ ts)
-unfolding connections_from sees kind_of same_kind next after
-connections_from-end n cell c more a us ts is = rw is refl
+pub named_connections_from-end : (n : ℕ) (cell : Cell) (c more : Connected) (a : ℕ) (us ts : List Token) → named_connection cell c us ≡ Ok (more, token kind.CloseParen (41 ∷ []) a ∷ ts)
+    → named_connections_from (suc n) cell c us ≡ Ok (more, token kind.CloseParen (41 ∷ []) a ∷ ts)
+unfolding named_connections_from sees kind_of same_kind next after
+named_connections_from-end n cell c more a us ts is = rw is refl
 
 -- ---- the whole
 
@@ -213,7 +214,7 @@ unfolding header_names announced_names sees kind_of same_kind left
 header_names-some d word l us = refl
 
 pub heading-at : (library : List Cell) (name first : Text) (d : Draft) (a b c e m : ℕ) (us ts : List Token)
-    → header_names (begun name library) us ≡ Ok (d, token kind.CloseParen (41 ∷ []) e ∷ token kind.Semicolon (59 ∷ []) m ∷ ts)
+    → header_names (empty_draft name library) us ≡ Ok (d, token kind.CloseParen (41 ∷ []) e ∷ token kind.Semicolon (59 ∷ []) m ∷ ts)
     → heading library (token kind.Module first a ∷ token kind.Name name b ∷ token kind.OpenParen (40 ∷ []) c ∷ us) ≡ Ok (d, ts)
 unfolding heading header expect sees kind_of same_kind bytes left next
 heading-at library name first d a b c e m us ts is = rw is refl

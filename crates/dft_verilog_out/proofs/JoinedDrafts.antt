@@ -8,6 +8,7 @@ use Rattle.dft_base.specs.Parser as parser
 use Rattle.dft_base.specs.Parser.{Checked}
 use Rattle.dft_cells.specs.declared.cell.Cell.{Cell}
 use Rattle.dft_base.specs.declared.dir.Dir.{Dir}
+use Rattle.dft_base.specs.Ranges.{width, has_index, place_in, has_part}
 use Rattle.dft_netlist.specs.declared.instance.Signal.{Signal}
 use Rattle.dft_netlist.specs.declared.instance.Signal.TheVariants as signal
 use Rattle.dft_netlist.specs.declared.instance.Instance.{Instance}
@@ -24,8 +25,8 @@ use Rattle.dft_netlist_text.specs.declared.text.Site.{Site}
 use Rattle.dft_netlist.specs.declared.limits.TheConstants.{MAX_PORTS, MAX_NETS, MAX_INSTANCES}
 use Rattle.dft_netlist_text.specs.Lexemes.{Token}
 use Rattle.dft_netlist_text.specs.Steps.{Rule, Outcome, left, sees, expect, needed, checked}
-use Rattle.dft_netlist_text.specs.Modules.{Draft, meaning_of, is_taken, width, net_count, names_of_bits, first_taken, free_bits, with_bits, declare_nets, declared_at, port_place, announce, declare_found, declare_port, declare_new_port, same_range, repeat_port, declare_wire_as, declare_wire, room_for_instance, name_instance}
-use Rattle.dft_netlist_text.specs.Expressions.{nets_of_shape, has_index, place_in, has_part, selected_in, selected, implies, is_whole, drives, Named, Operand, fitting, implied_net, bits_of_port, bits_of_meaning, bits_of_name, selection, followed, constant, named_operand, constant_operand, operand, Nest, unread, is_read, opening, closing, turn, nest_from, expression}
+use Rattle.dft_netlist_text.specs.Modules.{Draft, meaning_of, is_taken, net_count, names_of_bits, first_taken, free_bits, with_bits, declare_nets, declared_at, port_place, announce, declare_found, declare_port, declare_new_port, same_range, repeat_port, declare_wire_as, declare_wire, room_for_instance, name_instance}
+use Rattle.dft_netlist_text.specs.Expressions.{nets_of_shape, selected_in, selected, implies, is_whole, drives, SelectedName, Operand, fitting, implied_net, bits_of_port, bits_of_meaning, bits_of_name, selection, followed, constant, named_operand, constant_operand, operand, OpenConcatenations, unread, is_read, opening, closing, turn, concatenations_from, expression}
 use Rattle.dft_verilog_out.specs.Written.{is_joined}
 use Rattle.dft_verilog_out.specs.Named.{is_joined_gate}
 
@@ -85,8 +86,8 @@ AreBits bits = list_all is_joined bits ≡ true
 abbrev pub IsJoinedOperand : List Cell → Operand → Type 0
 IsJoinedOperand library o = IsJoinedDraft library o.0 × AreBits o.1
 
-abbrev pub IsJoinedNest : List Cell → Draft × Nest → Type 0
-IsJoinedNest library p = IsJoinedDraft library p.0 × AreBits p.1.bits
+abbrev pub AreJoinedConcatenations : List Cell → Draft × OpenConcatenations → Type 0
+AreJoinedConcatenations library p = IsJoinedDraft library p.0 × AreBits p.1.bits
 
 pub both : (a b : Bool) → a ≡ true → b ≡ true → (a && b) ≡ true
 both true b h k = k
@@ -187,15 +188,15 @@ fitting_joined : (library : List Cell) (place : ℕ) (d : Draft) (bits : Option 
 fitting_joined library place d None h k = tt
 fitting_joined library place d (Some bits) h k = (h, k)
 
-implied_joined : (library : List Cell) (named : Named) (old : Draft) (new : Checked Fault Draft) → Gives (IsJoinedDraft library) new → Gives (IsJoinedOperand library) (implied_net named old new)
+implied_joined : (library : List Cell) (named : SelectedName) (old : Draft) (new : Checked Fault Draft) → Gives (IsJoinedDraft library) new → Gives (IsJoinedOperand library) (implied_net named old new)
 implied_joined library named old (Err f) h = tt
 implied_joined library named old (Ok new) h = (h, nets_are (length old.nets) 1)
 
-of_port : (library : List Cell) (named : Named) (d : Draft) (declared : Option Declared) → IsJoinedDraft library d → Gives (IsJoinedOperand library) (bits_of_port named d declared)
+of_port : (library : List Cell) (named : SelectedName) (d : Draft) (declared : Option Declared) → IsJoinedDraft library d → Gives (IsJoinedOperand library) (bits_of_port named d declared)
 of_port library named d None h = tt
 of_port library named d (Some declared) h = fitting_joined library named.place d (selected declared.shape named.what) h (selected_are declared.shape named.what declared.shape.range)
 
-of_meaning : (library : List Cell) (implied : Bool) (named : Named) (d : Draft) (m : Option Meaning) → IsJoinedDraft library d → Gives (IsJoinedOperand library) (bits_of_meaning implied named d m)
+of_meaning : (library : List Cell) (implied : Bool) (named : SelectedName) (d : Draft) (m : Option Meaning) → IsJoinedDraft library d → Gives (IsJoinedOperand library) (bits_of_meaning implied named d m)
 of_meaning library implied named d (Some (meaning.Nets shape)) h = fitting_joined library named.place d (selected shape named.what) h (selected_are shape named.what shape.range)
 of_meaning library implied named d (Some (meaning.Port port)) h = of_port library named d (declared_at d port) h
 of_meaning library implied named d (Some meaning.Bit) h = tt
@@ -210,7 +211,7 @@ named_joined library at depth d h ts =
     passed (IsJoinedOperand library) (expect kind.Name ts) _ (λ word us.
     passed (IsJoinedOperand library) (selection us) _ (λ what vs.
     passed (IsJoinedOperand library) (followed at depth vs) _ (λ w ws.
-    let named : Named = record { word = word; what = what; place = left ts } in
+    let named : SelectedName = record { word = word; what = what; place = left ts } in
     of_check (IsJoinedOperand library) (bits_of_name at depth named d) ws (of_meaning library (implies at depth && is_whole what) named d (meaning_of d word) h))))
 
 constant_joined : (library : List Cell) (at : Site) (depth : ℕ) (d : Draft) → IsJoinedDraft library d → (ts : List Token) → Yields (IsJoinedOperand library) (constant_operand at depth d ts)
@@ -225,29 +226,29 @@ operand_joined library at depth d h ts = either (IsJoinedOperand library) (sees 
 
 -- ---- expressions
 
-opening_joined : (library : List Cell) (at : Site) (d : Draft) (nest : Nest) → IsJoinedNest library (d, nest) → (ts : List Token) → Yields (IsJoinedNest library) (opening at d nest ts)
+opening_joined : (library : List Cell) (at : Site) (d : Draft) (so_far : OpenConcatenations) → AreJoinedConcatenations library (d, so_far) → (ts : List Token) → Yields (AreJoinedConcatenations library) (opening at d so_far ts)
 unfolding opening
-opening_joined library at d nest h ts =
-    either (IsJoinedNest library) (sees kind.OpenBrace ts) _ _ h
-    (behind (IsJoinedOperand library) (IsJoinedNest library) (operand at nest.depth d ts) _ (operand_joined library at nest.depth d h.0 ts) (λ o m us. (m.0, all_behind is_joined nest.bits o.1 h.1 m.1)))
+opening_joined library at d so_far h ts =
+    either (AreJoinedConcatenations library) (sees kind.OpenBrace ts) _ _ h
+    (behind (IsJoinedOperand library) (AreJoinedConcatenations library) (operand at so_far.depth d ts) _ (operand_joined library at so_far.depth d h.0 ts) (λ o m us. (m.0, all_behind is_joined so_far.bits o.1 h.1 m.1)))
 
-closing_joined : (library : List Cell) (d : Draft) (nest : Nest) → IsJoinedNest library (d, nest) → (ts : List Token) → Yields (IsJoinedNest library) (closing d nest ts)
+closing_joined : (library : List Cell) (d : Draft) (so_far : OpenConcatenations) → AreJoinedConcatenations library (d, so_far) → (ts : List Token) → Yields (AreJoinedConcatenations library) (closing d so_far ts)
 unfolding closing
-closing_joined library d nest h ts = either (IsJoinedNest library) (sees kind.Comma ts) _ _ h (passed (IsJoinedNest library) (expect kind.CloseBrace ts) _ (λ w us. h))
+closing_joined library d so_far h ts = either (AreJoinedConcatenations library) (sees kind.Comma ts) _ _ h (passed (AreJoinedConcatenations library) (expect kind.CloseBrace ts) _ (λ w us. h))
 
-turn_by : (library : List Cell) (awaits : Bool) (at : Site) (d : Draft) (nest : Nest) → IsJoinedNest library (d, nest) → (ts : List Token) → Yields (IsJoinedNest library) ((cond awaits (opening at d nest) (closing d nest)) ts)
-turn_by library true at d nest h ts = opening_joined library at d nest h ts
-turn_by library false at d nest h ts = closing_joined library d nest h ts
+turn_by : (library : List Cell) (awaits : Bool) (at : Site) (d : Draft) (so_far : OpenConcatenations) → AreJoinedConcatenations library (d, so_far) → (ts : List Token) → Yields (AreJoinedConcatenations library) ((cond awaits (opening at d so_far) (closing d so_far)) ts)
+turn_by library true at d so_far h ts = opening_joined library at d so_far h ts
+turn_by library false at d so_far h ts = closing_joined library d so_far h ts
 
-nest_joined : (library : List Cell) (n : ℕ) (at : Site) (d : Draft) (nest : Nest) → IsJoinedNest library (d, nest) → (ts : List Token) → Yields (IsJoinedNest library) (nest_from n at d nest ts)
-unfolding nest_from
-nest_joined library zero at d nest h ts = tt
-nest_joined library (suc n) at d nest h ts =
-    either (IsJoinedNest library) (is_read nest) _ _ h
-    (behind (IsJoinedNest library) (IsJoinedNest library) (turn at d nest ts) _ (turn_by library nest.awaits at d nest h ts) (λ p m us. nest_joined library n at p.0 p.1 m us))
+concatenations_joined : (library : List Cell) (n : ℕ) (at : Site) (d : Draft) (so_far : OpenConcatenations) → AreJoinedConcatenations library (d, so_far) → (ts : List Token) → Yields (AreJoinedConcatenations library) (concatenations_from n at d so_far ts)
+unfolding concatenations_from
+concatenations_joined library zero at d so_far h ts = tt
+concatenations_joined library (suc n) at d so_far h ts =
+    either (AreJoinedConcatenations library) (is_read so_far) _ _ h
+    (behind (AreJoinedConcatenations library) (AreJoinedConcatenations library) (turn at d so_far ts) _ (turn_by library so_far.awaits at d so_far h ts) (λ p m us. concatenations_joined library n at p.0 p.1 m us))
 
 pub expression_joined : (library : List Cell) (at : Site) (d : Draft) → IsJoinedDraft library d → (ts : List Token) → Yields (IsJoinedOperand library) (expression at d ts)
 unfolding expression
 expression_joined library at d h ts =
-    behind (IsJoinedNest library) (IsJoinedOperand library) (nest_from (suc (left ts)) at d unread ts) _ (nest_joined library (suc (left ts)) at d unread (h, refl) ts) (λ p m us.
+    behind (AreJoinedConcatenations library) (IsJoinedOperand library) (concatenations_from (suc (left ts)) at d unread ts) _ (concatenations_joined library (suc (left ts)) at d unread (h, refl) ts) (λ p m us.
     passed (IsJoinedOperand library) (followed at 0 us) _ (λ w vs. m))

@@ -7,6 +7,7 @@ use Rattle.dft_cells.specs.declared.kind.Kind.{Kind}
 use Rattle.dft_cells.specs.declared.cell.CellId.{CellId}
 use Rattle.dft_cells.specs.declared.cell.Cell.{Cell}
 use Rattle.dft_cells.specs.Cells.{find_cell}
+use Rattle.dft_cells.specs.Pins.{takes_inputs}
 use Rattle.dft_base.specs.declared.dir.Dir.{Dir}
 use Rattle.dft_base.specs.declared.dir.Dir.TheVariants as dir
 use Rattle.dft_netlist.specs.declared.instance.Signal.{Signal}
@@ -16,10 +17,10 @@ use Rattle.dft_netlist_text.specs.declared.text.TokenKind.TheVariants as kind
 use Rattle.dft_netlist_text.specs.declared.text.Site.TheVariants as site
 use Rattle.dft_netlist_text.specs.Lexemes.{Token}
 use Rattle.dft_netlist_text.specs.Steps.{Rule, kind_of, left, next, sees, expect, eat, checked}
-use Rattle.dft_netlist_text.specs.Modules.{Draft, begun, announce, declare_new_port, declare_port, declare_wire, name_instance, room_for_instance, with_instance}
+use Rattle.dft_netlist_text.specs.Modules.{Draft, empty_draft, announce, declare_new_port, declare_port, declare_wire, name_instance, room_for_instance, with_instance}
 use Rattle.dft_netlist_text.specs.Expressions.{range_if_any, expression}
-use Rattle.dft_netlist_text.specs.Items.{Declaring, Ports, Wires, declare, declared_name, declared_names_from, declared_names, declaration, port_item, wire_item, with_joins, right_side, assignment, assignments_from, assignments, assign_item, One, one_bit, gate_kind, has_inputs, terminal, inputs_from, inputs, gate_instance, terminals, named_gate, unnamed_gate, one_gate, gates_from, gates, gate_item, unjoined, pin_name, Connected, pin_signal, pin_content, connection, connections_from, some_connections, connections, cell_instance, instance, instances_from, instances, instances_of, instances_named, cell_item, gate_or_cell, item_of, item, items_from, items}
-use Rattle.dft_netlist_text.specs.NetlistText.{announced_name, announced_names_from, announced_names, new_port, Facing, facing, new_ports_from, new_ports, sees_direction, header_names, header, heading, first_undeclared, all_declared, module_end, end_of_text, module_text}
+use Rattle.dft_netlist_text.specs.Items.{Declaring, Ports, Wires, declare, declared_name, declared_names_from, declared_names, declaration, port_item, wire_item, with_joins, right_side, net_assignment, net_assignments_from, net_assignments, assign_item, One, one_bit, gate_kind, terminal, input_terminals_from, input_terminals, gate_instance, terminals, named_gate, unnamed_gate, one_gate, gates_from, gates, gate_item, unjoined, connected_pin, Connected, pin_signal, pin_content, named_connection, named_connections_from, named_connections, connections, cell_instance, instance, instances_from, instances, instances_of, instances_named, cell_item, gate_or_cell, item_of, item, items_from, items}
+use Rattle.dft_netlist_text.specs.NetlistText.{announced_name, announced_names_from, announced_names, declared_port, PortDeclaration, port_declaration, declared_ports_from, declared_ports, sees_direction, header_names, header, heading, first_undeclared, all_declared, module_end, end_of_text, module_text}
 use Rattle.dft_verilog_out.specs.Written.{is_joined}
 use Rattle.dft_verilog_out.specs.Named.{is_joined_gate}
 use Rattle.dft_verilog_out.proofs.JoinedDrafts.{Yields, behind, passed, either, of_check, of_need, turns, IsJoinedDraft, AreBits, IsJoinedOperand, both, first_of, all_behind, announce_joined, new_port_joined, port_joined, wire_joined, name_joined, room_joined, expression_joined}
@@ -50,18 +51,18 @@ unfolding announced_names_from
 announced_from library zero d h ts = tt
 announced_from library (suc n) d h ts = listed_keeps library announced_name (announced_names_from n) (announced library) (announced_from library n) d h ts
 
-port_new : (library : List Cell) (dir : Dir) (range : Option Range) → Keeps library (new_port dir range)
-unfolding new_port
+port_new : (library : List Cell) (dir : Dir) (range : Option Range) → Keeps library (declared_port dir range)
+unfolding declared_port
 port_new library dir range d h ts = passed (IsJoinedDraft library) (expect kind.Name ts) _ (λ word us. of_check (IsJoinedDraft library) (declare_new_port (left ts) word dir range d) us (new_port_joined library (left ts) word dir range d h))
 
-ports_from : (library : List Cell) (n : ℕ) (before : Facing) → Keeps library (new_ports_from n before)
-unfolding new_ports_from
+ports_from : (library : List Cell) (n : ℕ) (before : PortDeclaration) → Keeps library (declared_ports_from n before)
+unfolding declared_ports_from
 ports_from library zero before d h ts = tt
 ports_from library (suc n) before d h ts =
-    passed (IsJoinedDraft library) (facing before ts) _ (λ here us. listed_keeps library (new_port here.dir here.range) (new_ports_from n here) (port_new library here.dir here.range) (ports_from library n here) d h us)
+    passed (IsJoinedDraft library) (port_declaration before ts) _ (λ here us. listed_keeps library (declared_port here.dir here.range) (declared_ports_from n here) (port_new library here.dir here.range) (ports_from library n here) d h us)
 
 header_names_joined : (library : List Cell) → Keeps library header_names
-unfolding header_names new_ports announced_names
+unfolding header_names declared_ports announced_names
 header_names_joined library d h ts =
     either (IsJoinedDraft library) (sees kind.CloseParen ts) _ _ h
     (either (IsJoinedDraft library) (sees_direction ts) _ _ (ports_from library (left ts) (record { dir = dir.Input; range = None }) d h ts) (announced_from library (left ts) d h ts))
@@ -74,7 +75,7 @@ heading_joined : (library : List Cell) (ts : List Token) → Yields (IsJoinedDra
 unfolding heading
 heading_joined library ts =
     passed (IsJoinedDraft library) (expect kind.Module ts) _ (λ w us.
-    passed (IsJoinedDraft library) (expect kind.Name us) _ (λ word vs. closed_keeps library kind.Semicolon header (header_joined library) (begun word library) (refl, refl) vs))
+    passed (IsJoinedDraft library) (expect kind.Name us) _ (λ word vs. closed_keeps library kind.Semicolon header (header_joined library) (empty_draft word library) (refl, refl) vs))
 
 -- ---- declarations
 
@@ -120,24 +121,24 @@ right_joined library targets d h ts =
     behind (IsJoinedOperand library) (IsJoinedDraft library) (expression site.Source d ts) _ (expression_joined library site.Source d h ts) (λ o m us.
     of_need (IsJoinedDraft library) _ (left ts) (length targets == length o.1) _ us (joins_joined library targets o.1 o.0 m.0))
 
-assignment_joined : (library : List Cell) → Keeps library assignment
-unfolding assignment
+assignment_joined : (library : List Cell) → Keeps library net_assignment
+unfolding net_assignment
 assignment_joined library d h ts =
     behind (IsJoinedOperand library) (IsJoinedDraft library) (expression site.Target d ts) _ (expression_joined library site.Target d h ts) (λ o m us.
     passed (IsJoinedDraft library) (expect kind.Equals us) _ (λ w vs. right_joined library o.1 o.0 m.0 vs))
 
-assignments_of : (library : List Cell) (n : ℕ) → Keeps library (assignments_from n)
-unfolding assignments_from
+assignments_of : (library : List Cell) (n : ℕ) → Keeps library (net_assignments_from n)
+unfolding net_assignments_from
 assignments_of library zero d h ts = tt
-assignments_of library (suc n) d h ts = listed_keeps library assignment (assignments_from n) (assignment_joined library) (assignments_of library n) d h ts
+assignments_of library (suc n) d h ts = listed_keeps library net_assignment (net_assignments_from n) (assignment_joined library) (assignments_of library n) d h ts
 
-assignments_all : (library : List Cell) → Keeps library assignments
-unfolding assignments
+assignments_all : (library : List Cell) → Keeps library net_assignments
+unfolding net_assignments
 assignments_all library d h ts = assignments_of library (left ts) d h ts
 
 assign_item_joined : (library : List Cell) → Keeps library assign_item
 unfolding assign_item
-assign_item_joined library d h ts = closed_keeps library kind.Semicolon assignments (assignments_all library) d h (next ts)
+assign_item_joined library d h ts = closed_keeps library kind.Semicolon net_assignments (assignments_all library) d h (next ts)
 
 -- ---- gates
 
@@ -155,8 +156,8 @@ unfolding terminal
 terminal_joined library drives d h ts =
     behind (IsJoinedOperand library) (IsJoinedBit library) (expression (site.Terminal drives) d ts) _ (expression_joined library (site.Terminal drives) d h ts) (λ o m us. one_joined library (left ts) o.0 o.1 m.0 m.1 us)
 
-inputs_of : (library : List Cell) (n : ℕ) (d : Draft) (ins : List Signal) → IsJoinedOperand library (d, ins) → (ts : List Token) → Yields (IsJoinedOperand library) (inputs_from n d ins ts)
-unfolding inputs_from
+inputs_of : (library : List Cell) (n : ℕ) (d : Draft) (ins : List Signal) → IsJoinedOperand library (d, ins) → (ts : List Token) → Yields (IsJoinedOperand library) (input_terminals_from n d ins ts)
+unfolding input_terminals_from
 inputs_of library zero d ins h ts = tt
 inputs_of library (suc n) d ins h ts =
     passed (IsJoinedOperand library) (eat kind.Comma ts) _ (λ comma us.
@@ -164,8 +165,8 @@ inputs_of library (suc n) d ins h ts =
     behind (IsJoinedBit library) (IsJoinedOperand library) (terminal false d vs) _ (terminal_joined library false d h.0 vs) (λ o m ws.
     inputs_of library n o.0 (ins ++ o.1 ∷ []) (m.0, all_behind is_joined ins (o.1 ∷ []) h.1 (both (is_joined o.1) true m.1 refl)) ws)) us)
 
-inputs_all : (library : List Cell) (d : Draft) → IsJoinedDraft library d → (ts : List Token) → Yields (IsJoinedOperand library) (inputs d ts)
-unfolding inputs
+inputs_all : (library : List Cell) (d : Draft) → IsJoinedDraft library d → (ts : List Token) → Yields (IsJoinedOperand library) (input_terminals d ts)
+unfolding input_terminals
 inputs_all library d h ts = inputs_of library (left ts) d [] (h, refl) ts
 
 gate_is_joined : (k : Kind) (word : Option Text) (output : Signal) (ins : List Signal) → is_joined output ≡ true → AreBits ins → is_joined_gate (gate_instance k word output ins) ≡ true
@@ -178,9 +179,9 @@ terminals_joined : (library : List Cell) (k : Kind) (word : Option Text) (place 
 unfolding terminals
 terminals_joined library k word place d h ts =
     behind (IsJoinedBit library) (IsJoinedDraft library) (terminal true d ts) _ (terminal_joined library true d h ts) (λ output m us.
-    behind (IsJoinedOperand library) (IsJoinedDraft library) (inputs output.0 us) _ (inputs_all library output.0 m.0 us) (λ ins n vs.
+    behind (IsJoinedOperand library) (IsJoinedDraft library) (input_terminals output.0 us) _ (inputs_all library output.0 m.0 us) (λ ins n vs.
     passed (IsJoinedDraft library) (expect kind.CloseParen vs) _ (λ w ws.
-    of_need (IsJoinedDraft library) _ place (has_inputs k (length ins.1)) _ ws (instance_joined library (gate_instance k word output.1 ins.1) ins.0 (gate_is_joined k word output.1 ins.1 m.1 n.1) n.0))))
+    of_need (IsJoinedDraft library) _ place (takes_inputs k (length ins.1)) _ ws (instance_joined library (gate_instance k word output.1 ins.1) ins.0 (gate_is_joined k word output.1 ins.1 m.1 n.1) n.0))))
 
 named_gate_joined : (library : List Cell) (k : Kind) → Keeps library (named_gate k)
 unfolding named_gate
@@ -232,24 +233,24 @@ pin_content_joined : (library : List Cell) (cell : Cell) (place : ℕ) (d : Draf
 unfolding pin_content
 pin_content_joined library cell place d pin h ts = either (IsJoinedFirst library) (sees kind.CloseParen ts) _ _ h (pin_signal_joined library cell place d pin h ts)
 
-connection_joined : (library : List Cell) (cell : Cell) (c : Connected) → IsJoinedDraft library c.0 → (ts : List Token) → Yields (IsJoinedFirst library) (connection cell c ts)
-unfolding connection
+connection_joined : (library : List Cell) (cell : Cell) (c : Connected) → IsJoinedDraft library c.0 → (ts : List Token) → Yields (IsJoinedFirst library) (named_connection cell c ts)
+unfolding named_connection
 connection_joined library cell c h ts =
     passed (IsJoinedFirst library) (expect kind.Point ts) _ (λ w us.
-    passed (IsJoinedFirst library) (pin_name cell c.1 us) _ (λ pin vs.
+    passed (IsJoinedFirst library) (connected_pin cell c.1 us) _ (λ pin vs.
     passed (IsJoinedFirst library) (expect kind.OpenParen vs) _ (λ w ws.
     behind (IsJoinedFirst library) (IsJoinedFirst library) (pin_content cell (left ts) c.0 pin ws) _ (pin_content_joined library cell (left ts) c.0 pin h ws) (λ to m xs.
     passed (IsJoinedFirst library) (expect kind.CloseParen xs) _ (λ w ys. m)))))
 
-connections_of : (library : List Cell) (n : ℕ) (cell : Cell) (c : Connected) → IsJoinedDraft library c.0 → (ts : List Token) → Yields (IsJoinedFirst library) (connections_from n cell c ts)
-unfolding connections_from
+connections_of : (library : List Cell) (n : ℕ) (cell : Cell) (c : Connected) → IsJoinedDraft library c.0 → (ts : List Token) → Yields (IsJoinedFirst library) (named_connections_from n cell c ts)
+unfolding named_connections_from
 connections_of library zero cell c h ts = tt
 connections_of library (suc n) cell c h ts =
-    behind (IsJoinedFirst library) (IsJoinedFirst library) (connection cell c ts) _ (connection_joined library cell c h ts) (λ more m us.
-    passed (IsJoinedFirst library) (eat kind.Comma us) _ (λ comma vs. turns (IsJoinedFirst library) comma more (connections_from n cell more) m (λ ws. connections_of library n cell more m ws) vs))
+    behind (IsJoinedFirst library) (IsJoinedFirst library) (named_connection cell c ts) _ (connection_joined library cell c h ts) (λ more m us.
+    passed (IsJoinedFirst library) (eat kind.Comma us) _ (λ comma vs. turns (IsJoinedFirst library) comma more (named_connections_from n cell more) m (λ ws. connections_of library n cell more m ws) vs))
 
 connections_joined : (library : List Cell) (cell : Cell) (c : Connected) → IsJoinedDraft library c.0 → (ts : List Token) → Yields (IsJoinedFirst library) (connections cell c ts)
-unfolding connections some_connections
+unfolding connections named_connections
 connections_joined library cell c h ts = either (IsJoinedFirst library) (sees kind.CloseParen ts) _ _ h (connections_of library (left ts) cell c h ts)
 
 cell_joined : (library : List Cell) (id : CellId) (cell : Cell) → Keeps library (instance id cell)

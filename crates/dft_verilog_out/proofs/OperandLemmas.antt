@@ -6,6 +6,7 @@ use Rattle.dft_base.specs.declared.place.Range.{Range}
 use Rattle.dft_base.specs.Lexing.{Text}
 use Rattle.dft_base.specs.Name.{IsName}
 use Rattle.dft_base.specs.Words.{begins_word, continues_word, is_word, is_reserved, is_later_reserved, needs_escape}
+use Rattle.dft_base.specs.Ranges.{has_index, place_in}
 use Rattle.dft_netlist.specs.declared.ids.NetId.{NetId}
 use Rattle.dft_netlist.specs.declared.instance.Signal.{Signal}
 use Rattle.dft_netlist.specs.declared.instance.Signal.TheVariants as signal
@@ -21,9 +22,9 @@ use Rattle.dft_netlist_text.specs.declared.text.Site.TheVariants as site
 use Rattle.dft_netlist.specs.Sound.{IsLive, IsConnected}
 use Rattle.dft_netlist_text.specs.Lexemes.{Token}
 use Rattle.dft_netlist_text.specs.Steps.{kind_of, left, same_kind, sees}
-use Rattle.dft_netlist_text.specs.Modules.{HeaderPort, Entry, Draft, meaning_of}
-use Rattle.dft_netlist_text.specs.Expressions.{small_number, bits_of_meaning, fitting, selected, implies, drives, ends, has_index, place_in, expression}
-use Rattle.dft_verilog_out.specs.Written.{name_text, bit_text, signal_text}
+use Rattle.dft_netlist_text.specs.Modules.{HeaderPort, TakenName, Draft, meaning_of}
+use Rattle.dft_netlist_text.specs.Expressions.{small_number, bits_of_meaning, fitting, selected, implies, drives, ends, expression}
+use Rattle.dft_verilog_out.specs.Written.{name_text, bit_select_text, signal_text}
 use Rattle.dft_verilog_out.proofs.CutLemmas.{cut_up, token, digit, constant_tokens, Close, Comma, Semicolon, Space, cut_up-constant, cut_up-close, cut_up-comma, cut_up-semicolon, cut_up-equals, cut_up-open_bracket, cut_up-close_bracket, cut_up-space, cut_up-line, name_at, IsSmall, number_at, Opens}
 use Rattle.dft_verilog_out.proofs.RuleLemmas.{whole-at, bit-at, constant-at}
 use Rattle.dft_verilog_out.proofs.CountLemmas.{look, look-kept}
@@ -100,12 +101,12 @@ stops_word AnEquals = refl
 -- ---- what a name stands for
 
 -- the name stands for these nets
-pub data Known (names : List Entry) (ports : List HeaderPort) (word : Text) (shape : Shape) : Type 0 where
+pub data Known (names : List TakenName) (ports : List HeaderPort) (word : Text) (shape : Shape) : Type 0 where
   AsNets : (name : Text) → look names word ≡ Some (entry name (meaning.Nets shape)) → Known names ports word shape
   AsPort : (name : Text) (port : ℕ) (declared : Declared) → look names word ≡ Some (entry name (meaning.Port port))
       → option_and_then (λ (p : HeaderPort). p.declared) (slice_get ports port) ≡ Some declared → declared.shape ≡ shape → Known names ports word shape
 
-pub known-kept : (names more : List Entry) (ports : List HeaderPort) (word : Text) (shape : Shape) → Known names ports word shape → Known (names ++ more) ports word shape
+pub known-kept : (names more : List TakenName) (ports : List HeaderPort) (word : Text) (shape : Shape) → Known names ports word shape → Known (names ++ more) ports word shape
 known-kept names more ports word shape (AsNets name at) = AsNets name (look-kept names more word (entry name (meaning.Nets shape)) at)
 known-kept names more ports word shape (AsPort name port declared at is same) = AsPort name port declared (look-kept names more word (entry name (meaning.Port port)) at) is same
 
@@ -119,12 +120,12 @@ selects d word shape false what place (AsPort name port declared at is same) = r
 -- ---- where a net is written
 
 -- this text is read as this net
-pub data NetAt (names : List Entry) (ports : List HeaderPort) (text : Text) (net : ℕ) : Type 0 where
+pub data NetAt (names : List TakenName) (ports : List HeaderPort) (text : Text) (net : ℕ) : Type 0 where
   Whole : (word : Text) → text ≡ name_text word → IsName word → Known names ports word (record { range = None; first = record { 0 = net } }) → NetAt names ports text net
-  BitOf : (word : Text) (index : ℕ) (range : Range) (first : NetId) → text ≡ bit_text word index → IsName word → IsSmall index → Known names ports word (record { range = Some range; first = first })
+  BitOf : (word : Text) (index : ℕ) (range : Range) (first : NetId) → text ≡ bit_select_text word index → IsName word → IsSmall index → Known names ports word (record { range = Some range; first = first })
       → has_index range index ≡ true → first.0 + place_in range index ≡ net → NetAt names ports text net
 
-pub net_at-kept : (names more : List Entry) (ports : List HeaderPort) (text : Text) (net : ℕ) → NetAt names ports text net → NetAt (names ++ more) ports text net
+pub net_at-kept : (names more : List TakenName) (ports : List HeaderPort) (text : Text) (net : ℕ) → NetAt names ports text net → NetAt (names ++ more) ports text net
 net_at-kept names more ports text net (Whole word is name known) = Whole word is name (known-kept names more ports word (record { range = None; first = record { 0 = net } }) known)
 net_at-kept names more ports text net (BitOf word index range first is name small known inside at) =
     BitOf word index range first is name small (known-kept names more ports word (record { range = Some range; first = first }) known) inside at
@@ -182,7 +183,7 @@ whole_operand d at word net name known = record {
 }
 
 -- the text of a bit, before another text
-bit-parts : (word : Text) (index : ℕ) (rest : Text) → bit_text word index ++ rest ≡ name_text word ++ 91 ∷ (decimal index ++ 93 ∷ rest)
+bit-parts : (word : Text) (index : ℕ) (rest : Text) → bit_select_text word index ++ rest ≡ name_text word ++ 91 ∷ (decimal index ++ 93 ∷ rest)
 bit-parts word index rest =
     append_assoc (name_text word) (91 ∷ (decimal index ++ 93 ∷ [])) rest ∙ ap (λ more. name_text word ++ 91 ∷ more) (append_assoc (decimal index) (93 ∷ []) rest)
 
@@ -192,7 +193,7 @@ pub record BitAt (word : Text) (index : ℕ) (rest : Text) : Type 0 where
   pub a : ℕ
   pub b : ℕ
   pub c : ℕ
-  pub at : cut_up (bit_text word index ++ rest) ≡ token kind.Name word (suc l) ∷ token kind.OpenBracket (91 ∷ []) a ∷ token kind.Number (decimal index) b ∷ token kind.CloseBracket (93 ∷ []) c ∷ cut_up rest
+  pub at : cut_up (bit_select_text word index ++ rest) ≡ token kind.Name word (suc l) ∷ token kind.OpenBracket (91 ∷ []) a ∷ token kind.Number (decimal index) b ∷ token kind.CloseBracket (93 ∷ []) c ∷ cut_up rest
   pub value : small_number (decimal index) ≡ Some index
 
 bit_token_at : (word : Text) (index : ℕ) (rest : Text) → IsName word → IsSmall index → BitAt word index rest
@@ -216,7 +217,7 @@ bit_is : (d : Draft) (place : ℕ) (range : Range) (first : NetId) (index net : 
 bit_is d place range first index net inside at = rw (inside, at) refl
 
 bit_operand : (d : Draft) (at : Site) (word : Text) (index : ℕ) (range : Range) (first : NetId) (net : ℕ) → IsName word → IsSmall index
-    → Known d.names d.ports word (record { range = Some range; first = first }) → has_index range index ≡ true → first.0 + place_in range index ≡ net → Operand d at (bit_text word index) (signal.Net (record { 0 = net }))
+    → Known d.names d.ports word (record { range = Some range; first = first }) → has_index range index ≡ true → first.0 + place_in range index ≡ net → Operand d at (bit_select_text word index) (signal.Net (record { 0 = net }))
 bit_operand d at word index range first net name small known inside is = record {
   reads = λ f rest follows.
       let b = bit_token_at word index (follow f rest) name small in
@@ -272,7 +273,7 @@ constant_operand d at bit free = record {
 -- ---- signals
 
 -- each of these texts is read as the net of its place
-abbrev pub NetsAt : List Entry → List HeaderPort → List Text → Type 0
+abbrev pub NetsAt : List TakenName → List HeaderPort → List Text → Type 0
 NetsAt names ports nets = (k : ℕ) → k < length nets → NetAt names ports (get_or nets k []) k
 
 pub target_operand : (d : Draft) (at : Site) (nets : List Text) (net : NetId) → NetsAt d.names d.ports nets → net.0 < length nets → Operand d at (signal_text nets (signal.Net net)) (signal.Net net)

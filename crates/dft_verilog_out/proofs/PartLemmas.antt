@@ -12,6 +12,7 @@ use Rattle.dft_cells.specs.declared.kind.Role.TheVariants as role
 use Rattle.dft_cells.specs.declared.cell.Pin.{Pin}
 use Rattle.dft_cells.specs.declared.cell.Cell.{Cell}
 use Rattle.dft_cells.specs.WellFormed.{TakesInputs, IsWellFormed, all_differ, pin_name}
+use Rattle.dft_cells.specs.Pins.{takes_inputs}
 use Rattle.dft_netlist.specs.declared.instance.Signal.{Signal}
 use Rattle.dft_netlist.specs.declared.instance.Signal.TheVariants as signal
 use Rattle.dft_netlist.specs.declared.instance.CellRef.{CellRef}
@@ -26,11 +27,11 @@ use Rattle.dft_netlist.specs.Netlist.{Netlist}
 use Rattle.dft_netlist.specs.Names.{instance_name}
 use Rattle.dft_netlist.specs.Drivers.{shape_of, shape_of_cell, gate_roles}
 use Rattle.dft_netlist.specs.Sound.{is_primitive, IsLive, AreLive, IsInstance, IsConnected, IsAJoin, is_output}
-use Rattle.dft_netlist_text.specs.Modules.{HeaderPort, Entry, Draft}
+use Rattle.dft_netlist_text.specs.Modules.{HeaderPort, TakenName, Draft}
 use Rattle.dft_netlist_text.specs.Expressions.{drives}
-use Rattle.dft_netlist_text.specs.Items.{has_inputs, gate_instance, is_driving, cell_instance}
+use Rattle.dft_netlist_text.specs.Items.{gate_instance, cell_instance}
 use Rattle.dft_verilog_out.specs.Named.{IsNamedCell, IsNamedInstance, IsJoinedGate}
-use Rattle.dft_verilog_out.specs.Written.{join_line, is_joined, output_first, gate_line, cell_line, found_cell_line, line_of}
+use Rattle.dft_verilog_out.specs.Written.{join_line, is_joined, output_first, gate_line, cell_line, found_cell_line, instance_line}
 use Rattle.dft_verilog_out.proofs.CountLemmas.{Once, look, words}
 use Rattle.dft_verilog_out.proofs.DraftLemmas.{entry, free_at, words-append, name_instance-is, room_for_instance-is}
 use Rattle.dft_verilog_out.proofs.FindLemmas.{find_cell-at, pin_place-at}
@@ -44,7 +45,7 @@ use Rattle.dft_verilog_out.proofs.PhaseLemmas.{stage}
 no_constant : (at : Site) (s : Signal) → drives at ≡ false → (bit : Bool) → s ≡ signal.Constant bit → drives at ≡ false
 no_constant at s free bit e = free
 
-pub joins_read : (n : Netlist) (todo : List Join) (names : List Entry) (ports : List HeaderPort) (nets : List Text) (done : List Join) (texts : List Text) → NetsAt names ports texts
+pub joins_read : (n : Netlist) (todo : List Join) (names : List TakenName) (ports : List HeaderPort) (nets : List Text) (done : List Join) (texts : List Text) → NetsAt names ports texts
     → ((place : ℕ) (join : Join) → slice_get todo place ≡ Some join → IsAJoin (length texts) join.target join.source)
     → Lines (length todo) (flat_map (join_line texts) todo) (stage n names ports nets [] done) (stage n names ports nets [] (done ++ todo))
 joins_read n [] names ports nets done texts known stands =
@@ -90,7 +91,7 @@ last_signal [] s (suc count) e = absurd (omega arith)
 last_signal (i ∷ ins) s zero e = absurd (omega arith)
 last_signal (i ∷ ins) s (suc count) e = last_signal ins s count (omega arith)
 
-takes_by : (k : Kind) (n : ℕ) → is_primitive k ≡ true → TakesInputs k n → has_inputs k n ≡ true
+takes_by : (k : Kind) (n : ℕ) → is_primitive k ≡ true → TakesInputs k n → takes_inputs k n ≡ true
 takes_by primitive.Buf n p t = grind (arith, nat_tests)
 takes_by primitive.Inv n p t = grind (arith, nat_tests)
 takes_by primitive.And n p t = grind (arith, nat_tests)
@@ -137,7 +138,7 @@ gate_of d library texts name k inputs pins p known stands joined =
       primitive = stands.fits.0;
       output_reads = signal_operand d (site.Terminal true) texts p.output known (stands.live inputs p.output last) (joined inputs p.output last) (λ bit e. absurd (free bit e));
       inputs_read = operands_of d texts p.ins known (joined_front (length texts) p.ins (p.output ∷ []) live both);
-      fits = ap (has_inputs k) p.size ∙ takes_by k inputs stands.fits.0 stands.fits.1;
+      fits = ap (takes_inputs k) p.size ∙ takes_by k inputs stands.fits.0 stands.fits.1;
     }
 
 first_is : (ins : List Signal) (output : Signal) → output_first (ins ++ output ∷ []) ≡ output ∷ ins
@@ -150,17 +151,6 @@ unfolding gate_line
 gate_line-is texts k i ins output e = rw (e, first_is ins output) refl
 
 -- ---- cells
-
-drives_is : (r : Role) → is_driving r ≡ is_output r
-drives_is role.Input = refl
-drives_is role.Clock = refl
-drives_is role.Din = refl
-drives_is role.Reset = refl
-drives_is role.Preset = refl
-drives_is role.ScanIn = refl
-drives_is role.ScanEnable = refl
-drives_is role.Output = refl
-drives_is role.Inverted = refl
 
 false_by : (t : Bool) → (t ≡ true → ⊥) → t ≡ false
 false_by true h = absurd (h refl)
@@ -177,14 +167,14 @@ record OfCell (d : Draft) (texts : List Text) (cell : Cell) (signals : List Sign
   named : IsNamedCell cell signals
   differ : all_differ (map pin_name cell.pins) ≡ true
   live : AreLive (length texts) signals
-  outputs : (place : ℕ) (pin : Pin) (bit : Bool) → slice_get cell.pins place ≡ Some pin → slice_get signals place ≡ Some (signal.Constant bit) → is_driving pin.role ≡ false
+  outputs : (place : ℕ) (pin : Pin) (bit : Bool) → slice_get cell.pins place ≡ Some pin → slice_get signals place ≡ Some (signal.Constant bit) → is_output pin.role ≡ false
 
 pin_of : (d : Draft) (texts : List Text) (cell : Cell) (signals : List Signal) (place : ℕ) (pin : Pin) (to : Signal) → OfCell d texts cell signals → slice_get cell.pins place ≡ Some pin → slice_get signals place ≡ Some to → IsPin d texts cell place pin to
 pin_of d texts cell signals place pin to c at is = record {
   found = pin_place-at cell place pin c.differ at;
   at = at;
   name = λ joined. c.named.pins place pin to at is joined;
-  reads = λ joined. signal_operand d (site.Pin (is_driving pin.role)) texts to c.nets (c.live place to is) (joined_is to joined) (λ bit e. c.outputs place pin bit at (is ∙ ap Some e));
+  reads = λ joined. signal_operand d (site.Pin (is_output pin.role)) texts to c.nets (c.live place to is) (joined_is to joined) (λ bit e. c.outputs place pin bit at (is ∙ ap Some e));
 }
 
 pins_of : (d : Draft) (texts : List Text) (cell : Cell) (all : List Signal) (place : ℕ) (pins : List Pin) (signals : List Signal) → OfCell d texts cell all → length signals ≡ length pins
@@ -223,11 +213,11 @@ role_at (p ∷ pins) (suc k) pin at = role_at pins k pin at
 abbrev inst : Option Text → CellRef → List Signal → Instance
 inst name cell pins = record { name = name; cell = cell; pins = pins }
 
-abbrev pub own_entries : Option Text → List Entry
+abbrev pub own_entries : Option Text → List TakenName
 own_entries None = []
 own_entries (Some w) = entry w meaning.Instance ∷ []
 
-pub nets_kept : (names more : List Entry) (ports : List HeaderPort) (texts : List Text) → NetsAt names ports texts → NetsAt (names ++ more) ports texts
+pub nets_kept : (names more : List TakenName) (ports : List HeaderPort) (texts : List Text) → NetsAt names ports texts → NetsAt (names ++ more) ports texts
 nets_kept names more ports texts known k lt = net_at-kept names more ports (get_or texts k []) k (known k lt)
 
 -- an instance, and what it needs to be written and read
@@ -239,9 +229,9 @@ pub record IsReadable (library : List Cell) (count : ℕ) (i : Instance) : Type 
 made_gate : (k : Kind) (name : Option Text) (inputs : ℕ) (pins ins : List Signal) (output : Signal) → length ins ≡ inputs → pins ≡ ins ++ output ∷ [] → gate_instance k name output ins ≡ inst name (cell_ref.Gate k inputs) pins
 made_gate k name inputs pins ins output size is = ap (λ m. inst name (cell_ref.Gate k m) (ins ++ output ∷ [])) size ∙ ap (λ (ss : List Signal). inst name (cell_ref.Gate k inputs) ss) (sym is)
 
-instance_step : (n : Netlist) (name : Option Text) (ref : CellRef) (pins : List Signal) (names : List Entry) (ports : List HeaderPort) (nets : List Text) (done : List Instance) (joins : List Join) (texts : List Text)
+instance_step : (n : Netlist) (name : Option Text) (ref : CellRef) (pins : List Signal) (names : List TakenName) (ports : List HeaderPort) (nets : List Text) (done : List Instance) (joins : List Join) (texts : List Text)
     → IsWellFormed n.library → IsReadable n.library (length texts) (inst name ref pins) → NetsAt names ports texts → ((w : Text) → name ≡ Some w → look names w ≡ None) → length done < MAX_INSTANCES
-    → Line (line_of n.library texts (inst name ref pins)) (stage n names ports nets done joins) (stage n (names ++ own_entries name) ports nets (done ++ inst name ref pins ∷ []) joins)
+    → Line (instance_line n.library texts (inst name ref pins)) (stage n names ports nets done joins) (stage n (names ++ own_entries name) ports nets (done ++ inst name ref pins ∷ []) joins)
 instance_step n (Some w) (cell_ref.Gate k inputs) pins names ports nets done joins texts well r known free room =
     let start = stage n names ports nets done joins in
     let named = stage n (names ++ entry w meaning.Instance ∷ []) ports nets done joins in
@@ -257,7 +247,7 @@ instance_step n None (cell_ref.Gate k inputs) pins names ports nets done joins t
     let g = gate_of start n.library texts None k inputs pins p known r.stands r.joined in
     let line = unnamed_gate_read k start texts p.output p.ins g (λ place. room_for_instance-is place start room) in
     let made = made_gate k None inputs pins p.ins p.output p.size p.is in
-    subst (λ (x : List Entry). Line (line_of n.library texts (inst None (cell_ref.Gate k inputs) pins)) start (stage n x ports nets (done ++ inst None (cell_ref.Gate k inputs) pins ∷ []) joins)) (sym (append-nil names))
+    subst (λ (x : List TakenName). Line (instance_line n.library texts (inst None (cell_ref.Gate k inputs) pins)) start (stage n x ports nets (done ++ inst None (cell_ref.Gate k inputs) pins ∷ []) joins)) (sym (append-nil names))
     (subst (λ (text : Text). Line text start (stage n names ports nets (done ++ inst None (cell_ref.Gate k inputs) pins ∷ []) joins)) (sym (gate_line-is texts k (inst None (cell_ref.Gate k inputs) pins) p.ins p.output p.is))
     (subst (λ (i : Instance). Line (gate_form texts k None p.output p.ins) start (stage n names ports nets (done ++ i ∷ []) joins)) made line))
 instance_step n None (cell_ref.Library id) pins names ports nets done joins texts well r known free room = absurd (let f = r.stands.fits.1 in cc)
@@ -276,33 +266,33 @@ instance_step n (Some w) (cell_ref.Library id) pins names ports nets done joins 
       differ = is_cell.differ;
       live = r.stands.live;
       outputs = λ place pin bit here to.
-          drives_is pin.role ∙ false_by (is_output pin.role) (λ out. r.stands.outputs place pin.role bit (ap (λ (rs : List Role). slice_get rs place) roles ∙ role_at cell.pins place pin here) out to);
+          false_by (is_output pin.role) (λ out. r.stands.outputs place pin.role bit (ap (λ (rs : List Role). slice_get rs place) roles ∙ role_at cell.pins place pin here) out to);
     } in
     let line = cell_read start named texts id cell w pins (find_cell-at n.library id.0 cell well.names at.1) at.1 is_named.name r.named.own (λ place. name_instance-is place w start (free w refl) room)
     (pins_of named texts cell pins 0 cell.pins pins c width (from_zero cell.pins) (from_zero pins)) width in
     let made : cell_instance id w (map as_joined pins) ≡ inst (Some w) (cell_ref.Library id) pins = ap (λ (ss : List Signal). inst (Some w) (cell_ref.Library id) ss) (signals-back pins) in
-    let text : line_of n.library texts (inst (Some w) (cell_ref.Library id) pins) ≡ cell_form texts cell w pins =
+    let text : instance_line n.library texts (inst (Some w) (cell_ref.Library id) pins) ≡ cell_form texts cell w pins =
     ap (λ (o : Option Cell). found_cell_line texts o (inst (Some w) (cell_ref.Library id) pins)) at.1 ∙ cell_line-is texts cell w (cell_ref.Library id) pins in
     subst (λ (t : Text). Line t start (stage n (names ++ entry w meaning.Instance ∷ []) ports nets (done ++ inst (Some w) (cell_ref.Library id) pins ∷ []) joins)) (sym text)
     (subst (λ (i : Instance). Line (cell_form texts cell w pins) start (stage n (names ++ entry w meaning.Instance ∷ []) ports nets (done ++ i ∷ []) joins)) made line)
 
-abbrev pub instance_entries : List Instance → List Entry
+abbrev pub instance_entries : List Instance → List TakenName
 instance_entries [] = []
 instance_entries (i ∷ is) = own_entries i.name ++ instance_entries is
 
-own_words : (names : List Entry) (name : Option Text) (rest : List Text) → words names ++ cons_option name rest ≡ words (names ++ own_entries name) ++ rest
-own_words names None rest = ap (λ (es : List Entry). words es ++ rest) (sym (append-nil names))
+own_words : (names : List TakenName) (name : Option Text) (rest : List Text) → words names ++ cons_option name rest ≡ words (names ++ own_entries name) ++ rest
+own_words names None rest = ap (λ (es : List TakenName). words es ++ rest) (sym (append-nil names))
 own_words names (Some w) rest = sym (append_assoc (words names) (w ∷ []) rest) ∙ ap (λ ws. ws ++ rest) (sym (words-append names (entry w meaning.Instance ∷ [])))
 
-own_free : (names : List Entry) (name : Option Text) (rest : List Text) → Once (words names ++ cons_option name rest) → (w : Text) → name ≡ Some w → look names w ≡ None
+own_free : (names : List TakenName) (name : Option Text) (rest : List Text) → Once (words names ++ cons_option name rest) → (w : Text) → name ≡ Some w → look names w ≡ None
 own_free names None rest once w e = absurd (cc)
 own_free names (Some v) rest once w e = let same : v ≡ w = cc in subst (λ x. look names x ≡ None) same (free_at names v rest once)
 
-pub instances_read : (n : Netlist) (todo : List Instance) (names : List Entry) (ports : List HeaderPort) (nets : List Text) (done : List Instance) (joins : List Join) (texts : List Text)
+pub instances_read : (n : Netlist) (todo : List Instance) (names : List TakenName) (ports : List HeaderPort) (nets : List Text) (done : List Instance) (joins : List Join) (texts : List Text)
     → IsWellFormed n.library → ((place : ℕ) (i : Instance) → slice_get todo place ≡ Some i → IsReadable n.library (length texts) i) → NetsAt names ports texts → Once (words names ++ filter_map instance_name todo) → length done + length todo ≤ MAX_INSTANCES
-    → Lines (length todo) (flat_map (line_of n.library texts) todo) (stage n names ports nets done joins) (stage n (names ++ instance_entries todo) ports nets (done ++ todo) joins)
+    → Lines (length todo) (flat_map (instance_line n.library texts) todo) (stage n names ports nets done joins) (stage n (names ++ instance_entries todo) ports nets (done ++ todo) joins)
 instances_read n [] names ports nets done joins texts well r known once room =
-    subst (λ (x : List Entry). Lines 0 [] (stage n names ports nets done joins) (stage n x ports nets (done ++ []) joins)) (sym (append-nil names))
+    subst (λ (x : List TakenName). Lines 0 [] (stage n names ports nets done joins) (stage n x ports nets (done ++ []) joins)) (sym (append-nil names))
     (subst (λ (x : List Instance). Lines 0 [] (stage n names ports nets done joins) (stage n names ports nets x joins)) (sym (append-nil done)) (no_lines (stage n names ports nets done joins)))
 instances_read n (i ∷ todo) names ports nets done joins texts well r known once room =
     let rest : List Text = filter_map instance_name todo in
@@ -311,6 +301,6 @@ instances_read n (i ∷ todo) names ports nets done joins texts well r known onc
     let first = instance_step n i.name i.cell i.pins names ports nets done joins texts well (r 0 i refl) known (own_free names i.name rest once) (omega arith) in
     let more = instances_read n todo (names ++ own_entries i.name) ports nets (done ++ i ∷ []) joins texts well (λ place j at. r (suc place) j at) (nets_kept names (own_entries i.name) ports texts known)
     (subst Once (own_words names i.name rest) once) (omega (arith, length-append done (i ∷ []))) in
-    lines_cons (length todo) (line_of n.library texts i) (flat_map (line_of n.library texts) todo) start mid
+    lines_cons (length todo) (instance_line n.library texts i) (flat_map (instance_line n.library texts) todo) start mid
     (stage n ((names ++ own_entries i.name) ++ instance_entries todo) ports nets ((done ++ i ∷ []) ++ todo) joins) (stage n (names ++ instance_entries (i ∷ todo)) ports nets (done ++ i ∷ todo) joins) first more
     (rw (append_assoc names (own_entries i.name) (instance_entries todo), append_assoc done (i ∷ []) todo) refl)

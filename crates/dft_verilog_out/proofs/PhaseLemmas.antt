@@ -15,7 +15,7 @@ use Rattle.dft_netlist_text.specs.declared.text.Meaning.TheVariants as meaning
 use Rattle.dft_netlist.specs.Netlist.{Netlist}
 use Rattle.dft_netlist.specs.Names.{bit_name, bit_names, indices_of}
 use Rattle.dft_netlist.specs.Sound.{bit_names_of}
-use Rattle.dft_netlist_text.specs.Modules.{HeaderPort, Entry, Draft, net_count, names_of_bits, declare_port}
+use Rattle.dft_netlist_text.specs.Modules.{HeaderPort, TakenName, Draft, net_count, names_of_bits, declare_port}
 use Rattle.dft_netlist.proofs.BitLemmas.{indices_length}
 use Rattle.dft_verilog_out.specs.Named.{IsNamedPort}
 use Rattle.dft_verilog_out.specs.Written.{name_text, port_line, wire_line}
@@ -26,7 +26,7 @@ use Rattle.dft_verilog_out.proofs.LineLemmas.{Lines, no_lines, lines_cons, port_
 -- ---- what a draft holds
 
 -- a draft of this netlist's module with these parts
-abbrev pub stage : Netlist → List Entry → List HeaderPort → List Text → List Instance → List Join → Draft
+abbrev pub stage : Netlist → List TakenName → List HeaderPort → List Text → List Instance → List Join → Draft
 stage n names ports nets instances joins = record { name = n.name; library = n.library; names = names; ports = ports; nets = nets; instances = instances; joins = joins }
 
 -- the ports of a header, before they are declared
@@ -46,12 +46,12 @@ abbrev pub bit_words : List Port → List Text
 bit_words [] = []
 bit_words (p ∷ ps) = names_of_bits p.name p.range ++ bit_words ps
 
-abbrev pub bits_entries : List Port → List Entry
+abbrev pub bits_entries : List Port → List TakenName
 bits_entries [] = []
 bits_entries (p ∷ ps) = bit_entries (names_of_bits p.name p.range) ++ bits_entries ps
 
 -- the entries of other nets, whose numbers go up from this one
-abbrev pub wire_entries : (first : ℕ) → List Text → List Entry
+abbrev pub wire_entries : (first : ℕ) → List Text → List TakenName
 wire_entries first [] = []
 wire_entries first (w ∷ ws) = entry w (meaning.Nets (record { range = None; first = record { 0 = first } })) ∷ wire_entries (suc first) ws
 
@@ -74,15 +74,15 @@ good_ports [] h = tt
 good_ports (p ∷ ps) h = (h 0 p refl, good_ports ps (λ k q at. h (suc k) q at))
 
 -- these ports stand in the header, from this place on
-pub record IsAnnounced (names : List Entry) (place : ℕ) (p : Port) : Type 0 where
+pub record IsAnnounced (names : List TakenName) (place : ℕ) (p : Port) : Type 0 where
   pub name : Text
   pub at : look names p.name ≡ Some (entry name (meaning.Port place))
 
-abbrev pub AreAnnounced : List Entry → (place : ℕ) → List Port → Type 0
+abbrev pub AreAnnounced : List TakenName → (place : ℕ) → List Port → Type 0
 AreAnnounced names place [] = Unit {0}
 AreAnnounced names place (p ∷ ps) = IsAnnounced names place p × AreAnnounced names (suc place) ps
 
-pub announced-kept : (names more : List Entry) (place : ℕ) (ps : List Port) → AreAnnounced names place ps → AreAnnounced (names ++ more) place ps
+pub announced-kept : (names more : List TakenName) (place : ℕ) (ps : List Port) → AreAnnounced names place ps → AreAnnounced (names ++ more) place ps
 announced-kept names more place [] h = tt
 announced-kept names more place (p ∷ ps) h =
     (record { name = h.0.name; at = look-kept names more p.name (entry h.0.name (meaning.Port place)) h.0.at }, announced-kept names more (suc place) ps h.1)
@@ -99,7 +99,7 @@ get_at [] rest x (suc place) e = absurd (omega arith)
 get_at (z ∷ done) rest x zero e = absurd (omega arith)
 get_at (z ∷ done) rest x (suc place) e = get_at done rest x place (omega arith)
 
-port_step : (n : Netlist) (p : Port) (todo : List Port) (names : List Entry) (done : List HeaderPort) (nets rest : List Text) → IsNamedPort p → IsAnnounced names (length done) p
+port_step : (n : Netlist) (p : Port) (todo : List Port) (names : List TakenName) (done : List HeaderPort) (nets rest : List Text) → IsNamedPort p → IsAnnounced names (length done) p
     → Once (words names ++ (names_of_bits p.name p.range ++ rest)) → length nets + length (bit_names p.name p.range) ≤ MAX_NETS → (place : ℕ)
     → declare_port place p.name p.dir p.range (stage n names (done ++ undeclared (p ∷ todo)) nets [] [])
     ≡ Ok (stage n (names ++ bit_entries (names_of_bits p.name p.range)) ((done ++ declared_port (length nets) p ∷ []) ++ undeclared todo) (nets ++ bit_names p.name p.range) [] [])
@@ -111,14 +111,14 @@ port_step n p todo names done nets rest good known once room place =
     ∙ ap (λ (ports : List HeaderPort). Ok (stage n (names ++ bit_entries (names_of_bits p.name p.range)) ports (nets ++ bit_names p.name p.range) [] []))
     (set_at done (undeclared todo) x (declared_port (length nets) p) (length done) refl)
 
-pub ports_read : (n : Netlist) (todo : List Port) (names : List Entry) (done : List HeaderPort) (nets rest : List Text) → GoodPorts todo → AreAnnounced names (length done) todo
+pub ports_read : (n : Netlist) (todo : List Port) (names : List TakenName) (done : List HeaderPort) (nets rest : List Text) → GoodPorts todo → AreAnnounced names (length done) todo
     → Once (words names ++ (bit_words todo ++ rest)) → length nets + length (bit_names_of todo) ≤ MAX_NETS
     → Lines (length todo) (flat_map port_line todo) (stage n names (done ++ undeclared todo) nets [] []) (stage n (names ++ bits_entries todo) (done ++ declared_ports (length nets) todo) (nets ++ bit_names_of todo) [] [])
 ports_read n [] names done nets rest good known once room =
-    subst (λ (x : List Entry). Lines 0 [] (stage n names (done ++ []) nets [] []) (stage n x (done ++ []) (nets ++ []) [] [])) (sym (append-nil names))
+    subst (λ (x : List TakenName). Lines 0 [] (stage n names (done ++ []) nets [] []) (stage n x (done ++ []) (nets ++ []) [] [])) (sym (append-nil names))
     (subst (λ (x : List Text). Lines 0 [] (stage n names (done ++ []) nets [] []) (stage n names (done ++ []) x [] [])) (sym (append-nil nets)) (no_lines (stage n names (done ++ []) nets [] [])))
 ports_read n (p ∷ todo) names done nets rest good known once room =
-    let bits : List Entry = bit_entries (names_of_bits p.name p.range) in
+    let bits : List TakenName = bit_entries (names_of_bits p.name p.range) in
     let here : List HeaderPort = done ++ declared_port (length nets) p ∷ [] in
     let mid = stage n (names ++ bits) (here ++ undeclared todo) (nets ++ bit_names p.name p.range) [] [] in
     let size : length (nets ++ bit_names p.name p.range) ≡ length nets + length (bit_names p.name p.range) = length-append nets (bit_names p.name p.range) in
@@ -150,13 +150,13 @@ pub all_names : (ws : List Text) → ((k : ℕ) (w : Text) → slice_get ws k �
 all_names [] h = tt
 all_names (w ∷ ws) h = (h 0 w refl, all_names ws (λ k v at. h (suc k) v at))
 
-pub wires_read : (n : Netlist) (ws : List Text) (names : List Entry) (ports : List HeaderPort) (nets rest : List Text) → AllNames ws → Once (words names ++ (ws ++ rest)) → length nets + length ws ≤ MAX_NETS
+pub wires_read : (n : Netlist) (ws : List Text) (names : List TakenName) (ports : List HeaderPort) (nets rest : List Text) → AllNames ws → Once (words names ++ (ws ++ rest)) → length nets + length ws ≤ MAX_NETS
     → Lines (length ws) (flat_map wire_line (map name_text ws)) (stage n names ports nets [] []) (stage n (names ++ wire_entries (length nets) ws) ports (nets ++ ws) [] [])
 wires_read n [] names ports nets rest good once room =
-    subst (λ (x : List Entry). Lines 0 [] (stage n names ports nets [] []) (stage n x ports (nets ++ []) [] [])) (sym (append-nil names))
+    subst (λ (x : List TakenName). Lines 0 [] (stage n names ports nets [] []) (stage n x ports (nets ++ []) [] [])) (sym (append-nil names))
     (subst (λ (x : List Text). Lines 0 [] (stage n names ports nets [] []) (stage n names ports x [] [])) (sym (append-nil nets)) (no_lines (stage n names ports nets [] [])))
 wires_read n (w ∷ ws) names ports nets rest good once room =
-    let e : Entry = entry w (meaning.Nets (record { range = None; first = record { 0 = length nets } })) in
+    let e : TakenName = entry w (meaning.Nets (record { range = None; first = record { 0 = length nets } })) in
     let start = stage n names ports nets [] [] in
     let mid = stage n (names ++ e ∷ []) ports (nets ++ w ∷ []) [] [] in
     let size : length (nets ++ w ∷ []) ≡ suc (length nets) = omega (arith, length-append nets (w ∷ [])) in

@@ -12,11 +12,11 @@ use Rattle.dft_netlist.specs.NetDrivers.{IsSingle}
 use Rattle.dft_netlist.specs.Orders.{IsOrderable}
 use Rattle.dft_netlist.specs.Sound.{IsNetlist, bit_names_of}
 use Rattle.dft_netlist_text.specs.Steps.{left}
-use Rattle.dft_netlist_text.specs.Modules.{HeaderPort, Entry, Draft, names_of_bits}
+use Rattle.dft_netlist_text.specs.Modules.{HeaderPort, TakenName, Draft, names_of_bits}
 use Rattle.dft_netlist_text.specs.Items.{items_from}
 use Rattle.dft_netlist_text.specs.NetlistText.{first_undeclared, module_text, module_of, StandsFor}
 use Rattle.dft_verilog_out.specs.Named.{IsNamedNetlist, GatesAreJoined}
-use Rattle.dft_verilog_out.specs.Written.{name_text, other_nets, net_texts, port_line, wire_line, join_line, line_of, heading, body, written}
+use Rattle.dft_verilog_out.specs.Written.{name_text, wire_names, net_texts, port_line, wire_line, join_line, instance_line, module_line, body, written}
 use Rattle.dft_verilog_out.proofs.FormLemmas.{length-port_texts, others-are, joins-stand, instances-stand}
 use Rattle.dft_verilog_out.proofs.CutLemmas.{cut_up, cut_up-is, cut_up-endmodule, token}
 use Rattle.dft_verilog_out.proofs.ItemLemmas.{items_from-end, module-at}
@@ -47,7 +47,7 @@ words-wires first [] = refl
 words-wires first (w ∷ ws) = ap (λ xs. w ∷ xs) (words-wires (suc first) ws)
 
 -- names that stand once, where more of them are taken
-taken_more : (es more : List Entry) (xs rest : List Text) → words more ≡ xs → Once (words es ++ (xs ++ rest)) → Once (words (es ++ more) ++ rest)
+taken_more : (es more : List TakenName) (xs rest : List Text) → words more ≡ xs → Once (words es ++ (xs ++ rest)) → Once (words (es ++ more) ++ rest)
 taken_more es more xs rest is once =
     subst Once (sym (append_assoc (words es) xs rest) ∙ ap (λ ws. (words es ++ ws) ++ rest) (sym is) ∙ ap (λ ws. ws ++ rest) (sym (words-append es more))) once
 
@@ -74,28 +74,28 @@ items_read count text d new l =
 -- the items of a text that was written
 abbrev item_text : Netlist → Text
 item_text n =
-    flat_map port_line n.ports ++ (flat_map wire_line (map name_text (other_nets n)) ++ (flat_map (join_line (net_texts n)) n.joins ++ flat_map (line_of n.library (net_texts n)) n.instances))
+    flat_map port_line n.ports ++ (flat_map wire_line (map name_text (wire_names n)) ++ (flat_map (join_line (net_texts n)) n.joins ++ flat_map (instance_line n.library (net_texts n)) n.instances))
 
 body-is : (n : Netlist) → body n ≡ item_text n ++ codes "endmodule\n"
 unfolding body
 body-is n =
     let p : Text = flat_map port_line n.ports in
-    let w : Text = flat_map wire_line (map name_text (other_nets n)) in
+    let w : Text = flat_map wire_line (map name_text (wire_names n)) in
     let j : Text = flat_map (join_line (net_texts n)) n.joins in
-    let i : Text = flat_map (line_of n.library (net_texts n)) n.instances in
+    let i : Text = flat_map (instance_line n.library (net_texts n)) n.instances in
     let e : Text = codes "endmodule\n" in
     ap (λ t. p ++ (w ++ t)) (sym (append_assoc j i e)) ∙ ap (λ t. p ++ t) (sym (append_assoc w (j ++ i) e)) ∙ sym (append_assoc p (w ++ (j ++ i)) e)
 
 -- the names that are taken once ports and other nets are declared
-abbrev port_names_taken : Netlist → List Entry
+abbrev port_names_taken : Netlist → List TakenName
 port_names_taken n = header_entries 0 n.ports ++ bits_entries n.ports
 
-abbrev net_names_taken : Netlist → List Entry
-net_names_taken n = port_names_taken n ++ wire_entries (length (bit_names_of n.ports)) (other_nets n)
+abbrev net_names_taken : Netlist → List TakenName
+net_names_taken n = port_names_taken n ++ wire_entries (length (bit_names_of n.ports)) (wire_names n)
 
 -- what the draft of the text holds
 abbrev whole : Netlist → Draft
-whole n = stage n (net_names_taken n ++ instance_entries n.instances) (declared_ports 0 n.ports) (bit_names_of n.ports ++ other_nets n) n.instances n.joins
+whole n = stage n (net_names_taken n ++ instance_entries n.instances) (declared_ports 0 n.ports) (bit_names_of n.ports ++ wire_names n) n.instances n.joins
 
 -- all that is needed of a netlist to read its text
 pub record IsWritten (n : Netlist) : Type 0 where
@@ -104,34 +104,34 @@ pub record IsWritten (n : Netlist) : Type 0 where
   pub named : IsNamedNetlist n
   pub gates : GatesAreJoined n
 
-names_differ : (n : Netlist) → IsWritten n → Once (header_words n.ports ++ (bit_words n.ports ++ (other_nets n ++ filter_map instance_name n.instances)))
-names_differ n h = text_names_once n (other_nets n) (others-are n h.sound) (names_once n h.sound.names)
+names_differ : (n : Netlist) → IsWritten n → Once (header_words n.ports ++ (bit_words n.ports ++ (wire_names n ++ filter_map instance_name n.instances)))
+names_differ n h = text_names_once n (wire_names n) (others-are n h.sound) (names_once n h.sound.names)
 
-once_ports : (n : Netlist) → IsWritten n → Once (words (header_entries 0 n.ports) ++ (bit_words n.ports ++ (other_nets n ++ filter_map instance_name n.instances)))
-once_ports n h = subst (λ ws. Once (ws ++ (bit_words n.ports ++ (other_nets n ++ filter_map instance_name n.instances)))) (sym (words-header 0 n.ports)) (names_differ n h)
+once_ports : (n : Netlist) → IsWritten n → Once (words (header_entries 0 n.ports) ++ (bit_words n.ports ++ (wire_names n ++ filter_map instance_name n.instances)))
+once_ports n h = subst (λ ws. Once (ws ++ (bit_words n.ports ++ (wire_names n ++ filter_map instance_name n.instances)))) (sym (words-header 0 n.ports)) (names_differ n h)
 
-once_wires : (n : Netlist) → IsWritten n → Once (words (port_names_taken n) ++ (other_nets n ++ filter_map instance_name n.instances))
-once_wires n h = taken_more (header_entries 0 n.ports) (bits_entries n.ports) (bit_words n.ports) (other_nets n ++ filter_map instance_name n.instances) (words-bits_entries n.ports) (once_ports n h)
+once_wires : (n : Netlist) → IsWritten n → Once (words (port_names_taken n) ++ (wire_names n ++ filter_map instance_name n.instances))
+once_wires n h = taken_more (header_entries 0 n.ports) (bits_entries n.ports) (bit_words n.ports) (wire_names n ++ filter_map instance_name n.instances) (words-bits_entries n.ports) (once_ports n h)
 
 once_instances : (n : Netlist) → IsWritten n → Once (words (net_names_taken n) ++ filter_map instance_name n.instances)
 once_instances n h =
-    taken_more (port_names_taken n) (wire_entries (length (bit_names_of n.ports)) (other_nets n)) (other_nets n) (filter_map instance_name n.instances) (words-wires (length (bit_names_of n.ports)) (other_nets n)) (once_wires n h)
+    taken_more (port_names_taken n) (wire_entries (length (bit_names_of n.ports)) (wire_names n)) (wire_names n) (filter_map instance_name n.instances) (words-wires (length (bit_names_of n.ports)) (wire_names n)) (once_wires n h)
 
-room_for_nets : (n : Netlist) → IsWritten n → length (bit_names_of n.ports) + length (other_nets n) ≤ 524288
+room_for_nets : (n : Netlist) → IsWritten n → length (bit_names_of n.ports) + length (wire_names n) ≤ 524288
 room_for_nets n h =
-    let few = h.sound.few_nets in omega (arith, ap length (others-are n h.sound), length-append (bit_names_of n.ports) (other_nets n))
+    let few = h.sound.few_nets in omega (arith, ap length (others-are n h.sound), length-append (bit_names_of n.ports) (wire_names n))
 
 nets_known : (n : Netlist) → IsWritten n → NetsAt (net_names_taken n) (declared_ports 0 n.ports) (net_texts n)
 nets_known n h =
     let bits : ℕ = length (bit_names_of n.ports) in
-    all_nets_at (port_names_taken n) (declared_ports 0 n.ports) n.ports (other_nets n) (filter_map instance_name n.instances) bits (sym (length-port_texts n.ports)) (good_ports n.ports h.named.ports) (all_names (other_nets n) h.named.others)
-    (announced-kept (port_names_taken n) (wire_entries bits (other_nets n)) 0 n.ports (announced-kept (header_entries 0 n.ports) (bits_entries n.ports) 0 n.ports (announced_at [] 0 n.ports _ (names_differ n h))))
+    all_nets_at (port_names_taken n) (declared_ports 0 n.ports) n.ports (wire_names n) (filter_map instance_name n.instances) bits (sym (length-port_texts n.ports)) (good_ports n.ports h.named.ports) (all_names (wire_names n) h.named.others)
+    (announced-kept (port_names_taken n) (wire_entries bits (wire_names n)) 0 n.ports (announced-kept (header_entries 0 n.ports) (bits_entries n.ports) 0 n.ports (announced_at [] 0 n.ports _ (names_differ n h))))
     refl (once_wires n h)
 
-all_lines : (n : Netlist) → IsWritten n → Lines (length n.ports + (length (other_nets n) + (length n.joins + length n.instances))) (item_text n) (stage n (header_entries 0 n.ports) (undeclared n.ports) [] [] []) (whole n)
+all_lines : (n : Netlist) → IsWritten n → Lines (length n.ports + (length (wire_names n) + (length n.joins + length n.instances))) (item_text n) (stage n (header_entries 0 n.ports) (undeclared n.ports) [] [] []) (whole n)
 all_lines n h =
     let bits : List Text = bit_names_of n.ports in
-    let nets : List Text = bits ++ other_nets n in
+    let nets : List Text = bits ++ wire_names n in
     let texts : List Text = net_texts n in
     let declared : List HeaderPort = declared_ports 0 n.ports in
     let start = stage n (header_entries 0 n.ports) (undeclared n.ports) [] [] [] in
@@ -139,21 +139,21 @@ all_lines n h =
     let second = stage n (net_names_taken n) declared nets [] [] in
     let third = stage n (net_names_taken n) declared nets [] n.joins in
     let room = room_for_nets n h in
-    let ports = ports_read n n.ports (header_entries 0 n.ports) [] [] (other_nets n ++ filter_map instance_name n.instances) (good_ports n.ports h.named.ports) (announced_at [] 0 n.ports _ (names_differ n h)) (once_ports n h) (omega arith) in
-    let wires = wires_read n (other_nets n) (port_names_taken n) declared bits (filter_map instance_name n.instances) (all_names (other_nets n) h.named.others) (once_wires n h) room in
+    let ports = ports_read n n.ports (header_entries 0 n.ports) [] [] (wire_names n ++ filter_map instance_name n.instances) (good_ports n.ports h.named.ports) (announced_at [] 0 n.ports _ (names_differ n h)) (once_ports n h) (omega arith) in
+    let wires = wires_read n (wire_names n) (port_names_taken n) declared bits (filter_map instance_name n.instances) (all_names (wire_names n) h.named.others) (once_wires n h) room in
     let joins = joins_read n n.joins (net_names_taken n) declared nets [] texts (nets_known n h) (joins-stand n texts n.joins h.sound refl refl) in
     let instances = instances_read n n.instances (net_names_taken n) declared nets [] n.joins texts h.well
     (λ place i at. record { stands = instances-stand n n.library texts n.instances h.sound refl refl refl place i at; named = h.named.instances place i at; joined = h.gates place i at }) (nets_known n h) (once_instances n h) (let few = h.sound.few_instances in omega arith) in
-    lines_more (length n.ports) (length (other_nets n) + (length n.joins + length n.instances)) (flat_map port_line n.ports) _ start first (whole n) ports
-    (lines_more (length (other_nets n)) (length n.joins + length n.instances) (flat_map wire_line (map name_text (other_nets n))) _ first second (whole n) wires
-    (lines_more (length n.joins) (length n.instances) (flat_map (join_line texts) n.joins) (flat_map (line_of n.library texts) n.instances) second third (whole n) joins instances))
+    lines_more (length n.ports) (length (wire_names n) + (length n.joins + length n.instances)) (flat_map port_line n.ports) _ start first (whole n) ports
+    (lines_more (length (wire_names n)) (length n.joins + length n.instances) (flat_map wire_line (map name_text (wire_names n))) _ first second (whole n) wires
+    (lines_more (length n.joins) (length n.instances) (flat_map (join_line texts) n.joins) (flat_map (instance_line n.library texts) n.instances) second third (whole n) joins instances))
 
 module_read : (n : Netlist) → IsWritten n → value_of (module_text n.library (cut_up (written n))) ≡ Ok (whole n)
 unfolding written
 module_read n h =
     let start = stage n (header_entries 0 n.ports) (undeclared n.ports) [] [] [] in
-    module-at n.library start (whole n) (codes "endmodule") 10 (cut_up (heading n.name n.ports ++ body n)) (cut_up (body n))
-    (heading_read n (bit_words n.ports ++ (other_nets n ++ filter_map instance_name n.instances)) (body n) h.named.own (good_ports n.ports h.named.ports) (names_differ n h) h.sound.few_ports)
+    module-at n.library start (whole n) (codes "endmodule") 10 (cut_up (module_line n.name n.ports ++ body n)) (cut_up (body n))
+    (heading_read n (bit_words n.ports ++ (wire_names n ++ filter_map instance_name n.instances)) (body n) h.named.own (good_ports n.ports h.named.ports) (names_differ n h) h.sound.few_ports)
     (ap (λ t. items_from (left (cut_up t)) start (cut_up t)) (body-is n) ∙ items_read _ (item_text n) start (whole n) (all_lines n h))
     (all_declared 0 n.ports)
 
@@ -167,6 +167,6 @@ written_stands n h single orderable = record {
   draft = whole n;
   said = said n h;
   grown = n;
-  parts = draft_built n (net_names_taken n ++ instance_entries n.instances) (other_nets n) h.sound (others-are n h.sound) (names_once n h.sound.names);
+  parts = draft_built n (net_names_taken n ++ instance_entries n.instances) (wire_names n) h.sound (others-are n h.sound) (names_once n h.sound.names);
   finished = record { same = refl; single = single; orderable = orderable };
 }

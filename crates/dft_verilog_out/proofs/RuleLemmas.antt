@@ -11,7 +11,7 @@ use Rattle.dft_netlist_text.specs.declared.text.Site.{Site}
 use Rattle.dft_netlist_text.specs.Lexemes.{Token}
 use Rattle.dft_netlist_text.specs.Steps.{kind_of, bytes, left, next, same_kind, sees, expect}
 use Rattle.dft_netlist_text.specs.Modules.{Draft}
-use Rattle.dft_netlist_text.specs.Expressions.{small_number, number, rest_of_range, range, range_if_any, digits, constant, Named, bits_of_name, drives, ends, followed, rest_of_select, selection, named_operand, constant_operand, operand, opening, nest_from, expression}
+use Rattle.dft_netlist_text.specs.Expressions.{small_number, number, rest_of_range, range, range_if_any, digits, constant, SelectedName, bits_of_name, drives, ends, followed, rest_of_select, selection, named_operand, constant_operand, operand, opening, concatenations_from, expression}
 use Rattle.dft_verilog_out.proofs.CutLemmas.{token, constant_tokens}
 
 -- ---- numbers and ranges
@@ -34,22 +34,22 @@ range-at r first second a b c d e ts f s =
 -- ---- expressions of one bit
 
 -- a name with what is selected
-abbrev pub named : Text → (l : ℕ) → Named
+abbrev pub named : Text → (l : ℕ) → SelectedName
 named word l = record { word = word; what = select.Whole; place = suc l }
 
 pub whole-at : (at : Site) (d : Draft) (bits : List Signal) (word : Text) (l : ℕ) (ts : List Token) → bits_of_name at 0 (named word l) d ≡ Ok (d, bits)
     → ends at (kind_of ts) ≡ true → sees kind.OpenBracket ts ≡ false → expression at d (token kind.Name word (suc l) ∷ ts) ≡ Ok ((d, bits), ts)
-unfolding expression nest_from opening operand named_operand selection followed expect kind_of same_kind bytes left next sees
+unfolding expression concatenations_from opening operand named_operand selection followed expect kind_of same_kind bytes left next sees
 whole-at at d bits word l ts found follows single = rw (single, follows, found, follows) refl
 
 pub bit-at : (at : Site) (d : Draft) (bits : List Signal) (word number : Text) (index l a b c : ℕ) (ts : List Token) → small_number number ≡ Some index
     → bits_of_name at 0 (record { word = word; what = select.Bit index; place = suc l }) d ≡ Ok (d, bits) → ends at (kind_of ts) ≡ true
     → expression at d (token kind.Name word (suc l) ∷ token kind.OpenBracket (91 ∷ []) a ∷ token kind.Number number b ∷ token kind.CloseBracket (93 ∷ []) c ∷ ts) ≡ Ok ((d, bits), ts)
-unfolding expression nest_from opening operand named_operand selection rest_of_select followed expect kind_of same_kind bytes left next sees
+unfolding expression concatenations_from opening operand named_operand selection rest_of_select followed expect kind_of same_kind bytes left next sees
 bit-at at d bits word number index l a b c ts value found follows = rw (number-at index b number (token kind.CloseBracket (93 ∷ []) c ∷ ts) value, follows, found, follows) refl
 
 pub constant-at : (at : Site) (d : Draft) (bit : Bool) (more : ℕ) (ts : List Token) → drives at ≡ false → ends at (kind_of ts) ≡ true
     → expression at d (constant_tokens bit more ts) ≡ Ok ((d, signal.Constant bit ∷ []), ts)
-unfolding expression nest_from opening operand constant_operand constant number digits followed expect kind_of same_kind bytes left next sees reserved_words
+unfolding expression concatenations_from opening operand constant_operand constant number digits followed expect kind_of same_kind bytes left next sees reserved_words
 constant-at at d false more ts free follows = rw (follows, free, follows) refl
 constant-at at d true more ts free follows = rw (follows, free, follows) refl

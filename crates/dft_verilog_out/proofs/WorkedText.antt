@@ -8,7 +8,7 @@ use Rattle.dft_base.specs.declared.dir.Dir.TheVariants as dir
 use Rattle.dft_netlist.specs.declared.instance.Signal.TheVariants as signal
 use Rattle.dft_netlist.specs.declared.instance.CellRef.TheVariants as cell_ref
 use Rattle.dft_netlist.specs.Netlist.{Netlist}
-use Rattle.dft_verilog_out.specs.Written.{heading, port_line, wire_line, join_line, gate_line, cell_line, body, written}
+use Rattle.dft_verilog_out.specs.Written.{module_line, port_line, wire_line, join_line, gate_line, cell_line, body, written}
 
 -- a vector of two bits, an output, a net whose name is reserved later and one whose name is no word;
 -- a join, a gate without a name, one with a name, and a flip-flop whose inverted output is joined to nothing
@@ -31,5 +31,5 @@ example = record {
 }
 
 pub example_written : written example ≡ codes "module m (a, y);\ninput [1:0] a;\noutput y;\nwire \\cell ;\nwire \\n[0] ;\nwire q;\nassign y = \\n[0] ;\nxor (\\cell , a[1], 1'b1);\nnot u (\\n[0] , \\cell );\nDFF f (.CK(a[0]), .D(\\n[0] ), .Q(q));\nendmodule\n"
-unfolding written heading body port_line wire_line join_line gate_line cell_line words.reserved_words words.later_reserved_words fmt.digits
+unfolding written module_line body port_line wire_line join_line gate_line cell_line words.reserved_words words.later_reserved_words fmt.digits
 example_written = refl

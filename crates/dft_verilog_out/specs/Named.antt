@@ -13,7 +13,7 @@ use Rattle.dft_netlist.specs.declared.instance.CellRef.TheVariants.{Library, Gat
 use Rattle.dft_netlist.specs.declared.instance.Instance.{Instance}
 use Rattle.dft_netlist.specs.Netlist.{Netlist}
 use Rattle.dft_netlist.specs.Sound.{IsConnected}
-use Rattle.dft_verilog_out.specs.Written.{is_joined, other_nets}
+use Rattle.dft_verilog_out.specs.Written.{is_joined, wire_names}
 
 -- a name, if there is one
 abbrev pub IsOwnName : Option Text → Type 0
@@ -48,7 +48,7 @@ pub record IsNamedInstance (library : List Cell) (i : Instance) : Type 0 where
 pub record IsNamedNetlist (n : Netlist) : Type 0 where
   pub own : IsName n.name
   pub ports : (place : ℕ) (port : Port) → slice_get n.ports place ≡ Some port → IsNamedPort port
-  pub others : (place : ℕ) (name : Text) → slice_get (other_nets n) place ≡ Some name → IsName name
+  pub others : (place : ℕ) (name : Text) → slice_get (wire_names n) place ≡ Some name → IsName name
   pub instances : (place : ℕ) (i : Instance) → slice_get n.instances place ≡ Some i → IsNamedInstance n.library i
 
 -- every pin of a gate is joined

@@ -26,35 +26,35 @@ abbrev pub name_text : Text → Text
 name_text name = if needs_escape name then 92 ∷ (name ++ 32 ∷ []) else name
 
 -- texts one behind the other, with a comma and a blank between them, and this before the first
-abbrev pub listed_behind : Text → List Text → Text
-listed_behind before [] = []
-listed_behind before (text ∷ texts) = before ++ (text ++ listed_behind (codes ", ") texts)
+abbrev pub list_text_behind : Text → List Text → Text
+list_text_behind before [] = []
+list_text_behind before (text ∷ texts) = before ++ (text ++ list_text_behind (codes ", ") texts)
 
 -- texts with a comma and a blank between them
-abbrev pub listed : List Text → Text
-listed texts = listed_behind [] texts
+abbrev pub list_text : List Text → Text
+list_text texts = list_text_behind [] texts
 
 -- ---- nets
 
 -- a bit of a vector, by its index
-abbrev pub bit_text : Text → (index : ℕ) → Text
-bit_text name index = name_text name ++ (91 ∷ (decimal index ++ 93 ∷ []))
+abbrev pub bit_select_text : Text → (index : ℕ) → Text
+bit_select_text name index = name_text name ++ (91 ∷ (decimal index ++ 93 ∷ []))
 
 -- the bits of a port, leftmost first
 abbrev pub bit_texts : Text → Option Range → List Text
 bit_texts name None = name_text name ∷ []
-bit_texts name (Some range) = map (bit_text name) (indices_of range)
+bit_texts name (Some range) = map (bit_select_text name) (indices_of range)
 
 abbrev pub port_texts : Port → List Text
 port_texts port = bit_texts port.name port.range
 
 -- the names of the nets that are no port's bits
-abbrev pub other_nets : Netlist → List Text
-other_nets n = drop (length (bit_names_of n.ports)) n.nets
+abbrev pub wire_names : Netlist → List Text
+wire_names n = drop (length (bit_names_of n.ports)) n.nets
 
 -- the nets as they are written where they are joined: a bit by its vector and its index, any other by its name
 abbrev pub net_texts : Netlist → List Text
-net_texts n = flat_map port_texts n.ports ++ map name_text (other_nets n)
+net_texts n = flat_map port_texts n.ports ++ map name_text (wire_names n)
 
 -- a net, or a constant of one bit
 abbrev pub signal_text : (nets : List Text) → Signal → Text
@@ -66,8 +66,8 @@ signal_text nets Unconnected = []
 -- ---- declarations
 
 -- `module`, its name and its ports
-unfoldable pub heading : Text → List Port → Text
-heading name ports = codes "module " ++ (name_text name ++ (codes " (" ++ (listed (map (λ (port : Port). name_text port.name) ports) ++ codes ");\n")))
+unfoldable pub module_line : Text → List Port → Text
+module_line name ports = codes "module " ++ (name_text name ++ (codes " (" ++ (list_text (map (λ (port : Port). name_text port.name) ports) ++ codes ");\n")))
 
 abbrev pub dir_text : Dir → Text
 dir_text Input = codes "input "
@@ -95,8 +95,8 @@ join_line nets join = codes "assign " ++ (signal_text nets (Net join.target) ++ 
 -- ---- instances
 
 -- a pin and what it is joined to, as `.D(d0)`
-abbrev pub joined_text : (nets : List Text) → Text → Signal → Text
-joined_text nets pin to = 46 ∷ (name_text pin ++ (40 ∷ (signal_text nets to ++ 41 ∷ [])))
+abbrev pub connection_text : (nets : List Text) → Text → Signal → Text
+connection_text nets pin to = 46 ∷ (name_text pin ++ (40 ∷ (signal_text nets to ++ 41 ∷ [])))
 
 -- whether a pin is joined to something
 abbrev pub is_joined : Signal → Bool
@@ -105,10 +105,10 @@ is_joined (Constant bit) = true
 is_joined Unconnected = false
 
 -- the pins that are joined, in their order
-abbrev pub connections_of : (nets : List Text) → List Pin → List Signal → List Text
-connections_of nets [] signals = []
-connections_of nets (pin ∷ pins) [] = []
-connections_of nets (pin ∷ pins) (to ∷ signals) = if is_joined to then joined_text nets pin.name to ∷ connections_of nets pins signals else connections_of nets pins signals
+abbrev pub connection_texts : (nets : List Text) → List Pin → List Signal → List Text
+connection_texts nets [] signals = []
+connection_texts nets (pin ∷ pins) [] = []
+connection_texts nets (pin ∷ pins) (to ∷ signals) = if is_joined to then connection_text nets pin.name to ∷ connection_texts nets pins signals else connection_texts nets pins signals
 
 -- the primitive of a kind of gate
 abbrev pub gate_text : Kind → Text
@@ -133,27 +133,27 @@ own_name_text (Some name) = 32 ∷ name_text name
 
 -- the line of a gate, as `xor g1 (y, a, b);`
 unfoldable pub gate_line : (nets : List Text) → Kind → Instance → Text
-gate_line nets kind i = gate_text kind ++ (own_name_text i.name ++ (codes " (" ++ (listed (map (signal_text nets) (output_first i.pins)) ++ codes ");\n")))
+gate_line nets kind i = gate_text kind ++ (own_name_text i.name ++ (codes " (" ++ (list_text (map (signal_text nets) (output_first i.pins)) ++ codes ");\n")))
 
 -- the line of an instance of a cell, as `DFF f0 (.CK(clk), .D(d0), .Q(q0));`
 unfoldable pub cell_line : (nets : List Text) → Cell → Instance → Text
-cell_line nets cell i = name_text cell.name ++ (own_name_text i.name ++ (codes " (" ++ (listed (connections_of nets cell.pins i.pins) ++ codes ");\n")))
+cell_line nets cell i = name_text cell.name ++ (own_name_text i.name ++ (codes " (" ++ (list_text (connection_texts nets cell.pins i.pins) ++ codes ");\n")))
 
 -- a number that names no cell has no line
 abbrev pub found_cell_line : (nets : List Text) → Option Cell → Instance → Text
 found_cell_line nets None i = []
 found_cell_line nets (Some cell) i = cell_line nets cell i
 
-abbrev pub line_of : List Cell → (nets : List Text) → Instance → Text
-line_of library nets i = elim i.cell [ Library id ↦ found_cell_line nets (slice_get library id.0) i | Gate kind inputs ↦ gate_line nets kind i ]
+abbrev pub instance_line : List Cell → (nets : List Text) → Instance → Text
+instance_line library nets i = elim i.cell [ Library id ↦ found_cell_line nets (slice_get library id.0) i | Gate kind inputs ↦ gate_line nets kind i ]
 
 -- ---- the whole
 
 -- the lines behind the heading
 unfoldable pub body : Netlist → Text
-body n = flat_map port_line n.ports ++ (flat_map wire_line (map name_text (other_nets n))
-    ++ (flat_map (join_line (net_texts n)) n.joins ++ (flat_map (line_of n.library (net_texts n)) n.instances ++ codes "endmodule\n")))
+body n = flat_map port_line n.ports ++ (flat_map wire_line (map name_text (wire_names n))
+    ++ (flat_map (join_line (net_texts n)) n.joins ++ (flat_map (instance_line n.library (net_texts n)) n.instances ++ codes "endmodule\n")))
 
 -- the written form
 unfoldable pub written : Netlist → Text
-written n = heading n.name n.ports ++ body n
+written n = module_line n.name n.ports ++ body n

@@ -14,7 +14,7 @@ use std::alloc::AllocError;
 
 /// Adds the names of ports, with commas between them.
 fn add_port_names(out: &mut Vec<u8>, ports: &[Port]) -> Result<(), AllocError>
-    ensures { OnOk result (out.new.items ≡ out.old.items ++ form.listed (map (λ (p : APort). form.name_text p.name) ports.now)) }
+    ensures { OnOk result (out.new.items ≡ out.old.items ++ form.list_text (map (λ (p : APort). form.name_text p.name) ports.now)) }
 {
     let mut before: &[u8] = b"";
     for port in ports {
@@ -26,9 +26,9 @@ fn add_port_names(out: &mut Vec<u8>, ports: &[Port]) -> Result<(), AllocError>
 }
 
 /// Adds the heading of the module.
-#[tactic(auto, unfolding(crate::specs::Written::heading))]
+#[tactic(auto, unfolding(crate::specs::Written::module_line))]
 pub(crate) fn add_heading(out: &mut Vec<u8>, name: &Name, ports: &[Port]) -> Result<(), AllocError>
-    ensures text { OnOk result (out.new.items ≡ out.old.items ++ form.heading name.now ports.now) }
+    ensures text { OnOk result (out.new.items ≡ out.old.items ++ form.module_line name.now ports.now) }
     ensures named { OnOk result (IsName name.now) }
 {
     out.extend_from_slice(b"module ")?;

@@ -48,7 +48,7 @@ pub(crate) fn add_joins(
 /// Adds a pin and what it is joined to.
 fn add_joined(out: &mut Vec<u8>, nets: &[NetText], pin: &Name, to: Signal) -> Result<(), AllocError>
     requires { IsLive (length nets.now) to }
-    ensures text { OnOk result (out.new.items ≡ out.old.items ++ form.joined_text nets.now pin.now to) }
+    ensures text { OnOk result (out.new.items ≡ out.old.items ++ form.connection_text nets.now pin.now to) }
     ensures named { OnOk result (IsName pin.now) }
 {
     out.push(b'.')?;
@@ -78,7 +78,7 @@ fn add_connections(
 ) -> Result<(), AllocError>
     requires live { AreLive (length nets.now) signals.now }
     requires width { length signals.now ≡ length pins.now }
-    ensures text { OnOk result (out.new.items ≡ out.old.items ++ form.listed (form.connections_of nets.now pins.now signals.now)) }
+    ensures text { OnOk result (out.new.items ≡ out.old.items ++ form.list_text (form.connection_texts nets.now pins.now signals.now)) }
     ensures named { OnOk result ((place : ℕ) (pin : APin) (to : ASignal) → slice_get pins.now place ≡ Some pin → slice_get signals.now place ≡ Some to → form.is_joined to ≡ true → IsName pin.name) }
 {
     let mut before: &[u8] = b"";
@@ -111,7 +111,7 @@ fn gate_text(kind: Kind) -> &'static [u8]
 /// Adds signals behind those that are there.
 fn add_inputs(out: &mut Vec<u8>, nets: &[NetText], signals: &[Signal]) -> Result<(), AllocError>
     requires { AreLive (length nets.now) signals.now }
-    ensures { OnOk result (out.new.items ≡ out.old.items ++ form.listed_behind (codes ", ") (map (form.signal_text nets.now) signals.now)) }
+    ensures { OnOk result (out.new.items ≡ out.old.items ++ form.list_text_behind (codes ", ") (map (form.signal_text nets.now) signals.now)) }
 {
     for signal in signals {
         out.extend_from_slice(b", ")?;
@@ -123,7 +123,7 @@ fn add_inputs(out: &mut Vec<u8>, nets: &[NetText], signals: &[Signal]) -> Result
 /// Adds a gate's terminals, its output first.
 fn add_terminals(out: &mut Vec<u8>, nets: &[NetText], pins: &[Signal]) -> Result<(), AllocError>
     requires { AreLive (length nets.now) pins.now }
-    ensures { OnOk result (out.new.items ≡ out.old.items ++ form.listed (map (form.signal_text nets.now) (form.output_first pins.now))) }
+    ensures { OnOk result (out.new.items ≡ out.old.items ++ form.list_text (map (form.signal_text nets.now) (form.output_first pins.now))) }
 {
     if pins.is_empty() {
         return Ok(());
@@ -195,7 +195,7 @@ fn add_instance(
     instance: &Instance,
 ) -> Result<(), AllocError>
     requires { IsInstance cells.now (length nets.now) instance.now.name instance.now.cell instance.now.pins }
-    ensures text { OnOk result (out.new.items ≡ out.old.items ++ form.line_of cells.now nets.now instance.now) }
+    ensures text { OnOk result (out.new.items ≡ out.old.items ++ form.instance_line cells.now nets.now instance.now) }
     ensures named { OnOk result (IsNamedInstance cells.now instance.now) }
 {
     match instance.cell {
@@ -212,7 +212,7 @@ pub(crate) fn add_instances(
     instances: &[Instance],
 ) -> Result<(), AllocError>
     requires { (place : ℕ) (i : AnInstance) → slice_get instances.now place ≡ Some i → IsInstance cells.now (length nets.now) i.name i.cell i.pins }
-    ensures text { OnOk result (out.new.items ≡ out.old.items ++ flat_map (form.line_of cells.now nets.now) instances.now) }
+    ensures text { OnOk result (out.new.items ≡ out.old.items ++ flat_map (form.instance_line cells.now nets.now) instances.now) }
     ensures named { OnOk result ((place : ℕ) (i : AnInstance) → slice_get instances.now place ≡ Some i → IsNamedInstance cells.now i) }
 {
     for instance in instances {

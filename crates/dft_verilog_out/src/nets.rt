@@ -48,7 +48,7 @@ fn whole(alloc: Global, name: &Name) -> Result<NetText, AllocError>
 
 /// A bit of a vector, by its index.
 fn bit(alloc: Global, name: &Name, index: u16) -> Result<NetText, AllocError>
-    ensures { IfOk result (λ text. text ≡ form.bit_text name.now index) }
+    ensures { IfOk result (λ text. text ≡ form.bit_select_text name.now index) }
 {
     let mut bytes = Vec::new(alloc);
     add_name(&mut bytes, name)?;
@@ -65,7 +65,7 @@ fn add_bits(
     name: &Name,
     range: Range,
 ) -> Result<(), AllocError>
-    ensures { OnOk result (texts.new.items ≡ texts.old.items ++ map (form.bit_text name.now) (indices_of range)) }
+    ensures { OnOk result (texts.new.items ≡ texts.old.items ++ map (form.bit_select_text name.now) (indices_of range)) }
 {
     let count = u32::from(range.left.abs_diff(range.right)) + 1;
     for place in 0..count {

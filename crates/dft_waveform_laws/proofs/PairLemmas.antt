@@ -12,7 +12,7 @@ use Rattle.dft_patterns.specs.declared.shapes.Drawing.TheVariants.{Begun, One, T
 use Rattle.dft_patterns.specs.declared.times.Times.{Times}
 use Rattle.dft_patterns.specs.Drawings.{is, before, begins_shape, act_of_events}
 use Rattle.dft_patterns.specs.Times.{no_times, later, earlier, with_setting, with_strobe, with_pulse, with_last, with_times, all_before}
-use Rattle.dft_waveform_laws.specs.PairsOfTimes.{times, settings_of, strobes_of, rises_of, falls_of, settings, strobes, rises, falls, each_before, some_time, times_kept}
+use Rattle.dft_waveform_laws.specs.PairsOfTimes.{event_times, settings_of, strobes_of, rises_of, falls_of, setting_times, strobe_times, rise_times, fall_times, each_before, some_time, times_kept}
 use Rattle.dft_waveform_laws.specs.Laws.{IsWhole, TimesByPairs}
 
 -- ---- the last and the first of some times
@@ -233,7 +233,7 @@ apart a e = grind (arith, nat_tests)
 
 -- the times of a waveform more
 abbrev More : Drawing → Times → (ss qs rs fs ts : List ℕ) → Type 0
-More d t ss qs rs fs ts = Keeps (with_times d t) (settings d ++ ss) (strobes d ++ qs) (rises d ++ rs) (falls d ++ fs) (times d ++ ts)
+More d t ss qs rs fs ts = Keeps (with_times d t) (setting_times d ++ ss) (strobe_times d ++ qs) (rise_times d ++ rs) (fall_times d ++ fs) (event_times d ++ ts)
 
 more_kept : (dir : Dir) (d : Drawing) (t : Times) (ss qs rs fs ts : List ℕ) → Keeps t ss qs rs fs ts → begins_shape dir d ≡ true → is_some (act_of_events d) ≡ true → More d t ss qs rs fs ts
 more_kept dir Begun t ss qs rs fs ts k e some = absurd (true≢false (sym some))
@@ -249,22 +249,22 @@ more_kept Output (Three a b c) t ss qs rs fs ts k e some = absurd (true≢false 
 more_kept dir Many t ss qs rs fs ts k e some = absurd (true≢false (sym some))
 
 abbrev AllKept : List Drawing → Type 0
-AllKept ds = Keeps (times_kept ds) (flat_map settings ds) (flat_map strobes ds) (flat_map rises ds) (flat_map falls ds) (flat_map times ds)
+AllKept ds = Keeps (times_kept ds) (flat_map setting_times ds) (flat_map strobe_times ds) (flat_map rise_times ds) (flat_map fall_times ds) (flat_map event_times ds)
 
 all_kept : (ds : List Drawing) → All (λ d. IsWhole d) ds → AllKept ds
 all_kept [] h = none_kept
 all_kept (d ∷ ds) h =
     let one = h 0 d (omega arith) in
-    more_kept one.dir d (times_kept ds) (flat_map settings ds) (flat_map strobes ds) (flat_map rises ds) (flat_map falls ds) (flat_map times ds) (all_kept ds (λ n e l. h (suc n) e (omega arith))) one.begun one.whole
+    more_kept one.dir d (times_kept ds) (flat_map setting_times ds) (flat_map strobe_times ds) (flat_map rise_times ds) (flat_map fall_times ds) (flat_map event_times ds) (all_kept ds (λ n e l. h (suc n) e (omega arith))) one.begun one.whole
 
 pub paired : TimesByPairs
 paired period ds h =
     let k = all_kept ds h in
     rw (
-      ordered (times_kept ds).last_setting (times_kept ds).first_strobe (flat_map settings ds) (flat_map strobes ds) k.last_setting k.first_strobe,
-      ordered (times_kept ds).last_strobe (times_kept ds).first_rise (flat_map strobes ds) (flat_map rises ds) k.last_strobe k.first_rise,
-      ordered (times_kept ds).last_rise (times_kept ds).first_fall (flat_map rises ds) (flat_map falls ds) k.last_rise k.first_fall,
-      ordered (times_kept ds).last (Some period) (flat_map times ds) (period ∷ []) k.last (one_first period),
-      ordered (times_kept ds).last_setting (times_kept ds).first_rise (flat_map settings ds) (flat_map rises ds) k.last_setting k.first_rise,
+      ordered (times_kept ds).last_setting (times_kept ds).first_strobe (flat_map setting_times ds) (flat_map strobe_times ds) k.last_setting k.first_strobe,
+      ordered (times_kept ds).last_strobe (times_kept ds).first_rise (flat_map strobe_times ds) (flat_map rise_times ds) k.last_strobe k.first_rise,
+      ordered (times_kept ds).last_rise (times_kept ds).first_fall (flat_map rise_times ds) (flat_map fall_times ds) k.last_rise k.first_fall,
+      ordered (times_kept ds).last (Some period) (flat_map event_times ds) (period ∷ []) k.last (one_first period),
+      ordered (times_kept ds).last_setting (times_kept ds).first_rise (flat_map setting_times ds) (flat_map rise_times ds) k.last_setting k.first_rise,
       k.strobed,
     ) refl

@@ -7,7 +7,7 @@ use Rattle.dft_patterns.specs.declared.act.Act.TheVariants.{Low, High, Pulse, Ex
 use Rattle.dft_patterns.specs.declared.shapes.Event.{Event}
 use Rattle.dft_patterns.specs.declared.shapes.Drawing.TheVariants.{Begun, One, Two, Three, Many}
 use Rattle.dft_patterns.specs.Drawings.{is, before}
-use Rattle.dft_waveform_laws.specs.Waveforms.{accepted, rise, act_among}
+use Rattle.dft_waveform_laws.specs.Waveforms.{accepted, in_order, act_among}
 use Rattle.dft_waveform_laws.specs.Laws.{BegunByTable, ActsByTable}
 
 -- ---- what is begun
@@ -253,7 +253,7 @@ begun Input Many = refl
 begun Output Begun = refl
 begun Output (One a) = output_one (is 88 a) (is 76 a) (is 72 a)
 begun Output (Two a b) = output_two (is 88 a) (is 76 a) (is 72 a) (is 76 b) (is 72 b) (before a b)
-begun Output (Three a b c) = output_three (rise (a ∷ b ∷ c ∷ [])) (is 88 a) (is 76 a) (is 72 a) (is 76 b) (is 72 b)
+begun Output (Three a b c) = output_three (in_order (a ∷ b ∷ c ∷ [])) (is 88 a) (is 76 a) (is 72 a) (is 76 b) (is 72 b)
 begun Output Many = refl
 
 -- ---- what is done

@@ -12,8 +12,8 @@ use Rattle.dft_waveform_laws.specs.Waveforms.{events}
 -- ---- the times of one waveform
 
 -- the times of all events
-abbrev pub times : Drawing → List ℕ
-times d = map (λ e. e.time) (events d)
+abbrev pub event_times : Drawing → List ℕ
+event_times d = map (λ e. e.time) (events d)
 
 -- the times at which a waveform that does this sets an input: its first
 abbrev pub settings_of : Option Act → List ℕ → List ℕ
@@ -23,15 +23,15 @@ settings_of (Some Pulse) (t ∷ ts) = t ∷ []
 settings_of _ _ = []
 
 -- the last of these times
-abbrev pub last_of : List ℕ → List ℕ
-last_of [] = []
-last_of (t ∷ []) = t ∷ []
-last_of (t ∷ u ∷ ts) = last_of (u ∷ ts)
+abbrev pub last_time : List ℕ → List ℕ
+last_time [] = []
+last_time (t ∷ []) = t ∷ []
+last_time (t ∷ u ∷ ts) = last_time (u ∷ ts)
 
 -- the times at which it compares an output: its last
 abbrev pub strobes_of : Option Act → List ℕ → List ℕ
-strobes_of (Some ExpectLow) ts = last_of ts
-strobes_of (Some ExpectHigh) ts = last_of ts
+strobes_of (Some ExpectLow) ts = last_time ts
+strobes_of (Some ExpectHigh) ts = last_time ts
 strobes_of _ _ = []
 
 -- the times at which its pulse rises, and falls: the second and the third
@@ -43,17 +43,17 @@ abbrev pub falls_of : Option Act → List ℕ → List ℕ
 falls_of (Some Pulse) (t ∷ u ∷ v ∷ ts) = v ∷ []
 falls_of _ _ = []
 
-abbrev pub settings : Drawing → List ℕ
-settings d = settings_of (act_of_events d) (times d)
+abbrev pub setting_times : Drawing → List ℕ
+setting_times d = settings_of (act_of_events d) (event_times d)
 
-abbrev pub strobes : Drawing → List ℕ
-strobes d = strobes_of (act_of_events d) (times d)
+abbrev pub strobe_times : Drawing → List ℕ
+strobe_times d = strobes_of (act_of_events d) (event_times d)
 
-abbrev pub rises : Drawing → List ℕ
-rises d = rises_of (act_of_events d) (times d)
+abbrev pub rise_times : Drawing → List ℕ
+rise_times d = rises_of (act_of_events d) (event_times d)
 
-abbrev pub falls : Drawing → List ℕ
-falls d = falls_of (act_of_events d) (times d)
+abbrev pub fall_times : Drawing → List ℕ
+fall_times d = falls_of (act_of_events d) (event_times d)
 
 -- ---- the times of all waveforms of a table
 
@@ -70,9 +70,9 @@ some_time (t ∷ ts) = true
 -- no strobe, each setting before each rise.
 abbrev pub pairs_fit : (period : ℕ) → List Drawing → Bool
 pairs_fit period ds =
-    each_before (flat_map settings ds) (flat_map strobes ds) && each_before (flat_map strobes ds) (flat_map rises ds) && each_before (flat_map rises ds) (flat_map falls ds)
-    && each_before (flat_map times ds) (period ∷ [])
-    && (some_time (flat_map strobes ds) || each_before (flat_map settings ds) (flat_map rises ds))
+    each_before (flat_map setting_times ds) (flat_map strobe_times ds) && each_before (flat_map strobe_times ds) (flat_map rise_times ds) && each_before (flat_map rise_times ds) (flat_map fall_times ds)
+    && each_before (flat_map event_times ds) (period ∷ [])
+    && (some_time (flat_map strobe_times ds) || each_before (flat_map setting_times ds) (flat_map rise_times ds))
 
 -- the times that a reader keeps of these waveforms, of which it read the first last
 abbrev pub times_kept : List Drawing → Times

@@ -48,9 +48,9 @@ some [] = false
 some (e ∷ es) = true
 
 -- whether each event is later than the one before it
-abbrev pub rise : List Event → Bool
-rise (a ∷ b ∷ es) = before a b && rise (b ∷ es)
-rise _ = true
+abbrev pub in_order : List Event → Bool
+in_order (a ∷ b ∷ es) = before a b && in_order (b ∷ es)
+in_order _ = true
 
 -- whether these letters begin with those of the events
 abbrev pub begin : (letters : List ℕ) → List Event → Bool
@@ -74,7 +74,7 @@ same_dir _ _ = false
 
 -- whether a waveform of the table begins with these events, for a signal of this direction
 abbrev pub begins_accepted : Dir → List Event → Bool
-begins_accepted d es = rise es && list_any (λ w. same_dir d w.dir && begin w.letters es) accepted
+begins_accepted d es = in_order es && list_any (λ w. same_dir d w.dir && begin w.letters es) accepted
 
 -- what the first of these waveforms does whose events are these
 abbrev pub act_among : List Waveform → List Event → Option Act

@@ -1,6 +1,6 @@
 use Rattle.std.proofs.Common.{◌≡◌, ◌++◌, ◌∷◌, [], map, ap, ap₂, ◌∙◌, arith, List, ℕ, Some, subst, sym}
+use Rattle.dft_base.specs.Ranges.{width}
 use Rattle.dft_netlist.specs.Names.{bit_name, bit_names}
-use Rattle.dft_netlist_text.specs.Modules.{width}
 use Rattle.dft_verilog_draft.specs.Free.{AreBitsApart}
 use Rattle.dft_verilog_draft.proofs.ApartLemmas.{bit_names-apart}
 use Rattle.dft_verilog_draft.proofs.BitNameLemmas.{first_indices, first_indices-all, names_more}

@@ -3,7 +3,7 @@ use Rattle.dft_netlist_text.specs.NetlistText.{StandsFor}
 use Rattle.dft_base.specs.Lexing.{Text}
 use Rattle.dft_base.specs.Name.{IsName}
 use Rattle.dft_verilog_out.specs.Written.{port_texts, port_line, wire_line}
-use Rattle.dft_verilog_out.proofs.FormLemmas.{ports-fit, texts-are, heading-is, wires-are, rest-is, assembled, joins-stand, instances-stand, all_named}
+use Rattle.dft_verilog_out.proofs.FormLemmas.{ports-fit, texts-are, module_line-is, wires-are, rest-is, assembled, joins-stand, instances-stand, all_named}
 use Rattle.dft_verilog_out.proofs.RoundTrip.{written_stands}
 use Rattle.dft_verilog_out.proofs.writer.write.Goals as goal
 
@@ -27,7 +27,7 @@ returns c =
     let n = c.args.design.now in
     let first = c.in_ok-nets.ensures ∙ ap (flat_map port_texts) c.ports.ensures.ports in
     let all = texts-are n _ _ first c.in_ok-add_other_texts.ensures.texts in
-    let heading_is = heading-is n _ _ _ _ c.new-out.ensures.items c.module.ensures.name c.ports-2.ensures.ports c.in_ok-add_heading.ensures.text in
+    let heading_is = module_line-is n _ _ _ _ c.new-out.ensures.items c.module.ensures.name c.ports-2.ensures.ports c.in_ok-add_heading.ensures.text in
     let cells = c.cells.ensures.cells ∙ c.library.ensures.library in
     let form = assembled n _ _ _ _ _ _ _ _ all (wires-are n _ _ c.len-first.result first (omega arith) all) heading_is
     (c.in_ok-add_ports.ensures.text ∙ ap (λ ports. c.add_heading.new.out.items ++ flat_map port_line ports) c.ports-3.ensures.ports)

@@ -1,7 +1,7 @@
 use Rattle.std.proofs.Common.{◌≡◌, ◌∙◌, ◌+◌, ◌<◌, ◌++◌, ◌∷◌, [], List, ℕ, drop, length, sym, ap, arith, subst}
 use Rattle.std.proofs.lemmas.List.{drop_more}
 use Rattle.dft_verilog_draft.specs.Drafts.{AreNamesWithin}
-use Rattle.dft_verilog_draft.specs.Free.{bit_entry}
+use Rattle.dft_verilog_draft.specs.Free.{taken_bit}
 use Rattle.dft_verilog_draft.proofs.FreeLemmas.{TakesBits, TakesBits-more}
 use Rattle.dft_verilog_draft.proofs.taken_names.TakenNames.take_bits.Goals as goal
 
@@ -16,5 +16,5 @@ loop-bit-preserved c =
     let lt : index < length bits = omega arith in
     let ahead : drop index bits ≡ bit ∷ drop (index + 1) bits = drop_more bits index bit lt ∙ ap (λ (x : List ℕ). x ∷ drop (index + 1) bits) (sym c.bit-item.is) in
     TakesBits-more c.args.self.now c.loop-bit.self c.take.new.self bit (drop (index + 1) bits) bits
-    (c.in_ok-take.ensures.ok ∙ ap (λ (w : List ℕ). c.loop-bit.self ++ bit_entry w ∷ []) (c.made-word.ensures ∙ c.in_ok-from_slice.ensures.items ∙ c.as_slice.ensures.bytes))
+    (c.in_ok-take.ensures.ok ∙ ap (λ (w : List ℕ). c.loop-bit.self ++ taken_bit w ∷ []) (c.made-word.ensures ∙ c.in_ok-from_slice.ensures.items ∙ c.as_slice.ensures.bytes))
     (subst (λ (rest : List (List ℕ)). TakesBits c.args.self.now c.loop-bit.self rest bits) ahead c.loop-bit.invariant)
