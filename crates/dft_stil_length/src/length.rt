@@ -4,7 +4,9 @@ ghost use Rattle.std.specs.Prelude.{◌≡◌, ◌≤◌, ◌^◌, length, IfSom
 ghost use Rattle.dft_patterns.specs.Patterns.{inputs, outputs};
 ghost use Rattle.dft_stil_length.specs.WrittenLength as spec;
 
-use crate::parts::{declarations_length, group_length, line_length, notes_length, waveforms_length};
+use crate::parts::{
+    declarations_length, group_length, line_length, notes_length, waveforms_length,
+};
 use dft_patterns::{Note, StilSignal, groups};
 
 fn frame_length(ins: &[StilSignal], outs: &[StilSignal]) -> Option<u64>
