@@ -10,9 +10,9 @@ ghost use Rattle.dft_stil.specs.VectorShown.{vector_as};
 ghost use Rattle.dft_stil_tokens.specs.Reading.{Reads};
 
 use crate::names::Names;
-use crate::waveforms::Waveforms;
-use crate::waveform_tables::WaveformTables;
 use crate::vector::{VectorStatement, assignment};
+use crate::waveform_tables::WaveformTables;
+use crate::waveforms::Waveforms;
 use dft_patterns::Acts;
 use dft_stil_tokens::{Cause, ReadError, TokenKind, Tokens, fault_at, unknown};
 use std::alloc::{AllocError, Global};

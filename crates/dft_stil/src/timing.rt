@@ -8,8 +8,8 @@ ghost use Rattle.dft_stil.specs.WaveformTablesShown.{timing_as, AreWide};
 
 use crate::names::Names;
 use crate::signal_groups::name_if_any;
-use crate::waveform_tables::WaveformTables;
 use crate::waveform_table::table_body;
+use crate::waveform_tables::WaveformTables;
 use dft_stil_tokens::{ReadError, TokenKind, Tokens, taken};
 use std::alloc::Global;
 
@@ -38,7 +38,11 @@ fn one_table(
 
 #[tactic(auto, using(crate::proofs::TableLemmas::wide_tables))]
 // The tables of the block, and its brace.
-fn all_tables(alloc: Global, names: &Names, tokens: &mut Tokens<'_>) -> Result<WaveformTables, ReadError>
+fn all_tables(
+    alloc: Global,
+    names: &Names,
+    tokens: &mut Tokens<'_>,
+) -> Result<WaveformTables, ReadError>
     ensures read { Reads (λ t. t) (spec.waveform_tables_from (left tokens.old) names.now spec.no_tables tokens.old) result tokens.new }
     ensures wide { IfOk result (λ t. AreWide (length names.now.signals) t) }
 {

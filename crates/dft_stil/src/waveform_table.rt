@@ -213,7 +213,11 @@ fn all_waveforms(
 }
 
 // The last brace of a table with this period, whose times must fit.
-fn table_end(table: WaveformTable, period: u64, tokens: &mut Tokens<'_>) -> Result<Waveforms, ReadError>
+fn table_end(
+    table: WaveformTable,
+    period: u64,
+    tokens: &mut Tokens<'_>,
+) -> Result<Waveforms, ReadError>
     ensures read { Reads (λ s. s) (spec.table_end period (table_as table) tokens.old) result tokens.new }
     ensures same { IfOk result (λ s. s ≡ table.waveforms) }
 {

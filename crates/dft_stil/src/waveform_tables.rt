@@ -50,7 +50,12 @@ impl WaveformTables {
     }
 
     /// Adds a table, whose name no other has.
-    pub fn add(&mut self, alloc: Global, word: &[u8], waveforms: Waveforms) -> Result<(), AllocError>
+    pub fn add(
+        &mut self,
+        alloc: Global,
+        word: &[u8],
+        waveforms: Waveforms,
+    ) -> Result<(), AllocError>
         requires { number_of self.old.names word.now ≡ None }
         ensures { OnOk result (self.new ≡ spec.with_table self.old word.now waveforms) }
     {

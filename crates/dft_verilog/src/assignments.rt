@@ -78,7 +78,10 @@ fn net_assignment<'a>(draft: &mut ModuleDraft<'a>, tokens: &mut Tokens<'a>) -> R
 }
 
 // Assignments with commas between them.
-fn net_assignments<'a>(draft: &mut ModuleDraft<'a>, tokens: &mut Tokens<'a>) -> Result<(), ReadError>
+fn net_assignments<'a>(
+    draft: &mut ModuleDraft<'a>,
+    tokens: &mut Tokens<'a>,
+) -> Result<(), ReadError>
     ensures read { Reads (λ _. draft.new) (spec.net_assignments draft.old tokens.old) result tokens.new }
     ensures library { OnOk result (draft.new.library ≡ draft.old.library) }
 {

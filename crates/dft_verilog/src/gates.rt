@@ -49,7 +49,10 @@ fn terminal<'a>(
 }
 
 // The terminals behind the first.
-fn input_terminals<'a>(draft: &mut ModuleDraft<'a>, tokens: &mut Tokens<'a>) -> Result<PinSignals, ReadError>
+fn input_terminals<'a>(
+    draft: &mut ModuleDraft<'a>,
+    tokens: &mut Tokens<'a>,
+) -> Result<PinSignals, ReadError>
     ensures read { Reads (λ inputs. (draft.new, inputs)) (spec.input_terminals draft.old tokens.old) result tokens.new }
     ensures grown { OnOk result (Grows draft.old draft.new) }
     ensures bits { IfOk result (λ inputs. AreBits (length draft.new.nets) false inputs) }

@@ -76,7 +76,10 @@ fn port_declaration_of(dir: Dir, tokens: &mut Tokens<'_>) -> Result<PortDeclarat
 
 #[tactic(auto, unfolding(dft_netlist_text::specs::NetlistText::port_declaration))]
 // A new direction, or the one of the name before.
-fn next_port_declaration(before: PortDeclaration, tokens: &mut Tokens<'_>) -> Result<PortDeclaration, ReadError>
+fn next_port_declaration(
+    before: PortDeclaration,
+    tokens: &mut Tokens<'_>,
+) -> Result<PortDeclaration, ReadError>
     ensures { Reads port_declaration_as (spec.port_declaration (port_declaration_as before) tokens.old) result tokens.new }
 {
     if tokens.sees(TokenKind::Input) {
