@@ -2,6 +2,7 @@ use Rattle.std.proofs.Common.{◌≡◌, ◌∙◌, List, Ok, length, ap, ap₂,
 use Rattle.std.proofs.lemmas.List.{length-map}
 use Rattle.std.proofs.lemmas.Result.{IfOk-weaker}
 use Rattle.dft_base.specs.Lexing.{Text}
+use Rattle.dft_base.specs.Ranges.{going_up}
 use Rattle.dft_netlist.specs.Netlist.{Netlist}
 use Rattle.dft_netlist_text.specs.Modules.{Draft, HeaderPort}
 use Rattle.dft_netlist_text.specs.NetlistText.{Grown, and_grown, nets_of_ports, names_of_others, add_ports, add_nets}
