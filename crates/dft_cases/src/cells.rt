@@ -1,3 +1,6 @@
+ghost use Rattle.std.specs.Prelude.{IsTrue};
+ghost use Rattle.dft_cells.specs.Pins.{TakesInputs};
+
 use dft_base::Tri;
 use dft_cells::{CellId, Kind, Library, bit_of, tri_of};
 use std::test::Fail;
@@ -57,9 +60,22 @@ static BITS: [(Kind, &[bool], bool); 7] = [
     (Kind::Tie1, &[], true),
 ];
 
-// The bit of a kind that takes these inputs.
+// Whether a kind is one of those tested here, and takes so many inputs.
+fn is_tested(kind: Kind, inputs: usize) -> bool
+    ensures { IsTrue result → TakesInputs kind inputs }
+{
+    match kind {
+        Kind::Nand | Kind::Nor | Kind::Xor | Kind::Xnor => 1 <= inputs && inputs <= 8,
+        Kind::Table(_) => 1 <= inputs && inputs <= 6,
+        Kind::Mux2 => inputs == 3,
+        Kind::Tie1 => inputs == 0,
+        _ => false,
+    }
+}
+
+// The bit of a tested kind that takes these inputs.
 fn bit(kind: Kind, inputs: &[bool]) -> Option<bool> {
-    if !kind.takes_inputs(inputs.len()) {
+    if !is_tested(kind, inputs.len()) {
         return None;
     }
     Some(bit_of(kind, inputs))
@@ -82,9 +98,9 @@ static TRIS: [(Kind, &[Tri], Tri); 6] = [
     (Kind::Table(0b0110), &[Tri::One, Tri::Unknown], Tri::Unknown),
 ];
 
-// What the completions of inputs that a kind takes give.
+// What the completions of inputs that a tested kind takes give.
 fn tri(kind: Kind, inputs: &[Tri]) -> Option<Tri> {
-    if !kind.takes_inputs(inputs.len()) {
+    if !is_tested(kind, inputs.len()) {
         return None;
     }
     Some(tri_of(kind, inputs))

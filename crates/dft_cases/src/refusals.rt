@@ -79,9 +79,9 @@ fn answer_to(alloc: Global, text: &[u8]) -> Result<Vec<u8>, AllocError> {
     if text.len() > 4096 {
         return Vec::from_slice(alloc, b"long");
     }
-    match Config::read(alloc, text) {
-        Ok(_) => Vec::from_slice(alloc, b"ok"),
-        Err(error) => line_of(alloc, error),
+    match Config::read(alloc, text).err() {
+        None => Vec::from_slice(alloc, b"ok"),
+        Some(error) => line_of(alloc, error),
     }
 }
 

@@ -1,7 +1,7 @@
 ghost use Rattle.std.specs.Prelude.{◌≡◌, ◌<◌, ◌≤◌, length, IsTrue, nat_le};
 ghost use Rattle.std.specs.List.{list_all};
 ghost use Rattle.dft_config.specs.Range.{IsRingInRange};
-ghost use Rattle.dft_equations.specs.Rows.{rows_of};
+ghost use Rattle.dft_equations.specs.LoadRows.{rows_of};
 
 use dft_config::Config;
 use dft_equations::{Equations, equations};
@@ -67,11 +67,25 @@ fn told(alloc: Global, text: &str, lengths: &[u16], cycles: u16) -> Result<Strin
         return String::from_str(alloc, "too long");
     }
     match Config::read(alloc, text.as_bytes()) {
-        Ok(config) if usize::from(config.chains) == lengths.len() => {
-            rows(alloc, &config, lengths, cycles)
-        }
-        _ => String::from_str(alloc, "not read"),
+        Ok(config) => fitting_rows(alloc, &config, lengths, cycles),
+        Err(_) => String::from_str(alloc, "not read"),
     }
+}
+
+fn fitting_rows(
+    alloc: Global,
+    config: &Config,
+    lengths: &[u16],
+    cycles: u16,
+) -> Result<String, AllocError>
+    requires ring { IsRingInRange config.now.chains config.now.ring }
+    requires lengths { IsTrue (list_all (λ cells. nat_le cells cycles) lengths.now) }
+    requires columns { cycles ≤ 512 }
+{
+    if usize::from(config.chains) != lengths.len() {
+        return String::from_str(alloc, "not of so many chains");
+    }
+    rows(alloc, config, lengths, cycles)
 }
 
 fn rows(alloc: Global, config: &Config, lengths: &[u16], cycles: u16) -> Result<String, AllocError>
