@@ -41,15 +41,23 @@ fn plain_parity(a: &[u64], b: &[u64]) -> bool {
 // Whether the kernels give for rows of so many words what plain sums give.
 fn agree(alloc: Global, words: usize) -> Result<bool, AllocError> {
     let source = row(alloc, words, 7)?;
+    agree_on(alloc, words, &source)
+}
+
+fn agree_on(alloc: Global, words: usize, source: &[u64]) -> Result<bool, AllocError> {
     let mut target = row(alloc, words, 42)?;
-    let sum = plain_sum(alloc, &target, &source)?;
+    let sum = plain_sum(alloc, &target, source)?;
+    Ok(is_summed(&mut target, source, &sum))
+}
+
+// Whether the kernels give this sum and the plain parity. The target is the sum afterwards.
+fn is_summed(target: &mut [u64], source: &[u64], sum: &[u64]) -> bool {
     if source.len() != target.len() {
-        return Ok(false);
+        return false;
     }
-    let odd = parity_and(&target, &source);
-    let plain = plain_parity(&target, &source);
-    xor_into(&mut target, &source);
-    Ok(odd == plain && target.as_slice() == sum.as_slice())
+    let is_odd = parity_and(target, source) == plain_parity(target, source);
+    xor_into(target, source);
+    is_odd && *target == *sum
 }
 
 static LENGTHS: [usize; 6] = [0, 1, 7, 8, 9, 256];
@@ -62,47 +70,118 @@ fn kernels_give_what_plain_sums_give(rt: HostRuntime) -> Result<(), Fail> {
     Ok(())
 }
 
-#[test]
-fn the_greatest_bit_is_found(rt: HostRuntime) {
-    assert_eq!(rt; highest(&[]), None);
-    assert_eq!(rt; highest(&[0, 1]), Some(64));
-    assert_eq!(rt; highest(&[1, 2, 0, 0, 0, 0, 0, 0, 0, 0, 0]), Some(65));
-    assert_eq!(rt;
-        highest(&[0, 0, 0, 0, 0, 0, 0, 0, 0, 0, u64::MAX]),
-        Some(703)
-    );
-    assert_eq!(rt; highest(&[0; 24]), None);
-    assert!(rt; parity_and(&[3], &[1]));
-    assert!(rt; !parity_and(&[3], &[3]));
-    assert!(rt; has_bit(&[0, 4], 66));
-    assert!(rt; is_packed(&[1, 7], 67));
-    assert!(rt; !is_packed(&[1, 8], 67));
-    assert!(rt; !is_packed(&[1], 65));
-    assert!(rt; is_packed(&[], 0));
+// A row, and its greatest bit.
+static GREATEST: [(&[u64], Option<u32>); 5] = [
+    (&[], None),
+    (&[0, 1], Some(64)),
+    (&[1, 2, 0, 0, 0, 0, 0, 0, 0, 0, 0], Some(65)),
+    (&[0, 0, 0, 0, 0, 0, 0, 0, 0, 0, u64::MAX], Some(703)),
+    (&[0; 24], None),
+];
+
+// The greatest bit of a short row.
+fn greatest(row: &[u64]) -> Option<u32> {
+    if row.len() > 24 {
+        return Some(u32::MAX);
+    }
+    highest(row)
 }
 
-// What a net can be, the same in each of 512 patterns.
-fn all(can_zero: bool, can_one: bool) -> Wide {
-    Wide {
-        can_zero: [if can_zero { u64::MAX } else { 0 }; 8],
-        can_one: [if can_one { u64::MAX } else { 0 }; 8],
+#[test]
+fn the_greatest_bit_is_found(rt: HostRuntime) {
+    for (row, bit) in &GREATEST {
+        assert_eq!(rt; greatest(*row), *bit);
     }
 }
 
 #[test]
+fn common_bits_are_counted(rt: HostRuntime) {
+    assert!(rt; parity_and(&[3], &[1]));
+    assert!(rt; !parity_and(&[3], &[3]));
+    assert!(rt; has_bit(&[0, 4], 66));
+}
+
+// A row, a number of columns, and whether the row is one of so many.
+static PACKED: [(&[u64], u32, bool); 4] = [
+    (&[1, 7], 67, true),
+    (&[1, 8], 67, false),
+    (&[1], 65, false),
+    (&[], 0, true),
+];
+
+#[test]
+fn rows_have_no_bits_past_their_columns(rt: HostRuntime) {
+    for (row, columns, packed) in &PACKED {
+        assert_eq!(rt; is_packed(*row, *columns), *packed, "{columns} columns");
+    }
+}
+
+// Whether a net can be 0, and whether it can be 1, the same in each of 512 patterns.
+#[derive(Clone, Copy)]
+struct Can(bool, bool);
+
+const ZERO: Can = Can(true, false);
+
+const ONE: Can = Can(false, true);
+
+const BOTH: Can = Can(true, true);
+
+fn all(can: Can) -> Wide {
+    Wide {
+        can_zero: [if can.0 { u64::MAX } else { 0 }; 8],
+        can_one: [if can.1 { u64::MAX } else { 0 }; 8],
+    }
+}
+
+// Gates of two inputs.
+#[derive(Clone, Copy, Debug)]
+enum Gate {
+    And,
+    Or,
+    Xor,
+}
+
+fn gate_of(gate: Gate, a: &Wide, b: &Wide) -> Wide {
+    match gate {
+        Gate::And => wide_and(a, b),
+        Gate::Or => wide_or(a, b),
+        Gate::Xor => wide_xor(a, b),
+    }
+}
+
+// A gate, its inputs, and what some choice gives.
+static GATES: [(Gate, Can, Can, Can); 7] = [
+    (Gate::And, BOTH, ZERO, ZERO),
+    (Gate::And, BOTH, ONE, BOTH),
+    (Gate::Or, BOTH, ONE, ONE),
+    (Gate::Or, BOTH, ZERO, BOTH),
+    (Gate::Xor, BOTH, ONE, BOTH),
+    (Gate::Xor, BOTH, BOTH, BOTH),
+    (Gate::Xor, ONE, ONE, ZERO),
+];
+
+#[test]
 fn gates_give_what_some_choice_gives(rt: HostRuntime) {
-    let zero = all(true, false);
-    let one = all(false, true);
-    let both = all(true, true);
-    assert_eq!(rt; wide_and(&both, &zero), zero);
-    assert_eq!(rt; wide_and(&both, &one), both);
-    assert_eq!(rt; wide_or(&both, &one), one);
-    assert_eq!(rt; wide_or(&both, &zero), both);
-    assert_eq!(rt; wide_xor(&both, &one), both);
-    assert_eq!(rt; wide_xor(&both, &both), both);
-    assert_eq!(rt; wide_xor(&one, &one), zero);
-    assert_eq!(rt; wide_not(&one), zero);
-    assert_eq!(rt; wide_mux(&zero, &one, &one), one);
-    assert_eq!(rt; wide_mux(&one, &one, &both), one);
-    assert_eq!(rt; wide_mux(&zero, &one, &both), both);
+    for (gate, a, b, wanted) in &GATES {
+        assert!(rt;
+            gate_of(*gate, &all(*a), &all(*b)) == all(*wanted),
+            "{gate:?}"
+        );
+    }
+    assert!(rt; wide_not(&all(ONE)) == all(ZERO), "Not");
+}
+
+// The inputs of a multiplexer and its select, and what some choice gives.
+static CHOICES: [(Can, Can, Can, Can); 3] = [
+    (ZERO, ONE, ONE, ONE),
+    (ONE, ONE, BOTH, ONE),
+    (ZERO, ONE, BOTH, BOTH),
+];
+
+#[test]
+fn multiplexers_give_what_some_choice_gives(rt: HostRuntime) {
+    for (first, second, select, wanted) in &CHOICES {
+        let found = wide_mux(&all(*first), &all(*second), &all(*select));
+        assert!(rt; found == all(*wanted));
+    }
 }

@@ -66,19 +66,27 @@ fn shown(alloc: Global, code: &str, name: &Name) -> Result<String, AllocError> {
     Ok(line)
 }
 
+// The library of a text, as Rust shows it.
+fn library_of(alloc: Global, text: &str) -> Result<String, AllocError> {
+    if text.len() > 67_108_864 {
+        return String::from_str(alloc, "too long");
+    }
+    match Library::read(alloc, text.as_bytes()) {
+        Ok(library) => format!(in alloc; "{library:?}"),
+        Err(_) => String::from_str(alloc, "refused"),
+    }
+}
+
+fn standard(alloc: Global) -> Result<String, AllocError> {
+    let library = Library::standard(alloc)?;
+    format!(in alloc; "{library:?}")
+}
+
 #[test]
 fn the_standard_cells_are_read(rt: HostRuntime) -> Result<(), Fail> {
-    let alloc = rt.alloc();
-    let text = STANDARD;
-    assert!(rt; text.len() < 67_108_864);
-    let made = format!(in alloc; "{:?}", Library::standard(alloc)?)?;
-    match Library::read(alloc, text.as_bytes()) {
-        Ok(library) => {
-            let read = format!(in alloc; "{:?}", library)?;
-            assert_eq!(rt; read, made);
-        },
-        Err(_) => assert!(rt; false, "the text is a library"),
-    }
+    let made = standard(rt.alloc())?;
+    let read = library_of(rt.alloc(), STANDARD)?;
+    assert_eq!(rt; read.as_str(), made.as_str());
     Ok(())
 }
 
@@ -249,17 +257,38 @@ fn a_table_has_its_bits_from_the_lowest(rt: HostRuntime) -> Result<(), Fail> {
     Ok(())
 }
 
-#[test]
-fn more_cells_than_a_library_may_have_are_refused(rt: HostRuntime) -> Result<(), Fail> {
-    let alloc = rt.alloc();
+// Writes a cell of a name that ends so.
+fn push_cell(alloc: Global, text: &mut String, number: usize) -> Result<(), AllocError> {
+    let cell = format!(in alloc; "[cells.t{number}]\nkind = 'tie0'\noutput = 'Y'\n")?;
+    text.push_str(cell.as_str())
+}
+
+// A library of so many cells beside the needed ones.
+fn with_cells(alloc: Global, cells: usize) -> Result<String, AllocError> {
     let mut text = String::new(alloc);
-    for number in 0..MAX_CELLS - 2 {
-        let cell = format!(in alloc; "[cells.t{number}]\nkind = 'tie0'\noutput = 'Y'\n")?;
-        text.push_str(cell.as_str())?;
+    for number in 0..cells {
+        push_cell(alloc, &mut text, number)?;
     }
     text.push_str(NEEDED)?;
-    assert_eq!(rt; line_of(alloc, text.as_str())?.as_str(), "read");
-    text.push_str("[cells.one]\nkind = 'tie0'\noutput = 'Y'\n")?;
-    assert_eq!(rt; line_of(alloc, text.as_str())?.as_str(), "L7 cells");
+    Ok(text)
+}
+
+// What a library of so many cells beside the needed ones reads as.
+fn line_of_cells(alloc: Global, cells: usize) -> Result<String, AllocError> {
+    let text = with_cells(alloc, cells)?;
+    line_of(alloc, text.as_str())
+}
+
+#[test]
+fn as_many_cells_as_a_library_may_have_are_read(rt: HostRuntime) -> Result<(), Fail> {
+    let line = line_of_cells(rt.alloc(), MAX_CELLS - 2)?;
+    assert_eq!(rt; line.as_str(), "read");
+    Ok(())
+}
+
+#[test]
+fn more_cells_than_a_library_may_have_are_refused(rt: HostRuntime) -> Result<(), Fail> {
+    let line = line_of_cells(rt.alloc(), MAX_CELLS - 1)?;
+    assert_eq!(rt; line.as_str(), "L7 cells");
     Ok(())
 }

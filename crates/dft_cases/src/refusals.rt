@@ -44,26 +44,44 @@ fn parts_of(error: ConfigError) -> Result<Told, AllocError> {
 
 fn line(alloc: Global, told: &Told) -> Result<Vec<u8>, AllocError> {
     let mut line = Vec::from_slice(alloc, told.code.as_bytes())?;
+    push_parts(alloc, &mut line, told)?;
+    Ok(line)
+}
+
+fn push_parts(alloc: Global, line: &mut Vec<u8>, told: &Told) -> Result<(), AllocError> {
     if let Some(first) = told.first {
-        let text = format!(in alloc; " {first}")?;
-        line.extend_from_slice(text.as_bytes())?;
+        push_number(alloc, line, first)?;
     }
     if let Some(name) = &told.name {
         line.push(b' ')?;
         line.extend_from_slice(name.as_slice())?;
     }
-    Ok(line)
+    Ok(())
+}
+
+fn push_number(alloc: Global, line: &mut Vec<u8>, number: i64) -> Result<(), AllocError> {
+    let text = format!(in alloc; " {number}")?;
+    line.extend_from_slice(text.as_bytes())
+}
+
+fn line_of(alloc: Global, error: ConfigError) -> Result<Vec<u8>, AllocError> {
+    let told = parts_of(error)?;
+    line(alloc, &told)
 }
 
 /// What the parts give: `ok`, or the refusal with its parts.
 fn answer(alloc: Global, parts: &[&str]) -> Result<Vec<u8>, AllocError> {
     let text = text_of(alloc, parts)?;
+    answer_to(alloc, &text)
+}
+
+fn answer_to(alloc: Global, text: &[u8]) -> Result<Vec<u8>, AllocError> {
     if text.len() > 4096 {
         return Vec::from_slice(alloc, b"long");
     }
-    match Config::read(alloc, &text) {
-        Ok(_) => Vec::from_slice(alloc, b"ok"),
-        Err(error) => line(alloc, &parts_of(error)?),
+    match Config::read(alloc, text).err() {
+        None => Vec::from_slice(alloc, b"ok"),
+        Some(error) => line_of(alloc, error),
     }
 }
 

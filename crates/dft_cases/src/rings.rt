@@ -1,9 +1,10 @@
-ghost use Rattle.std.specs.Prelude.{◌≡◌, ◌≤◌, length, IsTrue, nat_le};
+ghost use Rattle.std.specs.Prelude.{◌≡◌, ◌<◌, ◌≤◌, length, IsTrue, nat_le};
 ghost use Rattle.std.specs.List.{list_all};
 ghost use Rattle.dft_config.specs.Range.{IsRingInRange};
+ghost use Rattle.dft_equations.specs.LoadRows.{rows_of};
 
 use dft_config::Config;
-use dft_equations::equations;
+use dft_equations::{Equations, equations};
 use std::alloc::{AllocError, Global};
 use std::test::Fail;
 
@@ -66,11 +67,25 @@ fn told(alloc: Global, text: &str, lengths: &[u16], cycles: u16) -> Result<Strin
         return String::from_str(alloc, "too long");
     }
     match Config::read(alloc, text.as_bytes()) {
-        Ok(config) if usize::from(config.chains) == lengths.len() => {
-            rows(alloc, &config, lengths, cycles)
-        }
-        _ => String::from_str(alloc, "not read"),
+        Ok(config) => fitting_rows(alloc, &config, lengths, cycles),
+        Err(_) => String::from_str(alloc, "not read"),
     }
+}
+
+fn fitting_rows(
+    alloc: Global,
+    config: &Config,
+    lengths: &[u16],
+    cycles: u16,
+) -> Result<String, AllocError>
+    requires ring { IsRingInRange config.now.chains config.now.ring }
+    requires lengths { IsTrue (list_all (λ cells. nat_le cells cycles) lengths.now) }
+    requires columns { cycles ≤ 512 }
+{
+    if usize::from(config.chains) != lengths.len() {
+        return String::from_str(alloc, "not of so many chains");
+    }
+    rows(alloc, config, lengths, cycles)
 }
 
 fn rows(alloc: Global, config: &Config, lengths: &[u16], cycles: u16) -> Result<String, AllocError>
@@ -82,13 +97,33 @@ fn rows(alloc: Global, config: &Config, lengths: &[u16], cycles: u16) -> Result<
     let equations = equations(alloc, config, lengths, cycles)?;
     let mut text = String::new(alloc);
     for chain in 0..config.chains {
-        for place in 0..lengths[usize::from(chain)] {
-            let words = equations.of_cell(chain, place);
-            text.push_str(&columns_in(alloc, words, equations.columns())?)?;
-            text.push('\n')?;
-        }
+        let places = lengths[usize::from(chain)];
+        push_chain(alloc, &equations, chain, places, &mut text)?;
     }
     Ok(text)
+}
+
+// Writes the columns of the rows of the first so many places of a chain.
+fn push_chain(
+    alloc: Global,
+    equations: &Equations,
+    chain: u16,
+    places: u16,
+    text: &mut String,
+) -> Result<(), AllocError>
+    requires chain { chain < length equations.now.chains }
+    requires places { places ≤ length (rows_of equations.now chain) }
+{
+    for place in 0..places {
+        let words = equations.of_cell(chain, place);
+        push_line(text, &columns_in(alloc, words, equations.columns())?)?;
+    }
+    Ok(())
+}
+
+fn push_line(text: &mut String, line: &str) -> Result<(), AllocError> {
+    text.push_str(line)?;
+    text.push('\n')
 }
 
 // The last column of each line.

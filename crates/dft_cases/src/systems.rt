@@ -1,4 +1,4 @@
-ghost use Rattle.std.specs.Prelude.{◌<◌, length};
+ghost use Rattle.std.specs.Prelude.{◌≡◌, ◌<◌, length};
 
 use dft_gf2::{Fill, Mark, Outcome, System};
 use dft_lanes::{has_bit, is_packed, put};
@@ -45,14 +45,23 @@ fn added(alloc: Global, system: &mut System, equation: &str, id: u32) -> Result<
     })
 }
 
-// The solution nearest to the fill that a text writes, as a text.
-fn solved(alloc: Global, system: &System, fill: &str) -> Result<String, AllocError> {
+// Writes the solution nearest to the fill that a text writes, where it has a bit for each column.
+fn solved(alloc: Global, system: &System, fill: &str, text: &mut String) -> Result<(), AllocError> {
     let like = bits(alloc, fill)?;
-    let like = like.as_slice();
-    let mut text = String::new(alloc);
-    if like.len() != system.columns() as usize {
-        return Ok(text);
+    if like.len() == system.columns() as usize {
+        solved_like(alloc, system, &like, text)?;
     }
+    Ok(())
+}
+
+fn solved_like(
+    alloc: Global,
+    system: &System,
+    like: &[bool],
+    text: &mut String,
+) -> Result<(), AllocError>
+    requires { length like.now ≡ system.now.columns }
+{
     let fill = Fill::new(
         |column: u32| -> bool
             requires { column < length like.now }
@@ -60,11 +69,16 @@ fn solved(alloc: Global, system: &System, fill: &str) -> Result<String, AllocErr
         like,
     );
     let words = system.solve(alloc, &fill)?;
-    for column in 0..like.len() {
-        let one = column / 64 < words.len() && has_bit(&words, column);
+    push_bits(text, &words, like.len())
+}
+
+// Writes so many bits of a row.
+fn push_bits(text: &mut String, words: &[u64], count: usize) -> Result<(), AllocError> {
+    for column in 0..count {
+        let one = column / 64 < words.len() && has_bit(words, column);
         text.push(if one { '1' } else { '0' })?;
     }
-    Ok(text)
+    Ok(())
 }
 
 // Adds an equation, takes a mark at `(`, or goes back to it at `)`, and says what came of it by a letter.
@@ -90,28 +104,77 @@ fn stepped(
     Ok(')')
 }
 
-// Writes what a system tells: the outcomes, the certificate where the last equation is a conflict, and the solution.
-fn told(alloc: Global, columns: u32, equations: &str, fill: &str) -> Result<String, AllocError> {
-    let mut system = System::new(alloc, columns)?;
+// Writes the outcomes of these equations, whose ids begin with this one.
+fn push_outcomes(
+    alloc: Global,
+    system: &mut System,
+    equations: &str,
+    first: u32,
+    text: &mut String,
+) -> Result<(), AllocError> {
     let mut mark = None;
-    let mut text = String::new(alloc);
-    let mut id = 0u32;
+    let mut id = first;
     for equation in equations.split_whitespace() {
-        text.push(stepped(alloc, &mut system, &mut mark, equation, id)?)?;
+        text.push(stepped(alloc, system, &mut mark, equation, id)?)?;
         id = id.wrapping_add(1);
     }
+    Ok(())
+}
+
+// Writes the certificate, where the last equation is a conflict.
+fn push_certificate(alloc: Global, system: &System, text: &mut String) -> Result<(), AllocError> {
     if system.has_conflict() {
         for id in system.certificate(alloc)? {
-            text.push_str(&format!(in alloc; " {id}")?)?;
+            push_number(alloc, text, id)?;
         }
     }
-    text.push(' ')?;
-    text.push_str(&solved(alloc, &system, fill)?)?;
+    Ok(())
+}
+
+fn push_number(alloc: Global, text: &mut String, number: u32) -> Result<(), AllocError> {
+    let shown = format!(in alloc; " {number}")?;
+    text.push_str(&shown)
+}
+
+// What a system tells: the outcomes, the certificate where the last equation is a conflict, and the solution.
+fn told(
+    alloc: Global,
+    columns: u32,
+    equations: &str,
+    first: u32,
+    fill: &str,
+) -> Result<String, AllocError> {
+    let mut text = String::new(alloc);
+    push_told(alloc, columns, equations, first, fill, &mut text)?;
     Ok(text)
 }
 
+fn push_told(
+    alloc: Global,
+    columns: u32,
+    equations: &str,
+    first: u32,
+    fill: &str,
+    text: &mut String,
+) -> Result<(), AllocError> {
+    let mut system = System::new(alloc, columns)?;
+    push_outcomes(alloc, &mut system, equations, first, text)?;
+    push_solved(alloc, &system, fill, text)
+}
+
+fn push_solved(
+    alloc: Global,
+    system: &System,
+    fill: &str,
+    text: &mut String,
+) -> Result<(), AllocError> {
+    push_certificate(alloc, system, text)?;
+    text.push(' ')?;
+    solved(alloc, system, fill, text)
+}
+
 // Columns, equations and marks, a fill, and what all solutions tell, worked out by hand.
-const CASES: [(u32, &str, &str, &str); 13] = [
+static CASES: [(u32, &str, &str, &str); 13] = [
     (0, "=0 =1", "", "IC 1 "),
     (1, "0=0 0=1", "1", "IC 1 1"),
     (2, "11=1 11=1 11=0", "00", "KIC 0 2 01"),
@@ -154,24 +217,16 @@ const CASES: [(u32, &str, &str, &str); 13] = [
 
 #[test]
 fn a_conflict_names_the_rows_that_sum_to_it(rt: HostRuntime) -> Result<(), Fail> {
-    let alloc = rt.alloc();
-    let mut system = System::new(alloc, 3)?;
-    assert_eq!(rt; added(alloc, &mut system, "101=0", 7)?, 'K');
-    assert_eq!(rt; added(alloc, &mut system, "011=0", 8)?, 'K');
-    assert_eq!(rt; added(alloc, &mut system, "110=0", 9)?, 'I');
-    assert_eq!(rt; added(alloc, &mut system, "110=1", 10)?, 'C');
-    if system.has_conflict() {
-        assert_eq!(rt; system.certificate(alloc)?.as_slice(), &[7u32, 8, 10][..]);
-    }
-    assert_eq!(rt; solved(alloc, &system, "111")?.as_str(), "111");
+    let told = told(rt.alloc(), 3, "101=0 011=0 110=0 110=1", 7, "111")?;
+    assert_eq!(rt; told.as_str(), "KKIC 7 8 10 111");
     Ok(())
 }
 
 #[test]
 fn small_systems_tell_what_their_solutions_tell(rt: HostRuntime) -> Result<(), Fail> {
-    let alloc = rt.alloc();
     for (columns, equations, fill, expected) in &CASES {
-        assert_eq!(rt; told(alloc, *columns, equations, fill)?.as_str(), *expected);
+        let told = told(rt.alloc(), *columns, equations, 0, fill)?;
+        assert_eq!(rt; told.as_str(), *expected);
     }
     Ok(())
 }
