@@ -104,7 +104,7 @@ pub enum Code {
     G7,
     /// A token of a pattern text (IEEE 1450-1999) that stands where none such may. Its part is the place.
     P1,
-    /// A word, a shape or a character in a pattern text that is left out of the subset that is read. Its parts are the
+    /// A word, a waveform or a character in a pattern text that is left out of the subset that is read. Its parts are the
     /// place and the word.
     P2,
     /// A name in a pattern text that is not given before. Its parts are the place and the name.
