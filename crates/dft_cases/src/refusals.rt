@@ -6,19 +6,42 @@ use std::test::Fail;
 // The small whole case, in parts: two chains, four stages.
 const TOP: &str = "version = 1\ndomains = ['clk']\nchains = 2\nwarm = 2\nwindow = 4";
 
-const R: &str =
+static RING: &str =
     "ring = { stages = 4, channels = 1, taps = [[2, 0]], injectors = [[0, 3]], phase = [[0, 3], [1, 2]] }";
 
-const G: &str = "compactor = { groups = [[0, 1], [1]], mask_inputs = 1 }";
+static COMPACTOR: &str = "compactor = { groups = [[0, 1], [1]], mask_inputs = 1 }";
 
-/// The lines of the parts.
-fn text_of(alloc: Global, parts: &[&str]) -> Result<Vec<u8>, AllocError> {
-    let mut text = Vec::new(alloc);
-    for part in parts {
-        text.extend_from_slice(part.as_bytes())?;
-        text.extend_from_slice(b"\n")?;
+// The part of the small whole case that a text stands for. `More` comes behind its top.
+#[derive(Clone, Copy)]
+enum Part {
+    Top,
+    More,
+    Ring,
+    Compactor,
+}
+
+// The small whole case with a text for a part.
+fn text_of(alloc: Global, part: Part, text: &str) -> Result<Vec<u8>, AllocError> {
+    let mut whole = Vec::new(alloc);
+    push_whole(&mut whole, part, text)?;
+    Ok(whole)
+}
+
+fn push_whole(whole: &mut Vec<u8>, part: Part, text: &str) -> Result<(), AllocError> {
+    match part {
+        Part::Top => push_lines(whole, &[text, RING, COMPACTOR]),
+        Part::More => push_lines(whole, &[TOP, text, RING, COMPACTOR]),
+        Part::Ring => push_lines(whole, &[TOP, text, COMPACTOR]),
+        Part::Compactor => push_lines(whole, &[TOP, RING, text]),
     }
-    Ok(text)
+}
+
+fn push_lines(whole: &mut Vec<u8>, lines: &[&str]) -> Result<(), AllocError> {
+    for line in lines {
+        whole.extend_from_slice(line.as_bytes())?;
+        whole.extend_from_slice(b"\n")?;
+    }
+    Ok(())
 }
 
 /// A refusal by its code and its parts.
@@ -69,10 +92,10 @@ fn line_of(alloc: Global, error: ConfigError) -> Result<Vec<u8>, AllocError> {
     line(alloc, &told)
 }
 
-/// What the parts give: `ok`, or the refusal with its parts.
-fn answer(alloc: Global, parts: &[&str]) -> Result<Vec<u8>, AllocError> {
-    let text = text_of(alloc, parts)?;
-    answer_to(alloc, &text)
+/// What the small whole case with a text for a part gives: `ok`, or the refusal with its parts.
+fn answer(alloc: Global, part: Part, text: &str) -> Result<Vec<u8>, AllocError> {
+    let whole = text_of(alloc, part, text)?;
+    answer_to(alloc, &whole)
 }
 
 fn answer_to(alloc: Global, text: &[u8]) -> Result<Vec<u8>, AllocError> {
@@ -85,281 +108,138 @@ fn answer_to(alloc: Global, text: &[u8]) -> Result<Vec<u8>, AllocError> {
     }
 }
 
-// A text in three parts, and what it gives.
-struct Case {
-    top: &'static str,
-    ring: &'static str,
-    compactor: &'static str,
-    wanted: &'static str,
-}
-
-static CASES: [Case; 43] = [
-    Case {
-        top: TOP,
-        ring: R,
-        compactor: G,
-        wanted: "ok",
-    },
-    Case {
-        top: "version = ",
-        ring: R,
-        compactor: G,
-        wanted: "C1",
-    },
-    Case {
-        top: "version = 2",
-        ring: R,
-        compactor: G,
-        wanted: "C3 2 version",
-    },
-    Case {
-        top: "version = '1'",
-        ring: R,
-        compactor: G,
-        wanted: "C2 version",
-    },
-    Case {
-        top: "version = 1",
-        ring: R,
-        compactor: G,
-        wanted: "C2 domains",
-    },
-    Case {
-        top: "version = 1\ndomains = []",
-        ring: R,
-        compactor: G,
-        wanted: "C3 0 domains",
-    },
-    Case {
-        top: "version = 1\ndomains = ['clk']\nchains = 2\nwarm = 2\nwindow = 4\nkeep = ['a b']",
-        ring: R,
-        compactor: G,
-        wanted: "C2 keep",
-    },
-    Case {
-        top: "version = 1\ndomains = ['clk']\nchains = 2\nwarm = 2\nwindow = 4\nfill = 'some'",
-        ring: R,
-        compactor: G,
-        wanted: "C2 fill",
-    },
-    Case {
-        top: "version = 1\ndomains = ['clk']\nchains = 2\nwarm = 2\nwindow = 4\nfill = 'seed'",
-        ring: R,
-        compactor: G,
-        wanted: "C2 seed",
-    },
-    Case {
-        top: "version = 1\ndomains = ['clk']\nchains = 2\nwarm = 2\nwindow = 4\nfill = 'seed'\nseed = -1",
-        ring: R,
-        compactor: G,
-        wanted: "C3 -1 seed",
-    },
-    Case {
-        top: "version = 1\ndomains = ['clk']\nchains = 2\nwarm = 2\nwindow = 4\nseed = 5",
-        ring: R,
-        compactor: G,
-        wanted: "C2 seed",
-    },
-    Case {
-        top: TOP,
-        ring: "ring = 5",
-        compactor: G,
-        wanted: "C2 ring.stages",
-    },
-    Case {
-        top: "version = 1\ndomains = ['clk']\nchains = 2\nwarm = 2\nwindow = 4\nnames = 5",
-        ring: R,
-        compactor: G,
-        wanted: "C2 names",
-    },
-    Case {
-        top: "version = 1\ndomains = ['clk']\nchains = 2\nwarm = 2\nwindow = 4\nnames = { mask = 'wire' }",
-        ring: R,
-        compactor: G,
-        wanted: "C2 names.mask",
-    },
-    Case {
-        top: "version = 1\ndomains = ['clk']\nchains = 2\nwarm = 2\nwindow = 4\nnames = { mask = 'edt_in' }",
-        ring: R,
-        compactor: G,
-        wanted: "C6 names",
-    },
-    Case {
-        top: "version = 1\ndomains = ['clk']\nchains = 2\nwarm = 2\nwindow = 4\nnames = { musk = 'm' }",
-        ring: R,
-        compactor: G,
-        wanted: "C2 names.musk",
-    },
-    Case {
-        top: TOP,
-        ring: R,
-        compactor: "compactor = { groups = [[9, 0], [2]], mask_inputs = 1 }",
-        wanted: "C3 9 compactor.groups",
-    },
-    Case {
-        top: TOP,
-        ring: R,
-        compactor: "compactor = { groups = [[0, 1]], mask_inputs = 3 }",
-        wanted: "C3 3 compactor.mask_inputs",
-    },
-    Case {
-        top: TOP,
-        ring: R,
-        compactor: "compactor = { groups = [[0], []], mask_inputs = 1 }",
-        wanted: "C4 compactor.groups",
-    },
-    Case {
-        top: TOP,
-        ring: R,
-        compactor: "compactor = { groups = [[0], [0]], mask_inputs = 1 }",
-        wanted: "C5 1",
-    },
-    Case {
-        top: TOP,
-        ring: R,
-        compactor: "compactor = { groups = [[0, 1, 0]], mask_inputs = 1 }",
-        wanted: "C6 compactor.groups",
-    },
-    Case {
-        top: "version = 1\ndomains = ['clk']\nchains = 2\nwarm = 2\nwindow = 4\nresets = ['r', 'clk']",
-        ring: R,
-        compactor: G,
-        wanted: "C6 resets",
-    },
-    Case {
-        top: "version = 1\ndomains = ['clk']\nchains = 2\nwarm = 2\nwindow = 4\nkeep = ['u', 'v', 'u']",
-        ring: R,
-        compactor: G,
-        wanted: "C6 keep",
-    },
-    Case {
-        top: "version = 1\ndomains = ['clk']\nchains = 2\nwarm = 2\nwindow = 4\nalways_masked = [2]",
-        ring: R,
-        compactor: G,
-        wanted: "C3 2 always_masked",
-    },
-    Case {
-        top: "version = 1\ndomains = ['clk']\nchains = 2\nwarm = 2\nwindow = 4\nza.b = 1",
-        ring: R,
-        compactor: G,
-        wanted: "C2 za",
-    },
-    Case {
-        top: "version = 1\ndomains = ['clk']\nchains = 2\nwarm = 2\nwindow = 4\n'ring a' = 1\nzz = 1",
-        ring: R,
-        compactor: G,
-        wanted: "C2 ring?a",
-    },
-    Case {
-        top: TOP,
-        ring: "ring = { stages = 1 }",
-        compactor: G,
-        wanted: "C3 1 ring.stages",
-    },
-    Case {
-        top: TOP,
-        ring: "ring = { stages = 129 }",
-        compactor: G,
-        wanted: "C3 129 ring.stages",
-    },
-    Case {
-        top: TOP,
-        ring: "ring = { stages = 128, channels = 33 }",
-        compactor: G,
-        wanted: "C3 33 ring.channels",
-    },
-    Case {
-        top: TOP,
-        ring: "ring = { stages = 2, channels = 32, taps = [[2]] }",
-        compactor: G,
-        wanted: "C2 ring.taps",
-    },
-    Case {
-        top: TOP,
-        ring: "ring = { stages = 2, channels = 1, taps = [[0, 2]] }",
-        compactor: G,
-        wanted: "C3 2 ring.taps",
-    },
-    Case {
-        top: TOP,
-        ring: "ring = { stages = 4, channels = 1, taps = [[3, 3]], injectors = [[0, 3]], phase = [[0], [1, 2]] }",
-        compactor: G,
-        wanted: "ok",
-    },
-    Case {
-        top: TOP,
-        ring: "ring = { stages = 4, channels = 1, taps = [[2, 0], [2, 0]], injectors = [], phase = [[0], [1]] }",
-        compactor: G,
-        wanted: "C6 ring.taps",
-    },
-    Case {
-        top: TOP,
-        ring: "ring = { stages = 4, channels = 1, taps = [], injectors = [[1, 0]], phase = [[0], [1]] }",
-        compactor: G,
-        wanted: "C3 1 ring.injectors",
-    },
-    Case {
-        top: TOP,
-        ring: "ring = { stages = 4, channels = 1, taps = [], injectors = [], phase = [[9]] }",
-        compactor: G,
-        wanted: "C2 ring.phase",
-    },
-    Case {
-        top: TOP,
-        ring: "ring = { stages = 4, channels = 1, taps = [], injectors = [], phase = [[0], []] }",
-        compactor: G,
-        wanted: "C4 ring.phase",
-    },
-    Case {
-        top: TOP,
-        ring: "ring = { stages = 4, channels = 1, taps = [], injectors = [], phase = [[0], []], more = 1 }",
-        compactor: G,
-        wanted: "C2 ring.more",
-    },
-    Case {
-        top: "version = 1\ndomains = ['clk']\nchains = 1025",
-        ring: R,
-        compactor: G,
-        wanted: "C3 1025 chains",
-    },
-    Case {
-        top: "version = 1\ndomains = ['clk']\nchains = 1024",
-        ring: R,
-        compactor: G,
-        wanted: "C2 warm",
-    },
-    Case {
-        top: "version = 1\ndomains = ['clk']\nchains = 1\nwarm = 4096",
-        ring: R,
-        compactor: G,
-        wanted: "C3 4096 warm",
-    },
-    Case {
-        top: "version = 1\ndomains = ['clk']\nchains = 1\nwarm = 4095",
-        ring: R,
-        compactor: G,
-        wanted: "C2 window",
-    },
-    Case {
-        top: "version = 1\ndomains = ['clk']\nchains = 2\nwarm = 0\nwindow = 17",
-        ring: R,
-        compactor: G,
-        wanted: "C3 17 window",
-    },
-    Case {
-        top: "version = 1\ndomains = ['clk']\nchains = 2\nwarm = 0\nwindow = 16",
-        ring: R,
-        compactor: G,
-        wanted: "ok",
-    },
+// A part, its text, and what the small whole case with it gives.
+static CASES: [(Part, &str, &str); 43] = [
+    (Part::Top, TOP, "ok"),
+    (Part::Top, "version = ", "C1"),
+    (Part::Top, "version = 2", "C3 2 version"),
+    (Part::Top, "version = '1'", "C2 version"),
+    (Part::Top, "version = 1", "C2 domains"),
+    (Part::Top, "version = 1\ndomains = []", "C3 0 domains"),
+    (Part::More, "keep = ['a b']", "C2 keep"),
+    (Part::More, "fill = 'some'", "C2 fill"),
+    (Part::More, "fill = 'seed'", "C2 seed"),
+    (Part::More, "fill = 'seed'\nseed = -1", "C3 -1 seed"),
+    (Part::More, "seed = 5", "C2 seed"),
+    (Part::Ring, "ring = 5", "C2 ring.stages"),
+    (Part::More, "names = 5", "C2 names"),
+    (Part::More, "names = { mask = 'wire' }", "C2 names.mask"),
+    (Part::More, "names = { mask = 'edt_in' }", "C6 names"),
+    (Part::More, "names = { musk = 'm' }", "C2 names.musk"),
+    (
+        Part::Compactor,
+        "compactor = { groups = [[9, 0], [2]], mask_inputs = 1 }",
+        "C3 9 compactor.groups",
+    ),
+    (
+        Part::Compactor,
+        "compactor = { groups = [[0, 1]], mask_inputs = 3 }",
+        "C3 3 compactor.mask_inputs",
+    ),
+    (
+        Part::Compactor,
+        "compactor = { groups = [[0], []], mask_inputs = 1 }",
+        "C4 compactor.groups",
+    ),
+    (
+        Part::Compactor,
+        "compactor = { groups = [[0], [0]], mask_inputs = 1 }",
+        "C5 1",
+    ),
+    (
+        Part::Compactor,
+        "compactor = { groups = [[0, 1, 0]], mask_inputs = 1 }",
+        "C6 compactor.groups",
+    ),
+    (Part::More, "resets = ['r', 'clk']", "C6 resets"),
+    (Part::More, "keep = ['u', 'v', 'u']", "C6 keep"),
+    (Part::More, "always_masked = [2]", "C3 2 always_masked"),
+    (Part::More, "za.b = 1", "C2 za"),
+    (Part::More, "'ring a' = 1\nzz = 1", "C2 ring?a"),
+    (Part::Ring, "ring = { stages = 1 }", "C3 1 ring.stages"),
+    (Part::Ring, "ring = { stages = 129 }", "C3 129 ring.stages"),
+    (
+        Part::Ring,
+        "ring = { stages = 128, channels = 33 }",
+        "C3 33 ring.channels",
+    ),
+    (
+        Part::Ring,
+        "ring = { stages = 2, channels = 32, taps = [[2]] }",
+        "C2 ring.taps",
+    ),
+    (
+        Part::Ring,
+        "ring = { stages = 2, channels = 1, taps = [[0, 2]] }",
+        "C3 2 ring.taps",
+    ),
+    (
+        Part::Ring,
+        "ring = { stages = 4, channels = 1, taps = [[3, 3]], injectors = [[0, 3]], phase = [[0], [1, 2]] }",
+        "ok",
+    ),
+    (
+        Part::Ring,
+        "ring = { stages = 4, channels = 1, taps = [[2, 0], [2, 0]], injectors = [], phase = [[0], [1]] }",
+        "C6 ring.taps",
+    ),
+    (
+        Part::Ring,
+        "ring = { stages = 4, channels = 1, taps = [], injectors = [[1, 0]], phase = [[0], [1]] }",
+        "C3 1 ring.injectors",
+    ),
+    (
+        Part::Ring,
+        "ring = { stages = 4, channels = 1, taps = [], injectors = [], phase = [[9]] }",
+        "C2 ring.phase",
+    ),
+    (
+        Part::Ring,
+        "ring = { stages = 4, channels = 1, taps = [], injectors = [], phase = [[0], []] }",
+        "C4 ring.phase",
+    ),
+    (
+        Part::Ring,
+        "ring = { stages = 4, channels = 1, taps = [], injectors = [], phase = [[0], []], more = 1 }",
+        "C2 ring.more",
+    ),
+    (
+        Part::Top,
+        "version = 1\ndomains = ['clk']\nchains = 1025",
+        "C3 1025 chains",
+    ),
+    (
+        Part::Top,
+        "version = 1\ndomains = ['clk']\nchains = 1024",
+        "C2 warm",
+    ),
+    (
+        Part::Top,
+        "version = 1\ndomains = ['clk']\nchains = 1\nwarm = 4096",
+        "C3 4096 warm",
+    ),
+    (
+        Part::Top,
+        "version = 1\ndomains = ['clk']\nchains = 1\nwarm = 4095",
+        "C2 window",
+    ),
+    (
+        Part::Top,
+        "version = 1\ndomains = ['clk']\nchains = 2\nwarm = 0\nwindow = 17",
+        "C3 17 window",
+    ),
+    (
+        Part::Top,
+        "version = 1\ndomains = ['clk']\nchains = 2\nwarm = 0\nwindow = 16",
+        "ok",
+    ),
 ];
 
 #[test]
 fn the_first_refusal_is_told(rt: HostRuntime) -> Result<(), Fail> {
-    let alloc = rt.alloc();
-    for case in &CASES {
-        let found = answer(alloc, &[case.top, case.ring, case.compactor])?;
-        assert_eq!(rt; found.as_slice(), case.wanted.as_bytes(), "{}", case.wanted);
+    for (part, text, wanted) in &CASES {
+        let found = answer(rt.alloc(), *part, *text)?;
+        assert_eq!(rt; found.as_slice(), wanted.as_bytes(), "{wanted}");
     }
     Ok(())
 }
