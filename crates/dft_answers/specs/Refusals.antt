@@ -29,8 +29,8 @@ use Rattle.dft_cubes.specs.declared.error.CubeError.{CubeError}
 use Rattle.dft_cubes.specs.declared.error.CubeError.TheVariants as cube
 use Rattle.dft_compile.specs.declared.error.CompileError.{CompileError}
 use Rattle.dft_compile.specs.declared.error.CompileError.TheVariants as compile
-use Rattle.dft_report_in.specs.declared.error.ReadError.{ReadError}
-use Rattle.dft_report_in.specs.declared.error.ReadError.TheVariants as read
+use Rattle.dft_report_reader.specs.declared.error.ReadError.{ReadError}
+use Rattle.dft_report_reader.specs.declared.error.ReadError.TheVariants as read
 use Rattle.dft_certify.specs.declared.error.CertifyError.{CertifyError}
 use Rattle.dft_certify.specs.declared.error.CertifyError.TheVariants as certify
 use Rattle.dft_answers.specs.declared.answer.Code.{Code}

@@ -12,7 +12,7 @@ use dft_config::ConfigError;
 use dft_cubes::CubeError;
 use dft_netlist::{Counted, NetlistError};
 use dft_report::ReportError;
-use dft_report_in::ReadError;
+use dft_report_reader::ReadError;
 use dft_rules::RuleError;
 use dft_scan::ScanError;
 use dft_scan_frame::InsertError;

@@ -1,5 +1,3 @@
-pub use Rattle.dft_base.specs.Tri
-pub use Rattle.dft_base.specs.Name
 pub mod Pins
 pub mod Gates
 pub mod FlipFlops
@@ -13,8 +11,5 @@ pub mod Keys
 pub mod Refusals
 pub mod Drafts
 pub mod Reading
-pub use Rattle.dft_base.specs.Words
 pub use Rattle.toml.specs.Data
-pub use Rattle.toml.specs.View
-pub use Rattle.dft_toml.specs.Values
 pub use Rattle.dft_toml.specs.Text

@@ -10,7 +10,7 @@ use Rattle.dft_config.specs.declared.config.RingConfig.{RingConfig}
 use Rattle.dft_merge.specs.Rows.{CellRows}
 use Rattle.dft_report.specs.declared.report.SumLine.{SumLine}
 use Rattle.dft_report.specs.declared.report.Variable.{Variable}
-use Rattle.dft_outcomes.specs.Outcomes.{variables_of}
+use Rattle.dft_cube_reports.specs.Outcomes.{variables_of}
 use Rattle.dft_certify.specs.declared.error.CertifyError.{CertifyError}
 use Rattle.dft_certify.specs.declared.error.CertifyError.TheVariants.{K2}
 use Rattle.dft_certify.specs.Certifying.{and_cell, at_cell, has_cell, has_variables, is_care, is_sum, or_later, place_of_line, same_variable, same_variables, scanned_named, sum_refusal, sums_refusal}

@@ -17,7 +17,7 @@ use Rattle.dft_report.specs.declared.report.CubeReport.{CubeReport}
 use Rattle.dft_report.specs.declared.report.Report.{Report}
 use Rattle.dft_report.specs.declared.report.SumLine.{SumLine}
 use Rattle.dft_report.specs.declared.report.Variable.{Variable}
-use Rattle.dft_outcomes.specs.Outcomes.{variables_of}
+use Rattle.dft_cube_reports.specs.Outcomes.{variables_of}
 use Rattle.dft_certify.specs.declared.error.CertifyError.{CertifyError}
 use Rattle.dft_certify.specs.declared.error.CertifyError.TheVariants.{K2, K3, K4, K5, Memory}
 

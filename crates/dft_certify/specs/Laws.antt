@@ -10,7 +10,7 @@ use Rattle.dft_report.specs.declared.report.CubeLine.TheVariants.{Unsolvable}
 use Rattle.dft_report.specs.declared.report.CubeReport.{CubeReport}
 use Rattle.dft_report.specs.declared.report.Report.{Report}
 use Rattle.dft_report.specs.declared.report.SumLine.{SumLine}
-use Rattle.dft_outcomes.specs.Outcomes.{variables_of}
+use Rattle.dft_cube_reports.specs.Outcomes.{variables_of}
 use Rattle.dft_certify.specs.Certifying.{certify_refusal, cube_named, has_column, odd_in, scanned_named}
 
 -- a line is the sum of a care bit of a cube: of a scanned cell, for the bit that the cube gives it, with the variables that it sums, in column order

@@ -1,5 +1,3 @@
-pub use Rattle.dft_outcomes.specs.Outcomes
-pub use Rattle.dft_outcomes.specs.Sums
 pub mod Certifying
 pub mod Naming
 pub mod Shown

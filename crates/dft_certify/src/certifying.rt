@@ -1,7 +1,7 @@
 //! The cubes of a report, one by one.
 
 ghost use Rattle.std.specs.Prelude.{◌≡◌, None, IfErr, IfOk, OnOk, option_copied};
-ghost use Rattle.dft_outcomes.specs.Sums.{columns_in, rows_in, IsSums};
+ghost use Rattle.dft_cube_reports.specs.Sums.{columns_in, rows_in, IsSums};
 ghost use Rattle.dft_report.specs.declared.report.CubeLine.TheVariants.{Unsolvable};
 ghost use Rattle.dft_certify.specs.Certifying as spec;
 ghost use Rattle.dft_certify.specs.Certifying.{IsFault};
@@ -12,8 +12,8 @@ use crate::error::CertifyError;
 use crate::parity::is_certificate;
 use crate::sums::take_sums;
 use dft_base::Name;
+use dft_cube_reports::CellSums;
 use dft_cubes::Cube;
-use dft_outcomes::CellSums;
 use dft_report::{CubeLine, CubeReport, Report, SumLine};
 use std::alloc::{AllocError, Global};
 

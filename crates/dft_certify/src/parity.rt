@@ -4,12 +4,12 @@ ghost use Rattle.std.specs.Prelude.{◌≡◌, ℕ, IfOk, length, replicate};
 ghost use Rattle.dft_base.specs.Packed.{packed_bit};
 ghost use Rattle.dft_base.specs.Solutions.{xor};
 ghost use Rattle.dft_lanes.specs.Rows.{IsPacked};
-ghost use Rattle.dft_outcomes.specs.Sums.{columns_in, rows_in, IsSums};
+ghost use Rattle.dft_cube_reports.specs.Sums.{columns_in, rows_in, IsSums};
 ghost use Rattle.dft_certify.specs.Certifying as spec;
 
 use crate::rows::row_named;
+use dft_cube_reports::CellSums;
 use dft_lanes::{highest, xor_into};
-use dft_outcomes::CellSums;
 use dft_report::SumLine;
 use std::alloc::{AllocError, Global};
 

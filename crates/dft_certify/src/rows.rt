@@ -2,11 +2,11 @@
 
 ghost use Rattle.std.specs.Prelude.{◌≡◌, None, Some, MatchOption, option_and_then};
 ghost use Rattle.dft_lanes.specs.Rows.{bits_of, IsPacked};
-ghost use Rattle.dft_outcomes.specs.Sums.{rows_in, columns_in, IsSums};
+ghost use Rattle.dft_cube_reports.specs.Sums.{rows_in, columns_in, IsSums};
 ghost use Rattle.dft_certify.specs.Certifying as spec;
 
+use dft_cube_reports::CellSums;
 use dft_netlist::InstanceId;
-use dft_outcomes::CellSums;
 use dft_report::Variable;
 
 /// The cell of this name, where it is scanned.

@@ -1,7 +1,7 @@
 //! The lines of an unsolvable cube, one by one.
 
 ghost use Rattle.std.specs.Prelude.{◌≡◌, ◌<◌, true, false, [], None, length, drop, is_some, IfErr, IfOk, IfSome, MatchOption, OnOk};
-ghost use Rattle.dft_outcomes.specs.Sums.{rows_in, IsSums};
+ghost use Rattle.dft_cube_reports.specs.Sums.{rows_in, IsSums};
 ghost use Rattle.dft_certify.specs.Certifying as spec;
 ghost use Rattle.dft_certify.specs.Certifying.{IsFault};
 
@@ -9,8 +9,8 @@ use crate::cell_set::CellSet;
 use crate::error::CertifyError;
 use crate::rows::{same_variables, scanned_named};
 use dft_base::{Name, Place};
+use dft_cube_reports::CellSums;
 use dft_netlist::InstanceId;
-use dft_outcomes::CellSums;
 use dft_report::SumLine;
 use std::alloc::{AllocError, Global};
 

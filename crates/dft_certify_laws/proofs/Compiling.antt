@@ -1,7 +1,7 @@
 -- What a compilation writes certifies.
 use Rattle.std.proofs.Common.{◌≡◌, length, map, None, refl, ap, subst, ◌∙◌}
 use Rattle.dft_equations.specs.LoadRows.{LoadRows}
-use Rattle.dft_report_in.specs.Reading.{report_of}
+use Rattle.dft_report_reader.specs.Reading.{report_of}
 use Rattle.dft_stitch.specs.Chains.{plan_of}
 use Rattle.dft_encode.proofs.OneLemmas.{equations_one}
 use Rattle.dft_compile.specs.Reports.{compile_report}

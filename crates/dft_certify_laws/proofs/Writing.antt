@@ -31,10 +31,10 @@ use Rattle.dft_report.specs.declared.report.CubeLine.{CubeLine}
 use Rattle.dft_report.specs.declared.report.CubeLine.TheVariants.{Encoded, Unsolvable, Skipped}
 use Rattle.dft_report.specs.declared.report.CubeReport.{CubeReport}
 use Rattle.dft_report.specs.declared.report.SumLine.{SumLine}
-use Rattle.dft_outcomes.specs.Laws.{AreSumsAt, IsSumAt, Says}
-use Rattle.dft_outcomes.specs.Outcomes.{cube_reports}
-use Rattle.dft_outcomes.proofs.LineLemmas.{all_reports}
-use Rattle.dft_outcomes.proofs.PlacedLemmas.{step_at}
+use Rattle.dft_cube_reports.specs.Laws.{AreSumsAt, IsSumAt, Says}
+use Rattle.dft_cube_reports.specs.Outcomes.{cube_reports}
+use Rattle.dft_cube_reports.proofs.LineLemmas.{all_reports}
+use Rattle.dft_cube_reports.proofs.PlacedLemmas.{step_at}
 use Rattle.dft_load_laws.specs.Loading.{AreRows, rows_of}
 use Rattle.dft_certify.specs.Certifying.{cube_named, has_column, if_scanned, odd_in, scanned_named}
 use Rattle.dft_certify.specs.Laws.{AllCertified, IsCertified, IsSumOf}

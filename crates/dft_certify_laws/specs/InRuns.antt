@@ -11,7 +11,7 @@ use Rattle.dft_report.specs.declared.report.CubeReport.{CubeReport}
 use Rattle.dft_report.specs.declared.report.Report.{Report}
 use Rattle.dft_report.specs.declared.report.SumLine.{SumLine}
 use Rattle.dft_scan_frame.specs.Statements.{IsReady}
-use Rattle.dft_scan_facts.specs.EdtVectors.{SuitsEdt}
+use Rattle.dft_scan_behavior.specs.EdtVectors.{SuitsEdt}
 use Rattle.dft_load_laws.specs.Loading.{AreRows, LoadsOnce, rows_of}
 use Rattle.dft_certify.specs.Certifying.{certify_refusal, cube_named}
 

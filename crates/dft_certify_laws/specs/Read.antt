@@ -7,7 +7,7 @@ use Rattle.dft_stitch.specs.Chains.{plan_of}
 use Rattle.dft_cubes.specs.declared.cube.Cube.{Cube}
 use Rattle.dft_cubes.specs.Laws.{AreCubes}
 use Rattle.dft_report.specs.declared.report.Report.{Report}
-use Rattle.dft_report_in.specs.Reading.{report_of}
+use Rattle.dft_report_reader.specs.Reading.{report_of}
 use Rattle.dft_scan_frame.specs.Statements.{IsReady}
 use Rattle.dft_load_laws.specs.Loading.{rows_of}
 use Rattle.dft_compile.specs.Compilation.{IsCompileOf}

@@ -11,7 +11,7 @@ use Rattle.dft_cubes.specs.Laws.{AreCubes}
 use Rattle.dft_merge.specs.declared.placed.Placed.{Placed}
 use Rattle.dft_merge.specs.Placement.{PlacesAll}
 use Rattle.dft_report.specs.declared.report.Report.{Report}
-use Rattle.dft_outcomes.specs.Outcomes.{cube_reports}
+use Rattle.dft_cube_reports.specs.Outcomes.{cube_reports}
 use Rattle.dft_load_laws.specs.Loading.{AreRows, rows_of}
 use Rattle.dft_certify.specs.Certifying.{certify_refusal}
 

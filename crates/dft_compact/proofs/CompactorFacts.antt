@@ -19,7 +19,8 @@ use Rattle.dft_parts.specs.Sums.{a_driving_gate, a_sum}
 use Rattle.dft_parts.specs.SumTrees.{IsSum}
 use Rattle.dft_parts.proofs.Standing.{gate_stands}
 use Rattle.dft_parts.proofs.Trees.{front, back, sum_stands}
-use Rattle.dft_edt.specs.Hardware.{EdtNets, HasHold, HasOutput, chain_in, before_in, segment_start, segment_length, group_of}
+use Rattle.dft_edt.specs.Hardware.{EdtNets, HasHold, HasOutput, before_in, group_of}
+use Rattle.dft_config.specs.Segments.{chain_in, segment_start, segment_length}
 use Rattle.dft_edt.proofs.Steps.{Standing, standing}
 use Rattle.dft_ring.proofs.PartLists.{each_there, collect_there, range_at, both_at}
 use Rattle.dft_ring.proofs.RingFacts.{nets_at}

@@ -16,7 +16,7 @@ use Rattle.dft_parts.specs.Standing.{IsClockNet, IsFlop}
 use Rattle.dft_parts.specs.Sums.{a_driving_gate}
 use Rattle.dft_parts.proofs.Standing.{gate_stands}
 use Rattle.dft_parts.proofs.Trees.{front, back}
-use Rattle.dft_edt.specs.Hardware.{segment_length, segment_start}
+use Rattle.dft_config.specs.Segments.{segment_length, segment_start}
 use Rattle.dft_ring.proofs.PartLists.{instances_in-append}
 use Rattle.dft_ring.proofs.RingFacts.{made_flop}
 use Rattle.dft_compact.specs.declared.mask_nets.MaskNets.{MaskNets}

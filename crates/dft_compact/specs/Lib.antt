@@ -1,5 +1,3 @@
-pub use Rattle.dft_parts.specs.Recipes
-pub use Rattle.dft_edt.specs.Hardware
 pub mod CompactorRecipe
 pub mod Bounds
 pub mod CompactorStands

@@ -29,8 +29,8 @@ use Rattle.dft_scan_hardware.specs.declared.style.Style.TheVariants.{Edt}
 use Rattle.dft_scan_hardware.specs.Ports.{added_ports, gap_in}
 use Rattle.dft_scan_hardware.specs.Statements.{scanned}
 use Rattle.dft_scan_hardware.proofs.Keeping.{adds_in_order}
-use Rattle.dft_stil_length.specs.WrittenLength.{written_length}
-use Rattle.dft_stil_length.proofs.LengthLemmas.{written_has_length}
+use Rattle.dft_stil_out.specs.WrittenLength.{written_length}
+use Rattle.dft_stil_out.proofs.LengthLemmas.{written_has_length}
 use Rattle.dft_vectors.specs.PatternData.{PatternData}
 use Rattle.dft_vectors.specs.Signals.{bits_in, input_bits, signal_of, signals_of}
 use Rattle.dft_vectors.specs.VectorList.{first_vector, notes_of, pattern_note, vectors_of}

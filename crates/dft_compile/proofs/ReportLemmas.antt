@@ -7,10 +7,10 @@ use Rattle.dft_cubes.specs.declared.cube.Cube.{Cube}
 use Rattle.dft_merge.specs.declared.placed.Placed.{Placed}
 use Rattle.dft_merge.specs.Rows.{cell_row}
 use Rattle.dft_config.specs.declared.config.RingConfig.{RingConfig}
-use Rattle.dft_outcomes.specs.declared.cell_sums.CellSums.{CellSums}
-use Rattle.dft_outcomes.specs.Lengths.{lines_length}
-use Rattle.dft_outcomes.specs.Outcomes.{cube_reports}
-use Rattle.dft_outcomes.specs.Sums.{rows_in}
+use Rattle.dft_cube_reports.specs.declared.cell_sums.CellSums.{CellSums}
+use Rattle.dft_cube_reports.specs.Lengths.{lines_length}
+use Rattle.dft_cube_reports.specs.Outcomes.{cube_reports}
+use Rattle.dft_cube_reports.specs.Sums.{rows_in}
 use Rattle.dft_report.specs.declared.report.Report.{Report}
 use Rattle.dft_stitch.specs.Chains.{plan_of}
 use Rattle.dft_stitch.specs.Plans.{Plan}

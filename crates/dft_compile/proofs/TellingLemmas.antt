@@ -36,13 +36,13 @@ use Rattle.dft_report.specs.declared.report.ScannedLine.{ScannedLine}
 use Rattle.dft_report.specs.declared.report.SumLine.{SumLine}
 use Rattle.dft_report.specs.declared.report.UnscannedLine.{UnscannedLine}
 use Rattle.dft_report.specs.declared.report.Variable.{Variable}
-use Rattle.dft_report_in.specs.Reading.{report_of}
-use Rattle.dft_report_laws.specs.WrittenRead.{Each, IsCubeReadable, IsOutcomeReadable, IsReadable, IsScannedReadable, IsSmall, IsSumReadable, IsUnscannedReadable, IsVariableReadable}
-use Rattle.dft_report_laws.proofs.Whole.{written_is_read}
+use Rattle.dft_report_reader.specs.Reading.{report_of}
+use Rattle.dft_report_reader.specs.WrittenRead.{Each, IsCubeReadable, IsOutcomeReadable, IsReadable, IsScannedReadable, IsSmall, IsSumReadable, IsUnscannedReadable, IsVariableReadable}
+use Rattle.dft_report_reader.proofs.Whole.{written_is_read}
 use Rattle.dft_scan.specs.Reports.{domain_name, name_of, scanned_as, scanned_in, scanned_line, unscanned_as}
 use Rattle.dft_scan.proofs.ListLemmas.{filter_shorter}
 use Rattle.dft_scan.proofs.ShapeLemmas.{few_chains, judgement_count, short_chains}
-use Rattle.dft_outcomes.specs.Outcomes.{cell_name, cube_report, cube_reports, named_outcome, outcome_of, sum_as, sum_at, sum_line, sums_of, variable_of}
+use Rattle.dft_cube_reports.specs.Outcomes.{cell_name, cube_report, cube_reports, named_outcome, outcome_of, sum_as, sum_at, sum_line, sums_of, variable_of}
 use Rattle.dft_encode.specs.Compiled.{Placing}
 use Rattle.dft_stitch.proofs.ChainLimits.{limits}
 use Rattle.dft_compile.specs.Named.{AreCubesNamed, AreInstancesNamed, AreNames, CanBeTold, IsNameIfAny}

@@ -14,7 +14,7 @@ use Rattle.dft_merge.specs.Merging.{Merging, columns_in, rows_in}
 use Rattle.dft_merge.specs.Placement.{PlacesAll}
 use Rattle.dft_merge.specs.Rows.{CellRows, cell_row}
 use Rattle.dft_report.specs.declared.limits.TheConstants.{MAX_BYTES}
-use Rattle.dft_report_in.specs.Reading.{report_of}
+use Rattle.dft_report_reader.specs.Reading.{report_of}
 use Rattle.dft_stil_tokens.specs.declared.blanks.TheConstants.{MAX_TEXT}
 use Rattle.dft_config.specs.Range.{IsInRange}
 use Rattle.dft_patterns.specs.Patterns.{Patterns}

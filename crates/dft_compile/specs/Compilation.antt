@@ -8,7 +8,7 @@ use Rattle.dft_cubes.specs.declared.cube.Cube.{Cube}
 use Rattle.dft_cubes.specs.declared.cube.Merged.{Merged}
 use Rattle.dft_merge.specs.declared.placed.Placed.{Placed}
 use Rattle.dft_merge.specs.Rows.{cell_row}
-use Rattle.dft_report_in.specs.Reading.{report_of}
+use Rattle.dft_report_reader.specs.Reading.{report_of}
 use Rattle.dft_vectors.specs.PatternData.{PatternData}
 use Rattle.dft_encode.specs.Compiled.{ArePatterns, Placing}
 use Rattle.dft_encode.specs.Counts.{masked_in}

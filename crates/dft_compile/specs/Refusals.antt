@@ -16,7 +16,7 @@ use Rattle.dft_scan_hardware.specs.Statements.{scanned}
 use Rattle.dft_stil_tokens.specs.declared.blanks.TheConstants.{MAX_TEXT}
 use Rattle.dft_stil_text.specs.declared.error.StilError.{StilError}
 use Rattle.dft_stil_text.specs.declared.error.StilError.TheVariants.{P6}
-use Rattle.dft_stil_length.specs.WrittenLength.{written_length}
+use Rattle.dft_stil_out.specs.WrittenLength.{written_length}
 use Rattle.dft_report.specs.declared.error.ReportError.{ReportError}
 use Rattle.dft_report.specs.declared.error.ReportError.TheVariants.{K6}
 use Rattle.dft_report.specs.declared.limits.TheConstants.{MAX_BYTES}

@@ -7,7 +7,7 @@ use Rattle.dft_stitch.specs.Plans.{Plan}
 use Rattle.dft_cubes.specs.declared.cube.Cube.{Cube}
 use Rattle.dft_merge.specs.declared.placed.Placed.{Placed}
 use Rattle.dft_merge.specs.Rows.{CellRows}
-use Rattle.dft_outcomes.specs.Outcomes.{cube_reports}
+use Rattle.dft_cube_reports.specs.Outcomes.{cube_reports}
 use Rattle.dft_report.specs.declared.report.CubeReport.{CubeReport}
 use Rattle.dft_report.specs.declared.report.Load.{Load}
 use Rattle.dft_report.specs.declared.report.Report.{Report}

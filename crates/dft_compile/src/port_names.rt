@@ -3,7 +3,7 @@
 ghost use Rattle.std.specs.Prelude.{ℕ, ◌≡◌, Some, slice_get};
 ghost use Rattle.dft_base.specs.Name.{IsName};
 ghost use Rattle.dft_netlist.specs.declared.port.Port.{Port as APort};
-ghost use Rattle.dft_pass_laws.specs.Formed.{ArePortsNamed, IsShortRange};
+ghost use Rattle.dft_compile_laws.specs.Formed.{ArePortsNamed, IsShortRange};
 
 use dft_base::Range;
 use dft_netlist::{Design, Port};

@@ -3,7 +3,7 @@
 ghost use Rattle.std.specs.Prelude.{◌≡◌, None, IfErr, IfOk};
 ghost use Rattle.dft_config.specs.Range.{IsInRange};
 ghost use Rattle.dft_config.specs.declared.config.Config.{Config};
-ghost use Rattle.dft_pass_laws.specs.Formed.{ArePortsNamed};
+ghost use Rattle.dft_compile_laws.specs.Formed.{ArePortsNamed};
 ghost use Rattle.dft_rules.specs.Refusals as rules;
 ghost use Rattle.dft_scan_frame.specs.Statements.{IsReady};
 ghost use Rattle.dft_compile.specs.Prepared.{IsPrepared};

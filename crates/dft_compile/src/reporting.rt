@@ -2,9 +2,9 @@
 
 ghost use Rattle.std.specs.Prelude.{◌≡◌, ◌+◌, ◌≤◌, pos, [], length, option_map, IfErr, IfOk, OnOk};
 ghost use Rattle.dft_config.specs.Range.{IsInRange};
-ghost use Rattle.dft_outcomes.specs.Lengths as lengths;
-ghost use Rattle.dft_outcomes.specs.Outcomes as outcomes;
-ghost use Rattle.dft_outcomes.specs.Sums.{rows_in, IsSums};
+ghost use Rattle.dft_cube_reports.specs.Lengths as lengths;
+ghost use Rattle.dft_cube_reports.specs.Outcomes as outcomes;
+ghost use Rattle.dft_cube_reports.specs.Sums.{rows_in, IsSums};
 ghost use Rattle.dft_report.specs.Written.{lines_before_cubes};
 ghost use Rattle.dft_compile.specs.Prepared.{IsPrepared};
 ghost use Rattle.dft_compile.specs.Refusals.{IsRefusal, of_length, too_long};
@@ -15,10 +15,10 @@ use crate::error::CompileError;
 use crate::prepared::Prepared;
 use dft_base::Listed;
 use dft_config::Config;
+use dft_cube_reports::{CellSums, cube_reports, lines_length};
 use dft_cubes::Cube;
 use dft_merge::Placed;
 use dft_netlist::Design;
-use dft_outcomes::{CellSums, cube_reports, lines_length};
 use dft_report::{Load, MAX_BYTES, Report, ReportError, length_before_cubes, write};
 use dft_scan::{counts_of, report_of};
 use std::alloc::{AllocError, Global};

@@ -17,18 +17,18 @@ use Rattle.dft_scan_frame.specs.Statements.{IsReady}
 use Rattle.dft_scan_hardware.specs.declared.style.Style.TheVariants.{Edt}
 use Rattle.dft_scan_hardware.specs.Statements.{scanned}
 use Rattle.dft_vectors.specs.PatternData.{PatternData}
-use Rattle.dft_vector_laws.specs.Listed as listed
-use Rattle.dft_pass_laws.specs.Formed.{GiveNoClock}
-use Rattle.dft_pass_laws.specs.Passing.{set_of}
-use Rattle.dft_pass_laws.proofs.Forming.{written_formed}
-use Rattle.dft_pass_laws.proofs.Listing.{rows_play}
-use Rattle.dft_pass_laws.proofs.Standing.{patterns_stand}
-use Rattle.dft_pass_laws.proofs.WrittenPassing.{written_pass}
+use Rattle.dft_pattern_behavior.specs.Listed as listed
+use Rattle.dft_compile_laws.specs.Formed.{GiveNoClock}
+use Rattle.dft_compile_laws.specs.Passing.{set_of}
+use Rattle.dft_compile_laws.proofs.Forming.{written_formed}
+use Rattle.dft_compile_laws.proofs.Listing.{rows_play}
+use Rattle.dft_compile_laws.proofs.Standing.{patterns_stand}
+use Rattle.dft_compile_laws.proofs.WrittenPassing.{written_pass}
 use Rattle.dft_load_laws.specs.Loading.{rows_of}
-use Rattle.dft_cube_laws.specs.Bringing.{AreCompiled, merged_of}
-use Rattle.dft_cube_laws.proofs.Brought.{cubes_captured}
-use Rattle.dft_cube_laws.proofs.Replayed.{cubes_replayed}
-use Rattle.dft_cube_laws.proofs.Reported.{entries_exact}
+use Rattle.dft_compile_laws.specs.Bringing.{AreCompiled, merged_of}
+use Rattle.dft_compile_laws.proofs.Brought.{cubes_captured}
+use Rattle.dft_compile_laws.proofs.Replayed.{cubes_replayed}
+use Rattle.dft_compile_laws.proofs.Reported.{entries_exact}
 use Rattle.dft_encode.specs.Compiled.{ArePatterns, Placing}
 use Rattle.dft_compile_laws.specs.Holding.{CompilationsHold, IsBrought, played}
 

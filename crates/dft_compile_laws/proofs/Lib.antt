@@ -1,1 +1,25 @@
 mod Held
+pub mod Rows
+pub mod Fine
+pub mod Listing
+pub mod Deciding
+pub mod Fitting
+pub mod Muting
+pub mod Agreements
+pub mod Sides
+pub mod OutPlaces
+pub mod Outs
+pub mod Shown
+pub mod Counting
+pub mod WrittenPassing
+pub mod Full
+pub mod Steady
+pub mod Naming
+pub mod Standing
+pub mod Quoting
+pub mod Forming
+pub mod Played
+pub mod Turns
+pub mod Brought
+pub mod Replayed
+pub mod Reported

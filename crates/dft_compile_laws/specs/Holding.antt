@@ -20,15 +20,15 @@ use Rattle.dft_report.specs.declared.report.CubeReport.{CubeReport}
 use Rattle.dft_scan_frame.specs.Statements.{IsReady}
 use Rattle.dft_scan_hardware.specs.declared.style.Style.TheVariants.{Edt}
 use Rattle.dft_scan_hardware.specs.Statements.{scanned}
-use Rattle.dft_scan_facts.specs.EdtVectors.{SuitsEdt, edt_logic}
+use Rattle.dft_scan_behavior.specs.EdtVectors.{SuitsEdt, edt_logic}
 use Rattle.dft_vectors.specs.PatternData.{PatternData}
-use Rattle.dft_pass_laws.specs.Formed.{ArePortsNamed}
-use Rattle.dft_pass_laws.specs.Passing.{set_of}
-use Rattle.dft_pass_laws.specs.Written.{Passes}
+use Rattle.dft_compile_laws.specs.Formed.{ArePortsNamed}
+use Rattle.dft_compile_laws.specs.Passing.{set_of}
+use Rattle.dft_compile_laws.specs.Written.{Passes}
 use Rattle.dft_load_laws.specs.Loading.{HoldBits, rows_of}
-use Rattle.dft_cube_laws.specs.Bringing.{CapturesCube}
-use Rattle.dft_cube_laws.specs.Playing.{capture_number, flops_before}
-use Rattle.dft_cube_laws.specs.Reporting.{IsExact, entries_of}
+use Rattle.dft_compile_laws.specs.Bringing.{CapturesCube}
+use Rattle.dft_compile_laws.specs.Playing.{capture_number, flops_before}
+use Rattle.dft_compile_laws.specs.Reporting.{IsExact, entries_of}
 use Rattle.dft_encode.specs.Compiled.{ArePatterns, Placing}
 
 -- the vectors that a replay of the set of these patterns plays, and the netlist that it plays them on

@@ -1,1 +1,9 @@
 pub mod Holding
+pub mod Passing
+pub mod Agreeing
+pub mod Written
+pub mod Formed
+pub mod Standing
+pub mod Playing
+pub mod Bringing
+pub mod Reporting

@@ -1,11 +1,5 @@
-pub use Rattle.dft_base.specs.Name
-pub use Rattle.dft_base.specs.Words
-pub use Rattle.toml.specs.Data
-pub use Rattle.toml.specs.Parse
-pub use Rattle.toml.specs.View
-pub use Rattle.dft_toml.specs.Text
-pub use Rattle.dft_toml.specs.Values
 pub mod Cycles
+pub mod Segments
 pub mod Range
 pub mod Keys
 pub mod Faults
@@ -16,6 +10,5 @@ pub mod Unknown
 pub mod Checks
 pub mod Reading
 pub mod Refusals
-pub use Rattle.dft_base.specs.Solutions
 pub mod Ring
 pub mod Loads

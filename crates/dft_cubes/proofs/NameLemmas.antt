@@ -5,8 +5,8 @@ use Rattle.std.proofs.lemmas.Bool.{and_parts}
 use Rattle.std.proofs.lemmas.Bool.Decides.{nat_tests}
 use Rattle.std.proofs.lemmas.List.{length-drop, length-take-le}
 use Rattle.dft_base.specs.Name.{IsName}
-use Rattle.dft_lines.specs.declared.words.Span.{Span}
-use Rattle.dft_lines.specs.Lines.{AreWithin, are_printed, cut, is_printed_word, is_printed}
+use Rattle.dft_word_lines.specs.declared.words.Span.{Span}
+use Rattle.dft_word_lines.specs.Lines.{AreWithin, are_printed, cut, is_printed_word, is_printed}
 use Rattle.std.specs.Str.{bytes_eq}
 use Rattle.std.proofs.lemmas.Slice.Eq.{bytes_eq-Decides}
 use Rattle.std.proofs.lemmas.Bool.Decides.{same_from_decides, Decides-like}

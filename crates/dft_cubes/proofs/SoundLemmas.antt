@@ -20,7 +20,7 @@ use Rattle.dft_rules.specs.ConfigPorts.{config_ports}
 use Rattle.dft_rules.specs.Rules.{flip_flop_named}
 use Rattle.dft_rules.proofs.NameLemmas.{flip_flop_there}
 use Rattle.dft_rules.proofs.NamedPorts.{input_there, not_among}
-use Rattle.dft_lines.specs.Lines.{are_printed, lines_of, words_of}
+use Rattle.dft_word_lines.specs.Lines.{are_printed, lines_of, words_of}
 use Rattle.dft_cubes.specs.declared.cube.Cube.{Cube}
 use Rattle.dft_cubes.specs.declared.error.CubeError.{CubeError}
 use Rattle.dft_cubes.specs.Cubes.{Line, Begin, SetCell, SetPort, End, Reading, begun, cell_refusal, cubes_from, cubes_of, domain_named, ended, is_among, line_of, line_refusal, names_of, or_refused, or_zero, place_of_line, port_refusal, said_refusal, with_cell, with_line, with_port, with_said}

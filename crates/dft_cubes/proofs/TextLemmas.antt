@@ -6,8 +6,8 @@ use Rattle.std.specs.List.{prefix_len}
 use Rattle.dft_base.specs.Lexing.{Text}
 use Rattle.dft_netlist.specs.Netlist.{Netlist}
 use Rattle.dft_config.specs.declared.config.Config.{Config}
-use Rattle.dft_lines.specs.Lines.{lines_of, words_of}
-use Rattle.dft_lines.proofs.LineLemmas.{is_on_line, line_ends}
+use Rattle.dft_word_lines.specs.Lines.{lines_of, words_of}
+use Rattle.dft_word_lines.proofs.LineLemmas.{is_on_line, line_ends}
 use Rattle.dft_cubes.specs.declared.cube.Cube.{Cube}
 use Rattle.dft_cubes.specs.declared.error.CubeError.{CubeError}
 use Rattle.dft_cubes.specs.declared.error.CubeError.TheVariants.{Q1, Q2, Q3, Q4, Q5, Q6, Q7, Q8, Q9, Memory}

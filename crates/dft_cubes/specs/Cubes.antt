@@ -11,7 +11,7 @@ use Rattle.dft_netlist.specs.Connections.{input_net}
 use Rattle.dft_config.specs.declared.config.Config.{Config}
 use Rattle.dft_rules.specs.Rules.{flip_flop_named}
 use Rattle.dft_cells.specs.WellFormed.{has_name}
-use Rattle.dft_lines.specs.Lines.{lines_of, words_of, are_printed}
+use Rattle.dft_word_lines.specs.Lines.{lines_of, words_of, are_printed}
 use Rattle.dft_cubes.specs.declared.cube.Cube.{Cube}
 use Rattle.dft_cubes.specs.declared.error.CubeError.{CubeError}
 use Rattle.dft_cubes.specs.declared.error.CubeError.TheVariants.{Q1, Q2, Q3, Q4, Q5, Q6, Q7, Q8, Q9, Memory}

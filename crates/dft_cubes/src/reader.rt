@@ -2,7 +2,7 @@
 
 ghost use Rattle.std.specs.Prelude.{◌≡◌, ◌<◌, ◌≤◌, ◌^◌, [], None, Ok, IfErr, IfOk, OnOk, length, map};
 ghost use Rattle.dft_config.specs.Range.{IsInRange};
-ghost use Rattle.dft_lines.specs.Lines.{AreWithin, cut};
+ghost use Rattle.dft_word_lines.specs.Lines.{AreWithin, cut};
 ghost use Rattle.dft_cubes.specs.Cubes.{IsFault, IsRefused, cubes_of, ended, line_refusal, with_line};
 ghost use Rattle.dft_cubes.specs.Taking.{IsTaken, Passes, SaysNames, line_said, pending_of, reading_of, refusal_of};
 
@@ -13,8 +13,8 @@ use crate::said::{Said, said_by};
 use crate::taken::Taken;
 use dft_base::Place;
 use dft_config::Config;
-use dft_lines::{Span, are_printed, line_len, words_of};
 use dft_netlist::Design;
+use dft_word_lines::{Span, are_printed, line_len, words_of};
 use std::alloc::Global;
 
 // Takes what a line says.

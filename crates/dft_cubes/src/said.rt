@@ -1,11 +1,11 @@
 ghost use Rattle.std.specs.Prelude.{◌≡◌, ◌∷◌, [], IfSome, map, option_map};
 ghost use Rattle.std.specs.List.{All};
 ghost use Rattle.dft_base.specs.Name.{IsName};
-ghost use Rattle.dft_lines.specs.Lines.{AreWithin, cut};
+ghost use Rattle.dft_word_lines.specs.Lines.{AreWithin, cut};
 ghost use Rattle.dft_cubes.specs.Cubes as spec;
 ghost use Rattle.dft_cubes.specs.Taking.{SaysNames, line_said};
 
-use dft_lines::Span;
+use dft_word_lines::Span;
 
 /// What a line says.
 #[derive(Clone, Copy, Debug)]

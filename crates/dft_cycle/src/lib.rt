@@ -12,6 +12,5 @@ mod preparing;
 mod rounds;
 mod sweeping;
 
-pub use dft_abstract::{cycle_is_above, cycle_is_determined, known_in_runs, one_domain};
 pub use laws::calls_are_round;
 pub use machine::AbstractMachine;

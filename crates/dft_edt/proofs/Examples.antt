@@ -10,7 +10,8 @@ use Rattle.dft_config.specs.Range.{has, same_number, names_of, IsSet, IsInRange}
 use Rattle.dft_netlist.specs.Logic.{IsRanked}
 use Rattle.dft_stitch.specs.Plans.{cell_at}
 use Rattle.dft_chains.specs.Hardware.{IsScanCell, Leads, ByLockup}
-use Rattle.dft_edt.specs.Hardware.{HasStage, HasPhase, HasRing, HasEnd, HasOutput, HasCompactor, before_in, segment_length}
+use Rattle.dft_edt.specs.Hardware.{HasStage, HasPhase, HasRing, HasEnd, HasOutput, HasCompactor, before_in}
+use Rattle.dft_config.specs.Segments.{segment_length}
 use Rattle.dft_parts.specs.SumTrees.{Term, Joined}
 use Rattle.dft_parts.specs.Standing.{IsFlop}
 use Rattle.dft_edt.specs.Examples.{small, small_ports, small_config, small_chains, small_scan, small_edt, SmallHas}

@@ -20,7 +20,8 @@ use Rattle.dft_runs.specs.Passes.{Pass, Passes, ArePasses, end_of, pass_of_round
 use Rattle.dft_runs.proofs.Passing.{round_passes, rounds_pass, turn_passes, turns_pass}
 use Rattle.dft_edt.specs.Feeds.{at_feed, feeds}
 use Rattle.dft_parts.specs.SumTrees.{tri_sum}
-use Rattle.dft_edt.specs.Hardware.{EdtNets, HasRing, chain_in, before_in}
+use Rattle.dft_edt.specs.Hardware.{EdtNets, HasRing, before_in}
+use Rattle.dft_config.specs.Segments.{chain_in}
 use Rattle.dft_edt.specs.Vectors.{IsEdtShift, IsClearing, Carries, Clears, ShiftInRuns, ClearInRuns, MasksInRuns, HoldsInRuns}
 use Rattle.dft_edt.specs.Loads.{CarryTable, load_sum, LoadPasses, LoadInRuns, LoadInRounds}
 use Rattle.dft_edt.proofs.Sums.{known_feeds, known_sum, feeds_step}

@@ -9,7 +9,8 @@ use Rattle.dft_config.specs.declared.config.Config.{Config}
 use Rattle.dft_runs.specs.WiderPorts.{MeansMore}
 use Rattle.dft_chains.specs.Hardware.{ChainNets}
 use Rattle.dft_chains.proofs.Staying.{net_stays, chains_stay}
-use Rattle.dft_edt.specs.Hardware.{EdtNets, HasStage, HasPhase, HasRing, HasHold, HasEnd, HasOutput, HasCompactor, before_in, chain_in, HardwareStays}
+use Rattle.dft_edt.specs.Hardware.{EdtNets, HasStage, HasPhase, HasRing, HasHold, HasEnd, HasOutput, HasCompactor, before_in, HardwareStays}
+use Rattle.dft_config.specs.Segments.{chain_in}
 use Rattle.dft_parts.specs.SumTrees.{IsSum, Term, Joined}
 use Rattle.dft_parts.specs.Standing.{IsFlop}
 

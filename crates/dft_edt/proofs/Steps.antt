@@ -23,7 +23,8 @@ use Rattle.dft_chains.specs.Hardware.{ChainNets}
 use Rattle.dft_chains.proofs.Shiftings.{value_at, own_choice, port_value, not_forced, takes_source, link_law}
 use Rattle.dft_edt.specs.Feeds.{Feed, Stage, Channel, at_feed, tap_feeds, injector_feeds, feeds}
 use Rattle.dft_parts.specs.SumTrees.{tri_sum}
-use Rattle.dft_edt.specs.Hardware.{EdtNets, HasStage, HasRing, HasHold, HasEnd, HasCompactor, segment_length, segment_start, chain_in, before_in, group_of}
+use Rattle.dft_edt.specs.Hardware.{EdtNets, HasStage, HasRing, HasHold, HasEnd, HasCompactor, before_in, group_of}
+use Rattle.dft_config.specs.Segments.{segment_length, segment_start, chain_in}
 use Rattle.dft_parts.specs.Standing.{IsFlop}
 use Rattle.dft_edt.specs.Parts.{shown_by}
 use Rattle.dft_edt.specs.Vectors.{IsEdtShift, ShiftLaw, ClearLaw, MaskLaw, HoldLaw, RestLaw, OutputLaw, OutputInRuns}

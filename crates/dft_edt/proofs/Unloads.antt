@@ -19,11 +19,12 @@ use Rattle.dft_stitch.specs.Plans.{cell_at}
 use Rattle.dft_chains.specs.Hardware.{ChainNets}
 use Rattle.dft_runs.specs.Passes.{Pass, Passes, ArePasses, end_of, after_rounds, pass_of_round, passes_of_rounds, pass_of_turn, passes_of_turns, after_turns}
 use Rattle.dft_runs.proofs.Passing.{round_passes, rounds_pass, turn_passes, turns_pass}
-use Rattle.dft_edt.specs.Hardware.{EdtNets, HasRing, HasEnd, HasCompactor, IsEdt, segment_length, chain_in, group_of}
+use Rattle.dft_edt.specs.Hardware.{EdtNets, HasRing, HasEnd, HasCompactor, IsEdt, group_of}
+use Rattle.dft_config.specs.Segments.{segment_length, chain_in, sent_mask}
 use Rattle.dft_edt.specs.Parts.{shown_by}
 use Rattle.dft_edt.specs.Vectors.{IsEdtShift, Carries, Sends, Clears}
 use Rattle.dft_edt.specs.Loads.{CarryTable}
-use Rattle.dft_edt.specs.Unloads.{sent_mask, SendMasks, AreMasked, MasksPass, end_bit, end_value, UnloadPasses, UnloadInRounds, UnloadInRuns}
+use Rattle.dft_edt.specs.Unloads.{SendMasks, AreMasked, MasksPass, end_bit, end_value, UnloadPasses, UnloadInRounds, UnloadInRuns}
 use Rattle.dft_edt.proofs.Steps.{Standing, standing, shift_law, mask_law, hold_law, shifts_shown}
 use Rattle.dft_edt.proofs.Loads.{Loaded, loaded_start, loaded_step, cleared, place_before, known_one}
 

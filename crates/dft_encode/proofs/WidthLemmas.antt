@@ -11,7 +11,7 @@ use Rattle.dft_config.specs.declared.config.Config.{Config}
 use Rattle.dft_config.specs.Ring.{Table}
 use Rattle.dft_stitch.specs.Plans.{Plan}
 use Rattle.dft_base.specs.Solutions.{bit_at}
-use Rattle.dft_edt.specs.Unloads.{sent_mask}
+use Rattle.dft_config.specs.Segments.{sent_mask}
 use Rattle.dft_patterns.specs.declared.act.Act.{Act}
 use Rattle.dft_patterns.specs.declared.act.Act.TheVariants.{Ignore}
 use Rattle.dft_expect.specs.Captures.{capture_vector, output_bits}

@@ -1,8 +1,3 @@
-pub use Rattle.dft_merge.specs.Placement
-pub use Rattle.dft_merge.specs.Merging
-pub use Rattle.dft_expect.specs.Captures
-pub use Rattle.dft_vectors.specs.VectorList
-pub use Rattle.dft_vectors.specs.Listing
 pub mod Compiled
 pub mod Counts
 pub mod Encoding

@@ -1,9 +1,3 @@
-pub use Rattle.dft_base.specs.Solutions
-pub use Rattle.dft_base.specs.Packed
-pub use Rattle.dft_lanes.specs.Rows
-pub use Rattle.dft_config.specs.Range
-pub use Rattle.dft_config.specs.Ring
-pub use Rattle.dft_config.specs.Loads
 pub mod Impulses
 pub mod Inside
 pub mod LoadRows

@@ -2,8 +2,8 @@
 //! and what it saved. The stored output holds what was worked out by hand; it promises nothing.
 #![tactic(auto)]
 
-use dft_end::status_of_run;
 use dft_files::{HostFiles, OutSink};
+use dft_program::status_of_run;
 use std::alloc::Global;
 use std::{fs, io};
 

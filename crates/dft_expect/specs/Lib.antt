@@ -1,11 +1,3 @@
-pub use Rattle.dft_netlist.specs.Netlist
-pub use Rattle.dft_netlist.specs.Logic
-pub use Rattle.dft_netlist.specs.Settled
-pub use Rattle.dft_abstract.specs.Cycle
-pub use Rattle.dft_stitch.specs.Chains
-pub use Rattle.dft_stitch.specs.Plans
-pub use Rattle.dft_config.specs.Ring
-pub use Rattle.dft_config.specs.Loads
 pub mod Loaded
 pub mod States
 pub mod Captures

@@ -6,5 +6,3 @@ pub mod Laws
 pub mod Like
 pub mod Rows
 pub mod RowsShown
-pub use Rattle.dft_base.specs.Solutions
-pub use Rattle.dft_lanes.specs.Rows as Packing

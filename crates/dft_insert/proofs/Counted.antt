@@ -19,7 +19,7 @@ use Rattle.dft_rules.specs.Rules.{judgements}
 use Rattle.dft_stitch.specs.declared.places.LockupPlace.{LockupPlace}
 use Rattle.dft_stitch.specs.Chains.{domain_at, lockup_between, lockup_after, lockups_of, plan_of}
 use Rattle.dft_stitch.specs.Chains as stitch
-use Rattle.dft_edt.specs.Hardware.{segment_length, segment_start}
+use Rattle.dft_config.specs.Segments.{segment_length, segment_start}
 use Rattle.dft_edt.proofs.Steps.{all_segments}
 use Rattle.dft_parts.specs.Cells.{is_lockup}
 use Rattle.dft_parts.specs.MadeNames.{made_instance}
@@ -35,8 +35,8 @@ use Rattle.dft_scan_hardware.specs.Ports.{gap_in, edt_nets}
 use Rattle.dft_scan_hardware.specs.Scanned.{framed}
 use Rattle.dft_scan_hardware.specs.Statements.{made_in, scanned}
 use Rattle.dft_scan_hardware.proofs.Filling.{chains_planned}
-use Rattle.dft_scan_off.proofs.Driving.{now_at, now_instances}
-use Rattle.dft_scan_off.proofs.Merging.{news}
+use Rattle.dft_scan_equivalence.proofs.Driving.{now_at, now_instances}
+use Rattle.dft_scan_equivalence.proofs.Merging.{news}
 use Rattle.dft_insert.specs.Counts.{count_behind, flip_flops_in, lockups_in, CountsAdded}
 use Rattle.dft_insert.proofs.Weights.{times, times_zero, times_one, times_two, sum_of, sum_add, sum_same, total}
 use Rattle.dft_insert.proofs.WeighedRecipes.{PassesNoGate, bit_weight, weight, plain_has, edt_has, crossings_all, segments_all}

@@ -18,7 +18,8 @@ use Rattle.dft_config.specs.declared.config.Config.{Config}
 use Rattle.dft_config.specs.declared.config.RingConfig.{RingConfig}
 use Rattle.dft_stitch.specs.declared.places.LockupPlace.{LockupPlace}
 use Rattle.dft_stitch.specs.Plans.{Plan}
-use Rattle.dft_edt.specs.Hardware.{segment_length, segment_start, group_of}
+use Rattle.dft_edt.specs.Hardware.{group_of}
+use Rattle.dft_config.specs.Segments.{segment_length, segment_start}
 use Rattle.dft_parts.specs.declared.edt_ports.EdtPorts.{EdtPorts}
 use Rattle.dft_parts.specs.Cells.{is_dff, is_lockup, first_cell}
 use Rattle.dft_parts.specs.Parts.{Part, ANet, AnInstance, APin}
@@ -35,7 +36,7 @@ use Rattle.dft_scan_hardware.specs.Chained as chained
 use Rattle.dft_scan_hardware.specs.Chained.{scan_roles, a_numbered_pin, a_role_pin, a_scan_in, an_open_output, own_or_made, a_row, rows, a_crossing, crossing_in, a_step, a_chain, a_late_chain, cells_at, row_at, last_net}
 use Rattle.dft_scan_hardware.specs.Ports.{plain_in, plain_out}
 use Rattle.dft_scan_hardware.specs.Scanned.{a_plain_chain, a_plain_end, plain_recipe, an_edt_chain, behind_rows, edt_recipe}
-use Rattle.dft_scan_laws.proofs.FirstFlops.{dff_shape}
+use Rattle.dft_scan_equivalence.proofs.FirstFlops.{dff_shape}
 use Rattle.dft_insert.proofs.Weights.{times, times_add, sum_of, sum_add, sum_zero, sum_same, Weighs, weighs_as, weighs_pure, weighs_bind, weighs_each, none_each, none_collect, one_in_range}
 
 -- ---- the weights

@@ -29,9 +29,9 @@ use Rattle.dft_merge.proofs.OneLemmas.{into_solvable, unsolvable_exact}
 use Rattle.dft_merge.proofs.PlaceLemmas.{row_found, row_nowhere}
 use Rattle.dft_merge.proofs.StayLemmas.{cubes_stay}
 use Rattle.dft_scan_frame.specs.Statements.{IsReady}
-use Rattle.dft_scan_facts.specs.EdtVectors.{SuitsEdt}
-use Rattle.dft_scan_facts.proofs.Outputs.{one_place}
-use Rattle.dft_scan_facts.proofs.Reaching.{loads_reach}
+use Rattle.dft_scan_behavior.specs.EdtVectors.{SuitsEdt}
+use Rattle.dft_scan_behavior.proofs.Outputs.{one_place}
+use Rattle.dft_scan_behavior.proofs.Reaching.{loads_reach}
 use Rattle.dft_load_laws.specs.Loading.{LoadRun, after_load, LoadsAlways, LoadsOnce, AreRows, rows_of, BitsLoad, IsInto, LoadsSolve, PatternsLoad, PlacedInRuns, UnsolvableInRuns}
 use Rattle.dft_stitch.proofs.LengthLemmas.{chains_fit}
 use Rattle.dft_load_laws.proofs.Running.{loads_run}

@@ -31,11 +31,11 @@ use Rattle.dft_scan_frame.proofs.Containing.{input_less}
 use Rattle.dft_scan_frame.proofs.Fine.{driver_fine}
 use Rattle.dft_scan_hardware.specs.declared.style.Style.TheVariants.{Edt}
 use Rattle.dft_scan_hardware.specs.Ports.{gap_in}
-use Rattle.dft_scan_off.specs.Agreeing.{ports_in}
-use Rattle.dft_scan_facts.specs.EdtVectors.{edt_logic}
-use Rattle.dft_scan_facts.specs.Facts.{chain_nets, edt_hardware}
-use Rattle.dft_scan_facts.proofs.EdtHave.{from_at}
-use Rattle.dft_scan_facts.proofs.EdtUnder.{edt_rank}
+use Rattle.dft_scan_equivalence.specs.Agreeing.{ports_in}
+use Rattle.dft_scan_behavior.specs.EdtVectors.{edt_logic}
+use Rattle.dft_scan_behavior.specs.Facts.{chain_nets, edt_hardware}
+use Rattle.dft_scan_behavior.proofs.EdtHave.{from_at}
+use Rattle.dft_scan_behavior.proofs.EdtUnder.{edt_rank}
 use Rattle.dft_load_laws.specs.Loading.{LoadRun, LoadsRun}
 
 -- ---- names of ports are names of the design's ports

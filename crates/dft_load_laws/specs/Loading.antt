@@ -22,9 +22,9 @@ use Rattle.dft_merge.specs.Laws.{IsUnsolvable}
 use Rattle.dft_merge.specs.Placement.{Loads, Places, PlacesAll, first_unscanned}
 use Rattle.dft_merge.specs.Rows.{CellRows, cell_row}
 use Rattle.dft_scan_frame.specs.Statements.{IsReady}
-use Rattle.dft_scan_facts.specs.EdtVectors.{SuitsEdt, edt_logic}
-use Rattle.dft_scan_facts.specs.Experiments.{Carry}
-use Rattle.dft_scan_facts.specs.Facts.{edt_hardware}
+use Rattle.dft_scan_behavior.specs.EdtVectors.{SuitsEdt, edt_logic}
+use Rattle.dft_scan_behavior.specs.Experiments.{Carry}
+use Rattle.dft_scan_behavior.specs.Facts.{edt_hardware}
 
 -- ---- runs of a load
 

@@ -8,4 +8,3 @@ pub mod Slots
 pub mod Shown
 pub mod Laws
 pub mod Staying
-pub use Rattle.dft_base.specs.Solutions

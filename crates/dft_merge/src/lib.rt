@@ -12,7 +12,6 @@ mod placed;
 mod slot;
 mod tables;
 
-pub use dft_cubes::Merged;
 pub use fills::fill_bits;
 pub use laws::{
     cubes_stay, patterns_are_sound, placement_is_one, plans_stand_apart, unsolvable_is_exact,

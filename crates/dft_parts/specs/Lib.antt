@@ -1,4 +1,3 @@
-pub use Rattle.dft_netlist.specs.Building
 pub mod MadeNames
 pub mod Parts
 pub mod Cells

@@ -1,5 +1,3 @@
-pub use Rattle.dft_abstract.specs.Cycle
-pub use Rattle.dft_patterns.specs.Patterns
 pub mod Rows
 pub mod Verdicts
 pub mod Fits

@@ -1,14 +1,3 @@
-pub use Rattle.dft_base.specs.Words
-pub use Rattle.dft_patterns.specs.Acts
-pub use Rattle.dft_patterns.specs.Patterns
-pub use Rattle.dft_patterns.specs.Steadiness
-pub use Rattle.dft_stil_tokens.specs.Lexemes
-pub use Rattle.dft_stil_tokens.specs.Steps
-pub use Rattle.dft_stil_text.specs.SignalGroups
-pub use Rattle.dft_stil_text.specs.WaveformTables
-pub use Rattle.dft_stil_text.specs.Statements
-pub use Rattle.dft_stil_text.specs.PatternText
-pub use Rattle.dft_stil_text.specs.Laws
 pub mod Refusals
 pub mod PatternShown
 pub mod VectorShown

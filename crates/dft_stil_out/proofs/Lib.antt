@@ -8,3 +8,4 @@ pub mod WrittenVectors
 pub mod WrittenLines
 pub mod WrittenStands
 pub mod WrittenExamples
+pub mod LengthLemmas

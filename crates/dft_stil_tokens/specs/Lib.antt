@@ -1,4 +1,3 @@
-pub use Rattle.dft_base.specs.Words
 pub mod Lexemes
 pub mod Steps
 pub mod Cut

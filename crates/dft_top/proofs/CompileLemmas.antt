@@ -12,7 +12,7 @@ use Rattle.dft_cubes.specs.declared.cube.Merged.{Merged}
 use Rattle.dft_equations.specs.LoadRows.{LoadRows}
 use Rattle.dft_merge.specs.declared.placed.Placed.{Placed}
 use Rattle.dft_load_laws.specs.Loading.{rows_of}
-use Rattle.dft_report_in.specs.Reading.{report_of}
+use Rattle.dft_report_reader.specs.Reading.{report_of}
 use Rattle.dft_compile.specs.Reports.{compile_report}
 use Rattle.dft_vectors.specs.PatternData.{PatternData}
 use Rattle.dft_encode.specs.Compiled.{ArePatterns, Placing}

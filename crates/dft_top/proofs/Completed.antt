@@ -1,8 +1,8 @@
 -- When a command is answered.
 use Rattle.std.proofs.Common.{ℕ, ◌≡◌, ◌⊎◌, inl, inr, List, refl, sym, ap, subst, Option, None, Some}
 use Rattle.dft_files.specs.Outside.{Held, Told}
-use Rattle.dft_words.specs.Words.{AreFor, Certify, Command, Compile, Generate, Replay, ReplayFiles, Scan}
-use Rattle.dft_words.proofs.Understood.{for_once}
+use Rattle.dft_command_line.specs.Words.{AreFor, Certify, Command, Compile, Generate, Replay, ReplayFiles, Scan}
+use Rattle.dft_command_line.proofs.Understood.{for_once}
 use Rattle.dft_answers.specs.declared.answer.Answer.{Answer}
 use Rattle.dft_answers.specs.declared.answer.Status.TheVariants.{Done, OutOfMemory}
 use Rattle.dft_answers.specs.declared.outcome.Outcome.{Outcome}

@@ -13,7 +13,7 @@ use Rattle.dft_netlist.specs.Connections.{input_net}
 use Rattle.dft_config.specs.declared.config.Config.{Config}
 use Rattle.dft_rules.specs.Rules.{flip_flop_named}
 use Rattle.dft_cells.specs.WellFormed.{has_name}
-use Rattle.dft_lines.specs.Lines.{are_printed, lines_of, onto_first, words_of}
+use Rattle.dft_word_lines.specs.Lines.{are_printed, lines_of, onto_first, words_of}
 use Rattle.dft_cubes.specs.declared.cube.Cube.{Cube}
 use Rattle.dft_cubes.specs.declared.error.CubeError.{CubeError}
 use Rattle.dft_cubes.specs.declared.error.CubeError.TheVariants.{Q4, Q5, Q9}

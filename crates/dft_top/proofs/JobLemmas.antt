@@ -2,7 +2,7 @@
 use Rattle.std.proofs.Common.{ℕ, ◌≡◌, List, Result, Ok, Err, refl, subst, sym}
 use Rattle.dft_files.specs.Outside.{Held}
 use Rattle.dft_compile.specs.declared.texts.Counts.{Counts}
-use Rattle.dft_words.specs.Words.{JobNumbers}
+use Rattle.dft_command_line.specs.Words.{JobNumbers}
 use Rattle.dft_answers.specs.declared.outcome.Outcome.{Outcome}
 use Rattle.dft_answers.specs.declared.outcome.Outcome.TheVariants as outcome
 use Rattle.dft_top.specs.declared.stop.Stop.{Stop}

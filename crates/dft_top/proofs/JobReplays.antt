@@ -4,13 +4,13 @@ use Rattle.dft_cells.specs.declared.cell.Cell.{Cell}
 use Rattle.dft_cells.specs.Standard.{standard_cells}
 use Rattle.dft_netlist_text.specs.NetlistText.{StandsFor}
 use Rattle.dft_stil_text.specs.PatternText as pattern
-use Rattle.dft_pass_laws.specs.Passing.{set_of}
+use Rattle.dft_compile_laws.specs.Passing.{set_of}
 use Rattle.dft_scan_hardware.specs.declared.style.Style.TheVariants.{Edt}
 use Rattle.dft_scan_hardware.specs.Statements.{scanned}
 use Rattle.dft_compile_laws.specs.Holding.{CompilationsHold, without_notes}
 use Rattle.dft_compile.specs.declared.texts.Counts.{Counts}
 use Rattle.dft_compile.specs.Texts.{netlist_text, pattern_text}
-use Rattle.dft_words.specs.Words.{JobNumbers}
+use Rattle.dft_command_line.specs.Words.{JobNumbers}
 use Rattle.dft_answers.specs.declared.answer.Status.TheVariants.{Done}
 use Rattle.dft_answers.specs.declared.outcome.Outcome.{Outcome}
 use Rattle.dft_answers.specs.declared.outcome.Outcome.TheVariants as outcome

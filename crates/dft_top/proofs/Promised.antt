@@ -12,13 +12,13 @@ use Rattle.dft_replay.specs.declared.verdict.Verdict.TheVariants as verdict
 use Rattle.dft_replay.specs.Fits.{first_misfit}
 use Rattle.dft_replay.specs.Verdicts.{HasVerdict}
 use Rattle.dft_replay.proofs.Soundness.{pass_sound}
-use Rattle.dft_scan_facts.proofs.PlainShifts.{scanned_shifts, scanned_shows}
-use Rattle.dft_scan_facts.proofs.Reaching.{loads_reach, unloads_show}
+use Rattle.dft_scan_behavior.proofs.PlainShifts.{scanned_shifts, scanned_shows}
+use Rattle.dft_scan_behavior.proofs.Reaching.{loads_reach, unloads_show}
 use Rattle.dft_scan_hardware.proofs.Keeping.{adds_in_order, keeps_design}
 use Rattle.dft_scan_hardware.specs.declared.style.Style.TheVariants.{Plain, Edt}
 use Rattle.dft_scan_hardware.specs.Statements.{scanned}
 use Rattle.dft_scan_frame.specs.Statements.{IsReady}
-use Rattle.dft_scan_off.proofs.Agreed.{agrees_off}
+use Rattle.dft_scan_equivalence.proofs.Agreed.{agrees_off}
 use Rattle.dft_scan.specs.declared.error.ScanError.{ScanError}
 use Rattle.dft_scan.specs.Refusals.{refusal}
 use Rattle.dft_scan.specs.Scans.{netlist_text, report_text}
@@ -39,8 +39,8 @@ use Rattle.dft_encode.specs.Compiled.{Placing}
 use Rattle.dft_compile.specs.declared.error.CompileError.{CompileError}
 use Rattle.dft_compile.specs.Texts as compiled
 use Rattle.dft_verilog_out.proofs.JoinedTexts.{library_kept}
-use Rattle.dft_words.specs.Words.{Command, Replay, Scan, Compile, Certify, ReplayFiles, ScanFiles, CompileFiles, CertifyFiles, AreFor}
-use Rattle.dft_words.proofs.Understood.{for_once}
+use Rattle.dft_command_line.specs.Words.{Command, Replay, Scan, Compile, Certify, ReplayFiles, ScanFiles, CompileFiles, CertifyFiles, AreFor}
+use Rattle.dft_command_line.proofs.Understood.{for_once}
 use Rattle.dft_answers.specs.declared.answer.Answer.{Answer}
 use Rattle.dft_answers.specs.declared.answer.Refusal.{Refusal}
 use Rattle.dft_answers.specs.declared.answer.Status.TheVariants.{Done}

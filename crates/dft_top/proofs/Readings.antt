@@ -43,10 +43,10 @@ use Rattle.dft_stil.specs.Refusals.{IsFirstRefusal}
 use Rattle.dft_stil_text.specs.declared.limits.TheConstants.{MAX_VECTORS}
 use Rattle.dft_stitch.specs.Plans.{Plan}
 use Rattle.dft_report.specs.declared.report.Report.{Report}
-use Rattle.dft_report_in.specs.declared.error.ReadError.{ReadError}
-use Rattle.dft_report_in.specs.declared.error.ReadError.TheVariants as read
-use Rattle.dft_report_in.specs.Reading.{report_of}
-use Rattle.dft_report_in.specs.Reading as reports
+use Rattle.dft_report_reader.specs.declared.error.ReadError.{ReadError}
+use Rattle.dft_report_reader.specs.declared.error.ReadError.TheVariants as read
+use Rattle.dft_report_reader.specs.Reading.{report_of}
+use Rattle.dft_report_reader.specs.Reading as reports
 use Rattle.dft_answers.specs.declared.answer.Refusal.{Refusal}
 use Rattle.dft_answers.specs.declared.outcome.Outcome.{Outcome}
 use Rattle.dft_answers.specs.declared.outcome.Outcome.TheVariants.{Refused}

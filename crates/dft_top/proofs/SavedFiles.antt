@@ -1,20 +1,20 @@
 -- What a replay and a test of certificates make of the files that a compilation saved.
 use Rattle.std.proofs.Common.{ℕ, ◌≡◌, ◌∙◌, List, codes, ap, subst, Option, Some, Ok}
 use Rattle.dft_files.specs.Outside.{Held, file_at}
-use Rattle.dft_pass_laws.specs.Passing.{set_of}
+use Rattle.dft_compile_laws.specs.Passing.{set_of}
 use Rattle.dft_scan_hardware.specs.declared.style.Style.TheVariants.{Edt}
 use Rattle.dft_scan_hardware.specs.Statements.{scanned}
 use Rattle.dft_load_laws.specs.Loading.{rows_of}
 use Rattle.dft_report.specs.declared.report.Report.{Report}
-use Rattle.dft_report_in.specs.Reading.{report_of}
+use Rattle.dft_report_reader.specs.Reading.{report_of}
 use Rattle.dft_certify.specs.declared.error.CertifyError.{CertifyError}
 use Rattle.dft_certify.specs.Certifying.{unsolvable_in}
 use Rattle.dft_certify_laws.proofs.Compiling.{compiled_certifies}
 use Rattle.dft_compile.specs.Reports.{compile_report}
 use Rattle.dft_compile.specs.Texts as compiled
 use Rattle.dft_compile_laws.specs.Holding.{without_notes}
-use Rattle.dft_words.specs.Words.{Certify, CertifyFiles, Command, CompileFiles, Replay}
-use Rattle.dft_words.proofs.Understood.{for_once}
+use Rattle.dft_command_line.specs.Words.{Certify, CertifyFiles, Command, CompileFiles, Replay}
+use Rattle.dft_command_line.proofs.Understood.{for_once}
 use Rattle.dft_answers.specs.declared.outcome.Outcome.{Outcome}
 use Rattle.dft_answers.specs.declared.outcome.Outcome.TheVariants.{Certified}
 use Rattle.dft_top.specs.declared.limits.TheConstants.{MAX_CONFIG_BYTES, MAX_CUBE_BYTES, MAX_NETLIST_BYTES, MAX_REPORT_BYTES}

@@ -13,7 +13,7 @@ use Rattle.dft_top.specs.declared.stop.Stop.TheVariants.{Refused, ReadFault, Out
 use Rattle.dft_compile.specs.declared.prepared.Prepared.{Prepared}
 use Rattle.dft_cubes.specs.declared.cube.Cube.{Cube}
 use Rattle.dft_stitch.specs.Plans.{Plan}
-use Rattle.dft_words.specs.Words.{ReplayFiles, ScanFiles, CompileFiles, CertifyFiles}
+use Rattle.dft_command_line.specs.Words.{ReplayFiles, ScanFiles, CompileFiles, CertifyFiles}
 use Rattle.dft_top.specs.Checks.{ConfigGives, FileGives, NetlistGives, PatternsGive, Then}
 use Rattle.dft_top.specs.Courses.{Course, Reaches, Step, TurnComes}
 use Rattle.dft_top.specs.Outcomes.{IsOutcomeOn, IsOutcomeOfScanOf, course_of_certified, course_of_cubes, course_of_design, course_of_planned, course_of_report}

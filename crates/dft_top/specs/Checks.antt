@@ -29,15 +29,15 @@ use Rattle.dft_cubes.specs.Cubes as cubes
 use Rattle.dft_scan_frame.specs.Statements.{IsReady}
 use Rattle.dft_scan_hardware.specs.declared.style.Style.TheVariants.{Edt}
 use Rattle.dft_scan_hardware.specs.Statements.{scanned}
-use Rattle.dft_pass_laws.specs.Formed.{ArePortsNamed}
+use Rattle.dft_compile_laws.specs.Formed.{ArePortsNamed}
 use Rattle.dft_rules.specs.Refusals as rules
 use Rattle.dft_stitch.specs.Chains.{plan_of}
 use Rattle.dft_stitch.specs.Limits as stitch
 use Rattle.dft_stitch.specs.Plans.{Plan}
 use Rattle.dft_report.specs.declared.report.Report.{Report}
-use Rattle.dft_report_in.specs.declared.error.ReadError.{ReadError}
-use Rattle.dft_report_in.specs.Reading.{report_of}
-use Rattle.dft_report_in.specs.Reading as reports
+use Rattle.dft_report_reader.specs.declared.error.ReadError.{ReadError}
+use Rattle.dft_report_reader.specs.Reading.{report_of}
+use Rattle.dft_report_reader.specs.Reading as reports
 use Rattle.dft_compile.specs.declared.error.CompileError.{CompileError}
 use Rattle.dft_compile.specs.declared.error.CompileError.TheVariants.{Rules, Stitch}
 use Rattle.dft_compile.specs.declared.prepared.Prepared.{Prepared}

@@ -1,6 +1,3 @@
-pub use Rattle.dft_answers.specs.Refusals
-pub use Rattle.dft_answers.specs.Lines
-pub use Rattle.dft_answers.specs.Answers
 pub mod Checks
 pub mod Courses
 pub mod Outcomes

@@ -24,7 +24,7 @@ use Rattle.dft_compile.specs.declared.error.CompileError.{CompileError}
 use Rattle.dft_compile.specs.Refusals.{late_refusal}
 use Rattle.dft_compile.specs.Texts as compiled
 use Rattle.dft_compile.specs.Reports.{compile_report}
-use Rattle.dft_report_in.specs.Reading.{report_of}
+use Rattle.dft_report_reader.specs.Reading.{report_of}
 use Rattle.dft_compile.specs.declared.texts.Counts.{Counts}
 use Rattle.dft_equations.specs.LoadRows.{LoadRows}
 use Rattle.dft_load_laws.specs.Loading.{AreRows, rows_of}
@@ -36,7 +36,7 @@ use Rattle.dft_generate.specs.Words.{words_of}
 use Rattle.dft_generate.specs.Netlists.{netlist_text as job_netlist}
 use Rattle.dft_generate.specs.Configurations.{configuration_text as job_configuration}
 use Rattle.dft_generate.specs.Cubes.{cubes_text as job_cubes}
-use Rattle.dft_words.specs.Words.{Command, Replay, Scan, Compile, Certify, Generate, ReplayFiles, ScanFiles, CompileFiles, CertifyFiles, JobNumbers, AreFor}
+use Rattle.dft_command_line.specs.Words.{Command, Replay, Scan, Compile, Certify, Generate, ReplayFiles, ScanFiles, CompileFiles, CertifyFiles, JobNumbers, AreFor}
 use Rattle.dft_answers.specs.declared.answer.Code.TheVariants.{P7}
 use Rattle.dft_answers.specs.declared.answer.Refusal.{Refusal}
 use Rattle.dft_answers.specs.declared.outcome.Outcome.{Outcome}

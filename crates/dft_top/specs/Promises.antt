@@ -13,14 +13,14 @@ use Rattle.dft_replay.specs.Fits.{first_misfit}
 use Rattle.dft_replay.specs.Rows.{rows_of}
 use Rattle.dft_replay.specs.Verdicts.{HasVerdict}
 use Rattle.dft_replay.specs.Laws.{IsRunOf, AllShow}
-use Rattle.dft_scan_facts.specs.PlainLaws.{ChainsShift, ChainsShow}
+use Rattle.dft_scan_behavior.specs.PlainLaws.{ChainsShift, ChainsShow}
 use Rattle.dft_scan_frame.specs.Statements.{IsReady}
 use Rattle.dft_scan_hardware.specs.declared.style.Style.TheVariants.{Plain, Edt}
 use Rattle.dft_scan_hardware.specs.Statements.{IsAdded, IsKept, scanned}
-use Rattle.dft_scan_off.specs.Agreeing.{IsSameWhileOff}
+use Rattle.dft_scan_equivalence.specs.Agreeing.{IsSameWhileOff}
 use Rattle.dft_scan.specs.Scans.{netlist_text, report_text}
-use Rattle.dft_scan_facts.specs.EdtVectors.{SuitsEdt}
-use Rattle.dft_scan_facts.specs.Experiments.{LoadsInRuns, UnloadsInRuns}
+use Rattle.dft_scan_behavior.specs.EdtVectors.{SuitsEdt}
+use Rattle.dft_scan_behavior.specs.Experiments.{LoadsInRuns, UnloadsInRuns}
 use Rattle.dft_stitch.specs.Chains.{plan_of}
 use Rattle.dft_cubes.specs.declared.cube.Cube.{Cube}
 use Rattle.dft_vectors.specs.PatternData.{PatternData}
@@ -28,8 +28,8 @@ use Rattle.dft_encode.specs.Compiled.{ArePatterns, Placing}
 use Rattle.dft_compile.specs.Texts as compiled
 use Rattle.dft_compile.specs.Reports.{compile_report}
 use Rattle.dft_compile_laws.specs.Holding.{HoldsOf, without_notes}
-use Rattle.dft_pass_laws.specs.Passing.{set_of}
-use Rattle.dft_report_in.specs.Reading.{report_of}
+use Rattle.dft_compile_laws.specs.Passing.{set_of}
+use Rattle.dft_report_reader.specs.Reading.{report_of}
 use Rattle.dft_stil_text.specs.PatternText as pattern
 use Rattle.dft_config.specs.Ring.{Table}
 use Rattle.dft_equations.specs.LoadRows.{LoadRows}
@@ -40,7 +40,7 @@ use Rattle.dft_report.specs.declared.report.Report.{Report}
 use Rattle.dft_report.specs.declared.report.SumLine.{SumLine}
 use Rattle.dft_certify.specs.Certifying.{cube_named}
 use Rattle.dft_certify.specs.Laws.{AllCertified}
-use Rattle.dft_words.specs.Words.{ReplayFiles, ScanFiles, CompileFiles, CertifyFiles}
+use Rattle.dft_command_line.specs.Words.{ReplayFiles, ScanFiles, CompileFiles, CertifyFiles}
 use Rattle.dft_top.specs.Checks.{LibraryGives, ConfigGives, NetlistGives, PatternsGive, CubesGive, PlanGives, ReportGives}
 
 -- every run of the netlist over the patterns shows each compared bit as printed

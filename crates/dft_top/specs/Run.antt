@@ -7,7 +7,7 @@ use Rattle.dft_answers.specs.declared.answer.Status.TheVariants.{Done, NotPassed
 use Rattle.dft_answers.specs.declared.answer.Answer.{Answer}
 use Rattle.dft_answers.specs.declared.outcome.Outcome.{Outcome}
 use Rattle.dft_answers.specs.declared.outcome.Outcome.TheVariants as outcome
-use Rattle.dft_words.specs.Words.{Command, Replay, Scan, Compile, Certify, Generate, ReplayFiles, ScanFiles, CompileFiles, CertifyFiles, AreFor, IsFor, IsReplay, IsScan, IsCompile, IsCertify}
+use Rattle.dft_command_line.specs.Words.{Command, Replay, Scan, Compile, Certify, Generate, ReplayFiles, ScanFiles, CompileFiles, CertifyFiles, AreFor, IsFor, IsReplay, IsScan, IsCompile, IsCertify}
 use Rattle.dft_answers.specs.Answers.{answer_of, stopped}
 use Rattle.dft_answers.specs.Lines.{line_of}
 use Rattle.dft_top.specs.Courses.{IsPassing}

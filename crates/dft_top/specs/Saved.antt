@@ -3,11 +3,11 @@ use Rattle.std.specs.Prelude.{ℕ, ◌≡◌, List, length, Ok}
 use Rattle.dft_files.specs.Outside.{Held}
 use Rattle.dft_stitch.specs.Chains.{plan_of}
 use Rattle.dft_load_laws.specs.Loading.{rows_of}
-use Rattle.dft_pass_laws.specs.Passing.{set_of}
-use Rattle.dft_pass_laws.specs.Written.{all_compared}
+use Rattle.dft_compile_laws.specs.Passing.{set_of}
+use Rattle.dft_compile_laws.specs.Written.{all_compared}
 use Rattle.dft_compile.specs.Reports.{compile_report}
 use Rattle.dft_certify.specs.Certifying.{unsolvable_in}
-use Rattle.dft_words.specs.Words.{CompileFiles, ReplayFiles, CertifyFiles, IsReplay, IsCertify}
+use Rattle.dft_command_line.specs.Words.{CompileFiles, ReplayFiles, CertifyFiles, IsReplay, IsCertify}
 use Rattle.dft_answers.specs.declared.answer.Refusal.{Refusal}
 use Rattle.dft_answers.specs.declared.outcome.Outcome.{Outcome}
 use Rattle.dft_answers.specs.declared.outcome.Outcome.TheVariants.{Certified, Passed, Refused}

@@ -3,7 +3,7 @@ use Rattle.std.specs.Prelude.{ℕ, ◌≡◌, false, List, [], ◌∷◌, ◌++�
 use Rattle.std.specs.List.{AllByRecursion}
 use Rattle.std.specs.Str.{bytes_eq}
 use Rattle.dft_files.specs.Outside.{Held, LeavesPart, Rose, ToldChange, file_at}
-use Rattle.dft_words.specs.Words.{Command, Replay, Scan, Compile, Certify, Generate, ScanFiles, CompileFiles, OutputsDiffer}
+use Rattle.dft_command_line.specs.Words.{Command, Replay, Scan, Compile, Certify, Generate, ScanFiles, CompileFiles, OutputsDiffer}
 use Rattle.dft_answers.specs.declared.outcome.Outcome.{Outcome}
 use Rattle.dft_answers.specs.declared.outcome.Outcome.TheVariants.{Usage, Refused, Passed, Mismatch, Undetermined, Scanned, Compiled, Certified, Generated}
 

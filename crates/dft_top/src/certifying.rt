@@ -10,8 +10,8 @@ ghost use Rattle.dft_stitch.specs.Limits as stitch;
 ghost use Rattle.dft_equations.specs.LoadRows.{AreLoadEquations};
 ghost use Rattle.dft_scan_frame.specs.Statements.{IsReady};
 ghost use Rattle.dft_compile.specs.Refusals.{IsRefusal};
-ghost use Rattle.dft_words.specs.Named.{certify_files_of};
-ghost use Rattle.dft_words.specs.Words as words;
+ghost use Rattle.dft_command_line.specs.Named.{certify_files_of};
+ghost use Rattle.dft_command_line.specs.Words as words;
 ghost use Rattle.dft_top.specs.Checks.{PlanGives, plan_refusal};
 ghost use Rattle.dft_top.specs.Courses.{Loads, Reaches, TurnComes};
 ghost use Rattle.dft_top.specs.Outcomes.{HasTurn, IsLoaded, IsOutcomeOfReport, course_of_certified, course_of_certify, course_of_planned, course_of_report};
@@ -22,19 +22,19 @@ use crate::loading::{load_config, load_cubes, load_library, load_netlist, load_r
 use crate::stop::Stop;
 use dft_answers::{Outcome, certify_refusal, compile_refusal};
 use dft_certify::certify;
+use dft_command_line::CertifyFiles;
 use dft_compile::CompileError;
 use dft_config::Config;
+use dft_cube_reports::CellSums;
 use dft_cubes::Cube;
 use dft_encode::lengths_of;
 use dft_equations::{Equations, equations};
 use dft_files::Files;
 use dft_merge::plans_stand_apart;
 use dft_netlist::Design;
-use dft_outcomes::CellSums;
 use dft_report::Report;
 use dft_rules::judge;
 use dft_stitch::{Chains, plan};
-use dft_words::CertifyFiles;
 use std::alloc::{AllocError, Global};
 
 /// What a test of the certificates of the named files comes to: the library comes first, where one is named, then the configuration,

@@ -2,7 +2,7 @@
 
 ghost use Rattle.std.specs.Prelude.{◌≡◌, Some, Err, map, option_map, string_bytes};
 ghost use Rattle.dft_files.specs.Outside.{Rose, Told};
-ghost use Rattle.dft_words.specs.Named.{command_of};
+ghost use Rattle.dft_command_line.specs.Named.{command_of};
 ghost use Rattle.dft_answers.specs.Lines.{line_of};
 ghost use Rattle.dft_top.specs.Outcomes.{HasTurn, IsLoaded, IsSized};
 ghost use Rattle.dft_top.specs.Run.{Ends, EndsFor, IsDelivered, CertifiesTold, CompilesTold, CompletesTold, IsOutcomeTold, KeepsFiles, PassesTold, Prints, ScansTold, seen};
@@ -19,9 +19,9 @@ use crate::stop::Stop;
 use dft_answers::{Answer, Outcome, Status, line};
 use dft_certify::reports_are_certified;
 use dft_certify_laws::certified_in_runs;
+use dft_command_line::{Command, command};
 use dft_compile_laws::compilations_hold;
 use dft_files::{Files, PutError, SaveError, Sink};
-use dft_words::{Command, command};
 use std::alloc::Global;
 
 /// Runs a command. `replay --netlist FILE --patterns FILE` replays the patterns on the netlist. `scan --netlist FILE

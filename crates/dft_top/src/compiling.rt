@@ -5,8 +5,8 @@ ghost use Rattle.dft_files.specs.Outside.{Rose, Told};
 ghost use Rattle.dft_config.specs.Range.{IsInRange};
 ghost use Rattle.dft_compile.specs.Prepared.{IsPrepared};
 ghost use Rattle.dft_verilog_out.specs.Named.{GatesAreJoined};
-ghost use Rattle.dft_words.specs.Named.{compile_files_of};
-ghost use Rattle.dft_words.specs.Words as words;
+ghost use Rattle.dft_command_line.specs.Named.{compile_files_of};
+ghost use Rattle.dft_command_line.specs.Words as words;
 ghost use Rattle.dft_top.specs.Checks.{AreFew, DesignGives};
 ghost use Rattle.dft_top.specs.Courses.{Loads, Reaches, TurnComes};
 ghost use Rattle.dft_top.specs.Outcomes.{HasTurn, IsLoaded, course_of_compile, course_of_cubes, course_of_design, IsOutcomeOfCubes};
@@ -16,12 +16,12 @@ ghost use Rattle.dft_top.specs.Stops.{ComesTo, IsGiven};
 use crate::loading::{load_config, load_cubes, load_library, load_netlist};
 use crate::stop::Stop;
 use dft_answers::{Outcome, compile_refusal};
+use dft_command_line::CompileFiles;
 use dft_compile::{CompileTexts, Prepared, compile, prepare};
 use dft_config::{Config, Listed};
 use dft_cubes::Cube;
 use dft_files::Files;
 use dft_netlist::Design;
-use dft_words::CompileFiles;
 use std::alloc::Global;
 
 /// What a compilation of the named files comes to: the library comes first, where one is named, then the configuration, then the

@@ -5,7 +5,7 @@ ghost use Rattle.dft_config.specs.Range.{IsInRange};
 ghost use Rattle.dft_compile.specs.Prepared.{IsPrepared};
 ghost use Rattle.dft_generate.specs.Jobs.{IsSize};
 ghost use Rattle.dft_verilog_out.specs.Named.{GatesAreJoined};
-ghost use Rattle.dft_words.specs.Named.{numbers_of};
+ghost use Rattle.dft_command_line.specs.Named.{numbers_of};
 ghost use Rattle.dft_top.specs.Courses.{Reaches};
 ghost use Rattle.dft_top.specs.Outcomes as spec;
 ghost use Rattle.dft_top.specs.Outcomes.{IsOutcomeOfJob, IsReplayedOf, course_of_compile, course_of_cubes, course_of_design, course_of_replay, job_files, job_held, made_files, made_held, texts_held};
@@ -18,11 +18,11 @@ use crate::replaying::outcome_on;
 use crate::stop::Stop;
 use dft_answers::{Outcome, Replayed};
 use dft_cells::Library;
+use dft_command_line::JobNumbers;
 use dft_compile::{Counts, Prepared};
 use dft_config::Config;
 use dft_generate::generate;
 use dft_netlist::Design;
-use dft_words::JobNumbers;
 use std::alloc::Global;
 
 /// What the generated job of a seed and a size comes to: its texts go through the readers as if they were loaded, the cubes are compiled,

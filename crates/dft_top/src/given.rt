@@ -17,7 +17,7 @@ use dft_cells::Library;
 use dft_config::{Config, Listed};
 use dft_cubes::Cube;
 use dft_netlist::Design;
-use dft_stil::PatternSet;
+use dft_patterns::PatternSet;
 use std::alloc::Global;
 
 /// The configuration of a text.

@@ -16,7 +16,7 @@ mod scanning;
 mod stop;
 
 pub use command::run;
-pub use dft_answers::{Answer, Code, Outcome, Refusal, Replayed, Status};
+pub use dft_answers::Status;
 pub use laws::{outcome_is_one, passing_files_are_answered, saved_files_are_good};
 pub use limits::{
     MAX_CONFIG_BYTES, MAX_CUBE_BYTES, MAX_LIBRARY_BYTES, MAX_NETLIST_BYTES, MAX_PATTERN_BYTES,

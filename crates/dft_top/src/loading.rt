@@ -22,8 +22,8 @@ use dft_config::{Config, Listed};
 use dft_cubes::Cube;
 use dft_files::{Files, LoadError};
 use dft_netlist::Design;
+use dft_patterns::PatternSet;
 use dft_report::Report;
-use dft_stil::PatternSet;
 use std::alloc::{AllocError, Global};
 
 /// The library with this name, or the standard one where there is no name.

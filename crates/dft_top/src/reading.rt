@@ -17,8 +17,8 @@ use dft_cells::Library;
 use dft_config::{Config, Listed};
 use dft_cubes::Cube;
 use dft_netlist::Design;
+use dft_patterns::PatternSet;
 use dft_report::Report;
-use dft_stil::PatternSet;
 use dft_verilog::VerilogError;
 use std::alloc::Global;
 
@@ -104,7 +104,7 @@ pub fn report_in(alloc: Global, text: &[u8]) -> Result<Report, Stop>
     requires { length text.now ≤ MAX_REPORT_BYTES }
     ensures { IsGiven (ReportText text.now) result }
 {
-    match dft_report_in::read(alloc, text) {
+    match dft_report_reader::read(alloc, text) {
         Ok(report) => Ok(report),
         Err(error) => Err(Stop::Refused(read_refusal(error)?)),
     }

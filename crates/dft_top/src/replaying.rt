@@ -5,8 +5,8 @@ ghost use Rattle.dft_files.specs.Outside.{Rose, Told};
 ghost use Rattle.dft_replay.specs.Fits.{first_misfit};
 ghost use Rattle.dft_replay.specs.Verdicts.{IsPlaced};
 ghost use Rattle.dft_patterns.specs.Patterns.{IsWellFormed};
-ghost use Rattle.dft_words.specs.Named.{replay_files_of};
-ghost use Rattle.dft_words.specs.Words as words;
+ghost use Rattle.dft_command_line.specs.Named.{replay_files_of};
+ghost use Rattle.dft_command_line.specs.Words as words;
 ghost use Rattle.dft_top.specs.Outcomes as spec;
 ghost use Rattle.dft_top.specs.Courses.{Reaches};
 ghost use Rattle.dft_top.specs.Outcomes.{HasTurn, IsLoaded, course_of_replay, IsOutcomeOn};
@@ -17,11 +17,11 @@ use crate::loading::{load_library, load_netlist, load_patterns};
 use crate::stop::Stop;
 use dft_answers::{Code, Outcome, Refusal};
 use dft_base::Name;
+use dft_command_line::ReplayFiles;
 use dft_files::Files;
 use dft_netlist::Design;
+use dft_patterns::{PatternSet, StilSignal};
 use dft_replay::{ReplayError, Verdict, replay};
-use dft_stil::{PatternSet, StilSignal};
-use dft_words::ReplayFiles;
 use std::alloc::{AllocError, Global};
 
 /// What a replay of the named files comes to: the library comes first, where one is named, then the netlist, then the

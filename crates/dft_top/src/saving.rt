@@ -2,13 +2,13 @@
 
 ghost use Rattle.std.specs.Prelude.{◌≡◌, ◌≢◌, ◌≤◌, Err, OnErr, OnOk, Some, map, option_map};
 ghost use Rattle.dft_files.specs.Outside.{KeepsOthers, LeavesPart, Rose, Told, ToldChange, file_at};
-ghost use Rattle.dft_words.specs.Named.{command_of};
+ghost use Rattle.dft_command_line.specs.Named.{command_of};
 ghost use Rattle.dft_top.specs.Saves.{AreApart, CountsSaves, HaveSaved, HaveSavedSome, SaveFailed, SavesApart, savings};
 ghost use Rattle.dft_top.specs.Named.{saving_of};
 
 use dft_answers::Outcome;
+use dft_command_line::Command;
 use dft_files::{Files, SaveError};
-use dft_words::Command;
 use std::alloc::Global;
 
 /// A file that is to be saved.

@@ -5,8 +5,8 @@ ghost use Rattle.dft_files.specs.Outside.{Rose, Told};
 ghost use Rattle.dft_config.specs.Range.{IsInRange};
 ghost use Rattle.dft_scan.specs.Refusals.{refusal};
 ghost use Rattle.dft_verilog_out.specs.Named.{GatesAreJoined};
-ghost use Rattle.dft_words.specs.Named.{scan_files_of};
-ghost use Rattle.dft_words.specs.Words as words;
+ghost use Rattle.dft_command_line.specs.Named.{scan_files_of};
+ghost use Rattle.dft_command_line.specs.Words as words;
 ghost use Rattle.dft_top.specs.Courses.{Reaches};
 ghost use Rattle.dft_top.specs.Outcomes.{HasTurn, IsLoaded, course_of_scan, IsOutcomeOfScanOf};
 ghost use Rattle.dft_top.specs.Run.{IsOfScan};
@@ -15,11 +15,11 @@ ghost use Rattle.dft_top.specs.Stops.{ComesTo};
 use crate::loading::{load_config, load_library, load_netlist};
 use crate::stop::Stop;
 use dft_answers::{Outcome, scan_refusal};
+use dft_command_line::ScanFiles;
 use dft_config::{Config, Listed};
 use dft_files::Files;
 use dft_netlist::Design;
 use dft_scan::{ScanTexts, scan};
-use dft_words::ScanFiles;
 use std::alloc::Global;
 
 /// What a scan of the named files comes to: the library comes first, where one is named, then the configuration, then

@@ -2,7 +2,7 @@
 use Rattle.std.specs.Prelude.{ℕ, ◌+◌, ◌&&◌, Bool, List, map, nat_lt}
 use Rattle.std.specs.List.{range_with_len}
 use Rattle.dft_config.specs.declared.config.Config.{Config}
-use Rattle.dft_edt.specs.Hardware.{segment_start, segment_length}
+use Rattle.dft_config.specs.Segments.{segment_start, segment_length}
 use Rattle.dft_vectors.specs.declared.added.Segment.{Segment}
 
 -- a mask segment: its first chain, and how many chains it has

@@ -7,7 +7,7 @@ use Rattle.dft_netlist.specs.Netlist.{Netlist}
 use Rattle.dft_config.specs.declared.config.Config.{Config}
 use Rattle.dft_config.specs.Ring.{Table}
 use Rattle.dft_stitch.specs.Plans.{Plan}
-use Rattle.dft_edt.specs.Unloads.{sent_mask}
+use Rattle.dft_config.specs.Segments.{sent_mask}
 use Rattle.dft_expect.specs.Captures.{capture_vector}
 use Rattle.dft_expect.specs.Expected.{output_bit}
 use Rattle.dft_base.specs.declared.tri.Tri.{Tri}

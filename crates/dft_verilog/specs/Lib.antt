@@ -1,4 +1,3 @@
-pub use Rattle.dft_netlist_text.specs.NetlistText
 pub mod Built
 pub mod Declarations
 pub mod PortDeclarations

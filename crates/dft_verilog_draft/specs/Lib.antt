@@ -1,4 +1,3 @@
-pub use Rattle.dft_netlist_text.specs.Modules
 pub mod TakenNames
 pub mod TakenNamesShown
 pub mod HeaderPortShown

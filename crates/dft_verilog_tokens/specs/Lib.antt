@@ -1,4 +1,3 @@
-pub use Rattle.dft_netlist_text.specs.Lexemes
 pub mod Classes
 pub mod Cut
 pub mod Reading

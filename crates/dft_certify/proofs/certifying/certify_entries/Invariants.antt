@@ -1,6 +1,6 @@
 -- The entries that are left give what all give.
 use Rattle.std.proofs.Common.{◌≡◌, drop}
-use Rattle.dft_outcomes.specs.Sums.{columns_in, rows_in}
+use Rattle.dft_cube_reports.specs.Sums.{columns_in, rows_in}
 use Rattle.dft_certify.specs.Certifying.{entries_refusal}
 use Rattle.dft_certify.proofs.certifying.certify_entries.Given as goal
 

@@ -1,6 +1,6 @@
 -- The row of a line.
 use Rattle.std.proofs.Common.{List, ℕ, ap, sym, ◌∙◌, option_and_then}
-use Rattle.dft_outcomes.specs.Sums.{columns_in, rows_in}
+use Rattle.dft_cube_reports.specs.Sums.{columns_in, rows_in}
 use Rattle.dft_certify.specs.Certifying.{scanned_named}
 use Rattle.dft_certify.proofs.ParityLemmas.{row_added}
 use Rattle.dft_certify.proofs.parity.add_line.Goals as goal

@@ -2,7 +2,7 @@
 use Rattle.std.proofs.Common.{ℕ, Bool, ◌+◌, ◌/◌, drop, replicate, refl, ap, ◌∙◌}
 use Rattle.std.proofs.lemmas.List.{drop_all}
 use Rattle.dft_base.specs.Solutions.{xor}
-use Rattle.dft_outcomes.specs.Sums.{columns_in, rows_in}
+use Rattle.dft_cube_reports.specs.Sums.{columns_in, rows_in}
 use Rattle.dft_certify.specs.Certifying.{has_column, odd_in}
 use Rattle.dft_certify.proofs.ParityLemmas.{even_uncertified, odd_certified, zeros_at, zeros_packed}
 use Rattle.dft_certify.proofs.parity.is_certificate.Goals as goal

@@ -3,7 +3,7 @@ use Rattle.std.proofs.Common.{ℕ, ◌≡◌, drop}
 use Rattle.dft_base.specs.Packed.{packed_bit}
 use Rattle.dft_base.specs.Solutions.{xor}
 use Rattle.dft_lanes.specs.Rows.{IsPacked}
-use Rattle.dft_outcomes.specs.Sums.{columns_in, rows_in}
+use Rattle.dft_cube_reports.specs.Sums.{columns_in, rows_in}
 use Rattle.dft_certify.specs.Certifying.{has_column, odd_in}
 use Rattle.dft_certify.proofs.parity.is_certificate.Given as goal
 

@@ -1,6 +1,6 @@
 -- The lines that are left give what all give.
 use Rattle.std.proofs.Common.{◌≡◌, [], drop}
-use Rattle.dft_outcomes.specs.Sums.{rows_in}
+use Rattle.dft_cube_reports.specs.Sums.{rows_in}
 use Rattle.dft_certify.specs.Certifying.{sums_refusal}
 use Rattle.dft_certify.proofs.sums.take_sums.Given as goal
 

@@ -2,7 +2,7 @@ use Rattle.std.proofs.Common.{◌≡◌, ◌++◌, ◌<◌, ℕ, List, Ok, lengt
 use Rattle.std.proofs.lemmas.Result.{err_from_is_err_and}
 use Rattle.dft_netlist.specs.declared.ids.NetId.{NetId}
 use Rattle.dft_parts.specs.Recipes.{net_at, outcome, IsRefusal}
-use Rattle.dft_edt.specs.Hardware.{segment_start}
+use Rattle.dft_config.specs.Segments.{segment_start}
 use Rattle.dft_edt.proofs.Steps.{all_segments}
 use Rattle.dft_compact.specs.CompactorRecipe.{a_segment}
 use Rattle.dft_compact.proofs.Masking.{ports_on, cut_starts, cut_goes, cut_stops, cut_ends}

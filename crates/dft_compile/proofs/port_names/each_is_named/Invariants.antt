@@ -1,7 +1,7 @@
 use Rattle.std.proofs.Common.{◌≡◌, ℕ, ◌<◌, Some, slice_get}
 use Rattle.dft_base.specs.Name.{IsName}
 use Rattle.dft_netlist.specs.declared.port.Port.{Port}
-use Rattle.dft_pass_laws.specs.Formed.{IsShortRange}
+use Rattle.dft_compile_laws.specs.Formed.{IsShortRange}
 use Rattle.dft_compile.proofs.port_names.each_is_named.Given as goal
 
 abbrev pub invariant-loop-port : goal.invariant-loop-port

@@ -1,7 +1,7 @@
 use Rattle.std.proofs.Common.{◌≡◌, ℕ, List, Some, slice_get, subst}
 use Rattle.dft_base.specs.Name.{IsName}
 use Rattle.dft_netlist.specs.declared.port.Port.{Port}
-use Rattle.dft_pass_laws.specs.Formed.{IsShortRange}
+use Rattle.dft_compile_laws.specs.Formed.{IsShortRange}
 use Rattle.dft_compile.proofs.port_names.ports_are_named.Goals as goal
 
 pub returns : goal.returns

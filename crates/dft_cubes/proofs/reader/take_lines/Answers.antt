@@ -1,7 +1,7 @@
 use Rattle.std.proofs.Common.{◌+◌, ◌-◌, List, map, take, drop, arith, rules}
 use Rattle.std.proofs.lemmas.Result.{err_from_is_err_and}
 use Rattle.dft_base.specs.Lexing.{Text}
-use Rattle.dft_lines.specs.Lines.{cut}
+use Rattle.dft_word_lines.specs.Lines.{cut}
 use Rattle.dft_cubes.specs.Taking.{reading_of}
 use Rattle.dft_cubes.proofs.TextLemmas.{text_ends, text_fails, text_passes}
 use Rattle.dft_cubes.proofs.reader.take_lines.Goals as goal

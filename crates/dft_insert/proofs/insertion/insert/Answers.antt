@@ -3,7 +3,7 @@ use Rattle.dft_netlist.specs.Netlist.{Netlist}
 use Rattle.dft_config.specs.declared.config.Config.{Config}
 use Rattle.dft_scan_frame.specs.Statements.{CanFinish}
 use Rattle.dft_scan_hardware.specs.Scanned.{scanned_netlist}
-use Rattle.dft_scan_laws.proofs.Finished.{can_be_finished}
+use Rattle.dft_scan_equivalence.proofs.Finished.{can_be_finished}
 use Rattle.dft_insert.proofs.insertion.insert.Goals as goal
 
 pub finish-requires : goal.finish-requires

@@ -1,7 +1,7 @@
 use Rattle.std.proofs.Common.{◌≡◌, ◌∙◌, inl, inr, Err, List, Option, Some, refl, rules, subst}
 use Rattle.dft_files.specs.Outside.{Held, Told}
 use Rattle.dft_top.specs.declared.stop.Stop.TheVariants.{ReadFault}
-use Rattle.dft_words.specs.Named.{compile_files_of}
+use Rattle.dft_command_line.specs.Named.{compile_files_of}
 use Rattle.dft_top.specs.Checks.{ConfigGives, LibraryGives, NetlistGives}
 use Rattle.dft_cells.specs.declared.cell.Cell.{Cell}
 use Rattle.dft_config.specs.declared.config.Config.{Config}

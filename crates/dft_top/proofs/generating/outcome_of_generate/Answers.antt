@@ -1,5 +1,5 @@
 use Rattle.std.proofs.Common.{◌≡◌, Err, rules, subst, sym}
-use Rattle.dft_words.specs.Named.{numbers_of}
+use Rattle.dft_command_line.specs.Named.{numbers_of}
 use Rattle.dft_top.specs.Outcomes.{IsOutcomeOfJob}
 use Rattle.dft_top.specs.Stops.{ComesTo}
 use Rattle.dft_top.proofs.JobLemmas.{job_stops, job_then}

@@ -1,5 +1,5 @@
 use Rattle.std.proofs.Common.{◌≡◌, ◌∙◌, Err, refl, rules}
-use Rattle.dft_words.specs.Named.{replay_files_of}
+use Rattle.dft_command_line.specs.Named.{replay_files_of}
 use Rattle.dft_replay.specs.Fits.{first_misfit}
 use Rattle.dft_top.specs.Checks.{LibraryGives, NetlistGives, PatternsGive}
 use Rattle.dft_top.specs.Outcomes.{IsOutcomeOn}

@@ -1,6 +1,6 @@
 use Rattle.std.proofs.Common.{◌≡◌, ◌∙◌, inl, inr, Err, refl, rules}
 use Rattle.dft_top.specs.declared.stop.Stop.TheVariants.{ReadFault}
-use Rattle.dft_words.specs.Named.{scan_files_of}
+use Rattle.dft_command_line.specs.Named.{scan_files_of}
 use Rattle.dft_scan.specs.Refusals.{refusal}
 use Rattle.dft_top.specs.Checks.{ConfigGives, LibraryGives, NetlistGives}
 use Rattle.dft_top.specs.Outcomes.{IsOutcomeOfScanOf}

@@ -1,6 +1,6 @@
 -- One segment more.
 use Rattle.std.proofs.Common.{◌≡◌, ◌+◌, ◌∙◌, suc, ap, ap₂, arith, []}
-use Rattle.dft_edt.specs.Hardware.{segment_start}
+use Rattle.dft_config.specs.Segments.{segment_start}
 use Rattle.dft_vectors.specs.Segments.{segment_of}
 use Rattle.dft_vectors.proofs.ListLemmas.{grown}
 use Rattle.dft_vectors.proofs.added.segments.Goals as goal

@@ -1,7 +1,7 @@
 -- The segments so far, and the first chain of the next.
 use Rattle.std.proofs.Common.{◌≡◌, ◌*◌, ◌≤◌, map}
 use Rattle.std.specs.List.{range_with_len}
-use Rattle.dft_edt.specs.Hardware.{segment_start}
+use Rattle.dft_config.specs.Segments.{segment_start}
 use Rattle.dft_vectors.specs.Segments.{segment_of}
 use Rattle.dft_vectors.proofs.added.segments.Given as goal
 

@@ -1,0 +1,13 @@
+use Rattle.std.proofs.Common.{◌≡◌, ◌++◌, ◌∷◌, ◌∙◌, List, [], ap, get_or, length, sym}
+use Rattle.std.proofs.lemmas.List.{map_more}
+use Rattle.std.proofs.lemmas.Option.{get_or_from_slice_get, slice_get_within}
+use Rattle.dft_netlist.specs.declared.ids.InstanceId.{InstanceId}
+use Rattle.dft_bench.proofs.placements_pace.lengths_of.Goals as goal
+
+pub loop-chain-preserved : goal.loop-chain-preserved
+loop-chain-preserved c =
+    let chains : List (List InstanceId) = c.args.chains.now.chains in
+    let cells : List InstanceId = c.chain-cells.result.now in
+    let same : length cells ≡ length (get_or chains c.loop-chain.chain cells) = ap length (sym (get_or_from_slice_get chains c.loop-chain.chain cells cells c.chain-cells.ensures)) in
+    c.in_ok-push.ensures.items ∙ (λ i. c.loop-chain.invariant i ++ same i ∷ [])
+    ∙ sym (map_more (length {A = InstanceId}) chains c.loop-chain.chain cells (slice_get_within chains c.loop-chain.chain cells c.chain-cells.ensures))

@@ -1,2 +1,0 @@
-mod Inputs
-mod Standing

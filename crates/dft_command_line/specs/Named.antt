@@ -1,0 +1,52 @@
+-- The commands that words are, as the code has them.
+use Rattle.std.specs.Prelude.{option_map}
+use Rattle.dft_command_line.specs.declared.commands.Command.{Command}
+use Rattle.dft_command_line.specs.declared.commands.Command.TheVariants as command
+use Rattle.dft_command_line.specs.declared.commands.ReplayFiles.{ReplayFiles}
+use Rattle.dft_command_line.specs.declared.commands.ScanFiles.{ScanFiles}
+use Rattle.dft_command_line.specs.declared.commands.CompileFiles.{CompileFiles}
+use Rattle.dft_command_line.specs.declared.commands.CertifyFiles.{CertifyFiles}
+use Rattle.dft_command_line.specs.declared.commands.JobNumbers.{JobNumbers}
+use Rattle.dft_command_line.specs.Words as words
+
+abbrev pub replay_files_of : ReplayFiles → words.ReplayFiles
+replay_files_of files = record { library = option_map (λ name. name.now) files.library; netlist = files.netlist.now; patterns = files.patterns.now }
+
+abbrev pub scan_files_of : ScanFiles → words.ScanFiles
+scan_files_of files = record {
+  library = option_map (λ name. name.now) files.library;
+  netlist = files.netlist.now;
+  config = files.config.now;
+  out = files.out.now;
+  report = files.report.now;
+}
+
+abbrev pub compile_files_of : CompileFiles → words.CompileFiles
+compile_files_of files = record {
+  library = option_map (λ name. name.now) files.library;
+  netlist = files.netlist.now;
+  config = files.config.now;
+  cubes = files.cubes.now;
+  out_netlist = files.out_netlist.now;
+  out_patterns = files.out_patterns.now;
+  out_report = files.out_report.now;
+}
+
+abbrev pub certify_files_of : CertifyFiles → words.CertifyFiles
+certify_files_of files = record {
+  library = option_map (λ name. name.now) files.library;
+  netlist = files.netlist.now;
+  config = files.config.now;
+  cubes = files.cubes.now;
+  report = files.report.now;
+}
+
+abbrev pub numbers_of : JobNumbers → words.JobNumbers
+numbers_of job = record { seed = job.seed; size = job.size }
+
+abbrev pub command_of : Command → words.Command
+command_of (command.Replay files) = words.Replay (replay_files_of files)
+command_of (command.Scan files) = words.Scan (scan_files_of files)
+command_of (command.Compile files) = words.Compile (compile_files_of files)
+command_of (command.Certify files) = words.Certify (certify_files_of files)
+command_of (command.Generate job) = words.Generate (numbers_of job)

@@ -1,0 +1,125 @@
+-- All compared bits of listed vectors agree with their rounds.
+use Rattle.std.proofs.Common.{ℕ, suc, ◌+◌, ◌≡◌, Bool, List, [], ◌∷◌, ◌++◌, length, Option, None, Some, refl, sym, ap, subst, arith, ◌∙◌}
+use Rattle.std.proofs.lemmas.List.{append_assoc, length-map}
+use Rattle.dft_base.specs.declared.tri.Tri.{Tri}
+use Rattle.dft_netlist.specs.declared.ids.NetId.{NetId}
+use Rattle.dft_netlist.specs.Logic.{Logic, Ports}
+use Rattle.dft_netlist.specs.Netlist.{Netlist}
+use Rattle.dft_netlist.specs.Runs.{Vector}
+use Rattle.dft_abstract.specs.Cycle.{Round, IsRound, after_round}
+use Rattle.dft_config.specs.declared.config.Config.{Config}
+use Rattle.dft_config.specs.Ring.{Table}
+use Rattle.dft_runs.specs.Passes.{AreRounds, after_rounds}
+use Rattle.dft_stitch.specs.Chains.{plan_of}
+use Rattle.dft_expect.specs.Captures.{output_bits}
+use Rattle.dft_patterns.specs.declared.act.Act.{Act}
+use Rattle.dft_scan_frame.specs.Statements.{IsReady}
+use Rattle.dft_scan_hardware.specs.declared.style.Style.TheVariants.{Edt}
+use Rattle.dft_scan_hardware.specs.Statements.{scanned}
+use Rattle.dft_scan_behavior.specs.EdtVectors.{SuitsEdt, edt_logic}
+use Rattle.dft_pattern_behavior.specs.Given.{IsPattern, Pattern}
+use Rattle.dft_pattern_behavior.specs.Rounds.{ArePlayed, AreShown, LastLoad, Played, ShowsBefore}
+use Rattle.dft_pattern_behavior.proofs.Patterns.{patterns_show}
+use Rattle.dft_vectors.specs.PatternData.{PatternData, load_of}
+use Rattle.dft_vectors.specs.VectorList.{capture_acts, load_vectors, no_table, last_of, pattern_vectors, set_up_acts, shift_acts, vectors_of}
+use Rattle.dft_pattern_behavior.specs.Doing.{AllDo}
+use Rattle.dft_pattern_behavior.specs.Listed.{ArePatterns, pattern_of}
+use Rattle.dft_pattern_behavior.proofs.Splitting.{first_do, split_do}
+use Rattle.dft_pattern_behavior.proofs.Playing.{captures_capture, loads_from, loads_load, set_up_clears}
+use Rattle.dft_compile_laws.specs.Agreeing.{Agrees}
+use Rattle.dft_compile_laws.proofs.Agreements.{AllAgree, agree_append, agree_from}
+use Rattle.dft_compile_laws.proofs.Outs.{capture_agrees, set_up_agrees, shift_agrees, shown_of, signal_nets, unloads_at}
+
+-- ---- lists of vectors and rounds
+
+split_rounds : (l : Logic) (old : ℕ → Tri) (ys zs : List Vector) (rs : List Round) → AreRounds l old (ys ++ zs) rs → (us : List Round) × (vs : List Round) × (rs ≡ us ++ vs) × AreRounds l old ys us × AreRounds l (after_rounds l old ys us) zs vs
+split_rounds l old [] zs rs h = ([], rs, refl, tt, h)
+split_rounds l old (y ∷ ys) zs [] h = absurd h
+split_rounds l old (y ∷ ys) zs (r ∷ rs) h = let more = split_rounds l (after_round l y old r) ys zs rs h.1 in (r ∷ more.0, more.1, ap (λ (v : List Round). r ∷ v) more.2, (h.0, more.3), more.4)
+
+first_round : (l : Logic) (old : ℕ → Tri) (z : Vector) (zs : List Vector) (rs : List Round) → AreRounds l old (z ∷ zs) rs → (r : Round) × (vs : List Round) × (rs ≡ r ∷ vs) × IsRound l z old r × AreRounds l (after_round l z old r) zs vs
+first_round l old z zs [] h = absurd h
+first_round l old z zs (r ∷ vs) h = (r, vs, refl, h.0, h.1)
+
+rounds_length : (l : Logic) (old : ℕ → Tri) (xs : List Vector) (rs : List Round) → AreRounds l old xs rs → length rs ≡ length xs
+rounds_length l old [] [] h = refl
+rounds_length l old [] (r ∷ rs) h = absurd h
+rounds_length l old (x ∷ xs) [] h = absurd h
+rounds_length l old (x ∷ xs) (r ∷ rs) h = ap suc (rounds_length l (after_round l x old r) xs rs h.1)
+
+-- ---- loads
+
+load_agrees : (n : Netlist) (config : Config) (table : Table) (masks : List Bool) (before : Option PatternData) (rs : List Round) → length rs ≡ (plan_of n config).cycles → ShowsBefore n config (shown_of config before) table rs →
+    AllAgree (signal_nets n config) (load_vectors n config (plan_of n config) table masks before) rs
+load_agrees n config table masks before rs count h =
+    agree_from (signal_nets n config) (shift_acts n config (plan_of n config) table masks before) 0 (plan_of n config).cycles rs count
+    (λ t r at. let same : t ≡ 0 + t = omega arith in
+    subst (λ (k : ℕ). Agrees r.strobe (signal_nets n config) (shift_acts n config (plan_of n config) table masks before k)) same (shift_agrees n config table masks before t r.strobe (unloads_at n config table before rs h t r at)))
+
+-- a capture knows as many values as there are output bits
+pub outputs_width : (n : Netlist) (config : Config) (p : PatternData) → IsPattern n config (pattern_of config p) → length p.response.outputs ≡ length (output_bits n.ports)
+outputs_width n config p is = ap (λ (ts : List Tri). length ts) is.captured.outputs ∙ length-map (output_bits n.ports) (λ (net : NetId). is.captured.values net.0)
+
+-- ---- patterns
+
+-- Patterns that are played, so that their vectors agree where they are shown.
+record Plays (n : Netlist) (config : Config) (ports : Ports) (before : Option PatternData) (vectors : List (List Act)) (old : ℕ → Tri) (rs : List Round) : Type 0 where
+  pub played : List Played
+  pub last : LastLoad
+  pub are : ArePlayed n config ports old played last
+  pub agree : AreShown n config (shown_of config before) played last → AllAgree (signal_nets n config) vectors rs
+
+play_patterns : (n : Netlist) (config : Config) (ports : Ports) (before : Option PatternData) (ps : List PatternData) (old : ℕ → Tri) (xs : List Vector) (rs : List Round) → IsReady n config → ArePatterns n config ps →
+    AllDo (scanned Edt n config) (pattern_vectors n config (plan_of n config) before ps ++ load_vectors n config (plan_of n config) no_table [] (last_of before ps)) xs → AreRounds (edt_logic n config ports) old xs rs →
+    Plays n config ports before (pattern_vectors n config (plan_of n config) before ps ++ load_vectors n config (plan_of n config) no_table [] (last_of before ps)) old rs
+play_patterns n config ports before [] old xs rs ready are h rounds =
+    let loads = loads_from n config no_table [] before 0 (plan_of n config).cycles xs ready h in
+    record {
+      played = [];
+      last = record { table = no_table; load = xs; rounds = rs };
+      are = (loads.carries, rounds);
+      agree = λ shown. load_agrees n config no_table [] before rs (rounds_length (edt_logic n config ports) old xs rs rounds ∙ loads.count) shown;
+    }
+play_patterns n config ports before (p ∷ ps) old xs rs ready are h rounds =
+    let w : Netlist = scanned Edt n config in
+    let l : Logic = edt_logic n config ports in
+    let nets : List ℕ = signal_nets n config in
+    let its : Pattern = pattern_of config p in
+    let load : List (List Act) = load_vectors n config (plan_of n config) (load_of config p) p.masks before in
+    let more : List (List Act) = pattern_vectors n config (plan_of n config) (Some p) ps in
+    let final : List (List Act) = load_vectors n config (plan_of n config) no_table [] (last_of (Some p) ps) in
+    let s = split_do w load ((capture_acts n config p ∷ more) ++ final) xs (subst (λ (vs : List (List Act)). AllDo w vs xs) (append_assoc load (capture_acts n config p ∷ more) final) h) in
+    let c = first_do w (capture_acts n config p) (more ++ final) s.1 s.4 in
+    let joined : xs ≡ s.0 ++ (c.0 ∷ c.1) = s.2 ∙ ap (λ (v : List Vector). s.0 ++ v) c.2 in
+    let q = split_rounds l old s.0 (c.0 ∷ c.1) rs (subst (λ (v : List Vector). AreRounds l old v rs) joined rounds) in
+    let r = first_round l (after_rounds l old s.0 q.0) c.0 c.1 q.1 q.4 in
+    let all : rs ≡ q.0 ++ (r.0 ∷ r.1) = q.2 ∙ ap (λ (v : List Round). q.0 ++ v) r.2 in
+    let loads = loads_load n config its before s.0 ready s.3 in
+    let count : length q.0 ≡ (plan_of n config).cycles = rounds_length l old s.0 q.0 q.3 ∙ loads.count in
+    let rest = play_patterns n config ports (Some p) ps (after_round l c.0 (after_rounds l old s.0 q.0) r.0) c.1 r.1 ready are.1 c.4 r.4 in
+    record {
+      played = record { pattern = its; load = s.0; capture = c.0; rounds = q.0; round = r.0 } ∷ rest.played;
+      last = rest.last;
+      are = (are.0, loads, captures_capture n config its p.response.outputs c.0 ready c.3, q.3, r.3, rest.are);
+      agree = λ shown.
+          let listed : AllAgree nets (load ++ (capture_acts n config p ∷ (more ++ final))) (q.0 ++ (r.0 ∷ r.1)) =
+          agree_append nets load (capture_acts n config p ∷ (more ++ final)) q.0 (r.0 ∷ r.1) (load_agrees n config (load_of config p) p.masks before q.0 count shown.0)
+          (capture_agrees n config p r.0 ready (outputs_width n config p are.0) shown.1, rest.agree shown.2) in
+          let put : AllAgree nets ((load ++ (capture_acts n config p ∷ more)) ++ final) (q.0 ++ (r.0 ∷ r.1)) =
+          subst (λ (vs : List (List Act)). AllAgree nets vs (q.0 ++ (r.0 ∷ r.1))) (sym (append_assoc load (capture_acts n config p ∷ more) final)) listed in
+          subst (λ (v : List Round). AllAgree nets ((load ++ (capture_acts n config p ∷ more)) ++ final) v) (sym all) put;
+    }
+
+-- all listed vectors agree with their rounds
+pub listed_agree : (n : Netlist) (config : Config) (ports : Ports) (p : PatternData) (ps : List PatternData) (old : ℕ → Tri) (xs : List Vector) (rs : List Round) → IsReady n config → SuitsEdt n config ports →
+    ArePatterns n config (p ∷ ps) → AllDo (scanned Edt n config) (vectors_of n config (plan_of n config) (p ∷ ps)) xs → AreRounds (edt_logic n config ports) old xs rs →
+    AllAgree (signal_nets n config) (vectors_of n config (plan_of n config) (p ∷ ps)) rs
+listed_agree n config ports p ps old xs rs ready suits are h rounds =
+    let w : Netlist = scanned Edt n config in
+    let l : Logic = edt_logic n config ports in
+    let rest : List (List Act) = pattern_vectors n config (plan_of n config) None (p ∷ ps) ++ load_vectors n config (plan_of n config) no_table [] (last_of None (p ∷ ps)) in
+    let c = first_do w (set_up_acts n config) rest xs h in
+    let r = first_round l old c.0 c.1 rs (subst (λ (v : List Vector). AreRounds l old v rs) c.2 rounds) in
+    let plays = play_patterns n config ports None (p ∷ ps) (after_round l c.0 old r.0) c.1 r.1 ready are c.4 r.4 in
+    let shown : AreShown n config None plays.played plays.last = patterns_show n config ports c.0 old r.0 plays.played plays.last ready suits (set_up_clears n config c.0 ready c.3) r.3 plays.are in
+    subst (λ (v : List Round). AllAgree (signal_nets n config) (set_up_acts n config ∷ rest) v) (sym r.2) (set_up_agrees n config r.0.strobe, plays.agree shown)

@@ -1,0 +1,66 @@
+-- What a report says of cubes is so in every run (Rajski and others, 2004).
+use Rattle.std.specs.Prelude.{ℕ, ◌≡◌, ◌↔◌, List, [], None, Some, slice_get}
+use Rattle.dft_netlist.specs.Logic.{Ports}
+use Rattle.dft_netlist.specs.Netlist.{Netlist}
+use Rattle.dft_netlist.specs.Runs.{Now, Vector, Turn}
+use Rattle.dft_netlist.specs.Sound.{IsNetlist}
+use Rattle.dft_config.specs.declared.config.Config.{Config}
+use Rattle.dft_config.specs.Ring.{Table}
+use Rattle.dft_equations.specs.LoadRows.{LoadRows}
+use Rattle.dft_cubes.specs.declared.cube.Cube.{Cube}
+use Rattle.dft_cubes.specs.declared.cube.Merged.{Merged}
+use Rattle.dft_cubes.specs.Laws.{AreCubes}
+use Rattle.dft_merge.specs.declared.placed.Placed.{Placed}
+use Rattle.dft_merge.specs.Placement.{PlacesAll, first_unscanned}
+use Rattle.dft_replay.specs.Laws.{IsRunOf, vectors_of as vectors_in}
+use Rattle.dft_replay.specs.Rows.{ports_of, rows_of as replayed_rows}
+use Rattle.dft_report.specs.declared.report.CubeLine.{CubeLine}
+use Rattle.dft_report.specs.declared.report.CubeLine.TheVariants.{Encoded, Unsolvable}
+use Rattle.dft_report.specs.declared.report.CubeReport.{CubeReport}
+use Rattle.dft_report.specs.declared.report.SumLine.{SumLine}
+use Rattle.dft_cube_reports.specs.Outcomes.{cube_reports}
+use Rattle.dft_scan_frame.specs.Statements.{IsReady}
+use Rattle.dft_scan_hardware.specs.declared.style.Style.TheVariants.{Edt}
+use Rattle.dft_scan_hardware.specs.Statements.{scanned}
+use Rattle.dft_scan_behavior.specs.EdtVectors.{SuitsEdt, edt_logic}
+use Rattle.dft_vectors.specs.PatternData.{PatternData}
+use Rattle.dft_compile_laws.specs.Passing.{set_of}
+use Rattle.dft_load_laws.specs.Loading.{AreRows, HoldBits, LoadsAlways, LoadsOnce, rows_of}
+use Rattle.dft_compile_laws.specs.Bringing.{AreCompiled, CapturesCube}
+use Rattle.dft_compile_laws.specs.Playing.{capture_number, flops_before}
+
+-- the entries of the report for these cubes, of which this became
+abbrev pub entries_of : Netlist → Config → LoadRows → List Cube → List Placed → List CubeReport
+entries_of n config rows cubes placed = cube_reports n config.ring (rows_of n config rows) cubes placed
+
+-- In every run of the scanned netlist over its compiled set, where the capture vector of a pattern begins, each cell of each cube that is
+-- reported encoded in it has the cube's bit; and that vector sets the cube's ports and pulses its clock.
+abbrev pub EncodedAreBrought : Type 0
+EncodedAreBrought =
+    (n : Netlist) (config : Config) (rows : LoadRows) (window : ℕ) (cubes : List Cube) (placed : List Placed) (patterns : List PatternData) (start : Now) (turns : List Turn) →
+    let w = scanned Edt n config in
+    let set = set_of n config patterns in
+    let xs = vectors_in (replayed_rows w set) in
+    IsReady n config → IsNetlist w → AreCubes n config cubes → AreCompiled n config rows window cubes placed patterns → IsRunOf w set start turns →
+    (c p : ℕ) (cube : Cube) (entry : CubeReport) → slice_get cubes c ≡ Some cube → slice_get (entries_of n config rows cubes placed) c ≡ Some entry → entry.outcome ≡ Encoded p →
+    HoldBits (flops_before (edt_logic n config (ports_of w set)) xs start turns (capture_number n config p)) cube.cells
+    × ((x : Vector) × (slice_get xs (capture_number n config p) ≡ Some x) × CapturesCube n config cube x)
+
+abbrev pub IsEncoded : CubeLine → Type 0
+IsEncoded line = (p : ℕ) × (line ≡ Encoded p)
+
+abbrev pub IsNever : CubeLine → Type 0
+IsNever line = (sums : List SumLine) × (line ≡ Unsolvable sums)
+
+-- the entry of a cube is exact: encoded where some table of channel bits loads it in every run, and unsolvable where none does in any
+pub record IsExact (n : Netlist) (config : Config) (ports : Ports) (cube : Cube) (entry : CubeReport) : Type 0 where
+  pub name : entry.name ≡ cube.name
+  pub encoded : IsEncoded entry.outcome ↔ ((table : Table) × LoadsAlways n config ports table cube.cells)
+  pub unsolvable : IsNever entry.outcome ↔ ((table : Table) → LoadsOnce n config ports table cube.cells → ⊥)
+
+-- Of the cubes of a text that are placed each has an entry, which is exact where all its cells are scanned.
+abbrev pub EntriesAreExact : Type 0
+EntriesAreExact =
+    (n : Netlist) (config : Config) (ports : Ports) (rows : LoadRows) (window : ℕ) (cubes : List Cube) (placed : List Placed) (patterns : List Merged) → IsReady n config → SuitsEdt n config ports → AreRows n config rows → AreCubes n config cubes →
+    PlacesAll rows.columns (rows_of n config rows) window [] cubes placed patterns → (c : ℕ) (cube : Cube) → slice_get cubes c ≡ Some cube → first_unscanned (rows_of n config rows) cube.cells ≡ None →
+    (entry : CubeReport) × (slice_get (entries_of n config rows cubes placed) c ≡ Some entry) × IsExact n config ports cube entry

@@ -1,0 +1,61 @@
+//! More cubes than go into one group of patterns, than are read, and than a pattern file has room for.
+
+use crate::cases::passes;
+use crate::refusals::is_refused;
+use crate::tables::OPEN_ONE;
+use dft_test_support::{FIVE, PAIR, Unlike, shelf};
+use std::alloc::{AllocError, Global};
+use std::test::Fail;
+
+// So many cubes, which by turns have these lines of bits.
+fn cubes(alloc: Global, count: u32, even: &str, odd: &str) -> Result<String, AllocError> {
+    let mut text = String::new(alloc);
+    for cube in 0..count {
+        let bits = if cube & 1 == 0 { even } else { odd };
+        text.push_str(&format!(in alloc; "cube {cube} clk\n{bits}end\n")?)?;
+    }
+    Ok(text)
+}
+
+// Cubes that are each opposite to the one before, so that each has a pattern of its own.
+fn opposites(alloc: Global, count: u32) -> Result<String, AllocError> {
+    cubes(alloc, count, "cell f2 0\n", "cell f2 1\n")
+}
+
+fn pass(alloc: Global, cubes: &str, line: &str, replay: &str) -> Result<(), Unlike> {
+    let held = [("n", FIVE, ""), ("c", OPEN_ONE, PAIR), ("p", cubes, "")];
+    let mut files = shelf(alloc, &held, None)?;
+    passes(alloc, &mut files, line, replay)
+}
+
+// Patterns are captured 512 at a time.
+#[test]
+fn patterns_past_a_group_pass(rt: HostRuntime) -> Result<(), Fail> {
+    let cubes = opposites(rt.alloc(), 513)?;
+    pass(
+        rt.alloc(),
+        cubes.as_str(),
+        "compiled cells 5 chains 2 cycles 5 patterns 513 encoded 513 unsolvable 0 skipped 0 masked 0 vectors 3084\n",
+        "pass 3084 vectors 5643 compared\n",
+    )?;
+    Ok(())
+}
+
+#[test]
+fn a_cube_too_many_is_told(rt: HostRuntime) -> Result<(), Fail> {
+    let cubes = cubes(rt.alloc(), 65_537, "", "")?;
+    let line = "refused Q9 131073:1\n";
+    is_refused(rt.alloc(), FIVE, (OPEN_ONE, PAIR), cubes.as_str(), line)?;
+    Ok(())
+}
+
+// Loads of 4,096 cycles: with the capture a pattern has 4,097 lines of 33 bytes.
+const LONGEST: &str = "version = 1\ndomains = ['clk']\nwarm = 4093\nwindow = 1\n";
+
+#[test]
+fn patterns_past_their_room_are_told(rt: HostRuntime) -> Result<(), Fail> {
+    let cubes = opposites(rt.alloc(), 1_985)?;
+    let line = "refused P6 268554353\n";
+    is_refused(rt.alloc(), FIVE, (LONGEST, PAIR), cubes.as_str(), line)?;
+    Ok(())
+}

@@ -1,9 +1,0 @@
--- Reports of cubes.
-use Rattle.dft_cube_laws.proofs.Reported.{encoded_brought, entries_exact}
-use Rattle.dft_cube_laws.proofs.laws.reports_are_true.Goals as goal
-
-pub returns-clause-encoded : goal.returns-clause-encoded
-returns-clause-encoded c = encoded_brought
-
-pub returns-clause-exact : goal.returns-clause-exact
-returns-clause-exact c = entries_exact

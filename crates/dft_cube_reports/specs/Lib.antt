@@ -1,0 +1,4 @@
+pub mod Outcomes
+pub mod Lengths
+pub mod Sums
+pub mod Laws

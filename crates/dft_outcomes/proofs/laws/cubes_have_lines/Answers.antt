@@ -1,5 +1,0 @@
-use Rattle.dft_outcomes.proofs.LineLemmas.{all_reports}
-use Rattle.dft_outcomes.proofs.laws.cubes_have_lines.Goals as goal
-
-pub returns : goal.returns
-returns c = all_reports

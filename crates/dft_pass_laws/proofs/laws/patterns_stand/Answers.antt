@@ -1,6 +1,0 @@
--- Patterns stand.
-use Rattle.dft_pass_laws.proofs.Standing.{patterns_stand}
-use Rattle.dft_pass_laws.proofs.laws.patterns_stand.Goals as goal
-
-pub returns : goal.returns
-returns c = patterns_stand

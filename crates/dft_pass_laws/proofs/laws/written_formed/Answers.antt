@@ -1,6 +1,0 @@
--- Compiled patterns are well formed.
-use Rattle.dft_pass_laws.proofs.Forming.{written_formed}
-use Rattle.dft_pass_laws.proofs.laws.written_formed.Goals as goal
-
-pub returns : goal.returns
-returns c = written_formed

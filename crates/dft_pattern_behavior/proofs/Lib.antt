@@ -1,0 +1,13 @@
+pub mod Clocks
+pub mod Lists
+pub mod Loaded
+pub mod Unloading
+pub mod Capturing
+pub mod Patterns
+pub mod Listed
+pub mod Places
+pub mod Playing
+pub mod Clocking
+pub mod Splitting
+mod Inputs
+mod Standing

@@ -1,5 +1,0 @@
-pub mod Numbers
-pub mod Lines
-pub mod Saying
-pub mod Bringing
-pub mod Whole

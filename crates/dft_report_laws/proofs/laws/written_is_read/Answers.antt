@@ -1,6 +1,0 @@
--- What is written is read.
-use Rattle.dft_report_laws.proofs.Whole.{written_is_read}
-use Rattle.dft_report_laws.proofs.laws.written_is_read.Goals as goal
-
-pub returns : goal.returns
-returns c = written_is_read

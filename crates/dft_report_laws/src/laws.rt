@@ -1,9 +1,0 @@
-//! Laws of reports, as contracts of functions that do nothing.
-
-ghost use Rattle.dft_report_laws.specs.WrittenRead.{WrittenIsRead};
-
-/// The written form of a report is read as that report, where its numbers are below 2^32, its names are printed, and cubes stand where there is a
-/// load.
-pub fn written_is_read()
-    ensures { WrittenIsRead }
-{}

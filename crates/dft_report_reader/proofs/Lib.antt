@@ -1,0 +1,8 @@
+pub mod WordLemmas
+pub mod ReadingLemmas
+pub mod HeardLemmas
+pub mod Numbers
+pub mod Lines
+pub mod Saying
+pub mod Bringing
+pub mod Whole

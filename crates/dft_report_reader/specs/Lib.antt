@@ -1,0 +1,5 @@
+pub mod Words
+pub mod Saying
+pub mod Reading
+pub mod Shown
+pub mod WrittenRead

@@ -1,0 +1,66 @@
+-- One capture vector of a scanned netlist of style Edt.
+use Rattle.std.proofs.Common.{ℕ, ◌≡◌, true, Option, None, Some, is_some, slice_get, refl, sym, ap, ◌∙◌}
+use Rattle.dft_netlist.specs.Logic.{Logic, Ports, Cell, IsRanked, cell_or_none, flip_flop, logic_of}
+use Rattle.dft_netlist.specs.Netlist.{Netlist}
+use Rattle.dft_netlist.proofs.RankLemmas.{order_ranks}
+use Rattle.dft_netlist.proofs.Ranks.{order_is_rank}
+use Rattle.dft_config.specs.declared.config.Config.{Config}
+use Rattle.dft_runs.specs.WiderPorts.{Widens}
+use Rattle.dft_runs.proofs.WiderPortsLemmas.{ports_widen}
+use Rattle.dft_chains.specs.ScanOff.{Places}
+use Rattle.dft_edt.specs.Captures.{Covers}
+use Rattle.dft_edt.proofs.Captures.{strobe_law, capture_law, widening_covers}
+use Rattle.dft_scan_frame.specs.ConfigPorts.{config_ports}
+use Rattle.dft_scan_frame.specs.Statements.{IsReady}
+use Rattle.dft_scan_frame.proofs.Contained.{AreMatched}
+use Rattle.dft_scan_frame.proofs.Containing.{flop_past}
+use Rattle.dft_scan_hardware.specs.declared.style.Style.TheVariants.{Edt}
+use Rattle.dft_scan_hardware.specs.Statements.{scanned}
+use Rattle.dft_scan_equivalence.specs.Agreeing.{ports_in, places_in}
+use Rattle.dft_scan_equivalence.proofs.Containing.{contains}
+use Rattle.dft_scan_equivalence.proofs.Matching.{instance_matched}
+use Rattle.dft_scan_equivalence.proofs.Sparing.{spared}
+use Rattle.dft_scan_behavior.specs.Capturing.{design_logic, StrobesFollow, CapturesFollow}
+use Rattle.dft_scan_behavior.specs.EdtVectors.{SuitsEdt, edt_logic}
+
+-- a flip-flop of the design is modelled in the scanned netlist
+modelled_by : (p : Places) (old new : Option Cell) → is_some old ≡ true → AreMatched p old new → (c : Cell) × (new ≡ Some c)
+modelled_by p None new e h = absurd cc
+modelled_by p (Some a) None e h = absurd h
+modelled_by p (Some a) (Some c) e h = (c, refl)
+
+module _ (n : Netlist) (config : Config) (ports : Ports) (ready : IsReady n config) (suits : SuitsEdt n config ports) where
+  abbrev original : Logic
+  original = design_logic n config
+
+  abbrev l : Logic
+  l = edt_logic n config ports
+
+  abbrev p : Places
+  p = places_in Edt n config
+
+  wider : Widens (scanned Edt n config) (ports_in Edt n config) ports
+  wider = ports_widen (scanned Edt n config) (ports_in Edt n config) ports suits
+
+  -- it is the same under all ports that suit
+  same : (cell : ℕ) → p.is_flop cell ≡ true → l.cell cell ≡ (logic_of (scanned Edt n config) (ports_in Edt n config)).cell cell
+  same cell is =
+      let here = flop_past n config cell (slice_get n.instances cell) refl ready is in
+      let it = modelled_by p (flip_flop n (config_ports n config) cell) (flip_flop (scanned Edt n config) (ports_in Edt n config) cell) is (instance_matched Edt n config ready (spared Edt n config ready) cell here.0 here.1) in
+      ap (cell_or_none cell) (wider.flops cell it.0 it.1) ∙ sym (ap (cell_or_none cell) it.1)
+
+  covers : Covers original l p
+  covers = widening_covers original (logic_of (scanned Edt n config) (ports_in Edt n config)) l p (contains Edt n config ready (spared Edt n config ready)) wider.logic same
+
+  ranked : (rank : ℕ → ℕ) × IsRanked original rank
+  ranked = let order = order_ranks n ready.order ready.netlist ready.ordered in (order.0, order_is_rank n (config_ports n config) order.0 order.1)
+
+pub strobes_follow : StrobesFollow
+strobes_follow n config ports ready suits y x its old values shows over settled written net less =
+    let r = ranked n config ports ready suits in
+    strobe_law (design_logic n config) (edt_logic n config ports) r.0 (places_in Edt n config) y x its old values shows r.1 (covers n config ports ready suits) over settled written net less
+
+pub captures_follow : CapturesFollow
+captures_follow n config ports ready suits d y x its old poss view values capture over settled views cell is =
+    let r = ranked n config ports ready suits in
+    capture_law (design_logic n config) (edt_logic n config ports) r.0 (places_in Edt n config) d y x its old poss view values r.1 (covers n config ports ready suits) capture over settled views cell is

@@ -1,0 +1,203 @@
+-- The scan inputs of the planned cells, where all parts are made: what each is joined to.
+use Rattle.std.proofs.Common.{ℕ, zero, suc, ◌+◌, ◌<◌, ◌≡◌, ◌==◌, inl, inr, Bool, true, false, List, [], ◌∷◌, ◌++◌, length, map, None, Some, option_and_then, slice_get, slice_index_or, refl, sym, subst, ap, arith, ◌∙◌}
+use Rattle.std.specs.List.{range_with_len}
+use Rattle.std.proofs.lemmas.Bool.{eqb-true}
+use Rattle.std.proofs.lemmas.Option.{none-some, slice_get_within, get_or_from_slice_get}
+use Rattle.dft_cells.specs.declared.kind.Role.TheVariants.{ScanIn}
+use Rattle.dft_netlist.specs.declared.ids.NetId.{NetId}
+use Rattle.dft_netlist.specs.declared.ids.InstanceId.{InstanceId}
+use Rattle.dft_netlist.specs.declared.instance.Signal.TheVariants as signal
+use Rattle.dft_netlist.specs.Drivers.{Net}
+use Rattle.dft_netlist.specs.Logic.{Logic, Lockup, same_role, logic_of}
+use Rattle.dft_netlist.specs.Netlist.{Netlist}
+use Rattle.dft_config.specs.declared.config.Config.{Config}
+use Rattle.dft_rules.specs.Rules.{judgements}
+use Rattle.dft_stitch.specs.Chains.{plan_of}
+use Rattle.dft_stitch.specs.Plans.{cell_at}
+use Rattle.dft_chains.specs.Hardware.{Leads}
+use Rattle.dft_parts.specs.Parts.{Part}
+use Rattle.dft_parts.specs.Recipes.{Recipe, net_at}
+use Rattle.dft_parts.proofs.Growing.{parts_grow}
+use Rattle.dft_scan_frame.specs.Moves.{at_net, moved_signal}
+use Rattle.dft_scan_frame.specs.Pins.{number_of}
+use Rattle.dft_scan_frame.specs.Statements.{IsReady}
+use Rattle.dft_scan_hardware.specs.declared.style.Style.{Style}
+use Rattle.dft_scan_hardware.specs.declared.style.Style.TheVariants.{Plain, Edt}
+use Rattle.dft_scan_hardware.specs.Chained.{scan_roles, a_chain, cells_at, row_at}
+use Rattle.dft_scan_hardware.specs.Ports.{gap_in, plain_in}
+use Rattle.dft_scan_hardware.specs.Scanned.{a_plain_chain, an_edt_chain, framed}
+use Rattle.dft_scan_hardware.specs.Statements.{scanned, made_in}
+use Rattle.dft_scan_hardware.proofs.Free.{ring_free}
+use Rattle.dft_scan_hardware.proofs.Joins.{JoinsAt}
+use Rattle.dft_scan_equivalence.specs.Agreeing.{ports_in}
+use Rattle.dft_scan_behavior.specs.Facts.{rows_in, ports_of, ring_start, ring_parts, chains_start, chain_parts}
+use Rattle.dft_scan_behavior.proofs.ChainNets.{IfHere, AllCross, AllStep, entry_found, crossing_first, step_first, chain_apart, late_found, late_fits}
+use Rattle.dft_scan_behavior.proofs.Cuts.{plain_start, plain_chain_parts, end_parts, compactor_list, rest_of, made_cut, all_there}
+use Rattle.dft_scan_behavior.proofs.FirstNets.{first_at, differ, Found, joined_first, none_first, FitsIn, FoundIn, found_front, found_back, found_each}
+use Rattle.dft_scan_behavior.proofs.Lockups.{get_range, cell_domain, same_or_lockup, by_lockup, directly, lockup_means}
+use Rattle.dft_scan_behavior.proofs.Outputs.{has_chain, one_place, IsShown, shown, input_free}
+use Rattle.dft_scan_behavior.proofs.Planned.{cell_pins, now_pins, IsPlanned}
+use Rattle.dft_scan_behavior.proofs.PortsDriven.{edt_clock_is}
+
+-- ---- cells of a chain
+
+index_cell : (xs : List (List InstanceId)) (chain k : ℕ) (c : InstanceId) → slice_get (slice_index_or xs chain []) k ≡ Some c → cell_at xs chain k ≡ Some c
+index_cell [] chain k c h = absurd (none-some c h)
+index_cell (x ∷ xs) zero k c h = h
+index_cell (x ∷ xs) (suc chain) k c h = index_cell xs chain k c h
+
+pub cell_index : (xs : List (List InstanceId)) (chain k : ℕ) (c : InstanceId) → cell_at xs chain k ≡ Some c → slice_get (cells_at xs chain) k ≡ Some c
+cell_index xs chain k c h =
+    let has = has_chain xs chain k c h in
+    ap (λ (cells : List InstanceId). slice_get cells k) (get_or_from_slice_get xs chain has.cells [] has.at) ∙ has.here
+
+pub chain_there : (xs : List (List InstanceId)) (chain k : ℕ) (c : InstanceId) → cell_at xs chain k ≡ Some c → chain < length xs
+chain_there xs chain k c h = let has = has_chain xs chain k c h in slice_get_within xs chain has.cells has.at
+
+-- ---- the recipe of a chain, in all that is made
+
+abbrev pub chain_recipe : Style → Netlist → Config → (chain : ℕ) → Recipe (Unit {0})
+chain_recipe Plain n config = a_plain_chain n config (plan_of n config) (gap_in Plain n config) (rows_in Plain n config).value
+chain_recipe Edt n config = an_edt_chain n config (plan_of n config) (gap_in Edt n config) (ports_of n config) (ring_parts n config).value.phases (rows_in Edt n config).value
+
+module _ (n : Netlist) (config : Config) (i p : ℕ) (P : NetId → Type 0) where
+  -- the cell stands in no other chain
+  abbrev Elsewhere : ℕ → Type 0
+  Elsewhere chain = (other k : ℕ) (c : InstanceId) → slice_get (cells_at (plan_of n config).chains other) k ≡ Some c → c.0 ≡ i → other ≡ chain
+
+  other_fits : (style : Style) (chain other : ℕ) → Elsewhere chain → (other ≡ chain → ⊥) → FitsIn (scanned style n config) i p P (chain_recipe style n config other)
+  other_fits Plain chain other only apart =
+      chain_apart n (scanned Plain n config) config (gap_in Plain n config) i p P (plan_of n config).lockups other (cells_at (plan_of n config).chains other) (row_at (rows_in Plain n config).value other) (plain_in (gap_in Plain n config).before other)
+      (λ k c is same. apart (only other k c is same))
+  other_fits Edt chain other only apart =
+      late_fits n (scanned Edt n config) config (gap_in Edt n config) i p P (plan_of n config).lockups other (cells_at (plan_of n config).chains other) (row_at (rows_in Edt n config).value other) (ports_of n config).edt_clock (net_at (ring_parts n config).value.phases other)
+      (λ entry. chain_apart n (scanned Edt n config) config (gap_in Edt n config) i p P (plan_of n config).lockups other (cells_at (plan_of n config).chains other) (row_at (rows_in Edt n config).value other) entry (λ k c is same. apart (only other k c is same)))
+
+  either_fits : (style : Style) (chain other : ℕ) (b : Bool) → (other == chain) ≡ b → Elsewhere chain → FoundIn (scanned style n config) i p P (chain_recipe style n config chain) → FitsIn (scanned style n config) i p P (chain_recipe style n config other)
+  either_fits style chain other true is only found = subst (λ k. FitsIn (scanned style n config) i p P (chain_recipe style n config k)) (sym (eqb-true other chain is)) (λ at k lib has. inr (found at k lib has))
+  either_fits style chain other false is only found = other_fits style chain other only (differ other chain is)
+
+  -- where the rows do not join the pin and the recipe of its chain does, the chain's is the net that it is joined to
+  pub made_first : (style : Style) (chain : ℕ) → first_at (rows_in style n config).parts i p ≡ None → chain < length (plan_of n config).chains → Elsewhere chain → FoundIn (scanned style n config) i p P (chain_recipe style n config chain) → Found P (first_at (made_in style n config) i p)
+  made_first Plain chain none less only found =
+      let w : Netlist = scanned Plain n config in
+      let lib = sym (parts_grow (framed Plain n config) (made_in Plain n config)).library in
+      subst (λ (ps : List Part). Found P (first_at ps i p)) (sym (made_cut Plain n config))
+      (found_back w i p P (length n.instances) (rows_in Plain n config).parts (rest_of Plain n config) (λ _. inl none)
+      (λ has. found_front w i p P _ (plain_chain_parts n config) (end_parts n config)
+      (λ there. found_each w i p P (chain_recipe Plain n config) (range_with_len 0 (length (plan_of n config).chains)) chain chain (get_range 0 (length (plan_of n config).chains) chain less ∙ ap Some (omega arith)) found
+      (λ k other at. either_fits Plain chain other (other == chain) refl only found) (plain_start n config) _ lib there) has)
+      (all_there Plain n config))
+  made_first Edt chain none less only found =
+      let w : Netlist = scanned Edt n config in
+      let lib = sym (parts_grow (framed Edt n config) (made_in Edt n config)).library in
+      let Q : ℕ → ℕ → Type 0 = λ j q. ⊥ in
+      subst (λ (ps : List Part). Found P (first_at ps i p)) (sym (made_cut Edt n config))
+      (found_back w i p P (length n.instances) (rows_in Edt n config).parts (rest_of Edt n config) (λ _. inl none)
+      (λ has. found_back w i p P _ (ring_parts n config).parts (chain_parts n config ++ compactor_list n config)
+      (λ _. inl (none_first Q (ring_parts n config).parts i p (λ q. q) (ring_free (JoinsAt Q) config (ports_of n config) (record { net = tt; cell = λ id pins. tt; gate = λ kind inputs output. tt }) (ring_start n config))))
+      (λ late. found_front w i p P _ (chain_parts n config) (compactor_list n config)
+      (λ there. found_each w i p P (chain_recipe Edt n config) (range_with_len 0 (length (plan_of n config).chains)) chain chain (get_range 0 (length (plan_of n config).chains) chain less ∙ ap Some (omega arith)) found
+      (λ k other at. either_fits Edt chain other (other == chain) refl only found) (chains_start n config) _ lib there) late) has)
+      (all_there Edt n config))
+
+-- ---- what a scan input is joined to
+
+-- it is joined to a net, and of it this holds
+abbrev pub IsJoined : (style : Style) (n : Netlist) (config : Config) (cell : InstanceId) → IsPlanned style n config cell.0 → (NetId → Type 0) → Type 0
+IsJoined style n config cell s P = (net : NetId) × (slice_get (now_pins style n config cell.0 s.instance s.id) s.shape.input ≡ Some (signal.Net net)) × P net
+
+input_number : (style : Style) (n : Netlist) (config : Config) (cell : InstanceId) (s : IsPlanned style n config cell.0) → number_of (same_role ScanIn) 0 (scan_roles n cell) ≡ Some s.shape.input
+input_number style n config cell s = ap (number_of (same_role ScanIn) 0) (sym s.roles) ∙ s.shape.is_input
+
+joined_by : (style : Style) (n : Netlist) (config : Config) (chain place : ℕ) (cell : InstanceId) (s : IsPlanned style n config cell.0) (P : NetId → Type 0) → IsReady n config → cell_at (plan_of n config).chains chain place ≡ Some cell →
+    FoundIn (scanned style n config) cell.0 s.shape.input P (chain_recipe style n config chain) → IsJoined style n config cell s P
+joined_by style n config chain place cell s P ready stands found =
+    let first = made_first n config cell.0 s.shape.input P style chain (input_free style n config cell s ready chain place stands) (chain_there (plan_of n config).chains chain place cell stands)
+    (λ other k c is same. (one_place n config chain place other k cell c ready stands (index_cell (plan_of n config).chains other k c is) same).0) found in (
+      first.0,
+      joined_first (made_in style n config) cell.0 s.shape.input (cell_pins style n config s.instance s.id) first.0 (s.shape.opened (at_net (gap_in style n config).before) (map (moved_signal (gap_in style n config)) s.instance.pins)) first.1,
+      first.2,
+    )
+
+-- ---- behind another cell
+
+module _ (style : Style) (n : Netlist) (config : Config) (ready : IsReady n config) (chain place : ℕ) (cell next : InstanceId) (s : IsPlanned style n config cell.0) (t : IsPlanned style n config next.0)
+    (stands : cell_at (plan_of n config).chains chain place ≡ Some cell) (follows : cell_at (plan_of n config).chains chain (suc place) ≡ Some next) where
+  abbrev l : Logic
+  l = logic_of (scanned style n config) (ports_in style n config)
+
+  -- the net leads from the cell to the next
+  abbrev Leading : NetId → Type 0
+  Leading net = Leads l cell.0 next.0 (Net net.0)
+
+  abbrev cells : List InstanceId
+  cells = cells_at (plan_of n config).chains chain
+
+  abbrev row : List NetId
+  row = row_at (rows_in style n config).value chain
+
+  abbrev out : IsShown style n config cell s chain place
+  out = shown style n config cell s ready chain place stands
+
+  -- only the place before leads here
+  behind : (k : ℕ) (c : InstanceId) → slice_get cells k ≡ Some c → c.0 ≡ next.0 → k ≡ suc place
+  behind k c is same = (one_place n config chain (suc place) chain k next c ready follows (index_cell (plan_of n config).chains chain k c is) same).1
+
+  cross : AllCross n (scanned style n config) config (gap_in style n config) next.0 t.shape.input Leading (plan_of n config).lockups chain cells row
+  cross m lockup there chain_is c is same number library net lib h =
+      by_lockup style n config ready chain place cell next.0 s out number m library lockup net lib there chain_is (let e = behind (lockup.after + 1) c is same in omega (arith, e)) h
+
+  step : s.domain ≡ t.domain → AllStep n (scanned style n config) config (gap_in style n config) next.0 t.shape.input Leading (plan_of n config).lockups chain cells row
+  step equal k less c is same =
+      let at : place ≡ k = (let e = behind (k + 1) c is same in omega (arith, e)) in
+      subst (λ j. Leading (net_at row j)) at (directly style n config ready chain place cell next.0 s out t equal)
+
+  here : slice_get cells (place + 1) ≡ Some next
+  here = let e : place + 1 ≡ suc place = omega arith in ap (slice_get cells) e ∙ cell_index (plan_of n config).chains chain (suc place) next follows
+
+  not_first : (entry : NetId) → IfHere n (scanned style n config) config (gap_in style n config) next.0 t.shape.input Leading (slice_get cells 0) (Leading entry)
+  not_first entry c is same = absurd (let e = behind 0 c is same in omega (arith, e))
+
+  later : slice_get out.cells (suc place) ≡ Some next
+  later = sym (ap (option_and_then (λ (cs : List InstanceId). slice_get cs (suc place))) out.chained) ∙ follows
+
+  chain_found : (entry : NetId) → FoundIn (scanned style n config) next.0 t.shape.input Leading (a_chain n config (gap_in style n config) (plan_of n config).lockups chain cells row entry)
+  chain_found entry =
+      elim (same_or_lockup (judgements n config) (plan_of n config).chains out.cells chain place s.domain t.domain cell out.chained out.stands (cell_domain style n config place cell out.cells s out.stands) (cell_domain style n config (suc place) next out.cells t later)) [
+        | inl equal ↦ step_first n (scanned style n config) config (gap_in style n config) next.0 t.shape.input Leading (plan_of n config).lockups chain cells row entry place next (not_first entry)
+            (slice_get_within cells place cell (cell_index (plan_of n config).chains chain place cell stands)) here (input_number style n config next t) refl cross (step equal)
+        | inr it ↦ crossing_first n (scanned style n config) config (gap_in style n config) next.0 t.shape.input Leading (plan_of n config).lockups chain cells row entry it.0 (record { chain = chain; after = place; domain = s.domain }) next (not_first entry)
+            it.1 refl here (input_number style n config next t) refl cross
+      ]
+
+pub link_joined : (style : Style) (n : Netlist) (config : Config) (ready : IsReady n config) (chain place : ℕ) (cell next : InstanceId) (s : IsPlanned style n config cell.0) (t : IsPlanned style n config next.0) → cell_at (plan_of n config).chains chain place ≡ Some cell →
+    cell_at (plan_of n config).chains chain (suc place) ≡ Some next → IsJoined style n config next t (λ net. Leads (logic_of (scanned style n config) (ports_in style n config)) cell.0 next.0 (Net net.0))
+link_joined Plain n config ready chain place cell next s t stands follows =
+    joined_by Plain n config chain (suc place) next t (λ net. Leads (logic_of (scanned Plain n config) (ports_in Plain n config)) cell.0 next.0 (Net net.0)) ready follows
+    (chain_found Plain n config ready chain place cell next s t stands follows (plain_in (gap_in Plain n config).before chain))
+link_joined Edt n config ready chain place cell next s t stands follows =
+    joined_by Edt n config chain (suc place) next t (λ net. Leads (logic_of (scanned Edt n config) (ports_in Edt n config)) cell.0 next.0 (Net net.0)) ready follows
+    (late_found n (scanned Edt n config) config (gap_in Edt n config) next.0 t.shape.input (λ net. Leads (logic_of (scanned Edt n config) (ports_in Edt n config)) cell.0 next.0 (Net net.0)) (plan_of n config).lockups chain
+    (cells_at (plan_of n config).chains chain) (row_at (rows_in Edt n config).value chain) (ports_of n config).edt_clock (net_at (ring_parts n config).value.phases chain)
+    (λ number library entry lib h. chain_found Edt n config ready chain place cell next s t stands follows entry))
+
+-- ---- at the head of a chain
+
+-- in style Plain the net of the chain's scan input port, in style Edt that of a lock-up on edt_clock behind the chain's phase sum
+abbrev pub IsEntry : (style : Style) → Netlist → Config → (chain : ℕ) → NetId → Type 0
+IsEntry Plain n config chain net = net ≡ plain_in (gap_in Plain n config).before chain
+IsEntry Edt n config chain net = (lockup : ℕ) × ((logic_of (scanned Edt n config) (ports_in Edt n config)).net net.0 ≡ Lockup lockup (ports_of n config).edt_clock.0 (Net (net_at (ring_parts n config).value.phases chain).0))
+
+pub entry_joined : (style : Style) (n : Netlist) (config : Config) (chain : ℕ) (cell : InstanceId) (s : IsPlanned style n config cell.0) → IsReady n config → cell_at (plan_of n config).chains chain zero ≡ Some cell → IsJoined style n config cell s (IsEntry style n config chain)
+entry_joined Plain n config chain cell s ready stands =
+    joined_by Plain n config chain zero cell s (IsEntry Plain n config chain) ready stands
+    (entry_found n (scanned Plain n config) config (gap_in Plain n config) cell.0 s.shape.input (IsEntry Plain n config chain) (plan_of n config).lockups chain (cells_at (plan_of n config).chains chain) (row_at (rows_in Plain n config).value chain) cell
+    (plain_in (gap_in Plain n config).before chain) (cell_index (plan_of n config).chains chain zero cell stands) (input_number Plain n config cell s) refl refl)
+entry_joined Edt n config chain cell s ready stands =
+    joined_by Edt n config chain zero cell s (IsEntry Edt n config chain) ready stands
+    (late_found n (scanned Edt n config) config (gap_in Edt n config) cell.0 s.shape.input (IsEntry Edt n config chain) (plan_of n config).lockups chain (cells_at (plan_of n config).chains chain) (row_at (rows_in Edt n config).value chain)
+    (ports_of n config).edt_clock (net_at (ring_parts n config).value.phases chain)
+    (λ number library entry lib h. entry_found n (scanned Edt n config) config (gap_in Edt n config) cell.0 s.shape.input (IsEntry Edt n config chain) (plan_of n config).lockups chain (cells_at (plan_of n config).chains chain) (row_at (rows_in Edt n config).value chain) cell
+    entry (cell_index (plan_of n config).chains chain zero cell stands) (input_number Edt n config cell s) refl
+    (number, lockup_means Edt n config number library (ports_of n config).edt_clock (net_at (ring_parts n config).value.phases chain) entry ready lib (edt_clock_is n config ready) h)))

@@ -1,9 +1,0 @@
--- One vector over the hardware of style Edt.
-use Rattle.dft_scan_facts.proofs.EdtActs.{vectors_act, vectors_act_in_runs}
-use Rattle.dft_scan_facts.proofs.laws.edt_acts.Goals as goal
-
-pub returns-clause-runs : goal.returns-clause-runs
-returns-clause-runs c = vectors_act_in_runs
-
-pub returns-clause-cycle : goal.returns-clause-cycle
-returns-clause-cycle c = vectors_act

@@ -1,7 +1,0 @@
-pub use Rattle.dft_scan_off.specs.Agreeing
-pub mod Facts
-pub mod PlainLaws
-pub mod EdtVectors
-pub mod Experiments
-pub mod Capturing
-pub mod FlopOrder

@@ -1,5 +1,0 @@
-use Rattle.dft_stil_length.proofs.LengthLemmas.{written_has_length}
-use Rattle.dft_stil_length.proofs.laws.has_written_length.Goals as goal
-
-pub returns : goal.returns
-returns c = written_has_length

@@ -1,7 +1,0 @@
--- The bytes so far.
-use Rattle.std.proofs.Common.{◌≡◌, take, length}
-use Rattle.std.specs.List.{sum_by}
-use Rattle.dft_stil_length.proofs.parts.name_bytes.Given as goal
-
-abbrev pub invariant-loop-signal : goal.invariant-loop-signal
-invariant-loop-signal l = l.bytes ≡ sum_by (λ s. length s.name) (take l.signal-index l.signals)

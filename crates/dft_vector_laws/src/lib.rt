@@ -1,6 +1,0 @@
-//! Laws of the vectors of compiled patterns: set-up vectors clear, shift vectors load, and capture vectors capture.
-#![tactic(auto)]
-
-mod laws;
-
-pub use laws::vectors_play;
