@@ -1,7 +1,7 @@
 pub mod WordLemmas
 pub mod ReadingLemmas
 pub mod HeardLemmas
-pub mod Numbers
+pub mod NumberLemmas
 pub mod Lines
 pub mod Saying
 pub mod Bringing

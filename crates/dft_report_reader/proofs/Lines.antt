@@ -11,7 +11,7 @@ use Rattle.dft_report_reader.specs.Words.{lines_of, words_of}
 use Rattle.dft_report_reader.specs.Saying.{said_of}
 use Rattle.dft_report_reader.specs.Reading.{Reading, nothing_read, read_lines, report_by, report_of, then_ended, then_lines, with_said}
 use Rattle.dft_report_reader.specs.WrittenRead.{Each}
-use Rattle.dft_report_reader.proofs.Numbers.{IsFine}
+use Rattle.dft_report_reader.proofs.NumberLemmas.{IsFine}
 
 -- words with a blank before each, and what stands behind them
 abbrev pub behind : List Text → (rest : Text) → Text
