@@ -6,7 +6,7 @@ use Rattle.std.specs.Ordering.{match_ordering}
 use Rattle.std.specs.Cmp.Lexicographic.{slice_cmp}
 use Rattle.std.specs.BTreeSet.{insert_key}
 use Rattle.std.specs.BTreeMap.{is_at}
-use Rattle.std.proofs.lemmas.Bool.{and_parts, false≢true}
+use Rattle.std.proofs.lemmas.Bool.{and_parts, false≢true, or_parts, not-true, not-false}
 use Rattle.std.proofs.lemmas.List.{take_more, take-append-drop, drop_more, map-append}
 use Rattle.std.proofs.lemmas.Map.Text.{is_eq-slice_cmp}
 use Rattle.std.proofs.lemmas.Slice.Eq.{bytes_eq-Decides}
@@ -80,21 +80,13 @@ named_pushed (x ∷ names) last name = rw (named_pushed names last name) (or_tur
 pub seen_more : (keys : List Key) (key : Key) (names : List (List ℕ)) → AreSeen keys names → AreSeen (insert_key key_order keys key) (names ++ key.items ∷ [])
 seen_more keys key names h name = inserted_seen keys key name ∙ ap (λ (b : Bool). bytes_eq key.items name || b) (h name) ∙ sym (named_pushed names key.items name)
 
-or_false : (a b : Bool) → (a || b) ≡ false → (a ≡ false) × (b ≡ false)
-or_false true b e = absurd (cc)
-or_false false b e = (refl, e)
-
-not_true : (a : Bool) → not a ≡ true → a ≡ false
-not_true true e = absurd (cc)
-not_true false e = refl
-
 -- names that differ, and a name that is none of them
 pub differ_more : (names : List (List ℕ)) (last : List ℕ) → all_differ names ≡ true → has_name names last ≡ false → all_differ (names ++ last ∷ []) ≡ true
 differ_more [] last d h = refl
 differ_more (x ∷ names) last d h =
     let (apart, rest) = and_parts (not (has_name names x)) (all_differ names) d in
-    let (here, later) = or_false (bytes_eq x last) (has_name names last) h in
-    rw (named_pushed names last x, turned last x, here, not_true (has_name names x) apart, differ_more names last rest later)
+    let (here, later) = or_parts (bytes_eq x last) (has_name names last) h in
+    rw (named_pushed names last x, turned last x, here, not-true (has_name names x) apart, differ_more names last rest later)
 
 named_within : (names rest : List (List ℕ)) (last name : List ℕ) → bytes_eq last name ≡ true → has_name (names ++ last ∷ rest) name ≡ true
 named_within [] rest last name e = rw e
@@ -123,10 +115,6 @@ all_names pins i d less =
     ap (map pin_name) (sym (take-append-drop i pins)) ∙ map-append pin_name (take i pins) (drop i pins)
     ∙ ap (λ (l : List Pin). map pin_name (take i pins) ++ map pin_name l) (drop_more pins i d less)
 
-not_false : (a : Bool) → not a ≡ false → a ≡ true
-not_false true e = refl
-not_false false e = absurd (cc)
-
 -- a key that is new, and a key that was seen, among the names of the first pins
 module _ (keys : List Key) (key : Key) (pins : List Pin) (i : ℕ) (pin : Pin) (added : Bool) (less : i < length pins) (at : pin ≡ get_or pins i pin) (items : key.items ≡ pin.name)
     (is_added : added ≡ not (list_any (is_at (key_order key)) keys)) (h : AreSeen keys (map pin_name (take i pins))) where
@@ -146,11 +134,11 @@ module _ (keys : List Key) (key : Key) (pins : List Pin) (i : ℕ) (pin : Pin) (
 
   pub differ_grows : added ≡ true → all_differ (map pin_name (take i pins)) ≡ true → all_differ (map pin_name (take (i + 1) pins)) ≡ true
   differ_grows new d =
-      let absent = sym looked_up ∙ not_true (list_any (is_at (key_order key)) keys) (sym is_added ∙ new) in
+      let absent = sym looked_up ∙ not-true (list_any (is_at (key_order key)) keys) (sym is_added ∙ new) in
       rw grown (differ_more (map pin_name (take i pins)) key.items d absent)
 
   pub repeated : added ≡ false → all_differ (map pin_name pins) ≡ false
   repeated old =
-      let present = sym looked_up ∙ not_false (list_any (is_at (key_order key)) keys) (sym is_added ∙ old) in
+      let present = sym looked_up ∙ not-false (list_any (is_at (key_order key)) keys) (sym is_added ∙ old) in
       let whole = all_names pins i pin less ∙ ap (λ (name : List ℕ). map pin_name (take i pins) ++ name ∷ map pin_name (drop (i + 1) pins)) name_is in
       rw whole (not_differing (map pin_name (take i pins)) (map pin_name (drop (i + 1) pins)) key.items present)

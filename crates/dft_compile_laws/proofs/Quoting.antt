@@ -3,7 +3,7 @@ use Rattle.std.proofs.Common.{ℕ, zero, suc, ◌+◌, ◌-◌, ◌<◌, ◌≤�
 use Rattle.std.specs.Prelude.{IsTrue, ◌≢◌, nat_le, option_map}
 use Rattle.std.specs.Fmt.{decimal}
 use Rattle.std.specs.List.{All, find, list_all, range_with_len}
-use Rattle.std.proofs.lemmas.Bool.{eq-eqb}
+use Rattle.std.proofs.lemmas.Bool.{eq-eqb, or_parts, and_parts}
 use Rattle.std.proofs.lemmas.Bool.Decides.{nat_tests}
 use Rattle.std.proofs.lemmas.Fmt.{digits_decimal}
 use Rattle.std.proofs.lemmas.List.Elements.{All-append, All-cons, All-from_get_or, All-nil}
@@ -113,11 +113,6 @@ found_none : (ports : List design_port.Port) → quoted_port ports ≡ None → 
 found_none [] h = tt
 found_none (port ∷ ports) h = let r = found_by (has_quote port.name) port (find (λ p. has_quote p.name) ports) h in (r.0, found_none ports r.1)
 
-either_none : (a b : Bool) → (a || b) ≡ false → (a ≡ false) × (b ≡ false)
-either_none false false e = (refl, refl)
-either_none true b e = absurd cc
-either_none false true e = absurd cc
-
 not_this : (b : ℕ) → (b == 34) ≡ false → Plain b
 not_this b e same = clash (b == 34) (eq-eqb b 34 same) e
   where
@@ -127,7 +122,7 @@ not_this b e same = clash (b == 34) (eq-eqb b 34 same) e
 
 none_plain : (name : Text) → has_quote name ≡ false → All Plain name
 none_plain [] h = All-nil Plain
-none_plain (b ∷ name) h = let r = either_none (b == 34) (has_quote name) h in All-cons Plain b name (not_this b r.0) (none_plain name r.1)
+none_plain (b ∷ name) h = let r = or_parts (b == 34) (has_quote name) h in All-cons Plain b name (not_this b r.0) (none_plain name r.1)
 
 own_ports : (ports : List design_port.Port) → ((place : ℕ) (port : design_port.Port) → slice_get ports place ≡ Some port → IsName port.name × IsShortRange port.range) → Each (λ port. has_quote port.name ≡ false) ports → Each IsQuotablePort ports
 own_ports [] named h = tt
@@ -145,15 +140,10 @@ word_byte b e = ((grind (arith, nat_tests), grind (arith, nat_tests)), (λ same.
 begins_goes_on : (b : ℕ) → begins_word b ≡ true → continues_word b ≡ true
 begins_goes_on b e = grind (arith, nat_tests)
 
-both_true : (a b : Bool) → (a && b) ≡ true → (a ≡ true) × (b ≡ true)
-both_true true true e = (refl, refl)
-both_true true false e = absurd cc
-both_true false b e = absurd cc
-
 word_printed : (bytes : Text) → list_all continues_word bytes ≡ true → All (λ b. (33 ≤ b) × (b ≤ 126)) bytes × All Plain bytes
 word_printed [] h = (All-nil (λ b. (33 ≤ b) × (b ≤ 126)), All-nil Plain)
 word_printed (b ∷ bytes) h =
-    let r = both_true (continues_word b) (list_all continues_word bytes) h in
+    let r = and_parts (continues_word b) (list_all continues_word bytes) h in
     let here = word_byte b r.0 in
     let rest = word_printed bytes r.1 in
     (All-cons (λ c. (33 ≤ c) × (c ≤ 126)) b bytes here.0 rest.0, All-cons Plain b bytes here.1 rest.1)
@@ -161,15 +151,15 @@ word_printed (b ∷ bytes) h =
 word_quotable : (bytes : Text) → is_word bytes ≡ true → IsQuotable bytes
 word_quotable [] h = absurd cc
 word_quotable (b ∷ bytes) h =
-    let r = both_true (begins_word b) (list_all continues_word bytes) h in
+    let r = and_parts (begins_word b) (list_all continues_word bytes) h in
     let here = word_byte b (begins_goes_on b r.0) in
     let rest = word_printed bytes r.1 in
     record { name = record { some = omega arith; each = All-cons (λ c. (33 ≤ c) × (c ≤ 126)) b bytes here.0 rest.0 }; unquoted = All-cons Plain b bytes here.1 rest.1 }
 
 simple_quotable : (bytes : Text) → IsTrue (is_simple_name bytes && not (is_later_reserved bytes)) → IsQuotable bytes
 simple_quotable bytes h =
-    let outer = both_true (is_simple_name bytes) (not (is_later_reserved bytes)) h in
-    word_quotable bytes (both_true (is_word bytes) (not (is_reserved bytes)) outer.0).0
+    let outer = and_parts (is_simple_name bytes) (not (is_later_reserved bytes)) h in
+    word_quotable bytes (and_parts (is_word bytes) (not (is_reserved bytes)) outer.0).0
 
 abbrev IsQuotableNew : NewPort → Type 0
 IsQuotableNew port = IsQuotable port.name

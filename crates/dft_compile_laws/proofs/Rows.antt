@@ -3,7 +3,7 @@ use Rattle.std.proofs.Common.{ℕ, zero, suc, ◌<◌, ◌≤◌, ◌≡◌, ◌
 use Rattle.std.specs.Prelude.{if◌then◌else◌, slice_index_or}
 use Rattle.std.specs.List.{All}
 use Rattle.std.specs.Str.{bytes_eq}
-use Rattle.std.proofs.lemmas.Bool.{eqb-true, eq-eqb}
+use Rattle.std.proofs.lemmas.Bool.{eqb-true, eq-eqb, false_from_ne_true}
 use Rattle.std.proofs.lemmas.Option.{none-some, same_Some, slice_get-get_or}
 use Rattle.dft_base.specs.Lexing.{Text}
 use Rattle.dft_base.specs.declared.dir.Dir.{Dir}
@@ -27,7 +27,7 @@ use Rattle.dft_vectors.specs.Signals.{bits_in, input_bits, signal_of}
 use Rattle.dft_pattern_behavior.specs.Doing as doing
 use Rattle.dft_pattern_behavior.specs.Doing.{DoesAt, Does, AllDo}
 use Rattle.dft_pattern_behavior.proofs.Listed.{AllNets, is_in}
-use Rattle.dft_pattern_behavior.proofs.Places.{not_both, not_in}
+use Rattle.dft_pattern_behavior.proofs.Places.{not_in}
 
 -- ---- the nets of signals
 
@@ -173,7 +173,7 @@ does_by x f old (k ∷ ins) outs (a ∷ acts) apart fine same ports pulsed =
       (ports k.0 ∙ ap (λ (b : Act). set_by b (old k.0)) here ∙ set_same a (old k.0) fine.0, pulsed k.0 ∙ ap is_pulse here ∙ pulse_same a),
       does_by x f old ins outs acts apart.1 fine.1
           (λ net is. same net (in_tail k ins net is)
-          ∙ ap (λ b. if b then a else act_on (numbers ins ++ outs) acts net) (not_both (k.0 == net) (λ at. true≢false (sym is ∙ ap (is_in ins) (sym (eqb-true k.0 net at)) ∙ apart.0)))) ports pulsed,
+          ∙ ap (λ b. if b then a else act_on (numbers ins ++ outs) acts net) (false_from_ne_true (k.0 == net) (λ at. true≢false (sym is ∙ ap (is_in ins) (sym (eqb-true k.0 net at)) ∙ apart.0)))) ports pulsed,
     )
 
 other_rests : (ins : List NetId) (outs : List ℕ) (acts : List Act) (net : ℕ) → Fine ins acts → is_in ins net ≡ false → is_pulse (act_on (numbers ins ++ outs) acts net) ≡ false

@@ -91,14 +91,6 @@ pub differ_start : {T : Type 0} (same : T → T → Bool) (seen : T → Bool) �
     → all_differ same xs ≡ (all_differ same xs && unseen seen xs)
 differ_start same seen none xs = and_true (all_differ same xs) (unseen seen xs) (unseen_none seen none xs)
 
-pub not_true : (b : Bool) → not b ≡ true → b ≡ false
-not_true true e = sym e
-not_true false e = refl
-
-pub not_false : (b : Bool) → not b ≡ false → b ≡ true
-not_false true e = refl
-not_false false e = sym e
-
 -- an answer for one test is an answer for a test that agrees with it
 ok_along : {E : Type 0} (r : Result Bool E) (a b : Bool) → IfOk r (λ d. d ≡ a) → a ≡ b → IfOk r (λ d. d ≡ b)
 ok_along (Ok d) a b h e = h ∙ e

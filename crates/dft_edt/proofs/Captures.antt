@@ -1,7 +1,7 @@
 -- The capture, by rank of the original's nets.
 use Rattle.std.proofs.Common.{ℕ, zero, suc, Bool, true, false, List, [], ◌∷◌, ◌≡◌, ◌==◌, ◌<◌, inl, inr, refl, sym, subst, ap, arith, map, ◌∙◌, Option, None, Some}
 use Rattle.std.specs.Prelude.{if◌then◌else◌}
-use Rattle.std.proofs.lemmas.Bool.{eq-eqb}
+use Rattle.std.proofs.lemmas.Bool.{eq-eqb, eqb-false}
 use Rattle.dft_base.specs.declared.tri.Tri.{Tri}
 use Rattle.dft_base.specs.declared.tri.Tri.TheVariants.{Zero, One, Unknown}
 use Rattle.dft_base.specs.Tri.{known, AboveTri}
@@ -180,14 +180,11 @@ pick_false : (b : Bool) (x y : Tri) → (b ≡ true → ⊥) → (if b then x el
 pick_false true x y h = absurd (h refl)
 pick_false false x y h = refl
 
-differ : (a d : ℕ) → (a == d) ≡ false → a ≡ d → ⊥
-differ a d other same = let q : (a == d) ≡ true = eq-eqb a d same in let f : true ≡ false = sym q ∙ other in cc
-
 stays : (original written : Logic) (p : Places) (d : ℕ) (y x : Vector) (its old : ℕ → Tri) (view : ℕ → ℕ → Tri) → Covers original written p → IsCapture p d x → StandsOver p y x its old →
     (cell : ℕ) → p.is_flop cell ≡ true → ((original.cell cell).domain == d) ≡ false → AboveTri ((pulse_of original y its).old cell) (after_pulse written (pulse_of written x old) view cell)
 stays original written p d y x its old view has capture over cell is other =
     let q : Pulse = pulse_of written x old in
-    let low : x.pulsed (written.cell cell).domain ≡ true → ⊥ = λ up. differ (original.cell cell).domain d other (capture.alone (original.cell cell).domain (sym (ap x.pulsed (has.flops cell is).domain) ∙ up)) in
+    let low : x.pulsed (written.cell cell).domain ≡ true → ⊥ = λ up. eqb-false (original.cell cell).domain d other (capture.alone (original.cell cell).domain (sym (ap x.pulsed (has.flops cell is).domain) ∙ up)) in
     subst (λ t. AboveTri ((pulse_of original y its).old cell) t) (sym (pick_false (x.pulsed (written.cell cell).domain) (next_value written q view cell) (q.old cell) low)) (old_over original written p y x its old has over cell is)
 
 pub capture_law : CaptureLaw

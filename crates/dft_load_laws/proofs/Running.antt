@@ -2,7 +2,7 @@
 use Rattle.std.proofs.Common.{ℕ, zero, suc, ◌+◌, ◌-◌, ◌<◌, ◌≤◌, ◌≡◌, ◌==◌, ◌||◌, inl, inr, Bool, true, false, nat_lt, List, [], ◌∷◌, length, Option, None, Some, option_and_then, refl, ap, arith, ◌∙◌}
 use Rattle.std.specs.Prelude.{if◌then◌else◌}
 use Rattle.std.specs.List.{list_any}
-use Rattle.std.proofs.lemmas.Bool.{eqb-true, eq-eqb, cases_lt}
+use Rattle.std.proofs.lemmas.Bool.{eqb-true, eq-eqb, cases_lt, or_from}
 use Rattle.std.proofs.lemmas.Bool.Decides.{nat_tests}
 use Rattle.dft_base.specs.Lexing.{Text}
 use Rattle.dft_base.specs.declared.tri.Tri.{Tri}
@@ -51,14 +51,9 @@ not_found : (n : Netlist) (config : Config) (at : ℕ) (o : Option NetId) → Is
 not_found n config at None ready past = refl
 not_found n config at (Some net) ready past = not_this n at net (is_input (driver n net.0)) past (λ is. input_less n net.0 (driver n net.0) is (driver_fine n config net.0 ready))
 
-none_any : (a b : Bool) → a ≡ false → b ≡ false → (a || b) ≡ false
-none_any false false e f = refl
-none_any true b e f = absurd cc
-none_any false true e f = absurd cc
-
 no_name : (n : Netlist) (config : Config) (at : ℕ) (names : List Text) → IsReady n config → length (bits_of n.ports) ≤ at → list_any (λ name. is_net at (input_net n name)) names ≡ false
 no_name n config at [] ready past = refl
-no_name n config at (name ∷ names) ready past = none_any (is_net at (input_net n name)) (list_any (λ other. is_net at (input_net n other)) names) (not_found n config at (find_net n name) ready past) (no_name n config at names ready past)
+no_name n config at (name ∷ names) ready past = or_from (is_net at (input_net n name)) (list_any (λ other. is_net at (input_net n other)) names) (not_found n config at (find_net n name) ready past) (no_name n config at names ready past)
 
 true_false : (b : Bool) → b ≡ true → b ≡ false → ⊥
 true_false true e f = cc

@@ -4,6 +4,7 @@ use Rattle.std.specs.Prelude.{if◌then◌else◌}
 use Rattle.std.specs.List.{AllByRecursion}
 use Rattle.std.proofs.lemmas.Bool.Decides.{leb_tells}
 use Rattle.std.proofs.lemmas.List.{get_or_past, drop_all, append-nil}
+use Rattle.std.proofs.lemmas.Bool.{cases_Bool}
 use Rattle.dft_netlist.specs.declared.ids.NetId.{NetId}
 use Rattle.dft_netlist.specs.Logic.{reads}
 use Rattle.dft_netlist.specs.Orders.{Has, numbers_of}
@@ -137,10 +138,6 @@ both_all : (P Q R : ℕ → Type 0) (xs : List ℕ) → AllByRecursion P xs → 
 both_all P Q R [] p q r = tt
 both_all P Q R (x ∷ xs) p q r = (r x p.0 q.0, both_all P Q R xs p.1 q.1 r)
 
-cases : (b : Bool) → (b ≡ true) ⊎ (b ≡ false)
-cases true = inl refl
-cases false = inr refl
-
 -- the marked nets of an order are in order, where the marks are closed under reading
 kept_ordered : (ops : List Op) (flags : List Bool) (before kept : List ℕ) (order : List NetId) → AreOrdered ops before (numbers_of order) →
     ((k : ℕ) → flag_at flags k ≡ true → HasAll (flag_at flags) (reads (meaning (op_at ops k)))) → ((k : ℕ) → Has before k → flag_at flags k ≡ true → Has kept k) → ((k : ℕ) → Has kept k → Has before k) →
@@ -148,7 +145,7 @@ kept_ordered : (ops : List Op) (flags : List Bool) (before kept : List ℕ) (ord
 kept_ordered ops flags before kept [] o closed up old = tt
 kept_ordered ops flags before kept (net ∷ order) o closed up old =
     let R : Bool → Type 0 = λ t. AreOrdered ops kept (numbers_of (if t then net ∷ kept_of flags order else kept_of flags order)) in
-    elim (cases (flag_at flags net.0)) [
+    elim (cases_Bool (flag_at flags net.0)) [
       | inl is ↦ subst R (sym is) (
         (λ h. o.0 (old net.0 h)),
         o.1,
@@ -166,7 +163,7 @@ kept_has : (flags : List Bool) (order : List NetId) (k : ℕ) → Has (numbers_o
 kept_has flags [] k h f = absurd h
 kept_has flags (net ∷ order) k h f =
     let R : Bool → Type 0 = λ t. Has (numbers_of (if t then net ∷ kept_of flags order else kept_of flags order)) k in
-    elim (cases (flag_at flags net.0)) [
+    elim (cases_Bool (flag_at flags net.0)) [
       | inl is ↦ subst R (sym is) (elim h [ inl e ↦ inl e | inr rest ↦ inr (kept_has flags order k rest f) ])
       | inr is_not ↦ subst R (sym is_not) (elim h [ inl e ↦ absurd (true≢false (sym f ∙ ap (flag_at flags) e ∙ is_not)) | inr rest ↦ kept_has flags order k rest f ])
     ]

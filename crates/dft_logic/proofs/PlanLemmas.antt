@@ -4,6 +4,7 @@ use Rattle.std.specs.Prelude.{◌||◌, if◌then◌else◌}
 use Rattle.std.proofs.Math.Dec.{leb}
 use Rattle.std.proofs.lemmas.Bool.Decides.{leb_tells}
 use Rattle.std.proofs.lemmas.List.{get_or_past, length-map}
+use Rattle.std.proofs.lemmas.Bool.{or_left, or_right}
 use Rattle.dft_base.specs.declared.tri.Tri.{Tri}
 use Rattle.dft_base.specs.declared.tri.Tri.TheVariants.{Zero, One, Unknown}
 use Rattle.dft_netlist.specs.Drivers.{Source, Net, Tied, Loose, nets_of}
@@ -96,13 +97,6 @@ computes_needed k cell ports at h = taken_needed k cell.scan at cell.input (forc
 abbrev pub needs_of : (count : ℕ) (marked : List Bool) → ℕ → Bool
 needs_of count marked k = flag_at marked k || leb count k
 
-or_first : (b c : Bool) → b ≡ true → (b || c) ≡ true
-or_first b c is = rw is refl
-
-or_second : (b c : Bool) → c ≡ true → (b || c) ≡ true
-or_second true c is = refl
-or_second false c is = is
-
 or_only : (b c : Bool) → c ≡ false → (b || c) ≡ true → b ≡ true
 or_only true c down is = refl
 or_only false c down is = absurd (true≢false (sym is ∙ down))
@@ -110,13 +104,13 @@ or_only false c down is = absurd (true≢false (sym is ∙ down))
 pub has_needs : (count : ℕ) (marked : List Bool) (nets : List ℕ) → ((k : ℕ) → k < count → Has nets k → flag_at marked k ≡ true) → HasAll (needs_of count marked) nets
 has_needs count marked [] each = tt
 has_needs count marked (n ∷ ns) each = (
-  elim (leb_tells count n) [ inl out ↦ or_second (flag_at marked n) (leb count n) out.0 | inr live ↦ or_first (flag_at marked n) (leb count n) (each n live.1 (inl refl)) ],
+  elim (leb_tells count n) [ inl out ↦ or_right (flag_at marked n) (leb count n) out.0 | inr live ↦ or_left (flag_at marked n) (leb count n) (each n live.1 (inl refl)) ],
   has_needs count marked ns (λ k live h. each k live (inr h)),
 )
 
 all_needs : (count : ℕ) (marked : List Bool) (nets : List ℕ) → HasAll (flag_at marked) nets → HasAll (needs_of count marked) nets
 all_needs count marked [] all = tt
-all_needs count marked (n ∷ ns) all = (or_first (flag_at marked n) (leb count n) all.0, all_needs count marked ns all.1)
+all_needs count marked (n ∷ ns) all = (or_left (flag_at marked n) (leb count n) all.0, all_needs count marked ns all.1)
 
 pub needs_closed : (x : Circuit) (marked : List Bool) → IsStrobeClosed (logic_at x) (flag_at marked) → IsStrobeClosed (logic_at x) (needs_of (length x.ops.items) marked)
 unfolding logic_at

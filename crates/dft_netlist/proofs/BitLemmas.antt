@@ -7,10 +7,10 @@ use Rattle.std.proofs.lemmas.Bool.Decides.{nat_tests}
 use Rattle.std.proofs.lemmas.List.Elements.{All-append, All-cons, All-nil, All-from_get_or}
 use Rattle.std.proofs.lemmas.Fmt.{digits_decimal}
 use Rattle.std.proofs.lemmas.Str.Parse.{numerals_by_value, tells_by_index}
+use Rattle.std.proofs.lemmas.Bool.{le-leb, lt-leb}
 use Rattle.dft_base.specs.Name.{IsName}
 use Rattle.dft_base.specs.declared.place.Range.{Range}
 use Rattle.dft_netlist.specs.Names.{indices_of, going_up, going_down, bit_name}
-use Rattle.dft_netlist.proofs.RefusalLemmas.{le_true, le_false}
 
 up_length : (from count : ℕ) → length (going_up from count) ≡ count
 up_length from zero = refl
@@ -31,10 +31,10 @@ down_at from (suc count) zero lt = let e : from ≡ from - 0 = omega arith in ap
 down_at from (suc count) (suc k) lt = let e : from - 1 - k ≡ from - suc k = omega arith in down_at (from - 1) count k (omega arith) ∙ ap Some e
 
 pub rising : (r : Range) → r.left ≤ r.right → indices_of r ≡ going_up r.left (suc (r.right - r.left))
-rising r le = rw (le_true r.left r.right le) refl
+rising r le = rw (le-leb r.left r.right le) refl
 
 pub falling : (r : Range) → r.right < r.left → indices_of r ≡ going_down r.left (suc (r.left - r.right))
-falling r lt = rw (le_false r.left r.right lt) refl
+falling r lt = rw (lt-leb r.left r.right lt) refl
 
 pub rising_at : (r : Range) (k : ℕ) → r.left ≤ r.right → k < length (indices_of r) → (r.left + k ≤ r.right) × (slice_get (indices_of r) k ≡ Some (r.left + k))
 rising_at r k le lt =

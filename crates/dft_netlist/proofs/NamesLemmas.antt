@@ -4,6 +4,7 @@ use Rattle.std.specs.List.{filter_map, cons_option}
 use Rattle.std.specs.Option.{option_and_then}
 use Rattle.std.specs.Str.{bytes_eq}
 use Rattle.std.proofs.lemmas.Slice.Eq.{bytes_eq-Decides}
+use Rattle.std.proofs.lemmas.Bool.{or_cases}
 use Rattle.dft_cells.specs.WellFormed.{has_name}
 use Rattle.dft_netlist.specs.declared.named.Named.{Named}
 use Rattle.dft_netlist.specs.declared.named.Named.TheVariants.{Net, Vector, Instance}
@@ -96,10 +97,6 @@ or_right false = refl
 or_assoc : (a b c : Bool) → ((a || b) || c) ≡ (a || (b || c))
 or_assoc true b c = refl
 or_assoc false b c = refl
-
-or_cases : (a b : Bool) → (a || b) ≡ true → (a ≡ true) ⊎ (b ≡ true)
-or_cases true b h = inl refl
-or_cases false b h = inr h
 
 has-append : (xs ys : List Text) (q : Text) → has_name (xs ++ ys) q ≡ (has_name xs q || has_name ys q)
 has-append [] ys q = refl

@@ -3,6 +3,7 @@ use Rattle.std.proofs.Common.{◌≡◌, ℕ, zero, suc, ◌+◌, ◌-◌, ◌<�
 use Rattle.std.proofs.lemmas.List.{append_cancel_left, append_cancel_right}
 use Rattle.std.specs.Fmt.{decimal}
 use Rattle.std.proofs.lemmas.Fmt.{decimal_injective}
+use Rattle.std.proofs.lemmas.Option.{slice_get_within}
 use Rattle.dft_base.specs.declared.place.Range.{Range}
 use Rattle.dft_netlist.specs.declared.named.Named.{Named}
 use Rattle.dft_netlist.specs.Netlist.{Netlist}
@@ -32,25 +33,20 @@ bit_is_not_vector name i same =
 
 -- ---- the indices of a range differ
 
-slice_get_lt : {X : Type 0} (xs : List X) (k : ℕ) (x : X) → slice_get xs k ≡ Some x → k < length xs
-slice_get_lt [] k x at = absurd (let f : ⊥ = cc in f)
-slice_get_lt (y ∷ xs) zero x at = omega arith
-slice_get_lt (y ∷ xs) (suc k) x at = let lt = slice_get_lt xs k x at in omega arith
-
 abbrev Small : Range → Type 0
 Small r = (r.left < 2 ^ 64) × (r.right < 2 ^ 64)
 
 index_small : (r : Range) (k i : ℕ) → Small r → slice_get (indices_of r) k ≡ Some i → i < 2 ^ 64
 index_small r k i small at =
-    let lt = slice_get_lt (indices_of r) k i at in
+    let lt = slice_get_within (indices_of r) k i at in
     cases_le r.left r.right _ refl _
     (λ le. let here = rising_at r k le lt in let e : Some (r.left + k) ≡ Some i = sym here.1 ∙ at in let f : r.left + k ≡ i = cc in let b = here.0 in let s = small.1 in omega arith)
     (λ gt. let here = falling_at r k gt lt in let e : Some (r.left - k) ≡ Some i = sym here.1 ∙ at in let f : r.left - k ≡ i = cc in let s = small.0 in omega arith)
 
 index_once : (r : Range) (k j i : ℕ) → slice_get (indices_of r) k ≡ Some i → slice_get (indices_of r) j ≡ Some i → k ≡ j
 index_once r k j i at also =
-    let lt = slice_get_lt (indices_of r) k i at in
-    let lt2 = slice_get_lt (indices_of r) j i also in
+    let lt = slice_get_within (indices_of r) k i at in
+    let lt2 = slice_get_within (indices_of r) j i also in
     cases_le r.left r.right _ refl _
     (λ le.
     let here = rising_at r k le lt in

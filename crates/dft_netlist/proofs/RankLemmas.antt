@@ -1,6 +1,7 @@
 -- An order ranks the nets by their places.
 use Rattle.std.proofs.Common.{◌≡◌, ℕ, suc, ◌<◌, ◌≤◌, Bool, true, false, cond, List, [], ◌∷◌, length, refl, sym, ◌∙◌, ap, subst, arith, ◌⊎◌, inl, inr, ◌==◌}
 use Rattle.std.specs.List.{AllByRecursion}
+use Rattle.std.proofs.lemmas.Bool.{eqb-true, eq-eqb}
 use Rattle.dft_netlist.specs.declared.net_driver.NetDriver.{NetDriver}
 use Rattle.dft_netlist.specs.declared.net_driver.NetDriver.TheVariants.{Input, Pin, Join, Nothing}
 use Rattle.dft_netlist.specs.Netlist.{Netlist}
@@ -10,7 +11,7 @@ use Rattle.dft_netlist.specs.NetDrivers.{driver_at, Drives}
 use Rattle.dft_netlist.specs.Notes.{all_drives}
 use Rattle.dft_netlist.specs.Orders.{Has, reads_of, IsOrderFrom}
 use Rattle.dft_netlist.specs.Sound.{IsNetlist}
-use Rattle.dft_netlist.proofs.DriveLemmas.{all_entries, first_by, is_number, same_number}
+use Rattle.dft_netlist.proofs.DriveLemmas.{all_entries, first_by}
 use Rattle.dft_netlist.proofs.ClashLemmas.{driver_same, first_drives}
 use Rattle.dft_netlist.proofs.LiveLemmas.{drive_live, le_or_lt}
 
@@ -31,11 +32,11 @@ apart_place : (x : ℕ) (xs : List ℕ) (net : ℕ) → (x ≡ net → ⊥) → 
 apart_place x xs net ne = by (x == net) refl
   where
     by : (t : Bool) → (x == net) ≡ t → cond t 0 (suc (place_in xs net)) ≡ suc (place_in xs net)
-    by true is = absurd (ne (same_number x net is))
+    by true is = absurd (ne (eqb-true x net is))
     by false is = refl
 
 first_place : (x : ℕ) (xs : List ℕ) → place_in (x ∷ xs) x ≡ 0
-first_place x xs = rw (is_number x x refl) refl
+first_place x xs = rw (eq-eqb x x refl) refl
 
 -- what is still to come was not before
 not_before : (n : Netlist) (before xs : List ℕ) → IsOrderFrom n before xs → (k : ℕ) → Has xs k → Has before k → ⊥

@@ -1,7 +1,7 @@
 -- The ports of listed vectors suit those of the configuration: its clocks and edt_clock pulse, and nothing else does.
 use Rattle.std.proofs.Common.{ℕ, zero, suc, ◌+◌, ◌*◌, ◌/◌, ◌<◌, ◌≤◌, ◌≡◌, ◌==◌, ◌||◌, Bool, true, false, not, List, [], ◌∷◌, ◌++◌, map, Option, None, Some, refl, sym, ap, subst, arith, ◌∙◌}
 use Rattle.std.specs.List.{list_any, range_with_len}
-use Rattle.std.proofs.lemmas.Bool.{eqb-true}
+use Rattle.std.proofs.lemmas.Bool.{eqb-true, or_left, or_right, false_from_ne_true}
 use Rattle.std.proofs.lemmas.List.{append_assoc}
 use Rattle.std.proofs.lemmas.Nat.{le-div}
 use Rattle.dft_base.specs.Solutions.{bit_at}
@@ -33,7 +33,7 @@ use Rattle.dft_vectors.specs.Signals.{input_bits}
 use Rattle.dft_vectors.specs.VectorList.{capture_acts, load_vectors, no_table, last_of, pattern_vectors, set_up_acts, shift_acts, unloaded, vectors_of}
 use Rattle.dft_pattern_behavior.specs.Doing.{DoesAt, Does, AllDo, SetSuits}
 use Rattle.dft_pattern_behavior.proofs.Listed.{is_in}
-use Rattle.dft_pattern_behavior.proofs.Places.{added_nets, all_inputs, not_both, not_in_both}
+use Rattle.dft_pattern_behavior.proofs.Places.{added_nets, all_inputs, not_in_both}
 use Rattle.dft_pattern_behavior.proofs.Playing.{bits_from, clock_pulses, does_head, does_more, does_own, does_past, does_tail, input_before, plays, pulse_is}
 
 -- ---- what does not pulse
@@ -55,14 +55,6 @@ low_all x net b from (suc count) bits more rest h past is =
 or_later : (a b : Bool) → a ≡ false → (a || b) ≡ true → b ≡ true
 or_later true b e h = absurd (true_false true refl e)
 or_later false b e h = h
-
-or_left : (a b : Bool) → a ≡ true → (a || b) ≡ true
-or_left true b e = refl
-or_left false b e = absurd cc
-
-or_right : (a b : Bool) → b ≡ true → (a || b) ≡ true
-or_right true b e = refl
-or_right false b e = e
 
 swapped : (a b : ℕ) → (a == b) ≡ (b == a)
 swapped a b = grind arith
@@ -222,5 +214,5 @@ set_suits n config p ps xs ready h =
     record {
       clocks = λ net. bool_same (list_any (λ (x : Vector). x.pulsed net) xs) ((ports_in Edt n config).is_clock net) (λ pulse. tame_list n config (vectors_of n config (plan_of n config) (p ∷ ps)) xs tame_all h net pulse)
           (λ clock. clocks_pulse n config p ps xs ready h net clock);
-      resets = λ net is. ap not (not_both (list_any (λ (x : Vector). x.pulsed net) xs) (λ pulse. reset_apart n config net ready is (tame_list n config (vectors_of n config (plan_of n config) (p ∷ ps)) xs tame_all h net pulse)));
+      resets = λ net is. ap not (false_from_ne_true (list_any (λ (x : Vector). x.pulsed net) xs) (λ pulse. reset_apart n config net ready is (tame_list n config (vectors_of n config (plan_of n config) (p ∷ ps)) xs tame_all h net pulse)));
     }

@@ -1,6 +1,6 @@
 -- Loops over acts that look for a pulsing signal which is not low.
 use Rattle.std.proofs.Common.{cond, add-one, drop, drop-cons, ◌⊎◌, inl, inr, replicate, is_some, ◌≡◌, ◌≢◌, ℕ, zero, suc, ◌<◌, ◌≤◌, ◌+◌, Bool, true, false, true≢false, ◌||◌, ◌&&◌, List, [], ◌∷◌, length, get_or, slice_set, get_or-set_same, get_or-set_other, below_more, Option, Some, None, refl, sym, ap, ◌∙◌, arith}
-use Rattle.std.proofs.lemmas.Bool.{cases_lt}
+use Rattle.std.proofs.lemmas.Bool.{cases_lt, or_right}
 use Rattle.std.proofs.lemmas.List.{length-set, length-replicate, get_or_past}
 use Rattle.dft_patterns.specs.declared.act.Act.{Act}
 use Rattle.dft_patterns.specs.declared.act.Act.TheVariants.{Unset, Low, High, Pulse, ExpectLow, ExpectHigh, Ignore}
@@ -147,10 +147,6 @@ none_from : (f : ℕ → Bool) (n : ℕ) (vs : List (List Act)) → first_unstea
 none_from f n [] e v k h = refl
 none_from f n (acts ∷ vs) e zero k h = none_here f 0 acts (none_found n _ _ e).0 k (ap f (omega arith) ∙ h)
 none_from f n (acts ∷ vs) e (suc v) k h = none_from f (suc n) vs (none_found n _ _ e).1 v k h
-
-or_right : (a b : Bool) → b ≡ true → (a || b) ≡ true
-or_right true b h = refl
-or_right false b h = h
 
 pulse_told : (vs : List (List Act)) (v s : ℕ) → act_of_signal (get_or vs v []) s ≡ Pulse → pulses vs s ≡ true
 pulse_told [] v s e = absurd (true≢false (sym (ap is_pulse e)))

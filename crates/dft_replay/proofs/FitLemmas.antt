@@ -6,6 +6,7 @@ use Rattle.std.specs.Str.{bytes_eq}
 use Rattle.std.specs.List.{list_any}
 use Rattle.std.proofs.lemmas.List.{length-map}
 use Rattle.std.proofs.lemmas.Option.{slice_get_within, slice_get_past, slice_get-get_or}
+use Rattle.std.proofs.lemmas.Bool.{and_parts, and_from, or_left, or_right, false_from_ne_true, or_cases}
 use Rattle.dft_cells.specs.WellFormed.{has_name}
 use Rattle.dft_netlist.specs.declared.ids.NetId.{NetId}
 use Rattle.dft_base.specs.declared.dir.Dir.{Dir}
@@ -21,7 +22,6 @@ use Rattle.dft_netlist.proofs.LiveLemmas.{AreWide}
 use Rattle.dft_patterns.specs.declared.signal.StilSignal.{StilSignal}
 use Rattle.dft_replay.specs.Fits.{same_dir, has_bit, is_port_bit}
 use Rattle.dft_replay.specs.Vectors.{dirs_of}
-use Rattle.dft_replay.proofs.TestLemmas.{or_cases, or_left, or_right, and_parts, and_both}
 
 -- ---- directions
 
@@ -133,7 +133,7 @@ bit_fits (port ∷ ports) s k d wide named goes same =
           let within = slice_get_within names k s.name here in
           elim (at_either dirs (dirs_of ports) k d goes) [
             | inl there ↦ or_left (has_bit s port) (list_any (has_bit s) ports)
-                (and_both (same_dir port.dir s.dir) (has_name names s.name) (subst (λ (e : Dir). same_dir e s.dir ≡ true) (sym (same_from port.dir d port.bits k there)) same) (has_here names k s.name here))
+                (and_from (same_dir port.dir s.dir) (has_name names s.name) (subst (λ (e : Dir). same_dir e s.dir ≡ true) (sym (same_from port.dir d port.bits k there)) same) (has_here names k s.name here))
             | inr behind ↦ (let e = behind.number in absurd (omega arith))
           ])
       | inr later ↦ (
@@ -221,15 +221,11 @@ fitting_net n s sound h =
 
 -- ---- misfits
 
-misfit_from : (b : Bool) → (b ≡ true → ⊥) → b ≡ false
-misfit_from true never = absurd (never refl)
-misfit_from false never = refl
-
 pub unnamed_misfit : (n : Netlist) (s : StilSignal) → IsNetlist n → find_net n s.name ≡ None → is_port_bit n s ≡ false
-unnamed_misfit n s sound none = misfit_from (is_port_bit n s) (λ h. (let r = fitting_net n s sound h in let e : None ≡ Some r.net = sym none ∙ r.found in cc))
+unnamed_misfit n s sound none = false_from_ne_true (is_port_bit n s) (λ h. (let r = fitting_net n s sound h in let e : None ≡ Some r.net = sym none ∙ r.found in cc))
 
 pub no_port_misfit : (n : Netlist) (s : StilSignal) (k : NetId) → IsNetlist n → find_net n s.name ≡ Some k → slice_get (dirs_of n.ports) k.0 ≡ None → is_port_bit n s ≡ false
-no_port_misfit n s k sound found none = misfit_from (is_port_bit n s) (λ h.
+no_port_misfit n s k sound found none = false_from_ne_true (is_port_bit n s) (λ h.
     (let r = fitting_net n s sound h in
     let e : Some k ≡ Some r.net = sym found ∙ r.found in
     let f : k ≡ r.net = cc in
@@ -237,7 +233,7 @@ no_port_misfit n s k sound found none = misfit_from (is_port_bit n s) (λ h.
     cc))
 
 pub other_way_misfit : (n : Netlist) (s : StilSignal) (k : NetId) (d : Dir) → IsNetlist n → find_net n s.name ≡ Some k → slice_get (dirs_of n.ports) k.0 ≡ Some d → same_dir d s.dir ≡ false → is_port_bit n s ≡ false
-other_way_misfit n s k d sound found goes other = misfit_from (is_port_bit n s) (λ h.
+other_way_misfit n s k d sound found goes other = false_from_ne_true (is_port_bit n s) (λ h.
     (let r = fitting_net n s sound h in
     let e : Some k ≡ Some r.net = sym found ∙ r.found in
     let f : k ≡ r.net = cc in

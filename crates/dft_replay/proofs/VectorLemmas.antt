@@ -8,6 +8,7 @@ use Rattle.std.proofs.lemmas.List.Sums.{sum_by-cons}
 use Rattle.std.proofs.lemmas.List.{length-map, append-nil}
 use Rattle.std.proofs.lemmas.List.Elements.{filter-append}
 use Rattle.std.proofs.lemmas.Option.{slice_get-get_or}
+use Rattle.std.proofs.lemmas.Bool.{eqb-true, and_parts, and_from, or_left, or_right, eq-eqb, or_cases}
 use Rattle.dft_base.specs.declared.tri.Tri.{Tri}
 use Rattle.dft_netlist.specs.declared.ids.NetId.{NetId}
 use Rattle.dft_netlist.specs.Orders.{Has, numbers_of}
@@ -19,7 +20,6 @@ use Rattle.dft_patterns.specs.declared.act.Act.TheVariants.{Unset, Low, High, Pu
 use Rattle.dft_replay.specs.Rows.{Compared, Row, act_on, set_by, is_pulse, compared_at, compared_from, row_of}
 use Rattle.dft_replay.specs.Rows as rows
 use Rattle.dft_replay.specs.Vectors.{act_at, net_at, is_compared, pulses_at, clocks_of, AreClocks}
-use Rattle.dft_replay.proofs.TestLemmas.{or_cases, or_left, or_right, and_parts, and_both}
 
 -- ---- the act at a net
 
@@ -142,12 +142,6 @@ same_tests true b to from = sym (to refl)
 same_tests false true to from = from refl
 same_tests false false to from = refl
 
-eqb_is : (a b : ℕ) → (a == b) ≡ true → a ≡ b
-eqb_is a b h = elim (eqb_tells a b) [ inl is ↦ is.1 | inr other ↦ absurd (let f : true ≡ false = sym h ∙ other.0 in let g : ⊥ = cc in g) ]
-
-is_eqb : (a b : ℕ) → a ≡ b → (a == b) ≡ true
-is_eqb a b h = elim (eqb_tells a b) [ inl is ↦ is.0 | inr other ↦ absurd (other.1 h) ]
-
 -- a net that pulses is that of a signal that does
 record PulsesBy (nets : List ℕ) (acts : List Act) (net : ℕ) : Type 0 where
   pub signal : ℕ
@@ -175,7 +169,7 @@ marked : (nets : List NetId) (acts : List Act) (clocks : List ℕ) (e : ℕ) →
     (s : ℕ) × (Has clocks s × (is_pulse (act_at acts s) ≡ true) × ((net_at nets s).0 ≡ e))
 marked nets acts [] e h = absurd (let f : ⊥ = cc in f)
 marked nets acts (c ∷ clocks) e h = elim (or_cases (is_pulse (act_at acts c) && ((net_at nets c).0 == e)) (pulses (map (net_at nets) clocks) (map (λ s. is_pulse (act_at acts s)) clocks) e) h) [
-  | inl here ↦ (let both = and_parts (is_pulse (act_at acts c)) ((net_at nets c).0 == e) here in (c, (inl refl, both.0, eqb_is (net_at nets c).0 e both.1)))
+  | inl here ↦ (let both = and_parts (is_pulse (act_at acts c)) ((net_at nets c).0 == e) here in (c, (inl refl, both.0, eqb-true (net_at nets c).0 e both.1)))
   | inr later ↦ (let r = marked nets acts clocks e later in (r.0, (inr r.1.0, r.1.1, r.1.2)))
 ]
 
@@ -183,7 +177,7 @@ marks : (nets : List NetId) (acts : List Act) (clocks : List ℕ) (e s : ℕ) �
 marks nets acts [] e s has up at = absurd has
 marks nets acts (c ∷ clocks) e s has up at = elim has [
   | inl is ↦ or_left (is_pulse (act_at acts c) && ((net_at nets c).0 == e)) (pulses (map (net_at nets) clocks) (map (λ k. is_pulse (act_at acts k)) clocks) e)
-      (and_both (is_pulse (act_at acts c)) ((net_at nets c).0 == e) (ap (λ (k : ℕ). is_pulse (act_at acts k)) (sym is) ∙ up) (is_eqb (net_at nets c).0 e (ap (λ (k : ℕ). (net_at nets k).0) (sym is) ∙ at)))
+      (and_from (is_pulse (act_at acts c)) ((net_at nets c).0 == e) (ap (λ (k : ℕ). is_pulse (act_at acts k)) (sym is) ∙ up) (eq-eqb (net_at nets c).0 e (ap (λ (k : ℕ). (net_at nets k).0) (sym is) ∙ at)))
   | inr later ↦ or_right (is_pulse (act_at acts c) && ((net_at nets c).0 == e)) (pulses (map (net_at nets) clocks) (map (λ k. is_pulse (act_at acts k)) clocks) e) (marks nets acts clocks e s later up at)
 ]
 
@@ -204,14 +198,14 @@ clocks_marked m nets clocks acts e differ same are =
 one_among : (nets : List NetId) (clocks : List ℕ) (e : ℕ) → is_one_of (map (net_at nets) clocks) e ≡ true → (s : ℕ) × (Has clocks s × ((net_at nets s).0 ≡ e))
 one_among nets [] e h = absurd (let f : ⊥ = cc in f)
 one_among nets (c ∷ clocks) e h = elim (or_cases ((net_at nets c).0 == e) (is_one_of (map (net_at nets) clocks) e) h) [
-  | inl here ↦ (c, (inl refl, eqb_is (net_at nets c).0 e here))
+  | inl here ↦ (c, (inl refl, eqb-true (net_at nets c).0 e here))
   | inr later ↦ (let r = one_among nets clocks e later in (r.0, (inr r.1.0, r.1.1)))
 ]
 
 among_one : (nets : List NetId) (clocks : List ℕ) (e s : ℕ) → Has clocks s → (net_at nets s).0 ≡ e → is_one_of (map (net_at nets) clocks) e ≡ true
 among_one nets [] e s has at = absurd has
 among_one nets (c ∷ clocks) e s has at = elim has [
-  | inl is ↦ or_left ((net_at nets c).0 == e) (is_one_of (map (net_at nets) clocks) e) (is_eqb (net_at nets c).0 e (ap (λ (k : ℕ). (net_at nets k).0) (sym is) ∙ at))
+  | inl is ↦ or_left ((net_at nets c).0 == e) (is_one_of (map (net_at nets) clocks) e) (eq-eqb (net_at nets c).0 e (ap (λ (k : ℕ). (net_at nets k).0) (sym is) ∙ at))
   | inr later ↦ or_right ((net_at nets c).0 == e) (is_one_of (map (net_at nets) clocks) e) (among_one nets clocks e s later at)
 ]
 

@@ -7,6 +7,7 @@ use Rattle.std.specs.Str.{bytes_eq}
 use Rattle.std.proofs.lemmas.List.Splits.{join_with_byte-slice_split}
 use Rattle.std.proofs.lemmas.Option.{same_Some}
 use Rattle.std.proofs.lemmas.Slice.Eq.{bytes_eq-Decides}
+use Rattle.std.proofs.lemmas.Bool.{and_parts}
 use Rattle.dft_base.specs.Lexing.{Text}
 use Rattle.dft_base.specs.declared.rule.Rule.{Rule}
 use Rattle.dft_base.specs.declared.rule.Rule.TheVariants.{S1, S2, S3, S4}
@@ -61,11 +62,6 @@ either : {A : Type 0} (t : Bool) (o p : Option A) (x : A) → (if t then o else 
 either true o p x e = inl (refl, e)
 either false o p x e = inr e
 
-both_true : (a b : Bool) → (a && b) ≡ true → (a ≡ true) × (b ≡ true)
-both_true true true e = (refl, refl)
-both_true true false e = absurd cc
-both_true false b e = absurd cc
-
 two_numbers : (say : ℕ → ℕ → Said) (oa ob : Option ℕ) (s : Said) → with_two say oa ob ≡ Some s → (a : ℕ) × (b : ℕ) × (oa ≡ Some a) × (ob ≡ Some b) × (say a b ≡ s)
 two_numbers say None ob s e = absurd cc
 two_numbers say (Some a) None s e = absurd cc
@@ -83,7 +79,7 @@ title_told (a ∷ []) s e = absurd cc
 title_told (a ∷ b ∷ c ∷ words) s e = absurd cc
 title_told (a ∷ b ∷ []) s e =
     let r = behind_test (bytes_eq a (codes "report") && bytes_eq b (codes "1")) (Some Title) s e in
-    let t = both_true (bytes_eq a (codes "report")) (bytes_eq b (codes "1")) r.0 in
+    let t = and_parts (bytes_eq a (codes "report")) (bytes_eq b (codes "1")) r.0 in
     subst (Told (codes "edt") (a ∷ b ∷ [])) (same_Some Title s r.1) (refl, ap₂ (λ (x y : Text). x ∷ y ∷ []) (same_word a _ t.0) (same_word b _ t.1))
 
 load_told : (oc ov : Option ℕ) (cells chains : Option ℕ) (s : Said) → counts_with cells chains (load_of oc ov) ≡ Some s →
@@ -194,7 +190,7 @@ outcome_told name word last s e = elim (either (bytes_eq word (codes "encoded"))
         subst (Told (codes "cube") (name ∷ word ∷ last ∷ [])) t.2 (refl, ap₂ (λ (x y : Text). name ∷ x ∷ y ∷ []) (same_word word _ second.0) (number_word last t.0 t.1).0))
     | inr rest ↦ (let r = behind_test (bytes_eq word (codes "skipped") && is_name last) (Some (Skipped name last)) s rest in
         subst (Told (codes "cube") (name ∷ word ∷ last ∷ [])) (same_Some (Skipped name last) s r.1)
-        (refl, ap (λ (x : Text). name ∷ x ∷ last ∷ []) (same_word word _ (both_true (bytes_eq word (codes "skipped")) (is_name last) r.0).0)))
+        (refl, ap (λ (x : Text). name ∷ x ∷ last ∷ []) (same_word word _ (and_parts (bytes_eq word (codes "skipped")) (is_name last) r.0).0)))
   ]
 ]
 

@@ -2,7 +2,7 @@
 use Rattle.std.proofs.Common.{ℕ, zero, suc, ◌+◌, ◌≡◌, ◌==◌, ◌<◌, ◌≤◌, inl, inr, Bool, true, false, nat_lt, List, [], ◌∷◌, ◌++◌, length, map, Option, None, Some, is_some, option_and_then, slice_get, refl, sym, subst, ap, arith, ◌∙◌, append-nil}
 use Rattle.std.specs.Prelude.{slice_index_or, if◌then◌else◌}
 use Rattle.std.proofs.lemmas.List.{length-map}
-use Rattle.std.proofs.lemmas.Option.{none-some, same_Some}
+use Rattle.std.proofs.lemmas.Option.{none-some, same_Some, slice_get_within}
 use Rattle.dft_base.specs.declared.dir.Dir.{Dir}
 use Rattle.dft_base.specs.declared.dir.Dir.TheVariants as dir
 use Rattle.dft_cells.specs.declared.kind.Kind.{Kind}
@@ -205,14 +205,9 @@ now_by style n config k i x true ready at is spared = cell_by style n config k i
 
 -- ---- parts join pins of the design's instances
 
-get_less : {A : Type 0} (xs : List A) (i : ℕ) (x : A) → slice_get xs i ≡ Some x → i < length xs
-get_less [] i x h = absurd (none-some x h)
-get_less (y ∷ xs) zero x h = omega arith
-get_less (y ∷ xs) (suc i) x h = omega (arith, get_less xs i x h)
-
 there_by : (n : Netlist) (i : ℕ) (o : Option Instance) → slice_get n.instances i ≡ o → is_some (option_and_then (λ (x : Instance). scan_cell_in n.library x.cell) o) ≡ true → i < length n.instances
 there_by n i None at some = absurd cc
-there_by n i (Some x) at some = get_less n.instances i x at
+there_by n i (Some x) at some = slice_get_within n.instances i x at
 
 pub scanned_there : (n : Netlist) (config : Config) (i : ℕ) → is_scanned (judged n config i) ≡ true → i < length n.instances
 scanned_there n config i on = there_by n i (slice_get n.instances i) refl (scans_of n config i on)

@@ -1,7 +1,7 @@
 -- The drivers of a design, with their nets moved, among those of its scanned netlist.
 use Rattle.std.proofs.Common.{ℕ, zero, suc, ◌+◌, ◌≡◌, ◌==◌, ◌<◌, ◌⊎◌, inl, inr, Bool, true, false, List, [], ◌∷◌, ◌++◌, length, map, Option, None, Some, slice_get, refl, sym, subst, ap, arith, ◌∙◌, append_assoc, append-nil}
 use Rattle.std.specs.Prelude.{slice_index_or, if◌then◌else◌}
-use Rattle.std.proofs.lemmas.Bool.{eqb-true}
+use Rattle.std.proofs.lemmas.Bool.{eqb-true, eq-eqb}
 use Rattle.std.proofs.lemmas.Bool.Decides.{nat_tests}
 use Rattle.dft_cells.specs.declared.kind.Kind.{Kind}
 use Rattle.dft_cells.specs.declared.kind.Kind.TheVariants.{Dff, Dffr, Dffs, Sdff, Sdffr, Sdffs}
@@ -50,9 +50,6 @@ joined_length i pin net [] = refl
 joined_length zero pin net (x ∷ xs) = refl
 joined_length (suc i) pin net (x ∷ xs) = ap suc (joined_length i pin net xs)
 
-same_number : (m k : ℕ) → m ≡ k → (m == k) ≡ true
-same_number m k same = grind (arith, nat_tests, same)
-
 other_number : (m k : ℕ) → m < k → (m == k) ≡ false
 other_number m k less = grind (arith, nat_tests, less)
 
@@ -60,7 +57,7 @@ joined_more : (i pin : ℕ) (net : NetId) (parts : List Part) (b j : ℕ) (xs : 
     map_from (λ (k : ℕ) (x : Instance). record x { pins = joined_in parts k (if i == k then pin_joined pin net x.pins else x.pins) }) b xs ≡ map_from (joined_at parts) b (instance_joined j pin net xs)
 joined_more i pin net parts b j [] is = refl
 joined_more i pin net parts b zero (x ∷ xs) is =
-    ap (λ t. record x { pins = joined_in parts b (if t then pin_joined pin net x.pins else x.pins) } ∷ map_from (λ (k : ℕ) (y : Instance). record y { pins = joined_in parts k (if i == k then pin_joined pin net y.pins else y.pins) }) (suc b) xs) (same_number i b (omega (arith, is)))
+    ap (λ t. record x { pins = joined_in parts b (if t then pin_joined pin net x.pins else x.pins) } ∷ map_from (λ (k : ℕ) (y : Instance). record y { pins = joined_in parts k (if i == k then pin_joined pin net y.pins else y.pins) }) (suc b) xs) (eq-eqb i b (omega (arith, is)))
     ∙ ap (λ (ys : List Instance). record x { pins = joined_in parts b (pin_joined pin net x.pins) } ∷ ys)
     (map_from_same (λ (k : ℕ) (y : Instance). record y { pins = joined_in parts k (if i == k then pin_joined pin net y.pins else y.pins) }) (joined_at parts) (suc b) xs
     (λ k y at. ap (λ t. record y { pins = joined_in parts (suc b + k) (if t then pin_joined pin net y.pins else y.pins) }) (other_number i (suc b + k) (omega (arith, is)))))

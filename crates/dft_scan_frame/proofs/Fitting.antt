@@ -2,6 +2,7 @@
 use Rattle.std.proofs.Common.{ℕ, zero, suc, ◌+◌, ◌≡◌, ◌≤◌, false, List, ◌∷◌, ◌++◌, length, Option, None, Some, slice_get, refl, sym, subst, ap, arith, ◌∙◌, append_assoc, append-nil, length-append, []}
 use Rattle.std.specs.List.{filter_map, cons_option}
 use Rattle.std.specs.Prelude.{if◌then◌else◌}
+use Rattle.std.proofs.lemmas.Bool.{le-leb}
 use Rattle.dft_base.specs.Lexing.{Text}
 use Rattle.dft_base.specs.declared.place.Range.{Range}
 use Rattle.dft_netlist.specs.declared.port.Port.{Port}
@@ -13,7 +14,7 @@ use Rattle.dft_netlist.specs.Names.{names_taken, is_taken, first_taken, bit_name
 use Rattle.dft_netlist.specs.NetNumbers.{nets_from}
 use Rattle.dft_netlist.specs.Building.{port_of, port_limit, room_limit, taken_or, own_names}
 use Rattle.dft_netlist.specs.Sound.{bits_of, bit_names_of, HasOnlyPorts, IsInstance, IsAJoin}
-use Rattle.dft_netlist.proofs.RefusalLemmas.{le_true, net_open, instance_open}
+use Rattle.dft_netlist.proofs.RefusalLemmas.{net_open, instance_open}
 use Rattle.dft_scan_frame.specs.Growing.{APort, ANet, AnInstance, AJoin, with_thing, with_things, AllFit, port_things, net_things, instance_things, join_things}
 use Rattle.dft_scan_frame.proofs.NamesOnce.{times_named, named-append, never_has, named_here, taken_times, shown_append}
 
@@ -107,7 +108,7 @@ own_and_bits q port (Some range) rest is = subst (λ (o : Option Text). times_na
     (ap (vector_name_in port.name) (sym is)) (omega arith)
 
 room : (n : Netlist) (width : ℕ) → length n.ports + 1 ≤ MAX_PORTS → length n.nets + width ≤ MAX_NETS → room_limit n width ≡ None
-room n width ports nets = rw (le_true (length n.ports + 1) MAX_PORTS ports, le_true (length n.nets + width) MAX_NETS nets) refl
+room n width ports nets = rw (le-leb (length n.ports + 1) MAX_PORTS ports, le-leb (length n.nets + width) MAX_NETS nets) refl
 
 bits_behind : (ports : List Port) (port : Port) → length (bits_of (ports ++ port ∷ [])) ≡ length (bits_of ports) + length port.bits
 bits_behind [] port = omega (arith, length-append port.bits [])

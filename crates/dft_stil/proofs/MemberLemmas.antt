@@ -1,18 +1,10 @@
 -- Signals that are flagged are no more than flags.
 use Rattle.std.proofs.Common.{◌≡◌, ℕ, zero, suc, ◌<◌, ◌≤◌, Bool, true, false, true≢false, ◌||◌, eqb, List, [], ◌∷◌, replicate, length, get_or, inl, inr, ◌⊎◌, refl, sym, ◌∙◌, arith}
-use Rattle.std.proofs.lemmas.Bool.{cases_lt}
+use Rattle.std.proofs.lemmas.Bool.{cases_lt, or_left, or_right}
 use Rattle.std.proofs.lemmas.Bool.Decides.{nat_tests}
 use Rattle.std.proofs.lemmas.List.{get_or_past}
 use Rattle.dft_stil_text.specs.SignalGroups as spec
 use Rattle.dft_stil.specs.MembersShown.{Sees, AreBelow}
-
-or_right : (a b : Bool) → b ≡ true → (a || b) ≡ true
-or_right true b h = refl
-or_right false b h = h
-
-or_left : (a b : Bool) → a ≡ true → (a || b) ≡ true
-or_left true b h = refl
-or_left false b h = absurd (true≢false (sym h))
 
 has_element : (ns : List ℕ) (k d : ℕ) → k < length ns → spec.has_signal ns (get_or ns k d) ≡ true
 has_element [] k d h = absurd (omega arith)

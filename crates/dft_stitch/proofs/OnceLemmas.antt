@@ -2,7 +2,7 @@
 use Rattle.std.proofs.Common.{◌≡◌, ℕ, zero, suc, ◌+◌, ◌<◌, ◌≤◌, ◌==◌, Bool, true, false, cond, List, [], ◌∷◌, ◌++◌, length, get_or, flat_map, Option, None, Some, option_and_then, slice_get, refl, sym, ◌∙◌, ap, subst, arith, ◌⊎◌, inl, inr}
 use Rattle.std.specs.Prelude.{nat_lt, is_some}
 use Rattle.std.specs.List.{filter_map, cons_option, position_or_len, range_with_len}
-use Rattle.std.proofs.lemmas.Bool.{cases_eq}
+use Rattle.std.proofs.lemmas.Bool.{cases_eq, eqb-true}
 use Rattle.std.proofs.lemmas.Bool.Decides.{nat_tests}
 use Rattle.std.proofs.lemmas.List.{get_or_past}
 use Rattle.std.proofs.lemmas.Option.{slice_get_within, slice_get_past}
@@ -101,9 +101,6 @@ IsHead v d k x = (x ≡ record { 0 = k }) × (domain_of v (record { 0 = k }) ≡
 abbrev IsLater : (rest : List InstanceId) (x : InstanceId) → Type 0
 IsLater rest x = (q : ℕ) × (slice_get rest q ≡ Some x)
 
-same_number : (a b : ℕ) → (a == b) ≡ true → a ≡ b
-same_number a b h = grind (arith, nat_tests)
-
 number_same : (a : ℕ) → (a == a) ≡ true
 number_same a = grind (arith, nat_tests)
 
@@ -113,7 +110,7 @@ by_domain v d k rest p x None is h = inr (p, h)
 by_domain v d k rest p x (Some e) is h = by (e == d) refl p h
   where
     by : (t : Bool) → (e == d) ≡ t → (p : ℕ) → slice_get (cons_option (cond t (Some (record { 0 = k })) None) rest) p ≡ Some x → IsHead v d k x ⊎ IsLater rest x
-    by true same zero at = inl (cc, is ∙ ap Some (same_number e d same))
+    by true same zero at = inl (cc, is ∙ ap Some (eqb-true e d same))
     by true same (suc q) at = inr (q, at)
     by false same q at = inr (q, at)
 

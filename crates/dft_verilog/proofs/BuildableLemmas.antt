@@ -1,7 +1,7 @@
 -- A draft whose printed names differ and that keeps the limits is built.
 use Rattle.std.proofs.Common.{◌≡◌, ℕ, ◌+◌, ◌≤◌, pos, map, get_or, Bool, true, false, ◌||◌, cond, leb, List, [], ◌∷◌, ◌++◌, length, Option, Some, None, Ok, refl, sym, ap, ◌∙◌, subst, arith, length-append}
 use Rattle.std.specs.List.{cons_option, filter_map}
-use Rattle.std.proofs.lemmas.Bool.{le-leb}
+use Rattle.std.proofs.lemmas.Bool.{le-leb, or_parts, or_from}
 use Rattle.std.proofs.lemmas.List.{append_assoc, append-nil, length_push, length-map}
 use Rattle.std.proofs.lemmas.List.Elements.{filter_map-append}
 use Rattle.std.specs.Str.{bytes_eq}
@@ -29,14 +29,6 @@ use Rattle.dft_verilog.proofs.GrowLemmas.{add_port-Ok, add_ports-Ok, add_declare
 
 -- ---- names that are new
 
-or_false : (a b : Bool) → a ≡ false → b ≡ false → (a || b) ≡ false
-or_false true b p q = absurd (cc)
-or_false false b p q = q
-
-or_parts : (a b : Bool) → (a || b) ≡ false → (a ≡ false) × (b ≡ false)
-or_parts true b p = absurd (cc)
-or_parts false b p = (refl, p)
-
 or_assoc : (a b c : Bool) → ((a || b) || c) ≡ (a || (b || c))
 or_assoc true b c = refl
 or_assoc false b c = refl
@@ -47,7 +39,7 @@ has_name-append (x ∷ xs) ys word = ap (λ b. bytes_eq x word || b) (has_name-a
 
 -- none of two lists has the name, and so the two together
 neither : (xs ys : List Text) (word : Text) → has_name xs word ≡ false → has_name ys word ≡ false → has_name (xs ++ ys) word ≡ false
-neither xs ys word p q = has_name-append xs ys word ∙ or_false (has_name xs word) (has_name ys word) p q
+neither xs ys word p q = has_name-append xs ys word ∙ or_from (has_name xs word) (has_name ys word) p q
 
 apart_parts : (xs ys : List Text) (word : Text) → has_name (xs ++ ys) word ≡ false → (has_name xs word ≡ false) × (has_name ys word ≡ false)
 apart_parts xs ys word h = or_parts (has_name xs word) (has_name ys word) (sym (has_name-append xs ys word) ∙ h)
@@ -63,7 +55,7 @@ apart_at first (x ∷ xs) word more h = apart_at first xs word more h.1
 
 new_here : (before : List Text) (word : Text) (words : List Text) → AreApart (before ++ word ∷ words) → has_name before word ≡ false
 new_here [] word words h = refl
-new_here (b ∷ bs) word words h = or_false (bytes_eq b word) (has_name bs word) (apart_at b bs word words h.0) (new_here bs word words h.1)
+new_here (b ∷ bs) word words h = or_from (bytes_eq b word) (has_name bs word) (apart_at b bs word words h.0) (new_here bs word words h.1)
 
 AreNew-apart : (before words : List Text) → AreApart (before ++ words) → AreNew before words
 AreNew-apart before [] h = tt
@@ -204,7 +196,7 @@ port_more n m word dir (Some range) bits e = record {
   more_nets = ap (λ (x : Netlist). x.nets) e;
   more_vectors = ap vectors e ∙ filter_map-append vector_name n.ports (port_of word dir (Some range) bits ∷ []);
   more_owns = ap owns e ∙ sym (append-nil (owns n));
-  among = λ other h. let p = or_parts (bytes_eq word other) (has_name (bit_names word (Some range)) other) h in (p.1, or_false (bytes_eq word other) false p.0 refl, refl);
+  among = λ other h. let p = or_parts (bytes_eq word other) (has_name (bit_names word (Some range)) other) h in (p.1, or_from (bytes_eq word other) false p.0 refl, refl);
 }
 
 declared-built : (n : Netlist) (before : List Text) (word : Text) (declared : Option Declared) → Frees n before → AreNew before (names_of_port word declared) → length n.ports + 1 ≤ MAX_PORTS

@@ -1,7 +1,7 @@
 -- The nets that are no port's bits, as nets and ports come.
 use Rattle.std.proofs.Common.{◌≡◌, ℕ, zero, suc, ◌+◌, ◌<◌, ◌≤◌, Bool, true, false, not, ◌||◌, cond, eqb, List, [], ◌∷◌, ◌++◌, length, map, filter, get_or, refl, sym, ap, ap₂, ◌∙◌, arith, length-append}
 use Rattle.std.specs.List.{list_any}
-use Rattle.std.proofs.lemmas.Bool.{ne_eqb}
+use Rattle.std.proofs.lemmas.Bool.{ne_eqb, or_right}
 use Rattle.std.proofs.lemmas.Bool.Decides.{nat_tests}
 use Rattle.std.proofs.lemmas.List.{append-nil, append_assoc, get_or_append_left}
 use Rattle.std.proofs.lemmas.List.Elements.{filter-append}
@@ -77,10 +77,6 @@ others_more used n m below =
     ∙ filter-append test (going_up 0 n) (going_up n m)
     ∙ ap (λ xs. others_from used 0 n ++ xs) (filter_all test n m (λ y lo. ap not (among_below y n used below lo)))
 
-or_true : (a b : Bool) → b ≡ true → (a || b) ≡ true
-or_true true b h = refl
-or_true false b h = h
-
 or_false : (a b : Bool) → b ≡ false → (a || b) ≡ a
 or_false true b h = refl
 or_false false b h = h
@@ -93,7 +89,7 @@ others_kept used with n m any =
     ∙ filter-append test (going_up 0 n) (going_up n m)
     ∙ ap₂ (λ xs ys. xs ++ ys)
     (filter_same test (λ net. not (is_among net used)) 0 n (λ y lo hi. ap not (any y ∙ or_false (is_among y used) _ (among_less y n m (omega arith)))))
-    (filter_none test n m (λ y lo hi. ap not (any y ∙ or_true (is_among y used) _ (among_row y n m lo hi))))
+    (filter_none test n m (λ y lo hi. ap not (any y ∙ or_right (is_among y used) _ (among_row y n m lo hi))))
     ∙ append-nil (others_from used 0 n)
 
 -- ---- their names

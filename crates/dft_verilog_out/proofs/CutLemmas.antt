@@ -12,6 +12,7 @@ use Rattle.std.specs.Str.Parse.{digits_value}
 use Rattle.std.proofs.lemmas.Fmt.{decimal_is_IsNumeral, length-decimal-le, decimal_nonempty, digits_decimal}
 use Rattle.std.proofs.lemmas.Str.Parse.{numerals_by_value, tells_by_index}
 use Rattle.std.proofs.lemmas.List.Elements.{All-from_get_or}
+use Rattle.std.proofs.lemmas.Bool.{and_parts}
 use Rattle.dft_netlist_text.specs.Expressions.{small_number}
 use Rattle.dft_base.specs.Lexing.{Text, Blank, Cut, tokens_from}
 use Rattle.dft_base.specs.Name.{IsName}
@@ -187,14 +188,6 @@ cut_front text l e cut full moves =
     let token : front false text ≡ Cut (token_of l text) l.len (is_base_kind l.kind) =
     front_token false text e ∙ ap (λ (m : Lexeme). Cut (token_of m text) m.len (is_base_kind m.kind)) cut in
     tokens_from-cut front false text (token_of l text) l.len (is_base_kind l.kind) full moves token
-
-and_parts : (a b : Bool) → (a && b) ≡ true → (a ≡ true) × (b ≡ true)
-and_parts true b h = (refl, h)
-and_parts false b h = absurd (cc)
-
-is_false : (a : Bool) → not a ≡ true → a ≡ false
-is_false true h = absurd (cc)
-is_false false h = refl
 
 begins_continues : (b : ℕ) → begins_word b ≡ true → continues_word b ≡ true
 begins_continues b e = grind (arith, nat_tests)

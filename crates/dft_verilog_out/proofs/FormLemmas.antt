@@ -108,9 +108,6 @@ texts-are n first all f e =
 pub wires-are : (n : Netlist) (first all : List Text) (from : ℕ) → first ≡ flat_map port_texts n.ports → from ≡ length first → all ≡ net_texts n → drop from all ≡ map name_text (wire_names n)
 wires-are n first all from f k e = ap (drop from) e ∙ ap (λ j. drop j (net_texts n)) (k ∙ ap length f) ∙ drop-append_seam (flat_map port_texts n.ports) (map name_text (wire_names n))
 
-pub rest-is : {X : Type 0} (xs : List X) (k : ℕ) → take (length xs - k) (drop k xs) ≡ drop k xs
-rest-is xs k = take_all (length xs - k) (drop k xs) (omega (arith, length-drop k xs))
-
 pub module_line-is : (n : Netlist) (old new name : Text) (ports : List Port) → old ≡ [] → name ≡ n.name → ports ≡ n.ports → new ≡ old ++ module_line name ports → new ≡ module_line n.name n.ports
 module_line-is n old new name ports o m p e = e ∙ rw (o, m, p) refl
 

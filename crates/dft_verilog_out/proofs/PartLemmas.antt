@@ -4,6 +4,7 @@ use Rattle.std.specs.List.{filter_map, cons_option}
 use Rattle.std.proofs.lemmas.Bool.Decides.{nat_tests}
 use Rattle.std.proofs.lemmas.List.{length-map}
 use Rattle.std.proofs.Math.Seq.{take-append_seam, drop-append_seam}
+use Rattle.std.proofs.lemmas.Bool.{false_from_ne_true}
 use Rattle.dft_base.specs.Lexing.{Text}
 use Rattle.dft_cells.specs.declared.kind.Kind.{Kind}
 use Rattle.dft_cells.specs.declared.kind.Kind.TheVariants as primitive
@@ -152,10 +153,6 @@ gate_line-is texts k i ins output e = rw (e, first_is ins output) refl
 
 -- ---- cells
 
-false_by : (t : Bool) → (t ≡ true → ⊥) → t ≡ false
-false_by true h = absurd (h refl)
-false_by false h = refl
-
 joined_is : (s : Signal) → is_joined s ≡ true → IsConnected s
 joined_is (signal.Net net) h = tt
 joined_is (signal.Constant bit) h = tt
@@ -266,7 +263,7 @@ instance_step n (Some w) (cell_ref.Library id) pins names ports nets done joins 
       differ = is_cell.differ;
       live = r.stands.live;
       outputs = λ place pin bit here to.
-          false_by (is_output pin.role) (λ out. r.stands.outputs place pin.role bit (ap (λ (rs : List Role). slice_get rs place) roles ∙ role_at cell.pins place pin here) out to);
+          false_from_ne_true (is_output pin.role) (λ out. r.stands.outputs place pin.role bit (ap (λ (rs : List Role). slice_get rs place) roles ∙ role_at cell.pins place pin here) out to);
     } in
     let line = cell_read start named texts id cell w pins (find_cell-at n.library id.0 cell well.names at.1) at.1 is_named.name r.named.own (λ place. name_instance-is place w start (free w refl) room)
     (pins_of named texts cell pins 0 cell.pins pins c width (from_zero cell.pins) (from_zero pins)) width in
