@@ -15,10 +15,10 @@ and_false false = refl
 pub xor_assoc : (a b c : Bool) → xor (xor a b) c ≡ xor a (xor b c)
 xor_assoc = grind arith
 
-xor_swap : (a b c d : Bool) → xor (xor a b) (xor c d) ≡ xor (xor a c) (xor b d)
+pub xor_swap : (a b c d : Bool) → xor (xor a b) (xor c d) ≡ xor (xor a c) (xor b d)
 xor_swap = grind arith
 
-and_over_xor : (a b c : Bool) → (xor a b) && c ≡ xor (a && c) (b && c)
+pub and_over_xor : (a b c : Bool) → (xor a b) && c ≡ xor (a && c) (b && c)
 and_over_xor = grind arith
 
 pub sum_same : (n : ℕ) (f h : ℕ → Bool) → ((i : ℕ) → i < n → f i ≡ h i) → sum_to n f ≡ sum_to n h

@@ -10,6 +10,7 @@ use Rattle.std.proofs.lemmas.Bool.{and_parts, false≢true, or_parts, not-true, 
 use Rattle.std.proofs.lemmas.List.{take_more, take-append-drop, drop_more, map-append}
 use Rattle.std.proofs.lemmas.Map.Text.{is_eq-slice_cmp}
 use Rattle.std.proofs.lemmas.Slice.Eq.{bytes_eq-Decides}
+use Rattle.dft_base.proofs.SumLemmas.{and_false}
 use Rattle.dft_cells.specs.declared.cell.Pin.{Pin}
 use Rattle.dft_cells.specs.WellFormed.{has_name, all_differ, pin_name}
 
@@ -91,10 +92,6 @@ differ_more (x ∷ names) last d h =
 named_within : (names rest : List (List ℕ)) (last name : List ℕ) → bytes_eq last name ≡ true → has_name (names ++ last ∷ rest) name ≡ true
 named_within [] rest last name e = rw e
 named_within (x ∷ names) rest last name e = rw (named_within names rest last name e) (or_end (bytes_eq x name) true)
-
-and_false : (a : Bool) → (a && false) ≡ false
-and_false true = refl
-and_false false = refl
 
 differ_not : (same : Bool) (x last : List ℕ) (names rest : List (List ℕ)) → bytes_eq x last ≡ same → (same || has_name names last) ≡ true
     → (has_name names last ≡ true → all_differ (names ++ last ∷ rest) ≡ false) → all_differ (x ∷ names ++ last ∷ rest) ≡ false

@@ -9,6 +9,8 @@ use Rattle.std.proofs.lemmas.Fmt.{digits_decimal}
 use Rattle.std.proofs.lemmas.List.Elements.{All-append, All-cons, All-from_get_or, All-nil}
 use Rattle.std.proofs.lemmas.Option.{none-some, same_Some, slice_get_within}
 use Rattle.std.proofs.lemmas.Str.Parse.{numerals_by_value, tells_by_index}
+use Rattle.dft_expect.proofs.ScannedCells.{none_first}
+use Rattle.dft_merge.proofs.EquationLemmas.{Each}
 use Rattle.dft_base.specs.Lexing.{Text}
 use Rattle.dft_base.specs.Name.{IsName}
 use Rattle.dft_base.specs.Words.{begins_word, continues_word, is_later_reserved, is_reserved, is_simple_name, is_word}
@@ -34,8 +36,6 @@ use Rattle.dft_scan_hardware.specs.Statements.{scanned}
 use Rattle.dft_scan_hardware.proofs.Keeping.{adds_in_order}
 use Rattle.dft_stil_out.specs.Writable.{IsQuotable}
 use Rattle.dft_compile_laws.specs.Formed.{ArePortsNamed, HasQuotableBits, IsShortRange}
-use Rattle.dft_compile_laws.proofs.Full.{Each}
-use Rattle.dft_compile_laws.proofs.Standing.{first_passes}
 
 each_both : {X : Type 0} (P : X → Type 0) (xs ys : List X) → Each P xs → Each P ys → Each P (xs ++ ys)
 each_both P [] ys h k = k
@@ -98,12 +98,12 @@ ports_quoted (port ∷ ports) h = each_both IsQuotable (bit_names port.name port
 no_quoted_port : (n : Netlist) (config : Config) → refusal n config ≡ None → quoted_port n.ports ≡ None
 unfolding refusal
 no_quoted_port n config passed =
-    let a = first_passes (unknown_port n config.domains) (from_resets n config) passed in
-    let b = first_passes (unknown_port n config.resets) (from_keep n config) a.1 in
-    let c = first_passes (unknown_cell n config.keep) (from_present n config) b.1 in
-    let d = first_passes (first_present n.library n.instances) (from_clocks n config) c.1 in
-    let e = first_passes (clock_as_data n config.domains) (from_ports n config) d.1 in
-    (first_passes (quoted_port n.ports) (from_count n config) e.1).0
+    let a = none_first (unknown_port n config.domains) (from_resets n config) passed in
+    let b = none_first (unknown_port n config.resets) (from_keep n config) a.1 in
+    let c = none_first (unknown_cell n config.keep) (from_present n config) b.1 in
+    let d = none_first (first_present n.library n.instances) (from_clocks n config) c.1 in
+    let e = none_first (clock_as_data n config.domains) (from_ports n config) d.1 in
+    (none_first (quoted_port n.ports) (from_count n config) e.1).0
 
 found_by : (t : Bool) (port : design_port.Port) (rest : Option design_port.Port) → option_map (λ p. PortName p.name) (cond t (Some port) rest) ≡ None → (t ≡ false) × (option_map (λ p. PortName p.name) rest ≡ None)
 found_by true port rest h = absurd (none-some (PortName port.name) (sym h))

@@ -4,6 +4,7 @@ use Rattle.std.specs.Prelude.{if◌then◌else◌, replicate, ◌≢◌}
 use Rattle.std.specs.List.{AllZip}
 use Rattle.std.proofs.lemmas.Bool.{eqb-true, false_from_ne_true}
 use Rattle.std.proofs.lemmas.List.{append_assoc}
+use Rattle.dft_merge.proofs.EquationLemmas.{Each}
 use Rattle.dft_base.specs.declared.tri.Tri.{Tri}
 use Rattle.dft_base.specs.declared.tri.Tri.TheVariants.{Zero, One, Unknown}
 use Rattle.dft_base.specs.Solutions.{bit_at}
@@ -29,7 +30,7 @@ use Rattle.dft_vectors.specs.PatternData.{PatternData}
 use Rattle.dft_vectors.specs.Signals.{input_bits}
 use Rattle.dft_vectors.specs.VectorList.{capture_acts, set_up_acts, shift_acts, unloaded, vectors_of}
 use Rattle.dft_pattern_behavior.proofs.Playing.{act_by, bits_from}
-use Rattle.dft_compile_laws.proofs.Full.{Each, HasWidth, each_listed, zip_append}
+use Rattle.dft_compile_laws.proofs.Full.{HasWidth, each_listed, zip_append}
 use Rattle.dft_compile_laws.proofs.Sides.{capture_outs, no_outs, shift_outs}
 
 -- a clock is low or pulses, and no other signal pulses

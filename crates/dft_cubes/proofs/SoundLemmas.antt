@@ -86,7 +86,7 @@ one_passes : (a : Bool) (x : CubeError) (later : Option CubeError) → (if a the
 one_passes true x later e = absurd (let f : ⊥ = cc in f)
 one_passes false x later e = (refl, e)
 
-printed_passes : (t : Bool) (fault : Option CubeError) (x : CubeError) → (if t then fault else Some x) ≡ None → fault ≡ None
+pub printed_passes : (t : Bool) (fault : Option CubeError) (x : CubeError) → (if t then fault else Some x) ≡ None → fault ≡ None
 printed_passes true fault x e = e
 printed_passes false fault x e = absurd (let f : ⊥ = cc in f)
 
@@ -191,14 +191,14 @@ line_sound n config r place (word ∷ words) passed kept =
     said_sound n config r.cubes r.pending place (line_of (word ∷ words)) (printed_passes (are_printed (word ∷ words)) _ _ passed) kept.cubes kept.pending
 
 -- the text
-ok_is : (cubes told : List Cube) → ◌≡◌ {A = Result (List Cube) CubeError} (Ok cubes) (Ok told) → cubes ≡ told
+pub ok_is : (cubes told : List Cube) → ◌≡◌ {A = Result (List Cube) CubeError} (Ok cubes) (Ok told) → cubes ≡ told
 ok_is cubes told e = cc
 
 ended_sound : (n : Netlist) (config : Config) (number : ℕ) (cubes : List Cube) (pending : Option Cube) (told : List Cube) → ended number cubes pending ≡ Ok told → AreCubes n config cubes → AreCubes n config told
 ended_sound n config number cubes None told e sound = subst (AreCubes n config) (ok_is cubes told e) sound
 ended_sound n config number cubes (Some cube) told e sound = absurd (let f : ⊥ = cc in f)
 
-both_pass : (fault : Option CubeError) (later : Result (List Cube) CubeError) (told : List Cube) → or_refused fault later ≡ Ok told → (fault ≡ None) × (later ≡ Ok told)
+pub both_pass : (fault : Option CubeError) (later : Result (List Cube) CubeError) (told : List Cube) → or_refused fault later ≡ Ok told → (fault ≡ None) × (later ≡ Ok told)
 both_pass None later told e = (refl, e)
 both_pass (Some error) later told e = absurd (let f : ⊥ = cc in f)
 

@@ -14,6 +14,7 @@ use Rattle.dft_netlist.specs.Settled.{TriSources, value_from, value_given, IsTri
 use Rattle.dft_netlist.specs.Runs.{Vector}
 use Rattle.dft_abstract.specs.Cycle.{Pulse, tri_forced_by, tri_taken_by, view_sources, AreViews, next_value, after_pulse, pulse_of, strobe_sources}
 use Rattle.dft_abstract.specs.Laws.{next_from}
+use Rattle.dft_abstract.proofs.OneDomain.{flop_old}
 use Rattle.dft_chains.specs.ScanOff.{moved_source, moved_force, moved_meaning, Places, IsWithin, IsForceWithin, IsEnabledBy, KeepsFlop}
 use Rattle.dft_edt.specs.Captures.{Covers, ContainingCovers, WideningCovers, StandsOver, StrobeLaw, IsCapture, CaptureLaw}
 use Rattle.dft_chains.proofs.Shiftings.{value_at}
@@ -114,11 +115,6 @@ view_clock true true h = tt
 view_clock true false h = absurd (let q : false ≡ true = h refl in cc)
 view_clock false is h = tt
 
-view_flop : (pulsed is : Bool) (a b : Tri) → (pulsed ≡ true → is ≡ true) → (if pulsed then (if is then a else b) else a) ≡ a
-view_flop true true a b h = refl
-view_flop true false a b h = absurd (let q : false ≡ true = h refl in cc)
-view_flop false is a b h = refl
-
 chosen_off : (s d : Tri) → tri_chosen Zero s d ≡ d
 chosen_off Zero Zero = refl
 chosen_off Zero One = refl
@@ -158,7 +154,7 @@ captured original written rank p d y x its old poss view values ranked has captu
       ports = over.ports;
       clocks = λ f. view_clock (x.pulsed (p.moved f)) (p.moved f == e) (λ up. eq-eqb (p.moved f) e (ap p.moved (capture.alone f up)));
       flops = λ c flop. subst (λ t. AboveTri ((pulse_of original y its).old c) t)
-          (sym (view_flop (x.pulsed (written.cell c).domain) ((written.cell c).domain == e) (q.old c) (poss c)
+          (sym (flop_old (x.pulsed (written.cell c).domain) ((written.cell c).domain == e) (q.old c) (poss c)
           (λ up. eq-eqb (written.cell c).domain e ((has.flops c flop).domain ∙ ap p.moved (capture.alone (original.cell c).domain (sym (ap x.pulsed (has.flops c flop).domain) ∙ up))))))
           (old_over original written p y x its old has over c flop);
     } in

@@ -253,7 +253,7 @@ cell_modelled n config chain place cell can stands =
 
 -- ---- no lock-up
 
-none_first : (check : Option RuleError) (checks : List (Option RuleError)) → first_failing (check ∷ checks) ≡ None → (check ≡ None) × (first_failing checks ≡ None)
+pub none_first : (check : Option RuleError) (checks : List (Option RuleError)) → first_failing (check ∷ checks) ≡ None → (check ≡ None) × (first_failing checks ≡ None)
 none_first None checks e = (refl, e)
 none_first (Some error) checks e = absurd (none-some error (sym e))
 

@@ -95,7 +95,7 @@ ordered_from n ports ops size means (net ∷ nets) before ordered =
 
 -- ---- past the end
 
-past_cell : (n : Netlist) (ports : Ports) (i : ℕ) → length n.instances ≤ i → (logic_of n ports).cell i ≡ no_cell i
+pub past_cell : (n : Netlist) (ports : Ports) (i : ℕ) → length n.instances ≤ i → (logic_of n ports).cell i ≡ no_cell i
 past_cell n ports i far =
     let P : Option Instance → Cell = λ o. cell_or_none i (if is_flip_flop (kind_of n.library o) then modelled_of n ports i (pins_of n i) else None) in
     ap P (slice_get_past n.instances i far)

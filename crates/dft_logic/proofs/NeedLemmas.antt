@@ -8,12 +8,12 @@ use Rattle.std.proofs.lemmas.Bool.{cases_Bool}
 use Rattle.dft_netlist.specs.declared.ids.NetId.{NetId}
 use Rattle.dft_netlist.specs.Logic.{reads}
 use Rattle.dft_netlist.specs.Orders.{Has, numbers_of}
+use Rattle.dft_netlist.proofs.RankLemmas.{has_all}
 use Rattle.dft_logic.specs.Needs.{HasAll, IsStrobeClosed}
 use Rattle.dft_logic.specs.declared.circuit.Op.{Op}
 use Rattle.dft_logic.specs.declared.circuit.Op.TheVariants.{Free}
 use Rattle.dft_logic.specs.declared.circuit.Circuit.{Circuit}
 use Rattle.dft_logic.specs.Circuit.{meaning, op_at, logic_at, AreOrdered, IsCircuit, flag_at}
-use Rattle.dft_logic.proofs.Settlings.{all_has}
 
 -- ---- orders
 
@@ -31,7 +31,7 @@ ordered_at ops before (net ∷ order) (suc j) o = ordered_at ops (net.0 ∷ befo
 
 -- a net of an order is not settled from itself or from a later one
 reads_earlier : (ops : List Op) (before : List ℕ) (net : ℕ) (nets : List ℕ) → AreOrdered ops before (net ∷ nets) → (k : ℕ) → Has (reads (meaning (op_at ops net))) k → Has (net ∷ nets) k → ⊥
-reads_earlier ops before net nets o k read later = ordered_apart ops before (net ∷ nets) o k later (all_has (Has before) (reads (meaning (op_at ops net))) k o.2 read)
+reads_earlier ops before net nets o k read later = ordered_apart ops before (net ∷ nets) o k later (has_all (Has before) (reads (meaning (op_at ops net))) k o.2 read)
 
 front : (order : List NetId) (j : ℕ) (d : NetId) → j < length order → numbers_of (drop j order) ≡ (get_or order j d).0 ∷ numbers_of (drop (suc j) order)
 front order j d less = ap numbers_of (drop-cons order j d less)
@@ -40,7 +40,7 @@ front order j d less = ap numbers_of (drop-cons order j d less)
 reads_within : (ops : List Op) (before nets : List ℕ) → AreOrdered ops before nets → (k : ℕ) → Has nets k → (m : ℕ) → Has (reads (meaning (op_at ops k))) m → Has before m ⊎ Has nets m
 reads_within ops before [] o k h m read = absurd h
 reads_within ops before (n ∷ ns) o k h m read = elim h [
-  | inl e ↦ inl (all_has (Has before) (reads (meaning (op_at ops n))) m o.2 (subst (λ (i : ℕ). Has (reads (meaning (op_at ops i))) m) e read))
+  | inl e ↦ inl (has_all (Has before) (reads (meaning (op_at ops n))) m o.2 (subst (λ (i : ℕ). Has (reads (meaning (op_at ops i))) m) e read))
   | inr rest ↦ elim (reads_within ops (n ∷ before) ns o.3 k rest m read) [
     | inl was ↦ elim was [ inl e ↦ inr (inl e) | inr older ↦ inl older ]
     | inr later ↦ inr (inr later)

@@ -27,6 +27,7 @@ use Rattle.dft_logic.specs.Ranks.{rank_of}
 use Rattle.dft_logic.proofs.EntryLemmas.{pass_of_needed}
 use Rattle.dft_logic.proofs.CircuitRanks.{circuit_ranked}
 use Rattle.dft_logic.specs.EntryTables.{scan_needs, entry_needs, entry_for}
+use Rattle.dft_logic.proofs.Writings.{cell_past}
 
 -- ---- what a flip-flop needs
 
@@ -155,9 +156,6 @@ past_computes : (up : Bool) → or_keeps (past up) ≡ Computes → ⊥
 past_computes true is = absurd cc
 past_computes false is = absurd cc
 
-past_cell : (flops : List FlipFlop) (c : ℕ) → length flops ≤ c → cell_at (map cell_of flops) c ≡ no_cell c
-past_cell flops c out = get_or_past (map cell_of flops) c (no_cell c) (let e = length-map flops cell_of in omega arith)
-
 -- What the parts give comes to the pulse at a least map.
 pub planned : (x : Circuit) (p : Pulse) (origin : ℕ → Option ℕ) (shown : ℕ → Shown) (table : ℕ → Entry) (marked : List Bool) (values next : List Tri) → IsCircuit x → length values ≡ length x.ops.items →
     AreOrigins (logic_at x) origin → IsShownOn (logic_at x) p.pulsed (λ net. true) shown → IsStrobeClosed (logic_at x) (flag_at marked) → IsStrobeOn (logic_at x) p.ports p.old (flag_at marked) (value_at values) →
@@ -174,15 +172,15 @@ planned x p origin shown table marked values next is len origins on closed settl
     let entries : ℕ → Entry = λ c. or_keeps (found (cells c)) in
     let same : (c : ℕ) → c < length x.flops.items → entries c ≡ table c = λ c live. ap or_keeps (has c live) in
     let given : (c : ℕ) → found (cells c) ≡ Some (entries c) = λ c. elim (leb_tells (length x.flops.items) c) [
-      | inl out ↦ (let P : Cell → Type 0 = λ cell. found cell ≡ Some (or_keeps (found cell)) in subst P (sym (past_cell x.flops.items c out.1)) (past_there (p.pulsed 0)))
+      | inl out ↦ (let P : Cell → Type 0 = λ cell. found cell ≡ Some (or_keeps (found cell)) in subst P (sym (cell_past x.flops.items c out.1)) (past_there (p.pulsed 0)))
       | inr live ↦ there (found (cells c)) (table c) (has c live.1)
     ] in
     let enables : (c : ℕ) (scan : Scan) → (cells c).scan ≡ Some scan → HasAll (needs_of count marked) (nets_of (scan.enable ∷ [])) = λ c scan at. elim (leb_tells (length x.flops.items) c) [
-      | inl out ↦ (let none : (cells c).scan ≡ None = ap (λ (cell : Cell). cell.scan) (past_cell x.flops.items c out.1) in absurd cc)
+      | inl out ↦ (let none : (cells c).scan ≡ None = ap (λ (cell : Cell). cell.scan) (cell_past x.flops.items c out.1) in absurd cc)
       | inr live ↦ has_needs count marked (nets_of (scan.enable ∷ [])) (λ k less h. marks c live.1 k less (enable_needed k (cells c) (table c) scan at h))
     ] in
     let reading : (c net : ℕ) → entries c ≡ Reads net → needs_of count marked net ≡ true = λ c net at. elim (leb_tells (length x.flops.items) c) [
-      | inl out ↦ (let P : Cell → Type 0 = λ cell. or_keeps (found cell) ≡ Reads net in absurd (past_reads (p.pulsed 0) net (subst P (past_cell x.flops.items c out.1) at)))
+      | inl out ↦ (let P : Cell → Type 0 = λ cell. or_keeps (found cell) ≡ Reads net in absurd (past_reads (p.pulsed 0) net (subst P (cell_past x.flops.items c out.1) at)))
       | inr live ↦ (let N : Entry → Type 0 = λ e. Has (entry_needs (cells c) e) net in
           (has_needs count marked (net ∷ []) (λ k less h. elim h [
             | inl e ↦ subst (λ (i : ℕ). flag_at marked i ≡ true) (sym e) (marks c live.1 net (subst (λ (i : ℕ). i < count) e less) (subst N (sym at ∙ same c live.1) (inl refl)))
@@ -190,7 +188,7 @@ planned x p origin shown table marked values next is len origins on closed settl
           ])).0)
     ] in
     let computing : (c : ℕ) → entries c ≡ Computes → HasAll (needs_of count marked) (nets_of (next_reads (cells c) p.ports (value_from v))) = λ c at. elim (leb_tells (length x.flops.items) c) [
-      | inl out ↦ (let P : Cell → Type 0 = λ cell. or_keeps (found cell) ≡ Computes in absurd (past_computes (p.pulsed 0) (subst P (past_cell x.flops.items c out.1) at)))
+      | inl out ↦ (let P : Cell → Type 0 = λ cell. or_keeps (found cell) ≡ Computes in absurd (past_computes (p.pulsed 0) (subst P (cell_past x.flops.items c out.1) at)))
       | inr live ↦ has_needs count marked (nets_of (next_reads (cells c) p.ports (value_from v)))
           (λ k less h. (let N : Entry → Type 0 = λ e. Has (entry_needs (cells c) e) k in marks c live.1 k less (subst N (sym at ∙ same c live.1) (computes_needed k (cells c) p.ports (value_from v) h))))
     ] in

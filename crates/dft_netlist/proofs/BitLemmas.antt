@@ -12,11 +12,11 @@ use Rattle.dft_base.specs.Name.{IsName}
 use Rattle.dft_base.specs.declared.place.Range.{Range}
 use Rattle.dft_netlist.specs.Names.{indices_of, going_up, going_down, bit_name}
 
-up_length : (from count : ℕ) → length (going_up from count) ≡ count
+pub up_length : (from count : ℕ) → length (going_up from count) ≡ count
 up_length from zero = refl
 up_length from (suc count) = ap suc (up_length (suc from) count)
 
-down_length : (from count : ℕ) → length (going_down from count) ≡ count
+pub down_length : (from count : ℕ) → length (going_down from count) ≡ count
 down_length from zero = refl
 down_length from (suc count) = ap suc (down_length (from - 1) count)
 

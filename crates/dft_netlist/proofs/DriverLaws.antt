@@ -5,7 +5,7 @@ use Rattle.std.proofs.lemmas.Bool.{eq-eqb}
 use Rattle.dft_netlist.specs.Drivers.{Driven, driver_in}
 use Rattle.dft_netlist.specs.DesignLaws.{ListedDrives}
 
-abbrev times : List Driven → (net : ℕ) → ℕ
+abbrev pub times : List Driven → (net : ℕ) → ℕ
 times es net = count_by (λ (x : Driven). x.0 == net) es
 
 abbrev one_if : Bool → ℕ

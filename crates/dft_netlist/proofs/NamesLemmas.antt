@@ -98,16 +98,16 @@ or_assoc : (a b c : Bool) → ((a || b) || c) ≡ (a || (b || c))
 or_assoc true b c = refl
 or_assoc false b c = refl
 
-has-append : (xs ys : List Text) (q : Text) → has_name (xs ++ ys) q ≡ (has_name xs q || has_name ys q)
+pub has-append : (xs ys : List Text) (q : Text) → has_name (xs ++ ys) q ≡ (has_name xs q || has_name ys q)
 has-append [] ys q = refl
 has-append (x ∷ xs) ys q = rw (has-append xs ys q) (sym (or_assoc (bytes_eq x q) (has_name xs q) (has_name ys q)))
 
-has_here : (xs : List Text) (k : ℕ) (q : Text) → slice_get xs k ≡ Some q → has_name xs q ≡ true
+pub has_here : (xs : List Text) (k : ℕ) (q : Text) → slice_get xs k ≡ Some q → has_name xs q ≡ true
 has_here [] k q h = absurd (cc)
 has_here (x ∷ xs) zero q h = let e : x ≡ q = cc in rw (e, bytes_eq-same q) refl
 has_here (x ∷ xs) (suc k) q h = rw (has_here xs k q h) (or_right (bytes_eq x q))
 
-has_where : (xs : List Text) (q : Text) → has_name xs q ≡ true → (k : ℕ) × (slice_get xs k ≡ Some q)
+pub has_where : (xs : List Text) (q : Text) → has_name xs q ≡ true → (k : ℕ) × (slice_get xs k ≡ Some q)
 has_where [] q h = absurd (cc)
 has_where (x ∷ xs) q h = elim (or_cases (bytes_eq x q) (has_name xs q) h) [
   | inl is ↦ (0, ap Some (same_of x q is))

@@ -43,7 +43,7 @@ not_before : (n : Netlist) (before xs : List ℕ) → IsOrderFrom n before xs �
 not_before n before [] o k has was = has
 not_before n before (x ∷ xs) o k has was = elim has [ inl e ↦ o.0 (subst (Has before) e was) | inr more ↦ not_before n (x ∷ before) xs o.3 k more (inr was) ]
 
-has_all : (P : ℕ → Type 0) (ys : List ℕ) (r : ℕ) → AllByRecursion P ys → Has ys r → P r
+pub has_all : (P : ℕ → Type 0) (ys : List ℕ) (r : ℕ) → AllByRecursion P ys → Has ys r → P r
 has_all P [] r all mem = absurd mem
 has_all P (y ∷ ys) r all mem = elim mem [ inl e ↦ subst P (sym e) all.0 | inr m ↦ has_all P ys r all.1 m ]
 

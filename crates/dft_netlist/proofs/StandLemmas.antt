@@ -18,11 +18,11 @@ back-push : (walk : List NetId) (net : NetId) → back_of (walk ++ net ∷ []) �
 back-push [] net = refl
 back-push (x ∷ walk) net = ap (λ xs. xs ++ x.0 ∷ []) (back-push walk net)
 
-numbers-push : (order : List NetId) (net : NetId) → numbers_of (order ++ net ∷ []) ≡ numbers_of order ++ net.0 ∷ []
+pub numbers-push : (order : List NetId) (net : NetId) → numbers_of (order ++ net ∷ []) ≡ numbers_of order ++ net.0 ∷ []
 numbers-push [] net = refl
 numbers-push (x ∷ order) net = ap (λ xs. x.0 ∷ xs) (numbers-push order net)
 
-has_left : (xs ys : List ℕ) (k : ℕ) → Has xs k → Has (xs ++ ys) k
+pub has_left : (xs ys : List ℕ) (k : ℕ) → Has xs k → Has (xs ++ ys) k
 has_left [] ys k h = absurd h
 has_left (x ∷ xs) ys k h = elim h [ inl e ↦ inl e | inr more ↦ inr (has_left xs ys k more) ]
 

@@ -76,7 +76,7 @@ joined_get (suc i) pin net (z ∷ xs) zero x at = record {
 }
 joined_get (suc i) pin net (z ∷ xs) (suc k) x at = let h = joined_get i pin net xs k x at in record { instance = h.instance; at = h.at; cell_is = h.cell_is; kept = h.kept }
 
-joined_length : (i pin : ℕ) (net : NetId) (xs : List Instance) → length (instance_joined i pin net xs) ≡ length xs
+pub joined_length : (i pin : ℕ) (net : NetId) (xs : List Instance) → length (instance_joined i pin net xs) ≡ length xs
 joined_length i pin net [] = refl
 joined_length zero pin net (x ∷ xs) = refl
 joined_length (suc i) pin net (x ∷ xs) = ap suc (joined_length i pin net xs)

@@ -20,17 +20,13 @@ use Rattle.dft_netlist.specs.NetDrivers.{IsSingle}
 use Rattle.dft_netlist.specs.Orders.{Has, IsOrderable, Follows, reads_of}
 use Rattle.dft_netlist.specs.Drivers.{Source, Driver, Driven, Connection, Joined, driver_of_kind, at_role, inputs_of, lockup_inputs, connections_from, connections_of, driven_by_pins, driven_by, driven_by_instances, driven_by_bits, driven_by_ports, driven_by_joins, driver_in, driver, nets_read, nets_of, pins_at, pins_of, shape_of, source_of, AreBelow, IsOrdered}
 use Rattle.dft_netlist.proofs.DriverLaws.{listed_drives}
+use Rattle.dft_netlist.proofs.StandLemmas.{has_left}
 use Rattle.dft_parts.specs.Parts.{Part, ANet, AnInstance, APin, Making, next_instance, pin_joined, instance_joined, with_part}
 use Rattle.dft_parts.specs.Single.{net_driven, nets_driven}
 use Rattle.dft_parts.specs.Ranks.{reads_by, read_by, IsRanked, IsJoinRanked, AreRanked, RanksOrder, OrderRanks, IsPinRanked, IsPartRanked, PartsRank}
 use Rattle.dft_parts.proofs.Standing.{get_behind, instance_drives}
 
 -- ---- lists of nets
-
-pub has_left : (xs ys : List ℕ) (k : ℕ) → Has xs k → Has (xs ++ ys) k
-has_left [] ys k h = absurd h
-has_left (x ∷ xs) ys k (inl e) = inl e
-has_left (x ∷ xs) ys k (inr h) = inr (has_left xs ys k h)
 
 pub has_right : (xs ys : List ℕ) (k : ℕ) → Has ys k → Has (xs ++ ys) k
 has_right [] ys k h = h

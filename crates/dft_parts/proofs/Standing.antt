@@ -84,7 +84,7 @@ primitive_drives kind.Lockup i ins h = absurd cc
 primitive_drives kind.Opaque i ins h = absurd cc
 
 -- what a gate with these pins drives
-abbrev driven_as : Shape → (i : ℕ) → List Signal → List Driven
+abbrev pub driven_as : Shape → (i : ℕ) → List Signal → List Driven
 driven_as s i pins = let cs = connections_from 0 s.roles pins in driven_by_pins s.kind i (inputs_of i cs) cs
 
 gate_driven : (library : List Cell) (i : ℕ) (k : Kind) (xs : List NetId) (o : NetId) (x : Instance) → IsTrue (is_primitive k) → x.cell ≡ cell_ref.Gate k (length xs) → AreKept (at_nets xs ++ AtNet o ∷ []) x.pins →

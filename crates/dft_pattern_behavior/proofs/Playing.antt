@@ -36,8 +36,8 @@ use Rattle.dft_scan_hardware.specs.declared.style.Style.TheVariants.{Edt}
 use Rattle.dft_scan_hardware.specs.Ports.{gap_in}
 use Rattle.dft_scan_hardware.specs.Statements.{scanned}
 use Rattle.dft_scan_equivalence.specs.Agreeing.{ports_in}
+use Rattle.dft_scan_equivalence.proofs.MadeGood.{from_at}
 use Rattle.dft_scan_behavior.specs.Facts.{chain_nets, edt_hardware}
-use Rattle.dft_scan_behavior.proofs.EdtHave.{from_at}
 use Rattle.dft_pattern_behavior.proofs.Clocks.{named_input, pulsed_clock, reset_rests, true_false}
 use Rattle.dft_vectors.specs.AddedPorts.{added_inputs, no_bits, set_all, shifting}
 use Rattle.dft_vectors.specs.OwnPorts.{driven, inputs_by, outputs_ignored, pulsing_vector, quiet_vector, set_to}

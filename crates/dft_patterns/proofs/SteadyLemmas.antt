@@ -2,6 +2,7 @@
 use Rattle.std.proofs.Common.{cond, add-one, drop, drop-cons, ◌⊎◌, inl, inr, replicate, is_some, ◌≡◌, ◌≢◌, ℕ, zero, suc, ◌<◌, ◌≤◌, ◌+◌, Bool, true, false, true≢false, ◌||◌, ◌&&◌, List, [], ◌∷◌, length, get_or, slice_set, get_or-set_same, get_or-set_other, below_more, Option, Some, None, refl, sym, ap, ◌∙◌, arith}
 use Rattle.std.proofs.lemmas.Bool.{cases_lt, or_right}
 use Rattle.std.proofs.lemmas.List.{length-set, length-replicate, get_or_past}
+use Rattle.dft_base.proofs.SumLemmas.{and_false as and_with_false}
 use Rattle.dft_patterns.specs.declared.act.Act.{Act}
 use Rattle.dft_patterns.specs.declared.act.Act.TheVariants.{Unset, Low, High, Pulse, ExpectLow, ExpectHigh, Ignore}
 use Rattle.dft_patterns.specs.declared.steadiness.Unsteady.{Unsteady}
@@ -96,10 +97,6 @@ one_ahead f acts place d whole less h = ap (first_not_low f place) (sym (drop-co
 
 pub low_passed : (f : ℕ → Bool) (acts : List Act) (place : ℕ) (d : Act) (whole : Option ℕ) → place < length acts → is_not_low (get_or acts place d) ≡ false → Ahead f acts place whole → Ahead f acts (place + 1) whole
 low_passed f acts place d whole less low h = rw (add-one) (sym (ap (λ t. cond (t && f place) (Some place) (first_not_low f (suc place) (drop (suc place) acts))) low) ∙ one_ahead f acts place d whole less h)
-
-and_with_false : (t : Bool) → (t && false) ≡ false
-and_with_false true = refl
-and_with_false false = refl
 
 pub flagless_passed : (f : ℕ → Bool) (acts : List Act) (place : ℕ) (d : Act) (whole : Option ℕ) → place < length acts → f place ≡ false → Ahead f acts place whole → Ahead f acts (place + 1) whole
 flagless_passed f acts place d whole less unset h = rw (add-one)

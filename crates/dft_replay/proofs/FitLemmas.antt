@@ -17,8 +17,9 @@ use Rattle.dft_netlist.specs.Netlist.{Netlist}
 use Rattle.dft_netlist.specs.Names.{bit_names, find_net, find_net_from}
 use Rattle.dft_netlist.specs.Sound.{IsNetlist, bit_names_of}
 use Rattle.dft_base.specs.Lexing.{Text}
-use Rattle.dft_netlist.proofs.NamesLemmas.{same_of, bytes_eq-same}
+use Rattle.dft_netlist.proofs.NamesLemmas.{same_of, bytes_eq-same, has_here, has_where}
 use Rattle.dft_netlist.proofs.LiveLemmas.{AreWide}
+use Rattle.dft_netlist.proofs.FindLemmas.{not_found}
 use Rattle.dft_patterns.specs.declared.signal.StilSignal.{StilSignal}
 use Rattle.dft_replay.specs.Fits.{same_dir, has_bit, is_port_bit}
 use Rattle.dft_replay.specs.Vectors.{dirs_of}
@@ -46,17 +47,9 @@ found_at : (from : ℕ) (nets : List Text) (q : Text) (k : NetId) → find_net_f
 found_at from [] q k h = absurd (let f : ⊥ = cc in f)
 found_at from (x ∷ nets) q k h = first_or (bytes_eq x q) from x nets q k refl (found_at (suc from) nets q k) h
 
-not_first : (t : Bool) (k : NetId) (r : Option NetId) → (if t then Some k else r) ≡ None → (t ≡ false) × (r ≡ None)
+pub not_first : (t : Bool) (k : NetId) (r : Option NetId) → (if t then Some k else r) ≡ None → (t ≡ false) × (r ≡ None)
 not_first true k r h = absurd (let f : ⊥ = cc in f)
 not_first false k r h = (refl, h)
-
-not_found : (from : ℕ) (nets : List Text) (q : Text) → find_net_from from nets q ≡ None → (j : ℕ) → slice_get nets j ≡ Some q → ⊥
-not_found from [] q h j at = cc
-not_found from (x ∷ nets) q h zero at =
-    let e : x ≡ q = cc in
-    let other = not_first (bytes_eq x q) (record { 0 = from }) (find_net_from (suc from) nets q) h in
-    true≢false (sym (bytes_eq-same q) ∙ ap (λ y. bytes_eq y q) (sym e) ∙ other.0)
-not_found from (x ∷ nets) q h (suc j) at = not_found (suc from) nets q (not_first (bytes_eq x q) (record { 0 = from }) (find_net_from (suc from) nets q) h).1 j at
 
 -- the net that is found has the name
 pub found_named : (n : Netlist) (q : Text) (k : NetId) → find_net n q ≡ Some k → slice_get n.nets k.0 ≡ Some q
@@ -91,16 +84,6 @@ at_either (y ∷ xs) ys (suc k) x h = elim (at_either xs ys k x h) [
   | inr b ↦ inr (record { place = b.place; number = (let e = b.number in omega arith); here = b.here })
 ]
 
-has_here : (xs : List Text) (k : ℕ) (q : Text) → slice_get xs k ≡ Some q → has_name xs q ≡ true
-has_here [] k q h = absurd cc
-has_here (x ∷ xs) zero q h = (let e : x ≡ q = cc in rw (e, bytes_eq-same q) refl)
-has_here (x ∷ xs) (suc k) q h = or_right (bytes_eq x q) (has_name xs q) (has_here xs k q h)
-
-has_where : (xs : List Text) (q : Text) → has_name xs q ≡ true → (k : ℕ) × (slice_get xs k ≡ Some q)
-has_where [] q h = absurd cc
-has_where (x ∷ xs) q h = elim (or_cases (bytes_eq x q) (has_name xs q) h) [
-  | inl is ↦ (0, ap Some (same_of x q is))
-  | inr more ↦ (let r = has_where xs q more in (suc r.0, r.1))
 ]
 
 -- each element is the same
@@ -116,7 +99,7 @@ same_from y z (x ∷ xs) (suc k) h = same_from y z xs k h
 
 -- ---- bits of ports
 
-dir_same : (d : Dir) → same_dir d d ≡ true
+pub dir_same : (d : Dir) → same_dir d d ≡ true
 dir_same Input = refl
 dir_same Output = refl
 

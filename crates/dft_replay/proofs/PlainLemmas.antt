@@ -14,8 +14,10 @@ use Rattle.dft_netlist.proofs.Ranks.{order_is_rank}
 use Rattle.dft_abstract.specs.Cycle.{Pulse, view_sources, AreViews, next_value, IsClosed, IsLeast, after_pulse, pulse_of, strobe_sources, Round, IsRound, after_round}
 use Rattle.dft_abstract.proofs.Views.{given_same}
 use Rattle.dft_abstract.proofs.Least.{step_below}
+use Rattle.dft_abstract.proofs.OneDomain.{raised as risen}
 use Rattle.dft_cells.proofs.Completions.{above_self, join_over_left}
 use Rattle.std.proofs.lemmas.Bool.{and_cases, cases_Bool, and_parts, cases_lt}
+use Rattle.dft_logic.proofs.Compiled.{past_cell}
 use Rattle.dft_replay.specs.declared.verdict.Verdict.{Verdict}
 use Rattle.dft_replay.specs.Rows.{Row, rows_of, ports_of}
 use Rattle.dft_replay.specs.Verdicts.{decided, Stops, HasVerdictFrom}
@@ -165,10 +167,6 @@ raised_by_over l s p zero poss over = over
 raised_by_over l s p (suc rounds) poss over = raised_by_over l s p rounds (raised l p s poss) (raised_over l s p poss over)
 
 -- ---- as many rounds as cells are enough
-
--- a value that stays, or is joined with another
-abbrev risen : (rises : Bool) → (t next : Tri) → Tri
-risen rises t next = if rises then join t next else t
 
 abbrev stays : (rises : Bool) → (t next : Tri) → Bool
 stays rises t next = if rises then is_above t next else true
@@ -356,15 +354,12 @@ verdict_from l rank s old v count (x ∷ xs) fits past =
 
 -- ---- designs
 
-cells_end : (n : Netlist) (ports : Ports) (c : ℕ) → length n.instances ≤ c → (logic_of n ports).cell c ≡ no_cell c
-cells_end n ports c h = rw (slice_get_past n.instances c h) refl
-
 pub verdict_plain : VerdictIsPlain
 verdict_plain n rank p order =
     verdict_from (logic_of n (ports_of n p)) rank (size_of n) [] 0 0 (rows_of n p)
     (record {
       ranked = order_is_rank n (ports_of n p) rank order;
       levels = λ net. (let h : rank net ≤ length n.nets = order.within net in omega arith);
-      cells = cells_end n (ports_of n p);
+      cells = past_cell n (ports_of n p);
     })
     (λ c h. refl)

@@ -144,12 +144,12 @@ owed_by r cubes o = record r { cubes = cubes; owing = Some o; stage = 5 }
 may_be : (low stage : ℕ) → low ≤ stage → (b : Bool) → b ≡ true → (nat_le low stage && true && b) ≡ true
 may_be low stage a b e = grind (arith, nat_tests, e)
 
-bit_texts : (bit : Bool) (rest : Text) → bit_text bit ++ rest ≡ 32 ∷ (bit_word bit ++ rest)
+pub bit_texts : (bit : Bool) (rest : Text) → bit_text bit ++ rest ≡ 32 ∷ (bit_word bit ++ rest)
 bit_texts false rest = refl
 bit_texts true rest = refl
 
 -- the line of a sum is a line of words
-sum_words : (line : SumLine) → sum_line line ≡ codes "sum" ++ behind (line.name ∷ bit_word line.bit ∷ variable_words line.variables) (10 ∷ [])
+pub sum_words : (line : SumLine) → sum_line line ≡ codes "sum" ++ behind (line.name ∷ bit_word line.bit ∷ variable_words line.variables) (10 ∷ [])
 unfolding sum_line
 sum_words line =
     ap (λ (t : Text). codes "sum " ++ (line.name ++ t)) (bit_texts line.bit (variables_text line.variables ++ codes "\n") ∙ ap (λ (t : Text). 32 ∷ (bit_word line.bit ++ t)) (variables_behind line.variables (10 ∷ [])))

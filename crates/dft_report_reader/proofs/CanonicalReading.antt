@@ -30,6 +30,7 @@ use Rattle.dft_report_reader.proofs.Lines.{behind, by_lines, front, last, lines_
 use Rattle.dft_report_reader.proofs.Saying.{bit_word, variable_words, variables_behind}
 use Rattle.dft_report_reader.proofs.CanonicalNumbers.{behind_test}
 use Rattle.dft_report_reader.proofs.CanonicalWords.{said_told, variables_are, word_said, words_said}
+use Rattle.dft_report_reader.proofs.Bringing.{bit_texts, sum_words}
 
 -- ---- the text that has been read
 
@@ -379,15 +380,6 @@ adds_summed false r o line is owing some t =
   where
     not_most : (a b : ℕ) → nat_le a b ≡ false → b < a
     not_most a b e = grind (arith, nat_tests, e)
-
-bit_texts : (bit : Bool) (rest : Text) → bit_text bit ++ rest ≡ 32 ∷ (bit_word bit ++ rest)
-bit_texts false rest = refl
-bit_texts true rest = refl
-
-sum_words : (line : SumLine) → sum_line line ≡ codes "sum" ++ behind (line.name ∷ bit_word line.bit ∷ variable_words line.variables) (10 ∷ [])
-unfolding sum_line
-sum_words line =
-    ap (λ (t : Text). codes "sum " ++ (line.name ++ t)) (bit_texts line.bit (variables_text line.variables ++ codes "\n") ∙ ap (λ (t : Text). 32 ∷ (bit_word line.bit ++ t)) (variables_behind line.variables (10 ∷ [])))
 
 -- the line of what is said
 abbrev line_said : Said → Text

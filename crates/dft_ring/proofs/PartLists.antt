@@ -9,7 +9,7 @@ use Rattle.dft_parts.specs.Growth.{HasParts, instances_in}
 use Rattle.dft_parts.specs.Recipes.{Start, Recipe, nets_in, behind, each, collect, net_at}
 use Rattle.dft_parts.proofs.Trees.{front, back}
 
-nets_in-append : (xs ys : List Part) → nets_in (xs ++ ys) ≡ nets_in xs + nets_in ys
+pub nets_in-append : (xs ys : List Part) → nets_in (xs ++ ys) ≡ nets_in xs + nets_in ys
 nets_in-append [] ys = omega arith
 nets_in-append (ANet ∷ xs) ys = omega (arith, nets_in-append xs ys)
 nets_in-append (AnInstance cell pins ∷ xs) ys = nets_in-append xs ys

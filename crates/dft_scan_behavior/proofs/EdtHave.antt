@@ -21,6 +21,7 @@ use Rattle.dft_scan_hardware.specs.Chained.{last_net}
 use Rattle.dft_scan_hardware.specs.Ports.{gap_in}
 use Rattle.dft_scan_hardware.specs.Statements.{scanned}
 use Rattle.dft_scan_equivalence.specs.Agreeing.{ports_in}
+use Rattle.dft_scan_equivalence.proofs.MadeGood.{from_at}
 use Rattle.dft_scan_behavior.specs.Facts.{chain_nets, rows_in, ports_of, ring_start, ring_parts, ring_number, no_nets, edt_hardware, HasEdtHardware}
 use Rattle.dft_scan_behavior.proofs.ChainsFilled.{chain_filled}
 use Rattle.dft_scan_behavior.proofs.ChainsHave.{into_is, chains_have}
@@ -32,11 +33,6 @@ use Rattle.dft_scan_behavior.proofs.PortsDriven.{edt_means, edt_clock_is}
 use Rattle.dft_scan_behavior.proofs.ScanInputs.{entry_joined}
 
 -- ---- lists
-
-pub from_at : (first count j : ℕ) → j < count → (net_at (nets_from first count) j).0 ≡ first + j
-from_at first zero j less = absurd (omega (arith, less))
-from_at first (suc count) zero less = omega arith
-from_at first (suc count) (suc j) less = omega (arith, from_at (suc first) count j (omega (arith, less)))
 
 get_there : {X : Type 0} (xs : List X) (k : ℕ) → k < length xs → (x : X) × (slice_get xs k ≡ Some x)
 get_there [] k less = absurd (omega (arith, less))

@@ -11,7 +11,7 @@ use Rattle.dft_parts.specs.Growth.{HasParts, instances_in}
 use Rattle.dft_parts.specs.Parts.{Part, ANet, AnInstance, APin, joined_to, pin_joined}
 use Rattle.dft_parts.specs.Recipes.{Start, Recipe, ◌>>=◌, behind, each}
 use Rattle.dft_parts.proofs.Trees.{front, back}
-use Rattle.dft_scan_hardware.proofs.Joins.{Each, JoinsAt, joined_in, stays_joined}
+use Rattle.dft_scan_hardware.proofs.Joins.{Each, JoinsAt, joined_in, stays_joined, joined_if}
 
 -- the net of the first of these parts that joins a pin of an instance
 abbrev pub first_at : List Part → (i p : ℕ) → Option NetId
@@ -51,9 +51,6 @@ joined_apart (suc pin) (suc p) net (x ∷ pins) apart = joined_apart pin p net p
 pub true_false : (b : Bool) → b ≡ true → b ≡ false → ⊥
 true_false true e f = cc
 true_false false e f = cc
-
-abbrev joined_if : (pin : ℕ) → NetId → Bool → List Signal → List Signal
-joined_if pin net b pins = if b then pin_joined pin net pins else pins
 
 -- the first part joins the pin, or a later one
 joined_by : (parts : List Part) (i p : ℕ) (pins : List Signal) (pin : ℕ) (its net : NetId) (a b : Bool) → (pin == p) ≡ b → slice_get pins p ≡ Some Unconnected →

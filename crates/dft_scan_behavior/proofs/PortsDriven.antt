@@ -120,15 +120,15 @@ plain_input n config j ready less =
 less_apart : (a b : ℕ) → a < b → (a == b) ≡ false
 less_apart = grind arith
 
-not_this : (n : Netlist) (at : ℕ) (net : NetId) (b : Bool) → length (bits_of n.ports) ≤ at → (b ≡ true → net.0 < length (bits_of n.ports)) → is_net at (if b then Some net else None) ≡ false
+pub not_this : (n : Netlist) (at : ℕ) (net : NetId) (b : Bool) → length (bits_of n.ports) ≤ at → (b ≡ true → net.0 < length (bits_of n.ports)) → is_net at (if b then Some net else None) ≡ false
 not_this n at net true past h = less_apart net.0 at (omega (arith, h refl, past))
 not_this n at net false past h = refl
 
-not_found : (n : Netlist) (config : Config) (at : ℕ) (o : Option NetId) → IsReady n config → length (bits_of n.ports) ≤ at → is_net at (option_and_then (λ (net : NetId). if is_input (driver n net.0) then Some net else None) o) ≡ false
+pub not_found : (n : Netlist) (config : Config) (at : ℕ) (o : Option NetId) → IsReady n config → length (bits_of n.ports) ≤ at → is_net at (option_and_then (λ (net : NetId). if is_input (driver n net.0) then Some net else None) o) ≡ false
 not_found n config at None ready past = refl
 not_found n config at (Some net) ready past = not_this n at net (is_input (driver n net.0)) past (λ is. input_less n net.0 (driver n net.0) is (driver_fine n config net.0 ready))
 
-no_clock : (n : Netlist) (config : Config) (at : ℕ) (names : List Text) → IsReady n config → length (bits_of n.ports) ≤ at → list_any (λ name. is_net at (input_net n name)) names ≡ false
+pub no_clock : (n : Netlist) (config : Config) (at : ℕ) (names : List Text) → IsReady n config → length (bits_of n.ports) ≤ at → list_any (λ name. is_net at (input_net n name)) names ≡ false
 no_clock n config at [] ready past = refl
 no_clock n config at (name ∷ names) ready past = or_from (is_net at (input_net n name)) (list_any (λ other. is_net at (input_net n other)) names) (not_found n config at (find_net n name) ready past) (no_clock n config at names ready past)
 

@@ -103,7 +103,7 @@ outputs_fit e _ _ _ _ pins old SetsBoth h = let l : ListOf5 pins = five pins h i
 
 -- ---- pins by their numbers
 
-index_is : (pins : List Signal) (p : ℕ) (s : Signal) → slice_get pins p ≡ Some s → slice_index_or pins p Unconnected ≡ s
+pub index_is : (pins : List Signal) (p : ℕ) (s : Signal) → slice_get pins p ≡ Some s → slice_index_or pins p Unconnected ≡ s
 index_is [] p s h = absurd (none-some s h)
 index_is (x ∷ pins) zero s h = same_Some x s h
 index_is (x ∷ pins) (suc p) s h = index_is pins p s h
@@ -116,7 +116,7 @@ index_same (x ∷ xs) (y ∷ ys) zero zero h = same_Some x y h
 index_same [] (y ∷ ys) p zero h = absurd (none-some y h)
 index_same (x ∷ xs) [] zero q h = absurd (none-some x (sym h))
 
-moved_index : (gap : Gap) (pins : List Signal) (p : ℕ) → slice_index_or (map (moved_signal gap) pins) p Unconnected ≡ moved_signal gap (slice_index_or pins p Unconnected)
+pub moved_index : (gap : Gap) (pins : List Signal) (p : ℕ) → slice_index_or (map (moved_signal gap) pins) p Unconnected ≡ moved_signal gap (slice_index_or pins p Unconnected)
 moved_index gap [] p = refl
 moved_index gap (x ∷ pins) zero = refl
 moved_index gap (x ∷ pins) (suc p) = moved_index gap pins p

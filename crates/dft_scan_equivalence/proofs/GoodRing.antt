@@ -17,7 +17,8 @@ use Rattle.dft_parts.specs.Sums.{a_driving_gate, a_sum}
 use Rattle.dft_edt.specs.Feeds.{Feed, Stage, Channel, at_feed, feeds}
 use Rattle.dft_ring.specs.declared.ring.Ring.{Ring}
 use Rattle.dft_ring.specs.RingRecipe.{stage_terms, a_stage, a_phase, a_ring}
-use Rattle.dft_scan_equivalence.proofs.Goods.{nets_in-append, Setting, IsBelow, AreBelow, none_below, below_more, below_at, none, one, IsGood, good_nil, good_both, good_as, good_flop, good_after}
+use Rattle.dft_ring.proofs.PartLists.{nets_in-append}
+use Rattle.dft_scan_equivalence.proofs.Goods.{Setting, IsBelow, AreBelow, none_below, below_more, below_at, none, one, IsGood, good_nil, good_both, good_as, good_flop, good_after}
 use Rattle.dft_scan_equivalence.proofs.GoodSums.{front_less, gate_gives, sum_gives, all_of, each_good, collect_good, nets_owe, places_count}
 
 -- ---- nets by their places

@@ -15,11 +15,12 @@ use Rattle.dft_netlist.specs.Drivers.{Source, Driver, Flop, Driven, connections_
 use Rattle.dft_netlist.specs.Sound.{is_output}
 use Rattle.dft_parts.specs.MadeNames.{made_instance}
 use Rattle.dft_parts.specs.Parts.{Part, ANet, AnInstance, APin, Making, pin_joined, instance_joined, with_part, with_parts}
+use Rattle.dft_parts.proofs.Growing.{joined_length}
 use Rattle.dft_scan_frame.specs.Moves.{map_from, Gap, moved, moved_signal}
 use Rattle.dft_scan_frame.proofs.Mergings.{Merges, moved_driver, moved_driven, append_merges, all_kept, all_added, NoneAt}
 use Rattle.dft_scan_frame.proofs.ScanPairs.{ScanPair, Plain, PlainBoth, Resets, ResetsBoth, Sets, SetsBoth, ListOf3, ListOf4, ListOf5, three, four, five}
 use Rattle.dft_scan_frame.proofs.Tabled.{map_from_same}
-use Rattle.dft_scan_hardware.proofs.Joins.{Each, joined_in, stays_joined}
+use Rattle.dft_scan_hardware.proofs.Joins.{Each, joined_in, stays_joined, joined_if, one_joined}
 
 -- ---- the instances of a netlist that grew
 
@@ -44,11 +45,6 @@ joined_front : (i pin : ℕ) (net : NetId) (xs ys : List Instance) → i < lengt
 joined_front i pin net [] ys less = absurd (omega (arith, less))
 joined_front zero pin net (x ∷ xs) ys less = refl
 joined_front (suc i) pin net (x ∷ xs) ys less = ap (λ (zs : List Instance). x ∷ zs) (joined_front i pin net xs ys (omega (arith, less)))
-
-joined_length : (i pin : ℕ) (net : NetId) (xs : List Instance) → length (instance_joined i pin net xs) ≡ length xs
-joined_length i pin net [] = refl
-joined_length zero pin net (x ∷ xs) = refl
-joined_length (suc i) pin net (x ∷ xs) = ap suc (joined_length i pin net xs)
 
 other_number : (m k : ℕ) → m < k → (m == k) ≡ false
 other_number m k less = grind (arith, nat_tests, less)
@@ -96,18 +92,6 @@ JoinsWith Q (APin i pin net) = Q i.0 pin net
 
 abbrev pub IsKeptOr : (Q : NetId → Type 0) → (old new : Option Signal) → Type 0
 IsKeptOr Q old new = (new ≡ old) ⊎ ((net : NetId) × Q net × (old ≡ Some Unconnected) × (new ≡ Some (Net net)))
-
-abbrev joined_if : (pin : ℕ) → NetId → Bool → List Signal → List Signal
-joined_if pin net b pins = if b then pin_joined pin net pins else pins
-
-one_joined : (pin : ℕ) (net : NetId) (pins : List Signal) (p : ℕ) → (slice_get (pin_joined pin net pins) p ≡ slice_get pins p) ⊎ ((pin ≡ p) × (slice_get pins p ≡ Some Unconnected) × (slice_get (pin_joined pin net pins) p ≡ Some (Net net)))
-one_joined pin net [] p = inl refl
-one_joined zero net (Unconnected ∷ pins) zero = inr (refl, refl, refl)
-one_joined zero net (Net other ∷ pins) zero = inl refl
-one_joined zero net (Constant bit ∷ pins) zero = inl refl
-one_joined zero net (x ∷ pins) (suc p) = inl refl
-one_joined (suc pin) net (x ∷ pins) zero = inl refl
-one_joined (suc pin) net (x ∷ pins) (suc p) = elim (one_joined pin net pins p) [ inl same ↦ inl same | inr it ↦ inr (ap suc it.0, it.1, it.2) ]
 
 kept_by : (Q : ℕ → ℕ → NetId → Type 0) (parts : List Part) (i : ℕ) (pins : List Signal) (p : ℕ) (j pin : ℕ) (net : NetId) (b : Bool) → (j == i) ≡ b → Q j pin net → ((ps : List Signal) → IsKeptOr (Q i p) (slice_get ps p) (slice_get (joined_in parts i ps) p)) →
     IsKeptOr (Q i p) (slice_get pins p) (slice_get (joined_in parts i (joined_if pin net b pins)) p)
@@ -170,7 +154,7 @@ both_carry gap k i q p r s h g =
     (carries_append (moved gap) k (at_signal r (Flop i true)) (at_signal s (Flop i true)) [] [] (output_carries gap k r s (Flop i true) refl g) (carries_all (moved gap) k [] [] refl))
 
 -- the pin at a number of a list
-abbrev pin_at : List Signal → ℕ → Signal
+abbrev pub pin_at : List Signal → ℕ → Signal
 pin_at pins p = slice_index_or pins p Unconnected
 
 abbrev Drives : Gap → (k i : ℕ) → Kind → List Role → Kind → List Role → (ins its : List Source) → (pins joined : List Signal) → Type 0

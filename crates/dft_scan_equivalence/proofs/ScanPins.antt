@@ -17,7 +17,7 @@ use Rattle.dft_scan_frame.proofs.Mergings.{moved_source_of}
 use Rattle.dft_scan_frame.proofs.ScanPairs.{ScanPair, Plain, PlainBoth, Resets, ResetsBoth, Sets, SetsBoth, ListOf3, ListOf4, ListOf5, three, four, five}
 use Rattle.dft_scan_hardware.specs.Frame.{framed_pins}
 use Rattle.dft_scan_hardware.proofs.Keeping.{at_by, past}
-use Rattle.dft_scan_equivalence.proofs.Merging.{ListOf6, ListOf7, six, seven}
+use Rattle.dft_scan_equivalence.proofs.Merging.{ListOf6, ListOf7, six, seven, pin_at}
 
 -- ---- pins that no part joins
 
@@ -89,13 +89,9 @@ pub record KeepsPins (gap : Gap) (i : ℕ) (old new : List Connection) : Type 0 
 abbrev KeepsOf : Gap → (i : ℕ) → (r s : List Role) → (pins now : List Signal) → Type 0
 KeepsOf gap i r s pins now = KeepsPins gap i (connections_from 0 r pins) (connections_from 0 s now)
 
--- a pin at a number
-abbrev at_number : List Signal → ℕ → Signal
-at_number pins p = slice_index_or pins p Unconnected
-
 -- pins that no part joins are as they were in the frame
 abbrev pub AreFixed : Gap → (s : List Role) → (pins now : List Signal) → Type 0
-AreFixed gap s pins now = (p : ℕ) → is_fixed_at s p ≡ true → at_number now p ≡ at_number (framed_pins (at_net gap.before) s (map (moved_signal gap) pins)) p
+AreFixed gap s pins now = (p : ℕ) → is_fixed_at s p ≡ true → pin_at now p ≡ pin_at (framed_pins (at_net gap.before) s (map (moved_signal gap) pins)) p
 
 pin_is : (gap : Gap) (i k : ℕ) (s t : Signal) → t ≡ moved_signal gap s → ◌≡◌ {A = Option Source} (Some (source_of i k t)) (Some (moved_source (moved gap) (source_of i k s)))
 pin_is gap i k s t e = ap (λ z. Some (source_of i k z)) e ∙ ap Some (moved_source_of gap i k s)

@@ -59,7 +59,7 @@ get_left [] ys k x h = absurd (none-some x h)
 get_left (y ∷ xs) ys zero x h = h
 get_left (y ∷ xs) ys (suc k) x h = get_left xs ys k x h
 
-abbrev joined_if : (pin : ℕ) → NetId → Bool → List Signal → List Signal
+abbrev pub joined_if : (pin : ℕ) → NetId → Bool → List Signal → List Signal
 joined_if pin net b pins = if b then pin_joined pin net pins else pins
 
 joined_here : (j pin : ℕ) (net : NetId) (xs : List Instance) (x : Instance) → slice_get xs j ≡ Some x → slice_get (instance_joined j pin net xs) j ≡ Some (record x { pins = pin_joined pin net x.pins })
@@ -108,7 +108,7 @@ JoinsAt Q (APin i pin net) = Q i.0 pin
 abbrev pub IsKeptOr : (Q : Type 0) → (old new : Option Signal) → Type 0
 IsKeptOr Q old new = (new ≡ old) ⊎ ((net : NetId) × Q × (old ≡ Some Unconnected) × (new ≡ Some (Net net)))
 
-one_joined : (pin : ℕ) (net : NetId) (pins : List Signal) (p : ℕ) → (slice_get (pin_joined pin net pins) p ≡ slice_get pins p) ⊎ ((pin ≡ p) × (slice_get pins p ≡ Some Unconnected) × (slice_get (pin_joined pin net pins) p ≡ Some (Net net)))
+pub one_joined : (pin : ℕ) (net : NetId) (pins : List Signal) (p : ℕ) → (slice_get (pin_joined pin net pins) p ≡ slice_get pins p) ⊎ ((pin ≡ p) × (slice_get pins p ≡ Some Unconnected) × (slice_get (pin_joined pin net pins) p ≡ Some (Net net)))
 one_joined pin net [] p = inl refl
 one_joined zero net (Unconnected ∷ pins) zero = inr (refl, refl, refl)
 one_joined zero net (Net other ∷ pins) zero = inl refl

@@ -325,7 +325,3 @@ pub from_there : (n : Netlist) (first count : ℕ) → first + count ≤ length 
 from_there n first zero le k d less = absurd (omega (arith, less))
 from_there n first (suc count) le zero d less = omega (arith, le)
 from_there n first (suc count) le (suc k) d less = from_there n (suc first) count (omega (arith, le)) k d (omega (arith, less))
-
-pub from_count : (first count : ℕ) → length (nets_from first count) ≡ count
-from_count first zero = refl
-from_count first (suc count) = ap suc (from_count (suc first) count)

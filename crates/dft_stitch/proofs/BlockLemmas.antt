@@ -11,6 +11,7 @@ use Rattle.dft_rules.specs.declared.judged.Judged.{Judged}
 use Rattle.dft_stitch.specs.Chains.{blocks, chain_lengths, chains_of, cell_in, cells_in, scanned_cells, domain_of, if_domain}
 use Rattle.dft_stitch.specs.Tables.{AreBelow}
 use Rattle.dft_stitch.proofs.RangeLemmas.{begun, ended, grown}
+use Rattle.dft_stitch.proofs.ChainLimits.{blocks_count}
 
 -- ---- the cut
 
@@ -69,12 +70,8 @@ blocks_below count [] cells all = All-nil (AreBelow count)
 blocks_below count (l ∷ lengths) cells all =
     All-cons (AreBelow count) (take l cells) (blocks lengths (drop l cells)) (All-take (λ cell. cell.0 < count) l cells all) (blocks_below count lengths (drop l cells) (All-drop (λ cell. cell.0 < count) l cells all))
 
-length-blocks : {T : Type 0} (lengths : List ℕ) (items : List T) → length (blocks lengths items) ≡ length lengths
-length-blocks [] items = refl
-length-blocks (l ∷ lengths) items = ap suc (length-blocks lengths (drop l items))
-
 pub chain_count : (xs : List InstanceId) (chains : ℕ) → length (chains_of xs chains) ≡ chains
-chain_count xs chains = length-blocks (chain_lengths (length xs) chains) xs ∙ length-map (range_with_len 0 chains) (part_length (length xs) chains) ∙ length-range_with_len 0 chains
+chain_count xs chains = blocks_count (chain_lengths (length xs) chains) xs ∙ length-map (range_with_len 0 chains) (part_length (length xs) chains) ∙ length-range_with_len 0 chains
 
 -- ---- each scanned cell is an instance
 

@@ -207,7 +207,7 @@ has_domain v d e (suc m) x low high has = elim (cases_eq d e) [
 
 -- ---- a scanned flip-flop has a domain of the configuration
 
-scanned_in : (t : Bool) (domain : Option ℕ) (held scans kept : Bool) (d : ℕ) → cond t (judged_by domain held scans kept) None ≡ Some (Scanned d) → domain ≡ Some d
+pub scanned_in : (t : Bool) (domain : Option ℕ) (held scans kept : Bool) (d : ℕ) → cond t (judged_by domain held scans kept) None ≡ Some (Scanned d) → domain ≡ Some d
 scanned_in false domain held scans kept d h = absurd (let f : ⊥ = cc in f)
 scanned_in true None held scans kept d h = absurd (let f : ⊥ = cc in f)
 scanned_in true (Some e) false scans kept d h = absurd (let f : ⊥ = cc in f)
@@ -215,16 +215,16 @@ scanned_in true (Some e) true false kept d h = absurd (let f : ⊥ = cc in f)
 scanned_in true (Some e) true true true d h = absurd (let f : ⊥ = cc in f)
 scanned_in true (Some e) true true false d h = cc
 
-within_names : (t : Bool) (p count d : ℕ) → nat_lt p count ≡ t → cond t (Some p) None ≡ Some d → d < count
+pub within_names : (t : Bool) (p count d : ℕ) → nat_lt p count ≡ t → cond t (Some p) None ≡ Some d → d < count
 within_names true p count d is h = let e : p ≡ d = cc in grind (arith, nat_tests)
 within_names false p count d is h = absurd (let f : ⊥ = cc in f)
 
-root_within_names : (n : Netlist) (names : List Text) (root : Root) (d : ℕ) → place_of_root n names root ≡ Some d → d < length names
+pub root_within_names : (n : Netlist) (names : List Text) (root : Root) (d : ℕ) → place_of_root n names root ≡ Some d → d < length names
 root_within_names n names (Port net) d h = within_names (nat_lt (position_or_len (λ name. is_net net (input_net n name)) names) (length names)) (position_or_len (λ name. is_net net (input_net n name)) names) (length names) d refl h
 root_within_names n names (Constant bit) d h = absurd (let f : ⊥ = cc in f)
 root_within_names n names Other d h = absurd (let f : ⊥ = cc in f)
 
-source_within_names : (n : Netlist) (names : List Text) (o : Option Source) (d : ℕ) → option_and_then (place_of_source n names) o ≡ Some d → d < length names
+pub source_within_names : (n : Netlist) (names : List Text) (o : Option Source) (d : ℕ) → option_and_then (place_of_source n names) o ≡ Some d → d < length names
 source_within_names n names None d h = absurd (let f : ⊥ = cc in f)
 source_within_names n names (Some source) d h = root_within_names n names (root_of n source) d h
 

@@ -20,11 +20,14 @@ use Rattle.dft_netlist.specs.Netlist.{Netlist}
 use Rattle.dft_netlist.specs.Names.{bit_names, port_names, is_taken, first_taken, vector_name, instance_name}
 use Rattle.dft_netlist.specs.NetNumbers.{nets_from}
 use Rattle.dft_netlist.specs.Building.{taken_or, port_limit, port_of, own_names, empty_netlist, port_refusal, net_refusal, instance_refusal}
+use Rattle.dft_netlist.proofs.SoundLemmas.{with_net}
+use Rattle.dft_netlist.proofs.BitLemmas.{up_length}
+use Rattle.dft_netlist.proofs.NamesLemmas.{has-append}
 use Rattle.dft_netlist_text.specs.Modules.{HeaderPort, net_count}
 use Rattle.dft_netlist_text.specs.NetlistText.{Grown, final_signal, unless_refused, and_grown, add_declared, add_ports, add_net, add_nets, add_instance, add_instances, add_joins, built, nets_of_port, nets_of_ports, net_order, other_nets, names_of_others}
 use Rattle.dft_verilog_draft.specs.Free.{IsApart, AreApart}
 use Rattle.dft_verilog.specs.Buildable.{names_of_port, names_of_header, names_of_instances, printed_names, BuildableAreBuilt}
-use Rattle.dft_verilog_draft.proofs.DeclareLemmas.{length-bit_names, length-going_up}
+use Rattle.dft_verilog_draft.proofs.DeclareLemmas.{length-bit_names}
 use Rattle.dft_verilog.proofs.GrowLemmas.{add_port-Ok, add_ports-Ok, add_declared-Ok}
 
 -- ---- names that are new
@@ -33,16 +36,12 @@ or_assoc : (a b c : Bool) → ((a || b) || c) ≡ (a || (b || c))
 or_assoc true b c = refl
 or_assoc false b c = refl
 
-has_name-append : (xs ys : List Text) (word : Text) → has_name (xs ++ ys) word ≡ (has_name xs word || has_name ys word)
-has_name-append [] ys word = refl
-has_name-append (x ∷ xs) ys word = ap (λ b. bytes_eq x word || b) (has_name-append xs ys word) ∙ sym (or_assoc (bytes_eq x word) (has_name xs word) (has_name ys word))
-
 -- none of two lists has the name, and so the two together
 neither : (xs ys : List Text) (word : Text) → has_name xs word ≡ false → has_name ys word ≡ false → has_name (xs ++ ys) word ≡ false
-neither xs ys word p q = has_name-append xs ys word ∙ or_from (has_name xs word) (has_name ys word) p q
+neither xs ys word p q = has-append xs ys word ∙ or_from (has_name xs word) (has_name ys word) p q
 
 apart_parts : (xs ys : List Text) (word : Text) → has_name (xs ++ ys) word ≡ false → (has_name xs word ≡ false) × (has_name ys word ≡ false)
-apart_parts xs ys word h = or_parts (has_name xs word) (has_name ys word) (sym (has_name-append xs ys word) ∙ h)
+apart_parts xs ys word h = or_parts (has_name xs word) (has_name ys word) (sym (has-append xs ys word) ∙ h)
 
 -- each of these is none of those before it
 abbrev AreNew : (before words : List Text) → Type 0
@@ -130,9 +129,6 @@ room_by false false a b free h = absurd (cc)
 net_free : (n : Netlist) (word : Text) → is_taken n word ≡ false → length n.nets + 1 ≤ MAX_NETS → net_refusal n word ≡ None
 net_free n word free room = room_by (is_taken n word) (leb (length n.nets + 1) MAX_NETS) (error.DuplicateName word) (error.TooMany counted.Nets (pos MAX_NETS)) free (le-leb (length n.nets + 1) MAX_NETS room)
 
-abbrev with_net : Netlist → Text → Netlist
-with_net n word = record n { nets = n.nets ++ word ∷ [] }
-
 net_more : (n : Netlist) (word : Text) → TakesMore n (with_net n word) (word ∷ [])
 net_more n word = record {
   nets = word ∷ [];
@@ -204,7 +200,7 @@ declared-built : (n : Netlist) (before : List Text) (word : Text) (declared : Op
 declared-built n before word None free new ports nets = record { new = n; built = refl; frees = subst (Frees n) (sym (append-nil before)) free; instances = refl }
 declared-built n before word (Some d) free new ports nets =
     let range = d.shape.range in
-    let count : length (bit_names word range) ≡ length (nets_of_port (Some d)) = length-bit_names word range ∙ sym (length-going_up d.shape.first.0 (net_count range)) in
+    let count : length (bit_names word range) ≡ length (nets_of_port (Some d)) = length-bit_names word range ∙ sym (up_length d.shape.first.0 (net_count range)) in
     let bits = nets_from (length n.nets) (length (bit_names word range)) in
     let m : Netlist = record n { ports = n.ports ++ port_of word d.dir range bits ∷ []; nets = n.nets ++ bit_names word range } in
     record {

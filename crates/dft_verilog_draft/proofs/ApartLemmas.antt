@@ -8,6 +8,7 @@ use Rattle.std.proofs.lemmas.Slice.Eq.{bytes_eq-Decides}
 use Rattle.std.proofs.lemmas.Bool.Decides.{same_from_decides, nat_tests}
 use Rattle.dft_base.specs.declared.place.Range.{Range}
 use Rattle.dft_netlist.specs.Names.{bit_name, bit_names, going_up, going_down}
+use Rattle.dft_netlist.proofs.PortNames.{bit_name_injective}
 use Rattle.dft_netlist_text.specs.declared.text.Meaning.{Meaning}
 use Rattle.dft_netlist_text.specs.Modules.{Draft, TakenName, first_taken, names_of_bits}
 use Rattle.dft_verilog_draft.specs.Free.{AreFree, AreFreeBits, taken_bit, IsApart, AreApart, AreBitsApart}
@@ -23,12 +24,8 @@ differ xs ys ne =
 tail_same : (x : ℕ) (xs ys : List ℕ) → x ∷ xs ≡ x ∷ ys → xs ≡ ys
 tail_same x xs ys e = cc
 
-bit_name-injective : (word : List ℕ) (i j : ℕ) → i < 2 ^ 64 → j < 2 ^ 64 → bit_name word i ≡ bit_name word j → i ≡ j
-bit_name-injective word i j hi hj e =
-    decimal_injective i j hi hj (tail_same 91 _ _ (append_cancel_left word _ _ (append_cancel_right _ _ (93 ∷ []) e)))
-
 bits_differ : (word : List ℕ) (i j : ℕ) → i < 2 ^ 64 → j < 2 ^ 64 → i ≢ j → bytes_eq (bit_name word i) (bit_name word j) ≡ false
-bits_differ word i j hi hj ne = differ _ _ (λ e. ne (bit_name-injective word i j hi hj e))
+bits_differ word i j hi hj ne = differ _ _ (λ e. ne (bit_name_injective word i j hi hj e))
 
 bit_differs : (word : List ℕ) (i : ℕ) → bytes_eq word (bit_name word i) ≡ false
 bit_differs word i = differ word (bit_name word i) (λ (e : word ≡ bit_name word i). omega (arith, ap length e, length-append (word ++ (91 ∷ decimal i)) (93 ∷ []), length-append word (91 ∷ decimal i)))

@@ -68,12 +68,6 @@ decimal-printed = decimal_by_steps (λ n ds. All IsPrinted ds)
     (λ n lt. All-push IsPrinted [] (48 + n) (All-nil IsPrinted) (omega arith, omega arith))
     (λ n ds ge h. All-push IsPrinted ds (48 + n % 10) h (omega arith, omega arith))
 
-pub IsName-bit_name : (word : List ℕ) (index : ℕ) → index < 2 ^ 64 → IsName word → IsName (bit_name word index)
-IsName-bit_name word index lt name = record {
-  some = omega (arith, name.some, length-append (word ++ (91 ∷ decimal index)) (93 ∷ []), length-append word (91 ∷ decimal index));
-  each = All-append IsPrinted (word ++ (91 ∷ decimal index)) (93 ∷ [])
-      (All-append IsPrinted word (91 ∷ decimal index) name.each (All-cons IsPrinted 91 (decimal index) (omega arith, omega arith) (decimal-printed index lt)))
-      (All-cons IsPrinted 93 [] (omega arith, omega arith) (All-nil IsPrinted));
 }
 
 -- the parts of a bit's name, put together one after another

@@ -13,6 +13,7 @@ use Rattle.dft_cells.specs.declared.cell.Pin.{Pin}
 use Rattle.dft_cells.specs.declared.cell.Cell.{Cell}
 use Rattle.dft_cells.specs.Cells.{find_from, find_cell}
 use Rattle.dft_cells.specs.WellFormed.{ascend, comes_before, cell_name, pin_name, has_name, all_differ}
+use Rattle.dft_cells.proofs.Halving.{order_of, less_from, differ_less}
 use Rattle.dft_netlist_text.specs.Items.{pin_place}
 
 -- the place of the first that passes, one more in front
@@ -27,14 +28,6 @@ cons_by false n len = inner (ltb n len) refl
 pub position-cons : {X : Type 0} (p : X → Bool) (x : X) (xs : List X) → position p (x ∷ xs) ≡ cond (p x) (Some 0) (option_map suc (position p xs))
 position-cons p x xs = cons_by (p x) (position_or_len p xs) (length xs)
 
-abbrev order_of : List ℕ → List ℕ → Ordering
-order_of a b = slice_cmp nat_cmp a b
-
-less_from : (o : Ordering) → is_lt o ≡ true → o ≡ Less
-less_from Less e = refl
-less_from Equal e = cc
-less_from Greater e = cc
-
 before_each : (name : List ℕ) (cells : List Cell) → comes_before name (map cell_name cells) ≡ true → ascend (map cell_name cells) ≡ true
     → (k : ℕ) (cell : Cell) → slice_get cells k ≡ Some cell → order_of name cell.name ≡ Less
 before_each name [] first rest k cell at = absurd (cc)
@@ -42,9 +35,6 @@ before_each name (x ∷ xs) first rest zero cell at = let e : x ≡ cell = cc in
 before_each name (x ∷ xs) first rest (suc k) cell at =
     let (next, more) = and_parts (comes_before x.name (map cell_name xs)) (ascend (map cell_name xs)) rest in
     nat_list_cmp_total.trans name x.name cell.name (less_from _ first) (before_each x.name xs next more k cell at)
-
-differ_less : (a b : List ℕ) → order_of a b ≡ Less → bytes_eq a b ≡ false
-differ_less a b e = sym (is_eq-slice_cmp a b) ∙ ap is_eq e
 
 bytes_eq-same : (x : List ℕ) → bytes_eq x x ≡ true
 bytes_eq-same x = (bytes_eq-Decides x x).1 refl

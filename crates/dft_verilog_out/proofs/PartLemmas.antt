@@ -40,6 +40,7 @@ use Rattle.dft_verilog_out.proofs.LineLemmas.{Line, Lines, no_lines, lines_cons,
 use Rattle.dft_verilog_out.proofs.InstanceLemmas.{Operands, IsGate, gate_form, named_gate_read, unnamed_gate_read, as_joined, IsPin, ArePins, signals-back, cell_form, cell_read}
 use Rattle.dft_verilog_out.proofs.OperandLemmas.{net_at-kept, NetsAt, target_operand, signal_operand}
 use Rattle.dft_verilog_out.proofs.PhaseLemmas.{stage}
+use Rattle.dft_verilog_out.proofs.JoinedLemmas.{is_joined-connected}
 
 -- ---- joins
 
@@ -153,11 +154,6 @@ gate_line-is texts k i ins output e = rw (e, first_is ins output) refl
 
 -- ---- cells
 
-joined_is : (s : Signal) → is_joined s ≡ true → IsConnected s
-joined_is (signal.Net net) h = tt
-joined_is (signal.Constant bit) h = tt
-joined_is signal.Unconnected h = absurd (cc)
-
 -- what is known of the pins of a cell
 record OfCell (d : Draft) (texts : List Text) (cell : Cell) (signals : List Signal) : Type 0 where
   nets : NetsAt d.names d.ports texts
@@ -171,7 +167,7 @@ pin_of d texts cell signals place pin to c at is = record {
   found = pin_place-at cell place pin c.differ at;
   at = at;
   name = λ joined. c.named.pins place pin to at is joined;
-  reads = λ joined. signal_operand d (site.Pin (is_output pin.role)) texts to c.nets (c.live place to is) (joined_is to joined) (λ bit e. c.outputs place pin bit at (is ∙ ap Some e));
+  reads = λ joined. signal_operand d (site.Pin (is_output pin.role)) texts to c.nets (c.live place to is) (is_joined-connected to joined) (λ bit e. c.outputs place pin bit at (is ∙ ap Some e));
 }
 
 pins_of : (d : Draft) (texts : List Text) (cell : Cell) (all : List Signal) (place : ℕ) (pins : List Pin) (signals : List Signal) → OfCell d texts cell all → length signals ≡ length pins
