@@ -84,7 +84,6 @@ at_either (y ∷ xs) ys (suc k) x h = elim (at_either xs ys k x h) [
   | inr b ↦ inr (record { place = b.place; number = (let e = b.number in omega arith); here = b.here })
 ]
 
-
 -- each element is the same
 same_at : {X Y : Type 0} (y : Y) (xs : List X) (k : ℕ) → k < length xs → slice_get (map (λ x. y) xs) k ≡ Some y
 same_at y [] k h = absurd (omega arith)

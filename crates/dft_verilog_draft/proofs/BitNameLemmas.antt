@@ -68,8 +68,6 @@ decimal-printed = decimal_by_steps (λ n ds. All IsPrinted ds)
     (λ n lt. All-push IsPrinted [] (48 + n) (All-nil IsPrinted) (omega arith, omega arith))
     (λ n ds ge h. All-push IsPrinted ds (48 + n % 10) h (omega arith, omega arith))
 
-}
-
 -- the parts of a bit's name, put together one after another
 pub bit_name-parts : (word digits : List ℕ) → ((word ++ 91 ∷ []) ++ digits) ++ 93 ∷ [] ≡ (word ++ (91 ∷ digits)) ++ 93 ∷ []
 bit_name-parts word digits = ap (λ t. t ++ 93 ∷ []) (append_assoc word (91 ∷ []) digits)
