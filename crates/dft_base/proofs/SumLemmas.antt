@@ -61,3 +61,6 @@ at_or_before q n h = elim (cases_lt q n) [ inl less ↦ inl less | inr least ↦
 pub sum_one : (n q : ℕ) (f : ℕ → Bool) → q < n → ((c : ℕ) → c ≢ q → f c ≡ false) → sum_to n f ≡ f q
 sum_one zero q f less zeros = absurd (omega arith)
 sum_one (suc n) q f less zeros = one_of n q f (at_or_before q n less) zeros (λ before. sum_one n q f before zeros)
+
+pub xor_comm : (a b : Bool) → xor a b ≡ xor b a
+xor_comm = grind arith

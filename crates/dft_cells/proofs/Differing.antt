@@ -11,6 +11,7 @@ use Rattle.std.proofs.lemmas.List.{take_more, take-append-drop, drop_more, map-a
 use Rattle.std.proofs.lemmas.Map.Text.{is_eq-slice_cmp}
 use Rattle.std.proofs.lemmas.Slice.Eq.{bytes_eq-Decides}
 use Rattle.dft_base.proofs.SumLemmas.{and_false}
+use Rattle.dft_base.proofs.TextLemmas.{bytes_eq-comm}
 use Rattle.dft_cells.specs.declared.cell.Pin.{Pin}
 use Rattle.dft_cells.specs.WellFormed.{has_name, all_differ, pin_name}
 
@@ -34,9 +35,6 @@ same_both true true a b e f = refl
 same_both false false a b e f = refl
 same_both true false a b e f = let same = (bytes_eq-Decides a b).0 e in absurd (let back = (bytes_eq-Decides b a).1 (sym same) in cc)
 same_both false true a b e f = let same = (bytes_eq-Decides b a).0 f in absurd (let back = (bytes_eq-Decides a b).1 (sym same) in cc)
-
-turned : (a b : List ℕ) → bytes_eq a b ≡ bytes_eq b a
-turned a b = same_both (bytes_eq a b) (bytes_eq b a) a b refl refl
 
 or_twice : (a b : Bool) → (a || b) ≡ (a || (a || b))
 or_twice true b = refl
@@ -71,7 +69,7 @@ inserted_seen (x ∷ xs) key name = inserted_by (key_order key x) key x xs (inse
 -- a key is there where its bytes are
 pub there : (keys : List Key) (key : Key) → list_any (is_at (key_order key)) keys ≡ seen keys key.items
 there [] key = refl
-there (x ∷ xs) key = rw (is_eq-slice_cmp key.items x.items, turned key.items x.items, there xs key)
+there (x ∷ xs) key = rw (is_eq-slice_cmp key.items x.items, bytes_eq-comm key.items x.items, there xs key)
 
 named_pushed : (names : List (List ℕ)) (last name : List ℕ) → has_name (names ++ last ∷ []) name ≡ (bytes_eq last name || has_name names name)
 named_pushed [] last name = refl
@@ -87,7 +85,7 @@ differ_more [] last d h = refl
 differ_more (x ∷ names) last d h =
     let (apart, rest) = and_parts (not (has_name names x)) (all_differ names) d in
     let (here, later) = or_parts (bytes_eq x last) (has_name names last) h in
-    rw (named_pushed names last x, turned last x, here, not-true (has_name names x) apart, differ_more names last rest later)
+    rw (named_pushed names last x, bytes_eq-comm last x, here, not-true (has_name names x) apart, differ_more names last rest later)
 
 named_within : (names rest : List (List ℕ)) (last name : List ℕ) → bytes_eq last name ≡ true → has_name (names ++ last ∷ rest) name ≡ true
 named_within [] rest last name e = rw e
@@ -95,7 +93,7 @@ named_within (x ∷ names) rest last name e = rw (named_within names rest last n
 
 differ_not : (same : Bool) (x last : List ℕ) (names rest : List (List ℕ)) → bytes_eq x last ≡ same → (same || has_name names last) ≡ true
     → (has_name names last ≡ true → all_differ (names ++ last ∷ rest) ≡ false) → all_differ (x ∷ names ++ last ∷ rest) ≡ false
-differ_not true x last names rest e h more = rw (named_within names rest last x (turned last x ∙ e))
+differ_not true x last names rest e h more = rw (named_within names rest last x (bytes_eq-comm last x ∙ e))
 differ_not false x last names rest e h more = rw (more h) (and_false (not (has_name (names ++ last ∷ rest) x)))
 
 -- names of which one stands among those before it do not differ

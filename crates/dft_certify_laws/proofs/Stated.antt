@@ -5,7 +5,7 @@ use Rattle.std.proofs.lemmas.Bool.{cases_lt}
 use Rattle.std.proofs.lemmas.List.{length-append, get_or_append_left}
 use Rattle.std.proofs.lemmas.Option.{none-some, same_Some}
 use Rattle.dft_base.specs.Solutions.{Equation, Contradicts, IsSum, StatesFrom, bit_at, equation_at, ids_to, odd_at, odd_bits, sum_to, xor}
-use Rattle.dft_base.proofs.SumLemmas.{sum_same, xor_false, xor_assoc}
+use Rattle.dft_base.proofs.SumLemmas.{sum_same, xor_false, xor_assoc, xor_comm}
 use Rattle.dft_netlist.specs.declared.ids.InstanceId.{InstanceId}
 use Rattle.dft_gf2.proofs.Restorations.{sum_picked, push_at}
 use Rattle.dft_gf2.proofs.Sums.{xor_self}
@@ -20,9 +20,6 @@ abbrev pub odd_ids : (ℕ → Bool) → List ℕ → Bool
 odd_ids f [] = false
 odd_ids f (id ∷ ids) = xor (f id) (odd_ids f ids)
 
-xor_turn : (a b : Bool) → xor a b ≡ xor b a
-xor_turn = grind arith
-
 odd_append : (f : ℕ → Bool) (xs ys : List ℕ) → odd_ids f (xs ++ ys) ≡ xor (odd_ids f xs) (odd_ids f ys)
 odd_append f [] ys = refl
 odd_append f (x ∷ xs) ys = ap (xor (f x)) (odd_append f xs ys) ∙ sym (xor_assoc (f x) (odd_ids f xs) (odd_ids f ys))
@@ -36,7 +33,7 @@ odd_picked f zero picks es = refl
 odd_picked f (suc m) picks es =
     odd_append f (ids_to m picks es) (cond (picks m) ((equation_at es m).id ∷ []) [])
     ∙ (λ i. xor (odd_picked f m picks es i) (one_picked f (picks m) (equation_at es m).id i))
-    ∙ xor_turn (sum_to m (λ j. picks j && f (equation_at es j).id)) (picks m && f (equation_at es m).id)
+    ∙ xor_comm (sum_to m (λ j. picks j && f (equation_at es j).id)) (picks m && f (equation_at es m).id)
 
 -- ---- positions that differ
 

@@ -5,13 +5,13 @@ use Rattle.std.specs.Str.{bytes_eq}
 use Rattle.std.proofs.lemmas.Option.{none-some, same_Some, slice_get-get_or, slice_get_within}
 use Rattle.dft_base.specs.Lexing.{Text}
 use Rattle.dft_base.specs.Solutions.{bit_at, xor}
+use Rattle.dft_base.proofs.TextLemmas.{same_text, bytes_eq-self}
 use Rattle.dft_netlist.specs.declared.ids.InstanceId.{InstanceId}
 use Rattle.dft_netlist.specs.declared.instance.Instance.{Instance}
 use Rattle.dft_netlist.specs.declared.named.Named.TheVariants.{Instance as AnInstance}
 use Rattle.dft_netlist.specs.Names.{find_instance, find_instance_from, has_this_name, instance_name}
 use Rattle.dft_netlist.specs.Netlist.{Netlist}
 use Rattle.dft_netlist.specs.Sound.{IsNetlist}
-use Rattle.dft_netlist.proofs.NamesLemmas.{same_of, bytes_eq-same}
 use Rattle.dft_netlist.proofs.FindLemmas.{this_name, is_this_name, not_first_instance}
 use Rattle.dft_config.specs.declared.config.Config.{Config}
 use Rattle.dft_config.specs.declared.config.RingConfig.{RingConfig}
@@ -149,9 +149,6 @@ module _ (n : Netlist) (ring : RingConfig) (row : CellRows) (columns : ℕ) (cel
 
 -- ---- the cube of a name
 
-bytes_of : (a b : Text) → bytes_eq a b ≡ true → a ≡ b
-bytes_of a b h = same_of a b h
-
 find_step : (cube x : Cube) (cubes : List Cube) (name : Text) (t : Bool) → bytes_eq x.name name ≡ t → (t ≡ true → x ≡ cube) → (t ≡ false → cube_named cubes name ≡ Some cube) → cond t (Some x) (cube_named cubes name) ≡ Some cube
 find_step cube x cubes name true is here later = ap Some (here refl)
 find_step cube x cubes name false is here later = later refl
@@ -159,9 +156,9 @@ find_step cube x cubes name false is here later = later refl
 find_cube : (cubes : List Cube) (name : Text) (k : ℕ) (cube : Cube) → slice_get cubes k ≡ Some cube → cube.name ≡ name → ((j : ℕ) (c : Cube) → slice_get cubes j ≡ Some c → c.name ≡ name → j ≡ k) → cube_named cubes name ≡ Some cube
 find_cube [] name k cube at is one = absurd (none-some cube at)
 find_cube (x ∷ cubes) name zero cube at is one =
-    find_step cube x cubes name (bytes_eq x.name name) refl (λ t. same_Some x cube at) (λ f. absurd (let g : true ≡ false = sym (ap (λ (y : Text). bytes_eq y name) (ap (λ (c : Cube). c.name) (same_Some x cube at) ∙ is) ∙ bytes_eq-same name) ∙ f in cc))
+    find_step cube x cubes name (bytes_eq x.name name) refl (λ t. same_Some x cube at) (λ f. absurd (let g : true ≡ false = sym (ap (λ (y : Text). bytes_eq y name) (ap (λ (c : Cube). c.name) (same_Some x cube at) ∙ is) ∙ bytes_eq-self name) ∙ f in cc))
 find_cube (x ∷ cubes) name (suc k) cube at is one =
-    find_step cube x cubes name (bytes_eq x.name name) refl (λ t. absurd (let e = one zero x refl (bytes_of x.name name t) in omega (arith, e)))
+    find_step cube x cubes name (bytes_eq x.name name) refl (λ t. absurd (let e = one zero x refl (same_text x.name name t) in omega (arith, e)))
     (λ f. find_cube cubes name k cube at is (λ j c at_j same. (let e = one (suc j) c at_j same in omega (arith, e))))
 
 -- ---- entries

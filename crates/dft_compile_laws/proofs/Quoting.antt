@@ -17,6 +17,7 @@ use Rattle.dft_base.specs.Words.{begins_word, continues_word, is_later_reserved,
 use Rattle.dft_base.specs.declared.dir.Dir.{Dir}
 use Rattle.dft_base.specs.declared.dir.Dir.TheVariants.{Input, Output}
 use Rattle.dft_base.specs.declared.place.Range.{Range}
+use Rattle.dft_base.proofs.TextLemmas.{begins_goes_on}
 use Rattle.dft_netlist.specs.declared.port.Port as design_port
 use Rattle.dft_netlist.specs.Names.{bit_name, bit_names, indices_of}
 use Rattle.dft_netlist.specs.Netlist.{Netlist}
@@ -136,9 +137,6 @@ word_byte b e = ((grind (arith, nat_tests), grind (arith, nat_tests)), (λ same.
   where
     not_word : (c : ℕ) → c ≡ 34 → continues_word c ≡ true → ⊥
     not_word c same e = grind (arith, nat_tests)
-
-begins_goes_on : (b : ℕ) → begins_word b ≡ true → continues_word b ≡ true
-begins_goes_on b e = grind (arith, nat_tests)
 
 word_printed : (bytes : Text) → list_all continues_word bytes ≡ true → All (λ b. (33 ≤ b) × (b ≤ 126)) bytes × All Plain bytes
 word_printed [] h = (All-nil (λ b. (33 ≤ b) × (b ≤ 126)), All-nil Plain)

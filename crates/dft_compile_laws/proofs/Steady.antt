@@ -8,6 +8,7 @@ use Rattle.dft_merge.proofs.EquationLemmas.{Each}
 use Rattle.dft_base.specs.declared.tri.Tri.{Tri}
 use Rattle.dft_base.specs.declared.tri.Tri.TheVariants.{Zero, One, Unknown}
 use Rattle.dft_base.specs.Solutions.{bit_at}
+use Rattle.dft_base.proofs.BitLemmas.{true_false}
 use Rattle.dft_netlist.specs.declared.ids.NetId.{NetId}
 use Rattle.dft_netlist.specs.Netlist.{Netlist}
 use Rattle.dft_netlist.specs.Runs.{Vector}
@@ -23,7 +24,7 @@ use Rattle.dft_expect.specs.Masks.{by_chain}
 use Rattle.dft_patterns.specs.Patterns.{IsSteady, Patterns}
 use Rattle.dft_patterns.specs.declared.act.Act.{Act}
 use Rattle.dft_patterns.specs.declared.act.Act.TheVariants.{Unset, Low, High, Pulse, ExpectLow, ExpectHigh, Ignore}
-use Rattle.dft_pattern_behavior.proofs.Clocks.{pulsed_clock, reset_rests, true_false}
+use Rattle.dft_pattern_behavior.proofs.Clocks.{pulsed_clock, reset_rests}
 use Rattle.dft_vectors.specs.AddedPorts.{added_inputs, no_bits, set_all, shifting}
 use Rattle.dft_vectors.specs.OwnPorts.{compare, driven, expect, ignored, inputs_by, outputs_ignored, pulsing_vector, quiet_vector, set_to}
 use Rattle.dft_vectors.specs.PatternData.{PatternData}

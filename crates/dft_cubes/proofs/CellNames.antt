@@ -4,12 +4,12 @@ use Rattle.std.specs.Option.{option_and_then}
 use Rattle.std.specs.Prelude.{IsSome, if◌then◌else◌}
 use Rattle.std.proofs.lemmas.Option.{none-some, same_Some}
 use Rattle.dft_base.specs.Lexing.{Text}
+use Rattle.dft_base.proofs.TextLemmas.{same_text}
 use Rattle.dft_netlist.specs.declared.ids.InstanceId.{InstanceId}
 use Rattle.dft_netlist.specs.declared.instance.Instance.{Instance}
 use Rattle.dft_netlist.specs.Drivers.{kind_at}
 use Rattle.dft_netlist.specs.Netlist.{Netlist}
 use Rattle.dft_netlist.specs.Names.{find_instance, find_instance_from, has_this_name, instance_name}
-use Rattle.dft_netlist.proofs.NamesLemmas.{same_of}
 use Rattle.dft_netlist.proofs.FindLemmas.{IsInstanceAt, this_name, first_instance_or, instance_at}
 use Rattle.dft_rules.specs.Rules.{flip_flop_named, may_be_scanned}
 use Rattle.dft_rules.proofs.NameLemmas.{if_there}

@@ -9,6 +9,7 @@ use Rattle.std.proofs.lemmas.Bool.{or_parts, eq-eqb}
 use Rattle.std.proofs.lemmas.Option.{same_Some}
 use Rattle.dft_base.specs.Lexing.{Text}
 use Rattle.dft_base.specs.declared.place.Place.{Place}
+use Rattle.dft_base.proofs.BitLemmas.{true_false}
 use Rattle.dft_cells.specs.WellFormed.{has_name}
 use Rattle.dft_config.specs.declared.config.Config.{Config}
 use Rattle.dft_netlist.specs.declared.ids.NetId.{NetId}
@@ -65,9 +66,6 @@ nothing_at zero a e = let f : ⊥ = cc in f
 nothing_at (suc j) a e = let f : ⊥ = cc in f
 
 -- ---- what is not there
-
-true_false : (b : Bool) → b ≡ true → b ≡ false → ⊥
-true_false b holds fails = let f : ⊥ = cc in f
 
 none_has : {A : Type 0} (test : A → Bool) (xs : List A) → list_any test xs ≡ false → (j : ℕ) (a : A) → slice_get xs j ≡ Some a → test a ≡ true → ⊥
 none_has test [] none j a there holds = nothing_at j a there

@@ -7,6 +7,7 @@ use Rattle.std.proofs.lemmas.Option.{none-some, same_Some}
 use Rattle.std.proofs.lemmas.Bool.{or_right}
 use Rattle.std.proofs.lemmas.Map.Keys.{any_passes_from_place}
 use Rattle.dft_base.specs.Lexing.{Text}
+use Rattle.dft_base.proofs.OptionLemmas.{some_of}
 use Rattle.dft_cells.specs.declared.kind.Kind.{Kind}
 use Rattle.dft_cells.specs.declared.kind.Kind.TheVariants as kind
 use Rattle.dft_cells.specs.declared.kind.Role.{Role}
@@ -60,10 +61,6 @@ position_item test from number (x ∷ xs) e = position_by test from number x xs 
 
 position_at : {A : Type 0} (test : A → Bool) (number : ℕ) (xs : List A) → position test xs ≡ Some number → IsAt test 0 xs number
 position_at test number xs e = position_item test 0 number xs (sym (position_from-zero test xs) ∙ e)
-
-some_of : {A : Type 0} (o : Option A) → is_some o ≡ true → (x : A) × (o ≡ Some x)
-some_of None e = absurd cc
-some_of (Some x) e = (x, refl)
 
 -- ---- a scanned flip-flop
 

@@ -13,10 +13,10 @@ use Rattle.std.proofs.Math.Seq.{drop-cons}
 use lib.Count.{ones_step, ones-le}
 use Rattle.dft_base.specs.Packed.{packed_bit}
 use Rattle.dft_base.specs.Solutions.{xor, sum_to}
-use Rattle.dft_base.proofs.SumLemmas.{xor_false, sum_same, sum_zero, sum_add}
+use Rattle.dft_base.proofs.SumLemmas.{xor_false, sum_same, sum_zero, sum_add, xor_comm as xor_comm_bits}
 use Rattle.dft_lanes.specs.Sums.{odd_common}
 use Rattle.dft_lanes.proofs.BitLemmas.{and_bit, xor_bit}
-use Rattle.dft_lanes.proofs.SumLemmas.{xor_comm_bits, sum_split}
+use Rattle.dft_lanes.proofs.SumLemmas.{sum_split}
 
 -- the sum of the words that the first n words have in common
 abbrev pub common_to : ℕ → List ℕ → List ℕ → ℕ

@@ -6,9 +6,6 @@ use Rattle.dft_base.proofs.SumLemmas.{xor_swap}
 xor_assoc : (a b c : Bool) → xor a (xor b c) ≡ xor (xor a b) c
 xor_assoc = grind arith
 
-pub xor_comm_bits : (a b : Bool) → xor a b ≡ xor b a
-xor_comm_bits = grind arith
-
 -- a sum by its first bits and the others
 pub sum_split : (n m : ℕ) (f : ℕ → Bool) → sum_to (n + m) f ≡ xor (sum_to m (λ i. f (n + i))) (sum_to n f)
 sum_split n zero f = ap (λ (k : ℕ). sum_to k f) (omega arith)

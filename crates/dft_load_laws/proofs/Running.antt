@@ -8,6 +8,7 @@ use Rattle.dft_base.specs.Lexing.{Text}
 use Rattle.dft_base.specs.declared.tri.Tri.{Tri}
 use Rattle.dft_base.specs.declared.tri.Tri.TheVariants.{Zero, One, Unknown}
 use Rattle.dft_base.specs.Tri.{known}
+use Rattle.dft_base.proofs.BitLemmas.{true_false}
 use Rattle.dft_netlist.specs.declared.ids.NetId.{NetId}
 use Rattle.dft_netlist.specs.Connections.{is_input, input_net}
 use Rattle.dft_netlist.specs.Drivers.{driver}
@@ -40,13 +41,6 @@ use Rattle.dft_scan_behavior.proofs.PortsDriven.{not_this, not_found, no_clock}
 use Rattle.dft_load_laws.specs.Loading.{LoadRun, LoadsRun}
 
 -- ---- names of ports are names of the design's ports
-
-less_apart : (a b : ℕ) → a < b → (a == b) ≡ false
-less_apart = grind arith
-
-true_false : (b : Bool) → b ≡ true → b ≡ false → ⊥
-true_false true e f = cc
-true_false false e f = cc
 
 -- a net of this sort is one of the design's ports' nets
 named_less : (n : Netlist) (config : Config) (at : ℕ) (names : List Text) → IsReady n config → list_any (λ name. is_net at (input_net n name)) names ≡ true → at < length (bits_of n.ports)

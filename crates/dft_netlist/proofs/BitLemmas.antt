@@ -10,6 +10,7 @@ use Rattle.std.proofs.lemmas.Str.Parse.{numerals_by_value, tells_by_index}
 use Rattle.std.proofs.lemmas.Bool.{le-leb, lt-leb}
 use Rattle.dft_base.specs.Name.{IsName}
 use Rattle.dft_base.specs.declared.place.Range.{Range}
+use Rattle.dft_base.proofs.TextLemmas.{IsPrinted, digits_printed}
 use Rattle.dft_netlist.specs.Names.{indices_of, going_up, going_down, bit_name}
 
 pub up_length : (from count : ℕ) → length (going_up from count) ≡ count
@@ -59,18 +60,12 @@ indices_length r = cases_le r.left r.right (nat_le r.left r.right) refl _
 
 -- ---- a bit's printed name is a name
 
-abbrev Printed : ℕ → Type 0
-Printed b = (33 ≤ b) × (b ≤ 126)
-
-digits_printed : (index : ℕ) → index < 2 ^ 64 → All Printed (decimal index)
-digits_printed index lt = All-from_get_or Printed (decimal index) 0 (λ i within. let d = digits_decimal (numerals_by_value _ tells_by_index) index lt i within in (omega (arith, d.0), omega (arith, d.1)))
-
 pub is_bit_name : (name : List ℕ) (index : ℕ) → index < 2 ^ 64 → IsName name → IsName (bit_name name index)
 is_bit_name name index lt h = record {
   some = (let e = length-append (name ++ (91 ∷ decimal index)) (93 ∷ []) in omega (arith, e));
-  each = All-append Printed (name ++ (91 ∷ decimal index)) (93 ∷ [])
-      (All-append Printed name (91 ∷ decimal index) h.each (All-cons Printed 91 (decimal index) (omega arith, omega arith) (digits_printed index lt)))
-      (All-cons Printed 93 [] (omega arith, omega arith) (All-nil Printed));
+  each = All-append IsPrinted (name ++ (91 ∷ decimal index)) (93 ∷ [])
+      (All-append IsPrinted name (91 ∷ decimal index) h.each (All-cons IsPrinted 91 (decimal index) (omega arith, omega arith) (digits_printed index lt)))
+      (All-cons IsPrinted 93 [] (omega arith, omega arith) (All-nil IsPrinted));
 }
 
 pub regroup : (name : List ℕ) (index : ℕ) → ((name ++ 91 ∷ []) ++ decimal index) ++ 93 ∷ [] ≡ bit_name name index

@@ -8,6 +8,7 @@ use Rattle.dft_netlist.specs.declared.ids.NetId.{NetId}
 use Rattle.dft_netlist.specs.declared.port.Port.{Port}
 use Rattle.dft_base.specs.declared.dir.Dir.{Dir}
 use Rattle.dft_base.specs.declared.dir.Dir.TheVariants as dir
+use Rattle.dft_base.proofs.ListLemmas.{length_push}
 use Rattle.dft_netlist.specs.declared.instance.Signal.{Signal}
 use Rattle.dft_netlist.specs.declared.instance.Signal.TheVariants as signal
 use Rattle.dft_netlist.specs.declared.instance.Instance.{Instance}
@@ -49,10 +50,6 @@ get_middle (y ∷ front) x back = get_middle front x back
 move_front : {X : Type 0} (front : List X) (x : X) (back : List X) → front ++ x ∷ back ≡ (front ++ x ∷ []) ++ back
 move_front [] x back = refl
 move_front (y ∷ front) x back = ap (λ zs. y ∷ zs) (move_front front x back)
-
-length_push : {X : Type 0} (xs : List X) (x : X) → length (xs ++ x ∷ []) ≡ suc (length xs)
-length_push [] x = refl
-length_push (y ∷ xs) x = ap suc (length_push xs x)
 
 -- ---- ports
 

@@ -12,7 +12,7 @@ use Rattle.dft_netlist.specs.Names.{Names, find_net, find_net_from, find_instanc
 use Rattle.dft_netlist.specs.NamedParts.{net_in, instance_in}
 use Rattle.dft_netlist.specs.NameTables.{Entry, look_up, Knows}
 use Rattle.dft_base.specs.Lexing.{Text}
-use Rattle.dft_netlist.proofs.NamesLemmas.{same_of, bytes_eq-same}
+use Rattle.dft_base.proofs.TextLemmas.{same_text, bytes_eq-self}
 
 -- ---- nets
 
@@ -20,7 +20,7 @@ abbrev IsAt : (from : ℕ) → List Text → Text → NetId → Type 0
 IsAt from nets q k = (j : ℕ) × (k.0 ≡ from + j) × (slice_get nets j ≡ Some q)
 
 first_or : (t : Bool) (from : ℕ) (x : Text) (nets : List Text) (q : Text) (k : NetId) → bytes_eq x q ≡ t → (find_net_from (suc from) nets q ≡ Some k → IsAt (suc from) nets q k) → cond t (Some (record { 0 = from })) (find_net_from (suc from) nets q) ≡ Some k → IsAt from (x ∷ nets) q k
-first_or true from x nets q k is rest h = let e : record { 0 = from } ≡ k = cc in (0, sym (ap (λ (i : NetId). i.0) e) ∙ omega arith, ap Some (same_of x q is))
+first_or true from x nets q k is rest h = let e : record { 0 = from } ≡ k = cc in (0, sym (ap (λ (i : NetId). i.0) e) ∙ omega arith, ap Some (same_text x q is))
 first_or false from x nets q k is rest h = let r = rest h in (suc r.0, r.1 ∙ omega arith, r.2)
 
 found_at : (from : ℕ) (nets : List Text) (q : Text) (k : NetId) → find_net_from from nets q ≡ Some k → IsAt from nets q k
@@ -36,7 +36,7 @@ not_found from [] q h j at = cc
 not_found from (x ∷ nets) q h zero at =
     let e : x ≡ q = cc in
     let other = not_first (bytes_eq x q) (record { 0 = from }) (find_net_from (suc from) nets q) h in
-    true≢false (sym (bytes_eq-same q) ∙ ap (λ y. bytes_eq y q) (sym e) ∙ other.0)
+    true≢false (sym (bytes_eq-self q) ∙ ap (λ y. bytes_eq y q) (sym e) ∙ other.0)
 not_found from (x ∷ nets) q h (suc j) at = not_found (suc from) nets q (not_first (bytes_eq x q) (record { 0 = from }) (find_net_from (suc from) nets q) h).1 j at
 
 names_net : (n : Netlist) (q : Text) (k : NetId) → find_net n q ≡ Some k → Names n q (Net k)
@@ -62,11 +62,11 @@ IsInstanceAt from instances q k = (j : ℕ) × (k.0 ≡ from + j) × (option_and
 
 pub this_name : (name : Option Text) (q : Text) → has_this_name name q ≡ true → name ≡ Some q
 this_name None q h = absurd (true≢false (sym h))
-this_name (Some x) q h = ap Some (same_of x q h)
+this_name (Some x) q h = ap Some (same_text x q h)
 
 pub is_this_name : (name : Option Text) (q : Text) → name ≡ Some q → has_this_name name q ≡ true
 is_this_name None q h = absurd (let f : ⊥ = cc in f)
-is_this_name (Some x) q h = let e : x ≡ q = cc in rw e (bytes_eq-same q)
+is_this_name (Some x) q h = let e : x ≡ q = cc in rw e (bytes_eq-self q)
 
 pub first_instance_or : (t : Bool) (from : ℕ) (x : Instance) (rest : List Instance) (q : Text) (k : InstanceId) → has_this_name x.name q ≡ t → (find_instance_from (suc from) rest q ≡ Some k → IsInstanceAt (suc from) rest q k) → cond t (Some (record { 0 = from })) (find_instance_from (suc from) rest q) ≡ Some k → IsInstanceAt from (x ∷ rest) q k
 first_instance_or true from x rest q k is more h = let e : record { 0 = from } ≡ k = cc in (0, sym (ap (λ (i : InstanceId). i.0) e) ∙ omega arith, this_name x.name q is)

@@ -10,6 +10,7 @@ use Rattle.dft_netlist.specs.Netlist.{Netlist}
 use Rattle.dft_netlist.specs.Names.{is_taken, first_taken, bit_name, bit_names, port_names, vector_name_in, indices_of}
 use Rattle.dft_netlist.specs.NameTables.{Entry, look_up, own_entries, Knows, AreNew, AllDiffer, IsFree}
 use Rattle.dft_base.specs.Lexing.{Text}
+use Rattle.dft_base.proofs.ListLemmas.{at_of_map}
 use Rattle.dft_netlist.proofs.BitLemmas.{cases_le, rising_at, falling_at}
 use Rattle.dft_netlist.proofs.NamesLemmas.{free_look_up}
 use Rattle.dft_netlist.proofs.NewNames.{still_free}
@@ -62,11 +63,6 @@ index_once r k j i at also =
     let b = there.0 in omega arith)
 
 -- ---- names by their places
-
-at_of_map : {X Y : Type 0} (f : X → Y) (xs : List X) (k : ℕ) (y : Y) → slice_get (map f xs) k ≡ Some y → (x : X) × (slice_get xs k ≡ Some x) × (f x ≡ y)
-at_of_map f [] k y at = absurd (let g : ⊥ = cc in g)
-at_of_map f (x ∷ xs) zero y at = (x, refl, cc)
-at_of_map f (x ∷ xs) (suc k) y at = at_of_map f xs k y at
 
 only_one : (name q : Text) (k : ℕ) → slice_get (name ∷ []) k ≡ Some q → k ≡ 0
 only_one name q zero at = refl

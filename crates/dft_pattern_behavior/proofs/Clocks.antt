@@ -3,11 +3,12 @@ use Rattle.std.proofs.Common.{ℕ, ◌≡◌, true, false, Option, None, Some, o
 use Rattle.std.proofs.lemmas.Bool.{false_from_ne_true}
 use Rattle.std.proofs.lemmas.Map.Keys.{any_passes_from_place}
 use Rattle.dft_base.specs.Lexing.{Text}
+use Rattle.dft_base.proofs.BitLemmas.{true_false}
 use Rattle.dft_netlist.specs.Connections.{input_net}
 use Rattle.dft_netlist.specs.Netlist.{Netlist}
 use Rattle.dft_config.specs.declared.config.Config.{Config}
 use Rattle.dft_rules.specs.Rules.{is_net}
-pub use Rattle.dft_rules.proofs.NamedPorts.{named_input, reset_rests, true_false}
+pub use Rattle.dft_rules.proofs.NamedPorts.{named_input, reset_rests}
 use Rattle.dft_expect.specs.Captures.{capture_clock}
 use Rattle.dft_scan_frame.specs.ConfigPorts.{config_ports}
 

@@ -39,11 +39,6 @@ cut_back f (x ∷ chains) =
     ∙ ap (λ (vs : List Tri). map f x ∷ by_chain chains vs) (drop_front f x rest)
     ∙ ap (λ (vs : List (List Tri)). map f x ∷ vs) (cut_back f chains)
 
-pub get_there : {X : Type 0} (xs : List X) (k : ℕ) → k < length xs → (x : X) × (slice_get xs k ≡ Some x)
-get_there [] k less = absurd (omega (arith, less))
-get_there (x ∷ xs) zero less = (x, refl)
-get_there (x ∷ xs) (suc k) less = get_there xs k (omega (arith, less))
-
 pub any_none : {X : Type 0} (q : X → Bool) (xs : List X) (k : ℕ) (x : X) → list_any q xs ≡ false → slice_get xs k ≡ Some x → q x ≡ false
 any_none q [] k x none at = absurd (none-some x at)
 any_none q (y ∷ xs) zero x none at = ap q (sym (same_Some y x at)) ∙ (or_parts (q y) (list_any q xs) none).0

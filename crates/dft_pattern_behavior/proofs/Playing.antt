@@ -7,6 +7,7 @@ use Rattle.dft_base.specs.declared.tri.Tri.{Tri}
 use Rattle.dft_base.specs.declared.tri.Tri.TheVariants.{Zero, One, Unknown}
 use Rattle.dft_base.specs.Solutions.{bit_at}
 use Rattle.dft_base.specs.Tri.{known}
+use Rattle.dft_base.proofs.BitLemmas.{true_false}
 use Rattle.dft_netlist.specs.declared.ids.NetId.{NetId}
 use Rattle.dft_netlist.specs.Connections.{is_input}
 use Rattle.dft_netlist.specs.Drivers.{driver}
@@ -38,7 +39,7 @@ use Rattle.dft_scan_hardware.specs.Statements.{scanned}
 use Rattle.dft_scan_equivalence.specs.Agreeing.{ports_in}
 use Rattle.dft_scan_equivalence.proofs.MadeGood.{from_at}
 use Rattle.dft_scan_behavior.specs.Facts.{chain_nets, edt_hardware}
-use Rattle.dft_pattern_behavior.proofs.Clocks.{named_input, pulsed_clock, reset_rests, true_false}
+use Rattle.dft_pattern_behavior.proofs.Clocks.{named_input, pulsed_clock, reset_rests}
 use Rattle.dft_vectors.specs.AddedPorts.{added_inputs, no_bits, set_all, shifting}
 use Rattle.dft_vectors.specs.OwnPorts.{driven, inputs_by, outputs_ignored, pulsing_vector, quiet_vector, set_to}
 use Rattle.dft_vectors.specs.PatternData.{PatternData}

@@ -3,6 +3,7 @@ use Rattle.std.proofs.Common.{cond, add-one, drop, drop-cons, ◌⊎◌, inl, in
 use Rattle.std.proofs.lemmas.Bool.{cases_lt, or_right}
 use Rattle.std.proofs.lemmas.List.{length-set, length-replicate, get_or_past}
 use Rattle.dft_base.proofs.SumLemmas.{and_false as and_with_false}
+use Rattle.dft_base.proofs.BitLemmas.{or_false}
 use Rattle.dft_patterns.specs.declared.act.Act.{Act}
 use Rattle.dft_patterns.specs.declared.act.Act.TheVariants.{Unset, Low, High, Pulse, ExpectLow, ExpectHigh, Ignore}
 use Rattle.dft_patterns.specs.declared.steadiness.Unsteady.{Unsteady}
@@ -66,10 +67,6 @@ or_swap : (p s r : Bool) → ((p || s) || r) ≡ (s || (p || r))
 or_swap true true r = refl
 or_swap true false r = refl
 or_swap false s r = refl
-
-or_false : (t : Bool) → (t || false) ≡ t
-or_false true = refl
-or_false false = refl
 
 pub one_vector_more : (count : ℕ) (all left : List (List Act)) (acts : List Act) (start now : List Bool) → AreFlagged count all (acts ∷ left) start
     → ((k : ℕ) → get_or now k false ≡ (is_pulse (act_of_signal acts k) || get_or start k false)) → length now ≡ length start → AreFlagged count all left now

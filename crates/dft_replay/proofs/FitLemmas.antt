@@ -17,7 +17,9 @@ use Rattle.dft_netlist.specs.Netlist.{Netlist}
 use Rattle.dft_netlist.specs.Names.{bit_names, find_net, find_net_from}
 use Rattle.dft_netlist.specs.Sound.{IsNetlist, bit_names_of}
 use Rattle.dft_base.specs.Lexing.{Text}
-use Rattle.dft_netlist.proofs.NamesLemmas.{same_of, bytes_eq-same, has_here, has_where}
+use Rattle.dft_base.proofs.ListLemmas.{get_left, get_right, get_there}
+use Rattle.dft_base.proofs.TextLemmas.{same_text, bytes_eq-self}
+use Rattle.dft_netlist.proofs.NamesLemmas.{has_here, has_where}
 use Rattle.dft_netlist.proofs.LiveLemmas.{AreWide}
 use Rattle.dft_netlist.proofs.FindLemmas.{not_found}
 use Rattle.dft_patterns.specs.declared.signal.StilSignal.{StilSignal}
@@ -40,7 +42,7 @@ record IsAt (from : ℕ) (nets : List Text) (q : Text) (k : ℕ) : Type 0 where
   pub here : slice_get nets place ≡ Some q
 
 first_or : (t : Bool) (from : ℕ) (x : Text) (nets : List Text) (q : Text) (k : NetId) → bytes_eq x q ≡ t → (find_net_from (suc from) nets q ≡ Some k → IsAt (suc from) nets q k.0) → (if t then Some (record { 0 = from }) else find_net_from (suc from) nets q) ≡ Some k → IsAt from (x ∷ nets) q k.0
-first_or true from x nets q k is rest h = let e : record { 0 = from } ≡ k = cc in record { place = 0; number = sym (ap (λ (i : NetId). i.0) e) ∙ omega arith; here = ap Some (same_of x q is) }
+first_or true from x nets q k is rest h = let e : record { 0 = from } ≡ k = cc in record { place = 0; number = sym (ap (λ (i : NetId). i.0) e) ∙ omega arith; here = ap Some (same_text x q is) }
 first_or false from x nets q k is rest h = let r = rest h in record { place = suc r.place; number = r.number ∙ omega arith; here = r.here }
 
 found_at : (from : ℕ) (nets : List Text) (q : Text) (k : NetId) → find_net_from from nets q ≡ Some k → IsAt from nets q k.0
@@ -66,15 +68,6 @@ pub record Behind {X : Type 0} (front back : List X) (k : ℕ) (x : X) : Type 0 
   pub place : ℕ
   pub number : k ≡ length front + place
   pub here : slice_get back place ≡ Some x
-
-at_front : {X : Type 0} (xs ys : List X) (k : ℕ) (x : X) → slice_get xs k ≡ Some x → slice_get (xs ++ ys) k ≡ Some x
-at_front [] ys k x h = absurd (let f : ⊥ = cc in f)
-at_front (y ∷ xs) ys zero x h = h
-at_front (y ∷ xs) ys (suc k) x h = at_front xs ys k x h
-
-at_back : {X : Type 0} (xs ys : List X) (k : ℕ) (x : X) → slice_get ys k ≡ Some x → slice_get (xs ++ ys) (length xs + k) ≡ Some x
-at_back [] ys k x h = (let e : 0 + k ≡ k = omega arith in rw e h)
-at_back (y ∷ xs) ys k x h = (let e : suc (length xs) + k ≡ suc (length xs + k) = omega arith in rw e (at_back xs ys k x h))
 
 at_either : {X : Type 0} (xs ys : List X) (k : ℕ) (x : X) → slice_get (xs ++ ys) k ≡ Some x → (slice_get xs k ≡ Some x) ⊎ Behind xs ys k x
 at_either [] ys k x h = inr (record { place = k; number = omega arith; here = h })
@@ -150,15 +143,15 @@ fitting_bit (port ∷ ports) s wide h =
           let less : found.0 < length port.bits = omega arith in
           record {
             place = found.0;
-            named = at_front names (bit_names_of ports) found.0 s.name found.1;
-            goes = at_front dirs (dirs_of ports) found.0 s.dir (same_at port.dir port.bits found.0 less ∙ ap Some (same_dir_is port.dir s.dir both.0));
+            named = get_left names (bit_names_of ports) found.0 s.name found.1;
+            goes = get_left dirs (dirs_of ports) found.0 s.dir (same_at port.dir port.bits found.0 less ∙ ap Some (same_dir_is port.dir s.dir both.0));
           })
       | inr later ↦ (
           let r = fitting_bit ports s (λ place q at. wide (suc place) q at) later in
           record {
             place = length names + r.place;
-            named = at_back names (bit_names_of ports) r.place s.name r.named;
-            goes = (let e : length dirs + r.place ≡ length names + r.place = omega arith in subst (λ (j : ℕ). slice_get (dirs ++ dirs_of ports) j ≡ Some s.dir) e (at_back dirs (dirs_of ports) r.place s.dir r.goes));
+            named = get_right names (bit_names_of ports) r.place s.name r.named;
+            goes = (let e : length dirs + r.place ≡ length names + r.place = omega arith in subst (λ (j : ℕ). slice_get (dirs ++ dirs_of ports) j ≡ Some s.dir) e (get_right dirs (dirs_of ports) r.place s.dir r.goes));
           })
     ]
 
@@ -166,7 +159,7 @@ fitting_bit (port ∷ ports) s wide h =
 
 -- the name of a bit is that of its net
 bit_named : (n : Netlist) (k : ℕ) (q : Text) → IsNetlist n → slice_get (bit_names_of n.ports) k ≡ Some q → slice_get n.nets k ≡ Some q
-bit_named n k q sound at = sym (ap (λ (xs : List Text). slice_get xs k) (sym sound.bits.same)) ∙ at_front (bit_names_of n.ports) sound.bits.rest k q at
+bit_named n k q sound at = sym (ap (λ (xs : List Text). slice_get xs k) (sym sound.bits.same)) ∙ get_left (bit_names_of n.ports) sound.bits.rest k q at
 
 dirs_long : (ports : List Port) → AreWide ports → length (dirs_of ports) ≡ length (bit_names_of ports)
 dirs_long [] wide = refl
@@ -176,16 +169,11 @@ dirs_long (port ∷ ports) wide =
     let rest = dirs_long ports (λ place q at. wide (suc place) q at) in
     omega (arith, length-append (map (λ (net : NetId). port.dir) port.bits) (dirs_of ports), length-append (bit_names port.name port.range) (bit_names_of ports))
 
-some_at : {X : Type 0} (xs : List X) (k : ℕ) → k < length xs → (x : X) × (slice_get xs k ≡ Some x)
-some_at [] k h = absurd (omega arith)
-some_at (x ∷ xs) zero h = (x, refl)
-some_at (x ∷ xs) (suc k) h = some_at xs k (omega arith)
-
 pub net_fits : (n : Netlist) (s : StilSignal) (k : NetId) (d : Dir) → IsNetlist n → find_net n s.name ≡ Some k → slice_get (dirs_of n.ports) k.0 ≡ Some d → same_dir d s.dir ≡ true → is_port_bit n s ≡ true
 net_fits n s k d sound found goes same =
     let within = slice_get_within (dirs_of n.ports) k.0 d goes in
     let long = dirs_long n.ports sound.widths in
-    let some = some_at (bit_names_of n.ports) k.0 (omega arith) in
+    let some = get_there (bit_names_of n.ports) k.0 (omega arith) in
     let e : Some some.0 ≡ Some s.name = sym (bit_named n k.0 some.0 sound some.1) ∙ found_named n s.name k found in
     bit_fits n.ports s k.0 d sound.widths (some.1 ∙ e) goes same
 

@@ -10,6 +10,8 @@ use Rattle.std.proofs.lemmas.List.Elements.{filter-append}
 use Rattle.std.proofs.lemmas.Option.{slice_get-get_or}
 use Rattle.std.proofs.lemmas.Bool.{eqb-true, and_parts, and_from, or_left, or_right, eq-eqb, or_cases}
 use Rattle.dft_base.specs.declared.tri.Tri.{Tri}
+use Rattle.dft_base.proofs.BitLemmas.{same_tests}
+use Rattle.dft_base.proofs.ListLemmas.{range_last}
 use Rattle.dft_netlist.specs.declared.ids.NetId.{NetId}
 use Rattle.dft_netlist.specs.Orders.{Has, numbers_of}
 use Rattle.dft_cycle.specs.Machine.{Machine, value_at, logic, is_one_of, pulses, IsSet}
@@ -137,11 +139,6 @@ all_told start now nets acts count differ same all told net = elim (signal_or_no
 
 -- ---- clocks
 
-same_tests : (a b : Bool) → (a ≡ true → b ≡ true) → (b ≡ true → a ≡ true) → a ≡ b
-same_tests true b to from = sym (to refl)
-same_tests false true to from = from refl
-same_tests false false to from = refl
-
 -- a net that pulses is that of a signal that does
 record PulsesBy (nets : List ℕ) (acts : List Act) (net : ℕ) : Type 0 where
   pub signal : ℕ
@@ -246,12 +243,9 @@ range_grows : (a n : ℕ) → range_with_len a (suc n) ≡ range_with_len a n ++
 range_grows a zero = (let e : a ≡ a + 0 = omega arith in ap (λ (k : ℕ). k ∷ []) e)
 range_grows a (suc n) = (let e : (a + 1) + n ≡ a + suc n = omega arith in ap (λ (xs : List ℕ). a ∷ xs) (range_grows (a + 1) n ∙ ap (λ (k : ℕ). range_with_len (a + 1) n ++ k ∷ []) e))
 
-range_more : (count : ℕ) → range_with_len 0 (count + 1) ≡ range_with_len 0 count ++ count ∷ []
-range_more count = (let e : count + 1 ≡ suc count = omega arith in let f : 0 + count ≡ count = omega arith in ap (range_with_len 0) e ∙ range_grows 0 count ∙ ap (λ (k : ℕ). range_with_len 0 count ++ k ∷ []) f)
-
 -- the clocks of one signal more
 clocks_step : (vectors : List (List Act)) (count : ℕ) → clocks_of (count + 1) vectors ≡ clocks_of count vectors ++ (if pulses_at vectors count then count ∷ [] else [])
-clocks_step vectors count = ap (filter (pulses_at vectors)) (range_more count) ∙ filter-append (pulses_at vectors) (range_with_len 0 count) (count ∷ [])
+clocks_step vectors count = ap (filter (pulses_at vectors)) (range_last count) ∙ filter-append (pulses_at vectors) (range_with_len 0 count) (count ∷ [])
 
 pub clocks_more : (vectors : List (List Act)) (count : ℕ) (clocks new : List ℕ) → clocks ≡ clocks_of count vectors → new ≡ clocks ++ count ∷ [] → pulses_at vectors count ≡ true → new ≡ clocks_of (count + 1) vectors
 clocks_more vectors count clocks new is grown up = grown ∙ ap (λ (cs : List ℕ). cs ++ count ∷ []) is ∙ sym (clocks_step vectors count ∙ ap (λ b. clocks_of count vectors ++ (if b then count ∷ [] else [])) up)

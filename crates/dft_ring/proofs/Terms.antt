@@ -4,6 +4,7 @@ use Rattle.std.specs.Prelude.{if◌then◌else◌}
 use Rattle.std.specs.List.{All}
 use Rattle.std.proofs.lemmas.List.{append-nil, map-append}
 use Rattle.std.proofs.lemmas.List.Elements.{All-append, All-cons, All-head, All-tail}
+use Rattle.dft_base.proofs.ListLemmas.{drop_over}
 use Rattle.dft_netlist.specs.declared.ids.NetId.{NetId}
 use Rattle.dft_config.specs.declared.config.Tap.{Tap}
 use Rattle.dft_config.specs.declared.config.Injector.{Injector}
@@ -99,12 +100,6 @@ terms_made ring channels stages stage next taps injectors a b c d is same_taps s
     ∙ (λ i. (first i ++ tap_nets (same_taps i) stages stage) ++ injector_nets ring.injectors channels stage)
     ∙ (λ i. ((none i ++ next ∷ []) ++ tap_nets ring.taps stages stage) ++ injector_nets ring.injectors channels stage)
     ∙ terms_of ring channels stages stage next is
-
-drop_over : {T : Type 0} (xs : List T) (i : ℕ) → length xs ≤ i → drop i xs ≡ []
-drop_over [] zero h = refl
-drop_over [] (suc i) h = refl
-drop_over (x ∷ xs) zero h = absurd (omega (arith, h))
-drop_over (x ∷ xs) (suc i) h = drop_over xs i (omega (arith, h))
 
 pub set_made : (stages terms : List NetId) (set : List ℕ) (i : ℕ) → length set ≤ i → terms ++ map (net_at stages) (drop i set) ≡ map (net_at stages) set → terms ≡ map (net_at stages) set
 set_made stages terms set i past h = sym (append-nil terms) ∙ ap (λ (xs : List ℕ). terms ++ map (net_at stages) xs) (sym (drop_over set i past)) ∙ h

@@ -7,26 +7,23 @@ use Rattle.std.proofs.lemmas.Bool.{eqb-true, or_left, or_right, false_from_ne_tr
 use Rattle.std.proofs.lemmas.Option.{none-some, same_Some, get_or_from_slice_get, slice_get_within}
 use Rattle.std.proofs.lemmas.Map.Keys.{any_passes_from_place}
 use Rattle.dft_base.specs.Lexing.{Text}
+use Rattle.dft_base.proofs.BitLemmas.{true_false}
+use Rattle.dft_base.proofs.TextLemmas.{same_text, bytes_eq-self}
 use Rattle.dft_netlist.specs.declared.ids.NetId.{NetId}
 use Rattle.dft_netlist.specs.Connections.{is_input, input_net}
 use Rattle.dft_netlist.specs.Drivers.{driver}
 use Rattle.dft_netlist.specs.Names.{find_net, find_net_from}
 use Rattle.dft_netlist.specs.Netlist.{Netlist}
-use Rattle.dft_netlist.proofs.NamesLemmas.{same_of, bytes_eq-same}
 use Rattle.dft_config.specs.declared.config.Config.{Config}
 use Rattle.dft_config.specs.Range.{IsInRange, has}
 use Rattle.dft_rules.specs.Rules.{is_net}
 use Rattle.dft_rules.specs.ConfigPorts.{config_ports}
 
-pub true_false : (b : Bool) → b ≡ true → b ≡ false → ⊥
-true_false true e f = cc
-true_false false e f = cc
-
 -- ---- the net of a name
 
 by_first : (t : Bool) (from : ℕ) (x : Text) (nets : List Text) (q : Text) (k : NetId) → bytes_eq x q ≡ t → (find_net_from (suc from) nets q ≡ Some k → (j : ℕ) × (k.0 ≡ suc from + j) × (slice_get nets j ≡ Some q)) →
     cond t (Some (record { 0 = from })) (find_net_from (suc from) nets q) ≡ Some k → (j : ℕ) × (k.0 ≡ from + j) × (slice_get (x ∷ nets) j ≡ Some q)
-by_first true from x nets q k is more h = (0, sym (ap (λ (i : NetId). i.0) (same_Some (record { 0 = from }) k h)) ∙ omega arith, ap Some (same_of x q is))
+by_first true from x nets q k is more h = (0, sym (ap (λ (i : NetId). i.0) (same_Some (record { 0 = from }) k h)) ∙ omega arith, ap Some (same_text x q is))
 by_first false from x nets q k is more h = let r = more h in (suc r.0, r.1 ∙ omega arith, r.2)
 
 found_at : (from : ℕ) (nets : List Text) (q : Text) (k : NetId) → find_net_from from nets q ≡ Some k → (j : ℕ) × (k.0 ≡ from + j) × (slice_get nets j ≡ Some q)
@@ -58,7 +55,7 @@ any_there q (x ∷ xs) h = any_by q x xs (q x) refl h (any_there q xs)
 
 has_at : (xs : List Text) (k : ℕ) (y : Text) → slice_get xs k ≡ Some y → has bytes_eq xs y ≡ true
 has_at [] k y at = absurd (none-some y at)
-has_at (x ∷ xs) zero y at = or_left (bytes_eq x y) (has bytes_eq xs y) (ap (λ z. bytes_eq z y) (same_Some x y at) ∙ bytes_eq-same y)
+has_at (x ∷ xs) zero y at = or_left (bytes_eq x y) (has bytes_eq xs y) (ap (λ z. bytes_eq z y) (same_Some x y at) ∙ bytes_eq-self y)
 has_at (x ∷ xs) (suc k) y at = or_right (bytes_eq x y) (has bytes_eq xs y) (has_at xs k y at)
 
 -- a name of these, with its net
@@ -105,4 +102,4 @@ pub not_among : (n : Netlist) (names : List Text) (name : Text) (net : NetId) �
 not_among n names name net is none = false_from_ne_true (list_any (λ (other : Text). is_net net.0 (input_net n other)) names) (λ among.
     let r = named n net.0 names among in
     let same : r.1 ≡ name = same_Some r.1 name (sym (name_at n r.1 net.0 r.3) ∙ name_at n name net.0 (input_there n name net is).0) in
-    true_false (list_any (λ (other : Text). bytes_eq other name) names) (any_passes_from_place (λ (other : Text). bytes_eq other name) names r.0 r.1 r.2 (ap (λ (x : Text). bytes_eq x name) same ∙ bytes_eq-same name)) none)
+    true_false (list_any (λ (other : Text). bytes_eq other name) names) (any_passes_from_place (λ (other : Text). bytes_eq other name) names r.0 r.1 r.2 (ap (λ (x : Text). bytes_eq x name) same ∙ bytes_eq-self name)) none)

@@ -1,6 +1,7 @@
 -- In style Edt a scanned netlist has all of the compression hardware.
 use Rattle.std.proofs.Common.{ℕ, zero, suc, ◌+◌, ◌-◌, ◌<◌, ◌≤◌, ◌≡◌, List, [], ◌∷◌, length, map, None, Some, option_map, option_and_then, slice_get, refl, sym, subst, ap, arith, ◌∙◌}
 use Rattle.std.proofs.lemmas.Option.{slice_get-map, get_or_from_slice_get, slice_get_past}
+use Rattle.dft_base.proofs.ListLemmas.{get_there}
 use Rattle.dft_netlist.specs.declared.ids.NetId.{NetId}
 use Rattle.dft_netlist.specs.declared.ids.InstanceId.{InstanceId}
 use Rattle.dft_netlist.specs.NetNumbers.{nets_from}
@@ -33,11 +34,6 @@ use Rattle.dft_scan_behavior.proofs.PortsDriven.{edt_means, edt_clock_is}
 use Rattle.dft_scan_behavior.proofs.ScanInputs.{entry_joined}
 
 -- ---- lists
-
-get_there : {X : Type 0} (xs : List X) (k : ℕ) → k < length xs → (x : X) × (slice_get xs k ≡ Some x)
-get_there [] k less = absurd (omega (arith, less))
-get_there (x ∷ xs) zero less = (x, refl)
-get_there (x ∷ xs) (suc k) less = get_there xs k (omega (arith, less))
 
 -- the last net of a row, among those of all rows
 last_in : (rows : List (List NetId)) (chain place : ℕ) (row : List NetId) (net : NetId) → slice_get rows chain ≡ Some row → length row - 1 ≡ place → slice_get row place ≡ Some net → net_at (map last_net rows) chain ≡ net

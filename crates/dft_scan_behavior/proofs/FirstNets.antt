@@ -48,10 +48,6 @@ joined_apart zero (suc p) net (x ∷ pins) apart = refl
 joined_apart (suc pin) zero net (x ∷ pins) apart = refl
 joined_apart (suc pin) (suc p) net (x ∷ pins) apart = joined_apart pin p net pins (λ same. apart (ap suc same))
 
-pub true_false : (b : Bool) → b ≡ true → b ≡ false → ⊥
-true_false true e f = cc
-true_false false e f = cc
-
 -- the first part joins the pin, or a later one
 joined_by : (parts : List Part) (i p : ℕ) (pins : List Signal) (pin : ℕ) (its net : NetId) (a b : Bool) → (pin == p) ≡ b → slice_get pins p ≡ Some Unconnected →
     ((ps : List Signal) → slice_get ps p ≡ Some Unconnected → first_at parts i p ≡ Some net → slice_get (joined_in parts i ps) p ≡ Some (Net net)) → (if a && b then Some its else first_at parts i p) ≡ Some net →

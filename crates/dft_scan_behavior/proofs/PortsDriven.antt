@@ -7,6 +7,7 @@ use Rattle.std.proofs.lemmas.List.{length-append}
 use Rattle.dft_base.specs.Lexing.{Text}
 use Rattle.dft_base.specs.declared.dir.Dir.{Dir}
 use Rattle.dft_base.specs.declared.dir.Dir.TheVariants as dir
+use Rattle.dft_base.proofs.NumberLemmas.{less_apart}
 use Rattle.dft_netlist.specs.declared.ids.NetId.{NetId}
 use Rattle.dft_netlist.specs.Drivers as drivers
 use Rattle.dft_netlist.specs.Drivers.{Driver, Driven, driven_by_bits, driven_by_ports, driven_by_instances, driven_by_joins, driver_in, driver}
@@ -116,9 +117,6 @@ plain_input n config j ready less =
     ∙ inputs_drive inputs outs before j (its ++ joins) are few
 
 -- ---- nets past the design's ports are no clocks of its configuration
-
-less_apart : (a b : ℕ) → a < b → (a == b) ≡ false
-less_apart = grind arith
 
 pub not_this : (n : Netlist) (at : ℕ) (net : NetId) (b : Bool) → length (bits_of n.ports) ≤ at → (b ≡ true → net.0 < length (bits_of n.ports)) → is_net at (if b then Some net else None) ≡ false
 not_this n at net true past h = less_apart net.0 at (omega (arith, h refl, past))

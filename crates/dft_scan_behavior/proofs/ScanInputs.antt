@@ -3,6 +3,7 @@ use Rattle.std.proofs.Common.{ℕ, zero, suc, ◌+◌, ◌<◌, ◌≡◌, ◌==
 use Rattle.std.specs.List.{range_with_len}
 use Rattle.std.proofs.lemmas.Bool.{eqb-true, eqb-false}
 use Rattle.std.proofs.lemmas.Option.{none-some, slice_get_within, get_or_from_slice_get}
+use Rattle.dft_base.proofs.ListLemmas.{get_range}
 use Rattle.dft_cells.specs.declared.kind.Role.TheVariants.{ScanIn}
 use Rattle.dft_netlist.specs.declared.ids.NetId.{NetId}
 use Rattle.dft_netlist.specs.declared.ids.InstanceId.{InstanceId}
@@ -34,7 +35,7 @@ use Rattle.dft_scan_behavior.specs.Facts.{rows_in, ports_of, ring_start, ring_pa
 use Rattle.dft_scan_behavior.proofs.ChainNets.{IfHere, AllCross, AllStep, entry_found, crossing_first, step_first, chain_apart, late_found, late_fits}
 use Rattle.dft_scan_behavior.proofs.Cuts.{plain_start, plain_chain_parts, end_parts, compactor_list, rest_of, made_cut, all_there}
 use Rattle.dft_scan_behavior.proofs.FirstNets.{first_at, Found, joined_first, none_first, FitsIn, FoundIn, found_front, found_back, found_each}
-use Rattle.dft_scan_behavior.proofs.Lockups.{get_range, cell_domain, same_or_lockup, by_lockup, directly, lockup_means}
+use Rattle.dft_scan_behavior.proofs.Lockups.{cell_domain, same_or_lockup, by_lockup, directly, lockup_means}
 use Rattle.dft_scan_behavior.proofs.Outputs.{has_chain, one_place, IsShown, shown, input_free}
 use Rattle.dft_scan_behavior.proofs.Planned.{cell_pins, now_pins, IsPlanned}
 use Rattle.dft_scan_behavior.proofs.PortsDriven.{edt_clock_is}

@@ -5,6 +5,8 @@ use Rattle.std.proofs.lemmas.List.{length-map}
 use Rattle.std.proofs.lemmas.Option.{none-some, same_Some, slice_get_within}
 use Rattle.dft_base.specs.declared.dir.Dir.{Dir}
 use Rattle.dft_base.specs.declared.dir.Dir.TheVariants as dir
+use Rattle.dft_base.proofs.BitLemmas.{true_false}
+use Rattle.dft_base.proofs.NumberLemmas.{less_apart}
 use Rattle.dft_cells.specs.declared.kind.Kind.{Kind}
 use Rattle.dft_cells.specs.declared.kind.Role.{Role}
 use Rattle.dft_cells.specs.declared.kind.Role.TheVariants.{Clock, Din, Reset, Preset, ScanIn, ScanEnable, Output, Inverted}
@@ -143,10 +145,6 @@ instances_carry f k library written i (x ∷ xs) each =
     carries_append f k (driven_by library i x) (driven_by library i (written i x)) (driven_by_instances library (suc i) xs) (driven_by_instances library (suc i) (map_from written (suc i) xs))
     (each zero i x (omega arith) refl)
     (instances_carry f k library written (suc i) xs (λ j number z is at. each (suc j) number z (omega (arith, is)) at))
-
-pub true_false : (b : Bool) → b ≡ true → b ≡ false → ⊥
-true_false true e f = cc
-true_false false e f = cc
 
 -- a scan cell drives what its flip-flop drove, and where it drives more, not this net
 cell_carries : (style : Style) (n : Netlist) (config : Config) (k i : ℕ) (x : Instance) (id : CellId) → IsReady n config → slice_get n.instances i ≡ Some x → scan_cell_in n.library x.cell ≡ Some id → is_scanned (judged n config i) ≡ true → Each (Spares (frame style n config) k) (made_in style n config) →
@@ -316,9 +314,6 @@ driver_kept style n config net ready spared less =
 pub skips : (k : ℕ) (xs ys : List Driven) → NoneAt xs k → driver_in (xs ++ ys) k ≡ driver_in ys k
 skips k [] ys h = refl
 skips k (x ∷ xs) ys h = ap (λ b. if b then x.1 else driver_in (xs ++ ys) k) h.0 ∙ skips k xs ys h.1
-
-less_apart : (a b : ℕ) → a < b → (a == b) ≡ false
-less_apart = grind arith
 
 bits_below : (k : ℕ) (d : Dir) (bits : List NetId) → AreBefore k bits → NoneAt (driven_by_bits d bits) k
 bits_below k dir.Output bits h = tt

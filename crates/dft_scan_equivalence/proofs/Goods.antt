@@ -2,6 +2,7 @@
 use Rattle.std.proofs.Common.{ℕ, zero, suc, ◌+◌, ◌≡◌, ◌<◌, ◌≤◌, ◌⊎◌, inl, inr, List, [], ◌∷◌, ◌++◌, length, map, Option, None, Some, slice_get, refl, sym, subst, ap, arith, ◌∙◌}
 use Rattle.std.specs.Prelude.{IsTrue}
 use Rattle.std.specs.List.{AllByRecursion, range_with_len}
+use Rattle.dft_base.proofs.ListLemmas.{range_split}
 use Rattle.dft_ring.proofs.PartLists.{nets_in-append}
 use Rattle.dft_cells.specs.declared.kind.Kind.{Kind}
 use Rattle.dft_cells.specs.declared.kind.Kind.TheVariants as kind
@@ -25,13 +26,6 @@ use Rattle.dft_parts.proofs.RankedParts.{flip_flop_ranked, gate_ranked, lockup_r
 use Rattle.dft_parts.proofs.Stores.{shape_as, lockup_shape, dff_shape}
 use Rattle.dft_parts.proofs.Singles.{times_in-append}
 use Rattle.dft_scan_equivalence.proofs.Claims.{claim, claims, claimed, IsFlopIn, IsFine, AreFine, fine_append, claims-append}
-
-range_split : (from k m : ℕ) → range_with_len from (k + m) ≡ range_with_len from k ++ range_with_len (from + k) m
-range_split from zero m = let e : 0 + m ≡ m = omega arith in let same : from ≡ from + 0 = omega arith in ap (range_with_len from) e ∙ ap (λ (a : ℕ). range_with_len a m) same
-range_split from (suc k) m =
-    let e : suc k + m ≡ suc (k + m) = omega arith in
-    let same : from + 1 + k ≡ from + suc k = omega arith in
-    ap (range_with_len from) e ∙ ap (λ (xs : List ℕ). from ∷ xs) (range_split (from + 1) k m ∙ ap (λ (a : ℕ). range_with_len (from + 1) k ++ range_with_len a m) same)
 
 -- ---- ranks
 

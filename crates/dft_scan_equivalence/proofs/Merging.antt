@@ -3,6 +3,7 @@ use Rattle.std.proofs.Common.{ℕ, zero, suc, ◌+◌, ◌≡◌, ◌==◌, ◌<
 use Rattle.std.specs.Prelude.{slice_index_or, if◌then◌else◌}
 use Rattle.std.proofs.lemmas.Bool.{eqb-true, eq-eqb}
 use Rattle.std.proofs.lemmas.Bool.Decides.{nat_tests}
+use Rattle.dft_base.proofs.NumberLemmas.{less_apart}
 use Rattle.dft_cells.specs.declared.kind.Kind.{Kind}
 use Rattle.dft_cells.specs.declared.kind.Kind.TheVariants.{Dff, Dffr, Dffs, Sdff, Sdffr, Sdffs}
 use Rattle.dft_cells.specs.declared.kind.Role.{Role}
@@ -46,9 +47,6 @@ joined_front i pin net [] ys less = absurd (omega (arith, less))
 joined_front zero pin net (x ∷ xs) ys less = refl
 joined_front (suc i) pin net (x ∷ xs) ys less = ap (λ (zs : List Instance). x ∷ zs) (joined_front i pin net xs ys (omega (arith, less)))
 
-other_number : (m k : ℕ) → m < k → (m == k) ≡ false
-other_number m k less = grind (arith, nat_tests, less)
-
 joined_more : (i pin : ℕ) (net : NetId) (parts : List Part) (b j : ℕ) (xs : List Instance) → i ≡ b + j →
     map_from (λ (k : ℕ) (x : Instance). record x { pins = joined_in parts k (if i == k then pin_joined pin net x.pins else x.pins) }) b xs ≡ map_from (joined_at parts) b (instance_joined j pin net xs)
 joined_more i pin net parts b j [] is = refl
@@ -56,7 +54,7 @@ joined_more i pin net parts b zero (x ∷ xs) is =
     ap (λ t. record x { pins = joined_in parts b (if t then pin_joined pin net x.pins else x.pins) } ∷ map_from (λ (k : ℕ) (y : Instance). record y { pins = joined_in parts k (if i == k then pin_joined pin net y.pins else y.pins) }) (suc b) xs) (eq-eqb i b (omega (arith, is)))
     ∙ ap (λ (ys : List Instance). record x { pins = joined_in parts b (pin_joined pin net x.pins) } ∷ ys)
     (map_from_same (λ (k : ℕ) (y : Instance). record y { pins = joined_in parts k (if i == k then pin_joined pin net y.pins else y.pins) }) (joined_at parts) (suc b) xs
-    (λ k y at. ap (λ t. record y { pins = joined_in parts (suc b + k) (if t then pin_joined pin net y.pins else y.pins) }) (other_number i (suc b + k) (omega (arith, is)))))
+    (λ k y at. ap (λ t. record y { pins = joined_in parts (suc b + k) (if t then pin_joined pin net y.pins else y.pins) }) (less_apart i (suc b + k) (omega (arith, is)))))
 joined_more i pin net parts b (suc j) (x ∷ xs) is =
     ap (λ t. record x { pins = joined_in parts b (if t then pin_joined pin net x.pins else x.pins) } ∷ map_from (λ (k : ℕ) (y : Instance). record y { pins = joined_in parts k (if i == k then pin_joined pin net y.pins else y.pins) }) (suc b) xs) (not_number i b (omega (arith, is)))
     ∙ ap (λ (ys : List Instance). joined_at parts b x ∷ ys) (joined_more i pin net parts (suc b) j xs (omega (arith, is)))

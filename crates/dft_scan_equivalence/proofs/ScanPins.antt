@@ -2,6 +2,7 @@
 use Rattle.std.proofs.Common.{ℕ, zero, suc, ◌+◌, ◌≡◌, inl, inr, Bool, true, false, List, [], ◌∷◌, length, map, Option, None, Some, slice_get, refl, sym, subst, ap, arith, ◌∙◌}
 use Rattle.std.specs.Prelude.{slice_index_or}
 use Rattle.std.proofs.lemmas.Option.{none-some}
+use Rattle.dft_base.proofs.BitLemmas.{true_false}
 use Rattle.dft_cells.specs.declared.kind.Kind.{Kind}
 use Rattle.dft_cells.specs.declared.kind.Role.{Role}
 use Rattle.dft_cells.specs.declared.kind.Role.TheVariants.{Input, Clock, Din, Reset, Preset, ScanIn, ScanEnable, Output, Inverted}
@@ -39,10 +40,6 @@ is_fixed_role (Some role) = is_fixed role
 
 abbrev pub is_fixed_at : List Role → (place : ℕ) → Bool
 is_fixed_at roles place = is_fixed_role (slice_get roles place)
-
-true_false : (b : Bool) → b ≡ true → b ≡ false → ⊥
-true_false true e f = cc
-true_false false e f = cc
 
 -- where no role of this sort is fixed, the first pin of the sort is not fixed
 pub not_fixed : (r : Role) (k p j : ℕ) (roles : List Role) → ((x : Role) → same_role r x ≡ true → is_fixed x ≡ false) → p ≡ k + j → number_of (same_role r) k roles ≡ Some p → is_fixed_at roles j ≡ true → ⊥

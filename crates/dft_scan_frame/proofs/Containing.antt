@@ -4,6 +4,7 @@ use Rattle.std.specs.Prelude.{if◌then◌else◌}
 use Rattle.std.specs.List.{list_any}
 use Rattle.std.proofs.lemmas.Bool.{or_from}
 use Rattle.dft_base.specs.Lexing.{Text}
+use Rattle.dft_base.proofs.NumberLemmas.{less_apart}
 use Rattle.dft_cells.specs.declared.kind.Kind.{Kind}
 use Rattle.dft_cells.specs.declared.kind.Kind.TheVariants as kind
 use Rattle.dft_cells.specs.declared.kind.Role.{Role}
@@ -188,9 +189,6 @@ lockup_by n ports net cell domain source (drivers.Lockup i) fine e = absurd fine
 lockup_by n ports net cell domain source drivers.Free fine e = cc
 
 -- ---- the port scan_enable
-
-less_apart : (a b : ℕ) → a < b → (a == b) ≡ false
-less_apart = grind arith
 
 pub input_less : (n : Netlist) (net : ℕ) (d : drivers.Driver) → is_input d ≡ true → FineBy n net d → net < length (bits_of n.ports)
 input_less n net drivers.Input is fine = fine

@@ -5,6 +5,7 @@ use Rattle.std.specs.List.{AllByRecursion}
 use Rattle.std.proofs.lemmas.Bool.{eqb-true}
 use Rattle.std.proofs.lemmas.Bool.Decides.{nat_tests}
 use Rattle.std.proofs.lemmas.Option.{none-some, same_Some}
+use Rattle.dft_base.proofs.ListLemmas.{get_left}
 use Rattle.dft_netlist.specs.declared.ids.NetId.{NetId}
 use Rattle.dft_netlist.specs.declared.instance.Signal.{Signal}
 use Rattle.dft_netlist.specs.declared.instance.Signal.TheVariants.{Net, Constant, Unconnected}
@@ -53,11 +54,6 @@ joined_in [] i pins = pins
 joined_in (ANet ∷ parts) i pins = joined_in parts i pins
 joined_in (AnInstance cell its ∷ parts) i pins = joined_in parts i pins
 joined_in (APin j pin net ∷ parts) i pins = joined_in parts i (if j.0 == i then pin_joined pin net pins else pins)
-
-get_left : {X : Type 0} (xs ys : List X) (k : ℕ) (x : X) → slice_get xs k ≡ Some x → slice_get (xs ++ ys) k ≡ Some x
-get_left [] ys k x h = absurd (none-some x h)
-get_left (y ∷ xs) ys zero x h = h
-get_left (y ∷ xs) ys (suc k) x h = get_left xs ys k x h
 
 abbrev pub joined_if : (pin : ℕ) → NetId → Bool → List Signal → List Signal
 joined_if pin net b pins = if b then pin_joined pin net pins else pins

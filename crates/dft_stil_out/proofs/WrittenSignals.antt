@@ -11,6 +11,7 @@ use Rattle.std.proofs.lemmas.Bool.{and_parts, and_from}
 use Rattle.dft_base.specs.Lexing.{Text}
 use Rattle.dft_base.specs.declared.dir.Dir.{Dir}
 use Rattle.dft_base.specs.declared.dir.Dir.TheVariants.{Input, Output}
+use Rattle.dft_base.proofs.TextLemmas.{bytes_eq-self}
 use Rattle.dft_patterns.specs.declared.signal.StilSignal.{StilSignal}
 use Rattle.dft_stil_tokens.specs.declared.text.TokenKind.{TokenKind}
 use Rattle.dft_stil_tokens.specs.declared.text.TokenKind.TheVariants as kind
@@ -53,13 +54,10 @@ no_number names word h =
     let past : nat_lt (length names) (length names) ≡ false = grind (arith, nat_tests) in
     rw (len, past) refl
 
-same_bytes : (word : Text) → bytes_eq word word ≡ true
-same_bytes word = (bytes_eq-Decides word word).1 refl
-
 pub number_at : (names : List Text) (word : Text) (more : List Text) → are_others names word ≡ true → number_of (names ++ word ∷ more) word ≡ Some (length names)
 number_at names word more h =
     let len : position_or_len (λ known. bytes_eq known word) (names ++ word ∷ more) ≡ length names =
-    prefix_len-seam (λ known. not (bytes_eq known word)) names word more h (ap not (same_bytes word)) in
+    prefix_len-seam (λ known. not (bytes_eq known word)) names word more h (ap not (bytes_eq-self word)) in
     let inside : nat_lt (length names) (length (names ++ word ∷ more)) ≡ true = grind (arith, nat_tests, length-append names (word ∷ more)) in
     rw (len, inside) refl
 

@@ -10,6 +10,8 @@ use Rattle.std.proofs.Math.Seq.{take-append_seam, drop-append_seam}
 use Rattle.std.proofs.lemmas.Bool.{and_parts, and_from, or_left}
 use Rattle.dft_base.specs.Lexing.{Text, Blank, Cut, tokens_from}
 use Rattle.dft_base.proofs.LexingLemmas.{tokens_from-cut, tokens_from-blank}
+use Rattle.dft_base.proofs.NumberLemmas.{minus_zero}
+use Rattle.dft_base.proofs.TextLemmas.{prefix_len-run}
 use Rattle.dft_patterns.specs.declared.act.Act.{Act}
 use Rattle.dft_patterns.specs.declared.act.Act.TheVariants.{Unset, Low, High, Pulse, ExpectLow, ExpectHigh, Ignore}
 use Rattle.dft_patterns.specs.declared.notes.Note.{Note}
@@ -35,9 +37,6 @@ token k bytes left = record { kind = k; bytes = bytes; left = left }
 abbrev pub ahead : ℕ → Text → ℕ
 ahead zero rest = length rest
 ahead (suc n) rest = suc (ahead n rest)
-
-pub minus_zero : (n : ℕ) → n - 0 ≡ n
-minus_zero n = omega arith
 
 -- ---- words and marks
 
@@ -140,13 +139,6 @@ cut_front quoted text l e cut full moves =
     let token : front quoted text ≡ Cut (token_of l text) l.len (quoted_behind l.kind quoted) =
     front_token quoted text e ∙ ap (λ (m : Lexeme). Cut (token_of m text) m.len (quoted_behind m.kind quoted)) cut in
     tokens_from-cut front quoted text (token_of l text) l.len (quoted_behind l.kind quoted) full moves token
-
--- how far a test passes, over a text all of whose bytes pass, and one that does not
-prefix_len-run : (p : ℕ → Bool) (xs : Text) (b : ℕ) (rest : Text) → list_all p xs ≡ true → p b ≡ false → prefix_len p (xs ++ b ∷ rest) ≡ length xs
-prefix_len-run p [] b rest all stops = ap (λ t. cond t (1 + prefix_len p rest) 0) stops
-prefix_len-run p (x ∷ xs) b rest all stops =
-    let parts = and_parts (p x) (list_all p xs) all in
-    ap (λ t. cond t (1 + prefix_len p (xs ++ b ∷ rest)) 0) parts.0 ∙ (let ih = prefix_len-run p xs b rest parts.1 stops in omega arith)
 
 prefix_len-over : (p : ℕ → Bool) (xs rest : Text) → list_all p xs ≡ true → length xs ≤ prefix_len p (xs ++ rest)
 prefix_len-over p [] rest all = omega arith

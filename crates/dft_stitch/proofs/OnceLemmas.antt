@@ -8,6 +8,8 @@ use Rattle.std.proofs.lemmas.List.{get_or_past}
 use Rattle.std.proofs.lemmas.Option.{slice_get_within, slice_get_past}
 use Rattle.std.proofs.lemmas.List.FromFn.{get_or-map-range_with_len, length-map-range_with_len}
 use Rattle.dft_base.specs.Lexing.{Text}
+use Rattle.dft_base.proofs.NumberLemmas.{same_number}
+use Rattle.dft_base.proofs.ListLemmas.{get_left, get_right}
 use Rattle.dft_cells.specs.declared.kind.Role.TheVariants.{Clock}
 use Rattle.dft_netlist.specs.declared.ids.InstanceId.{InstanceId}
 use Rattle.dft_netlist.specs.declared.instance.Instance.{Instance}
@@ -16,7 +18,6 @@ use Rattle.dft_netlist.specs.Drivers.{Source, pins_of, kind_of, kind_at}
 use Rattle.dft_netlist.specs.Logic.{pin_of}
 use Rattle.dft_netlist.specs.Traces.{Root, Port, Constant, Other, root_of}
 use Rattle.dft_netlist.proofs.LiveLemmas.{le_or_lt}
-use Rattle.dft_netlist.proofs.Places.{get_left}
 use Rattle.dft_config.specs.declared.config.Config.{Config}
 use Rattle.dft_rules.specs.declared.judged.Judged.{Judged}
 use Rattle.dft_rules.specs.declared.judged.Judged.TheVariants.{Scanned, Unscanned}
@@ -28,10 +29,6 @@ use Rattle.dft_stitch.specs.Plans.{cell_at}
 use Rattle.dft_stitch.proofs.EvenLemmas.{chains_hold}
 
 -- ---- items of lists, by their places
-
-get_right : {X : Type 0} (xs ys : List X) (k : ℕ) (x : X) → slice_get ys k ≡ Some x → slice_get (xs ++ ys) (length xs + k) ≡ Some x
-get_right [] ys k x h = let e : 0 + k ≡ k = omega arith in rw e h
-get_right (y ∷ xs) ys k x h = let e : suc (length xs) + k ≡ suc (length xs + k) = omega arith in rw e (get_right xs ys k x h)
 
 pub record Behind {X : Type 0} (xs ys : List X) (k : ℕ) (x : X) : Type 0 where
   pub place : ℕ
@@ -101,9 +98,6 @@ IsHead v d k x = (x ≡ record { 0 = k }) × (domain_of v (record { 0 = k }) ≡
 abbrev IsLater : (rest : List InstanceId) (x : InstanceId) → Type 0
 IsLater rest x = (q : ℕ) × (slice_get rest q ≡ Some x)
 
-number_same : (a : ℕ) → (a == a) ≡ true
-number_same a = grind (arith, nat_tests)
-
 by_domain : (v : List (Option Judged)) (d k : ℕ) (rest : List InstanceId) (p : ℕ) (x : InstanceId) (o : Option ℕ) → domain_of v (record { 0 = k }) ≡ o →
     slice_get (cons_option (if_domain d o (record { 0 = k })) rest) p ≡ Some x → IsHead v d k x ⊎ IsLater rest x
 by_domain v d k rest p x None is h = inr (p, h)
@@ -164,7 +158,7 @@ later (Some y) rest x h = (suc h.0, h.1)
 
 taken : (d k : ℕ) (rest : List InstanceId) (o : Option ℕ) → o ≡ Some d → IsLater (cons_option (if_domain d o (record { 0 = k })) rest) (record { 0 = k })
 taken d k rest None is = absurd (let f : ⊥ = cc in f)
-taken d k rest (Some e) is = let same : e ≡ d = cc in let yes : (e == d) ≡ true = ap (λ (j : ℕ). j == d) same ∙ number_same d in rw yes (0, refl)
+taken d k rest (Some e) is = let same : e ≡ d = cc in let yes : (e == d) ≡ true = ap (λ (j : ℕ). j == d) same ∙ same_number d in rw yes (0, refl)
 
 has_cell : (v : List (Option Judged)) (d k m i : ℕ) → k ≤ i → i < k + m → domain_of v (record { 0 = i }) ≡ Some d → IsLater (filter_map (cell_in v d) (range_with_len k m)) (record { 0 = i })
 has_cell v d k zero i low high is = absurd (let f : ⊥ = omega arith in f)

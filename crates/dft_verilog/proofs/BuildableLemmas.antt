@@ -32,10 +32,6 @@ use Rattle.dft_verilog.proofs.GrowLemmas.{add_port-Ok, add_ports-Ok, add_declare
 
 -- ---- names that are new
 
-or_assoc : (a b c : Bool) → ((a || b) || c) ≡ (a || (b || c))
-or_assoc true b c = refl
-or_assoc false b c = refl
-
 -- none of two lists has the name, and so the two together
 neither : (xs ys : List Text) (word : Text) → has_name xs word ≡ false → has_name ys word ≡ false → has_name (xs ++ ys) word ≡ false
 neither xs ys word p q = has-append xs ys word ∙ or_from (has_name xs word) (has_name ys word) p q

@@ -11,6 +11,8 @@ use Rattle.dft_base.specs.Lexing.{Text}
 use Rattle.dft_base.specs.Parser.{Checked}
 use Rattle.dft_base.specs.declared.dir.Dir.{Dir}
 use Rattle.dft_base.specs.Ranges.{going_up}
+use Rattle.dft_base.proofs.BitLemmas.{assoc_or}
+use Rattle.dft_base.proofs.TextLemmas.{same_text}
 use Rattle.dft_netlist_text.specs.declared.text.Cause.TheVariants as cause
 use Rattle.dft_netlist.specs.declared.error.Counted.TheVariants as counted
 use Rattle.dft_netlist_text.specs.declared.text.Fault.{Fault}
@@ -30,7 +32,7 @@ use Rattle.dft_verilog.specs.Buildable.{names_of_port, names_of_header, names_of
 use Rattle.dft_verilog_draft.proofs.ApartLemmas.{bit_names-apart}
 use Rattle.dft_verilog_draft.proofs.DeclareLemmas.{length-bit_names}
 use Rattle.dft_verilog.proofs.NumberingLemmas.{AreBelow, AreBelow-append, AreBelow-count}
-use Rattle.dft_verilog.proofs.CountLemmas.{count, count-append, AreOnce, apart_if_once, names_of, AreFreeIn, first_taken-none, free_once, eq_same}
+use Rattle.dft_verilog.proofs.CountLemmas.{count, count-append, AreOnce, apart_if_once, names_of, AreFreeIn, first_taken-none, free_once}
 use Rattle.dft_verilog.proofs.OtherNetLemmas.{is_among, others_from, others_more, others_kept, name_at, names_kept, names_new}
 
 -- ---- what a draft names
@@ -184,10 +186,6 @@ wire_steps room more d names bits words h named few placed fits =
 
 -- ---- ports that gain nets
 
-or_assoc : (a b c : Bool) → (a || (b || c)) ≡ ((a || b) || c)
-or_assoc true b c = refl
-or_assoc false b c = refl
-
 among_append : (net : ℕ) (xs ys : List ℕ) → is_among net (xs ++ ys) ≡ (is_among net xs || is_among net ys)
 among_append net xs ys = list_any-append _ xs ys
 
@@ -200,7 +198,7 @@ gains_cons p old new nets words g =
       any = λ net.
           among_append net mine (nets_of_ports new)
           ∙ ap (λ b. is_among net mine || b) (g.any net)
-          ∙ or_assoc (is_among net mine) (is_among net (nets_of_ports old)) (is_among net nets)
+          ∙ assoc_or (is_among net mine) (is_among net (nets_of_ports old)) (is_among net nets)
           ∙ ap (λ b. b || is_among net nets) (sym (among_append net mine (nets_of_ports old)));
       len = omega (arith, length-append mine (nets_of_ports new), length-append mine (nets_of_ports old), g.len);
       below = λ n was come. let parts = below_parts n mine (nets_of_ports old) was in AreBelow-append n mine (nets_of_ports new) parts.0 (g.below n parts.1 come);
@@ -318,7 +316,7 @@ place_found : (ports : List Text) (entries : List TakenName) (word : Text) (plac
     → option_map (λ (e : TakenName). e.meaning) (find (λ (e : TakenName). bytes_eq e.name word) entries) ≡ Some (meaning.Port place) → slice_get ports place ≡ Some word
 place_found ports [] word place placed h = absurd (cc)
 place_found ports (e ∷ es) word place placed h =
-    place_by (bytes_eq e.name word) ports e (find (λ (e : TakenName). bytes_eq e.name word) es) word place (eq_same e.name word) placed.0 (place_found ports es word place placed.1) h
+    place_by (bytes_eq e.name word) ports e (find (λ (e : TakenName). bytes_eq e.name word) es) word place (same_text e.name word) placed.0 (place_found ports es word place placed.1) h
 
 -- ---- names of bits
 

@@ -148,22 +148,6 @@ line_more f xs k x old new whole at n e =
 
 -- ---- what holds of each of those that were passed
 
--- what holds of those before a place, and there, holds of those before the next
-pub each_more : {X : Type 0} (P : ℕ → X → Type 0) (xs : List X) (index : ℕ) (here : X) → ((k : ℕ) (x : X) → k < index → slice_get xs k ≡ Some x → P k x) → slice_get xs index ≡ Some here → P index here
-    → (k : ℕ) (x : X) → k < index + 1 → slice_get xs k ≡ Some x → P k x
-each_more P xs index here before at is k x lt same = elim (cases_lt k index) [
-  | inl less ↦ before k x less same
-  | inr least ↦ (
-      let e : index ≡ k = omega arith in
-      let s : Some here ≡ Some x = sym at ∙ ap (slice_get xs) e ∙ same in
-      let t : here ≡ x = cc in
-      subst (λ j. P j x) e (subst (P index) t is))
-]
-
--- behind all, it holds of each
-pub each_all : {X : Type 0} (P : ℕ → X → Type 0) (xs : List X) (index : ℕ) → length xs ≤ index → ((k : ℕ) (x : X) → k < index → slice_get xs k ≡ Some x → P k x) → (k : ℕ) (x : X) → slice_get xs k ≡ Some x → P k x
-each_all P xs index all before k x at = before k x (let lt = slice_get_within xs k x at in omega arith) at
-
 -- a pin that is not joined needs no name
 pub not_joined : (pins : List Pin) (signals : List Signal) (place : ℕ) (d : Signal) → is_joined (get_or signals place d) ≡ false → place < length pins
     → ((k : ℕ) (pin : Pin) → k < place → slice_get pins k ≡ Some pin → (to : Signal) → slice_get signals k ≡ Some to → is_joined to ≡ true → IsName pin.name)

@@ -90,10 +90,6 @@ IsJoinedOperand library o = IsJoinedDraft library o.0 × AreBits o.1
 abbrev pub AreJoinedConcatenations : List Cell → Draft × OpenConcatenations → Type 0
 AreJoinedConcatenations library p = IsJoinedDraft library p.0 × AreBits p.1.bits
 
-pub first_of : (b more : Bool) → (b && more) ≡ true → b ≡ true
-first_of true more h = refl
-first_of false more h = absurd (cc)
-
 pub all_behind : {X : Type 0} (p : X → Bool) (xs ys : List X) → list_all p xs ≡ true → list_all p ys ≡ true → list_all p (xs ++ ys) ≡ true
 all_behind p xs ys h k = list_all-append p xs ys ∙ and_from (list_all p xs) (list_all p ys) h k
 

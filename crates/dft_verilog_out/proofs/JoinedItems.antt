@@ -11,6 +11,7 @@ use Rattle.dft_cells.specs.Cells.{find_cell}
 use Rattle.dft_cells.specs.Pins.{takes_inputs}
 use Rattle.dft_base.specs.declared.dir.Dir.{Dir}
 use Rattle.dft_base.specs.declared.dir.Dir.TheVariants as dir
+use Rattle.dft_base.proofs.BitLemmas.{and_first}
 use Rattle.dft_netlist.specs.declared.instance.Signal.{Signal}
 use Rattle.dft_netlist.specs.declared.instance.Instance.{Instance}
 use Rattle.dft_netlist_text.specs.declared.text.TokenKind.{TokenKind}
@@ -24,7 +25,7 @@ use Rattle.dft_netlist_text.specs.Items.{Declaring, Ports, Wires, declare, decla
 use Rattle.dft_netlist_text.specs.NetlistText.{announced_name, announced_names_from, announced_names, declared_port, PortDeclaration, port_declaration, declared_ports_from, declared_ports, sees_direction, header_names, header, heading, first_undeclared, all_declared, module_end, end_of_text, module_text}
 use Rattle.dft_verilog_out.specs.Written.{is_joined}
 use Rattle.dft_verilog_out.specs.Named.{is_joined_gate}
-use Rattle.dft_verilog_out.proofs.JoinedDrafts.{Yields, behind, passed, either, of_check, of_need, turns, IsJoinedDraft, AreBits, IsJoinedOperand, first_of, all_behind, announce_joined, new_port_joined, port_joined, wire_joined, name_joined, room_joined, expression_joined}
+use Rattle.dft_verilog_out.proofs.JoinedDrafts.{Yields, behind, passed, either, of_check, of_need, turns, IsJoinedDraft, AreBits, IsJoinedOperand, all_behind, announce_joined, new_port_joined, port_joined, wire_joined, name_joined, room_joined, expression_joined}
 
 -- what one rule does to drafts whose gates are joined
 abbrev Keeps : List Cell → (Draft → Rule Draft) → Type 0
@@ -148,7 +149,7 @@ abbrev IsJoinedBit : List Cell → One → Type 0
 IsJoinedBit library o = IsJoinedDraft library o.0 × (is_joined o.1 ≡ true)
 
 one_joined : (library : List Cell) (place : ℕ) (d : Draft) (bits : List Signal) → IsJoinedDraft library d → AreBits bits → (ts : List Token) → Yields (IsJoinedBit library) (one_bit place d bits ts)
-one_joined library place d (bit ∷ []) h k ts = (h, first_of (is_joined bit) true k)
+one_joined library place d (bit ∷ []) h k ts = (h, and_first (is_joined bit) true k)
 one_joined library place d [] h k ts = tt
 one_joined library place d (bit ∷ next ∷ bits) h k ts = tt
 

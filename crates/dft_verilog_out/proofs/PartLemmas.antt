@@ -6,6 +6,7 @@ use Rattle.std.proofs.lemmas.List.{length-map}
 use Rattle.std.proofs.Math.Seq.{take-append_seam, drop-append_seam}
 use Rattle.std.proofs.lemmas.Bool.{false_from_ne_true}
 use Rattle.dft_base.specs.Lexing.{Text}
+use Rattle.dft_base.proofs.ListLemmas.{get_there}
 use Rattle.dft_cells.specs.declared.kind.Kind.{Kind}
 use Rattle.dft_cells.specs.declared.kind.Kind.TheVariants as primitive
 use Rattle.dft_cells.specs.declared.kind.Role.{Role}
@@ -191,11 +192,6 @@ cell_line-is : (texts : List Text) (cell : Cell) (w : Text) (ref : CellRef) (pin
 unfolding cell_line
 cell_line-is texts cell w ref pins = refl
 
-pub some_at : {X : Type 0} (xs : List X) (k : ℕ) → k < length xs → (x : X) × (slice_get xs k ≡ Some x)
-some_at [] k lt = absurd (omega arith)
-some_at (x ∷ xs) zero lt = (x, refl)
-some_at (x ∷ xs) (suc k) lt = some_at xs k (omega arith)
-
 role_at : (pins : List Pin) (k : ℕ) (pin : Pin) → slice_get pins k ≡ Some pin → slice_get (map (λ (p : Pin). p.role) pins) k ≡ Some pin.role
 role_at [] k pin at = absurd (cc)
 role_at (p ∷ pins) zero pin at = let e : p ≡ pin = cc in ap (λ (x : Pin). Some x.role) e
@@ -247,7 +243,7 @@ instance_step n None (cell_ref.Library id) pins names ports nets done joins text
 instance_step n (Some w) (cell_ref.Library id) pins names ports nets done joins texts well r known free room =
     let start = stage n names ports nets done joins in
     let named = stage n (names ++ entry w meaning.Instance ∷ []) ports nets done joins in
-    let at = some_at n.library id.0 r.stands.fits.0 in
+    let at = get_there n.library id.0 r.stands.fits.0 in
     let cell = at.0 in
     let is_cell = well.each id.0 cell at.1 in
     let is_named = r.named.cell cell at.1 in
