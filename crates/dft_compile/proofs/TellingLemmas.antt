@@ -44,6 +44,7 @@ use Rattle.dft_scan.proofs.ListLemmas.{filter_shorter}
 use Rattle.dft_scan.proofs.ShapeLemmas.{few_chains, judgement_count, short_chains}
 use Rattle.dft_cube_reports.specs.Outcomes.{cell_name, cube_report, cube_reports, named_outcome, outcome_of, sum_as, sum_at, sum_line, sums_of, variable_of}
 use Rattle.dft_encode.specs.Compiled.{Placing}
+use Rattle.dft_encode.proofs.PlacingLemmas.{place_count}
 use Rattle.dft_stitch.proofs.ChainLimits.{limits}
 use Rattle.dft_compile.specs.Named.{AreCubesNamed, AreInstancesNamed, AreNames, CanBeTold, IsNameIfAny}
 use Rattle.dft_compile.specs.Reports.{compile_report}
@@ -161,13 +162,6 @@ certificate_short n row cells ids states = omega (arith, states_short n [] (equa
 
 -- ---- cubes
 
--- no cube begins more than one pattern, and none goes into a pattern behind that
-patterns_few : (n : ℕ) (row : CellRows) (window : ℕ) (old new : List Merged) (cube : Cube) (placed : Placed) → Places n row window old cube placed new → length new ≤ length old + 1
-patterns_few n row window old new cube (word.Into p) (none, inl joins) = let size = ap length joins.patterns ∙ length-set old p (joined joins.pattern cube) in omega (arith, size)
-patterns_few n row window old new cube (word.Into p) (none, inr begins) = let size = ap length begins.patterns ∙ length-append old (begun cube ∷ []) in omega (arith, size)
-patterns_few n row window old new cube (word.Unsolvable ids) places = let size = ap length places.2 in omega (arith, size)
-patterns_few n row window old new cube (word.Skipped cell) places = let size = ap length places.1 in omega (arith, size)
-
 pattern_small : (n : ℕ) (row : CellRows) (window : ℕ) (old new : List Merged) (cube : Cube) (p : ℕ) → Places n row window old cube (word.Into p) new → p ≤ length old
 pattern_small n row window old new cube p (none, inl joins) = let less = slice_get_within old p joins.pattern joins.is in omega (arith, less)
 pattern_small n row window old new cube p (none, inr begins) = omega (arith, begins.number)
@@ -205,7 +199,7 @@ module _ (n : Netlist) (ring : RingConfig) (row : CellRows) (columns window : �
       each_more IsCubeReadable (cube_report n ring row cube place) (cube_reports n ring row cubes placed)
       (λ r is. named_readable cube.name (outcome_of n ring row cube place) r (named 0 cube refl)
       (λ outcome told. outcome_readable old places.0 cube place outcome (cells 0 cube (omega arith)) (omega (arith, few)) places.1.0 told) is)
-      (let more = patterns_few columns row window old places.0 cube place places.1.0 in
+      (let more = place_count columns row window old places.0 cube place places.1.0 in
       cubes_readable places.0 new cubes placed (λ k. named (suc k)) (λ k d less. cells (suc k) d (omega (arith, less))) (omega (arith, few, more)) places.1.1)
 
 -- ---- the report

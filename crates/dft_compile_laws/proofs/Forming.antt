@@ -1,5 +1,6 @@
 -- Compiled patterns are well formed and can be written.
 use Rattle.std.proofs.Common.{suc, inr, List, [], ◌∷◌, refl}
+use Rattle.dft_merge.proofs.EquationLemmas.{Each}
 use Rattle.dft_netlist.specs.Netlist.{Netlist}
 use Rattle.dft_config.specs.declared.config.Config.{Config}
 use Rattle.dft_stitch.specs.Chains.{plan_of}
@@ -14,7 +15,7 @@ use Rattle.dft_vectors.specs.VectorList.{vectors_of}
 use Rattle.dft_pattern_behavior.specs.Listed.{ArePatterns}
 use Rattle.dft_compile_laws.specs.Formed.{GiveNoClock, WrittenFormed}
 use Rattle.dft_compile_laws.specs.Passing.{set_of}
-use Rattle.dft_compile_laws.proofs.Full.{Each, HasWidth, each_all, each_fits, each_full}
+use Rattle.dft_compile_laws.proofs.Full.{HasWidth, each_all, each_fits, each_full}
 use Rattle.dft_compile_laws.proofs.Naming.{outputs_leave, signals_quoted, signals_unlike, some_input}
 use Rattle.dft_compile_laws.proofs.Quoting.{quotable_bits}
 use Rattle.dft_compile_laws.proofs.Shown.{outputs_width}

@@ -3,18 +3,21 @@ use Rattle.std.proofs.Common.{ℕ, zero, suc, ◌+◌, ◌-◌, ◌<◌, ◌≤�
 use Rattle.std.specs.Prelude.{IsTrue, ◌≢◌, nat_le, option_map}
 use Rattle.std.specs.Fmt.{decimal}
 use Rattle.std.specs.List.{All, find, list_all, range_with_len}
-use Rattle.std.proofs.lemmas.Bool.{eq-eqb}
+use Rattle.std.proofs.lemmas.Bool.{eq-eqb, or_parts, and_parts}
 use Rattle.std.proofs.lemmas.Bool.Decides.{nat_tests}
 use Rattle.std.proofs.lemmas.Fmt.{digits_decimal}
 use Rattle.std.proofs.lemmas.List.Elements.{All-append, All-cons, All-from_get_or, All-nil}
 use Rattle.std.proofs.lemmas.Option.{none-some, same_Some, slice_get_within}
 use Rattle.std.proofs.lemmas.Str.Parse.{numerals_by_value, tells_by_index}
+use Rattle.dft_expect.proofs.ScannedCells.{none_first}
+use Rattle.dft_merge.proofs.EquationLemmas.{Each}
 use Rattle.dft_base.specs.Lexing.{Text}
 use Rattle.dft_base.specs.Name.{IsName}
 use Rattle.dft_base.specs.Words.{begins_word, continues_word, is_later_reserved, is_reserved, is_simple_name, is_word}
 use Rattle.dft_base.specs.declared.dir.Dir.{Dir}
 use Rattle.dft_base.specs.declared.dir.Dir.TheVariants.{Input, Output}
 use Rattle.dft_base.specs.declared.place.Range.{Range}
+use Rattle.dft_base.proofs.TextLemmas.{begins_goes_on}
 use Rattle.dft_netlist.specs.declared.port.Port as design_port
 use Rattle.dft_netlist.specs.Names.{bit_name, bit_names, indices_of}
 use Rattle.dft_netlist.specs.Netlist.{Netlist}
@@ -34,8 +37,6 @@ use Rattle.dft_scan_hardware.specs.Statements.{scanned}
 use Rattle.dft_scan_hardware.proofs.Keeping.{adds_in_order}
 use Rattle.dft_stil_out.specs.Writable.{IsQuotable}
 use Rattle.dft_compile_laws.specs.Formed.{ArePortsNamed, HasQuotableBits, IsShortRange}
-use Rattle.dft_compile_laws.proofs.Full.{Each}
-use Rattle.dft_compile_laws.proofs.Standing.{first_passes}
 
 each_both : {X : Type 0} (P : X → Type 0) (xs ys : List X) → Each P xs → Each P ys → Each P (xs ++ ys)
 each_both P [] ys h k = k
@@ -98,12 +99,12 @@ ports_quoted (port ∷ ports) h = each_both IsQuotable (bit_names port.name port
 no_quoted_port : (n : Netlist) (config : Config) → refusal n config ≡ None → quoted_port n.ports ≡ None
 unfolding refusal
 no_quoted_port n config passed =
-    let a = first_passes (unknown_port n config.domains) (from_resets n config) passed in
-    let b = first_passes (unknown_port n config.resets) (from_keep n config) a.1 in
-    let c = first_passes (unknown_cell n config.keep) (from_present n config) b.1 in
-    let d = first_passes (first_present n.library n.instances) (from_clocks n config) c.1 in
-    let e = first_passes (clock_as_data n config.domains) (from_ports n config) d.1 in
-    (first_passes (quoted_port n.ports) (from_count n config) e.1).0
+    let a = none_first (unknown_port n config.domains) (from_resets n config) passed in
+    let b = none_first (unknown_port n config.resets) (from_keep n config) a.1 in
+    let c = none_first (unknown_cell n config.keep) (from_present n config) b.1 in
+    let d = none_first (first_present n.library n.instances) (from_clocks n config) c.1 in
+    let e = none_first (clock_as_data n config.domains) (from_ports n config) d.1 in
+    (none_first (quoted_port n.ports) (from_count n config) e.1).0
 
 found_by : (t : Bool) (port : design_port.Port) (rest : Option design_port.Port) → option_map (λ p. PortName p.name) (cond t (Some port) rest) ≡ None → (t ≡ false) × (option_map (λ p. PortName p.name) rest ≡ None)
 found_by true port rest h = absurd (none-some (PortName port.name) (sym h))
@@ -112,11 +113,6 @@ found_by false port rest h = (refl, h)
 found_none : (ports : List design_port.Port) → quoted_port ports ≡ None → Each (λ port. has_quote port.name ≡ false) ports
 found_none [] h = tt
 found_none (port ∷ ports) h = let r = found_by (has_quote port.name) port (find (λ p. has_quote p.name) ports) h in (r.0, found_none ports r.1)
-
-either_none : (a b : Bool) → (a || b) ≡ false → (a ≡ false) × (b ≡ false)
-either_none false false e = (refl, refl)
-either_none true b e = absurd cc
-either_none false true e = absurd cc
 
 not_this : (b : ℕ) → (b == 34) ≡ false → Plain b
 not_this b e same = clash (b == 34) (eq-eqb b 34 same) e
@@ -127,7 +123,7 @@ not_this b e same = clash (b == 34) (eq-eqb b 34 same) e
 
 none_plain : (name : Text) → has_quote name ≡ false → All Plain name
 none_plain [] h = All-nil Plain
-none_plain (b ∷ name) h = let r = either_none (b == 34) (has_quote name) h in All-cons Plain b name (not_this b r.0) (none_plain name r.1)
+none_plain (b ∷ name) h = let r = or_parts (b == 34) (has_quote name) h in All-cons Plain b name (not_this b r.0) (none_plain name r.1)
 
 own_ports : (ports : List design_port.Port) → ((place : ℕ) (port : design_port.Port) → slice_get ports place ≡ Some port → IsName port.name × IsShortRange port.range) → Each (λ port. has_quote port.name ≡ false) ports → Each IsQuotablePort ports
 own_ports [] named h = tt
@@ -142,18 +138,10 @@ word_byte b e = ((grind (arith, nat_tests), grind (arith, nat_tests)), (λ same.
     not_word : (c : ℕ) → c ≡ 34 → continues_word c ≡ true → ⊥
     not_word c same e = grind (arith, nat_tests)
 
-begins_goes_on : (b : ℕ) → begins_word b ≡ true → continues_word b ≡ true
-begins_goes_on b e = grind (arith, nat_tests)
-
-both_true : (a b : Bool) → (a && b) ≡ true → (a ≡ true) × (b ≡ true)
-both_true true true e = (refl, refl)
-both_true true false e = absurd cc
-both_true false b e = absurd cc
-
 word_printed : (bytes : Text) → list_all continues_word bytes ≡ true → All (λ b. (33 ≤ b) × (b ≤ 126)) bytes × All Plain bytes
 word_printed [] h = (All-nil (λ b. (33 ≤ b) × (b ≤ 126)), All-nil Plain)
 word_printed (b ∷ bytes) h =
-    let r = both_true (continues_word b) (list_all continues_word bytes) h in
+    let r = and_parts (continues_word b) (list_all continues_word bytes) h in
     let here = word_byte b r.0 in
     let rest = word_printed bytes r.1 in
     (All-cons (λ c. (33 ≤ c) × (c ≤ 126)) b bytes here.0 rest.0, All-cons Plain b bytes here.1 rest.1)
@@ -161,15 +149,15 @@ word_printed (b ∷ bytes) h =
 word_quotable : (bytes : Text) → is_word bytes ≡ true → IsQuotable bytes
 word_quotable [] h = absurd cc
 word_quotable (b ∷ bytes) h =
-    let r = both_true (begins_word b) (list_all continues_word bytes) h in
+    let r = and_parts (begins_word b) (list_all continues_word bytes) h in
     let here = word_byte b (begins_goes_on b r.0) in
     let rest = word_printed bytes r.1 in
     record { name = record { some = omega arith; each = All-cons (λ c. (33 ≤ c) × (c ≤ 126)) b bytes here.0 rest.0 }; unquoted = All-cons Plain b bytes here.1 rest.1 }
 
 simple_quotable : (bytes : Text) → IsTrue (is_simple_name bytes && not (is_later_reserved bytes)) → IsQuotable bytes
 simple_quotable bytes h =
-    let outer = both_true (is_simple_name bytes) (not (is_later_reserved bytes)) h in
-    word_quotable bytes (both_true (is_word bytes) (not (is_reserved bytes)) outer.0).0
+    let outer = and_parts (is_simple_name bytes) (not (is_later_reserved bytes)) h in
+    word_quotable bytes (and_parts (is_word bytes) (not (is_reserved bytes)) outer.0).0
 
 abbrev IsQuotableNew : NewPort → Type 0
 IsQuotableNew port = IsQuotable port.name

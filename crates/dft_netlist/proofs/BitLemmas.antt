@@ -7,16 +7,17 @@ use Rattle.std.proofs.lemmas.Bool.Decides.{nat_tests}
 use Rattle.std.proofs.lemmas.List.Elements.{All-append, All-cons, All-nil, All-from_get_or}
 use Rattle.std.proofs.lemmas.Fmt.{digits_decimal}
 use Rattle.std.proofs.lemmas.Str.Parse.{numerals_by_value, tells_by_index}
+use Rattle.std.proofs.lemmas.Bool.{le-leb, lt-leb}
 use Rattle.dft_base.specs.Name.{IsName}
 use Rattle.dft_base.specs.declared.place.Range.{Range}
+use Rattle.dft_base.proofs.TextLemmas.{IsPrinted, digits_printed}
 use Rattle.dft_netlist.specs.Names.{indices_of, going_up, going_down, bit_name}
-use Rattle.dft_netlist.proofs.RefusalLemmas.{le_true, le_false}
 
-up_length : (from count : ℕ) → length (going_up from count) ≡ count
+pub up_length : (from count : ℕ) → length (going_up from count) ≡ count
 up_length from zero = refl
 up_length from (suc count) = ap suc (up_length (suc from) count)
 
-down_length : (from count : ℕ) → length (going_down from count) ≡ count
+pub down_length : (from count : ℕ) → length (going_down from count) ≡ count
 down_length from zero = refl
 down_length from (suc count) = ap suc (down_length (from - 1) count)
 
@@ -31,10 +32,10 @@ down_at from (suc count) zero lt = let e : from ≡ from - 0 = omega arith in ap
 down_at from (suc count) (suc k) lt = let e : from - 1 - k ≡ from - suc k = omega arith in down_at (from - 1) count k (omega arith) ∙ ap Some e
 
 pub rising : (r : Range) → r.left ≤ r.right → indices_of r ≡ going_up r.left (suc (r.right - r.left))
-rising r le = rw (le_true r.left r.right le) refl
+rising r le = rw (le-leb r.left r.right le) refl
 
 pub falling : (r : Range) → r.right < r.left → indices_of r ≡ going_down r.left (suc (r.left - r.right))
-falling r lt = rw (le_false r.left r.right lt) refl
+falling r lt = rw (lt-leb r.left r.right lt) refl
 
 pub rising_at : (r : Range) (k : ℕ) → r.left ≤ r.right → k < length (indices_of r) → (r.left + k ≤ r.right) × (slice_get (indices_of r) k ≡ Some (r.left + k))
 rising_at r k le lt =
@@ -59,18 +60,12 @@ indices_length r = cases_le r.left r.right (nat_le r.left r.right) refl _
 
 -- ---- a bit's printed name is a name
 
-abbrev Printed : ℕ → Type 0
-Printed b = (33 ≤ b) × (b ≤ 126)
-
-digits_printed : (index : ℕ) → index < 2 ^ 64 → All Printed (decimal index)
-digits_printed index lt = All-from_get_or Printed (decimal index) 0 (λ i within. let d = digits_decimal (numerals_by_value _ tells_by_index) index lt i within in (omega (arith, d.0), omega (arith, d.1)))
-
 pub is_bit_name : (name : List ℕ) (index : ℕ) → index < 2 ^ 64 → IsName name → IsName (bit_name name index)
 is_bit_name name index lt h = record {
   some = (let e = length-append (name ++ (91 ∷ decimal index)) (93 ∷ []) in omega (arith, e));
-  each = All-append Printed (name ++ (91 ∷ decimal index)) (93 ∷ [])
-      (All-append Printed name (91 ∷ decimal index) h.each (All-cons Printed 91 (decimal index) (omega arith, omega arith) (digits_printed index lt)))
-      (All-cons Printed 93 [] (omega arith, omega arith) (All-nil Printed));
+  each = All-append IsPrinted (name ++ (91 ∷ decimal index)) (93 ∷ [])
+      (All-append IsPrinted name (91 ∷ decimal index) h.each (All-cons IsPrinted 91 (decimal index) (omega arith, omega arith) (digits_printed index lt)))
+      (All-cons IsPrinted 93 [] (omega arith, omega arith) (All-nil IsPrinted));
 }
 
 pub regroup : (name : List ℕ) (index : ℕ) → ((name ++ 91 ∷ []) ++ decimal index) ++ 93 ∷ [] ≡ bit_name name index

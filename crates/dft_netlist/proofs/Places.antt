@@ -2,11 +2,6 @@
 use Rattle.std.proofs.Common.{◌≡◌, ℕ, zero, suc, List, [], ◌∷◌, ◌++◌, length, Option, Some, refl, ap, ◌⊎◌, inl, inr, slice_get, slice_set}
 use Rattle.std.specs.Option.{option_and_then}
 
-pub get_left : {X : Type 0} (xs ys : List X) (k : ℕ) (x : X) → slice_get xs k ≡ Some x → slice_get (xs ++ ys) k ≡ Some x
-get_left [] ys k x h = absurd (cc)
-get_left (y ∷ xs) ys zero x h = h
-get_left (y ∷ xs) ys (suc k) x h = get_left xs ys k x h
-
 pub get_push : {X : Type 0} (xs : List X) (x : X) → slice_get (xs ++ x ∷ []) (length xs) ≡ Some x
 get_push [] x = refl
 get_push (y ∷ xs) x = get_push xs x

@@ -15,6 +15,7 @@ use Rattle.dft_netlist.proofs.Places.{push_cases, shown_left, shown_push, shown_
 use Rattle.dft_netlist.proofs.NamesLemmas.{Adds, SameNames, knows_more, knows_same, differ_of}
 use Rattle.dft_netlist.proofs.NewNames.{first_new, others_new}
 use Rattle.dft_netlist.proofs.SoundLemmas.{with_net, net_number, net_knows, instance_more, join_more}
+use Rattle.dft_netlist.proofs.LiveLemmas.{AreWide}
 
 -- ---- the port's own name
 
@@ -77,7 +78,7 @@ pub bit_names_of-push : (ports : List Port) (port : Port) → bit_names_of (port
 bit_names_of-push [] port = append-nil (bit_names port.name port.range)
 bit_names_of-push (p ∷ ports) port = rw (bit_names_of-push ports port) (sym (append_assoc (bit_names p.name p.range) (bit_names_of ports) (bit_names port.name port.range)))
 
-nets_from-length : (from count : ℕ) → length (nets_from from count) ≡ count
+pub nets_from-length : (from count : ℕ) → length (nets_from from count) ≡ count
 nets_from-length from zero = refl
 nets_from-length from (suc count) = ap suc (nets_from-length (suc from) count)
 
@@ -93,9 +94,6 @@ numbers_more bits more from count is at new =
     sym (whole ∙ ap (λ xs. xs ++ nets_from from count) (sym is) ∙ ap (λ xs. bits ++ xs) (sym new))
 
 -- ---- all nets are bits
-
-abbrev AreWide : List Port → Type 0
-AreWide ports = (place : ℕ) (port : Port) → slice_get ports place ≡ Some port → length port.bits ≡ length (bit_names port.name port.range)
 
 all_wide : (ports : List Port) → AreWide ports → length (bits_of ports) ≡ length (bit_names_of ports)
 all_wide [] wide = refl

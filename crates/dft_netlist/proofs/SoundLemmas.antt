@@ -17,7 +17,8 @@ use Rattle.dft_netlist.specs.Names.{Names, instance_name}
 use Rattle.dft_netlist.specs.NameTables.{Entry, look_up, Knows, own_entries, IsFree}
 use Rattle.dft_netlist.specs.Sound.{IsLive, IsInstance, IsInstanceOf, IsAJoin, IsJoinOf, IsNetlist, Begins}
 use Rattle.dft_base.specs.Lexing.{Text}
-use Rattle.dft_netlist.proofs.Places.{get_left, get_push, push_cases, shown_left, shown_push, shown_cases, set_cases, shown_set}
+use Rattle.dft_base.proofs.ListLemmas.{get_left}
+use Rattle.dft_netlist.proofs.Places.{get_push, push_cases, shown_left, shown_push, shown_cases, set_cases, shown_set}
 use Rattle.dft_netlist.proofs.NamesLemmas.{Adds, SameNames, knows_more, knows_same, differ_of}
 
 -- ---- more nets

@@ -3,7 +3,7 @@ use Rattle.std.proofs.Common.{ℕ, zero, suc, ◌+◌, ◌-◌, ◌<◌, ◌≤�
 use Rattle.std.specs.Prelude.{if◌then◌else◌, is_none, is_some, nat_le}
 use Rattle.std.specs.Fmt.{decimal}
 use Rattle.std.specs.List.{join_with_byte}
-use Rattle.std.proofs.lemmas.Bool.{cases_lt}
+use Rattle.std.proofs.lemmas.Bool.{cases_lt, eqb-true, and_parts, leb-true}
 use Rattle.std.proofs.lemmas.Bool.Decides.{nat_tests}
 use Rattle.std.proofs.lemmas.List.{append-nil, append_assoc, flat_map_more, length-append}
 use Rattle.std.proofs.lemmas.List.Splits.{join_with_byte-slice_split}
@@ -30,6 +30,7 @@ use Rattle.dft_report_reader.proofs.Lines.{behind, by_lines, front, last, lines_
 use Rattle.dft_report_reader.proofs.Saying.{bit_word, variable_words, variables_behind}
 use Rattle.dft_report_reader.proofs.CanonicalNumbers.{behind_test}
 use Rattle.dft_report_reader.proofs.CanonicalWords.{said_told, variables_are, word_said, words_said}
+use Rattle.dft_report_reader.proofs.Bringing.{bit_texts, sum_words}
 
 -- ---- the text that has been read
 
@@ -108,17 +109,6 @@ at_header r stage header is less =
     ∙ ap (λ (o : Option Owing). text_of stage header [] [] [] [] o) (is.owing (omega (arith, less)))
     ∙ nil_chains (head stage header)
 
-is_equal : (a b : ℕ) → (a == b) ≡ true → a ≡ b
-is_equal a b e = grind (arith, nat_tests, e)
-
-both_true : (a b : Bool) → (a && b) ≡ true → (a ≡ true) × (b ≡ true)
-both_true true true e = (refl, refl)
-both_true true false e = absurd cc
-both_true false b e = absurd cc
-
-is_most : (a b : ℕ) → nat_le a b ≡ true → a ≤ b
-is_most a b e = grind (arith, nat_tests, e)
-
 is_nothing : {A : Type 0} (o : Option A) → is_none o ≡ true → o ≡ None
 is_nothing None e = refl
 is_nothing (Some x) e = absurd cc
@@ -127,7 +117,7 @@ adds_title : (r s : Reading) → IsStaged r → with_title r ≡ Some s → Adds
 unfolding so_far
 adds_title r s is e =
     let t = behind_test (r.stage == 0) (Some (record r { stage = 1 })) s e in
-    let stage = is_equal r.stage 0 t.0 in
+    let stage = eqb-true r.stage 0 t.0 in
     subst (λ (z : Reading). Adds r (codes "edt report 1\n") z) (same_Some (record r { stage = 1 }) s t.1) (record {
       text = ap (λ (x : Text). x ++ codes "edt report 1\n") (at_title r is stage) ∙ sym (at_header r 1 r.header is (omega (arith, stage)));
       staged = record {
@@ -144,7 +134,7 @@ adds_counts : (r s : Reading) (header : Header) → IsStaged r → with_counts r
 unfolding so_far
 adds_counts r s header is e =
     let t = behind_test (r.stage == 1) (Some (record r { header = header; stage = 2 })) s e in
-    let stage = is_equal r.stage 1 t.0 in
+    let stage = eqb-true r.stage 1 t.0 in
     subst (λ (z : Reading). Adds r (header_line header) z) (same_Some (record r { header = header; stage = 2 }) s t.1) (record {
       text = ap (λ (x : Text). x ++ header_line header) (at_header r r.stage r.header is (omega (arith, stage)) ∙ ap (λ (n : ℕ). head n r.header) stage) ∙ sym (at_header r 2 header is (omega (arith, stage)));
       staged = record {
@@ -168,9 +158,9 @@ adds_chain : (r s : Reading) (chain size : ℕ) → IsStaged r → with_chain r 
 unfolding so_far
 adds_chain r s chain size is e =
     let t = behind_test ((r.stage == 2) && (chain == length r.chains)) (Some (record r { chains = r.chains ++ size ∷ [] })) s e in
-    let b = both_true (r.stage == 2) (chain == length r.chains) t.0 in
-    let stage = is_equal r.stage 2 b.0 in
-    let count : chain ≡ 0 + length r.chains = (let same = is_equal chain (length r.chains) b.1 in omega (arith, same)) in
+    let b = and_parts (r.stage == 2) (chain == length r.chains) t.0 in
+    let stage = eqb-true r.stage 2 b.0 in
+    let count : chain ≡ 0 + length r.chains = (let same = eqb-true chain (length r.chains) b.1 in omega (arith, same)) in
     let h : Text = head r.stage r.header in
     subst (λ (z : Reading). Adds r (chain_line chain size) z) (same_Some (record r { chains = r.chains ++ size ∷ [] }) s t.1) (record {
       text = ap (λ (x : Text). x ++ chain_line chain size) (at_chains r r.chains is stage) ∙ append_assoc h (chain_lines 0 r.chains) (chain_line chain size)
@@ -204,9 +194,9 @@ adds_scanned : (r s : Reading) (line : ScannedLine) → IsStaged r → with_scan
 unfolding so_far
 adds_scanned r s line is e =
     let t = behind_test (nat_le 2 r.stage && nat_le r.stage 3) (Some (record r { scanned = r.scanned ++ line ∷ []; stage = 3 })) s e in
-    let b = both_true (nat_le 2 r.stage) (nat_le r.stage 3) t.0 in
-    let low = is_most 2 r.stage b.0 in
-    let most = is_most r.stage 3 b.1 in
+    let b = and_parts (nat_le 2 r.stage) (nat_le r.stage 3) t.0 in
+    let low = leb-true 2 r.stage b.0 in
+    let most = leb-true r.stage 3 b.1 in
     subst (λ (z : Reading). Adds r (scanned_line line) z) (same_Some (record r { scanned = r.scanned ++ line ∷ []; stage = 3 }) s t.1) (record {
       text = ap (λ (x : Text). x ++ scanned_line line) (at_scanned r r.stage r.scanned is most) ∙ flat_map_more scanned_line (head r.stage r.header ++ chain_lines 0 r.chains) r.scanned line
           ∙ ap (λ (x : Text). (x ++ chain_lines 0 r.chains) ++ flat_map scanned_line (r.scanned ++ line ∷ [])) (head_stays r.stage 3 r.header low (omega arith)) ∙ sym (at_scanned r 3 (r.scanned ++ line ∷ []) is most);
@@ -230,9 +220,9 @@ adds_unscanned : (r s : Reading) (line : UnscannedLine) → IsStaged r → with_
 unfolding so_far
 adds_unscanned r s line is e =
     let t = behind_test (nat_le 2 r.stage && nat_le r.stage 4) (Some (record r { unscanned = r.unscanned ++ line ∷ []; stage = 4 })) s e in
-    let b = both_true (nat_le 2 r.stage) (nat_le r.stage 4) t.0 in
-    let low = is_most 2 r.stage b.0 in
-    let most = is_most r.stage 4 b.1 in
+    let b = and_parts (nat_le 2 r.stage) (nat_le r.stage 4) t.0 in
+    let low = leb-true 2 r.stage b.0 in
+    let most = leb-true r.stage 4 b.1 in
     subst (λ (z : Reading). Adds r (unscanned_line line) z) (same_Some (record r { unscanned = r.unscanned ++ line ∷ []; stage = 4 }) s t.1) (record {
       text = ap (λ (x : Text). x ++ unscanned_line line) (at_unscanned r r.stage r.unscanned is most)
           ∙ flat_map_more unscanned_line ((head r.stage r.header ++ chain_lines 0 r.chains) ++ flat_map scanned_line r.scanned) r.unscanned line
@@ -256,9 +246,9 @@ record MayBeCube (r : Reading) : Type 0 where
 
 may_be : (r : Reading) → may_be_cube r ≡ true → MayBeCube r
 may_be r e =
-    let a = both_true (nat_le 2 r.stage && is_none r.owing) (is_some r.header.load) e in
-    let b = both_true (nat_le 2 r.stage) (is_none r.owing) a.0 in
-    record { low = is_most 2 r.stage b.0; owing = is_nothing r.owing b.1 }
+    let a = and_parts (nat_le 2 r.stage && is_none r.owing) (is_some r.header.load) e in
+    let b = and_parts (nat_le 2 r.stage) (is_none r.owing) a.0 in
+    record { low = leb-true 2 r.stage b.0; owing = is_nothing r.owing b.1 }
 
 -- all that stands before cubes, at the last stage
 abbrev base : Reading → Text
@@ -314,7 +304,7 @@ adds_unsolvable : (t : Bool) (r s : Reading) (name : Text) (sums : ℕ) → IsSt
     Adds r (codes "cube " ++ (name ++ (codes " unsolvable " ++ (decimal sums ++ codes "\n")))) s
 unfolding cube_lines unsolvable_text
 adds_unsolvable true r s name sums is none e =
-    subst (λ (n : ℕ). Adds r (codes "cube " ++ (name ++ (codes " unsolvable " ++ (decimal n ++ codes "\n")))) s) (sym (is_equal sums 0 none)) (adds_cube r s name (outcome.Unsolvable []) is e)
+    subst (λ (n : ℕ). Adds r (codes "cube " ++ (name ++ (codes " unsolvable " ++ (decimal n ++ codes "\n")))) s) (sym (eqb-true sums 0 none)) (adds_cube r s name (outcome.Unsolvable []) is e)
 adds_unsolvable false r s name sums is none e = adds_owing r s name sums is (not_zero sums none) e
   where
     not_zero : (n : ℕ) → (n == 0) ≡ false → 1 ≤ n
@@ -354,7 +344,7 @@ unfolding so_far sums_text cube_lines unsolvable_text
 adds_summed true r o line is owing some t =
     let all : Text = before_cubes r.stage r.header r.chains r.scanned r.unscanned in
     let cube : CubeReport = record { name = o.name; outcome = outcome.Unsolvable (o.sums ++ line ∷ []) } in
-    let most = is_most o.owed 1 t in
+    let most = leb-true o.owed 1 t in
     let count : length o.sums + o.owed ≡ length (o.sums ++ line ∷ []) = (let l = length-append o.sums (line ∷ []) in omega (arith, l, some, most)) in
     let fifth = five r o is owing in
     record {
@@ -390,15 +380,6 @@ adds_summed false r o line is owing some t =
   where
     not_most : (a b : ℕ) → nat_le a b ≡ false → b < a
     not_most a b e = grind (arith, nat_tests, e)
-
-bit_texts : (bit : Bool) (rest : Text) → bit_text bit ++ rest ≡ 32 ∷ (bit_word bit ++ rest)
-bit_texts false rest = refl
-bit_texts true rest = refl
-
-sum_words : (line : SumLine) → sum_line line ≡ codes "sum" ++ behind (line.name ∷ bit_word line.bit ∷ variable_words line.variables) (10 ∷ [])
-unfolding sum_line
-sum_words line =
-    ap (λ (t : Text). codes "sum " ++ (line.name ++ t)) (bit_texts line.bit (variables_text line.variables ++ codes "\n") ∙ ap (λ (t : Text). 32 ∷ (bit_word line.bit ++ t)) (variables_behind line.variables (10 ∷ [])))
 
 -- the line of what is said
 abbrev line_said : Said → Text
@@ -515,10 +496,10 @@ unfolding so_far
 ends_whole number lines final (Err error) r f e = absurd cc
 ends_whole number lines final (Ok s) r f e =
     let t = behind_end (nat_le (length final) 0 && nat_le 2 s.stage && is_none s.owing) (report_in s) r (K1 (place_of_line number)) e in
-    let a = both_true (nat_le (length final) 0 && nat_le 2 s.stage) (is_none s.owing) t.0 in
-    let b = both_true (nat_le (length final) 0) (nat_le 2 s.stage) a.0 in
+    let a = and_parts (nat_le (length final) 0 && nat_le 2 s.stage) (is_none s.owing) t.0 in
+    let b = and_parts (nat_le (length final) 0) (nat_le 2 s.stage) a.0 in
     let added = lines_add lines nothing_read s 0 nothing_staged f in
-    ap (λ (x : Text). ended_lines lines ++ x) (is_empty final b.0) ∙ append-nil (ended_lines lines) ∙ added.text ∙ whole_text s (is_most 2 s.stage b.1) (is_nothing s.owing a.1) ∙ ap written t.1
+    ap (λ (x : Text). ended_lines lines ++ x) (is_empty final b.0) ∙ append-nil (ended_lines lines) ∙ added.text ∙ whole_text s (leb-true 2 s.stage b.1) (is_nothing s.owing a.1) ∙ ap written t.1
 
 pub read_is_written : ReadIsWritten
 unfolding read_on

@@ -7,9 +7,11 @@ use Rattle.std.specs.Str.{bytes_eq}
 use Rattle.std.proofs.lemmas.List.Splits.{join_with_byte-slice_split}
 use Rattle.std.proofs.lemmas.Option.{same_Some}
 use Rattle.std.proofs.lemmas.Slice.Eq.{bytes_eq-Decides}
+use Rattle.std.proofs.lemmas.Bool.{and_parts}
 use Rattle.dft_base.specs.Lexing.{Text}
 use Rattle.dft_base.specs.declared.rule.Rule.{Rule}
 use Rattle.dft_base.specs.declared.rule.Rule.TheVariants.{S1, S2, S3, S4}
+use Rattle.dft_base.proofs.TextLemmas.{same_text}
 use Rattle.dft_report.specs.declared.report.Load.{Load}
 use Rattle.dft_report.specs.declared.report.Variable.{Variable}
 use Rattle.dft_report.specs.Written.{rule_text}
@@ -53,18 +55,10 @@ Told word words s = (word ≡ word_said s) × (words ≡ words_said s)
 
 -- ---- steps back
 
-same_word : (a b : Text) → bytes_eq a b ≡ true → a ≡ b
-same_word a b = (bytes_eq-Decides a b).0
-
 -- one of two choices
 either : {A : Type 0} (t : Bool) (o p : Option A) (x : A) → (if t then o else p) ≡ Some x → ((t ≡ true) × (o ≡ Some x)) ⊎ (p ≡ Some x)
 either true o p x e = inl (refl, e)
 either false o p x e = inr e
-
-both_true : (a b : Bool) → (a && b) ≡ true → (a ≡ true) × (b ≡ true)
-both_true true true e = (refl, refl)
-both_true true false e = absurd cc
-both_true false b e = absurd cc
 
 two_numbers : (say : ℕ → ℕ → Said) (oa ob : Option ℕ) (s : Said) → with_two say oa ob ≡ Some s → (a : ℕ) × (b : ℕ) × (oa ≡ Some a) × (ob ≡ Some b) × (say a b ≡ s)
 two_numbers say None ob s e = absurd cc
@@ -83,8 +77,8 @@ title_told (a ∷ []) s e = absurd cc
 title_told (a ∷ b ∷ c ∷ words) s e = absurd cc
 title_told (a ∷ b ∷ []) s e =
     let r = behind_test (bytes_eq a (codes "report") && bytes_eq b (codes "1")) (Some Title) s e in
-    let t = both_true (bytes_eq a (codes "report")) (bytes_eq b (codes "1")) r.0 in
-    subst (Told (codes "edt") (a ∷ b ∷ [])) (same_Some Title s r.1) (refl, ap₂ (λ (x y : Text). x ∷ y ∷ []) (same_word a _ t.0) (same_word b _ t.1))
+    let t = and_parts (bytes_eq a (codes "report")) (bytes_eq b (codes "1")) r.0 in
+    subst (Told (codes "edt") (a ∷ b ∷ [])) (same_Some Title s r.1) (refl, ap₂ (λ (x y : Text). x ∷ y ∷ []) (same_text a _ t.0) (same_text b _ t.1))
 
 load_told : (oc ov : Option ℕ) (cells chains : Option ℕ) (s : Said) → counts_with cells chains (load_of oc ov) ≡ Some s →
     (n : ℕ) × (c : ℕ) × (l : ℕ) × (v : ℕ) × (cells ≡ Some n) × (chains ≡ Some c) × (oc ≡ Some l) × (ov ≡ Some v) × (Counts (record { cells = n; chains = c; load = Some (record { cycles = l; variables = v }) }) ≡ s)
@@ -109,7 +103,7 @@ variables_told cells word chains cw cycles (a ∷ b ∷ []) s f g e =
     subst (Told (codes "cells") (cells ∷ word ∷ chains ∷ cw ∷ cycles ∷ a ∷ b ∷ [])) t.8 (
       refl,
       ap₂ (λ (x y : Text). x ∷ y ∷ chains ∷ cw ∷ cycles ∷ a ∷ b ∷ []) of_cells f ∙ ap₂ (λ (x y : Text). decimal t.0 ∷ codes "chains" ∷ x ∷ y ∷ cycles ∷ a ∷ b ∷ []) of_chains g
-          ∙ ap₂ (λ (x y : Text). decimal t.0 ∷ codes "chains" ∷ decimal t.1 ∷ codes "cycles" ∷ x ∷ y ∷ b ∷ []) of_cycles (same_word a _ r.0)
+          ∙ ap₂ (λ (x y : Text). decimal t.0 ∷ codes "chains" ∷ decimal t.1 ∷ codes "cycles" ∷ x ∷ y ∷ b ∷ []) of_cycles (same_text a _ r.0)
           ∙ ap (λ (x : Text). decimal t.0 ∷ codes "chains" ∷ decimal t.1 ∷ codes "cycles" ∷ decimal t.2 ∷ codes "variables" ∷ x ∷ []) of_variables,
     )
 
@@ -121,13 +115,13 @@ counts_rest cells word chains [] s f e =
 counts_rest cells word chains (a ∷ []) s f e = absurd cc
 counts_rest cells word chains (a ∷ b ∷ rest) s f e =
     let r = behind_test (bytes_eq a (codes "cycles")) (variables_by cells chains b rest) s e in
-    variables_told cells word chains a b rest s f (same_word a _ r.0) r.1
+    variables_told cells word chains a b rest s f (same_text a _ r.0) r.1
 
 counts_told : (words : List Text) (s : Said) → counts_of words ≡ Some s → Told (codes "cells") words s
 counts_told [] s e = absurd cc
 counts_told (a ∷ []) s e = absurd cc
 counts_told (a ∷ b ∷ []) s e = absurd cc
-counts_told (a ∷ b ∷ c ∷ rest) s e = let r = behind_test (bytes_eq b (codes "chains")) (load_by a c rest) s e in counts_rest a b c rest s (same_word b _ r.0) r.1
+counts_told (a ∷ b ∷ c ∷ rest) s e = let r = behind_test (bytes_eq b (codes "chains")) (load_by a c rest) s e in counts_rest a b c rest s (same_text b _ r.0) r.1
 
 chain_told : (words : List Text) (s : Said) → chain_of words ≡ Some s → Told (codes "chain") words s
 chain_told [] s e = absurd cc
@@ -138,7 +132,7 @@ chain_told (a ∷ b ∷ c ∷ []) s e =
     let r = behind_test (bytes_eq b (codes "length")) (with_two Chain (number_of a) (number_of c)) s e in
     let t = two_numbers Chain (number_of a) (number_of c) s r.1 in
     subst (Told (codes "chain") (a ∷ b ∷ c ∷ [])) t.4
-    (refl, ap₂ (λ (x y : Text). x ∷ y ∷ c ∷ []) (number_word a t.0 t.2).0 (same_word b _ r.0) ∙ ap (λ (x : Text). decimal t.0 ∷ codes "length" ∷ x ∷ []) (number_word c t.1 t.3).0)
+    (refl, ap₂ (λ (x y : Text). x ∷ y ∷ c ∷ []) (number_word a t.0 t.2).0 (same_text b _ r.0) ∙ ap (λ (x : Text). decimal t.0 ∷ codes "length" ∷ x ∷ []) (number_word c t.1 t.3).0)
 
 place_told : (name domain word chain : Text) (rest : List Text) (s : Said) → word ≡ codes "chain" → at_place name domain chain rest ≡ Some s → Told (codes "scanned") (name ∷ domain ∷ word ∷ chain ∷ rest) s
 place_told name domain word chain [] s f e = absurd cc
@@ -150,14 +144,14 @@ place_told name domain word chain (a ∷ b ∷ []) s f e =
     subst (Told (codes "scanned") (name ∷ domain ∷ word ∷ chain ∷ a ∷ b ∷ [])) t.4 (
       refl,
       ap₂ (λ (x y : Text). name ∷ domain ∷ x ∷ y ∷ a ∷ b ∷ []) f (number_word chain t.0 t.2).0
-          ∙ ap₂ (λ (x y : Text). name ∷ domain ∷ codes "chain" ∷ decimal t.0 ∷ x ∷ y ∷ []) (same_word a _ r.0) (number_word b t.1 t.3).0,
+          ∙ ap₂ (λ (x y : Text). name ∷ domain ∷ codes "chain" ∷ decimal t.0 ∷ x ∷ y ∷ []) (same_text a _ r.0) (number_word b t.1 t.3).0,
     )
 
 scanned_rest : (name domain : Text) (rest : List Text) (s : Said) → in_chain name domain rest ≡ Some s → Told (codes "scanned") (name ∷ domain ∷ rest) s
 scanned_rest name domain [] s e = absurd cc
 scanned_rest name domain (a ∷ []) s e = absurd cc
 scanned_rest name domain (a ∷ b ∷ rest) s e =
-    let r = behind_test (bytes_eq a (codes "chain")) (at_place name domain b rest) s e in place_told name domain a b rest s (same_word a _ r.0) r.1
+    let r = behind_test (bytes_eq a (codes "chain")) (at_place name domain b rest) s e in place_told name domain a b rest s (same_text a _ r.0) r.1
 
 scanned_told : (words : List Text) (s : Said) → scanned_of words ≡ Some s → Told (codes "scanned") words s
 scanned_told [] s e = absurd cc
@@ -166,12 +160,12 @@ scanned_told (a ∷ b ∷ rest) s e = scanned_rest a b rest s (behind_test (is_n
 
 rule_word : (word : Text) (rule : Rule) → rule_of word ≡ Some rule → word ≡ rule_text rule
 rule_word word rule e = elim (either (bytes_eq word (codes "S1")) (Some S1) _ rule e) [
-  | inl first ↦ same_word word _ first.0 ∙ ap rule_text (same_Some S1 rule first.1)
+  | inl first ↦ same_text word _ first.0 ∙ ap rule_text (same_Some S1 rule first.1)
   | inr more ↦ elim (either (bytes_eq word (codes "S2")) (Some S2) _ rule more) [
-    | inl second ↦ same_word word _ second.0 ∙ ap rule_text (same_Some S2 rule second.1)
+    | inl second ↦ same_text word _ second.0 ∙ ap rule_text (same_Some S2 rule second.1)
     | inr most ↦ elim (either (bytes_eq word (codes "S3")) (Some S3) _ rule most) [
-      | inl third ↦ same_word word _ third.0 ∙ ap rule_text (same_Some S3 rule third.1)
-      | inr last ↦ (let r = behind_test (bytes_eq word (codes "S4")) (Some S4) rule last in same_word word _ r.0 ∙ ap rule_text (same_Some S4 rule r.1))
+      | inl third ↦ same_text word _ third.0 ∙ ap rule_text (same_Some S3 rule third.1)
+      | inr last ↦ (let r = behind_test (bytes_eq word (codes "S4")) (Some S4) rule last in same_text word _ r.0 ∙ ap rule_text (same_Some S4 rule r.1))
     ]
   ]
 ]
@@ -188,13 +182,13 @@ unscanned_told (a ∷ b ∷ []) s e =
 outcome_told : (name word last : Text) (s : Said) → outcome_of name word last ≡ Some s → Told (codes "cube") (name ∷ word ∷ last ∷ []) s
 outcome_told name word last s e = elim (either (bytes_eq word (codes "encoded")) (option_map (Encoded name) (number_of last)) _ s e) [
   | inl first ↦ (let t = mapped (Encoded name) (number_of last) s first.1 in
-      subst (Told (codes "cube") (name ∷ word ∷ last ∷ [])) t.2 (refl, ap₂ (λ (x y : Text). name ∷ x ∷ y ∷ []) (same_word word _ first.0) (number_word last t.0 t.1).0))
+      subst (Told (codes "cube") (name ∷ word ∷ last ∷ [])) t.2 (refl, ap₂ (λ (x y : Text). name ∷ x ∷ y ∷ []) (same_text word _ first.0) (number_word last t.0 t.1).0))
   | inr more ↦ elim (either (bytes_eq word (codes "unsolvable")) (option_map (Unsolvable name) (number_of last)) _ s more) [
     | inl second ↦ (let t = mapped (Unsolvable name) (number_of last) s second.1 in
-        subst (Told (codes "cube") (name ∷ word ∷ last ∷ [])) t.2 (refl, ap₂ (λ (x y : Text). name ∷ x ∷ y ∷ []) (same_word word _ second.0) (number_word last t.0 t.1).0))
+        subst (Told (codes "cube") (name ∷ word ∷ last ∷ [])) t.2 (refl, ap₂ (λ (x y : Text). name ∷ x ∷ y ∷ []) (same_text word _ second.0) (number_word last t.0 t.1).0))
     | inr rest ↦ (let r = behind_test (bytes_eq word (codes "skipped") && is_name last) (Some (Skipped name last)) s rest in
         subst (Told (codes "cube") (name ∷ word ∷ last ∷ [])) (same_Some (Skipped name last) s r.1)
-        (refl, ap (λ (x : Text). name ∷ x ∷ last ∷ []) (same_word word _ (both_true (bytes_eq word (codes "skipped")) (is_name last) r.0).0)))
+        (refl, ap (λ (x : Text). name ∷ x ∷ last ∷ []) (same_text word _ (and_parts (bytes_eq word (codes "skipped")) (is_name last) r.0).0)))
   ]
 ]
 
@@ -207,8 +201,8 @@ cube_told (a ∷ b ∷ c ∷ []) s e = outcome_told a b c s (behind_test (is_nam
 
 bit_is : (word : Text) (bit : Bool) → bit_of word ≡ Some bit → word ≡ bit_word bit
 bit_is word bit e = elim (either (bytes_eq word (codes "0")) (Some false) _ bit e) [
-  | inl first ↦ same_word word _ first.0 ∙ ap bit_word (same_Some false bit first.1)
-  | inr more ↦ (let r = behind_test (bytes_eq word (codes "1")) (Some true) bit more in same_word word _ r.0 ∙ ap bit_word (same_Some true bit r.1))
+  | inl first ↦ same_text word _ first.0 ∙ ap bit_word (same_Some false bit first.1)
+  | inr more ↦ (let r = behind_test (bytes_eq word (codes "1")) (Some true) bit more in same_text word _ r.0 ∙ ap bit_word (same_Some true bit r.1))
 ]
 
 bit_told : (name word : Text) (words : List Text) (o : Option Bool) (s : Said) → bit_of word ≡ o → sum_with name words o ≡ Some s → Told (codes "sum") (name ∷ word ∷ words) s
@@ -223,7 +217,7 @@ sum_told (a ∷ b ∷ words) s e = bit_told a b words (bit_of b) s refl (behind_
 
 -- the same, by the line's first word
 told_by : (word first : Text) (words : List Text) (s : Said) → bytes_eq word first ≡ true → Told first words s → Told word words s
-told_by word first words s e h = (same_word word first e ∙ h.0, h.1)
+told_by word first words s e h = (same_text word first e ∙ h.0, h.1)
 
 -- The words of a line are those of what it says.
 pub said_told : (word : Text) (words : List Text) (s : Said) → said_of (word ∷ words) ≡ Some s → (word ≡ word_said s) × (words ≡ words_said s)
@@ -285,6 +279,6 @@ pub variables_are : (words : List Text) (vs : List Variable) → variables_of wo
 variables_are [] vs e = absurd cc
 variables_are (word ∷ next ∷ words) vs e = some_words word (next ∷ words) vs e
 variables_are (word ∷ []) vs e = elim (either (bytes_eq word (codes "-")) (Some []) _ vs e) [
-  | inl stroke ↦ ap (λ (x : Text). x ∷ []) (same_word word _ stroke.0) ∙ ap variable_words (same_Some [] vs stroke.1)
+  | inl stroke ↦ ap (λ (x : Text). x ∷ []) (same_text word _ stroke.0) ∙ ap variable_words (same_Some [] vs stroke.1)
   | inr all ↦ some_words word [] vs all
 ]

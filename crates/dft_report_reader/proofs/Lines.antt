@@ -4,6 +4,7 @@ use Rattle.std.specs.Prelude.{nat_le}
 use Rattle.std.specs.List.{list_all, onto_first, slice_split}
 use Rattle.std.proofs.lemmas.Bool.Decides.{nat_tests}
 use Rattle.std.proofs.lemmas.List.{append-nil, append_assoc}
+use Rattle.std.proofs.lemmas.Bool.{and_parts}
 use Rattle.dft_base.specs.Lexing.{Text}
 use Rattle.dft_report.specs.declared.report.Report.{Report}
 use Rattle.dft_report_reader.specs.declared.error.ReadError.{ReadError}
@@ -24,11 +25,6 @@ behind_append (word ∷ words) rest more = ap (λ (text : Text). 32 ∷ text) (a
 
 -- ---- cutting
 
-both_true : (a b : Bool) → (a && b) ≡ true → (a ≡ true) × (b ≡ true)
-both_true true true e = (refl, refl)
-both_true true false e = absurd cc
-both_true false b e = absurd cc
-
 not_this : (c b : ℕ) → c < 33 → nat_le 33 b ≡ true → (b == c) ≡ false
 not_this c b less h = grind (arith, nat_tests)
 
@@ -36,7 +32,7 @@ not_this c b less h = grind (arith, nat_tests)
 front_split : (c : ℕ) (word text first : Text) (more : List Text) → c < 33 → IsFine word → slice_split (λ b. b == c) text ≡ first ∷ more → slice_split (λ b. b == c) (word ++ text) ≡ (word ++ first) ∷ more
 front_split c [] text first more less fine e = e
 front_split c (b ∷ word) text first more less fine e =
-    let r = both_true (nat_le 33 b) (list_all (λ k. nat_le 33 k) word) fine in
+    let r = and_parts (nat_le 33 b) (list_all (λ k. nat_le 33 k) word) fine in
     ap (λ (t : Bool). cond t ([] ∷ slice_split (λ k. k == c) (word ++ text)) (onto_first b (slice_split (λ k. k == c) (word ++ text)))) (not_this c b less r.0)
     ∙ ap (λ (parts : List Text). onto_first b parts) (front_split c word text first more less r.1 e)
 

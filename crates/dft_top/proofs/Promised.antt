@@ -1,5 +1,6 @@
 -- What Done says of the files of a command.
 use Rattle.std.proofs.Common.{ℕ, ◌≡◌, ◌∙◌, inl, inr, List, [], ◌∷◌, codes, refl, sym, ap, subst, Option, None, Some, Result, Ok}
+use Rattle.dft_base.proofs.TextLemmas.{differ}
 use Rattle.dft_files.specs.Outside.{Held, Told, ToldChange, file_at}
 use Rattle.dft_cells.specs.declared.cell.Cell.{Cell}
 use Rattle.dft_config.specs.declared.config.Config.{Config}
@@ -58,7 +59,6 @@ use Rattle.dft_top.specs.Run.{CertifiesTold, CompilesTold, EndsFor, IsDelivered,
 use Rattle.dft_top.specs.Saves.{AreSaved, HaveSaved, Saving, compile_savings, savings, scan_savings}
 use Rattle.dft_top.proofs.Readings.{text_of}
 use Rattle.dft_top.proofs.Steps.{CertifyFor, CertifyOf, CertifyOn, CertifyOver, CertifyWith, CompileOf, CompileOn, CompileOver, CompileWith, ReplayOn, ReplayOver, ScanOn, ScanOver}
-use Rattle.dft_top.proofs.SavesInTurn.{differ}
 
 not_done : (refusal : Refusal) (o : Outcome) → o ≡ outcome.Refused refusal → status_of o ≡ Done → ⊥
 not_done refusal o is done = let e = ap status_of is in cc

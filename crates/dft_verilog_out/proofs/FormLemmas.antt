@@ -108,9 +108,6 @@ texts-are n first all f e =
 pub wires-are : (n : Netlist) (first all : List Text) (from : ℕ) → first ≡ flat_map port_texts n.ports → from ≡ length first → all ≡ net_texts n → drop from all ≡ map name_text (wire_names n)
 wires-are n first all from f k e = ap (drop from) e ∙ ap (λ j. drop j (net_texts n)) (k ∙ ap length f) ∙ drop-append_seam (flat_map port_texts n.ports) (map name_text (wire_names n))
 
-pub rest-is : {X : Type 0} (xs : List X) (k : ℕ) → take (length xs - k) (drop k xs) ≡ drop k xs
-rest-is xs k = take_all (length xs - k) (drop k xs) (omega (arith, length-drop k xs))
-
 pub module_line-is : (n : Netlist) (old new name : Text) (ports : List Port) → old ≡ [] → name ≡ n.name → ports ≡ n.ports → new ≡ old ++ module_line name ports → new ≡ module_line n.name n.ports
 module_line-is n old new name ports o m p e = e ∙ rw (o, m, p) refl
 
@@ -150,22 +147,6 @@ line_more f xs k x old new whole at n e =
     rw (add-one, n) (append_assoc old (f x) (flat_map f (drop (suc k) xs)) ∙ ap (λ t. old ++ t) (sym (flat_next f xs k x at)) ∙ e)
 
 -- ---- what holds of each of those that were passed
-
--- what holds of those before a place, and there, holds of those before the next
-pub each_more : {X : Type 0} (P : ℕ → X → Type 0) (xs : List X) (index : ℕ) (here : X) → ((k : ℕ) (x : X) → k < index → slice_get xs k ≡ Some x → P k x) → slice_get xs index ≡ Some here → P index here
-    → (k : ℕ) (x : X) → k < index + 1 → slice_get xs k ≡ Some x → P k x
-each_more P xs index here before at is k x lt same = elim (cases_lt k index) [
-  | inl less ↦ before k x less same
-  | inr least ↦ (
-      let e : index ≡ k = omega arith in
-      let s : Some here ≡ Some x = sym at ∙ ap (slice_get xs) e ∙ same in
-      let t : here ≡ x = cc in
-      subst (λ j. P j x) e (subst (P index) t is))
-]
-
--- behind all, it holds of each
-pub each_all : {X : Type 0} (P : ℕ → X → Type 0) (xs : List X) (index : ℕ) → length xs ≤ index → ((k : ℕ) (x : X) → k < index → slice_get xs k ≡ Some x → P k x) → (k : ℕ) (x : X) → slice_get xs k ≡ Some x → P k x
-each_all P xs index all before k x at = before k x (let lt = slice_get_within xs k x at in omega arith) at
 
 -- a pin that is not joined needs no name
 pub not_joined : (pins : List Pin) (signals : List Signal) (place : ℕ) (d : Signal) → is_joined (get_or signals place d) ≡ false → place < length pins

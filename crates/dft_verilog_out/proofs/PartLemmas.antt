@@ -4,7 +4,9 @@ use Rattle.std.specs.List.{filter_map, cons_option}
 use Rattle.std.proofs.lemmas.Bool.Decides.{nat_tests}
 use Rattle.std.proofs.lemmas.List.{length-map}
 use Rattle.std.proofs.Math.Seq.{take-append_seam, drop-append_seam}
+use Rattle.std.proofs.lemmas.Bool.{false_from_ne_true}
 use Rattle.dft_base.specs.Lexing.{Text}
+use Rattle.dft_base.proofs.ListLemmas.{get_there}
 use Rattle.dft_cells.specs.declared.kind.Kind.{Kind}
 use Rattle.dft_cells.specs.declared.kind.Kind.TheVariants as primitive
 use Rattle.dft_cells.specs.declared.kind.Role.{Role}
@@ -39,6 +41,7 @@ use Rattle.dft_verilog_out.proofs.LineLemmas.{Line, Lines, no_lines, lines_cons,
 use Rattle.dft_verilog_out.proofs.InstanceLemmas.{Operands, IsGate, gate_form, named_gate_read, unnamed_gate_read, as_joined, IsPin, ArePins, signals-back, cell_form, cell_read}
 use Rattle.dft_verilog_out.proofs.OperandLemmas.{net_at-kept, NetsAt, target_operand, signal_operand}
 use Rattle.dft_verilog_out.proofs.PhaseLemmas.{stage}
+use Rattle.dft_verilog_out.proofs.JoinedLemmas.{is_joined-connected}
 
 -- ---- joins
 
@@ -152,15 +155,6 @@ gate_line-is texts k i ins output e = rw (e, first_is ins output) refl
 
 -- ---- cells
 
-false_by : (t : Bool) → (t ≡ true → ⊥) → t ≡ false
-false_by true h = absurd (h refl)
-false_by false h = refl
-
-joined_is : (s : Signal) → is_joined s ≡ true → IsConnected s
-joined_is (signal.Net net) h = tt
-joined_is (signal.Constant bit) h = tt
-joined_is signal.Unconnected h = absurd (cc)
-
 -- what is known of the pins of a cell
 record OfCell (d : Draft) (texts : List Text) (cell : Cell) (signals : List Signal) : Type 0 where
   nets : NetsAt d.names d.ports texts
@@ -174,7 +168,7 @@ pin_of d texts cell signals place pin to c at is = record {
   found = pin_place-at cell place pin c.differ at;
   at = at;
   name = λ joined. c.named.pins place pin to at is joined;
-  reads = λ joined. signal_operand d (site.Pin (is_output pin.role)) texts to c.nets (c.live place to is) (joined_is to joined) (λ bit e. c.outputs place pin bit at (is ∙ ap Some e));
+  reads = λ joined. signal_operand d (site.Pin (is_output pin.role)) texts to c.nets (c.live place to is) (is_joined-connected to joined) (λ bit e. c.outputs place pin bit at (is ∙ ap Some e));
 }
 
 pins_of : (d : Draft) (texts : List Text) (cell : Cell) (all : List Signal) (place : ℕ) (pins : List Pin) (signals : List Signal) → OfCell d texts cell all → length signals ≡ length pins
@@ -197,11 +191,6 @@ from_zero xs k x at = let e : 0 + k ≡ k = omega arith in ap (slice_get xs) e �
 cell_line-is : (texts : List Text) (cell : Cell) (w : Text) (ref : CellRef) (pins : List Signal) → cell_line texts cell (record { name = Some w; cell = ref; pins = pins }) ≡ cell_form texts cell w pins
 unfolding cell_line
 cell_line-is texts cell w ref pins = refl
-
-pub some_at : {X : Type 0} (xs : List X) (k : ℕ) → k < length xs → (x : X) × (slice_get xs k ≡ Some x)
-some_at [] k lt = absurd (omega arith)
-some_at (x ∷ xs) zero lt = (x, refl)
-some_at (x ∷ xs) (suc k) lt = some_at xs k (omega arith)
 
 role_at : (pins : List Pin) (k : ℕ) (pin : Pin) → slice_get pins k ≡ Some pin → slice_get (map (λ (p : Pin). p.role) pins) k ≡ Some pin.role
 role_at [] k pin at = absurd (cc)
@@ -254,7 +243,7 @@ instance_step n None (cell_ref.Library id) pins names ports nets done joins text
 instance_step n (Some w) (cell_ref.Library id) pins names ports nets done joins texts well r known free room =
     let start = stage n names ports nets done joins in
     let named = stage n (names ++ entry w meaning.Instance ∷ []) ports nets done joins in
-    let at = some_at n.library id.0 r.stands.fits.0 in
+    let at = get_there n.library id.0 r.stands.fits.0 in
     let cell = at.0 in
     let is_cell = well.each id.0 cell at.1 in
     let is_named = r.named.cell cell at.1 in
@@ -266,7 +255,7 @@ instance_step n (Some w) (cell_ref.Library id) pins names ports nets done joins 
       differ = is_cell.differ;
       live = r.stands.live;
       outputs = λ place pin bit here to.
-          false_by (is_output pin.role) (λ out. r.stands.outputs place pin.role bit (ap (λ (rs : List Role). slice_get rs place) roles ∙ role_at cell.pins place pin here) out to);
+          false_from_ne_true (is_output pin.role) (λ out. r.stands.outputs place pin.role bit (ap (λ (rs : List Role). slice_get rs place) roles ∙ role_at cell.pins place pin here) out to);
     } in
     let line = cell_read start named texts id cell w pins (find_cell-at n.library id.0 cell well.names at.1) at.1 is_named.name r.named.own (λ place. name_instance-is place w start (free w refl) room)
     (pins_of named texts cell pins 0 cell.pins pins c width (from_zero cell.pins) (from_zero pins)) width in

@@ -1,7 +1,7 @@
 use Rattle.std.proofs.Common.{◌∙◌, ap, sym, Some, arith}
 use Rattle.std.proofs.lemmas.Option.{slice_get-get_or}
 use Rattle.dft_base.specs.Name.{IsName}
-use Rattle.dft_compile.proofs.EachLemmas.{each_more, each_all}
+use Rattle.dft_base.proofs.ListLemmas.{each_more, each_all}
 use Rattle.dft_compile.proofs.names.cubes_are_named.Goals as goal
 
 pub loop-cube-preserved : goal.loop-cube-preserved

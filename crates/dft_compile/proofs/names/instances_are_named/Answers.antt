@@ -1,7 +1,7 @@
 use Rattle.std.proofs.Common.{◌∙◌, ap, sym, Some, arith}
 use Rattle.std.proofs.lemmas.Option.{slice_get-get_or}
+use Rattle.dft_base.proofs.ListLemmas.{each_more, each_all}
 use Rattle.dft_compile.specs.Named.{IsNameIfAny}
-use Rattle.dft_compile.proofs.EachLemmas.{each_more, each_all}
 use Rattle.dft_compile.proofs.names.instances_are_named.Goals as goal
 
 pub loop-instance-preserved : goal.loop-instance-preserved

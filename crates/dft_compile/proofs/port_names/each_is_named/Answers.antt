@@ -1,7 +1,7 @@
 use Rattle.std.proofs.Common.{◌∙◌, ap, sym, Some, arith}
 use Rattle.std.proofs.lemmas.Option.{slice_get-get_or}
 use Rattle.dft_base.specs.Name.{IsName}
-use Rattle.dft_compile.proofs.EachLemmas.{each_more, each_all}
+use Rattle.dft_base.proofs.ListLemmas.{each_more, each_all}
 use Rattle.dft_compile_laws.specs.Formed.{IsShortRange}
 use Rattle.dft_compile.proofs.port_names.each_is_named.Goals as goal
 

@@ -1,8 +1,9 @@
 use Rattle.std.proofs.Common.{◌∙◌, ap, sym, Some, arith}
 use Rattle.std.proofs.lemmas.Option.{slice_get-get_or}
+use Rattle.dft_base.proofs.ListLemmas.{each_more, each_all}
 use Rattle.dft_verilog_out.specs.Named.{IsNamedPort}
 use Rattle.dft_verilog_out.specs.Written.{port_line}
-use Rattle.dft_verilog_out.proofs.FormLemmas.{line_more, each_more, each_all}
+use Rattle.dft_verilog_out.proofs.FormLemmas.{line_more}
 use Rattle.dft_verilog_out.proofs.declarations.add_ports.Goals as goal
 
 pub loop-port-preserved : goal.loop-port-preserved

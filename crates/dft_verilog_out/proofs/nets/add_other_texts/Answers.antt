@@ -1,8 +1,9 @@
 use Rattle.std.proofs.Common.{◌∙◌, ◌∷◌, ℕ, ◌≤◌, length, ap, sym, arith, map, drop, ◌+◌}
 use Rattle.dft_base.specs.Lexing.{Text}
 use Rattle.dft_base.specs.Name.{IsName}
+use Rattle.dft_base.proofs.ListLemmas.{each_more, each_all}
 use Rattle.dft_verilog_out.specs.Written.{name_text}
-use Rattle.dft_verilog_out.proofs.FormLemmas.{map-drop_one, pushed, each_more, each_all}
+use Rattle.dft_verilog_out.proofs.FormLemmas.{map-drop_one, pushed}
 use Rattle.dft_verilog_out.proofs.nets.add_other_texts.Goals as goal
 
 pub loop-net-preserved : goal.loop-net-preserved

@@ -1,9 +1,10 @@
 use Rattle.std.proofs.Common.{◌∙◌, ◌++◌, ap, sym, refl, subst, arith, length, flat_map, drop}
+use Rattle.std.proofs.lemmas.List.{take_rest}
 use Rattle.dft_netlist_text.specs.NetlistText.{StandsFor}
 use Rattle.dft_base.specs.Lexing.{Text}
 use Rattle.dft_base.specs.Name.{IsName}
 use Rattle.dft_verilog_out.specs.Written.{port_texts, port_line, wire_line}
-use Rattle.dft_verilog_out.proofs.FormLemmas.{ports-fit, texts-are, module_line-is, wires-are, rest-is, assembled, joins-stand, instances-stand, all_named}
+use Rattle.dft_verilog_out.proofs.FormLemmas.{ports-fit, texts-are, module_line-is, wires-are, assembled, joins-stand, instances-stand, all_named}
 use Rattle.dft_verilog_out.proofs.RoundTrip.{written_stands}
 use Rattle.dft_verilog_out.proofs.writer.write.Goals as goal
 
@@ -31,7 +32,7 @@ returns c =
     let cells = c.cells.ensures.cells ∙ c.library.ensures.library in
     let form = assembled n _ _ _ _ _ _ _ _ all (wires-are n _ _ c.len-first.result first (omega arith) all) heading_is
     (c.in_ok-add_ports.ensures.text ∙ ap (λ ports. c.add_heading.new.out.items ++ flat_map port_line ports) c.ports-3.ensures.ports)
-    (c.in_ok-add_wires.ensures ∙ ap (λ texts. c.add_ports.new.out.items ++ flat_map wire_line texts) (rest-is c.deref.result.now c.len-first.result ∙ ap (drop c.len-first.result) c.deref.ensures.value))
+    (c.in_ok-add_wires.ensures ∙ ap (λ texts. c.add_ports.new.out.items ++ flat_map wire_line texts) (take_rest c.deref.result.now c.len-first.result ∙ ap (drop c.len-first.result) c.deref.ensures.value))
     (c.in_ok-add_joins.ensures ∙ rw (c.deref-2.ensures.value, c.joins.ensures.joins) refl)
     (c.in_ok-add_instances.ensures.text ∙ rw (cells, c.deref-3.ensures.value, c.instances.ensures.instances) refl)
     c.in_ok-extend_from_slice.ensures.items in

@@ -1,9 +1,10 @@
 use Rattle.std.proofs.Common.{◌≡◌, ◌∙◌, sym, subst, refl, None}
+use Rattle.dft_base.proofs.OptionLemmas.{none_of}
 use Rattle.dft_netlist.specs.BuilderShown.{netlist_so_far}
 use Rattle.dft_netlist.specs.Building.{net_refusal}
 use Rattle.dft_netlist.specs.NameTables.{look_up}
 use Rattle.dft_netlist.specs.Netlist.{Netlist}
-use Rattle.dft_netlist.proofs.NamesLemmas.{taken_of, none_of}
+use Rattle.dft_netlist.proofs.NamesLemmas.{taken_of}
 use Rattle.dft_netlist.proofs.RefusalLemmas.{net_fits}
 use Rattle.dft_netlist.proofs.SoundLemmas.{net_sound, net_knows}
 use Rattle.dft_netlist.proofs.builder.DesignBuilder.add_net.Goals as goal
