@@ -18,7 +18,7 @@ use Rattle.dft_report.specs.Written.{bit_text, chain_line, chain_lines, counts_t
 use Rattle.dft_report_reader.specs.Saying.{said_of}
 use Rattle.dft_report_reader.specs.Reading.{Owing, Reading, nothing_read, with_cube, with_owing, with_said, with_sum}
 use Rattle.dft_report_reader.specs.WrittenRead.{Each, IsCubeReadable, IsHeaderReadable, IsLoadReadable, IsOutcomeReadable, IsScannedReadable, IsSmall, IsSumReadable, IsUnscannedReadable}
-use Rattle.dft_report_reader.proofs.Numbers.{IsFine, number_fine}
+use Rattle.dft_report_reader.proofs.NumberLemmas.{IsFine, number_fine}
 use Rattle.dft_report_reader.proofs.Lines.{Brings, behind, behind_append, brings_both, brings_line, brings_none}
 use Rattle.dft_report_reader.proofs.Saying.{bit_fine, bit_word, name_fine, rule_fine, says_chain, says_encoded, says_load, says_plain, says_scanned, says_skipped, says_sum, says_unscanned, says_unsolvable, variable_words, variables_behind, variables_fine, variables_heard}
 

@@ -11,7 +11,7 @@ use Rattle.dft_report_reader.specs.Words.{lines_of, words_of}
 use Rattle.dft_report_reader.specs.Saying.{said_of}
 use Rattle.dft_report_reader.specs.Reading.{Reading, nothing_read, read_lines, report_by, report_of, then_ended, then_lines, with_said}
 use Rattle.dft_report_reader.specs.WrittenRead.{Each}
-use Rattle.dft_report_reader.proofs.Numbers.{IsFine}
+use Rattle.dft_report_reader.proofs.NumberLemmas.{IsFine}
 
 -- words with a blank before each, and what stands behind them
 abbrev pub behind : List Text → (rest : Text) → Text
@@ -65,24 +65,24 @@ split_by true b parts h = ([], parts, refl)
 split_by false b parts h = onto_some b parts h
 
 -- a text has a line
-lines_some : (text : Text) → (first : Text) × (more : List Text) × (lines_of text ≡ first ∷ more)
+pub lines_some : (text : Text) → (first : Text) × (more : List Text) × (lines_of text ≡ first ∷ more)
 lines_some [] = ([], [], refl)
 lines_some (b ∷ text) = split_by (b == 10) b (lines_of text) (lines_some text)
 
 -- ---- reading line by line
 
-front : List Text → List Text
+unfoldable pub front : List Text → List Text
 front [] = []
 front (line ∷ []) = []
 front (line ∷ next ∷ lines) = line ∷ front (next ∷ lines)
 
-last : List Text → Text
+unfoldable pub last : List Text → Text
 last [] = []
 last (line ∷ []) = line
 last (line ∷ next ∷ lines) = last (next ∷ lines)
 
 -- what comes of a text from some reading on, behind so many lines; the number is that of the last line
-read_on : (number : ℕ) → Reading → (k : ℕ) → List Text → Result Report ReadError
+unfoldable pub read_on : (number : ℕ) → Reading → (k : ℕ) → List Text → Result Report ReadError
 read_on number r k lines = then_ended number (last lines) (read_lines r k (front lines))
 
 next_line : (number k : ℕ) (r s : Reading) (line next : Text) (lines : List Text) → with_said r (said_of (words_of line)) ≡ Some s → read_on number r k (line ∷ next ∷ lines) ≡ read_on number s (suc k) (next ∷ lines)
@@ -124,7 +124,7 @@ unfolding last
 last_got line [] = refl
 last_got line (next ∷ lines) = last_got next lines
 
-by_lines : (line : Text) (lines : List Text) → report_by (line ∷ lines) ≡ read_on (suc (length lines)) nothing_read 0 (line ∷ lines)
+pub by_lines : (line : Text) (lines : List Text) → report_by (line ∷ lines) ≡ read_on (suc (length lines)) nothing_read 0 (line ∷ lines)
 unfolding read_on
 by_lines line lines =
     let count : length (line ∷ lines) - 1 ≡ length lines = omega arith in

@@ -22,7 +22,7 @@ use Rattle.dft_report.specs.Written.{rule_text, variable_text, variables_text}
 use Rattle.dft_report_reader.specs.Words.{is_name, number_of}
 use Rattle.dft_report_reader.specs.Saying.{Counts, Chain, Scanned, Unscanned, Encoded, Unsolvable, Skipped, Sum, all_variables, and_variable, bit_of, counts_with, in_chain, load_of, outcome_of, plain_counts, rule_of, said_of, sum_with, variable_by, variable_of, variable_with, variables_of, with_two}
 use Rattle.dft_report_reader.specs.WrittenRead.{Each, IsSmall, IsVariableReadable}
-use Rattle.dft_report_reader.proofs.Numbers.{IsFine, number_fine, number_read}
+use Rattle.dft_report_reader.proofs.NumberLemmas.{IsFine, number_fine, number_read}
 use Rattle.dft_report_reader.proofs.Lines.{behind}
 
 -- ---- names
