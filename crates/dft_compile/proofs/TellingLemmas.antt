@@ -10,13 +10,15 @@ use Rattle.dft_base.specs.Name.{IsName}
 use Rattle.dft_base.specs.Solutions.{Equation, StatesCertificate, StatesFrom, equation_at, ids_to}
 use Rattle.dft_netlist.specs.declared.ids.InstanceId.{InstanceId}
 use Rattle.dft_netlist.specs.declared.instance.Instance.{Instance}
-use Rattle.dft_netlist.specs.Names.{instance_name}
+use Rattle.dft_netlist.specs.Names.{IsNameIfAny, instance_name}
 use Rattle.dft_netlist.specs.Netlist.{Netlist}
+use Rattle.dft_netlist.specs.Sound.{IsNetlist}
 use Rattle.dft_config.specs.declared.config.Config.{Config}
 use Rattle.dft_config.specs.declared.config.RingConfig.{RingConfig}
 use Rattle.dft_config.specs.Range.{IsInRange}
 use Rattle.dft_rules.specs.declared.judged.Judged.{Judged}
 use Rattle.dft_rules.specs.declared.judged.Judged.TheVariants.{Scanned, Unscanned}
+use Rattle.dft_rules.specs.Refusals as rules
 use Rattle.dft_rules.specs.Refusals.{is_scanned}
 use Rattle.dft_rules.specs.Rules.{judgements}
 use Rattle.dft_stitch.specs.Chains.{domain_of, plan_of}
@@ -45,8 +47,9 @@ use Rattle.dft_scan.proofs.ShapeLemmas.{few_chains, judgement_count, short_chain
 use Rattle.dft_cube_reports.specs.Outcomes.{cell_name, cube_report, cube_reports, named_outcome, outcome_of, sum_as, sum_at, sum_line, sums_of, variable_of}
 use Rattle.dft_encode.specs.Compiled.{Placing}
 use Rattle.dft_encode.proofs.PlacingLemmas.{place_count}
+use Rattle.dft_rules.proofs.Passed.{domain_is_named}
 use Rattle.dft_stitch.proofs.ChainLimits.{limits}
-use Rattle.dft_compile.specs.Named.{AreCubesNamed, AreInstancesNamed, AreNames, CanBeTold, IsNameIfAny}
+use Rattle.dft_compile.specs.Named.{AreCubesNamed}
 use Rattle.dft_compile.specs.Reports.{compile_report}
 use Rattle.dft_compile.specs.Texts.{report_text}
 
@@ -61,6 +64,12 @@ each_more P None rest here more = more
 each_more P (Some x) rest here more = (here x refl, more)
 
 -- ---- names
+
+abbrev AreInstancesNamed : List Instance → Type 0
+AreInstancesNamed instances = (place : ℕ) (instance : Instance) → slice_get instances place ≡ Some instance → IsNameIfAny instance.name
+
+abbrev AreNames : List Text → Type 0
+AreNames names = (place : ℕ) (name : Text) → slice_get names place ≡ Some name → IsName name
 
 any_name : (o : Option Text) → ((name : Text) → o ≡ Some name → IsName name) → IsNameIfAny o
 any_name None all = tt
@@ -208,7 +217,7 @@ row_short : (columns : ℕ) (o : Option (List Bool)) → ((r : List Bool) → o 
 row_short columns None wide few = omega arith
 row_short columns (Some r) wide few = let size = wide r refl in omega (arith, size, few)
 
-module _ (n : Netlist) (config : Config) (cubes : List Cube) (range : IsInRange config) (fits : refusal n config ≡ None) (apart : StandApart (plan_of n config).chains) (told : CanBeTold n config cubes) (few : length cubes ≤ 65536)
+module _ (n : Netlist) (config : Config) (cubes : List Cube) (range : IsInRange config) (sound : IsNetlist n) (passed : rules.refusal n config ≡ None) (fits : refusal n config ≡ None) (apart : StandApart (plan_of n config).chains) (named : AreCubesNamed cubes) (few : length cubes ≤ 65536)
     (cells : All (λ (cube : Cube). length cube.cells < 2 ^ 32) cubes) where
   readable : (p : Placing config (plan_of n config) cubes) → IsReadable (compile_report n config (cell_row (plan_of n config).chains p.rows) cubes p.placed)
   readable p =
@@ -220,14 +229,14 @@ module _ (n : Netlist) (config : Config) (cubes : List Cube) (range : IsInRange 
       let cell_count = count_by-le-length is_scanned verdicts in
       let judged = judgement_count n config in
       record {
-        header = (omega (arith, cell_count, judged, told.few), omega (arith, chain_count), ((let le = limit.0 in omega (arith, le)), (let le = limit.1 in omega (arith, le))));
+        header = (omega (arith, cell_count, judged, sound.few_instances), omega (arith, chain_count), ((let le = limit.0 in omega (arith, le)), (let le = limit.1 in omega (arith, le))));
         count = (let size = length-map chains (λ (xs : List InstanceId). length xs) in omega (arith, size, chain_count));
         chains = lengths_small chains (short_chains n config fits);
-        scanned = chains_readable n config verdicts told.instances told.domains 0 chains (omega (arith, chain_count)) (short_chains n config fits);
-        unscanned = others_readable verdicts 0 n.instances told.instances;
-        cubes = cubes_readable n config.ring (cell_row chains p.rows) p.rows.columns config.window told.instances range.ring.channels.0
+        scanned = chains_readable n config verdicts sound.named.instances (domain_is_named n config sound passed) 0 chains (omega (arith, chain_count)) (short_chains n config fits);
+        unscanned = others_readable verdicts 0 n.instances sound.named.instances;
+        cubes = cubes_readable n config.ring (cell_row chains p.rows) p.rows.columns config.window sound.named.instances range.ring.channels.0
             (λ cell. row_short p.rows.columns (cell_row chains p.rows cell) (λ r is. row_wide chains p.rows cell r rows is) (let le = limit.1 in omega (arith, le, p.equations.columns)))
-            [] p.merged cubes p.placed told.named cells (omega (arith, few)) p.is;
+            [] p.merged cubes p.placed named cells (omega (arith, few)) p.is;
         load = tt;
       }
 

@@ -30,7 +30,7 @@ each_gives n config [] are give = tt
 each_gives n config (p ∷ ps) are give = ((λ j given at. give 0 j p given refl at, outputs_width n config p are.0), each_gives n config ps are.1 (λ number k q given at in_q. give (suc number) k q given at in_q))
 
 pub written_formed : WrittenFormed
-written_formed n config patterns ready sound named are give few =
+written_formed n config patterns ready sound are give few =
     let signals : List StilSignal = signals_of (scanned Edt n config) in
     let vectors : List (List Act) = vectors_of n config (plan_of n config) patterns in
     let full : Each (λ acts. IsFullVector signals acts) vectors = each_full n config patterns (each_wide n config patterns are) in
@@ -42,7 +42,7 @@ written_formed n config patterns ready sound named are give few =
         steady = steady n config (set_of n config patterns) patterns ready.range refl (each_gives n config patterns are give);
       };
       writable = record {
-        quotable = signals_quoted (scanned Edt n config) sound (quotable_bits n config ready named);
+        quotable = signals_quoted (scanned Edt n config) sound (quotable_bits n config ready sound);
         ordered = outputs_leave (scanned Edt n config);
         full = each_all (λ acts. IsFullVector signals acts) vectors full;
         some = inr (some_input n config);

@@ -61,13 +61,13 @@ module _ (n : Netlist) (config : Config) (cubes : List Cube) (placing : Placing 
       }
 
 pub compilations_hold : CompilationsHold
-compilations_hold n config order cubes placing list ready netlist ordered named sound are =
+compilations_hold n config order cubes placing list ready netlist ordered sound are =
     let stands = stand n config cubes placing list ready sound are in
     record {
       loads = brought n config cubes placing list ready sound are netlist;
       tells = λ ports suits c cube at scanned. entries_exact n config ports placing.rows config.window cubes placing.placed placing.merged ready suits placing.equations sound placing.is c cube at scanned;
       passes = written_pass n config list order ready netlist ordered stands;
       reads = (λ few.
-          let formed = written_formed n config list ready netlist named stands (gives n config cubes placing list ready sound are) few in
+          let formed = written_formed n config list ready netlist stands (gives n config cubes placing list ready sound are) few in
           stands_written (set_of n config list) formed.well formed.writable);
     }

@@ -1,17 +1,19 @@
 -- The names of a vector's bits.
-use Rattle.std.proofs.Common.{◌≡◌, ℕ, zero, suc, ◌+◌, ◌-◌, ◌<◌, ◌≤◌, ◌^◌, Bool, true, false, List, [], ◌∷◌, ◌++◌, length, Some, refl, ◌∙◌, ap, arith, slice_get, length-append, append_assoc}
+use Rattle.std.proofs.Common.{◌≡◌, ℕ, zero, suc, ◌+◌, ◌-◌, ◌<◌, ◌≤◌, ◌^◌, Bool, true, false, List, [], ◌∷◌, ◌++◌, length, Option, None, Some, refl, sym, ◌∙◌, ap, subst, arith, slice_get, length-append, append_assoc}
 use Rattle.std.specs.Prelude.{nat_le}
 use Rattle.std.specs.List.{All}
 use Rattle.std.specs.Fmt.{decimal}
 use Rattle.std.proofs.lemmas.Bool.Decides.{nat_tests}
 use Rattle.std.proofs.lemmas.List.Elements.{All-append, All-cons, All-nil, All-from_get_or}
 use Rattle.std.proofs.lemmas.Fmt.{digits_decimal}
+use Rattle.std.proofs.lemmas.Option.{same_Some, slice_get_within}
 use Rattle.std.proofs.lemmas.Str.Parse.{numerals_by_value, tells_by_index}
 use Rattle.std.proofs.lemmas.Bool.{le-leb, lt-leb}
 use Rattle.dft_base.specs.Name.{IsName}
 use Rattle.dft_base.specs.declared.place.Range.{Range}
 use Rattle.dft_base.proofs.TextLemmas.{IsPrinted, digits_printed}
-use Rattle.dft_netlist.specs.Names.{indices_of, going_up, going_down, bit_name}
+use Rattle.dft_netlist.specs.Names.{IsShortRange, indices_of, going_up, going_down, bit_name, bit_names}
+use Rattle.dft_netlist.proofs.Places.{each_made}
 
 pub up_length : (from count : ℕ) → length (going_up from count) ≡ count
 up_length from zero = refl
@@ -67,6 +69,20 @@ is_bit_name name index lt h = record {
       (All-append IsPrinted name (91 ∷ decimal index) h.each (All-cons IsPrinted 91 (decimal index) (omega arith, omega arith) (digits_printed index lt)))
       (All-cons IsPrinted 93 [] (omega arith, omega arith) (All-nil IsPrinted));
 }
+
+pub index_short : (r : Range) (k i : ℕ) → IsShortRange (Some r) → slice_get (indices_of r) k ≡ Some i → i < 2 ^ 64
+index_short r k i short at =
+    let within : k < length (indices_of r) = slice_get_within (indices_of r) k i at in
+    let left = short.0 in
+    let right = short.1 in
+    cases_le r.left r.right (nat_le r.left r.right) refl (i < 2 ^ 64)
+    (λ le. (let up = rising_at r k le within in let same : i ≡ r.left + k = same_Some i (r.left + k) (sym at ∙ up.1) in let top = up.0 in omega (arith, same, top, right)))
+    (λ gt. (let down = falling_at r k gt within in let same : i ≡ r.left - k = same_Some i (r.left - k) (sym at ∙ down.1) in omega (arith, same, left)))
+
+pub bits_are_names : (name : List ℕ) (range : Option Range) → IsName name → IsShortRange range → (k : ℕ) (q : List ℕ) → slice_get (bit_names name range) k ≡ Some q → IsName q
+bits_are_names name None is short zero q at = subst IsName (same_Some name q at) is
+bits_are_names name None is short (suc k) q at = absurd (cc)
+bits_are_names name (Some r) is short k q at = each_made IsName (bit_name name) (indices_of r) (λ j i there. is_bit_name name i (index_short r j i short there) is) k q at
 
 pub regroup : (name : List ℕ) (index : ℕ) → ((name ++ 91 ∷ []) ++ decimal index) ++ 93 ∷ [] ≡ bit_name name index
 regroup name index = ap (λ xs. xs ++ 93 ∷ []) (append_assoc name (91 ∷ []) (decimal index))

@@ -6,12 +6,14 @@ use Rattle.dft_netlist.specs.declared.named.Named.TheVariants.{Net as ANet, Vect
 use Rattle.dft_netlist.specs.declared.port.Port.{Port}
 use Rattle.dft_netlist.specs.declared.limits.TheConstants.{MAX_PORTS, MAX_NETS}
 use Rattle.dft_netlist.specs.Netlist.{Netlist}
-use Rattle.dft_netlist.specs.Names.{Names, vector_name, bit_names}
+use Rattle.dft_base.specs.Name.{IsName}
+use Rattle.dft_netlist.specs.Names.{HasNames, IsShortRange, Names, vector_name, bit_names}
 use Rattle.dft_netlist.specs.NameTables.{Entry, Knows, own_entries, net_entries, AreNew, IsFree}
 use Rattle.dft_netlist.specs.NetNumbers.{nets_from}
 use Rattle.dft_netlist.specs.Sound.{IsNetlist, HasOnlyPorts, Begins, bits_of, bit_names_of}
 use Rattle.dft_base.specs.Lexing.{Text}
-use Rattle.dft_netlist.proofs.Places.{push_cases, shown_left, shown_push, shown_cases}
+use Rattle.dft_netlist.proofs.BitLemmas.{bits_are_names}
+use Rattle.dft_netlist.proofs.Places.{each_both, push_cases, shown_left, shown_push, shown_cases}
 use Rattle.dft_netlist.proofs.NamesLemmas.{Adds, SameNames, knows_more, knows_same, differ_of}
 use Rattle.dft_netlist.proofs.NewNames.{first_new, others_new}
 use Rattle.dft_netlist.proofs.SoundLemmas.{with_net, net_number, net_knows, instance_more, join_more}
@@ -120,8 +122,16 @@ whole_front front whole begins same =
 abbrev pub with_bits : Netlist → Port → Netlist
 with_bits n port = record n { ports = n.ports ++ port ∷ []; nets = n.nets ++ bit_names port.name port.range }
 
-pub port_sound : (es : List Entry) (n : Netlist) (port : Port) → IsNetlist n → HasOnlyPorts n → Knows es (with_bits n port) → length n.ports < MAX_PORTS → length n.nets + length (bit_names port.name port.range) ≤ MAX_NETS → port.bits ≡ nets_from (length n.nets) (length (bit_names port.name port.range)) → IsNetlist (with_bits n port)
-port_sound es n port s only k few room numbers =
+port_named : (n : Netlist) (port : Port) → HasNames n → IsName port.name → IsShortRange port.range → HasNames (with_bits n port)
+port_named n port h is short = record {
+  own = h.own;
+  ports = λ i p at. elim (push_cases n.ports port i p at) [ inl was ↦ h.ports i p was | inr new ↦ subst (λ (x : Port). IsName x.name × IsShortRange x.range) new.1 (is, short) ];
+  nets = each_both IsName n.nets (bit_names port.name port.range) h.nets (bits_are_names port.name port.range is short);
+  instances = h.instances;
+}
+
+pub port_sound : (es : List Entry) (n : Netlist) (port : Port) → IsNetlist n → IsName port.name → IsShortRange port.range → HasOnlyPorts n → Knows es (with_bits n port) → length n.ports < MAX_PORTS → length n.nets + length (bit_names port.name port.range) ≤ MAX_NETS → port.bits ≡ nets_from (length n.nets) (length (bit_names port.name port.range)) → IsNetlist (with_bits n port)
+port_sound es n port s is short only k few room numbers =
     let names = bit_names port.name port.range in
     let more : length n.nets ≤ length (n.nets ++ names) = omega (arith, length-append n.nets names) in
     let bits = whole_front (bit_names_of n.ports) n.nets s.bits (only ∙ all_wide n.ports s.widths) in
@@ -130,6 +140,7 @@ port_sound es n port s only k few room numbers =
       few_nets = omega (arith, length-append n.nets names);
       few_instances = s.few_instances;
       names = differ_of es (with_bits n port) k;
+      named = port_named n port s.named is short;
       widths = λ i p at. elim (push_cases n.ports port i p at) [
         | inl was ↦ s.widths i p was
         | inr new ↦ subst (λ (x : Port). length x.bits ≡ length (bit_names x.name x.range)) new.1 (ap (λ (xs : List NetId). length xs) numbers ∙ nets_from-length (length n.nets) (length names))

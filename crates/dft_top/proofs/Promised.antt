@@ -208,7 +208,7 @@ made hold files old o done h =
       placing = placing;
       is = is;
       reads = subst (λ (cells : List Cell). StandsFor cells (compiled.netlist_text n c) (scanned Edt n c)) (library_kept x.0 design.0 n design.1.stands) is.reads;
-      holds = hold n c p.1.0.order cubes placing is.list p.1.0.ready p.1.0.sound p.1.0.ordered p.1.0.named (are_cubes n c files.cubes old cubes u.1.0) is.are;
+      holds = hold n c p.1.0.order cubes placing is.list p.1.0.ready p.1.0.sound p.1.0.ordered (are_cubes n c files.cubes old cubes u.1.0) is.are;
     }
 
 compiles : CompilationsHold → (files : CompileFiles) (old new : Held) (o : Outcome) → status_of o ≡ Done → Reaches (course_of_compile files) old o → HaveSaved (compile_savings files o) (Some old) (Some new) → Compiles files old new

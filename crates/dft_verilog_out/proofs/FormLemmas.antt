@@ -16,7 +16,6 @@ use Rattle.dft_netlist.specs.declared.instance.Join.{Join}
 use Rattle.dft_netlist.specs.Netlist.{Netlist}
 use Rattle.dft_netlist.specs.Sound.{bit_names_of, IsNetlist, IsAJoin, IsInstance}
 use Rattle.dft_base.specs.Name.{IsName}
-use Rattle.dft_verilog_out.specs.Named.{IsNamedPort, IsNamedInstance, IsNamedNetlist}
 use Rattle.dft_verilog_out.specs.Written.{name_text, bit_select_text, bit_texts, port_texts, list_text_behind, connection_text, is_joined, connection_texts, wire_names, net_texts, module_line, port_line, wire_line, join_line, instance_line, body, written}
 
 -- ---- the connections from a place on
@@ -169,16 +168,6 @@ get_drop [] (suc from) k = nothing (suc from + k)
     nothing j = refl
 get_drop (x ∷ xs) (suc from) k = let e : suc (from + k) ≡ suc from + k = omega arith in get_drop xs from k ∙ ap (slice_get (x ∷ xs)) e
 
--- all that is written has names
-pub all_named : (n : Netlist) (ports : List Port) (cells : List Cell) (instances : List Instance) (first : List Text) → IsName n.name → ports ≡ n.ports → cells ≡ n.library → instances ≡ n.instances → first ≡ flat_map port_texts n.ports
-    → ((place : ℕ) (p : Port) → slice_get ports place ≡ Some p → IsNamedPort p)
-    → ((place : ℕ) (name : Text) → length first ≤ place → slice_get n.nets place ≡ Some name → IsName name)
-    → ((place : ℕ) (i : Instance) → slice_get instances place ≡ Some i → IsNamedInstance cells i) → IsNamedNetlist n
-all_named n ports cells instances first own p c i f of_ports of_others of_instances = record {
-  own = own;
-  ports = λ place port at. of_ports place port (ap (λ (ps : List Port). slice_get ps place) p ∙ at);
-  others = λ place name at.
-      let bits : ℕ = length (bit_names_of n.ports) in
-      of_others (bits + place) name (omega (arith, ap length f, length-port_texts n.ports)) (sym (get_drop n.nets bits place) ∙ at);
-  instances = λ place x at. subst (λ (cs : List Cell). IsNamedInstance cs x) c (of_instances place x (ap (λ (is : List Instance). slice_get is place) i ∙ at));
-}
+-- the nets behind those of the ports have names
+pub wires-named : (n : Netlist) → IsNetlist n → (place : ℕ) (name : Text) → slice_get (wire_names n) place ≡ Some name → IsName name
+wires-named n sound place name at = let bits : ℕ = length (bit_names_of n.ports) in sound.named.nets (bits + place) name (sym (get_drop n.nets bits place) ∙ at)

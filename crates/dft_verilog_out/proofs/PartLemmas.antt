@@ -26,13 +26,13 @@ use Rattle.dft_netlist_text.specs.declared.text.Meaning.TheVariants as meaning
 use Rattle.dft_netlist_text.specs.declared.text.Site.{Site}
 use Rattle.dft_netlist_text.specs.declared.text.Site.TheVariants as site
 use Rattle.dft_netlist.specs.Netlist.{Netlist}
-use Rattle.dft_netlist.specs.Names.{instance_name}
+use Rattle.dft_netlist.specs.Names.{IsNameIfAny, instance_name}
 use Rattle.dft_netlist.specs.Drivers.{shape_of, shape_of_cell, gate_roles}
 use Rattle.dft_netlist.specs.Sound.{is_primitive, IsLive, AreLive, IsInstance, IsConnected, IsAJoin, is_output}
 use Rattle.dft_netlist_text.specs.Modules.{HeaderPort, TakenName, Draft}
 use Rattle.dft_netlist_text.specs.Expressions.{drives}
 use Rattle.dft_netlist_text.specs.Items.{gate_instance, cell_instance}
-use Rattle.dft_verilog_out.specs.Named.{IsNamedCell, IsNamedInstance, IsJoinedGate}
+use Rattle.dft_verilog_out.specs.Named.{HasNamedCell, IsNamedCell, IsJoinedGate}
 use Rattle.dft_verilog_out.specs.Written.{join_line, is_joined, output_first, gate_line, cell_line, found_cell_line, instance_line}
 use Rattle.dft_verilog_out.proofs.CountLemmas.{Once, look, words}
 use Rattle.dft_verilog_out.proofs.DraftLemmas.{entry, free_at, words-append, name_instance-is, room_for_instance-is}
@@ -212,7 +212,8 @@ nets_kept names more ports texts known k lt = net_at-kept names more ports (get_
 -- an instance, and what it needs to be written and read
 pub record IsReadable (library : List Cell) (count : ℕ) (i : Instance) : Type 0 where
   pub stands : IsInstance library count i.name i.cell i.pins
-  pub named : IsNamedInstance library i
+  pub own : IsNameIfAny i.name
+  pub cell : HasNamedCell library i
   pub joined : IsJoinedGate i
 
 made_gate : (k : Kind) (name : Option Text) (inputs : ℕ) (pins ins : List Signal) (output : Signal) → length ins ≡ inputs → pins ≡ ins ++ output ∷ [] → gate_instance k name output ins ≡ inst name (cell_ref.Gate k inputs) pins
@@ -226,7 +227,7 @@ instance_step n (Some w) (cell_ref.Gate k inputs) pins names ports nets done joi
     let named = stage n (names ++ entry w meaning.Instance ∷ []) ports nets done joins in
     let p = split pins inputs (r.stands.width ∙ length-gate_roles inputs) in
     let g = gate_of named n.library texts (Some w) k inputs pins p (nets_kept names (entry w meaning.Instance ∷ []) ports texts known) r.stands r.joined in
-    let line = named_gate_read k start named w texts p.output p.ins g r.named.own (λ place. name_instance-is place w start (free w refl) room) in
+    let line = named_gate_read k start named w texts p.output p.ins g r.own (λ place. name_instance-is place w start (free w refl) room) in
     let made = made_gate k (Some w) inputs pins p.ins p.output p.size p.is in
     subst (λ (text : Text). Line text start (stage n (names ++ entry w meaning.Instance ∷ []) ports nets (done ++ inst (Some w) (cell_ref.Gate k inputs) pins ∷ []) joins)) (sym (gate_line-is texts k (inst (Some w) (cell_ref.Gate k inputs) pins) p.ins p.output p.is))
     (subst (λ (i : Instance). Line (gate_form texts k (Some w) p.output p.ins) start (stage n (names ++ entry w meaning.Instance ∷ []) ports nets (done ++ i ∷ []) joins)) made line)
@@ -246,7 +247,7 @@ instance_step n (Some w) (cell_ref.Library id) pins names ports nets done joins 
     let at = get_there n.library id.0 r.stands.fits.0 in
     let cell = at.0 in
     let is_cell = well.each id.0 cell at.1 in
-    let is_named = r.named.cell cell at.1 in
+    let is_named = r.cell cell at.1 in
     let roles : (shape_of n.library (cell_ref.Library id)).roles ≡ map (λ (p : Pin). p.role) cell.pins = ap (λ (o : Option Cell). (shape_of_cell o).roles) at.1 in
     let width : length pins ≡ length cell.pins = r.stands.width ∙ ap length roles ∙ length-map cell.pins (λ (p : Pin). p.role) in
     let c : OfCell named texts cell pins = record {
@@ -257,7 +258,7 @@ instance_step n (Some w) (cell_ref.Library id) pins names ports nets done joins 
       outputs = λ place pin bit here to.
           false_from_ne_true (is_output pin.role) (λ out. r.stands.outputs place pin.role bit (ap (λ (rs : List Role). slice_get rs place) roles ∙ role_at cell.pins place pin here) out to);
     } in
-    let line = cell_read start named texts id cell w pins (find_cell-at n.library id.0 cell well.names at.1) at.1 is_named.name r.named.own (λ place. name_instance-is place w start (free w refl) room)
+    let line = cell_read start named texts id cell w pins (find_cell-at n.library id.0 cell well.names at.1) at.1 is_named.name r.own (λ place. name_instance-is place w start (free w refl) room)
     (pins_of named texts cell pins 0 cell.pins pins c width (from_zero cell.pins) (from_zero pins)) width in
     let made : cell_instance id w (map as_joined pins) ≡ inst (Some w) (cell_ref.Library id) pins = ap (λ (ss : List Signal). inst (Some w) (cell_ref.Library id) ss) (signals-back pins) in
     let text : instance_line n.library texts (inst (Some w) (cell_ref.Library id) pins) ≡ cell_form texts cell w pins =

@@ -26,6 +26,6 @@ invariant_of-self-2 c =
     let none : look_up es q ≡ None = none_of (look_up es q) (sym (taken_of es n q (look_up es q) c.self.invariant.table refl) ∙ fits.0) in
     let known = net_knows es n q c.self.invariant.table none in
     record {
-      netlist = rw (c.insert_net.ensures.nets, c.in_ok-reserve.ensures.nets) (net_sound _ n q c.self.invariant.netlist known fits.1);
+      netlist = rw (c.insert_net.ensures.nets, c.in_ok-reserve.ensures.nets) (net_sound _ n q c.self.invariant.netlist c.soundness.ensures known fits.1);
       table = rw (c.insert_net.ensures.added, c.insert_net.ensures.nets, c.in_ok-reserve.ensures.entries, c.in_ok-reserve.ensures.nets) known;
     }
