@@ -4,3 +4,4 @@ pub mod Written
 pub mod Writable
 pub mod Laws
 pub mod WrittenLength
+pub mod LengthLaws
