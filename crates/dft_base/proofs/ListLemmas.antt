@@ -1,5 +1,5 @@
 -- Lists: elements by their place, ranges, and what is past the end.
-use Rattle.std.proofs.Common.{◌≡◌, ℕ, zero, suc, List, ◌∷◌, ◌++◌, Some, slice_get, ◌+◌, length, ap, arith, ◌∙◌, ◌<◌, refl, map, drop, ◌≤◌, inl, inr, sym, subst, false, replicate, get_or, ◌-◌}
+use Rattle.std.proofs.Common.{◌≡◌, ℕ, zero, suc, List, [], ◌∷◌, ◌++◌, Some, slice_get, ◌+◌, length, ap, arith, ◌∙◌, ◌<◌, refl, map, drop, ◌≤◌, inl, inr, sym, subst, false, replicate, get_or, ◌-◌}
 use Rattle.std.proofs.lemmas.List.{drop_more}
 use Rattle.std.proofs.lemmas.Option.{slice_get_within, get_or_from_slice_get}
 use Rattle.std.specs.List.{AllByRecursion, range_with_len}
