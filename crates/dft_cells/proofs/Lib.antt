@@ -13,3 +13,4 @@ pub mod Outcomes
 pub mod RoleLemmas
 pub mod Halving
 pub mod ReadingLemmas
+pub mod TriLemmas

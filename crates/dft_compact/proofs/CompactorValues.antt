@@ -10,9 +10,10 @@ use Rattle.dft_cells.specs.Gates.{bit_of, tri_of}
 use Rattle.dft_netlist.specs.Drivers.{Net}
 use Rattle.dft_netlist.specs.Logic.{Logic, Cell, Gate}
 use Rattle.dft_netlist.specs.Settled.{Sources, bit_from, IsSettled, TriSources, value_from, IsTriSettled}
+use Rattle.dft_netlist.proofs.SettledLemmas.{value_at}
 use Rattle.dft_config.specs.Ring.{sum_of}
 use Rattle.dft_parts.specs.SumTrees.{sum_bits, tri_sum}
-use Rattle.dft_parts.proofs.Trees.{value_at, bit_at, sum_value, sum_bit}
+use Rattle.dft_parts.proofs.Trees.{bit_at, sum_value, sum_bit}
 use Rattle.dft_edt.specs.Hardware.{EdtNets, HasHold, HasOutput, group_of}
 use Rattle.dft_edt.specs.Parts.{shown_by}
 use Rattle.dft_edt.proofs.Parts.{group_below, next_bit, gate_bit, same_bits, hold_kept, hold_taken, gate_value, buffered}

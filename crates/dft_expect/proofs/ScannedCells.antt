@@ -35,7 +35,8 @@ use Rattle.dft_rules.specs.declared.judged.Judged.TheVariants.{Scanned}
 use Rattle.dft_rules.specs.declared.error.RuleError.{RuleError}
 use Rattle.dft_rules.specs.declared.error.RuleError.TheVariants.{LockupPresent}
 use Rattle.dft_rules.specs.Refusals.{first_failing, first_present, present, present_as, refusal, unknown_cell, unknown_port}
-use Rattle.dft_rules.proofs.CheckLemmas.{from_clocks, from_keep, from_present, from_resets}
+use Rattle.dft_rules.proofs.CheckLemmas.{from_clocks, from_keep, from_present, from_resets, none_first, none_present}
+use Rattle.dft_rules.proofs.Scannable.{scannable_flop}
 use Rattle.dft_stitch.specs.Chains.{plan_of}
 use Rattle.dft_stitch.specs.Plans.{cell_at}
 use Rattle.dft_stitch.specs.Laws.{IsScanned}
@@ -193,28 +194,6 @@ pins_none library i (Some x) well may = no_pin i 0 (shape_of library x.cell).rol
 
 -- ---- the flip-flop
 
-scannable_flop : (k : Kind) → may_be_scanned k ≡ true → is_flip_flop k ≡ true
-scannable_flop kind.Dff e = refl
-scannable_flop kind.Dffr e = refl
-scannable_flop kind.Dffs e = refl
-scannable_flop kind.Sdff e = refl
-scannable_flop kind.Sdffr e = refl
-scannable_flop kind.Sdffs e = refl
-scannable_flop kind.Lockup e = absurd cc
-scannable_flop kind.Opaque e = absurd cc
-scannable_flop kind.Buf e = absurd cc
-scannable_flop kind.Inv e = absurd cc
-scannable_flop kind.And e = absurd cc
-scannable_flop kind.Nand e = absurd cc
-scannable_flop kind.Or e = absurd cc
-scannable_flop kind.Nor e = absurd cc
-scannable_flop kind.Xor e = absurd cc
-scannable_flop kind.Xnor e = absurd cc
-scannable_flop kind.Mux2 e = absurd cc
-scannable_flop (kind.Table number) e = absurd cc
-scannable_flop kind.Tie0 e = absurd cc
-scannable_flop kind.Tie1 e = absurd cc
-
 -- a cell of the chains: a flip-flop on a clock's port, with its data input, no scan pins, and perhaps a reset or set
 pub record IsModelled (n : Netlist) (config : Config) (i : ℕ) : Type 0 where
   pub kind : may_be_scanned (kind_at n i) ≡ true
@@ -249,18 +228,6 @@ cell_modelled n config chain place cell can stands =
     }
 
 -- ---- no lock-up
-
-pub none_first : (check : Option RuleError) (checks : List (Option RuleError)) → first_failing (check ∷ checks) ≡ None → (check ≡ None) × (first_failing checks ≡ None)
-none_first None checks e = (refl, e)
-none_first (Some error) checks e = absurd (none-some error (sym e))
-
-none_present : (n : Netlist) (config : Config) → refusal n config ≡ None → first_present n.library n.instances ≡ None
-unfolding refusal
-none_present n config e =
-    let resets = (none_first (unknown_port n config.domains) (from_resets n config) e).1 in
-    let keep = (none_first (unknown_port n config.resets) (from_keep n config) resets).1 in
-    let there = (none_first (unknown_cell n config.keep) (from_present n config) keep).1 in
-    (none_first (first_present n.library n.instances) (from_clocks n config) there).0
 
 present_at : (library : List declared.Cell) (instances : List Instance) (i : ℕ) (x : Instance) → first_present library instances ≡ None → slice_get instances i ≡ Some x → present library x ≡ None
 present_at library [] i x e at = absurd (none-some x at)

@@ -16,6 +16,7 @@ use Rattle.dft_netlist.specs.Netlist.{Netlist}
 use Rattle.dft_netlist.specs.Connections.{input_net}
 use Rattle.dft_rules.specs.Rules.{is_net}
 use Rattle.dft_stitch.specs.Plans.{cell_at}
+use Rattle.dft_stitch.proofs.CellPlaces.{chain_within}
 use Rattle.dft_expect.specs.Loaded.{all_cells}
 use Rattle.dft_expect.specs.Unloads.{AreStarts}
 use Rattle.dft_expect.proofs.CellNumbers.{number_of}
@@ -27,13 +28,10 @@ live_by : (chains : List (List InstanceId)) (chain place : ℕ) (cell : Instance
 live_by chains chain place cell None at stands = absurd (none-some cell stands)
 live_by chains chain place cell (Some cells) at stands = slice_get_within chains chain cells at
 
-pub chain_live : (chains : List (List InstanceId)) (chain place : ℕ) (cell : InstanceId) → cell_at chains chain place ≡ Some cell → chain < length chains
-chain_live chains chain place cell stands = live_by chains chain place cell (slice_get chains chain) refl stands
-
 -- a cell stands at the number that the start of its chain and its place give
 pub numbered : (chains : List (List InstanceId)) (starts : List ℕ) (chain place number : ℕ) (cell : InstanceId) → AreStarts chains starts → cell_at chains chain place ≡ Some cell → number ≡ get_or starts chain 0 + place → slice_get (all_cells chains) number ≡ Some cell
 numbered chains starts chain place number cell are stands is =
-    let far : before chains chain + place ≡ number = omega (arith, is, are.each chain (chain_live chains chain place cell stands)) in
+    let far : before chains chain + place ≡ number = omega (arith, is, are.each chain (chain_within chains chain place cell stands)) in
     subst (λ (k : ℕ). slice_get (all_cells chains) k ≡ Some cell) far (number_of chains chain place cell stands)
 
 -- ---- ports by their names

@@ -428,3 +428,11 @@ whole n count s is b =
 
 pub order_orderable : (n : Netlist) (order : List ℕ) → IsOrder n order → (net : ℕ) → net < length n.nets → IsOrderable n net
 order_orderable n order o net lt = orderable_from n [] order (λ j never. absurd never) o.after net (o.whole net lt)
+
+pub has_right : (xs ys : List ℕ) (k : ℕ) → Has ys k → Has (xs ++ ys) k
+has_right [] ys k h = h
+has_right (x ∷ xs) ys k h = inr (has_right xs ys k h)
+
+pub has_either : (xs ys : List ℕ) (k : ℕ) → Has (xs ++ ys) k → Has xs k ⊎ Has ys k
+has_either [] ys k h = inr h
+has_either (x ∷ xs) ys k h = elim h [ inl e ↦ inl (inl e) | inr more ↦ elim (has_either xs ys k more) [ inl left ↦ inl (inr left) | inr right ↦ inr right ] ]

@@ -16,6 +16,7 @@ use Rattle.dft_config.specs.Cycles.{longest_segment}
 use Rattle.dft_config.specs.Range.{IsInRange}
 use Rattle.dft_config.specs.Ring.{Table}
 use Rattle.dft_stitch.specs.Chains.{plan_of}
+use Rattle.dft_stitch.proofs.LengthLemmas.{some_cycle}
 use Rattle.dft_config.specs.Segments.{sent_mask}
 use Rattle.dft_expect.specs.Captures.{capture_vector}
 use Rattle.dft_patterns.specs.declared.act.Act.{Act}
@@ -162,15 +163,6 @@ tame_set n config p ps =
     (tame_loads n config no_table [] (last_of None (p ∷ ps)) 0 (plan_of n config).cycles)
 
 -- ---- each clock pulses in the first shift vector
-
-some_cycle : (n : Netlist) (config : Config) → IsInRange config → 1 ≤ (plan_of n config).cycles
-some_cycle n config range =
-    let masks : ℕ = config.compactor.mask_inputs in
-    let some : 0 < masks = (let least = range.compactor.mask_inputs.0 in omega (arith, least)) in
-    let fits : 1 * masks ≤ config.chains = (let most = range.compactor.mask_inputs.2 in omega (arith, most)) in
-    let one : 1 ≤ config.chains / masks = le-div 1 config.chains masks some fits in
-    let longest : 1 ≤ longest_segment config = omega (arith, one) in
-    omega (arith, longest)
 
 shift_in : (n : Netlist) (config : Config) (table : Table) (masks : List Bool) (shown : Option PatternData) (size : ℕ) (a b : List (List Act)) (xs : List Vector) → IsReady n config → 1 ≤ size →
     AllDo (scanned Edt n config) ((map (shift_acts n config (plan_of n config) table masks shown) (range_with_len 0 size) ++ a) ++ b) xs → (net : ℕ) → (ports_in Edt n config).is_clock net ≡ true → list_any (λ x. x.pulsed net) xs ≡ true

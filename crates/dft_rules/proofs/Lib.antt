@@ -8,3 +8,4 @@ pub mod NamedPorts
 pub mod MarkLemmas
 pub mod PlaceLemmas
 pub mod WorkedRules
+pub mod Scannable

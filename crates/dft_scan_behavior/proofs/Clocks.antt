@@ -125,25 +125,3 @@ pub acts_pins : (style : Style) (n : Netlist) (config : Config) (reset preset : 
 acts_pins style n config (Some reset) preset ready e = acts_root style n config false reset (root_of n reset) ready refl e
 acts_pins style n config None (Some preset) ready e = acts_root style n config true preset (root_of n preset) ready refl e
 acts_pins style n config None None ready e = record { force = None; is = refl; acts = tt }
-
-pub scannable_flop : (k : Kind) → may_be_scanned k ≡ true → is_flip_flop k ≡ true
-scannable_flop kind.Dff e = refl
-scannable_flop kind.Dffr e = refl
-scannable_flop kind.Dffs e = refl
-scannable_flop kind.Sdff e = refl
-scannable_flop kind.Sdffr e = refl
-scannable_flop kind.Sdffs e = refl
-scannable_flop kind.Lockup e = absurd cc
-scannable_flop kind.Opaque e = absurd cc
-scannable_flop kind.Buf e = absurd cc
-scannable_flop kind.Inv e = absurd cc
-scannable_flop kind.And e = absurd cc
-scannable_flop kind.Nand e = absurd cc
-scannable_flop kind.Or e = absurd cc
-scannable_flop kind.Nor e = absurd cc
-scannable_flop kind.Xor e = absurd cc
-scannable_flop kind.Xnor e = absurd cc
-scannable_flop kind.Mux2 e = absurd cc
-scannable_flop (kind.Table number) e = absurd cc
-scannable_flop kind.Tie0 e = absurd cc
-scannable_flop kind.Tie1 e = absurd cc

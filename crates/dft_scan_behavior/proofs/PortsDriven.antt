@@ -17,6 +17,7 @@ use Rattle.dft_netlist.specs.Logic.{meaning_of, logic_of}
 use Rattle.dft_netlist.specs.Names.{find_net}
 use Rattle.dft_netlist.specs.Netlist.{Netlist}
 use Rattle.dft_netlist.specs.Sound.{bits_of}
+use Rattle.dft_netlist.proofs.LiveDriven.{AreBefore}
 use Rattle.dft_config.specs.declared.config.Config.{Config}
 use Rattle.dft_rules.specs.Rules.{is_net}
 use Rattle.dft_parts.specs.Standing.{IsClockNet}
@@ -26,7 +27,6 @@ use Rattle.dft_scan_frame.specs.Statements.{IsReady}
 use Rattle.dft_scan_frame.specs.ConfigPorts.{config_ports}
 use Rattle.dft_scan_frame.specs.Moves.{map_from}
 use Rattle.dft_scan_frame.proofs.Kept.{numbered_count}
-use Rattle.dft_scan_frame.proofs.Whole.{AreBefore}
 use Rattle.dft_scan_frame.proofs.Containing.{input_less}
 use Rattle.dft_scan_frame.proofs.Fine.{driver_fine}
 use Rattle.dft_scan_hardware.specs.declared.style.Style.TheVariants.{Plain, Edt}

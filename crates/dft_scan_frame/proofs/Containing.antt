@@ -26,6 +26,7 @@ use Rattle.dft_netlist.specs.Logic as logic
 use Rattle.dft_netlist.specs.Names.{find_net}
 use Rattle.dft_config.specs.declared.config.Config.{Config}
 use Rattle.dft_netlist.specs.Connections.{is_input, input_net}
+use Rattle.dft_netlist.proofs.SettledLemmas.{no_flop}
 use Rattle.dft_rules.specs.Rules.{is_net}
 use Rattle.dft_chains.specs.ScanOff.{moved_meaning, Places, KeepsFlop}
 use Rattle.dft_scan_frame.specs.ConfigPorts.{config_ports}
@@ -176,15 +177,11 @@ clock_no_lockup : (b : Bool) (cell domain : ℕ) (source : Source) → (if b the
 clock_no_lockup true cell domain source e = cc
 clock_no_lockup false cell domain source e = cc
 
-flop_no_lockup : (i : ℕ) (inverted : Bool) (o : Option Cell) (cell domain : ℕ) (source : Source) → flop_meaning i inverted o ≡ logic.Lockup cell domain source → ⊥
-flop_no_lockup i inverted None cell domain source e = cc
-flop_no_lockup i inverted (Some c) cell domain source e = cc
-
 pub lockup_by : (n : Netlist) (ports : Ports) (net cell domain : ℕ) (source : Source) (d : drivers.Driver) → FineBy n net d → meaning_of n ports net d ≡ logic.Lockup cell domain source → ⊥
 lockup_by n ports net cell domain source drivers.Input fine e = clock_no_lockup (ports.is_clock net) cell domain source e
 lockup_by n ports net cell domain source (drivers.Gate k inputs) fine e = cc
 lockup_by n ports net cell domain source (drivers.Joined from) fine e = cc
-lockup_by n ports net cell domain source (drivers.Flop i other) fine e = flop_no_lockup i other (flip_flop n ports i) cell domain source e
+lockup_by n ports net cell domain source (drivers.Flop i other) fine e = no_flop i other (flip_flop n ports i) cell domain source e
 lockup_by n ports net cell domain source (drivers.Lockup i) fine e = absurd fine
 lockup_by n ports net cell domain source drivers.Free fine e = cc
 

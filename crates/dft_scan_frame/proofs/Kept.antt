@@ -13,6 +13,7 @@ use Rattle.dft_netlist.specs.Drivers.{Source, Driver, Input, driver, nets_read, 
 use Rattle.dft_netlist.specs.Orders.{Has, reads_of, IsOrderFrom}
 use Rattle.dft_netlist.specs.Traces.{Root, Port, Traces, AtPort, AtConstant, AtTie, ThroughBuffer, ThroughJoin, root_of}
 use Rattle.dft_netlist.proofs.Walks.{port_found}
+use Rattle.dft_netlist.proofs.LiveDriven.{ports_fit}
 use Rattle.dft_config.specs.declared.config.Config.{Config}
 use Rattle.dft_scan_frame.specs.AddedPorts.{new_port, numbered, numbered_ports, plain_ports}
 use Rattle.dft_scan_frame.specs.Statements.{IsReady}
@@ -45,11 +46,6 @@ reads_before n before (x ∷ xs) order less net (inr h) = reads_before n (x ∷ 
 
 pub reads_inside : (n : Netlist) (config : Config) (net : ℕ) → IsReady n config → net < length n.nets → AreBelow (λ k. k) (length n.nets) (nets_read n (driver n net))
 reads_inside n config net ready less = reads_before n [] ready.order ready.ordered.after (λ r h. absurd h) net (ready.ordered.whole net less)
-
--- the ports' nets are among all nets
-pub ports_fit : (n : Netlist) → IsNetlist n → length (bits_of n.ports) ≤ length n.nets
-ports_fit n sound =
-    omega (arith, ap length sound.bits.same, length-append (bit_names_of n.ports) sound.bits.rest, length-bits n.ports sound.widths)
 
 -- ---- roots
 

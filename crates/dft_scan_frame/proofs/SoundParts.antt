@@ -58,13 +58,6 @@ moved_sound library gap count all x le sound = record {
 
 -- ---- scan cells
 
-pub live_none : (all : ℕ) → AreLive all []
-live_none all place s at = absurd (none-some s at)
-
-pub live_cons : (all : ℕ) (x : Signal) (xs : List Signal) → IsLive all x → AreLive all xs → AreLive all (x ∷ xs)
-live_cons all x xs here more zero s at = subst (IsLive all) (same_Some x s at) here
-live_cons all x xs here more (suc place) s at = more place s at
-
 pub live_drop : (all : ℕ) (pins : List Signal) → AreLive all pins → AreLive all (drop 1 pins)
 live_drop all [] live = live
 live_drop all (x ∷ pins) live = λ place s at. live (suc place) s at

@@ -20,6 +20,7 @@ use Rattle.dft_patterns.specs.Patterns.{Patterns, IsVector, IsWellFormed}
 use Rattle.dft_stil_text.specs.PatternText.{stil_text, patterns_in, tested, steady_or, StandsFor, At, Unsteadily, name_of_signal}
 use Rattle.dft_stil.specs.Refusals.{IsFirstRefusal, IsRefused, IsFirstUnsteady, IsUnsteadyAs, told_at}
 use Rattle.dft_patterns.specs.Steadiness.{HaveLength, is_not_low, first_not_low, first_unsteady, first_unsteady_from, found_or, pulses}
+use Rattle.dft_patterns.proofs.VectorLemmas.{vector_length}
 use Rattle.dft_stil_text.proofs.WellFormed.{fitting, well_formed}
 use Rattle.dft_stil_text.proofs.LimitLemmas.{stands_within}
 
@@ -28,12 +29,6 @@ use Rattle.dft_stil_text.proofs.LimitLemmas.{stands_within}
 pub ruleset places = (placed)
 
 -- ---- acts
-
-vector_length : (signals : List StilSignal) (acts : List Act) → IsVector signals acts → length acts ≡ length signals
-vector_length [] [] v = refl
-vector_length [] (a ∷ acts) v = absurd v
-vector_length (s ∷ signals) [] v = absurd v
-vector_length (s ∷ signals) (a ∷ acts) v = ap suc (vector_length signals acts v.1)
 
 -- each vector of a text has one act a signal
 pub have_length : (most : ℕ) (text : Text) (p : Patterns) → value_of (stil_text most (tokens text)) ≡ Ok p → HaveLength (length p.signals) p.vectors

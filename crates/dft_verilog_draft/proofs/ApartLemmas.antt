@@ -7,7 +7,7 @@ use Rattle.std.proofs.lemmas.Fmt.{decimal_injective}
 use Rattle.std.proofs.lemmas.Slice.Eq.{bytes_eq-Decides}
 use Rattle.std.proofs.lemmas.Bool.Decides.{same_from_decides, nat_tests}
 use Rattle.dft_base.specs.declared.place.Range.{Range}
-use Rattle.dft_base.proofs.OptionLemmas.{none_of}
+use Rattle.dft_base.proofs.OptionLemmas.{none_of, none_by as find_free}
 use Rattle.dft_base.proofs.TextLemmas.{differ}
 use Rattle.dft_netlist.specs.Names.{bit_name, bit_names, going_up, going_down}
 use Rattle.dft_netlist.proofs.PortNames.{bit_name_injective}
@@ -79,10 +79,6 @@ meaning_in-push (x ∷ xs) e w free ne = push_by (bytes_eq x.name w) x _ _ (λ h
 
 abbrev taken_in : List TakenName → List ℕ → Bool
 taken_in names w = is_some (meaning_in names w)
-
-find_free : (b : Bool) (w : List ℕ) (rest : Option (List ℕ)) → b ≡ false → rest ≡ None → cond b (Some w) rest ≡ None
-find_free true w rest h r = absurd (cc)
-find_free false w rest h r = r
 
 find_push : (names : List TakenName) (e : TakenName) (ws : List (List ℕ)) → find (λ w. taken_in names w) ws ≡ None → IsApart e.name ws → find (λ w. taken_in (names ++ e ∷ []) w) ws ≡ None
 find_push names e [] none apart = refl

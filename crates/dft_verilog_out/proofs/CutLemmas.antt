@@ -23,6 +23,7 @@ use Rattle.dft_base.proofs.TextLemmas.{prefix_len-run, begins_goes_on}
 use Rattle.dft_netlist_text.specs.declared.text.TokenKind.{TokenKind}
 use Rattle.dft_netlist_text.specs.declared.text.TokenKind.TheVariants as kind
 use Rattle.dft_netlist_text.specs.Lexemes.{Token, Lexeme, tokens, front, lexeme, token_of, blank_len, is_base_kind, word_kind, mark_kind, escaped, quote, is_space, is_printed, word_len}
+use Rattle.dft_netlist_text.proofs.WordKinds.{is_other, differs, word_kind-free}
 use Rattle.dft_verilog_out.specs.Written.{name_text}
 
 -- the tokens of a text, as a word that does not compute
@@ -195,36 +196,6 @@ no_blank c text begins = grind (arith, nat_tests)
 word_lexeme : (c : ℕ) (text : Text) → begins_word c ≡ true → lexeme false (c ∷ text) ≡ record { kind = word_kind (take (word_len (c ∷ text)) (c ∷ text)); len = word_len (c ∷ text); prefix = 0; at = 0 }
 unfolding lexeme
 word_lexeme c text begins = rw begins refl
-
--- a word that is not reserved is no keyword
-is_other : (t : Bool) (word known : List ℕ) → bytes_eq word known ≡ t → is_reserved known ≡ true → is_reserved word ≡ false → t ≡ false
-is_other true word known same reserved free = sym reserved ∙ ap is_reserved (sym ((bytes_eq-Decides word known).0 same)) ∙ free
-is_other false word known same reserved free = refl
-
-differs : (word known : List ℕ) → is_reserved known ≡ true → is_reserved word ≡ false → bytes_eq word known ≡ false
-differs word known reserved free = is_other (bytes_eq word known) word known refl reserved free
-
-word_kind-free : (word : List ℕ) → is_reserved word ≡ false → word_kind word ≡ kind.Name
-unfolding word_kind reserved_words
-word_kind-free word free =
-    rw (
-      differs word (codes "module") refl free,
-      differs word (codes "endmodule") refl free,
-      differs word (codes "input") refl free,
-      differs word (codes "output") refl free,
-      differs word (codes "inout") refl free,
-      differs word (codes "wire") refl free,
-      differs word (codes "assign") refl free,
-      differs word (codes "and") refl free,
-      differs word (codes "nand") refl free,
-      differs word (codes "or") refl free,
-      differs word (codes "nor") refl free,
-      differs word (codes "xor") refl free,
-      differs word (codes "xnor") refl free,
-      differs word (codes "buf") refl free,
-      differs word (codes "not") refl free,
-      free,
-    ) refl
 
 -- a lexeme of a whole word in front
 token-front : (l : Lexeme) (text bytes : Text) → take l.len text ≡ bytes → l.prefix ≡ 0 → l.at ≡ 0 → token_of l text ≡ token l.kind bytes (length text)

@@ -19,11 +19,12 @@ use Rattle.dft_netlist_text.specs.Lexemes.{tokens}
 use Rattle.dft_netlist_text.specs.Steps.{Outcome}
 use Rattle.dft_netlist_text.specs.Modules.{Draft, HeaderPort}
 use Rattle.dft_netlist_text.specs.NetlistText.{module_text, module_of, net_order, names_of_others, final_signal, Grown, unless_refused, and_grown, add_declared, add_ports, add_net, add_nets, add_instance, add_instances, add_joins, built, StandsFor}
+use Rattle.dft_netlist_text.proofs.ParserLemmas.{Yields}
 use Rattle.dft_verilog_out.specs.Written.{is_joined}
 use Rattle.dft_verilog_out.specs.Named.{joins_its_pins, is_joined_gate}
 use Rattle.dft_verilog_out.specs.Laws.{TextsAreJoined, LibraryIsKept}
 use Rattle.dft_verilog_out.proofs.JoinedLemmas.{gates_joined}
-use Rattle.dft_verilog_out.proofs.JoinedDrafts.{Yields, AreJoined, IsJoinedDraft, all_behind}
+use Rattle.dft_verilog_out.proofs.JoinedDrafts.{AreJoined, IsJoinedDraft, all_behind}
 use Rattle.dft_verilog_out.proofs.JoinedItems.{module_joined}
 
 -- the gates of a netlist are joined, and it is over these cells
