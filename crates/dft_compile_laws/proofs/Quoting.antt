@@ -1,5 +1,5 @@
 -- The names of the bits of a scanned netlist's ports can be quoted.
-use Rattle.std.proofs.Common.{ℕ, zero, suc, ◌+◌, ◌-◌, ◌<◌, ◌≤◌, ◌^◌, ◌≡◌, ◌==◌, ◌&&◌, ◌||◌, Bool, true, false, cond, not, List, [], ◌∷◌, ◌++◌, length, map, get_or, Option, None, Some, slice_get, refl, sym, subst, arith, ◌∙◌}
+use Rattle.std.proofs.Common.{ℕ, zero, suc, ◌+◌, ◌-◌, ◌<◌, ◌≤◌, ◌^◌, ◌≡◌, ◌==◌, ◌&&◌, Bool, true, false, cond, not, List, [], ◌∷◌, ◌++◌, length, map, get_or, Option, None, Some, slice_get, refl, sym, subst, arith, ◌∙◌}
 use Rattle.std.specs.Prelude.{IsTrue, ◌≢◌, nat_le, option_map}
 use Rattle.std.specs.Fmt.{decimal}
 use Rattle.std.specs.List.{All, find, list_all, range_with_len}

@@ -9,9 +9,8 @@ use Rattle.dft_netlist.specs.Connections.{input_net}
 use Rattle.dft_netlist.specs.Netlist.{Netlist}
 use Rattle.dft_config.specs.declared.config.Config.{Config}
 use Rattle.dft_expect.specs.Captures.{capture_clock}
-use Rattle.dft_rules.specs.declared.error.RuleError.{RuleError}
 use Rattle.dft_rules.specs.declared.error.RuleError.TheVariants.{UnknownName}
-use Rattle.dft_rules.specs.Refusals.{first_failing, refusal, unknown_port}
+use Rattle.dft_rules.specs.Refusals.{refusal, unknown_port}
 use Rattle.dft_rules.proofs.CheckLemmas.{from_resets, none_first}
 use Rattle.dft_compile_laws.specs.Standing.{Captures, PatternsStand}
 

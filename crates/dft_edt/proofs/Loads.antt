@@ -15,7 +15,7 @@ use Rattle.dft_config.specs.Ring.{Table, step, state_after, phase_of, phase_sum}
 use Rattle.dft_config.specs.Loads.{moment_of_place}
 use Rattle.dft_config.proofs.Linearity.{loads_sum}
 use Rattle.dft_stitch.specs.Plans.{cell_at}
-use Rattle.dft_stitch.proofs.CellPlaces.{chain_within_in, chain_within}
+use Rattle.dft_stitch.proofs.CellPlaces.{chain_within}
 use Rattle.dft_chains.specs.Hardware.{ChainNets}
 use Rattle.dft_runs.specs.Passes.{Pass, Passes, ArePasses, end_of, pass_of_round, passes_of_rounds, pass_of_turn, passes_of_turns, after_turns}
 use Rattle.dft_runs.proofs.Passing.{round_passes, rounds_pass, turn_passes, turns_pass}

@@ -1,10 +1,9 @@
 -- A cell of the chains is modelled: on the port of its domain, with its data input and no scan pins. And no instance is a lock-up.
-use Rattle.std.proofs.Common.{ℕ, zero, suc, ◌+◌, ◌≡◌, Bool, true, false, ◌||◌, List, [], ◌∷◌, cond, map, position, inl, inr, Option, None, Some, is_some, option_and_then, slice_get, refl, sym, subst, ap, ◌∙◌}
+use Rattle.std.proofs.Common.{ℕ, zero, suc, ◌+◌, ◌≡◌, Bool, true, false, List, [], ◌∷◌, cond, map, position, inl, inr, Option, None, Some, is_some, option_and_then, slice_get, refl, sym, subst, ap, ◌∙◌}
 use Rattle.std.specs.Prelude.{if◌then◌else◌, IsTrue}
-use Rattle.std.specs.List.{list_any, position_from, AllByRecursion}
+use Rattle.std.specs.List.{position_from, AllByRecursion}
 use Rattle.std.proofs.lemmas.Iterator.Adapters.{position_from-zero}
 use Rattle.std.proofs.lemmas.Option.{none-some, same_Some}
-use Rattle.std.proofs.lemmas.Bool.{or_right}
 use Rattle.std.proofs.lemmas.Map.Keys.{any_passes_from_place}
 use Rattle.dft_base.specs.Lexing.{Text}
 use Rattle.dft_base.proofs.OptionLemmas.{some_of}
@@ -13,7 +12,6 @@ use Rattle.dft_cells.specs.declared.kind.Kind.TheVariants as kind
 use Rattle.dft_cells.specs.declared.kind.Role.{Role}
 use Rattle.dft_cells.specs.declared.kind.Role.TheVariants as role
 use Rattle.dft_cells.specs.declared.cell.Cell as declared
-use Rattle.dft_cells.specs.FlipFlops.{is_flip_flop}
 use Rattle.dft_cells.specs.WellFormed.{HasRoles, FlipFlopRoles, IsWellFormed}
 use Rattle.dft_netlist.specs.declared.ids.InstanceId.{InstanceId}
 use Rattle.dft_netlist.specs.declared.instance.CellRef.{CellRef}
@@ -32,10 +30,9 @@ use Rattle.dft_netlist.specs.Connections.{input_net}
 use Rattle.dft_rules.specs.Rules.{is_net, place_of_root, place_of_source, domain_of, is_held, are_held, are_held_at, scan_cell_of, is_kept, may_be_scanned, judged_by}
 use Rattle.dft_expect.specs.Captures.{config_ports}
 use Rattle.dft_rules.specs.declared.judged.Judged.TheVariants.{Scanned}
-use Rattle.dft_rules.specs.declared.error.RuleError.{RuleError}
 use Rattle.dft_rules.specs.declared.error.RuleError.TheVariants.{LockupPresent}
-use Rattle.dft_rules.specs.Refusals.{first_failing, first_present, present, present_as, refusal, unknown_cell, unknown_port}
-use Rattle.dft_rules.proofs.CheckLemmas.{from_clocks, from_keep, from_present, from_resets, none_first, none_present}
+use Rattle.dft_rules.specs.Refusals.{first_present, present, present_as}
+use Rattle.dft_rules.proofs.CheckLemmas.{none_first, none_present}
 use Rattle.dft_rules.proofs.Scannable.{scannable_flop}
 use Rattle.dft_stitch.specs.Chains.{plan_of}
 use Rattle.dft_stitch.specs.Plans.{cell_at}

@@ -2,7 +2,7 @@
 use Rattle.std.proofs.Common.{ℕ, Bool, true, false, List, ◌≡◌, ◌≢◌, ◌+◌, ◌<◌, ◌≤◌, length, get_or, refl, sym, ap, arith, ◌∙◌, ◌⊎◌, inl, inr, Option, Some, None, replicate, length-set, get_or-set_same, get_or-set_other}
 use Rattle.std.specs.Prelude.{not, ◌&&◌, if◌then◌else◌, slice_set}
 use Rattle.std.proofs.lemmas.Bool.{cases_lt}
-use Rattle.std.proofs.lemmas.List.{get_or_past, get_or-replicate, length-replicate, get_or_read}
+use Rattle.std.proofs.lemmas.List.{length-replicate, get_or_read}
 use Rattle.dft_base.specs.Solutions.{xor, bit_at, sum_over, Solves, IsChosen}
 use Rattle.dft_base.proofs.SumLemmas.{and_false}
 use Rattle.dft_base.proofs.ListLemmas.{zero_bit}

@@ -1,5 +1,5 @@
 -- The sums of placement are what loads bring.
-use Rattle.std.proofs.Common.{ℕ, zero, suc, ◌<◌, ◌≡◌, ◌*◌, ◌∙◌, Bool, false, List, [], ◌∷◌, length, map, refl, sym, ap, ap₂, option_and_then, slice_get, Option, None, Some, unwrap_or, arith}
+use Rattle.std.proofs.Common.{ℕ, zero, suc, ◌<◌, ◌≡◌, ◌*◌, ◌∙◌, Bool, false, List, [], ◌∷◌, length, map, refl, sym, ap, ap₂, slice_get, Some, unwrap_or, arith}
 use Rattle.std.specs.Prelude.{◌&&◌, slice_index}
 use Rattle.std.proofs.lemmas.List.{length-map}
 use Rattle.std.proofs.lemmas.Nat.{div-add-mod'}

@@ -1,25 +1,21 @@
 -- A net past the end of a sound netlist has no driver.
-use Rattle.std.proofs.Common.{ℕ, zero, suc, List, [], ◌∷◌, ◌++◌, ◌≡◌, ◌<◌, ◌≤◌, ◌+◌, Some, inl, inr, length, refl, sym, ap, ◌∙◌, subst, slice_get, length-append, arith}
+use Rattle.std.proofs.Common.{ℕ, suc, List, [], ◌∷◌, ◌++◌, ◌≡◌, ◌<◌, ◌≤◌, ◌+◌, Some, inl, inr, length, refl, sym, ap, ◌∙◌, subst, slice_get, length-append, arith}
 use Rattle.std.specs.Prelude.{if◌then◌else◌}
 use Rattle.std.proofs.lemmas.Bool.Decides.{eqb_tells}
 use Rattle.dft_cells.specs.declared.cell.Cell.{Cell}
 use Rattle.dft_cells.specs.declared.kind.Kind.{Kind}
 use Rattle.dft_cells.specs.declared.kind.Role.{Role}
-use Rattle.dft_cells.specs.declared.kind.Role.TheVariants as role
 use Rattle.dft_netlist.specs.declared.ids.NetId.{NetId}
 use Rattle.dft_netlist.specs.declared.port.Port.{Port}
 use Rattle.dft_base.specs.declared.dir.Dir.{Dir}
 use Rattle.dft_base.specs.declared.dir.Dir.TheVariants as dir
 use Rattle.dft_netlist.specs.declared.instance.Signal.{Signal}
-use Rattle.dft_netlist.specs.declared.instance.Signal.TheVariants as signal
 use Rattle.dft_netlist.specs.declared.instance.Instance.{Instance}
-use Rattle.dft_netlist.specs.declared.instance.Join.{Join}
 use Rattle.dft_netlist.specs.Netlist.{Netlist}
-use Rattle.dft_netlist.specs.NetNumbers.{nets_from}
-use Rattle.dft_netlist.specs.Sound.{IsNetlist, IsLive, AreLive, bits_of, bit_names_of}
+use Rattle.dft_netlist.specs.Sound.{IsNetlist, AreLive, bits_of, bit_names_of}
 use Rattle.dft_netlist.proofs.LiveLemmas.{length-bits}
-use Rattle.dft_netlist.specs.Drivers.{Source, Driven, Driver, Free, connections_from, connections_of, shape_of, inputs_of, at_signal, at_role, driven_by_pins, driven_by, driven_by_instances, driven_by_bits, driven_by_ports, driven_by_joins, all_driven, driver_in, driver}
-use Rattle.dft_netlist.proofs.LiveDriven.{DriveBelow, AreBefore, below_append, before_front, before_back, nets_before, signal_below, role_below, joins_below}
+use Rattle.dft_netlist.specs.Drivers.{Source, Driven, Free, connections_from, connections_of, shape_of, inputs_of, at_role, driven_by_pins, driven_by, driven_by_instances, driven_by_bits, driven_by_ports, driven_by_joins, all_driven, driver_in, driver}
+use Rattle.dft_netlist.proofs.LiveDriven.{DriveBelow, AreBefore, below_append, before_front, before_back, nets_before, role_below, joins_below}
 
 low_free : (count net : ℕ) (ds : List Driven) → DriveBelow count ds → count ≤ net → driver_in ds net ≡ Free
 low_free count net [] low far = refl

@@ -1,7 +1,6 @@
 -- Why a builder's call is refused.
 use Rattle.std.proofs.Common.{◌≡◌, Err, ℕ, ◌+◌, ◌<◌, ◌≤◌, Bool, true, false, cond, length, Option, None, Some, refl, arith, pos}
 use Rattle.std.specs.Prelude.{nat_le}
-use Rattle.std.proofs.lemmas.Bool.Decides.{nat_tests}
 use Rattle.std.proofs.lemmas.Bool.{le-leb, lt-leb, leb-true}
 use Rattle.dft_netlist.specs.declared.error.Counted.TheVariants.{Nets, Instances}
 use Rattle.dft_netlist.specs.declared.error.NetlistError.{NetlistError}

@@ -1,5 +1,5 @@
 -- Concatenations by both rules.
-use Rattle.std.proofs.Common.{◌≡◌, ◌⊎◌, inl, inr, ℕ, zero, suc, ◌+◌, ◌-◌, ◌≤◌, Bool, true, false, cond, List, [], length, drop, Ok, Err, refl, sym, ap, subst, ◌∙◌, arith}
+use Rattle.std.proofs.Common.{◌≡◌, ◌⊎◌, inl, inr, ℕ, zero, suc, ◌+◌, ◌-◌, ◌≤◌, Bool, true, false, List, [], length, drop, Ok, Err, refl, sym, ap, subst, ◌∙◌, arith}
 use Rattle.dft_base.specs.Parser.{and_then}
 use Rattle.dft_netlist_text.specs.declared.text.Fault.{Fault}
 use Rattle.dft_netlist_text.specs.declared.text.Site.{Site}

@@ -18,7 +18,7 @@ use Rattle.dft_netlist.specs.declared.instance.CellRef.TheVariants.{Library}
 use Rattle.dft_netlist.specs.declared.instance.Instance.{Instance}
 use Rattle.dft_netlist.specs.Netlist.{Netlist}
 use Rattle.dft_netlist.specs.NetDrivers.{IsSingle}
-use Rattle.dft_netlist.specs.Drivers.{Shape, Net, Connection, Driven, Input, Flop, Lockup, connections_from, pins_at, kind_of, inputs_of, driven_by_pins, driver, shape_of, shape_of_cell}
+use Rattle.dft_netlist.specs.Drivers.{Shape, Net, Connection, Input, Flop, Lockup, connections_from, pins_at, kind_of, driver, shape_of, shape_of_cell}
 use Rattle.dft_netlist.specs.Traces.{Port, root_of, root_within, root_of_driver}
 use Rattle.dft_netlist.specs.Logic as logic
 use Rattle.dft_netlist.specs.Logic.{Ports, domain_of, domain_at, modelled, modelled_of, flip_flop, cell_or_none, flop_meaning, lockup_meaning, logic_of, meaning_of, or_loose, pin_of}

@@ -14,7 +14,7 @@ use Rattle.dft_netlist.specs.Logic.{Logic, Ports, Meaning, Gate, logic_of}
 use Rattle.dft_netlist.specs.Netlist.{Netlist}
 use Rattle.dft_netlist.specs.NetDrivers.{IsSingle}
 use Rattle.dft_netlist.specs.Orders.{numbers_of}
-use Rattle.dft_netlist.specs.Settled.{Sources, bit_given, IsSettled, TriSources, value_given, IsTriSettled}
+use Rattle.dft_netlist.specs.Settled.{Sources, bit_given, IsSettled}
 use Rattle.dft_netlist.proofs.SettledLemmas.{value_at}
 use Rattle.dft_parts.specs.Growth.{HasParts, instances_in}
 use Rattle.dft_parts.specs.Parts.{Part, ANet, AnInstance, APin}

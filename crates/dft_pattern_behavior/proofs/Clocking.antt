@@ -1,9 +1,8 @@
 -- The ports of listed vectors suit those of the configuration: its clocks and edt_clock pulse, and nothing else does.
-use Rattle.std.proofs.Common.{ℕ, zero, suc, ◌+◌, ◌*◌, ◌/◌, ◌<◌, ◌≤◌, ◌≡◌, ◌==◌, ◌||◌, Bool, true, false, not, List, [], ◌∷◌, ◌++◌, map, Option, None, Some, refl, sym, ap, subst, arith, ◌∙◌}
+use Rattle.std.proofs.Common.{ℕ, zero, suc, ◌+◌, ◌≤◌, ◌≡◌, ◌==◌, ◌||◌, Bool, true, false, not, List, [], ◌∷◌, ◌++◌, map, Option, None, Some, refl, sym, ap, subst, arith, ◌∙◌}
 use Rattle.std.specs.List.{list_any, range_with_len}
 use Rattle.std.proofs.lemmas.Bool.{eqb-true, or_left, or_right, false_from_ne_true}
 use Rattle.std.proofs.lemmas.List.{append_assoc}
-use Rattle.std.proofs.lemmas.Nat.{le-div}
 use Rattle.dft_base.specs.Solutions.{bit_at}
 use Rattle.dft_base.proofs.BitLemmas.{or_later, same_tests, true_false}
 use Rattle.dft_base.proofs.NumberLemmas.{eqb_turned}
@@ -12,8 +11,6 @@ use Rattle.dft_netlist.specs.NetNumbers.{nets_from}
 use Rattle.dft_netlist.specs.Netlist.{Netlist}
 use Rattle.dft_netlist.specs.Runs.{Vector}
 use Rattle.dft_config.specs.declared.config.Config.{Config}
-use Rattle.dft_config.specs.Cycles.{longest_segment}
-use Rattle.dft_config.specs.Range.{IsInRange}
 use Rattle.dft_config.specs.Ring.{Table}
 use Rattle.dft_stitch.specs.Chains.{plan_of}
 use Rattle.dft_stitch.proofs.LengthLemmas.{some_cycle}

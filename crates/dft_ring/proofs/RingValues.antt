@@ -1,10 +1,8 @@
 -- The ring in every settled assignment.
-use Rattle.std.proofs.Common.{Bool, true, false, [], ◌∷◌, ◌≡◌, refl, ap, map, ◌∙◌}
+use Rattle.std.proofs.Common.{Bool, [], ◌∷◌, ap, map, ◌∙◌}
 use Rattle.std.specs.Prelude.{◌&&◌}
-use Rattle.dft_base.specs.declared.tri.Tri.{Tri}
-use Rattle.dft_base.specs.declared.tri.Tri.TheVariants.{Zero, One, Unknown}
 use Rattle.dft_cells.specs.declared.kind.Kind.TheVariants.{Inv, And}
-use Rattle.dft_cells.specs.Gates.{bit_of, tri_of}
+use Rattle.dft_cells.specs.Gates.{tri_of}
 use Rattle.dft_netlist.specs.Drivers.{Net}
 use Rattle.dft_netlist.specs.Logic.{Cell, Gate}
 use Rattle.dft_netlist.specs.Settled.{bit_from, value_from}

@@ -1,17 +1,14 @@
 -- The clock port and the reset of a scanned flip-flop of a design, by its domain.
-use Rattle.std.proofs.Common.{ℕ, zero, suc, ◌+◌, ◌≡◌, Bool, true, false, ◌||◌, List, [], ◌∷◌, cond, position, Option, None, Some, is_some, option_and_then, slice_get, refl, sym, ap, arith, ◌∙◌}
+use Rattle.std.proofs.Common.{ℕ, zero, suc, ◌+◌, ◌≡◌, Bool, true, false, List, [], ◌∷◌, cond, position, Option, None, Some, option_and_then, slice_get, refl, sym, ap, arith, ◌∙◌}
 use Rattle.std.specs.Prelude.{if◌then◌else◌}
-use Rattle.std.specs.List.{list_any, position_from}
-use Rattle.std.proofs.lemmas.Bool.{eqb-true, or_right}
+use Rattle.std.specs.List.{position_from}
+use Rattle.std.proofs.lemmas.Bool.{eqb-true}
 use Rattle.std.proofs.lemmas.Iterator.Adapters.{position_from-zero}
 use Rattle.std.proofs.lemmas.Option.{none-some, same_Some}
 use Rattle.std.proofs.lemmas.Map.Keys.{any_passes_from_place}
 use Rattle.dft_base.specs.Lexing.{Text}
 use Rattle.dft_base.proofs.OptionLemmas.{some_of}
-use Rattle.dft_cells.specs.declared.kind.Kind.{Kind}
-use Rattle.dft_cells.specs.declared.kind.Kind.TheVariants as kind
 use Rattle.dft_cells.specs.declared.kind.Role.TheVariants as role
-use Rattle.dft_cells.specs.FlipFlops.{is_flip_flop}
 use Rattle.dft_netlist.specs.declared.ids.NetId.{NetId}
 use Rattle.dft_netlist.specs.Netlist.{Netlist}
 use Rattle.dft_netlist.specs.Connections.{input_net}
@@ -21,7 +18,7 @@ use Rattle.dft_netlist.specs.Logic.{Force, pin_of, domain_at, force_of, forcing}
 use Rattle.dft_netlist.specs.Logic as logic
 use Rattle.dft_config.specs.declared.config.Config.{Config}
 use Rattle.dft_scan_frame.specs.ConfigPorts.{config_ports}
-use Rattle.dft_rules.specs.Rules.{is_net, place_of_root, place_of_source, domain_of, is_held, are_held, may_be_scanned}
+use Rattle.dft_rules.specs.Rules.{is_net, place_of_root, place_of_source, domain_of, is_held, are_held}
 use Rattle.dft_chains.specs.ScanOff.{moved_force}
 use Rattle.dft_chains.specs.Hardware.{ActsByPort}
 use Rattle.dft_scan_frame.specs.Moves.{moved}

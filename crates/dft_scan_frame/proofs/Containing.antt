@@ -1,5 +1,5 @@
 -- A scanned netlist contains its design.
-use Rattle.std.proofs.Common.{ℕ, zero, suc, ◌≡◌, ◌==◌, ◌<◌, inl, inr, Bool, true, false, ◌||◌, option_and_then, List, ◌∷◌, length, map, Option, None, Some, is_some, slice_get, refl, sym, subst, ap, arith, ◌∙◌, []}
+use Rattle.std.proofs.Common.{ℕ, zero, suc, ◌≡◌, ◌<◌, inl, inr, Bool, true, false, option_and_then, List, ◌∷◌, length, map, Option, None, Some, is_some, slice_get, refl, sym, subst, ap, ◌∙◌, []}
 use Rattle.std.specs.Prelude.{if◌then◌else◌}
 use Rattle.std.specs.List.{list_any}
 use Rattle.std.proofs.lemmas.Bool.{or_from}
@@ -19,9 +19,9 @@ use Rattle.dft_netlist.specs.declared.instance.CellRef.TheVariants as cell_ref
 use Rattle.dft_netlist.specs.declared.instance.Instance.{Instance}
 use Rattle.dft_netlist.specs.Netlist.{Netlist}
 use Rattle.dft_netlist.specs.Sound.{bits_of}
-use Rattle.dft_netlist.specs.Drivers.{Source, Net, Connection, connections_from, shape_of, shape_of_cell, gate_roles, kind_of, pins_at, AreBelow, driver}
+use Rattle.dft_netlist.specs.Drivers.{Source, Connection, connections_from, shape_of, shape_of_cell, gate_roles, kind_of, pins_at, AreBelow, driver}
 use Rattle.dft_netlist.specs.Drivers as drivers
-use Rattle.dft_netlist.specs.Logic.{Ports, Meaning, Cell, Scan, same_role, pin_of, modelled_of, flip_flop, cell_or_none, flop_meaning, meaning_of, reads}
+use Rattle.dft_netlist.specs.Logic.{Ports, Meaning, Cell, same_role, pin_of, modelled_of, flip_flop, cell_or_none, flop_meaning, meaning_of, reads}
 use Rattle.dft_netlist.specs.Logic as logic
 use Rattle.dft_netlist.specs.Names.{find_net}
 use Rattle.dft_config.specs.declared.config.Config.{Config}

@@ -25,8 +25,7 @@ use Rattle.dft_netlist.specs.Drivers.{Source, Driver, Input, Gate, Joined, Flop,
 use Rattle.dft_netlist.proofs.LiveDriven.{AreBefore, before_front, before_back, nets_before}
 use Rattle.dft_config.specs.declared.config.Config.{Config}
 use Rattle.dft_rules.specs.declared.error.RuleError.{RuleError}
-use Rattle.dft_rules.specs.Refusals.{present_as, present, first_present, first_failing, refusal, unknown_port, unknown_cell, clock_as_data, quoted_port, too_few}
-use Rattle.dft_rules.specs.Rules.{judgements}
+use Rattle.dft_rules.specs.Refusals.{present_as, present, first_failing}
 use Rattle.dft_rules.proofs.CheckLemmas.{none_present}
 use Rattle.dft_scan_frame.specs.Statements.{IsReady}
 

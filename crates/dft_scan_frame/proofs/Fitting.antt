@@ -1,5 +1,5 @@
 -- What comes next in a whole netlist can be added to a front of it.
-use Rattle.std.proofs.Common.{ℕ, zero, suc, ◌+◌, ◌≡◌, ◌≤◌, false, List, ◌∷◌, ◌++◌, length, Option, None, Some, slice_get, refl, sym, subst, ap, arith, ◌∙◌, append_assoc, append-nil, length-append, []}
+use Rattle.std.proofs.Common.{ℕ, suc, ◌+◌, ◌≡◌, ◌≤◌, false, List, ◌∷◌, ◌++◌, length, Option, None, Some, slice_get, refl, sym, subst, ap, arith, ◌∙◌, append_assoc, append-nil, length-append, []}
 use Rattle.std.specs.List.{filter_map, cons_option}
 use Rattle.std.specs.Prelude.{if◌then◌else◌}
 use Rattle.std.proofs.lemmas.Bool.{le-leb}
@@ -13,7 +13,7 @@ use Rattle.dft_netlist.specs.Netlist.{Netlist}
 use Rattle.dft_netlist.specs.Names.{names_taken, is_taken, first_taken, bit_names, port_names, vector_name, vector_name_in, instance_name}
 use Rattle.dft_netlist.specs.NetNumbers.{nets_from}
 use Rattle.dft_netlist.specs.Building.{port_of, port_limit, room_limit, taken_or, own_names}
-use Rattle.dft_netlist.specs.Sound.{bits_of, bit_names_of, HasOnlyPorts, IsInstance, IsAJoin}
+use Rattle.dft_netlist.specs.Sound.{bit_names_of, HasOnlyPorts, IsInstance, IsAJoin}
 use Rattle.dft_netlist.proofs.RefusalLemmas.{net_open, instance_open}
 use Rattle.dft_netlist.proofs.PortLemmas.{nets_from-length, bits_behind}
 use Rattle.dft_scan_frame.specs.Growing.{APort, ANet, AnInstance, AJoin, with_thing, with_things, AllFit, port_things, net_things, instance_things, join_things}

@@ -1,5 +1,5 @@
 -- How many ports are added, and the nets of a design that are read and that are roots.
-use Rattle.std.proofs.Common.{ℕ, zero, suc, ◌+◌, ◌≡◌, ◌<◌, ◌≤◌, inl, inr, List, ◌∷◌, length, refl, sym, subst, ap, arith, ◌∙◌, []}
+use Rattle.std.proofs.Common.{ℕ, ◌+◌, ◌≡◌, ◌<◌, inl, inr, List, ◌∷◌, length, refl, sym, subst, ap, arith, ◌∙◌, []}
 use Rattle.std.specs.List.{AllByRecursion, range_with_len}
 use Rattle.std.proofs.lemmas.List.{length-append, length-map}
 use Rattle.std.proofs.lemmas.List.FromFn.{length-range_with_len}
@@ -7,8 +7,7 @@ use Rattle.dft_base.specs.Lexing.{Text}
 use Rattle.dft_base.specs.declared.dir.Dir.{Dir}
 use Rattle.dft_base.specs.declared.dir.Dir.TheVariants as dir
 use Rattle.dft_netlist.specs.Netlist.{Netlist}
-use Rattle.dft_netlist.specs.Sound.{bits_of, bit_names_of, IsNetlist}
-use Rattle.dft_netlist.proofs.LiveLemmas.{length-bits}
+use Rattle.dft_netlist.specs.Sound.{bits_of}
 use Rattle.dft_netlist.specs.Drivers.{Source, Driver, Input, driver, nets_read, AreBelow}
 use Rattle.dft_netlist.specs.Orders.{Has, reads_of, IsOrderFrom}
 use Rattle.dft_netlist.specs.Traces.{Root, Port, Traces, AtPort, AtConstant, AtTie, ThroughBuffer, ThroughJoin, root_of}

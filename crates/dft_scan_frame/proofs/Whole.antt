@@ -1,14 +1,11 @@
 -- Moved nets, and lists of nets and of instances in two parts.
-use Rattle.std.proofs.Common.{ℕ, zero, suc, ◌+◌, ◌≡◌, ◌==◌, ◌<◌, ◌≤◌, true, false, nat_lt, List, ◌∷◌, ◌++◌, length, refl, sym, ap, arith, ◌∙◌, []}
+use Rattle.std.proofs.Common.{ℕ, suc, ◌+◌, ◌≡◌, ◌==◌, ◌<◌, ◌≤◌, nat_lt, List, ◌∷◌, ◌++◌, length, refl, sym, ap, arith, ◌∙◌, []}
 use Rattle.std.specs.Prelude.{if◌then◌else◌}
 use Rattle.std.proofs.lemmas.List.{append_assoc}
 use Rattle.std.proofs.lemmas.Bool.{lt-ltb, le-ltb}
 use Rattle.dft_cells.specs.declared.cell.Cell.{Cell}
-use Rattle.dft_netlist.specs.declared.ids.NetId.{NetId}
 use Rattle.dft_netlist.specs.declared.instance.Instance.{Instance}
-use Rattle.dft_netlist.specs.NetNumbers.{nets_from}
 use Rattle.dft_netlist.specs.Drivers.{driven_by, driven_by_instances}
-use Rattle.dft_netlist.proofs.LiveDriven.{AreBefore}
 use Rattle.dft_scan_frame.specs.Moves.{Gap, moved, map_from}
 
 -- ---- moved nets

@@ -16,7 +16,7 @@ use Rattle.dft_netlist.specs.declared.port.Port.{Port}
 use Rattle.dft_netlist.specs.Building.{port_refusal, room_limit, taken_or}
 use Rattle.dft_netlist.specs.Names.{is_taken, names_taken, vector_name}
 use Rattle.dft_netlist.specs.Netlist.{Netlist}
-use Rattle.dft_netlist.specs.Sound.{HasOnlyPorts, bits_of}
+use Rattle.dft_netlist.specs.Sound.{HasOnlyPorts}
 use Rattle.dft_netlist.proofs.PortLemmas.{bits_behind}
 use Rattle.dft_scan_frame.specs.declared.error.InsertError.{InsertError}
 use Rattle.dft_scan_frame.specs.declared.error.InsertError.TheVariants.{NameClash, TooMany, Memory}

@@ -1,11 +1,10 @@
 -- What a text stands for, and why it is refused.
-use Rattle.std.proofs.Common.{◌≡◌, ℕ, suc, ◌<◌, ◌≤◌, ◌+◌, ◌-◌, ◌&&◌, Bool, true, false, cond, true≢false, List, [], ◌∷◌, length, take, min, get_or, Option, Some, None, is_some, Result, Ok, Err, IfOk, refl, sym, ap, ◌∙◌, arith}
-use Rattle.dft_base.specs.Lexing.{Text, place_of, place_after}
+use Rattle.std.proofs.Common.{◌≡◌, ℕ, suc, ◌<◌, ◌≤◌, ◌+◌, ◌&&◌, Bool, true, false, cond, true≢false, List, [], ◌∷◌, length, get_or, Option, Some, None, is_some, Result, Ok, Err, IfOk, refl, sym, ap, ◌∙◌, arith}
+use Rattle.dft_base.specs.Lexing.{Text, place_of}
 use Rattle.dft_base.specs.Parser.{value_of}
 use Rattle.dft_base.specs.declared.place.Place.{Place}
 use Rattle.dft_base.proofs.PlaceLemmas.{placed}
 use Rattle.dft_patterns.specs.declared.act.Act.{Act}
-use Rattle.dft_patterns.specs.declared.signal.StilSignal.{StilSignal}
 use Rattle.dft_stil_tokens.specs.declared.text.Cause.{Cause}
 use Rattle.dft_stil_tokens.specs.declared.text.Cause.TheVariants as cause
 use Rattle.dft_stil_tokens.specs.declared.text.Fault.{Fault}
@@ -16,7 +15,7 @@ use Rattle.dft_stil_text.specs.declared.limits.TheConstants.{MAX_VECTORS}
 use Rattle.dft_stil_tokens.specs.Reading.{ReadError}
 use Rattle.dft_stil_tokens.specs.Reading.{Reads}
 use Rattle.dft_stil_tokens.specs.Lexemes.{Token, tokens}
-use Rattle.dft_patterns.specs.Patterns.{Patterns, IsVector, IsWellFormed}
+use Rattle.dft_patterns.specs.Patterns.{Patterns, IsWellFormed}
 use Rattle.dft_stil_text.specs.PatternText.{stil_text, patterns_in, tested, steady_or, StandsFor, At, Unsteadily, name_of_signal}
 use Rattle.dft_stil.specs.Refusals.{IsFirstRefusal, IsRefused, IsFirstUnsteady, IsUnsteadyAs, told_at}
 use Rattle.dft_patterns.specs.Steadiness.{HaveLength, is_not_low, first_not_low, first_unsteady, first_unsteady_from, found_or, pulses}

@@ -16,7 +16,6 @@ use Rattle.dft_base.specs.declared.dir.Dir.TheVariants as dir
 use Rattle.dft_netlist.specs.declared.instance.Signal.{Signal}
 use Rattle.dft_netlist_text.specs.declared.text.TokenKind.{TokenKind}
 use Rattle.dft_netlist_text.specs.declared.text.TokenKind.TheVariants as kind
-use Rattle.dft_netlist_text.specs.declared.text.Cause.{Cause}
 use Rattle.dft_netlist_text.specs.declared.text.Fault.{Fault}
 use Rattle.dft_netlist_text.specs.declared.text.Meaning.{Meaning}
 use Rattle.dft_netlist_text.specs.declared.text.Meaning.TheVariants as meaning
@@ -25,7 +24,7 @@ use Rattle.dft_netlist_text.specs.declared.text.Site.{Site}
 use Rattle.dft_netlist_text.specs.declared.text.Site.TheVariants as site
 use Rattle.dft_netlist.specs.Building.{own_names}
 use Rattle.dft_netlist_text.specs.Lexemes.{Token, tokens}
-use Rattle.dft_netlist_text.specs.Steps.{Rule, Outcome, kind_of, left, next, sees, expect, eat, needed, checked}
+use Rattle.dft_netlist_text.specs.Steps.{Outcome, kind_of, left, next, sees, expect, eat, checked}
 use Rattle.dft_netlist_text.specs.Modules.{Draft, empty_draft, announce, declare_nets, declare_new_port, declare_port, declare_wire, declared_at, meaning_of, name_instance, room_for_instance}
 use Rattle.dft_netlist_text.specs.Expressions.{unless_too_large, number, rest_of_range, range, range_if_any, SelectedName, fitting, implied_net, bits_of_port, bits_of_meaning, bits_of_name, implies, is_whole, selected, named_operand, constant_operand, constant, selection, followed, drives, operand, OpenConcatenations, unread, is_read, opening, closing, turn, concatenations_from, expression}
 use Rattle.dft_netlist_text.specs.Items.{Declaring, Ports, Wires, declare, declared_name, declared_names_from, declared_names, declaration, port_item, wire_item, with_joins, right_side, net_assignment, net_assignments_from, net_assignments, assign_item, one_bit, gate_kind, terminal, input_terminals_from, input_terminals, gate_instance, terminals, named_gate, unnamed_gate, one_gate, gates_from, gates, gate_item, unjoined, connected_pin, Connected, pin_signal, pin_content, named_connection, named_connections_from, named_connections, connections, cell_instance, instance, instances_from, instances, instances_of, instances_named, cell_item, gate_or_cell, item_of, item, items_from, items}
@@ -35,14 +34,6 @@ use Rattle.dft_verilog.specs.Buildable.{IsBuildable, ModulesAreBuildable}
 use Rattle.dft_verilog.proofs.SaidLemmas.{IsSaid, IsShort, said_is_buildable, nets_said, announce_said, new_port_said, port_said, wire_said, name_said, room_said, instance_said}
 
 -- ---- outcomes
-
--- any value
-abbrev Any : {A : Type 0} → A → Type 0
-Any a = Unit {0}
-
-any : {A : Type 0} (o : Outcome A) → Yields Any o
-any (Ok p) = tt
-any (Err f) = tt
 
 -- ---- ranges
 

@@ -10,7 +10,7 @@ use Rattle.dft_netlist_text.specs.declared.text.TokenKind.{TokenKind}
 use Rattle.dft_netlist_text.specs.declared.text.TokenKind.TheVariants as kind
 use Rattle.dft_netlist_text.specs.Lexemes.{Token}
 use Rattle.dft_netlist_text.specs.Modules.{Draft}
-use Rattle.dft_netlist_text.specs.Steps.{Outcome, Rule, kind_of, left, sees, same_kind, expect, checked, refusal}
+use Rattle.dft_netlist_text.specs.Steps.{Outcome, Rule, kind_of, left, sees, same_kind, expect, checked}
 use Rattle.dft_netlist_text.specs.Expressions.{Operand, bits_of_name, may_follow, followed, selection, constant_operand, named_operand, operand, expression}
 use Rattle.dft_netlist_text.specs.Items.{One, one_bit}
 use Rattle.dft_netlist_text.proofs.ParserLemmas.{may, may_not}

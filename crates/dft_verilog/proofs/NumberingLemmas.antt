@@ -1,9 +1,8 @@
 -- Places of nets in an order, as they are noted one after another.
-use Rattle.std.proofs.Common.{◌≡◌, ◌≢◌, ℕ, zero, suc, ◌+◌, ◌-◌, ◌*◌, ◌<◌, ◌≤◌, Bool, true, false, not, cond, eqb, ltb, List, [], ◌∷◌, ◌++◌, length, map, set, get_or, replicate, Option, Some, None, option_map, is_some, refl, sym, ap, ap₂, ◌∙◌, subst, arith, add-zero, add-one}
+use Rattle.std.proofs.Common.{◌≡◌, ◌≢◌, ℕ, zero, suc, ◌+◌, ◌-◌, ◌*◌, ◌<◌, ◌≤◌, Bool, true, false, cond, eqb, List, [], ◌∷◌, ◌++◌, length, map, set, get_or, replicate, Option, Some, None, option_map, is_some, refl, sym, ap, ap₂, ◌∙◌, subst, arith, add-zero, add-one}
 use Rattle.std.specs.List.{All, position, position_or_len}
 use Rattle.std.proofs.lemmas.List.Elements.{All-head, All-tail}
-use Rattle.std.proofs.lemmas.Bool.{lt-ltb, eqb-true, eq-eqb, ne_eqb}
-use Rattle.std.proofs.lemmas.Bool.Decides.{nat_tests}
+use Rattle.std.proofs.lemmas.Bool.{eqb-true, eq-eqb, ne_eqb}
 use Rattle.std.proofs.lemmas.List.{length_push, length-set, append_assoc}
 use Rattle.dft_base.specs.Ranges.{going_up}
 use Rattle.dft_base.proofs.ListLemmas.{cons_by}
@@ -17,15 +16,6 @@ use Rattle.dft_verilog_draft.specs.Drafts.{IsDeclaredWithin}
 use Rattle.dft_verilog.specs.FinalNets.{number_among, numbers_among, with_number, with_numbers}
 
 -- ---- the first place
-
-cons_less : (t u : Bool) (n : ℕ) → t ≡ u → cond t (Some (1 + n)) None ≡ option_map suc (cond u (Some n) None)
-cons_less true true n e = let s : 1 + n ≡ suc n = omega arith in ap Some s
-cons_less false false n e = refl
-cons_less true false n e = absurd (cc)
-cons_less false true n e = absurd (cc)
-
-same_test : (n len : ℕ) → ltb (1 + n) (suc len) ≡ ltb n len
-same_test n len = grind (arith, nat_tests)
 
 pub position-cons : (p : ℕ → Bool) (x : ℕ) (xs : List ℕ) → position p (x ∷ xs) ≡ cond (p x) (Some 0) (option_map suc (position p xs))
 position-cons p x xs = cons_by (p x) (position_or_len p xs) (length xs)

@@ -1,11 +1,7 @@
 -- Names that differ, and names that are free.
 use Rattle.std.proofs.Common.{◌≡◌, ◌≢◌, ℕ, zero, suc, ◌+◌, ◌-◌, ◌<◌, ◌≤◌, ◌^◌, Bool, true, false, cond, leb, nat_le, List, [], ◌∷◌, ◌++◌, length, map, find, is_some, Option, Some, None, option_map, refl, ap, arith, length-append, decimal}
-use Rattle.std.specs.Bool.{Decides}
 use Rattle.std.specs.Str.{bytes_eq}
-use Rattle.std.proofs.lemmas.List.{append_cancel_left, append_cancel_right}
-use Rattle.std.proofs.lemmas.Fmt.{decimal_injective}
-use Rattle.std.proofs.lemmas.Slice.Eq.{bytes_eq-Decides}
-use Rattle.std.proofs.lemmas.Bool.Decides.{same_from_decides, nat_tests}
+use Rattle.std.proofs.lemmas.Bool.Decides.{nat_tests}
 use Rattle.dft_base.specs.declared.place.Range.{Range}
 use Rattle.dft_base.proofs.OptionLemmas.{none_of, none_by as find_free}
 use Rattle.dft_base.proofs.TextLemmas.{differ}
@@ -17,9 +13,6 @@ use Rattle.dft_verilog_draft.specs.Free.{AreFree, AreFreeBits, taken_bit, IsApar
 use Rattle.dft_verilog_draft.specs.TakenNames.{meaning_in}
 
 -- ---- the names of bits differ
-
-tail_same : (x : ℕ) (xs ys : List ℕ) → x ∷ xs ≡ x ∷ ys → xs ≡ ys
-tail_same x xs ys e = cc
 
 bits_differ : (word : List ℕ) (i j : ℕ) → i < 2 ^ 64 → j < 2 ^ 64 → i ≢ j → bytes_eq (bit_name word i) (bit_name word j) ≡ false
 bits_differ word i j hi hj ne = differ _ _ (λ e. ne (bit_name_injective word i j hi hj e))

@@ -16,7 +16,6 @@ use Rattle.dft_netlist.specs.declared.instance.Signal.TheVariants as signal
 use Rattle.dft_netlist.specs.declared.instance.Instance.{Instance}
 use Rattle.dft_netlist.specs.declared.instance.Join.{Join}
 use Rattle.dft_netlist.specs.declared.error.Counted.TheVariants as counted
-use Rattle.dft_netlist.specs.declared.error.NetlistError.{NetlistError}
 use Rattle.dft_netlist.specs.declared.error.NetlistError.TheVariants as error
 use Rattle.dft_netlist.specs.declared.limits.TheConstants.{MAX_PORTS, MAX_NETS, MAX_INSTANCES}
 use Rattle.dft_netlist.specs.Netlist.{Netlist}
@@ -172,9 +171,6 @@ port_taken m word range rest room ports nets =
 abbrev pub all_port_names : List Port → List Text
 all_port_names [] = []
 all_port_names (p ∷ ps) = port_names p.name p.range ++ all_port_names ps
-
-net_id : ℕ → NetId
-net_id k = record { 0 = k }
 
 -- numbers in two parts
 numbers_split : (xs ys : List NetId) (from n : ℕ) → xs ++ ys ≡ nets_from from n → (xs ≡ nets_from from (length xs)) × (ys ≡ nets_from (from + length xs) (n - length xs))

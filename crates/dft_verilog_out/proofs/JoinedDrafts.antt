@@ -5,7 +5,6 @@ use Rattle.std.proofs.lemmas.List.Folds.{list_all-append}
 use Rattle.std.proofs.lemmas.Bool.{and_from}
 use Rattle.dft_base.specs.declared.place.Range.{Range}
 use Rattle.dft_base.specs.Lexing.{Text}
-use Rattle.dft_base.specs.Parser as parser
 use Rattle.dft_base.specs.Parser.{Checked}
 use Rattle.dft_cells.specs.declared.cell.Cell.{Cell}
 use Rattle.dft_base.specs.declared.dir.Dir.{Dir}
@@ -14,7 +13,6 @@ use Rattle.dft_netlist.specs.declared.instance.Signal.{Signal}
 use Rattle.dft_netlist.specs.declared.instance.Signal.TheVariants as signal
 use Rattle.dft_netlist.specs.declared.instance.Instance.{Instance}
 use Rattle.dft_netlist_text.specs.declared.text.TokenKind.TheVariants as kind
-use Rattle.dft_netlist_text.specs.declared.text.Cause.{Cause}
 use Rattle.dft_netlist_text.specs.declared.text.Fault.{Fault}
 use Rattle.dft_netlist_text.specs.declared.text.Shape.{Shape}
 use Rattle.dft_netlist_text.specs.declared.text.Select.{Select}
@@ -25,7 +23,7 @@ use Rattle.dft_netlist_text.specs.declared.text.Declared.{Declared}
 use Rattle.dft_netlist_text.specs.declared.text.Site.{Site}
 use Rattle.dft_netlist.specs.declared.limits.TheConstants.{MAX_PORTS, MAX_NETS, MAX_INSTANCES}
 use Rattle.dft_netlist_text.specs.Lexemes.{Token}
-use Rattle.dft_netlist_text.specs.Steps.{Rule, Outcome, left, sees, expect, needed, checked}
+use Rattle.dft_netlist_text.specs.Steps.{left, sees, expect}
 use Rattle.dft_netlist_text.specs.Modules.{Draft, meaning_of, is_taken, net_count, names_of_bits, first_taken, free_bits, with_bits, declare_nets, declared_at, port_place, announce, declare_found, declare_port, declare_new_port, same_range, repeat_port, declare_wire_as, declare_wire, room_for_instance, name_instance}
 use Rattle.dft_netlist_text.specs.Expressions.{nets_of_shape, selected_in, selected, implies, is_whole, drives, SelectedName, Operand, fitting, implied_net, bits_of_port, bits_of_meaning, bits_of_name, selection, followed, constant, named_operand, constant_operand, operand, OpenConcatenations, unread, is_read, opening, closing, turn, concatenations_from, expression}
 use Rattle.dft_netlist_text.proofs.ParserLemmas.{Yields, Gives, behind, passed, either, of_check, of_need}
