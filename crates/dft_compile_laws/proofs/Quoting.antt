@@ -1,6 +1,6 @@
 -- The names of the bits of a scanned netlist's ports can be quoted.
 use Rattle.std.proofs.Common.{ℕ, zero, suc, ◌+◌, ◌-◌, ◌<◌, ◌≤◌, ◌^◌, ◌≡◌, ◌==◌, ◌&&◌, ◌||◌, Bool, true, false, cond, not, List, [], ◌∷◌, ◌++◌, length, map, get_or, Option, None, Some, slice_get, refl, sym, subst, arith, ◌∙◌}
-use Rattle.std.specs.Prelude.{IsTrue, ◌≢◌, option_map}
+use Rattle.std.specs.Prelude.{IsTrue, ◌≢◌, option_map, nat_le}
 use Rattle.std.specs.Fmt.{decimal}
 use Rattle.std.specs.List.{All, find, list_all, range_with_len}
 use Rattle.std.proofs.lemmas.Bool.{eq-eqb, or_parts, and_parts}
@@ -9,7 +9,6 @@ use Rattle.std.proofs.lemmas.Fmt.{digits_decimal}
 use Rattle.std.proofs.lemmas.List.Elements.{All-append, All-cons, All-from_get_or, All-nil}
 use Rattle.std.proofs.lemmas.Option.{none-some, same_Some}
 use Rattle.std.proofs.lemmas.Str.Parse.{numerals_by_value, tells_by_index}
-use Rattle.dft_expect.proofs.ScannedCells.{none_first}
 use Rattle.dft_merge.proofs.EquationLemmas.{Each}
 use Rattle.dft_base.specs.Lexing.{Text}
 use Rattle.dft_base.specs.Name.{IsName}
@@ -28,7 +27,7 @@ use Rattle.dft_config.specs.declared.config.Config.{Config}
 use Rattle.dft_config.specs.Range.{IsInRange, names_of}
 use Rattle.dft_rules.specs.declared.error.RuleError.TheVariants.{PortName}
 use Rattle.dft_rules.specs.Refusals.{clock_as_data, first_present, has_quote, quoted_port, refusal, unknown_cell, unknown_port}
-use Rattle.dft_rules.proofs.CheckLemmas.{from_clocks, from_count, from_keep, from_ports, from_present, from_resets}
+use Rattle.dft_rules.proofs.CheckLemmas.{from_clocks, from_count, from_keep, from_ports, from_present, from_resets, none_first}
 use Rattle.dft_rules.proofs.Passed.{first_passes}
 use Rattle.dft_scan_frame.specs.AddedPorts.{NewPort, new_port, numbered, ports_from}
 use Rattle.dft_scan_frame.specs.Statements.{IsReady}

@@ -8,16 +8,17 @@ use Rattle.dft_base.specs.Tri.{known, AboveTri}
 use Rattle.dft_cells.specs.Gates.{bit_of}
 use Rattle.dft_cells.specs.FlipFlops.{tri_chosen}
 use Rattle.dft_cells.proofs.Completions.{above_self, AllOver, shared_monotone, forced_monotone}
+use Rattle.dft_cells.proofs.TriLemmas.{chosen_zero}
 use Rattle.dft_netlist.specs.Drivers.{Source, Net, Tied, Loose, nets_of, AreBelow}
 use Rattle.dft_netlist.specs.Logic.{Logic, Meaning, Input, Clock, Gate, Joined, Flop, Lockup, Free, Force, Scan, reads, IsRanked}
 use Rattle.dft_netlist.specs.Settled.{TriSources, value_from, value_given, IsTriSettled, inverse}
 use Rattle.dft_netlist.specs.Runs.{Vector}
+use Rattle.dft_netlist.proofs.SettledLemmas.{value_at}
 use Rattle.dft_abstract.specs.Cycle.{Pulse, tri_forced_by, tri_taken_by, view_sources, AreViews, next_value, after_pulse, pulse_of, strobe_sources}
 use Rattle.dft_abstract.specs.Laws.{next_from}
 use Rattle.dft_abstract.proofs.OneDomain.{flop_old}
 use Rattle.dft_chains.specs.ScanOff.{moved_source, moved_force, moved_meaning, Places, IsWithin, IsForceWithin, IsEnabledBy, KeepsFlop}
 use Rattle.dft_edt.specs.Captures.{Covers, ContainingCovers, WideningCovers, StandsOver, StrobeLaw, IsCapture, CaptureLaw}
-use Rattle.dft_chains.proofs.Shiftings.{value_at}
 use Rattle.dft_chains.proofs.Staying.{net_stays}
 
 -- ---- settled values
@@ -115,21 +116,10 @@ view_clock true true h = tt
 view_clock true false h = absurd (let q : false ≡ true = h refl in cc)
 view_clock false is h = tt
 
-chosen_off : (s d : Tri) → tri_chosen Zero s d ≡ d
-chosen_off Zero Zero = refl
-chosen_off Zero One = refl
-chosen_off Zero Unknown = refl
-chosen_off One Zero = refl
-chosen_off One One = refl
-chosen_off One Unknown = refl
-chosen_off Unknown Zero = refl
-chosen_off Unknown One = refl
-chosen_off Unknown Unknown = refl
-
 -- a scan enable that is 0 leaves D
 taken_off : (port : ℕ) (scan : Option Scan) (at : Source → Tri) (t : Tri) → IsEnabledBy port scan → at (Net port) ≡ Zero → tri_taken_by scan at t ≡ t
 taken_off port None at t enabled off = refl
-taken_off port (Some scan) at t enabled off = ap (λ e. tri_chosen (at e) (at scan.input) t) enabled ∙ ap (λ e. tri_chosen e (at scan.input) t) off ∙ chosen_off (at scan.input) t
+taken_off port (Some scan) at t enabled off = ap (λ e. tri_chosen (at e) (at scan.input) t) enabled ∙ ap (λ e. tri_chosen e (at scan.input) t) off ∙ chosen_zero (at scan.input) t
 
 -- a flip-flop after a pulse of its domain
 cell_after : (l : Logic) (q : Pulse) (view : ℕ → ℕ → Tri) (c d : ℕ) → (l.cell c).domain ≡ d → q.pulsed d ≡ true →

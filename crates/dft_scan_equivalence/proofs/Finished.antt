@@ -1,13 +1,10 @@
 -- Scanned netlists can be finished.
-use Rattle.std.proofs.Common.{ℕ, zero, suc, ◌+◌, ◌≡◌, ◌<◌, ◌≤◌, ◌⊎◌, inl, inr, List, [], ◌∷◌, length, refl, arith}
-use Rattle.dft_netlist.specs.declared.instance.Signal.{Signal}
-use Rattle.dft_netlist.specs.declared.instance.Signal.TheVariants.{Net, Constant, Unconnected}
+use Rattle.std.proofs.Common.{ℕ, zero, suc, ◌+◌, ◌≡◌, ◌<◌, ◌≤◌, ◌⊎◌, inl, inr, List, length, refl, arith}
 use Rattle.dft_netlist.specs.Netlist.{Netlist}
 use Rattle.dft_netlist.specs.NetDrivers.{IsSingle, times_driven}
 use Rattle.dft_netlist.specs.Orders.{Has, AreOnce, IsOrderable}
 use Rattle.dft_netlist.proofs.RankLemmas as orders
 use Rattle.dft_config.specs.declared.config.Config.{Config}
-use Rattle.dft_parts.specs.Growth.{AreKept}
 use Rattle.dft_parts.specs.Parts.{Part}
 use Rattle.dft_parts.specs.Ranks.{AreRanked}
 use Rattle.dft_parts.specs.Single.{driven_by_parts, times_in}

@@ -19,6 +19,7 @@ use Rattle.dft_netlist.specs.Drivers.{Source, Input, Flop, Driven, at_signal, Sh
 use Rattle.dft_netlist.specs.Netlist.{Netlist}
 use Rattle.dft_netlist.specs.NetDrivers.{IsSingle, times_driven}
 use Rattle.dft_netlist.specs.Sound.{bits_of}
+use Rattle.dft_netlist.proofs.LiveDriven.{DriveBelow, AreBefore, before_front, before_back, nets_before, drives_below}
 use Rattle.dft_config.specs.declared.config.Config.{Config}
 use Rattle.dft_rules.specs.Refusals.{is_scanned}
 use Rattle.dft_rules.specs.Rules.{judged, scan_cell_in}
@@ -27,12 +28,11 @@ use Rattle.dft_scan_frame.specs.Moves.{Gap, moved, moved_signal, map_from, at_ne
 use Rattle.dft_scan_frame.specs.Statements.{IsReady}
 use Rattle.dft_scan_frame.proofs.AddedOnce.{ports_rise, outputs_none, ports_below}
 use Rattle.dft_scan_frame.proofs.Kept.{numbered_count}
-use Rattle.dft_scan_frame.proofs.LiveDriven.{DriveBelow, drives_below}
 use Rattle.dft_scan_frame.proofs.Mergings.{moved_driven, Merges, Nothing, append_merges, all_kept, all_added, NoneAt, times, old_times, moved_instance_drives, moved_joins_drive, ports_append}
 use Rattle.dft_scan_frame.proofs.ScanPairs.{ScanPair, Plain as PlainPair, PlainBoth, Resets, ResetsBoth, Sets, SetsBoth, three, four, five}
 use Rattle.dft_scan_frame.proofs.Single.{IsMovedOrNew, IsMoved, IsNone, moved_or_new}
 use Rattle.dft_scan_frame.proofs.Times.{Rises, rises_once, past_none, added_times_live}
-use Rattle.dft_scan_frame.proofs.Whole.{moved_front, moved_back, moved_apart, AreBefore, nets_before, before_front, before_back}
+use Rattle.dft_scan_frame.proofs.Whole.{moved_front, moved_back, moved_apart}
 use Rattle.dft_scan_hardware.specs.declared.style.Style.{Style}
 use Rattle.dft_scan_hardware.specs.declared.style.Style.TheVariants.{Plain, Edt}
 use Rattle.dft_scan_hardware.specs.Frame.{framed_pins, as_scan_cell, framed_instance, framed_at, frame}

@@ -29,6 +29,7 @@ use Rattle.dft_netlist.specs.Netlist.{Netlist}
 use Rattle.dft_netlist.specs.Names.{IsNameIfAny, instance_name}
 use Rattle.dft_netlist.specs.Drivers.{shape_of, shape_of_cell, gate_roles}
 use Rattle.dft_netlist.specs.Sound.{is_primitive, IsLive, AreLive, IsInstance, IsConnected, IsAJoin, is_output}
+use Rattle.dft_netlist.proofs.PinLemmas.{length-gate_roles}
 use Rattle.dft_netlist_text.specs.Modules.{HeaderPort, TakenName, Draft}
 use Rattle.dft_netlist_text.specs.Expressions.{drives}
 use Rattle.dft_netlist_text.specs.Items.{gate_instance, cell_instance}
@@ -79,10 +80,6 @@ split (s ∷ t ∷ pins) zero e = absurd (omega arith)
 split (s ∷ t ∷ pins) (suc count) e =
     let r = split (t ∷ pins) count (omega arith) in
     record { ins = s ∷ r.ins; output = r.output; is = ap (λ ss. s ∷ ss) r.is; size = ap suc r.size }
-
-length-gate_roles : (inputs : ℕ) → length (gate_roles inputs) ≡ suc inputs
-length-gate_roles zero = refl
-length-gate_roles (suc inputs) = ap suc (length-gate_roles inputs)
 
 last_role : (inputs : ℕ) → slice_get (gate_roles inputs) inputs ≡ Some role.Output
 last_role zero = refl
