@@ -1,5 +1,5 @@
 -- The names of the bits of a scanned netlist's ports can be quoted.
-use Rattle.std.proofs.Common.{ℕ, zero, suc, ◌+◌, ◌-◌, ◌<◌, ◌≤◌, ◌^◌, ◌≡◌, ◌==◌, ◌&&◌, ◌||◌, Bool, true, false, cond, not, List, [], ◌∷◌, ◌++◌, length, map, get_or, Option, None, Some, slice_get, refl, sym, subst, arith, ◌∙◌}
+use Rattle.std.proofs.Common.{ℕ, zero, suc, ◌+◌, ◌-◌, ◌<◌, ◌^◌, ◌≡◌, ◌==◌, ◌&&◌, ◌||◌, Bool, true, false, cond, not, List, [], ◌∷◌, ◌++◌, length, map, get_or, Option, None, Some, slice_get, refl, sym, subst, arith}
 use Rattle.std.specs.Prelude.{IsTrue, ◌≢◌, option_map}
 use Rattle.std.specs.Fmt.{decimal}
 use Rattle.std.specs.List.{All, find, list_all, range_with_len}
@@ -33,7 +33,6 @@ use Rattle.dft_scan_hardware.specs.declared.style.Style.TheVariants.{Edt}
 use Rattle.dft_scan_hardware.specs.Ports.{added_ports, gap_in}
 use Rattle.dft_scan_hardware.specs.Statements.{scanned}
 use Rattle.dft_scan_hardware.proofs.Keeping.{adds_in_order}
-use Rattle.dft_stil_out.specs.Writable.{IsQuotable}
 use Rattle.dft_compile_laws.specs.Formed.{HasQuotableBits}
 use Rattle.dft_compile_laws.proofs.Full.{Each}
 

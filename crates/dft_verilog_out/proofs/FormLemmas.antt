@@ -1,5 +1,5 @@
 -- The written form, one part more.
-use Rattle.std.proofs.Common.{◌≡◌, ℕ, zero, suc, ◌+◌, ◌-◌, ◌<◌, ◌≤◌, true, false, List, [], ◌∷◌, ◌++◌, length, map, flat_map, drop, take, get_or, codes, Option, Some, None, refl, sym, ap, ◌∙◌, arith, append_assoc, add-one, slice_get, length-append, subst, inl, inr}
+use Rattle.std.proofs.Common.{◌≡◌, ℕ, zero, suc, ◌+◌, ◌-◌, ◌<◌, ◌≤◌, true, false, List, [], ◌∷◌, ◌++◌, length, map, flat_map, drop, take, get_or, codes, Option, Some, None, refl, sym, ap, ◌∙◌, arith, append_assoc, add-one, slice_get, length-append, subst}
 use Rattle.std.proofs.lemmas.List.{length-map, length-drop, take_all}
 use Rattle.dft_base.specs.declared.place.Range.{Range}
 use Rattle.dft_base.specs.Lexing.{Text}
@@ -7,8 +7,6 @@ use Rattle.dft_cells.specs.declared.cell.Pin.{Pin}
 use Rattle.dft_netlist.specs.declared.port.Port.{Port}
 use Rattle.dft_netlist.specs.declared.instance.Signal.{Signal}
 use Rattle.dft_netlist.specs.Names.{bit_name, bit_names, indices_of}
-use Rattle.std.proofs.lemmas.Bool.{cases_lt}
-use Rattle.std.proofs.lemmas.Option.{slice_get_within, get_or_from_slice_get}
 use Rattle.std.proofs.Math.Seq.{drop-append_seam}
 use Rattle.dft_cells.specs.declared.cell.Cell.{Cell}
 use Rattle.dft_netlist.specs.declared.instance.Instance.{Instance}
@@ -148,36 +146,7 @@ pub line_more : {X : Type 0} (f : X → Text) (xs : List X) (k : ℕ) (x : X) (o
 line_more f xs k x old new whole at n e =
     rw (add-one, n) (append_assoc old (f x) (flat_map f (drop (suc k) xs)) ∙ ap (λ t. old ++ t) (sym (flat_next f xs k x at)) ∙ e)
 
--- ---- what holds of each of those that were passed
-
--- what holds of those before a place, and there, holds of those before the next
-pub each_more : {X : Type 0} (P : ℕ → X → Type 0) (xs : List X) (index : ℕ) (here : X) → ((k : ℕ) (x : X) → k < index → slice_get xs k ≡ Some x → P k x) → slice_get xs index ≡ Some here → P index here
-    → (k : ℕ) (x : X) → k < index + 1 → slice_get xs k ≡ Some x → P k x
-each_more P xs index here before at is k x lt same = elim (cases_lt k index) [
-  | inl less ↦ before k x less same
-  | inr least ↦ (
-      let e : index ≡ k = omega arith in
-      let s : Some here ≡ Some x = sym at ∙ ap (slice_get xs) e ∙ same in
-      let t : here ≡ x = cc in
-      subst (λ j. P j x) e (subst (P index) t is))
-]
-
--- behind all, it holds of each
-pub each_all : {X : Type 0} (P : ℕ → X → Type 0) (xs : List X) (index : ℕ) → length xs ≤ index → ((k : ℕ) (x : X) → k < index → slice_get xs k ≡ Some x → P k x) → (k : ℕ) (x : X) → slice_get xs k ≡ Some x → P k x
-each_all P xs index all before k x at = before k x (let lt = slice_get_within xs k x at in omega arith) at
-
--- a pin that is not joined needs no name
-pub not_joined : (pins : List Pin) (signals : List Signal) (place : ℕ) (d : Signal) → is_joined (get_or signals place d) ≡ false → place < length pins
-    → ((k : ℕ) (pin : Pin) → k < place → slice_get pins k ≡ Some pin → (to : Signal) → slice_get signals k ≡ Some to → is_joined to ≡ true → IsName pin.name)
-    → (k : ℕ) (pin : Pin) → k < place + 1 → slice_get pins k ≡ Some pin → (to : Signal) → slice_get signals k ≡ Some to → is_joined to ≡ true → IsName pin.name
-not_joined pins signals place d other lt before k pin less at to here joined = elim (cases_lt k place) [
-  | inl low ↦ before k pin low at to here joined
-  | inr least ↦ (
-      let e : k ≡ place = omega arith in
-      let is : get_or signals place d ≡ to = get_or_from_slice_get signals place to d (ap (slice_get signals) (sym e) ∙ here) in
-      let t : true ≡ false = sym joined ∙ ap is_joined (sym is) ∙ other in
-      absurd (let f : ⊥ = cc in f))
-]
+-- ---- names
 
 get_drop : (xs : List Text) (from k : ℕ) → slice_get (drop from xs) k ≡ slice_get xs (from + k)
 get_drop xs zero k = let e : k ≡ 0 + k = omega arith in ap (slice_get xs) e
