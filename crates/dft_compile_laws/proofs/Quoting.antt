@@ -35,7 +35,6 @@ use Rattle.dft_scan_hardware.specs.declared.style.Style.TheVariants.{Edt}
 use Rattle.dft_scan_hardware.specs.Ports.{added_ports, gap_in}
 use Rattle.dft_scan_hardware.specs.Statements.{scanned}
 use Rattle.dft_scan_hardware.proofs.Keeping.{adds_in_order}
-use Rattle.dft_stil_out.specs.Writable.{IsQuotable}
 use Rattle.dft_compile_laws.specs.Formed.{HasQuotableBits}
 
 each_both : {X : Type 0} (P : X → Type 0) (xs ys : List X) → Each P xs → Each P ys → Each P (xs ++ ys)
