@@ -9,7 +9,7 @@ use Rattle.std.proofs.lemmas.Fmt.{digits_decimal}
 use Rattle.std.proofs.lemmas.List.Elements.{All-append, All-cons, All-from_get_or, All-nil}
 use Rattle.std.proofs.lemmas.Option.{none-some, same_Some, slice_get_within}
 use Rattle.std.proofs.lemmas.Str.Parse.{numerals_by_value, tells_by_index}
-use Rattle.dft_merge.proofs.EquationLemmas.{Each}
+use Rattle.dft_merge.proofs.EquationLemmas.{Each, each_join}
 use Rattle.dft_base.specs.Lexing.{Text}
 use Rattle.dft_base.specs.Name.{IsName}
 use Rattle.dft_base.specs.Words.{begins_word, continues_word, is_later_reserved, is_reserved, is_simple_name, is_word}
@@ -36,10 +36,6 @@ use Rattle.dft_scan_hardware.specs.Statements.{scanned}
 use Rattle.dft_scan_hardware.proofs.Keeping.{adds_in_order}
 use Rattle.dft_stil_out.specs.Writable.{IsQuotable}
 use Rattle.dft_compile_laws.specs.Formed.{ArePortsNamed, HasQuotableBits, IsShortRange}
-
-each_both : {X : Type 0} (P : X → Type 0) (xs ys : List X) → Each P xs → Each P ys → Each P (xs ++ ys)
-each_both P [] ys h k = k
-each_both P (x ∷ xs) ys h k = (h.0, each_both P xs ys h.1 k)
 
 each_at : {X : Type 0} (P : X → Type 0) (xs : List X) (k : ℕ) (x : X) → Each P xs → slice_get xs k ≡ Some x → P x
 each_at P [] k x h at = absurd (none-some x at)
@@ -91,7 +87,7 @@ IsQuotablePort port = IsQuotable port.name × IsShortRange port.range
 
 ports_quoted : (ports : List design_port.Port) → Each IsQuotablePort ports → Each IsQuotable (bit_names_of ports)
 ports_quoted [] h = tt
-ports_quoted (port ∷ ports) h = each_both IsQuotable (bit_names port.name port.range) (bit_names_of ports) (bits_quoted port.name port.range h.0.1 h.0.0) (ports_quoted ports h.1)
+ports_quoted (port ∷ ports) h = each_join IsQuotable (bit_names port.name port.range) (bit_names_of ports) (bits_quoted port.name port.range h.0.1 h.0.0) (ports_quoted ports h.1)
 
 -- the design's
 
@@ -180,8 +176,8 @@ added_quoted config range =
         named 1 (omega arith),
         (
           named 2 (omega arith),
-          each_both IsQuotableNew _ _ (numbered_quoted Input config.names.channel 0 config.ring.channels (omega (arith, channels)) (named 3 (omega arith)))
-              (each_both IsQuotableNew _ _ (numbered_quoted Input config.names.mask 0 config.compactor.mask_inputs (omega (arith, masks)) (named 4 (omega arith)))
+          each_join IsQuotableNew _ _ (numbered_quoted Input config.names.channel 0 config.ring.channels (omega (arith, channels)) (named 3 (omega arith)))
+              (each_join IsQuotableNew _ _ (numbered_quoted Input config.names.mask 0 config.compactor.mask_inputs (omega (arith, masks)) (named 4 (omega arith)))
               (numbered_quoted Output config.names.output 0 (length config.compactor.groups) (omega (arith, outputs)) (named 5 (omega arith)))),
         ),
       ),
@@ -192,7 +188,7 @@ pub quotable_bits : (n : Netlist) (config : Config) → IsReady n config → Are
 quotable_bits n config ready named =
     let before : ℕ = (gap_in Edt n config).before in
     let own : Each IsQuotablePort n.ports = own_ports n.ports named (found_none n.ports (no_quoted_port n config ready.passed)) in
-    let all : Each IsQuotablePort (n.ports ++ ports_from before (added_ports Edt config)) = each_both IsQuotablePort n.ports (ports_from before (added_ports Edt config)) own (new_ports before (added_ports Edt config) (added_quoted config ready.range)) in
+    let all : Each IsQuotablePort (n.ports ++ ports_from before (added_ports Edt config)) = each_join IsQuotablePort n.ports (ports_from before (added_ports Edt config)) own (new_ports before (added_ports Edt config) (added_quoted config ready.range)) in
     let each : Each IsQuotable (bit_names_of (scanned Edt n config).ports) =
     ports_quoted (scanned Edt n config).ports (subst (λ (ps : List design_port.Port). Each IsQuotablePort ps) (sym (adds_in_order Edt n config).ports) all) in
     λ k name at. each_at IsQuotable (bit_names_of (scanned Edt n config).ports) k name each at
