@@ -62,7 +62,7 @@ phase_values l ports config chains w hw s values has settled chain cell stands =
     sum_value l s values h.sum (map hw.stage_net (phase_of config.ring chain)) settled h.sums ∙ ap tri_sum (at_nets values hw.stage_net (phase_of config.ring chain))
 
 -- the next hold bit, from edt_update, the mask bit and the hold bit
-next_hold : Tri → Tri → Tri → Tri
+unfoldable pub next_hold : Tri → Tri → Tri → Tri
 next_hold u m h = tri_of Or (tri_of And (u ∷ m ∷ []) ∷ tri_of And (tri_of Inv (u ∷ []) ∷ h ∷ []) ∷ [])
 
 pub hold_kept : (m h : Tri) → next_hold Zero m h ≡ h

@@ -7,11 +7,12 @@ use Rattle.dft_base.specs.Solutions.{bit_at}
 use Rattle.dft_base.specs.declared.dir.Dir.{Dir}
 use Rattle.dft_base.specs.declared.dir.Dir.TheVariants as dir
 use Rattle.dft_base.specs.declared.tri.Tri.{Tri}
-use Rattle.dft_base.specs.declared.tri.Tri.TheVariants.{Zero, One, Unknown}
+use Rattle.dft_base.specs.declared.tri.Tri.TheVariants.{One}
 use Rattle.dft_base.specs.Tri.{known, AboveTri}
 use Rattle.dft_cells.specs.declared.kind.Role.TheVariants as role
 use Rattle.dft_cells.specs.FlipFlops.{is_flip_flop, tri_forced}
 use Rattle.dft_cells.proofs.TriLemmas.{forced_one}
+use Rattle.dft_cells.proofs.Completions.{above_self}
 use Rattle.dft_netlist.specs.declared.ids.NetId.{NetId}
 use Rattle.dft_netlist.specs.declared.ids.InstanceId.{InstanceId}
 use Rattle.dft_netlist.specs.declared.port.Port as design_port
@@ -147,11 +148,6 @@ flop_reset n p i false f e = absurd (none-some f e)
 not_forced : (force : Option Force) (x : ℕ → Tri) (t : Tri) → ((f : Force) → force ≡ Some f → x f.port ≡ One) → tri_forced_by force x t ≡ t
 not_forced None x t one = refl
 not_forced (Some f) x t one = ap (λ (p : Tri). tri_forced f.value p t) (one f refl) ∙ forced_one f.value t
-
-above_self : (t : Tri) → AboveTri t t
-above_self Zero = tt
-above_self One = tt
-above_self Unknown = tt
 
 -- ---- clocks
 

@@ -51,7 +51,7 @@ bit_names-apart word r left right = (own_apart word _, all_by (nat_le r.left r.r
 
 -- ---- names that are free
 
-find_by : (b : Bool) (w : List ℕ) (rest : Option (List ℕ)) → cond b (Some w) rest ≡ None → (b ≡ false) × (rest ≡ None)
+pub find_by : (b : Bool) (w : List ℕ) (rest : Option (List ℕ)) → cond b (Some w) rest ≡ None → (b ≡ false) × (rest ≡ None)
 find_by true w rest h = absurd (cc)
 find_by false w rest h = (refl, h)
 
