@@ -1,6 +1,6 @@
 -- The names of the bits of a scanned netlist's ports can be quoted.
-use Rattle.std.proofs.Common.{ℕ, zero, suc, ◌+◌, ◌-◌, ◌<◌, ◌≤◌, ◌^◌, ◌≡◌, ◌==◌, ◌&&◌, ◌||◌, Bool, true, false, cond, not, List, [], ◌∷◌, ◌++◌, length, map, get_or, Option, None, Some, slice_get, refl, sym, subst, arith, ◌∙◌}
-use Rattle.std.specs.Prelude.{IsTrue, ◌≢◌, option_map, nat_le}
+use Rattle.std.proofs.Common.{ℕ, zero, suc, ◌+◌, ◌<◌, ◌^◌, ◌≡◌, ◌==◌, ◌&&◌, Bool, true, false, cond, not, List, [], ◌∷◌, ◌++◌, length, map, get_or, Option, None, Some, slice_get, refl, sym, subst, arith}
+use Rattle.std.specs.Prelude.{IsTrue, ◌≢◌, option_map}
 use Rattle.std.specs.Fmt.{decimal}
 use Rattle.std.specs.List.{All, find, list_all, range_with_len}
 use Rattle.std.proofs.lemmas.Bool.{eq-eqb, or_parts, and_parts}
@@ -17,18 +17,17 @@ use Rattle.dft_base.specs.declared.dir.Dir.{Dir}
 use Rattle.dft_base.specs.declared.dir.Dir.TheVariants.{Input, Output}
 use Rattle.dft_base.specs.declared.place.Range.{Range}
 use Rattle.dft_base.proofs.TextLemmas.{begins_goes_on}
+use Rattle.dft_base.proofs.ListLemmas.{get_left}
 use Rattle.dft_netlist.specs.declared.port.Port as design_port
 use Rattle.dft_netlist.specs.Names.{IsShortRange, bit_name, bit_names, indices_of}
 use Rattle.dft_netlist.specs.Netlist.{Netlist}
 use Rattle.dft_netlist.specs.Sound.{IsNetlist, bit_names_of}
 use Rattle.dft_netlist.proofs.BitLemmas.{index_short}
-use Rattle.dft_netlist.proofs.Places.{get_left}
 use Rattle.dft_config.specs.declared.config.Config.{Config}
 use Rattle.dft_config.specs.Range.{IsInRange, names_of}
 use Rattle.dft_rules.specs.declared.error.RuleError.TheVariants.{PortName}
 use Rattle.dft_rules.specs.Refusals.{clock_as_data, first_present, has_quote, quoted_port, refusal, unknown_cell, unknown_port}
 use Rattle.dft_rules.proofs.CheckLemmas.{from_clocks, from_count, from_keep, from_ports, from_present, from_resets, none_first}
-use Rattle.dft_rules.proofs.Passed.{first_passes}
 use Rattle.dft_scan_frame.specs.AddedPorts.{NewPort, new_port, numbered, ports_from}
 use Rattle.dft_scan_frame.specs.Statements.{IsReady}
 use Rattle.dft_scan_hardware.specs.declared.style.Style.TheVariants.{Edt}
