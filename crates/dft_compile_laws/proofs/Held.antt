@@ -25,10 +25,13 @@ use Rattle.dft_compile_laws.proofs.Listing.{rows_play}
 use Rattle.dft_compile_laws.proofs.Standing.{patterns_stand}
 use Rattle.dft_compile_laws.proofs.WrittenPassing.{written_pass}
 use Rattle.dft_load_laws.specs.Loading.{rows_of}
+use Rattle.dft_load_laws.proofs.Running.{loads_run}
+use Rattle.dft_cube_reports.proofs.LineLemmas.{all_reports}
 use Rattle.dft_compile_laws.specs.Bringing.{AreCompiled, merged_of}
-use Rattle.dft_compile_laws.proofs.Brought.{cubes_captured}
+use Rattle.dft_compile_laws.proofs.Brought.{cubes_captured, cubes_loaded}
 use Rattle.dft_compile_laws.proofs.Replayed.{cubes_replayed}
-use Rattle.dft_compile_laws.proofs.Reported.{entries_exact}
+use Rattle.dft_compile_laws.proofs.Reported.{encoded_placed, entries_exact, unscanned_skipped}
+use Rattle.dft_compile_laws.proofs.Running.{sets_run}
 use Rattle.dft_encode.specs.Compiled.{ArePatterns, Placing}
 use Rattle.dft_compile_laws.specs.Holding.{CompilationsHold, IsBrought, played}
 
@@ -54,20 +57,27 @@ module _ (n : Netlist) (config : Config) (cubes : List Cube) (placing : Placing 
   brought netlist c p cube at word =
       let it = cubes_captured n config placing.rows config.window cubes placing.placed list (played n config list) ready sound compiled (rows_play n config list netlist) c p cube at word in
       record {
-        loaded = λ start turns run. cubes_replayed n config placing.rows config.window cubes placing.placed list start turns ready netlist compiled run c p cube at word;
+        loaded = λ ports suits start turns run. cubes_loaded n config ports placing.rows config.window cubes placing.placed list (played n config list) start turns ready suits compiled (rows_play n config list netlist) run c p cube at word;
+        replayed = λ start turns run. cubes_replayed n config placing.rows config.window cubes placing.placed list start turns ready netlist compiled run c p cube at word;
         capture = it.0;
         at = it.1;
         captures = it.2;
       }
 
 pub compilations_hold : CompilationsHold
-compilations_hold n config order cubes placing list ready netlist ordered named sound are =
+compilations_hold n config order cubes placing list ready netlist ordered sound are =
     let stands = stand n config cubes placing list ready sound are in
     record {
+      entries = all_reports n config placing.rows.columns (rows_of n config placing.rows) config.window [] placing.merged cubes placing.placed sound placing.is;
+      encoded = λ c p cube entry at there encoded. brought n config cubes placing list ready sound are netlist c p cube at (encoded_placed n config placing.rows config.window cubes placing.placed placing.merged sound placing.is c p cube entry at there encoded);
+      skipped = λ c cube cell at first. unscanned_skipped n config placing.rows config.window cubes placing.placed placing.merged sound placing.is c cube cell at first;
       loads = brought n config cubes placing list ready sound are netlist;
       tells = λ ports suits c cube at scanned. entries_exact n config ports placing.rows config.window cubes placing.placed placing.merged ready suits placing.equations sound placing.is c cube at scanned;
+      carried = λ ports suits table. loads_run n config ports table ready suits;
+      runs = λ ports start low. sets_run (scanned Edt n config) order (set_of n config list) ports start netlist ordered low;
       passes = written_pass n config list order ready netlist ordered stands;
+      formed = λ few. written_formed n config list ready netlist named stands (gives n config cubes placing list ready sound are) few;
       reads = (λ few.
-          let formed = written_formed n config list ready netlist named stands (gives n config cubes placing list ready sound are) few in
+          let formed = written_formed n config list ready netlist stands (gives n config cubes placing list ready sound are) few in
           stands_written (set_of n config list) formed.well formed.writable);
     }

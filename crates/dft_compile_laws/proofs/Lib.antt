@@ -23,3 +23,4 @@ pub mod Turns
 pub mod Brought
 pub mod Replayed
 pub mod Reported
+pub mod Running

@@ -1,12 +1,18 @@
 -- What is reported of cubes is so.
-use Rattle.std.proofs.Common.{ℕ, ◌≡◌, [], map, Some, slice_get, refl, sym, ap, subst, ◌∙◌}
-use Rattle.std.proofs.lemmas.Option.{same_Some}
+use Rattle.std.proofs.Common.{ℕ, ◌≡◌, List, [], map, Some, slice_get, refl, sym, ap, subst, ◌∙◌}
+use Rattle.std.proofs.lemmas.Option.{none-some, same_Some}
+use Rattle.dft_netlist.specs.declared.ids.InstanceId.{InstanceId}
 use Rattle.dft_netlist.specs.Netlist.{Netlist}
+use Rattle.dft_config.specs.declared.config.Config.{Config}
 use Rattle.dft_config.specs.declared.config.RingConfig.{RingConfig}
+use Rattle.dft_equations.specs.LoadRows.{LoadRows}
 use Rattle.dft_cubes.specs.declared.cube.Cube.{Cube}
+use Rattle.dft_cubes.specs.declared.cube.Merged.{Merged}
+use Rattle.dft_cubes.specs.Laws.{AreCubes}
 use Rattle.dft_merge.specs.declared.placed.Placed.{Placed}
 use Rattle.dft_merge.specs.declared.placed.Placed.TheVariants as word
 use Rattle.dft_merge.specs.Laws.{IsUnsolvable}
+use Rattle.dft_merge.specs.Placement.{Places, PlacesAll, first_unscanned}
 use Rattle.dft_merge.specs.Rows.{CellRows}
 use Rattle.dft_replay.specs.Laws.{vectors_of as vectors_in}
 use Rattle.dft_replay.specs.Rows.{rows_of as replayed_rows}
@@ -23,7 +29,7 @@ use Rattle.dft_compile_laws.proofs.Listing.{rows_play}
 use Rattle.dft_load_laws.specs.Loading.{IsInto, rows_of}
 use Rattle.dft_load_laws.proofs.Bringing.{placed_in_runs, unsolvable_in_runs}
 use Rattle.dft_compile_laws.specs.Bringing.{merged_of}
-use Rattle.dft_compile_laws.specs.Reporting.{EncodedAreBrought, EntriesAreExact, IsEncoded, IsNever}
+use Rattle.dft_compile_laws.specs.Reporting.{EncodedAreBrought, EntriesAreExact, IsEncoded, IsNever, UnscannedAreSkipped, entries_of}
 use Rattle.dft_compile_laws.proofs.Brought.{cubes_captured}
 use Rattle.dft_compile_laws.proofs.Replayed.{cubes_replayed}
 
@@ -45,19 +51,41 @@ says_never n ring row cube (word.Skipped cell) line says never = absurd (let sam
 never_says : (n : Netlist) (ring : RingConfig) (row : CellRows) (cube : Cube) (told : Placed) (line : CubeLine) → Says n ring row cube told line → IsUnsolvable told → IsNever line
 never_says n ring row cube told line says unsolvable = let its = subst (λ (x : Placed). Says n ring row cube x line) unsolvable.1 says in (its.0, its.1)
 
+-- a cube that names a cell which is not scanned is skipped for it
+told_skipped : (columns : ℕ) (row : CellRows) (window : ℕ) (old new : List Merged) (cube : Cube) (told : Placed) (cell : InstanceId) → first_unscanned row cube.cells ≡ Some cell → Places columns row window old cube told new → told ≡ word.Skipped cell
+told_skipped columns row window old new cube (word.Skipped own) cell first places = ap word.Skipped (same_Some own cell (sym places.0 ∙ first))
+told_skipped columns row window old new cube (word.Into p) cell first places = absurd (none-some cell (sym places.0 ∙ first))
+told_skipped columns row window old new cube (word.Unsolvable ids) cell first places = absurd (none-some cell (sym places.0 ∙ first))
+
 -- ---- entries
+
+-- a cube that is reported encoded was placed in the pattern that is told
+pub encoded_placed : (n : Netlist) (config : Config) (rows : LoadRows) (window : ℕ) (cubes : List Cube) (placed : List Placed) (patterns : List Merged) → AreCubes n config cubes →
+    PlacesAll rows.columns (rows_of n config rows) window [] cubes placed patterns → (c p : ℕ) (cube : Cube) (entry : CubeReport) → slice_get cubes c ≡ Some cube → slice_get (entries_of n config rows cubes placed) c ≡ Some entry →
+    entry.outcome ≡ Encoded p → slice_get placed c ≡ Some (word.Into p)
+encoded_placed n config rows window cubes placed patterns sound places c p cube entry at there encoded =
+    let row = rows_of n config rows in
+    let step = step_at rows.columns row window [] patterns cubes placed places c cube at in
+    let own = (all_reports n config rows.columns row window [] patterns cubes placed sound places).each c cube step.told at step.at in
+    let same : own.0 ≡ entry = same_Some own.0 entry (sym own.1 ∙ there) in
+    let into : step.told ≡ word.Into p = says_into n config.ring row cube step.told own.0.outcome p own.2.says (ap (λ (e : CubeReport). e.outcome) same ∙ encoded) in
+    step.at ∙ ap Some into
 
 pub encoded_brought : EncodedAreBrought
 encoded_brought n config rows window cubes placed patterns start turns ready netlist sound are run c p cube entry at there encoded =
-    let row = rows_of n config rows in
-    let step = step_at rows.columns row window [] (map merged_of patterns) cubes placed are.places c cube at in
-    let own = (all_reports n config rows.columns row window [] (map merged_of patterns) cubes placed sound are.places).each c cube step.told at step.at in
-    let same : own.0 ≡ entry = same_Some own.0 entry (sym own.1 ∙ there) in
-    let into : step.told ≡ word.Into p = says_into n config.ring row cube step.told own.0.outcome p own.2.says (ap (λ (e : CubeReport). e.outcome) same ∙ encoded) in
-    let told : slice_get placed c ≡ Some (word.Into p) = step.at ∙ ap Some into in (
+    let told = encoded_placed n config rows window cubes placed (map merged_of patterns) sound are.places c p cube entry at there encoded in (
       cubes_replayed n config rows window cubes placed patterns start turns ready netlist are run c p cube at told,
       cubes_captured n config rows window cubes placed patterns (vectors_in (replayed_rows (scanned Edt n config) (set_of n config patterns))) ready sound are (rows_play n config patterns netlist) c p cube at told,
     )
+
+pub unscanned_skipped : UnscannedAreSkipped
+unscanned_skipped n config rows window cubes placed patterns sound places c cube cell at first =
+    let row = rows_of n config rows in
+    let step = step_at rows.columns row window [] patterns cubes placed places c cube at in
+    let own = (all_reports n config rows.columns row window [] patterns cubes placed sound places).each c cube step.told at step.at in
+    let told : step.told ≡ word.Skipped cell = told_skipped rows.columns row window step.old step.new cube step.told cell first step.places in
+    let says : Says n config.ring row cube (word.Skipped cell) own.0.outcome = subst (λ (x : Placed). Says n config.ring row cube x own.0.outcome) told own.2.says in
+    (own.0, own.1, record { name = own.2.name; cell_name = says.0; named = says.2; outcome = says.1 })
 
 pub entries_exact : EntriesAreExact
 entries_exact n config ports rows window cubes placed patterns ready suits are sound places c cube at scanned =

@@ -1,8 +1,6 @@
 -- What holds of a listed vector, by induction over the inputs that it sets.
 use Rattle.std.proofs.Common.{ℕ, zero, suc, ◌+◌, Bool, true, false, List, [], ◌∷◌, ◌++◌, length, map, Option, sym, subst}
 use Rattle.std.proofs.lemmas.List.{append_assoc}
-use Rattle.dft_base.specs.declared.tri.Tri.{Tri}
-use Rattle.dft_base.specs.declared.tri.Tri.TheVariants.{Zero, One, Unknown}
 use Rattle.dft_base.specs.Solutions.{bit_at}
 use Rattle.dft_netlist.specs.declared.ids.NetId.{NetId}
 use Rattle.dft_netlist.specs.NetNumbers.{nets_from}
@@ -19,23 +17,14 @@ use Rattle.dft_scan_hardware.specs.declared.style.Style.TheVariants.{Edt}
 use Rattle.dft_scan_hardware.specs.Ports.{gap_in}
 use Rattle.dft_scan_hardware.specs.Statements.{scanned}
 use Rattle.dft_vectors.specs.AddedPorts.{added_inputs, no_bits, set_all, shifting}
-use Rattle.dft_vectors.specs.OwnPorts.{compare, driven, ignored, inputs_by, outputs_ignored, pulsing_vector, quiet_vector, set_to}
+use Rattle.dft_vectors.specs.OwnPorts.{compare, ignored, inputs_by, outputs_ignored, pulsing_vector, quiet_vector, set_to}
 use Rattle.dft_vectors.specs.PatternData.{PatternData}
 use Rattle.dft_vectors.specs.Signals.{input_bits}
 use Rattle.dft_vectors.specs.VectorList.{capture_acts, set_up_acts, shift_acts, unloaded}
 use Rattle.dft_pattern_behavior.proofs.Places.{added_nets, all_inputs}
 use Rattle.dft_pattern_behavior.proofs.Playing.{act_by, bits_from}
 use Rattle.dft_compile_laws.proofs.Rows.{Sets}
-
-bit_sets : (b : Bool) → Sets (set_to b)
-bit_sets true = tt
-bit_sets false = tt
-
-driven_sets : (b : Bool) (t : Tri) → Sets (driven b t)
-driven_sets true t = tt
-driven_sets false Zero = tt
-driven_sets false One = tt
-driven_sets false Unknown = tt
+use Rattle.dft_compile_laws.proofs.Fine.{bit_sets, driven_sets}
 
 -- the outputs of a set-up vector, of a shift vector and of a capture vector
 abbrev pub no_outs : Netlist → Config → List Act

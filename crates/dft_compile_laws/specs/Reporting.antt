@@ -1,5 +1,7 @@
 -- What a report says of cubes is so in every run (Rajski and others, 2004).
 use Rattle.std.specs.Prelude.{ℕ, ◌≡◌, ◌↔◌, List, [], None, Some, slice_get}
+use Rattle.dft_base.specs.Lexing.{Text}
+use Rattle.dft_netlist.specs.declared.ids.InstanceId.{InstanceId}
 use Rattle.dft_netlist.specs.Logic.{Ports}
 use Rattle.dft_netlist.specs.Netlist.{Netlist}
 use Rattle.dft_netlist.specs.Runs.{Now, Vector, Turn}
@@ -15,10 +17,10 @@ use Rattle.dft_merge.specs.Placement.{PlacesAll, first_unscanned}
 use Rattle.dft_replay.specs.Laws.{IsRunOf, vectors_of as vectors_in}
 use Rattle.dft_replay.specs.Rows.{ports_of, rows_of as replayed_rows}
 use Rattle.dft_report.specs.declared.report.CubeLine.{CubeLine}
-use Rattle.dft_report.specs.declared.report.CubeLine.TheVariants.{Encoded, Unsolvable}
+use Rattle.dft_report.specs.declared.report.CubeLine.TheVariants.{Encoded, Unsolvable, Skipped}
 use Rattle.dft_report.specs.declared.report.CubeReport.{CubeReport}
 use Rattle.dft_report.specs.declared.report.SumLine.{SumLine}
-use Rattle.dft_cube_reports.specs.Outcomes.{cube_reports}
+use Rattle.dft_cube_reports.specs.Outcomes.{cell_name as name_of_cell, cube_reports}
 use Rattle.dft_scan_frame.specs.Statements.{IsReady}
 use Rattle.dft_scan_hardware.specs.declared.style.Style.TheVariants.{Edt}
 use Rattle.dft_scan_hardware.specs.Statements.{scanned}
@@ -51,6 +53,20 @@ IsEncoded line = (p : ℕ) × (line ≡ Encoded p)
 
 abbrev pub IsNever : CubeLine → Type 0
 IsNever line = (sums : List SumLine) × (line ≡ Unsolvable sums)
+
+-- the entry says that the cube is skipped for this cell, by its name
+pub record IsSkippedFor (n : Netlist) (cube : Cube) (cell : InstanceId) (entry : CubeReport) : Type 0 where
+  pub name : entry.name ≡ cube.name
+  pub cell_name : Text
+  pub named : name_of_cell n cell ≡ Some cell_name
+  pub outcome : entry.outcome ≡ Skipped cell_name
+
+-- Of the cubes that are placed one that names a cell which is not scanned has an entry that it is skipped, for the first such cell.
+abbrev pub UnscannedAreSkipped : Type 0
+UnscannedAreSkipped =
+    (n : Netlist) (config : Config) (rows : LoadRows) (window : ℕ) (cubes : List Cube) (placed : List Placed) (patterns : List Merged) → AreCubes n config cubes →
+    PlacesAll rows.columns (rows_of n config rows) window [] cubes placed patterns → (c : ℕ) (cube : Cube) (cell : InstanceId) → slice_get cubes c ≡ Some cube → first_unscanned (rows_of n config rows) cube.cells ≡ Some cell →
+    (entry : CubeReport) × (slice_get (entries_of n config rows cubes placed) c ≡ Some entry) × IsSkippedFor n cube cell entry
 
 -- the entry of a cube is exact: encoded where some table of channel bits loads it in every run, and unsolvable where none does in any
 pub record IsExact (n : Netlist) (config : Config) (ports : Ports) (cube : Cube) (entry : CubeReport) : Type 0 where

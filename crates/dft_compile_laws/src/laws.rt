@@ -8,11 +8,12 @@ ghost use Rattle.dft_compile_laws.specs.Standing.{PatternsStand};
 ghost use Rattle.dft_compile_laws.specs.Written.{WrittenPass};
 ghost use Rattle.dft_compile_laws.specs.Bringing.{CubesAreCaptured, CubesAreLoaded, CubesAreReplayed};
 ghost use Rattle.dft_compile_laws.specs.Playing.{PatternsPlay, RunsLoad};
-ghost use Rattle.dft_compile_laws.specs.Reporting.{EncodedAreBrought, EntriesAreExact};
+ghost use Rattle.dft_compile_laws.specs.Reporting.{EncodedAreBrought, EntriesAreExact, UnscannedAreSkipped};
 
-/// What is compiled from test cubes does what it says: in every run of the scanned netlist over the set each cube that was placed in a
-/// pattern is loaded and captured by it; what the report tells of a cube is exact; a replay passes; and the text of the
-/// set is read back.
+/// What is compiled from test cubes does what it says: in every run of the scanned netlist over the set's vectors, under all ports that
+/// suit, each cube that is reported encoded in a pattern is loaded and captured by it; what the report tells of a cube is exact,
+/// and a cube that names a cell which is not scanned is reported skipped; a replay passes; and the text of the set is read
+/// back. There are such runs, and runs that load each table.
 pub fn compilations_hold()
     ensures { CompilationsHold }
 {}
@@ -61,5 +62,6 @@ pub fn cubes_are_brought()
 /// unsolvable where none do in any.
 pub fn reports_are_true()
     ensures encoded { EncodedAreBrought }
+    ensures skipped { UnscannedAreSkipped }
     ensures exact { EntriesAreExact }
 {}

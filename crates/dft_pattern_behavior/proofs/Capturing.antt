@@ -1,5 +1,5 @@
 -- A capture leaves what the pattern says that it captures.
-use Rattle.std.proofs.Common.{ℕ, zero, suc, ◌<◌, ◌≤◌, ◌≡◌, ◌==◌, Bool, true, false, List, [], ◌∷◌, ◌++◌, length, Option, None, Some, is_some, option_map, option_and_then, slice_get, refl, sym, ap, subst, arith, ◌∙◌}
+use Rattle.std.proofs.Common.{ℕ, zero, suc, ◌<◌, ◌≤◌, ◌≡◌, ◌==◌, Bool, true, false, List, [], ◌∷◌, ◌++◌, length, Option, None, Some, is_some, option_map, slice_get, refl, sym, ap, subst, arith, ◌∙◌}
 use Rattle.std.specs.Prelude.{if◌then◌else◌}
 use Rattle.std.proofs.lemmas.Bool.{eqb-true, eq-eqb}
 use Rattle.std.proofs.lemmas.Option.{none-some, same_Some, slice_get-map, slice_get_within}
@@ -7,10 +7,12 @@ use Rattle.dft_base.specs.Solutions.{bit_at}
 use Rattle.dft_base.specs.declared.dir.Dir.{Dir}
 use Rattle.dft_base.specs.declared.dir.Dir.TheVariants as dir
 use Rattle.dft_base.specs.declared.tri.Tri.{Tri}
-use Rattle.dft_base.specs.declared.tri.Tri.TheVariants.{Zero, One, Unknown}
+use Rattle.dft_base.specs.declared.tri.Tri.TheVariants.{One}
 use Rattle.dft_base.specs.Tri.{known, AboveTri}
 use Rattle.dft_cells.specs.declared.kind.Role.TheVariants as role
 use Rattle.dft_cells.specs.FlipFlops.{is_flip_flop, tri_forced}
+use Rattle.dft_cells.proofs.TriLemmas.{forced_one}
+use Rattle.dft_cells.proofs.Completions.{above_self}
 use Rattle.dft_netlist.specs.declared.ids.NetId.{NetId}
 use Rattle.dft_netlist.specs.declared.ids.InstanceId.{InstanceId}
 use Rattle.dft_netlist.specs.declared.port.Port as design_port
@@ -23,6 +25,7 @@ use Rattle.dft_netlist.specs.Runs.{Vector}
 use Rattle.dft_netlist.specs.Settled.{IsTriSettled, inverse, value_given}
 use Rattle.dft_netlist.specs.Sound.{bits_of}
 use Rattle.dft_netlist.specs.Traces.{Root, Port, Constant, Other, root_of}
+use Rattle.dft_netlist.proofs.LiveDriven.{AreBefore, before_front, before_back}
 use Rattle.dft_abstract.specs.Cycle.{Round, IsRound, after_round, pulse_of, strobe_sources, tri_forced_by}
 use Rattle.dft_abstract.specs.Laws.{next_from}
 use Rattle.dft_config.specs.declared.config.Config.{Config}
@@ -44,7 +47,6 @@ use Rattle.dft_scan_frame.specs.ConfigPorts.{config_ports}
 use Rattle.dft_scan_frame.specs.Statements.{IsReady}
 use Rattle.dft_scan_frame.proofs.Contained.{AreMatched}
 use Rattle.dft_scan_frame.proofs.Kept.{design_ports_few}
-use Rattle.dft_scan_frame.proofs.Whole.{AreBefore, before_back, before_front}
 use Rattle.dft_scan_hardware.specs.declared.style.Style.TheVariants.{Edt}
 use Rattle.dft_scan_hardware.specs.Statements.{scanned}
 use Rattle.dft_scan_equivalence.specs.Agreeing.{places_in, ports_in}
@@ -58,6 +60,7 @@ use Rattle.dft_scan_behavior.proofs.Captured.{captures_follow, strobes_follow}
 use Rattle.dft_scan_behavior.proofs.Planned.{planned}
 use Rattle.dft_scan_behavior.proofs.Reaching.{loads_reach, unloads_show}
 use Rattle.dft_stitch.proofs.LengthLemmas.{chains_fit}
+use Rattle.dft_stitch.proofs.CellPlaces.{chain_of}
 use Rattle.dft_pattern_behavior.specs.Given.{Pattern, IsPattern, IsLoadOf, IsCaptureOf}
 use Rattle.dft_pattern_behavior.specs.Rounds.{ShowsCapture}
 use Rattle.dft_pattern_behavior.proofs.Clocks.{named_input, pulsed_rests, reset_rests}
@@ -67,7 +70,7 @@ use Rattle.dft_pattern_behavior.proofs.Unloading.{HasCaptured, captured_in}
 -- ---- inputs of the design
 
 -- an input whose value is settled from its port is no clock
-input_by : (n : Netlist) (ports : Ports) (net : ℕ) (d : Driver) → meaning_of n ports net d ≡ Input → (is_input d ≡ true) × (ports.is_clock net ≡ false)
+pub input_by : (n : Netlist) (ports : Ports) (net : ℕ) (d : Driver) → meaning_of n ports net d ≡ Input → (is_input d ≡ true) × (ports.is_clock net ≡ false)
 input_by n ports net drivers.Input e = (refl, no_clock (ports.is_clock net) refl e)
   where
     no_clock : (b : Bool) → ports.is_clock net ≡ b → (if b then Clock else Input) ≡ Input → ports.is_clock net ≡ false
@@ -90,18 +93,18 @@ input_by n ports net drivers.Free e = absurd cc
 -- ---- two vectors that are the same at inputs that are no clocks
 
 -- an input that is no clock
-abbrev IsData : Netlist → Ports → (net : ℕ) → Type 0
+abbrev pub IsData : Netlist → Ports → (net : ℕ) → Type 0
 IsData n ports net = (is_input (driver n net) ≡ true) × (ports.is_clock net ≡ false)
 
-abbrev SameAt : Netlist → Ports → (x y : Vector) → Type 0
+abbrev pub SameAt : Netlist → Ports → (x y : Vector) → Type 0
 SameAt n ports x y = (net : ℕ) → IsData n ports net → x.ports net ≡ y.ports net
 
-forced_same : (n : Netlist) (ports : Ports) (x y : Vector) (force : Option Force) (t : Tri) → SameAt n ports x y → ((f : Force) → force ≡ Some f → IsData n ports f.port) → tri_forced_by force x.ports t ≡ tri_forced_by force y.ports t
+pub forced_same : (n : Netlist) (ports : Ports) (x y : Vector) (force : Option Force) (t : Tri) → SameAt n ports x y → ((f : Force) → force ≡ Some f → IsData n ports f.port) → tri_forced_by force x.ports t ≡ tri_forced_by force y.ports t
 forced_same n ports x y None t same input = refl
 forced_same n ports x y (Some f) t same input = ap (λ p. tri_forced_by (Some f) (λ _. p) t) (same f.port (input f refl))
 
 -- the sources of a strobe give the same value
-given_same : (n : Netlist) (ports : Ports) (l : Logic) (x y : Vector) (old values : ℕ → Tri) (net : ℕ) (m : Meaning) → (m ≡ Input → IsData n ports net) → SameAt n ports x y → ((c : ℕ) → (pulse_of l x old).old c ≡ (pulse_of l y old).old c) →
+pub given_same : (n : Netlist) (ports : Ports) (l : Logic) (x y : Vector) (old values : ℕ → Tri) (net : ℕ) (m : Meaning) → (m ≡ Input → IsData n ports net) → SameAt n ports x y → ((c : ℕ) → (pulse_of l x old).old c ≡ (pulse_of l y old).old c) →
     value_given (strobe_sources l x old values) values net m ≡ value_given (strobe_sources l y old values) values net m
 given_same n ports l x y old values net Input input same flops = same net (input refl)
 given_same n ports l x y old values net Clock input same flops = refl
@@ -114,7 +117,7 @@ given_same n ports l x y old values net Free input same flops = refl
 
 -- ---- resets
 
-forced_reset : (p : Ports) (value : Bool) (root : Root) (f : Force) → force_of p value root ≡ Some (Some f) → p.is_reset f.port ≡ true
+pub forced_reset : (p : Ports) (value : Bool) (root : Root) (f : Force) → force_of p value root ≡ Some (Some f) → p.is_reset f.port ≡ true
 forced_reset p value (Port net) f e = by_reset (p.is_reset net) refl e
   where
     by_reset : (b : Bool) → p.is_reset net ≡ b → (if b then Some (Some (record { port = net; value = value })) else None) ≡ Some (Some f) → p.is_reset f.port ≡ true
@@ -124,40 +127,27 @@ forced_reset p value (Constant true) f e = absurd (none-some f (same_Some None (
 forced_reset p value (Constant false) f e = absurd (none-some (Some f) e)
 forced_reset p value Other f e = absurd (none-some (Some f) e)
 
-forcing_reset : (n : Netlist) (p : Ports) (reset preset : Option Source) (f : Force) → forcing n p reset preset ≡ Some (Some f) → p.is_reset f.port ≡ true
+pub forcing_reset : (n : Netlist) (p : Ports) (reset preset : Option Source) (f : Force) → forcing n p reset preset ≡ Some (Some f) → p.is_reset f.port ≡ true
 forcing_reset n p (Some reset) preset f e = forced_reset p false (root_of n reset) f e
 forcing_reset n p None (Some preset) f e = forced_reset p true (root_of n preset) f e
 forcing_reset n p None None f e = absurd (none-some f (same_Some None (Some f) e))
 
-modelled_force : (domain : Option ℕ) (force : Option (Option Force)) (input : Source) (scan : Option Scan) (i : ℕ) (f : Force) → (cell_or_none i (modelled domain force input scan)).force ≡ Some f → force ≡ Some (Some f)
+pub modelled_force : (domain : Option ℕ) (force : Option (Option Force)) (input : Source) (scan : Option Scan) (i : ℕ) (f : Force) → (cell_or_none i (modelled domain force input scan)).force ≡ Some f → force ≡ Some (Some f)
 modelled_force None force input scan i f e = absurd (none-some f e)
 modelled_force (Some d) None input scan i f e = absurd (none-some f e)
 modelled_force (Some d) (Some g) input scan i f e = ap Some e
 
-flop_reset : (n : Netlist) (p : Ports) (i : ℕ) (b : Bool) (f : Force) → (cell_or_none i (if b then modelled_of n p i (pins_of n i) else None)).force ≡ Some f → p.is_reset f.port ≡ true
+pub flop_reset : (n : Netlist) (p : Ports) (i : ℕ) (b : Bool) (f : Force) → (cell_or_none i (if b then modelled_of n p i (pins_of n i) else None)).force ≡ Some f → p.is_reset f.port ≡ true
 flop_reset n p i true f e =
     forcing_reset n p (pin_of role.Reset i (pins_of n i)) (pin_of role.Preset i (pins_of n i)) f
     (modelled_force (domain_at n p (pin_of role.Clock i (pins_of n i))) (forcing n p (pin_of role.Reset i (pins_of n i)) (pin_of role.Preset i (pins_of n i))) (or_loose i (pin_of role.Din i (pins_of n i)))
     (scan_of (pin_of role.ScanEnable i (pins_of n i)) (pin_of role.ScanIn i (pins_of n i))) i f e)
 flop_reset n p i false f e = absurd (none-some f e)
 
-tri_forced_one : (value : Bool) (t : Tri) → tri_forced value One t ≡ t
-tri_forced_one true Zero = refl
-tri_forced_one true One = refl
-tri_forced_one true Unknown = refl
-tri_forced_one false Zero = refl
-tri_forced_one false One = refl
-tri_forced_one false Unknown = refl
-
 -- where the port of a reset or set is 1 it does not act
 not_forced : (force : Option Force) (x : ℕ → Tri) (t : Tri) → ((f : Force) → force ≡ Some f → x f.port ≡ One) → tri_forced_by force x t ≡ t
 not_forced None x t one = refl
-not_forced (Some f) x t one = ap (λ (p : Tri). tri_forced f.value p t) (one f refl) ∙ tri_forced_one f.value t
-
-above_self : (t : Tri) → AboveTri t t
-above_self Zero = tt
-above_self One = tt
-above_self Unknown = tt
+not_forced (Some f) x t one = ap (λ (p : Tri). tri_forced f.value p t) (one f refl) ∙ forced_one f.value t
 
 -- ---- clocks
 
@@ -170,11 +160,6 @@ modelled_old : (p : Places) (old new : Option Cell) (c : Cell) → new ≡ Some 
 modelled_old p None None c e h = absurd (none-some c e)
 modelled_old p None (Some b) c e h = absurd h
 modelled_old p (Some a) new c e h = refl
-
-chain_by : (chains : List (List InstanceId)) (chain place : ℕ) (cell : InstanceId) (o : Option (List InstanceId)) → slice_get chains chain ≡ o → option_and_then (λ cells. slice_get cells place) o ≡ Some cell →
-    (cells : List InstanceId) × (slice_get chains chain ≡ Some cells) × (slice_get cells place ≡ Some cell)
-chain_by chains chain place cell None at is = absurd (none-some cell is)
-chain_by chains chain place cell (Some cells) at is = (cells, at, is)
 
 -- ---- outputs
 
@@ -253,7 +238,7 @@ module _ (n : Netlist) (config : Config) (ports : Ports) (p : Pattern) (clear : 
   -- each cell has what the load brings to it
   brought : (chain place : ℕ) (cell : InstanceId) → cell_at chains chain place ≡ Some cell → loaded cell.0 ≡ known (loaded_bit config.ring p.table cycles chain place)
   brought chain place cell stands =
-      let there = chain_by chains chain place cell (slice_get chains chain) refl stands in
+      let there = chain_of chains chain place cell (slice_get chains chain) refl stands in
       let chain_less : chain < config.chains = (let inside = slice_get_within chains chain there.0 there.1 in let count = chain_count (cells_of n config) config.chains in omega (arith, inside, count)) in
       let place_less : place < cycles = (let inside = slice_get_within there.0 place cell there.2 in let fits = chains_fit n config chain there.0 ready.range there.1 in omega (arith, inside, fits)) in
       let within : place < length load = (let long = loads.count in omega (arith, place_less, long)) in

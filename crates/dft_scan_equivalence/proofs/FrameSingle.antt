@@ -1,8 +1,10 @@
 -- No net of a frame has two drivers, and its added outputs have none.
 use Rattle.std.proofs.Common.{ℕ, zero, suc, ◌+◌, ◌≡◌, ◌<◌, ◌≤◌, ◌==◌, ◌⊎◌, inl, inr, Bool, true, false, List, [], ◌∷◌, ◌++◌, length, map, Option, None, Some, slice_get, refl, sym, subst, ap, arith, ◌∙◌, append_assoc}
 use Rattle.std.proofs.lemmas.List.{append-nil, length-append}
+use Rattle.std.proofs.lemmas.Bool.{cases_lt}
 use Rattle.dft_base.specs.declared.dir.Dir.{Dir}
 use Rattle.dft_base.specs.declared.dir.Dir.TheVariants as dir
+use Rattle.dft_base.proofs.NumberLemmas.{less_apart}
 use Rattle.dft_cells.specs.declared.kind.Kind.{Kind}
 use Rattle.dft_cells.specs.declared.kind.Role.{Role}
 use Rattle.dft_cells.specs.declared.cell.Cell.{Cell}
@@ -18,6 +20,7 @@ use Rattle.dft_netlist.specs.Drivers.{Source, Input, Flop, Driven, at_signal, Sh
 use Rattle.dft_netlist.specs.Netlist.{Netlist}
 use Rattle.dft_netlist.specs.NetDrivers.{IsSingle, times_driven}
 use Rattle.dft_netlist.specs.Sound.{bits_of}
+use Rattle.dft_netlist.proofs.LiveDriven.{DriveBelow, AreBefore, before_front, before_back, nets_before, drives_below}
 use Rattle.dft_config.specs.declared.config.Config.{Config}
 use Rattle.dft_rules.specs.Refusals.{is_scanned}
 use Rattle.dft_rules.specs.Rules.{judged, scan_cell_in}
@@ -26,12 +29,11 @@ use Rattle.dft_scan_frame.specs.Moves.{Gap, moved, moved_signal, map_from, at_ne
 use Rattle.dft_scan_frame.specs.Statements.{IsReady}
 use Rattle.dft_scan_frame.proofs.AddedOnce.{ports_rise, outputs_none, ports_below}
 use Rattle.dft_scan_frame.proofs.Kept.{numbered_count}
-use Rattle.dft_scan_frame.proofs.LiveDriven.{DriveBelow, drives_below}
 use Rattle.dft_scan_frame.proofs.Mergings.{moved_driven, Merges, Nothing, append_merges, all_kept, all_added, NoneAt, times, old_times, moved_instance_drives, moved_joins_drive, ports_append}
 use Rattle.dft_scan_frame.proofs.ScanPairs.{ScanPair, Plain as PlainPair, PlainBoth, Resets, ResetsBoth, Sets, SetsBoth, three, four, five}
 use Rattle.dft_scan_frame.proofs.Single.{IsMovedOrNew, IsMoved, IsNone, moved_or_new}
 use Rattle.dft_scan_frame.proofs.Times.{Rises, rises_once, past_none, added_times_live}
-use Rattle.dft_scan_frame.proofs.Whole.{moved_front, moved_back, moved_apart, AreBefore, nets_before, before_front, before_back}
+use Rattle.dft_scan_frame.proofs.Whole.{moved_front, moved_back, moved_apart}
 use Rattle.dft_scan_hardware.specs.declared.style.Style.{Style}
 use Rattle.dft_scan_hardware.specs.declared.style.Style.TheVariants.{Plain, Edt}
 use Rattle.dft_scan_hardware.specs.Frame.{framed_pins, as_scan_cell, framed_instance, framed_at, frame}
@@ -147,9 +149,6 @@ added_below Edt n config =
     (subst (λ (ports : List NewPort). DriveBelow (before + length inputs) (driven_by_ports (ports_from before (a ∷ b ∷ c ∷ ports)))) (append_assoc channels masks outputs)
     (ports_below before inputs outputs (λ k. outputs_none k config.names.output 0 (length config.compactor.groups))))
 
-differ_up : (a b : ℕ) → a < b → (a == b) ≡ false
-differ_up = grind arith
-
 differ_down : (a b : ℕ) → b < a → (a == b) ≡ false
 differ_down = grind arith
 
@@ -159,7 +158,7 @@ none_before from net (d ∷ ds) h less = (differ_down d.0 net (omega (arith, h.0
 
 none_behind : (to net : ℕ) (ds : List Driven) → DriveBelow to ds → to ≤ net → NoneAt ds net
 none_behind to net [] h past = tt
-none_behind to net (d ∷ ds) h past = (differ_up d.0 net (omega (arith, h.0, past)), none_behind to net ds h.1 past)
+none_behind to net (d ∷ ds) h past = (less_apart d.0 net (omega (arith, h.0, past)), none_behind to net ds h.1 past)
 
 -- no added port drives a net of the design
 none_moved : (style : Style) (n : Netlist) (config : Config) (own : ℕ) → IsReady n config → (own < (gap_in style n config).before) ⊎ ((gap_in style n config).before ≤ own) → NoneAt (added_drives style n config) (moved (gap_in style n config) own)
@@ -169,11 +168,6 @@ none_moved style n config own ready (inl front) =
 none_moved style n config own ready (inr back) =
     let gap = gap_in style n config in
     subst (NoneAt (added_drives style n config)) (sym (moved_back gap own back)) (none_behind (outs_start style n config) (own + gap.width) (added_drives style n config) (added_below style n config) (omega (arith, back, (laid style n config ready).end)))
-
-le_or_less : (a b : ℕ) → (b < a) ⊎ (a ≤ b)
-le_or_less zero b = inr (omega arith)
-le_or_less (suc a) zero = inl (omega arith)
-le_or_less (suc a) (suc b) = elim (le_or_less a b) [ inl h ↦ inl (omega (arith, h)) | inr h ↦ inr (omega (arith, h)) ]
 
 -- the drivers of the frame that are not the design's
 padded : (style : Style) (n : Netlist) (config : Config) → (added_drives style n config ++ []) ++ [] ≡ added_drives style n config
@@ -192,7 +186,7 @@ frame_by style n config net ready (IsMoved {own = own} less is) =
     let gap = gap_in style n config in
     let w : Netlist = frame style n config in
     subst (λ (k : ℕ). times_driven w k ≤ 1) is
-    (subst (λ (m : ℕ). m ≤ 1) (sym (old_times (moved gap) own (all_driven n) (added_drives style n config) (all_driven w) (moved_apart gap) (merges style n config ready) (none_moved style n config own ready (le_or_less gap.before own)))) (ready.single own))
+    (subst (λ (m : ℕ). m ≤ 1) (sym (old_times (moved gap) own (all_driven n) (added_drives style n config) (all_driven w) (moved_apart gap) (merges style n config ready) (none_moved style n config own ready (cases_lt own gap.before)))) (ready.single own))
 frame_by style n config net ready (IsNone apart) =
     subst (λ (m : ℕ). m ≤ 1) (sym (other_times style n config net ready apart)) (rises_once net (gap_in style n config).before (added_drives style n config) (ports_rise (gap_in style n config).before (added_ports style config)))
 
@@ -201,15 +195,15 @@ pub frame_single : (style : Style) (n : Netlist) (config : Config) → IsReady n
 frame_single style n config ready net = frame_by style n config net ready (moved_or_new (gap_in style n config) (length n.nets) net (laid style n config ready).before)
 
 moved_not : (gap : Gap) (count k net : ℕ) → (k < gap.before) ⊎ (gap.before ≤ k) → k < count → gap.before ≤ net → (net < gap.before + gap.width) ⊎ (count + gap.width ≤ net) → (moved gap k == net) ≡ false
-moved_not gap count k net (inl front) less from (inl inside) = ap (λ (m : ℕ). m == net) (moved_front gap k front) ∙ differ_up k net (omega (arith, front, from))
-moved_not gap count k net (inl front) less from (inr past) = ap (λ (m : ℕ). m == net) (moved_front gap k front) ∙ differ_up k net (omega (arith, front, from))
+moved_not gap count k net (inl front) less from (inl inside) = ap (λ (m : ℕ). m == net) (moved_front gap k front) ∙ less_apart k net (omega (arith, front, from))
+moved_not gap count k net (inl front) less from (inr past) = ap (λ (m : ℕ). m == net) (moved_front gap k front) ∙ less_apart k net (omega (arith, front, from))
 moved_not gap count k net (inr back) less from (inl inside) = ap (λ (m : ℕ). m == net) (moved_back gap k back) ∙ differ_down (k + gap.width) net (omega (arith, back, inside))
-moved_not gap count k net (inr back) less from (inr past) = ap (λ (m : ℕ). m == net) (moved_back gap k back) ∙ differ_up (k + gap.width) net (omega (arith, less, past))
+moved_not gap count k net (inr back) less from (inr past) = ap (λ (m : ℕ). m == net) (moved_back gap k back) ∙ less_apart (k + gap.width) net (omega (arith, less, past))
 
 -- an added output, or a net past the end, has no driver in the frame
 pub frame_free : (style : Style) (n : Netlist) (config : Config) (net : ℕ) → IsReady n config → outs_start style n config ≤ net → (net < (gap_in style n config).before + (gap_in style n config).width) ⊎ (length n.nets + (gap_in style n config).width ≤ net) →
     times_driven (frame style n config) net ≡ 0
 frame_free style n config net ready from where_it =
     let gap = gap_in style n config in
-    other_times style n config net ready (λ k less. moved_not gap (length n.nets) k net (le_or_less gap.before k) less (omega (arith, from, (laid style n config ready).start)) where_it)
+    other_times style n config net ready (λ k less. moved_not gap (length n.nets) k net (cases_lt k gap.before) less (omega (arith, from, (laid style n config ready).start)) where_it)
     ∙ past_none net (outs_start style n config) (added_drives style n config) (added_below style n config) from

@@ -1,8 +1,10 @@
 -- A scanned netlist contains its design.
-use Rattle.std.proofs.Common.{ℕ, zero, suc, ◌≡◌, ◌==◌, ◌<◌, inl, inr, Bool, true, false, ◌||◌, option_and_then, List, ◌∷◌, length, map, Option, None, Some, is_some, slice_get, refl, sym, subst, ap, arith, ◌∙◌, []}
+use Rattle.std.proofs.Common.{ℕ, zero, suc, ◌≡◌, ◌<◌, inl, inr, Bool, true, false, option_and_then, List, ◌∷◌, length, map, Option, None, Some, is_some, slice_get, refl, sym, subst, ap, ◌∙◌, []}
 use Rattle.std.specs.Prelude.{if◌then◌else◌}
 use Rattle.std.specs.List.{list_any}
+use Rattle.std.proofs.lemmas.Bool.{or_from}
 use Rattle.dft_base.specs.Lexing.{Text}
+use Rattle.dft_base.proofs.NumberLemmas.{less_apart}
 use Rattle.dft_cells.specs.declared.kind.Kind.{Kind}
 use Rattle.dft_cells.specs.declared.kind.Kind.TheVariants as kind
 use Rattle.dft_cells.specs.declared.kind.Role.{Role}
@@ -17,13 +19,14 @@ use Rattle.dft_netlist.specs.declared.instance.CellRef.TheVariants as cell_ref
 use Rattle.dft_netlist.specs.declared.instance.Instance.{Instance}
 use Rattle.dft_netlist.specs.Netlist.{Netlist}
 use Rattle.dft_netlist.specs.Sound.{bits_of}
-use Rattle.dft_netlist.specs.Drivers.{Source, Net, Connection, connections_from, shape_of, shape_of_cell, gate_roles, kind_of, pins_at, AreBelow, driver}
+use Rattle.dft_netlist.specs.Drivers.{Source, Connection, connections_from, shape_of, shape_of_cell, gate_roles, kind_of, pins_at, AreBelow, driver}
 use Rattle.dft_netlist.specs.Drivers as drivers
-use Rattle.dft_netlist.specs.Logic.{Ports, Meaning, Cell, Scan, same_role, pin_of, modelled_of, flip_flop, cell_or_none, flop_meaning, meaning_of, reads}
+use Rattle.dft_netlist.specs.Logic.{Ports, Meaning, Cell, same_role, pin_of, modelled_of, flip_flop, cell_or_none, flop_meaning, meaning_of, reads}
 use Rattle.dft_netlist.specs.Logic as logic
 use Rattle.dft_netlist.specs.Names.{find_net}
 use Rattle.dft_config.specs.declared.config.Config.{Config}
 use Rattle.dft_netlist.specs.Connections.{is_input, input_net}
+use Rattle.dft_netlist.proofs.SettledLemmas.{no_flop}
 use Rattle.dft_rules.specs.Rules.{is_net}
 use Rattle.dft_chains.specs.ScanOff.{moved_meaning, Places, KeepsFlop}
 use Rattle.dft_scan_frame.specs.ConfigPorts.{config_ports}
@@ -174,22 +177,15 @@ clock_no_lockup : (b : Bool) (cell domain : ℕ) (source : Source) → (if b the
 clock_no_lockup true cell domain source e = cc
 clock_no_lockup false cell domain source e = cc
 
-flop_no_lockup : (i : ℕ) (inverted : Bool) (o : Option Cell) (cell domain : ℕ) (source : Source) → flop_meaning i inverted o ≡ logic.Lockup cell domain source → ⊥
-flop_no_lockup i inverted None cell domain source e = cc
-flop_no_lockup i inverted (Some c) cell domain source e = cc
-
 pub lockup_by : (n : Netlist) (ports : Ports) (net cell domain : ℕ) (source : Source) (d : drivers.Driver) → FineBy n net d → meaning_of n ports net d ≡ logic.Lockup cell domain source → ⊥
 lockup_by n ports net cell domain source drivers.Input fine e = clock_no_lockup (ports.is_clock net) cell domain source e
 lockup_by n ports net cell domain source (drivers.Gate k inputs) fine e = cc
 lockup_by n ports net cell domain source (drivers.Joined from) fine e = cc
-lockup_by n ports net cell domain source (drivers.Flop i other) fine e = flop_no_lockup i other (flip_flop n ports i) cell domain source e
+lockup_by n ports net cell domain source (drivers.Flop i other) fine e = no_flop i other (flip_flop n ports i) cell domain source e
 lockup_by n ports net cell domain source (drivers.Lockup i) fine e = absurd fine
 lockup_by n ports net cell domain source drivers.Free fine e = cc
 
 -- ---- the port scan_enable
-
-less_apart : (a b : ℕ) → a < b → (a == b) ≡ false
-less_apart = grind arith
 
 pub input_less : (n : Netlist) (net : ℕ) (d : drivers.Driver) → is_input d ≡ true → FineBy n net d → net < length (bits_of n.ports)
 input_less n net drivers.Input is fine = fine
@@ -207,11 +203,6 @@ not_found : (n : Netlist) (config : Config) (o : Option NetId) → IsReady n con
 not_found n config None ready = refl
 not_found n config (Some net) ready = not_this n net (is_input (driver n net.0)) (λ is. input_less n net.0 (driver n net.0) is (driver_fine n config net.0 ready))
 
-none_any : (a b : Bool) → a ≡ false → b ≡ false → (a || b) ≡ false
-none_any false false e f = refl
-none_any true b e f = absurd cc
-none_any false true e f = absurd cc
-
 pub no_clock : (n : Netlist) (config : Config) (names : List Text) → IsReady n config → list_any (λ name. is_net (length (bits_of n.ports)) (input_net n name)) names ≡ false
 no_clock n config [] ready = refl
-no_clock n config (name ∷ names) ready = none_any (is_net (length (bits_of n.ports)) (input_net n name)) (list_any (λ other. is_net (length (bits_of n.ports)) (input_net n other)) names) (not_found n config (find_net n name) ready) (no_clock n config names ready)
+no_clock n config (name ∷ names) ready = or_from (is_net (length (bits_of n.ports)) (input_net n name)) (list_any (λ other. is_net (length (bits_of n.ports)) (input_net n other)) names) (not_found n config (find_net n name) ready) (no_clock n config names ready)

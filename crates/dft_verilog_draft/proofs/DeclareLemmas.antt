@@ -1,5 +1,5 @@
 -- Declarations: what each gives where its tests pass or fail.
-use Rattle.std.proofs.Common.{◌≡◌, ℕ, ◌+◌, ◌<◌, Bool, true, false, cond, List, ◌++◌, length, drop, is_some, nat_lt, nat_le, Option, Some, None, Ok, Err, refl, sym, ap, ◌∙◌, arith, length-append, zero, suc, ◌-◌, not, subst}
+use Rattle.std.proofs.Common.{◌≡◌, ℕ, ◌+◌, ◌<◌, Bool, true, false, cond, List, ◌++◌, length, drop, is_some, nat_lt, nat_le, Option, Some, None, Ok, Err, refl, sym, ap, ◌∙◌, arith, length-append, not, subst}
 use Rattle.std.proofs.lemmas.List.{length-map}
 use Rattle.std.proofs.Math.Seq.{drop-append_seam}
 use Rattle.std.proofs.lemmas.Bool.Decides.{nat_tests}
@@ -13,6 +13,7 @@ use Rattle.dft_netlist_text.specs.declared.text.Fault.{Fault}
 use Rattle.dft_netlist_text.specs.declared.text.Meaning.{Meaning}
 use Rattle.dft_netlist.specs.declared.limits.TheConstants.{MAX_NETS, MAX_PORTS}
 use Rattle.dft_netlist.specs.Names.{bit_names, bit_name, going_up, going_down, indices_of}
+use Rattle.dft_netlist.proofs.BitLemmas.{up_length, down_length}
 use Rattle.dft_netlist_text.specs.Modules.{Draft, net_count, names_of_bits, first_taken, free_bits, room_for_nets, with_nets, with_bits, next_shape}
 use Rattle.dft_verilog_draft.specs.Free.{new_bits, unless_taken, with_bits_of, AreFreeBits}
 use Rattle.dft_verilog_draft.specs.Drafts.{IsShapeWithin}
@@ -24,10 +25,6 @@ use Rattle.dft_netlist_text.specs.declared.text.Shape.{Shape}
 unless_ok : (t : Option (List ℕ)) (place : ℕ) (names got : List (List ℕ)) → unless_taken place t names ≡ Ok got → (t ≡ None) × (got ≡ names)
 unless_ok None place names got e = let same : got ≡ names = cc in (refl, same)
 unless_ok (Some w) place names got e = absurd (cc)
-
-unless_err : (t : Option (List ℕ)) (place : ℕ) (names : List (List ℕ)) (f : Fault) (next : Checked Fault Draft) → unless_taken place t names ≡ Err f → free_bits place t next ≡ Err f
-unless_err None place names f next e = absurd (cc)
-unless_err (Some w) place names f next e = cc
 
 pub new_bits-ok : (place : ℕ) (word : List ℕ) (range : Option Range) (d : Draft) (got : List (List ℕ)) → new_bits place word range d ≡ Ok got → (first_taken d (names_of_bits word range) ≡ None) × (got ≡ bit_names word range)
 new_bits-ok place word range d got e = unless_ok _ place _ got e
@@ -47,18 +44,9 @@ full_by full b f next h = ap (λ (t : Bool). cond t (Err f) next) h
 ports_by : (n m : ℕ) → n ≡ m → n < MAX_PORTS → nat_le MAX_PORTS m ≡ false
 ports_by n m at few = grind (arith, nat_tests)
 
--- so many numbers going up
-pub length-going_up : (from n : ℕ) → length (going_up from n) ≡ n
-length-going_up from zero = refl
-length-going_up from (suc n) = ap suc (length-going_up (suc from) n)
-
-length-going_down : (from n : ℕ) → length (going_down from n) ≡ n
-length-going_down from zero = refl
-length-going_down from (suc n) = ap suc (length-going_down (from - 1) n)
-
 length_by : (rises : Bool) (from n : ℕ) → length (cond rises (going_up from n) (going_down from n)) ≡ n
-length_by true from n = length-going_up from n
-length_by false from n = length-going_down from n
+length_by true from n = up_length from n
+length_by false from n = down_length from n
 
 -- a name has as many nets as names
 pub length-bit_names : (word : List ℕ) (range : Option Range) → length (bit_names word range) ≡ net_count range

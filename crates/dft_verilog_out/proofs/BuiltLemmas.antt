@@ -8,6 +8,7 @@ use Rattle.std.proofs.lemmas.List.Elements.{filter_map-append, filter-append}
 use Rattle.dft_base.specs.declared.place.Range.{Range}
 use Rattle.dft_base.specs.Lexing.{Text}
 use Rattle.dft_base.specs.Ranges.{going_up}
+use Rattle.dft_base.proofs.ListLemmas.{going_up-append}
 use Rattle.dft_netlist.specs.declared.ids.NetId.{NetId}
 use Rattle.dft_netlist.specs.declared.port.Port.{Port}
 use Rattle.dft_netlist.specs.declared.instance.Signal.{Signal}
@@ -15,7 +16,6 @@ use Rattle.dft_netlist.specs.declared.instance.Signal.TheVariants as signal
 use Rattle.dft_netlist.specs.declared.instance.Instance.{Instance}
 use Rattle.dft_netlist.specs.declared.instance.Join.{Join}
 use Rattle.dft_netlist.specs.declared.error.Counted.TheVariants as counted
-use Rattle.dft_netlist.specs.declared.error.NetlistError.{NetlistError}
 use Rattle.dft_netlist.specs.declared.error.NetlistError.TheVariants as error
 use Rattle.dft_netlist.specs.declared.limits.TheConstants.{MAX_PORTS, MAX_NETS, MAX_INSTANCES}
 use Rattle.dft_netlist.specs.Netlist.{Netlist}
@@ -23,6 +23,7 @@ use Rattle.dft_netlist.specs.Names.{bit_names, port_names, names_taken, is_taken
 use Rattle.dft_netlist.specs.NetNumbers.{nets_from}
 use Rattle.dft_netlist.specs.Sound.{IsLive, AreLive, bits_of, bit_names_of, IsAJoin, IsNetlist}
 use Rattle.dft_netlist.specs.Building.{empty_netlist, port_of, taken_or, port_limit, own_names, port_refusal, instance_refusal}
+use Rattle.dft_netlist.proofs.RefusalLemmas.{room_by, limit_by}
 use Rattle.dft_netlist_text.specs.Modules.{TakenName, Draft}
 use Rattle.dft_netlist_text.specs.NetlistText.{nets_of_ports, other_nets, net_order, final_net, final_signal, Grown, unless_refused, and_grown, add_port, add_ports, add_net, add_nets, add_instance, add_instances, final_join, add_joins, names_of_others, built}
 use Rattle.dft_verilog_out.proofs.CountLemmas.{Once, times, times-append, times-head, one_if, has_name-none}
@@ -31,20 +32,13 @@ use Rattle.dft_verilog_out.proofs.PhaseLemmas.{stage, declared_ports, net_count-
 
 -- ---- numbers
 
-count_append : (from a b : ℕ) → going_up from (a + b) ≡ going_up from a ++ going_up (from + a) b
-count_append from zero b = let e : 0 + b ≡ b = omega arith in let f : from ≡ from + 0 = omega arith in ap (going_up from) e ∙ ap (λ k. going_up k b) f
-count_append from (suc a) b =
-    let e : suc a + b ≡ suc (a + b) = omega arith in
-    let f : suc from + a ≡ from + suc a = omega arith in
-    ap (going_up from) e ∙ ap (λ (ks : List ℕ). from ∷ ks) (count_append (suc from) a b ∙ ap (λ k. going_up (suc from) a ++ going_up k b) f)
-
 ports_count : (first : ℕ) (ps : List Port) → nets_of_ports (declared_ports first ps) ≡ going_up first (length (bit_names_of ps))
 ports_count first [] = refl
 ports_count first (p ∷ ps) =
     let size : length (bit_names_of (p ∷ ps)) ≡ length (bit_names p.name p.range) + length (bit_names_of ps) = length-append (bit_names p.name p.range) (bit_names_of ps) in
     ap (λ k. going_up first k ++ nets_of_ports (declared_ports (first + length (bit_names p.name p.range)) ps)) (net_count-is p.name p.range)
     ∙ ap (λ ks. going_up first (length (bit_names p.name p.range)) ++ ks) (ports_count (first + length (bit_names p.name p.range)) ps)
-    ∙ sym (ap (going_up first) size ∙ count_append first (length (bit_names p.name p.range)) (length (bit_names_of ps)))
+    ∙ sym (ap (going_up first) size ∙ going_up-append first (length (bit_names p.name p.range)) (length (bit_names_of ps)))
 
 any_in : (k from n : ℕ) → from ≤ k → k < from + n → list_any (λ bit. eqb bit k) (going_up from n) ≡ true
 any_in k from zero low high = absurd (omega arith)
@@ -80,7 +74,7 @@ module _ (d : Draft) (ps : List Port) (ws : List Text) (ports : d.ports ≡ decl
       let size : length d.nets ≡ bits + length ws = ap length nets ∙ length-append (bit_names_of ps) ws in
       let zeroth : 0 + bits ≡ bits = omega arith in
       ap (λ (ks : List ℕ). filter (λ net. not (list_any (λ bit. eqb bit net) ks)) (going_up 0 (length d.nets))) bits_first
-      ∙ ap (filter (is_other bits)) (ap (going_up 0) size ∙ count_append 0 bits (length ws) ∙ ap (λ k. going_up 0 bits ++ going_up k (length ws)) zeroth)
+      ∙ ap (filter (is_other bits)) (ap (going_up 0) size ∙ going_up-append 0 bits (length ws) ∙ ap (λ k. going_up 0 bits ++ going_up k (length ws)) zeroth)
       ∙ filter-append (is_other bits) (going_up 0 bits) (going_up bits (length ws))
       ∙ ap (λ ks. ks ++ filter (is_other bits) (going_up bits (length ws))) (filter_bits bits 0 bits (omega arith)) ∙ filter_others bits bits (length ws) (omega arith)
 
@@ -90,7 +84,7 @@ module _ (d : Draft) (ps : List Port) (ws : List Text) (ports : d.ports ≡ decl
       let size : length d.nets ≡ bits + length ws = ap length nets ∙ length-append (bit_names_of ps) ws in
       let zeroth : 0 + bits ≡ bits = omega arith in
       ap (λ ks. ks ++ other_nets d) bits_first ∙ ap (λ ks. going_up 0 bits ++ ks) others_count
-      ∙ sym (ap (going_up 0) size ∙ count_append 0 bits (length ws) ∙ ap (λ k. going_up 0 bits ++ going_up k (length ws)) zeroth)
+      ∙ sym (ap (going_up 0) size ∙ going_up-append 0 bits (length ws) ∙ ap (λ k. going_up 0 bits ++ going_up k (length ws)) zeroth)
 
   others_named : names_of_others d ≡ ws
   others_named =
@@ -164,11 +158,6 @@ none_taken m (x ∷ xs) h = rw (free_by m x (h x (omega (arith, times-head x xs)
 room_none : (m : Netlist) (xs rest : List Text) → Room m (xs ++ rest) → first_taken m xs ≡ None
 room_none m xs rest room = none_taken m xs (λ word some. let r = room word in omega (arith, times-append word xs rest))
 
-limit_by : (a b : Bool) (x y : NetlistError) → a ≡ true → b ≡ true → cond a (cond b None (Some x)) (Some y) ≡ None
-limit_by true true x y p q = refl
-limit_by true false x y p q = absurd (cc)
-limit_by false b x y p q = absurd (cc)
-
 port_taken : (m : Netlist) (word : Text) (range : Option Range) (rest : List Text) → Room m (port_names word range ++ rest) → length m.ports + 1 ≤ MAX_PORTS → length m.nets + length (bit_names word range) ≤ MAX_NETS → port_refusal m word range ≡ None
 port_taken m word range rest room ports nets =
     let a : leb (length m.ports + 1) MAX_PORTS ≡ true = grind (arith, nat_tests) in
@@ -182,9 +171,6 @@ port_taken m word range rest room ports nets =
 abbrev pub all_port_names : List Port → List Text
 all_port_names [] = []
 all_port_names (p ∷ ps) = port_names p.name p.range ++ all_port_names ps
-
-net_id : ℕ → NetId
-net_id k = record { 0 = k }
 
 -- numbers in two parts
 numbers_split : (xs ys : List NetId) (from n : ℕ) → xs ++ ys ≡ nets_from from n → (xs ≡ nets_from from (length xs)) × (ys ≡ nets_from (from + length xs) (n - length xs))
@@ -280,11 +266,6 @@ net_room m w rest room word =
     let others : List Text = filter_map vector_name m.ports ++ filter_map instance_name m.instances in
     omega (arith, times-append word m.nets others, times-append word (m.nets ++ w ∷ []) others, times-append word m.nets (w ∷ []))
 
-net_by : (taken room : Bool) (x y : NetlistError) → taken ≡ false → room ≡ true → cond taken (Some x) (cond room None (Some y)) ≡ None
-net_by true room x y p q = absurd (cc)
-net_by false true x y p q = refl
-net_by false false x y p q = absurd (cc)
-
 nets_added : (ws : List Text) (m : Netlist) (rest : List Text) → Room m (ws ++ rest) → length m.nets + length ws ≤ MAX_NETS → Added (add_nets ws m) (with_more_nets m (m.nets ++ ws)) rest
 nets_added [] m rest room nets =
     let same : with_more_nets m (m.nets ++ []) ≡ m = rw (append-nil m.nets) refl in
@@ -293,7 +274,7 @@ nets_added (w ∷ ws) m rest room nets =
     let next = with_more_nets m (m.nets ++ w ∷ []) in
     let free : is_taken m w ≡ false = free_by m w (let r = room w in omega (arith, times-head w (ws ++ rest))) in
     let fits : leb (length m.nets + 1) MAX_NETS ≡ true = grind (arith, nat_tests) in
-    let here : add_net m w ≡ Ok next = ap (λ o. unless_refused o next) (net_by (is_taken m w) (leb (length m.nets + 1) MAX_NETS) (error.DuplicateName w) (error.TooMany counted.Nets (pos MAX_NETS)) free fits) in
+    let here : add_net m w ≡ Ok next = ap (λ o. unless_refused o next) (room_by (is_taken m w) (leb (length m.nets + 1) MAX_NETS) (error.DuplicateName w) (error.TooMany counted.Nets (pos MAX_NETS)) free fits) in
     let later = nets_added ws next rest (net_room m w (ws ++ rest) room) (omega (arith, length-append m.nets (w ∷ []))) in
     let ends : with_more_nets next (next.nets ++ ws) ≡ with_more_nets m (m.nets ++ w ∷ ws) = rw (append_assoc m.nets (w ∷ []) ws) refl in
     record { is = ap (λ g. and_grown g (add_nets ws)) here ∙ later.is ∙ ap (λ (x : Netlist). Ok x) ends; room = subst (λ (x : Netlist). Room x rest) ends later.room }

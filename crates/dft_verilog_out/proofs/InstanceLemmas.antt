@@ -12,7 +12,6 @@ use Rattle.dft_cells.specs.Cells.{find_cell}
 use Rattle.dft_cells.specs.Pins.{takes_inputs, is_output}
 use Rattle.dft_netlist.specs.declared.instance.Signal.{Signal}
 use Rattle.dft_netlist.specs.declared.instance.Signal.TheVariants as signal
-use Rattle.dft_netlist_text.specs.declared.text.TokenKind.{TokenKind}
 use Rattle.dft_netlist_text.specs.declared.text.TokenKind.TheVariants as kind
 use Rattle.dft_netlist_text.specs.declared.text.Site.{Site}
 use Rattle.dft_netlist_text.specs.declared.text.Site.TheVariants as site
@@ -25,7 +24,7 @@ use Rattle.dft_netlist_text.specs.Items.{item, input_terminals_from, input_termi
 use Rattle.dft_verilog_out.specs.Written.{name_text, signal_text, list_text, list_text_behind, connection_text, is_joined, connection_texts, gate_text, own_name_text}
 use Rattle.dft_verilog_out.proofs.CutLemmas.{cut_up, token, cut_up-buf, cut_up-not, cut_up-and, cut_up-nand, cut_up-or, cut_up-nor, cut_up-xor, cut_up-xnor, cut_up-point, cut_up-comma, cut_up-close, cut_up-semicolon, cut_up-space, cut_up-line, cut_up-opened, name_at, Opens}
 use Rattle.dft_verilog_out.proofs.ItemLemmas.{gate_token, gate-named, gate-unnamed, terminal-at, input_terminals_from-more, input_terminals_from-end, terminals-at, named_connection-at, cell-at, connections-none, connections-some, named_connections_from-more, named_connections_from-end}
-use Rattle.dft_verilog_out.proofs.OperandLemmas.{Follower, AClose, AComma, follow, follow_kind, Operand}
+use Rattle.dft_verilog_out.proofs.OperandLemmas.{Follower, AClose, AComma, follow, follow_kind, Operand, left_of}
 use Rattle.dft_verilog_out.proofs.LineLemmas.{Line}
 
 -- ---- lists
@@ -48,10 +47,6 @@ listed_long (t ∷ texts) rest =
     let more = listed_long texts rest in
     let e : (t ++ list_text_behind (codes ", ") texts) ++ 41 ∷ rest ≡ t ++ (list_text_behind (codes ", ") texts ++ 41 ∷ rest) = append_assoc t (list_text_behind (codes ", ") texts) (41 ∷ rest) in
     omega (arith, ap length e, length-append t (list_text_behind (codes ", ") texts ++ 41 ∷ rest))
-
-left_of : (k : TokenKind) (word : Text) (l : ℕ) (ts : List Token) → left (token k word l ∷ ts) ≡ l
-unfolding left
-left_of k word l ts = refl
 
 left_behind : (texts : List Text) (rest : Text) → left (cut_up (list_text_behind (codes ", ") texts ++ 41 ∷ rest)) ≡ length (list_text_behind (codes ", ") texts ++ 41 ∷ rest)
 left_behind [] rest = ap left (cut_up-close rest) ∙ left_of kind.CloseParen (41 ∷ []) (suc (length rest)) (cut_up rest)
@@ -173,9 +168,6 @@ semicolon_line rest = cut_up-semicolon (10 ∷ rest) ∙ ap (λ ts. token kind.S
 
 open_at : (inside rest : Text) → Opens (bracketed inside rest) → cut_up (32 ∷ 40 ∷ bracketed inside rest) ≡ token kind.OpenParen (40 ∷ []) (suc (length (bracketed inside rest))) ∷ cut_up (bracketed inside rest)
 open_at inside rest o = cut_up-space (40 ∷ bracketed inside rest) ∙ cut_up-opened (bracketed inside rest) o
-
-gate_inside : (nets : List Text) → Signal → List Signal → Text
-gate_inside nets output ins = list_text (map (signal_text nets) (output ∷ ins))
 
 abbrev pub gate_form : (nets : List Text) → Kind → Option Text → Signal → List Signal → Text
 gate_form nets k own output ins = form (gate_text k) own (list_text (map (signal_text nets) (output ∷ ins)))
