@@ -3,8 +3,8 @@
 # to pass; then made scan patterns at two sizes, where two clocks pulse together, lock-ups stand between them and most
 # vectors shift, and prints cells times vectors per second and the peak memory; then made netlists without scan at three
 # sizes, with 1, 16 and 256 clocks. Times the readers alone: of netlists (the patterns are then a file that is not there),
-# and of patterns (on a netlist without their ports). dft_bench times patterns with 50 signals, also their writing. Build
-# the program first (./dft does). It promises nothing.
+# and of patterns (on a netlist without their ports). dft_bench times the writing of patterns. Build the program first (./dft
+# does). It promises nothing.
 . "$(dirname "$0")/common.sh"
 rate() { python3 -c "print(f'{$1 * $2 / $3:.3g}')"; }
 # the scan cells and the vectors of a pair: instances with a scan input, lines that begin with V

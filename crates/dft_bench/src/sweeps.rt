@@ -50,7 +50,7 @@ fn time_sweep(rt: &(impl Clock + Eprint), evaluator: &mut Evaluator, gates: u32)
     let took = start.elapsed(rt)?.as_micros();
     let pace = u128::from(PATTERNS * u64::from(gates)) / took.max(1);
     eprintln!(rt;
-        "{gates} gates, {PATTERNS} patterns in {took} us: {pace} million patterns times gates a second"
+        "{gates} gates, {PATTERNS} patterns: {took} us, {pace} million patterns times gates a second"
     )
 }
 

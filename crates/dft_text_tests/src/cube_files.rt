@@ -152,13 +152,18 @@ fn line_of(
 
 // What a cube file for the small design stands for.
 fn line_for(alloc: Global, text: &[u8]) -> Result<String, AllocError> {
-    let Ok(design) = read_netlist(alloc, NETLIST, Library::standard(alloc)?) else {
-        return String::from_str(alloc, "no netlist");
-    };
-    let Ok(config) = Config::read(alloc, CONFIG) else {
-        return String::from_str(alloc, "no configuration");
-    };
-    line_of(alloc, text, &design, &config)
+    let library = Library::standard(alloc)?;
+    match read_netlist(alloc, NETLIST, library) {
+        Ok(design) => line_in(alloc, text, &design),
+        Err(_) => String::from_str(alloc, "no netlist"),
+    }
+}
+
+fn line_in(alloc: Global, text: &[u8], design: &Design) -> Result<String, AllocError> {
+    match Config::read(alloc, CONFIG) {
+        Ok(config) => line_of(alloc, text, design, &config),
+        Err(_) => String::from_str(alloc, "no configuration"),
+    }
 }
 
 #[test]
@@ -179,13 +184,22 @@ fn empty_cubes(alloc: Global, count: u32) -> Result<String, AllocError> {
     Ok(text)
 }
 
+// What so many empty cubes stand for.
+fn line_of_empty(alloc: Global, count: u32) -> Result<String, AllocError> {
+    let text = empty_cubes(alloc, count)?;
+    line_for(alloc, text.as_bytes())
+}
+
+#[test]
+fn as_many_cubes_as_may_be_are_read(rt: HostRuntime) -> Result<(), Fail> {
+    let line = line_of_empty(rt.alloc(), 65_536)?;
+    assert!(rt; line.len() == 447_642, "all are read");
+    Ok(())
+}
+
 #[test]
 fn a_cube_too_many_is_refused(rt: HostRuntime) -> Result<(), Fail> {
-    let text = empty_cubes(rt.alloc(), 65_536)?;
-    let line = line_for(rt.alloc(), text.as_bytes())?;
-    assert!(rt; line.len() == 447_642, "all are read");
-    let text = empty_cubes(rt.alloc(), 65_537)?;
-    let line = line_for(rt.alloc(), text.as_bytes())?;
+    let line = line_of_empty(rt.alloc(), 65_537)?;
     assert_eq!(rt; line.as_str(), "Q9 131073:1");
     Ok(())
 }

@@ -33,16 +33,18 @@ fn refused_at(alloc: Global, text: &[u8]) -> Result<Option<u32>, AllocError> {
     if text.len() > MAX_TEXT {
         return Ok(None);
     }
-    match read(alloc, text, Library::standard(alloc)?) {
-        Ok(_) => Ok(None),
-        Err(error) => Ok(column_of(&error)),
+    let library = Library::standard(alloc)?;
+    match read(alloc, text, library).err() {
+        Some(error) => Ok(column_of(&error)),
+        None => Ok(None),
     }
 }
 
 #[test]
 fn a_text_is_read_whole_alone(rt: HostRuntime) -> Result<(), Fail> {
+    let line = line_of(rt.alloc(), SMALL)?;
     assert_eq!(rt;
-        line_of(rt.alloc(), SMALL)?.as_str(),
+        line.as_str(),
         " clk a y q4 d0 q0 q1 q2 q3; g0 1 3 4; f0 0 4 5 -; f1 0 5 6 -; f2 0 6 7 -; f3 0 7 8 -; f4 0 8 3 -; g1 3 2"
     );
     for len in 0..SMALL.len() {
@@ -55,26 +57,41 @@ fn a_text_is_read_whole_alone(rt: HostRuntime) -> Result<(), Fail> {
     Ok(())
 }
 
-#[test]
-fn a_million_braces_are_refused(rt: HostRuntime) -> Result<(), Fail> {
-    let mut text = b"module m; assign n = ".to_vec(rt.alloc())?;
-    for _brace in 0..1_000_000 {
+// So many braces that open and do not close.
+fn braces(alloc: Global, count: u32) -> Result<Vec<u8>, AllocError> {
+    let mut text = b"module m; assign n = ".to_vec(alloc)?;
+    for _brace in 0..count {
         text.push(b'{')?;
     }
-    assert_eq!(rt; line_of(rt.alloc(), &text)?.as_str(), "V9 1:1000022");
+    Ok(text)
+}
+
+#[test]
+fn a_million_braces_are_refused(rt: HostRuntime) -> Result<(), Fail> {
+    let text = braces(rt.alloc(), 1_000_000)?;
+    let line = line_of(rt.alloc(), &text)?;
+    assert_eq!(rt; line.as_str(), "V9 1:1000022");
     Ok(())
+}
+
+// A port, and so many more.
+fn ports(alloc: Global, count: u32) -> Result<String, AllocError> {
+    let mut text = String::from_str(alloc, "module m (p")?;
+    push_ports(alloc, &mut text, count)?;
+    Ok(text)
+}
+
+fn push_ports(alloc: Global, text: &mut String, count: u32) -> Result<(), AllocError> {
+    for port in 0..count {
+        text.push_str(&format!(in alloc; ", p{port}")?)?;
+    }
+    text.push_str(");")
 }
 
 #[test]
 fn a_port_too_many_is_refused(rt: HostRuntime) -> Result<(), Fail> {
-    let mut text = String::from_str(rt.alloc(), "module m (p")?;
-    for port in 0..32_768u32 {
-        text.push_str(&format!(in rt.alloc(); ", p{port}")?)?;
-    }
-    text.push_str(");")?;
-    assert_eq!(rt;
-        line_of(rt.alloc(), text.as_bytes())?.as_str(),
-        "N4 ports 32768"
-    );
+    let text = ports(rt.alloc(), 32_768)?;
+    let line = line_of(rt.alloc(), text.as_bytes())?;
+    assert_eq!(rt; line.as_str(), "N4 ports 32768");
     Ok(())
 }
