@@ -17,9 +17,8 @@ use Rattle.dft_answers.specs.declared.outcome.Outcome.TheVariants as outcome
 use Rattle.dft_answers.specs.Answers.{status_of}
 use Rattle.dft_top.specs.Courses.{Reaches}
 use Rattle.dft_top.specs.Outcomes.{IsOutcomeOfJob, IsReplayedOf, course_of_compile, course_of_replay, generated, job_files, job_held, made_files, made_held}
-use Rattle.dft_top.specs.Saved.{IsAccepted}
 use Rattle.dft_top.proofs.Promised.{IsMade, made}
-use Rattle.dft_top.proofs.Replays.{replay_passes}
+use Rattle.dft_top.proofs.Replays.{IsAccepted, replay_passes}
 
 -- a job that is not refused is done
 abbrev pub JobsPass : Type 0

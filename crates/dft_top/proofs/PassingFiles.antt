@@ -35,7 +35,7 @@ use Rattle.dft_top.proofs.CertifyLemmas.{report_over}
 use Rattle.dft_top.proofs.Readings.{config_text_one, cube_text_one, file_one, given_next, library_gives_one, netlist_text_one, pattern_text_one, report_text_one}
 use Rattle.dft_top.proofs.Steps.{CertifyFor, CertifyOf, CertifyOn, CertifyOver, CertifyWith, CompileOf, CompileOn, CompileOver, CompileWith, ReplayOn, ReplayOver, ScanOn, ScanOver}
 
-replay_due : (files : ReplayFiles) (held : Held) (cells : List Cell) (n : Netlist) (p : Patterns) (o : Outcome) → LibraryGives files.library held (Ok cells) → NetlistGives cells files.netlist held (Ok n) →
+pub replay_due : (files : ReplayFiles) (held : Held) (cells : List Cell) (n : Netlist) (p : Patterns) (o : Outcome) → LibraryGives files.library held (Ok cells) → NetlistGives cells files.netlist held (Ok n) →
     PatternsGive files.patterns held (Ok p) → Reaches (course_of_replay files) held o → IsOutcomeOn n p (first_misfit n p.signals) o
 replay_due files held cells n p o library netlist patterns is =
     let over = given_next (LibraryGives files.library held) (ReplayOver files held) o cells (library_gives_one files.library held) library is in
@@ -73,7 +73,7 @@ plan_next : (n : Netlist) (c : Config) (next : Plan → Outcome → Type 0) (o :
 plan_next n c next o none (inl x) = (x.0, x.1.1)
 plan_next n c next o none (inr x) = absurd (no_error (plan_refusal n c) x.1.0.0 none x.1.0.1.0)
 
-certify_due : (files : CertifyFiles) (held : Held) (cells : List Cell) (c : Config) (n : Netlist) (cubes : List Cube) (report : Report) (rows : LoadRows) (o : Outcome) → LibraryGives files.library held (Ok cells) →
+pub certify_due : (files : CertifyFiles) (held : Held) (cells : List Cell) (c : Config) (n : Netlist) (cubes : List Cube) (report : Report) (rows : LoadRows) (o : Outcome) → LibraryGives files.library held (Ok cells) →
     ConfigGives files.config held (Ok c) → NetlistGives cells files.netlist held (Ok n) → plan_refusal n c ≡ None → CubesGive n c files.cubes held (Ok cubes) → ReportGives files.report held (Ok report) →
     AreRows n c rows → Reaches (course_of_certify files) held o → IsOutcomeOfTest report (certify_refusal n c.ring (rows_of n c rows) rows.columns cubes report) o
 certify_due files held cells c n cubes report rows o library config netlist none given told are is =
