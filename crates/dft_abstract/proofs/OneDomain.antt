@@ -28,7 +28,7 @@ clock_low false e_is_d h = refl
 clock_low true true h = refl
 clock_low true false h = let q : false ≡ true = h refl in absurd cc
 
-flop_old : (pulsed e_is_d : Bool) (old poss : Tri) → (pulsed ≡ true → e_is_d ≡ true) → (if pulsed then (if e_is_d then old else poss) else old) ≡ old
+pub flop_old : (pulsed e_is_d : Bool) (old poss : Tri) → (pulsed ≡ true → e_is_d ≡ true) → (if pulsed then (if e_is_d then old else poss) else old) ≡ old
 flop_old false e_is_d old poss h = refl
 flop_old true true old poss h = refl
 flop_old true false old poss h = let q : false ≡ true = h refl in absurd cc
@@ -47,10 +47,10 @@ next_is l x old values view c same =
     ap (tri_forced_by (l.cell c).force x.ports) (taken_equal (l.cell c).scan (value_from (view (l.cell c).domain)) (value_from values) _ _ at (at (l.cell c).input))
 
 -- the least map: the old value, joined with the next one where the domain pulses
-abbrev raised : (pulsed : Bool) (old next : Tri) → Tri
+abbrev pub raised : (pulsed : Bool) (old next : Tri) → Tri
 raised pulsed old next = if pulsed then join old next else old
 
-raised_old : (pulsed : Bool) (old next : Tri) → AboveTri (raised pulsed old next) old
+pub raised_old : (pulsed : Bool) (old next : Tri) → AboveTri (raised pulsed old next) old
 raised_old true old next = join_over_left old next old (above_self old)
 raised_old false old next = above_self old
 
@@ -62,7 +62,7 @@ raised_least : (pulsed : Bool) (other old next : Tri) → AboveTri other old →
 raised_least true other old next a b = join_least other old next a (b refl)
 raised_least false other old next a b = a
 
-above_equal : (t u v : Tri) → u ≡ v → AboveTri t u → AboveTri t v
+pub above_equal : (t u v : Tri) → u ≡ v → AboveTri t u → AboveTri t v
 above_equal t u v e h = rw e at h
 
 chosen_equal : (b : Bool) (x y z : Tri) → (b ≡ true → x ≡ z) → (if b then x else y) ≡ (if b then z else y)

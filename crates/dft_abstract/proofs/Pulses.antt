@@ -1,7 +1,7 @@
 -- The values of an abstract pulse stand above the bits after every order of the rises.
 use Rattle.std.proofs.Common.{ℕ, Bool, true, false, List, [], ◌∷◌, ◌≡◌, ◌<◌, ◌+◌, ◌==◌, ◌⊎◌, inl, inr, zero, suc, refl, ap, arith, Option, None, Some, ◌∙◌, map}
 use Rattle.std.specs.Prelude.{if◌then◌else◌}
-use Rattle.std.proofs.lemmas.Bool.{eqb-true, eq-eqb}
+use Rattle.std.proofs.lemmas.Bool.{eqb-true, eq-eqb, cases_Bool}
 use Rattle.dft_base.specs.declared.tri.Tri.{Tri}
 use Rattle.dft_base.specs.declared.tri.Tri.TheVariants.{Zero, Unknown}
 use Rattle.dft_base.specs.Tri.{Above, AboveTri}
@@ -38,10 +38,6 @@ pub bit_choice : (b : Bool) (x y : Bool) (t : Tri) → (b ≡ true → Above t x
 bit_choice true x y t p q = p refl
 bit_choice false x y t p q = q refl
 
-pub cases : (b : Bool) → (b ≡ true) ⊎ (b ≡ false)
-cases true = inl refl
-cases false = inr refl
-
 -- ---- what holds after some of the pulsed clocks rose
 
 pub record Holds (l : Logic) (p : Pulse) (view : ℕ → ℕ → Tri) (s : State) : Type 0 where
@@ -74,11 +70,11 @@ flop_above l p poss view s closed holds d low c =
     tri_choice (p.pulsed e) _ _ _
     (λ pulsed. tri_choice (e == d) _ _ _
     (λ is. holds.others c (low_there s e d low is))
-    (λ is_not. elim (cases (s.high e)) [
+    (λ is_not. elim (cases_Bool (s.high e)) [
       | inl h ↦ above_trans _ _ _ (closed.next c pulsed) (holds.risen c h)
       | inr h ↦ above_trans _ _ _ (closed.old c) (holds.others c h)
     ]))
-    (λ not_pulsed. elim (cases (s.high e)) [
+    (λ not_pulsed. elim (cases_Bool (s.high e)) [
       | inl h ↦ (let q : p.pulsed e ≡ true = holds.pulsed e h in absurd cc)
       | inr h ↦ holds.others c h
     ])
@@ -130,7 +126,7 @@ rise_keeps l p view now d seen low pulsed holds =
       held = λ net c e source is h. held_keeps d now (s.held net) (l.net net) c e source (value_from (view e) source) is
           (λ same. from e source same)
           (λ is_not. holds.held net c e source is (rw is_not at h));
-      pulsed = λ e h. elim (cases (e == d)) [
+      pulsed = λ e h. elim (cases_Bool (e == d)) [
         | inl is ↦ ap p.pulsed (eqb-true e d is) ∙ pulsed
         | inr is_not ↦ holds.pulsed e (rw is_not at h)
       ];

@@ -1,6 +1,7 @@
 -- A vector: its strobe, its rises and its falls, in any orders.
 use Rattle.std.proofs.Common.{ℕ, Bool, true, false, List, [], ◌∷◌, ◌≡◌, ◌==◌, inl, inr, refl, arith, Option, sym, subst, ◌∙◌, map}
 use Rattle.std.specs.Prelude.{if◌then◌else◌}
+use Rattle.std.proofs.lemmas.Bool.{cases_Bool}
 use Rattle.dft_base.specs.declared.tri.Tri.{Tri}
 use Rattle.dft_base.specs.Tri.{Above, AboveTri}
 use Rattle.dft_cells.proofs.Completions.{above_trans}
@@ -13,7 +14,7 @@ use Rattle.dft_netlist.proofs.Steps.{after-append, AreSteps-append}
 use Rattle.dft_abstract.specs.Cycle.{Pulse, tri_forced_by, tri_taken_by, after_pulse, pulse_of, strobe_sources}
 use Rattle.dft_abstract.specs.Laws.{Stands, StrobeIsAbove, TurnIsAbove}
 use Rattle.dft_abstract.proofs.Strobe.{SourcesAbove, strobe_above}
-use Rattle.dft_abstract.proofs.Pulses.{above_forced, again, tri_choice, cases, Holds, IsForced, rises_above, low_holds}
+use Rattle.dft_abstract.proofs.Pulses.{above_forced, again, tri_choice, Holds, IsForced, rises_above, low_holds}
 
 -- ---- the Set and the strobe
 
@@ -50,9 +51,9 @@ falls_keep l ports old now (e ∷ es) stay same above c =
 
 -- after one fall of each domain that is high all are low
 falls_end : (l : Logic) (now : Now) (es : List Edge) (d : ℕ) → (now.state.high d ≡ true → times d es ≡ 1) → (after l now (map fall_step es)).state.high d ≡ false
-falls_end l now [] d once = elim (cases (now.state.high d)) [ inl h ↦ absurd (let q = once h in omega arith) | inr h ↦ h ]
+falls_end l now [] d once = elim (cases_Bool (now.state.high d)) [ inl h ↦ absurd (let q = once h in omega arith) | inr h ↦ h ]
 falls_end l now (e ∷ es) d once =
-    let left : (if d == e.domain then false else now.state.high d) ≡ true → times d es ≡ 1 = λ h. elim (cases (d == e.domain)) [
+    let left : (if d == e.domain then false else now.state.high d) ≡ true → times d es ≡ 1 = λ h. elim (cases_Bool (d == e.domain)) [
       | inl is ↦ absurd (let q = rw is at h in cc)
       | inr is_not ↦ (let q = rw is_not at (once (rw is_not at h)) in omega arith)
     ] in
@@ -74,7 +75,7 @@ pulse_above l p view s holds high c =
     let e : ℕ = (l.cell c).domain in
     tri_choice (p.pulsed e) _ _ _
     (λ is. holds.risen c (high e is))
-    (λ is_not. elim (cases (s.high e)) [
+    (λ is_not. elim (cases_Bool (s.high e)) [
       | inl h ↦ absurd (let q = holds.pulsed e h in cc)
       | inr h ↦ holds.others c h
     ])

@@ -4,3 +4,8 @@ pub mod Turns
 pub mod WordLemmas
 pub mod ReservedLemmas
 pub mod SumLemmas
+pub mod BitLemmas
+pub mod NumberLemmas
+pub mod OptionLemmas
+pub mod ListLemmas
+pub mod TextLemmas

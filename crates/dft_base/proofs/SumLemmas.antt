@@ -15,10 +15,10 @@ and_false false = refl
 pub xor_assoc : (a b c : Bool) → xor (xor a b) c ≡ xor a (xor b c)
 xor_assoc = grind arith
 
-xor_swap : (a b c d : Bool) → xor (xor a b) (xor c d) ≡ xor (xor a c) (xor b d)
+pub xor_swap : (a b c d : Bool) → xor (xor a b) (xor c d) ≡ xor (xor a c) (xor b d)
 xor_swap = grind arith
 
-and_over_xor : (a b c : Bool) → (xor a b) && c ≡ xor (a && c) (b && c)
+pub and_over_xor : (a b c : Bool) → (xor a b) && c ≡ xor (a && c) (b && c)
 and_over_xor = grind arith
 
 pub sum_same : (n : ℕ) (f h : ℕ → Bool) → ((i : ℕ) → i < n → f i ≡ h i) → sum_to n f ≡ sum_to n h
@@ -61,3 +61,6 @@ at_or_before q n h = elim (cases_lt q n) [ inl less ↦ inl less | inr least ↦
 pub sum_one : (n q : ℕ) (f : ℕ → Bool) → q < n → ((c : ℕ) → c ≢ q → f c ≡ false) → sum_to n f ≡ f q
 sum_one zero q f less zeros = absurd (omega arith)
 sum_one (suc n) q f less zeros = one_of n q f (at_or_before q n less) zeros (λ before. sum_one n q f before zeros)
+
+pub xor_comm : (a b : Bool) → xor a b ≡ xor b a
+xor_comm = grind arith

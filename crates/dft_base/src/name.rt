@@ -34,6 +34,13 @@ impl Name {
         })
     }
 
+    /// Does nothing: its clause is what holds of every name.
+    pub fn soundness(&self)
+        ensures { IsName self.now }
+    {
+        let _ = &self.bytes;
+    }
+
     /// Its bytes.
     pub fn as_slice(&self) -> &[u8]
         ensures bytes { result.now ≡ self.now }

@@ -1,34 +1,28 @@
 //! Times parts of the tool that no command reaches alone. Its words name what is timed, each with sizes behind it:
-//! `equations` with cells a chain, `systems` with columns, `patterns` with vectors, `placements` and `insertion` with chains, `captures`
-//! with gates. With no words it times each once, small. The times go to standard error. It promises nothing.
+//! `equations` with cells a chain, `systems` with columns, `sweeps` with gates, `writing` with vectors. With no words it
+//! times each once, small. The times go to standard error. It promises nothing.
 #![tactic(auto)]
 
-mod captures_pace;
-mod equations_pace;
-mod insertion_pace;
-mod patterns_pace;
-mod placements_pace;
-mod systems_pace;
+mod linear_systems;
+mod load_equations;
+mod pattern_writing;
+mod sweeps;
 
-use captures_pace::time_sweep;
-use equations_pace::time_equations;
-use insertion_pace::time_insertion;
-use patterns_pace::time_patterns;
-use placements_pace::time_placements;
+use linear_systems::time_systems;
+use load_equations::time_equations;
+use pattern_writing::time_writing;
 use std::alloc::Global;
 use std::rt::Clock;
 use std::{env, io};
-use systems_pace::time_systems;
+use sweeps::time_sweeps;
 
 // What is timed.
 #[derive(Clone, Copy)]
 enum Timed {
     Equations,
     Systems,
-    Patterns,
-    Placements,
-    Insertion,
-    Captures,
+    Sweeps,
+    Writing,
 }
 
 fn main(rt: HostRuntime) -> io::Result<()> {
@@ -36,38 +30,49 @@ fn main(rt: HostRuntime) -> io::Result<()> {
     let mut none = true;
     for word in env::args(&rt)?.skip(1) {
         none = false;
-        match word.as_str() {
-            "equations" => timed = Some(Timed::Equations),
-            "systems" => timed = Some(Timed::Systems),
-            "patterns" => timed = Some(Timed::Patterns),
-            "placements" => timed = Some(Timed::Placements),
-            "insertion" => timed = Some(Timed::Insertion),
-            "captures" => timed = Some(Timed::Captures),
-            size => {
-                if let (Some(timed), Ok(size)) = (timed, size.parse::<u32>()) {
-                    time(&rt, rt.alloc(), timed, size)?;
-                }
-            }
+        match named(&word) {
+            Some(part) => timed = Some(part),
+            None => time_at(&rt, rt.alloc(), timed, &word)?,
         }
     }
     if none {
-        time(&rt, rt.alloc(), Timed::Equations, 64)?;
-        time(&rt, rt.alloc(), Timed::Systems, 256)?;
-        time(&rt, rt.alloc(), Timed::Patterns, 1000)?;
-        time(&rt, rt.alloc(), Timed::Placements, 32)?;
-        time(&rt, rt.alloc(), Timed::Insertion, 32)?;
-        time(&rt, rt.alloc(), Timed::Captures, 1000)?;
+        time_all(&rt, rt.alloc())
+    } else {
+        Ok(())
     }
-    Ok(())
 }
 
-fn time(rt: &(impl Clock + Eprint), alloc: Global, timed: Timed, size: u32) -> io::Result<()> {
-    match timed {
-        Timed::Equations => time_equations(rt, alloc, size),
-        Timed::Systems => time_systems(rt, alloc, size),
-        Timed::Patterns => time_patterns(rt, alloc, size),
-        Timed::Placements => time_placements(rt, alloc, size),
-        Timed::Insertion => time_insertion(rt, alloc, size),
-        Timed::Captures => time_sweep(rt, alloc, size),
+// The part that a word names.
+fn named(word: &str) -> Option<Timed> {
+    match word {
+        "equations" => Some(Timed::Equations),
+        "systems" => Some(Timed::Systems),
+        "sweeps" => Some(Timed::Sweeps),
+        "writing" => Some(Timed::Writing),
+        _ => None,
+    }
+}
+
+// Each part once, small.
+fn time_all(rt: &(impl Clock + Eprint), alloc: Global) -> io::Result<()> {
+    time_equations(rt, alloc, 64)?;
+    time_systems(rt, alloc, 256)?;
+    time_sweeps(rt, alloc, 1000)?;
+    time_writing(rt, alloc, 1000)
+}
+
+// The part that was named last, at the size that a word is.
+fn time_at(
+    rt: &(impl Clock + Eprint),
+    alloc: Global,
+    timed: Option<Timed>,
+    word: &str,
+) -> io::Result<()> {
+    match (timed, word.parse::<u32>().ok()) {
+        (Some(Timed::Equations), Some(size)) => time_equations(rt, alloc, size),
+        (Some(Timed::Systems), Some(size)) => time_systems(rt, alloc, size),
+        (Some(Timed::Sweeps), Some(size)) => time_sweeps(rt, alloc, size),
+        (Some(Timed::Writing), Some(size)) => time_writing(rt, alloc, size),
+        _ => eprintln!(rt; "{word}: equations, systems, sweeps or writing, and sizes"),
     }
 }

@@ -6,10 +6,12 @@ use Rattle.std.specs.Ordering.{match_ordering}
 use Rattle.std.specs.Cmp.Lexicographic.{slice_cmp}
 use Rattle.std.specs.BTreeSet.{insert_key}
 use Rattle.std.specs.BTreeMap.{is_at}
-use Rattle.std.proofs.lemmas.Bool.{and_parts, false≢true}
+use Rattle.std.proofs.lemmas.Bool.{and_parts, false≢true, or_parts, not-true, not-false}
 use Rattle.std.proofs.lemmas.List.{take_more, take-append-drop, drop_more, map-append}
 use Rattle.std.proofs.lemmas.Map.Text.{is_eq-slice_cmp}
 use Rattle.std.proofs.lemmas.Slice.Eq.{bytes_eq-Decides}
+use Rattle.dft_base.proofs.SumLemmas.{and_false}
+use Rattle.dft_base.proofs.TextLemmas.{bytes_eq-comm}
 use Rattle.dft_cells.specs.declared.cell.Pin.{Pin}
 use Rattle.dft_cells.specs.WellFormed.{has_name, all_differ, pin_name}
 
@@ -33,9 +35,6 @@ same_both true true a b e f = refl
 same_both false false a b e f = refl
 same_both true false a b e f = let same = (bytes_eq-Decides a b).0 e in absurd (let back = (bytes_eq-Decides b a).1 (sym same) in cc)
 same_both false true a b e f = let same = (bytes_eq-Decides b a).0 f in absurd (let back = (bytes_eq-Decides a b).1 (sym same) in cc)
-
-turned : (a b : List ℕ) → bytes_eq a b ≡ bytes_eq b a
-turned a b = same_both (bytes_eq a b) (bytes_eq b a) a b refl refl
 
 or_twice : (a b : Bool) → (a || b) ≡ (a || (a || b))
 or_twice true b = refl
@@ -70,7 +69,7 @@ inserted_seen (x ∷ xs) key name = inserted_by (key_order key x) key x xs (inse
 -- a key is there where its bytes are
 pub there : (keys : List Key) (key : Key) → list_any (is_at (key_order key)) keys ≡ seen keys key.items
 there [] key = refl
-there (x ∷ xs) key = rw (is_eq-slice_cmp key.items x.items, turned key.items x.items, there xs key)
+there (x ∷ xs) key = rw (is_eq-slice_cmp key.items x.items, bytes_eq-comm key.items x.items, there xs key)
 
 named_pushed : (names : List (List ℕ)) (last name : List ℕ) → has_name (names ++ last ∷ []) name ≡ (bytes_eq last name || has_name names name)
 named_pushed [] last name = refl
@@ -80,33 +79,21 @@ named_pushed (x ∷ names) last name = rw (named_pushed names last name) (or_tur
 pub seen_more : (keys : List Key) (key : Key) (names : List (List ℕ)) → AreSeen keys names → AreSeen (insert_key key_order keys key) (names ++ key.items ∷ [])
 seen_more keys key names h name = inserted_seen keys key name ∙ ap (λ (b : Bool). bytes_eq key.items name || b) (h name) ∙ sym (named_pushed names key.items name)
 
-or_false : (a b : Bool) → (a || b) ≡ false → (a ≡ false) × (b ≡ false)
-or_false true b e = absurd (cc)
-or_false false b e = (refl, e)
-
-not_true : (a : Bool) → not a ≡ true → a ≡ false
-not_true true e = absurd (cc)
-not_true false e = refl
-
 -- names that differ, and a name that is none of them
 pub differ_more : (names : List (List ℕ)) (last : List ℕ) → all_differ names ≡ true → has_name names last ≡ false → all_differ (names ++ last ∷ []) ≡ true
 differ_more [] last d h = refl
 differ_more (x ∷ names) last d h =
     let (apart, rest) = and_parts (not (has_name names x)) (all_differ names) d in
-    let (here, later) = or_false (bytes_eq x last) (has_name names last) h in
-    rw (named_pushed names last x, turned last x, here, not_true (has_name names x) apart, differ_more names last rest later)
+    let (here, later) = or_parts (bytes_eq x last) (has_name names last) h in
+    rw (named_pushed names last x, bytes_eq-comm last x, here, not-true (has_name names x) apart, differ_more names last rest later)
 
 named_within : (names rest : List (List ℕ)) (last name : List ℕ) → bytes_eq last name ≡ true → has_name (names ++ last ∷ rest) name ≡ true
 named_within [] rest last name e = rw e
 named_within (x ∷ names) rest last name e = rw (named_within names rest last name e) (or_end (bytes_eq x name) true)
 
-and_false : (a : Bool) → (a && false) ≡ false
-and_false true = refl
-and_false false = refl
-
 differ_not : (same : Bool) (x last : List ℕ) (names rest : List (List ℕ)) → bytes_eq x last ≡ same → (same || has_name names last) ≡ true
     → (has_name names last ≡ true → all_differ (names ++ last ∷ rest) ≡ false) → all_differ (x ∷ names ++ last ∷ rest) ≡ false
-differ_not true x last names rest e h more = rw (named_within names rest last x (turned last x ∙ e))
+differ_not true x last names rest e h more = rw (named_within names rest last x (bytes_eq-comm last x ∙ e))
 differ_not false x last names rest e h more = rw (more h) (and_false (not (has_name (names ++ last ∷ rest) x)))
 
 -- names of which one stands among those before it do not differ
@@ -122,10 +109,6 @@ pub all_names : (pins : List Pin) (i : ℕ) (d : Pin) → i < length pins → ma
 all_names pins i d less =
     ap (map pin_name) (sym (take-append-drop i pins)) ∙ map-append pin_name (take i pins) (drop i pins)
     ∙ ap (λ (l : List Pin). map pin_name (take i pins) ++ map pin_name l) (drop_more pins i d less)
-
-not_false : (a : Bool) → not a ≡ false → a ≡ true
-not_false true e = refl
-not_false false e = absurd (cc)
 
 -- a key that is new, and a key that was seen, among the names of the first pins
 module _ (keys : List Key) (key : Key) (pins : List Pin) (i : ℕ) (pin : Pin) (added : Bool) (less : i < length pins) (at : pin ≡ get_or pins i pin) (items : key.items ≡ pin.name)
@@ -146,11 +129,11 @@ module _ (keys : List Key) (key : Key) (pins : List Pin) (i : ℕ) (pin : Pin) (
 
   pub differ_grows : added ≡ true → all_differ (map pin_name (take i pins)) ≡ true → all_differ (map pin_name (take (i + 1) pins)) ≡ true
   differ_grows new d =
-      let absent = sym looked_up ∙ not_true (list_any (is_at (key_order key)) keys) (sym is_added ∙ new) in
+      let absent = sym looked_up ∙ not-true (list_any (is_at (key_order key)) keys) (sym is_added ∙ new) in
       rw grown (differ_more (map pin_name (take i pins)) key.items d absent)
 
   pub repeated : added ≡ false → all_differ (map pin_name pins) ≡ false
   repeated old =
-      let present = sym looked_up ∙ not_false (list_any (is_at (key_order key)) keys) (sym is_added ∙ old) in
+      let present = sym looked_up ∙ not-false (list_any (is_at (key_order key)) keys) (sym is_added ∙ old) in
       let whole = all_names pins i pin less ∙ ap (λ (name : List ℕ). map pin_name (take i pins) ++ name ∷ map pin_name (drop (i + 1) pins)) name_is in
       rw whole (not_differing (map pin_name (take i pins)) (map pin_name (drop (i + 1) pins)) key.items present)

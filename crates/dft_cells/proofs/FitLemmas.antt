@@ -1,8 +1,8 @@
 -- The library that a table stands for is well formed.
-use Rattle.std.proofs.Common.{ℕ, ◌≡◌, ◌≤◌, nat_le, Bool, true, false, not, cond, codes, List, [], ◌∷◌, map, length, Option, Some, None, option_and_then, Result, Ok, Err, Less, String, Global, string_bytes, refl, arith}
+use Rattle.std.proofs.Common.{ℕ, ◌≡◌, ◌≤◌, nat_le, Bool, true, false, not, cond, codes, List, [], ◌∷◌, map, length, Option, Some, None, option_and_then, Result, Ok, Err, Less, String, Global, string_bytes, refl, subst, arith}
 use Rattle.std.specs.Map.{keys_of}
 use Rattle.std.specs.String.{string_cmp}
-use Rattle.std.specs.List.{AllByRecursion}
+use Rattle.std.specs.List.{AllByRecursion, list_all}
 use Rattle.std.specs.List.Sorted.{IsStrictlySortedBy}
 use Rattle.std.proofs.lemmas.Bool.Decides.{nat_tests}
 use Rattle.dft_base.specs.Words.{is_reserved}
@@ -19,7 +19,8 @@ use Rattle.dft_cells.specs.declared.library.TheConstants.{MAX_CELLS}
 use Rattle.dft_cells.specs.Keys.{kind_named, keys_of as key_words, pin_keys}
 use Rattle.dft_cells.specs.Drafts.{draft_of, draft_of_kind, pins_of, scan_name, rows_of, fitted}
 use Rattle.dft_cells.specs.Reading.{key_count, few, cells_table, judged, drafts_of, cell_with}
-use Rattle.dft_cells.specs.WellFormed.{IsCell, ascend, comes_before}
+use Rattle.dft_cells.specs.WellFormed.{IsCell, ascend, comes_before, pin_name}
+use Rattle.dft_cells.proofs.PinNames.{both_pass, pins_pass, tested}
 use Rattle.dft_cells.proofs.Outcomes.{needed_ok, checked_ok, after_ok, cons_parts}
 use Rattle.dft_cells.proofs.RoleLemmas.{fitted_parts}
 use Rattle.dft_cells.proofs.Halving.{names_of}
@@ -32,9 +33,9 @@ pub record IsDraft (name : List ℕ) (draft : Draft) : Type 0 where
   pub named : draft.name ≡ name
   pub fits : IsCell (cell_with None draft)
 
-pub kind_drafts : (name : List ℕ) (kind : Kind) (table : Members) (draft : Draft) → draft_of_kind name kind table ≡ Ok draft → IsDraft name draft
+pub kind_drafts : (name : List ℕ) (kind : Kind) (table : Members) (draft : Draft) → is_name name ≡ true → draft_of_kind name kind table ≡ Ok draft → IsDraft name draft
 unfolding draft_of_kind
-kind_drafts name kind table draft h =
+kind_drafts name kind table draft named h =
     let (_, keys) = checked_ok (has_only (key_words kind) table) _ _ draft h in
     let (pins, pins_are, rest) = needed_ok _ (pins_of (pin_keys kind) table) _ draft keys in
     let (scan, _, with_scan) = after_ok (scan_name table) _ draft rest in
@@ -43,11 +44,7 @@ kind_drafts name kind table draft h =
     let (_, done) = checked_ok (not (is_reserved name)) flaw.Reserved (made name fitting pins scan) draft last in
     let is : record { name = name; kind = fitting; pins = pins; scan = scan } ≡ draft = cc in
     let (roles, differ) = fitted_parts kind table pins rows fitting pins_are fitted_is in
-    rw (← is) record { named = refl; fits = record { roles = roles; differ = differ } }
-
-named_tested : (test : Bool) (name given : List ℕ) → cond test (Some name) None ≡ Some given → name ≡ given
-named_tested true name given e = cc
-named_tested false name given e = absurd (cc)
+    rw (← is) record { named = refl; fits = record { roles = roles; differ = differ; named = both_pass (is_name name) (list_all is_name (map pin_name pins)) named (pins_pass (pin_keys kind) table pins pins_are) } }
 
 pub drafts_fit : (name : List ℕ) (value : Data) (draft : Draft) → draft_of name value ≡ Ok draft → IsDraft name draft
 unfolding draft_of
@@ -56,8 +53,8 @@ drafts_fit name value draft h =
     let (table, _, tabled) = needed_ok _ (as_table value) _ draft named in
     let (word, _, worded) = needed_ok _ (text_at (codes "kind") table) _ draft tabled in
     let (kind, _, kinded) = needed_ok _ (kind_named word) _ draft worded in
-    let same : name ≡ given = named_tested (is_name name) name given given_is in
-    rw same (kind_drafts given kind table draft kinded)
+    let (passes, same) = tested (is_name name) name given given_is in
+    rw same (kind_drafts given kind table draft (subst (λ q. is_name q ≡ true) same passes) kinded)
 
 judged_ok : (name : List ℕ) (found : Result Draft Flaw) (draft : Draft) → judged name found ≡ Ok draft → found ≡ Ok draft
 judged_ok name (Ok d) draft h = cc

@@ -28,7 +28,7 @@ AllBefore drafts name n = (k : ℕ) (d : Draft) → k < n → k < length drafts 
 abbrev pub AllAfter : List Draft → List ℕ → ℕ → Type 0
 AllAfter drafts name n = (k : ℕ) (d : Draft) → n ≤ k → k < length drafts → order_of (get_or drafts k d).name name ≡ Greater
 
-less_from : (o : Ordering) → is_lt o ≡ true → o ≡ Less
+pub less_from : (o : Ordering) → is_lt o ≡ true → o ≡ Less
 less_from Less e = refl
 less_from Equal e = cc
 less_from Greater e = cc
@@ -83,7 +83,7 @@ module _ (drafts : List Draft) (up : ascend (names_of drafts) ≡ true) (name : 
       at (inr lower) = let here : k ≡ middle = omega arith in rw (here, get_or_default drafts middle d x within) e
 
 -- names that differ in order are not the same, and those that do not are
-differ_less : (a b : List ℕ) → order_of a b ≡ Less → bytes_eq a b ≡ false
+pub differ_less : (a b : List ℕ) → order_of a b ≡ Less → bytes_eq a b ≡ false
 differ_less a b e = sym (is_eq-slice_cmp a b) ∙ ap is_eq e
 
 differ_greater : (a b : List ℕ) → order_of a b ≡ Greater → bytes_eq a b ≡ false

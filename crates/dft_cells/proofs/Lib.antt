@@ -11,5 +11,7 @@ pub mod LibraryLemmas
 pub mod FitLemmas
 pub mod Outcomes
 pub mod RoleLemmas
+pub mod PinNames
+pub mod CellNames
 pub mod Halving
 pub mod ReadingLemmas

@@ -69,7 +69,7 @@ counted all (draft ∷ part) cells h =
     rw same (omega (arith, count))
 
 cell_fits : (draft : Draft) (cell : Cell) → IsCellOf draft cell → IsCell (cell_with None draft) → IsCell cell
-cell_fits draft cell is fits = record { roles = rw (is.kind, is.pins) fits.roles; differ = rw is.pins fits.differ }
+cell_fits draft cell is fits = record { roles = rw (is.kind, is.pins) fits.roles; differ = rw is.pins fits.differ; named = rw (is.name, is.pins) fits.named }
 
 cells_fit : (all part : List Draft) (cells : List Cell) → cells_among all part ≡ Ok cells → AllByRecursion (λ draft. IsCell (cell_with None draft)) part → AllByRecursion IsCell cells
 cells_fit all [] cells h fit = let empty : [] ≡ cells = cc in rw (← empty) tt

@@ -242,7 +242,7 @@ shared_equal f g (One ∷ ts) same = shared_equal (λ bs. f (true ∷ bs)) (λ b
 shared_equal f g (Unknown ∷ ts) same =
     rw (shared_equal (λ bs. f (false ∷ bs)) (λ bs. g (false ∷ bs)) ts (λ bs. same (false ∷ bs)), shared_equal (λ bs. f (true ∷ bs)) (λ bs. g (true ∷ bs)) ts (λ bs. same (true ∷ bs)))
 
-abbrev TableAt : ℕ → ℕ → ℕ → List Bool → Bool
+abbrev pub TableAt : ℕ → ℕ → ℕ → List Bool → Bool
 TableAt table place weight bits = bit_of_number table (place + weight * number_of bits)
 
 -- an unknown input of a table
@@ -257,7 +257,7 @@ table_unknown table place weight ts =
 behind : (t : Tri) (ts : List Tri) → take (length (t ∷ ts) - 1) (drop 1 (t ∷ ts)) ≡ ts
 behind t ts = let e : length (t ∷ ts) - 1 ≡ length ts = omega arith in ap (λ (n : ℕ). take n ts) e ∙ take-length ts
 
-narrow : (place place' weight half : ℕ) → 1 ≤ half → place' ≤ place + weight → place + weight * (half * 2) < 64 + weight
+pub narrow : (place place' weight half : ℕ) → 1 ≤ half → place' ≤ place + weight → place + weight * (half * 2) < 64 + weight
     → (place' + (2 * weight) * half < 64 + 2 * weight) × (2 * weight < 128)
 narrow place place' weight half some near small =
     let one : weight * 1 ≤ weight * half = mul-le-mul_left weight some in

@@ -3,6 +3,7 @@ use Rattle.std.proofs.Common.{ℕ, ◌≡◌, ◌≤◌, ◌<◌, ◌-◌, ◌==
 use Rattle.std.proofs.Math.ListN.{drop_of_length-le}
 use Rattle.std.proofs.lemmas.List.{length-map, length-drop}
 use Rattle.std.proofs.lemmas.Bool.Decides.{nat_tests}
+use Rattle.dft_base.proofs.NumberLemmas.{not_zero}
 use Rattle.toml.specs.Data.{Members}
 use Rattle.toml.specs.View.{view, members_view}
 use Rattle.toml.specs.declared.value.Value.{Value}
@@ -46,9 +47,6 @@ draft_more entries rest key value done draft e good =
     ap (λ (l : List (String Global × Value)). after (drafts_of (members_view l)) (λ xs. Ok (done ++ xs))) e
     ∙ ap (λ (first : Result Draft LibraryError). after (cons_ok first (drafts_of (members_view rest))) (λ xs. Ok (done ++ xs))) good
     ∙ cons_after (drafts_of (members_view rest)) done draft
-
-not_zero : (n : ℕ) → (suc n == 0) ≡ false
-not_zero n = grind (arith, nat_tests)
 
 same_none : (names : List (List ℕ)) → same_names [] names ≡ (length names == 0)
 same_none [] = refl

@@ -1,6 +1,6 @@
 -- The pins that the keys of a kind name have the roles of the kind.
 use Rattle.std.proofs.Common.{ℕ, zero, suc, ◌≡◌, ◌+◌, ◌≤◌, ◌==◌, ◌^◌, ◌&&◌, nat_le, Bool, true, false, cond, IsTrue, List, [], ◌∷◌, ◌++◌, map, length, replicate, Option, Some, None, option_map, Result, Ok, ◌⊎◌, inl, inr, codes, subst, refl, sym, ap, ◌∙◌, add-zero, zero-add, append-nil, arith}
-use Rattle.std.proofs.lemmas.Bool.{and_parts}
+use Rattle.std.proofs.lemmas.Bool.{and_parts, eqb-true}
 use Rattle.std.proofs.lemmas.Bool.Decides.{nat_tests}
 use Rattle.toml.specs.Data.{Members}
 use Rattle.dft_toml.specs.Values.{name_at, has_key}
@@ -182,21 +182,18 @@ up_to_eight n t = let (low, high) = and_parts (nat_le 1 n) (nat_le n 8) t in (gr
 up_to_six : (n : ℕ) → (nat_le 1 n && nat_le n 6) ≡ true → (1 ≤ n) × (n ≤ 6)
 up_to_six n t = let (low, high) = and_parts (nat_le 1 n) (nat_le n 6) t in (grind (arith, nat_tests), grind (arith, nat_tests))
 
-exactly : (n k : ℕ) → (n == k) ≡ true → n ≡ k
-exactly n k t = grind (arith, nat_tests)
-
 -- the pins that the keys of a kind name, where the number of inputs fits, have the roles of the kind
 pub has_roles : (kind : Kind) (table : Members) (pins : List Pin) → pins_of (pin_keys kind) table ≡ Some pins
     → takes_inputs kind (input_count pins) ≡ true → HasRoles kind (roles_of pins)
-has_roles Buf table pins h t = gate_roles (TakesInputs Buf) table pins h (exactly _ 1 t)
-has_roles Inv table pins h t = gate_roles (TakesInputs Inv) table pins h (exactly _ 1 t)
+has_roles Buf table pins h t = gate_roles (TakesInputs Buf) table pins h (eqb-true _ 1 t)
+has_roles Inv table pins h t = gate_roles (TakesInputs Inv) table pins h (eqb-true _ 1 t)
 has_roles And table pins h t = gate_roles (TakesInputs And) table pins h (up_to_eight _ t)
 has_roles Nand table pins h t = gate_roles (TakesInputs Nand) table pins h (up_to_eight _ t)
 has_roles Or table pins h t = gate_roles (TakesInputs Or) table pins h (up_to_eight _ t)
 has_roles Nor table pins h t = gate_roles (TakesInputs Nor) table pins h (up_to_eight _ t)
 has_roles Xor table pins h t = gate_roles (TakesInputs Xor) table pins h (up_to_eight _ t)
 has_roles Xnor table pins h t = gate_roles (TakesInputs Xnor) table pins h (up_to_eight _ t)
-has_roles Mux2 table pins h t = gate_roles (TakesInputs Mux2) table pins h (exactly _ 3 t)
+has_roles Mux2 table pins h t = gate_roles (TakesInputs Mux2) table pins h (eqb-true _ 3 t)
 has_roles (Table number) table pins h t = gate_roles (TakesInputs (Table number)) table pins h (up_to_six _ t)
 has_roles Tie0 table pins h t = (0, refl, tie_roles table pins h)
 has_roles Tie1 table pins h t = (0, refl, tie_roles table pins h)

@@ -1,6 +1,7 @@
 -- The standard library is well formed.
 use Rattle.std.proofs.Common.{◌≡◌, ℕ, zero, suc, ◌≤◌, List, [], ◌∷◌, ◌++◌, slice_get, Some, refl, inr, arith}
 use Rattle.std.specs.List.{AllByRecursion}
+use Rattle.dft_base.proofs.ListLemmas.{all_append}
 use Rattle.dft_cells.specs.declared.kind.Role.TheVariants.{Input, Output}
 use Rattle.dft_cells.specs.WellFormed.{GateRoles, IsCell, HasScanCell, IsWellFormed}
 use Rattle.dft_cells.specs.Standard.{standard_cells, and_gates, buffer_and_clock_gate, flip_flops, inverter_to_mux, nand_gates, nor_gates, or_gates, scan_flip_flops, tie_to_xor}
@@ -21,40 +22,35 @@ at_each P [] all place x at = absurd (cc)
 at_each P (y ∷ xs) all zero x at = let e : y ≡ x = cc in rw (← e) all.0
 at_each P (y ∷ xs) all (suc place) x at = at_each P xs all.1 place x at
 
--- a fact of the elements of two lists
-pub both : {X : Type 0} (P : X → Type 0) (xs ys : List X) → AllByRecursion P xs → AllByRecursion P ys → AllByRecursion P (xs ++ ys)
-both P [] ys h k = k
-both P (x ∷ xs) ys h k = (h.0, both P xs ys h.1 k)
-
 and_gates_fit : AllByRecursion IsCell and_gates
-and_gates_fit = (record { roles = two; differ = refl }, (record { roles = three; differ = refl }, (record { roles = four; differ = refl }, tt)))
+and_gates_fit = (record { roles = two; differ = refl; named = refl }, (record { roles = three; differ = refl; named = refl }, (record { roles = four; differ = refl; named = refl }, tt)))
 
 buffer_and_clock_gate_fit : AllByRecursion IsCell buffer_and_clock_gate
-buffer_and_clock_gate_fit = (record { roles = (1, refl, refl); differ = refl }, (record { roles = (2, 1, refl); differ = refl }, tt))
+buffer_and_clock_gate_fit = (record { roles = (1, refl, refl); differ = refl; named = refl }, (record { roles = (2, 1, refl); differ = refl; named = refl }, tt))
 
 flip_flops_fit : AllByRecursion IsCell flip_flops
-flip_flops_fit = (record { roles = inr refl; differ = refl }, (record { roles = inr refl; differ = refl }, (record { roles = inr refl; differ = refl }, tt)))
+flip_flops_fit = (record { roles = inr refl; differ = refl; named = refl }, (record { roles = inr refl; differ = refl; named = refl }, (record { roles = inr refl; differ = refl; named = refl }, tt)))
 
 inverter_to_mux_fit : AllByRecursion IsCell inverter_to_mux
-inverter_to_mux_fit = (record { roles = (1, refl, refl); differ = refl }, (record { roles = (2, 1, refl); differ = refl }, (record { roles = refl; differ = refl }, (record { roles = (3, refl, refl); differ = refl }, tt))))
+inverter_to_mux_fit = (record { roles = (1, refl, refl); differ = refl; named = refl }, (record { roles = (2, 1, refl); differ = refl; named = refl }, (record { roles = refl; differ = refl; named = refl }, (record { roles = (3, refl, refl); differ = refl; named = refl }, tt))))
 
 nand_gates_fit : AllByRecursion IsCell nand_gates
-nand_gates_fit = (record { roles = two; differ = refl }, (record { roles = three; differ = refl }, (record { roles = four; differ = refl }, tt)))
+nand_gates_fit = (record { roles = two; differ = refl; named = refl }, (record { roles = three; differ = refl; named = refl }, (record { roles = four; differ = refl; named = refl }, tt)))
 
 nor_gates_fit : AllByRecursion IsCell nor_gates
-nor_gates_fit = (record { roles = two; differ = refl }, (record { roles = three; differ = refl }, (record { roles = four; differ = refl }, tt)))
+nor_gates_fit = (record { roles = two; differ = refl; named = refl }, (record { roles = three; differ = refl; named = refl }, (record { roles = four; differ = refl; named = refl }, tt)))
 
 or_gates_fit : AllByRecursion IsCell or_gates
-or_gates_fit = (record { roles = two; differ = refl }, (record { roles = three; differ = refl }, (record { roles = four; differ = refl }, tt)))
+or_gates_fit = (record { roles = two; differ = refl; named = refl }, (record { roles = three; differ = refl; named = refl }, (record { roles = four; differ = refl; named = refl }, tt)))
 
 scan_flip_flops_fit : AllByRecursion IsCell scan_flip_flops
-scan_flip_flops_fit = (record { roles = inr refl; differ = refl }, (record { roles = inr refl; differ = refl }, (record { roles = inr refl; differ = refl }, tt)))
+scan_flip_flops_fit = (record { roles = inr refl; differ = refl; named = refl }, (record { roles = inr refl; differ = refl; named = refl }, (record { roles = inr refl; differ = refl; named = refl }, tt)))
 
 tie_to_xor_fit : AllByRecursion IsCell tie_to_xor
-tie_to_xor_fit = (record { roles = (0, refl, refl); differ = refl }, (record { roles = (0, refl, refl); differ = refl }, (record { roles = two; differ = refl }, (record { roles = two; differ = refl }, tt))))
+tie_to_xor_fit = (record { roles = (0, refl, refl); differ = refl; named = refl }, (record { roles = (0, refl, refl); differ = refl; named = refl }, (record { roles = two; differ = refl; named = refl }, (record { roles = two; differ = refl; named = refl }, tt))))
 
 cells_fit : AllByRecursion IsCell standard_cells
-cells_fit = both IsCell (and_gates ++ buffer_and_clock_gate ++ flip_flops ++ inverter_to_mux ++ nand_gates ++ nor_gates ++ or_gates ++ scan_flip_flops) tie_to_xor (both IsCell (and_gates ++ buffer_and_clock_gate ++ flip_flops ++ inverter_to_mux ++ nand_gates ++ nor_gates ++ or_gates) scan_flip_flops (both IsCell (and_gates ++ buffer_and_clock_gate ++ flip_flops ++ inverter_to_mux ++ nand_gates ++ nor_gates) or_gates (both IsCell (and_gates ++ buffer_and_clock_gate ++ flip_flops ++ inverter_to_mux ++ nand_gates) nor_gates (both IsCell (and_gates ++ buffer_and_clock_gate ++ flip_flops ++ inverter_to_mux) nand_gates (both IsCell (and_gates ++ buffer_and_clock_gate ++ flip_flops) inverter_to_mux (both IsCell (and_gates ++ buffer_and_clock_gate) flip_flops (both IsCell (and_gates) buffer_and_clock_gate and_gates_fit buffer_and_clock_gate_fit) flip_flops_fit) inverter_to_mux_fit) nand_gates_fit) nor_gates_fit) or_gates_fit) scan_flip_flops_fit) tie_to_xor_fit
+cells_fit = all_append IsCell (and_gates ++ buffer_and_clock_gate ++ flip_flops ++ inverter_to_mux ++ nand_gates ++ nor_gates ++ or_gates ++ scan_flip_flops) tie_to_xor (all_append IsCell (and_gates ++ buffer_and_clock_gate ++ flip_flops ++ inverter_to_mux ++ nand_gates ++ nor_gates ++ or_gates) scan_flip_flops (all_append IsCell (and_gates ++ buffer_and_clock_gate ++ flip_flops ++ inverter_to_mux ++ nand_gates ++ nor_gates) or_gates (all_append IsCell (and_gates ++ buffer_and_clock_gate ++ flip_flops ++ inverter_to_mux ++ nand_gates) nor_gates (all_append IsCell (and_gates ++ buffer_and_clock_gate ++ flip_flops ++ inverter_to_mux) nand_gates (all_append IsCell (and_gates ++ buffer_and_clock_gate ++ flip_flops) inverter_to_mux (all_append IsCell (and_gates ++ buffer_and_clock_gate) flip_flops (all_append IsCell (and_gates) buffer_and_clock_gate and_gates_fit buffer_and_clock_gate_fit) flip_flops_fit) inverter_to_mux_fit) nand_gates_fit) nor_gates_fit) or_gates_fit) scan_flip_flops_fit) tie_to_xor_fit
 
 scans_fit : AllByRecursion (HasScanCell standard_cells) standard_cells
 scans_fit = (tt, (tt, (tt, (tt, (tt, (record { other = _; at = refl; fits = refl; shared = refl }, (record { other = _; at = refl; fits = refl; shared = refl }, (record { other = _; at = refl; fits = refl; shared = refl }, (tt, (tt, (tt, (tt, (tt, (tt, (tt, (tt, (tt, (tt, (tt, (tt, (tt, (tt, (tt, (tt, (tt, (tt, (tt, (tt, tt))))))))))))))))))))))))))))

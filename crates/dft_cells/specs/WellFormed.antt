@@ -2,7 +2,9 @@
 use Rattle.std.specs.Prelude.{◌≡◌, ℕ, ◌≤◌, Bool, true, false, not, ◌&&◌, ◌||◌, IsTrue, List, [], ◌∷◌, ◌++◌, map, length, replicate, slice_get, Option, Some, None, MatchOption, ◌⊎◌, if◌then◌else◌}
 use Rattle.std.specs.Ordering.{nat_cmp, is_lt}
 use Rattle.std.specs.Cmp.Lexicographic.{slice_cmp}
+use Rattle.std.specs.List.{list_all}
 use Rattle.std.specs.Str.{bytes_eq}
+use Rattle.dft_toml.specs.Values.{is_name}
 use Rattle.dft_cells.specs.declared.kind.Kind.{Kind}
 use Rattle.dft_cells.specs.declared.kind.Kind.TheVariants.{Buf, Inv, And, Nand, Or, Nor, Xor, Xnor, Mux2, Table, Tie0, Tie1, Dff, Dffr, Dffs, Sdff, Sdffr, Sdffs, Lockup, Opaque}
 use Rattle.dft_cells.specs.declared.kind.Role.{Role}
@@ -74,10 +76,11 @@ abbrev pub ascend : List (List ℕ) → Bool
 ascend [] = true
 ascend (name ∷ names) = comes_before name names && ascend names
 
--- the pins are those of the cell's kind, and their names differ
+-- the pins are those of the cell's kind, their names differ, and these and the cell's name are names
 pub record IsCell (cell : Cell) : Type 0 where
   pub roles : HasRoles cell.kind (map role_of cell.pins)
   pub differ : IsTrue (all_differ (map pin_name cell.pins))
+  pub named : IsTrue (list_all is_name (cell.name ∷ map pin_name cell.pins))
 
 -- the scan kind that replaces a flip-flop's kind
 abbrev pub scan_kind : Kind → Option Kind

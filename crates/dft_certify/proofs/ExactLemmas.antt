@@ -3,6 +3,7 @@ use Rattle.std.proofs.Common.{ℕ, zero, suc, ◌+◌, ◌<◌, ◌≤◌, ◌�
 use Rattle.std.specs.Prelude.{not}
 use Rattle.std.specs.List.{list_all, range_with_len}
 use Rattle.std.proofs.lemmas.Option.{none-some, same_Some}
+use Rattle.std.proofs.lemmas.Bool.{not-true, and_parts, and_from}
 use Rattle.dft_netlist.specs.declared.ids.InstanceId.{InstanceId}
 use Rattle.dft_netlist.specs.Netlist.{Netlist}
 use Rattle.dft_config.specs.declared.config.RingConfig.{RingConfig}
@@ -14,13 +15,9 @@ use Rattle.dft_report.specs.declared.report.CubeReport.{CubeReport}
 use Rattle.dft_report.specs.declared.report.SumLine.{SumLine}
 use Rattle.dft_certify.specs.Certifying.{cube_named, entries_refusal, first_line, has_column, is_certificate, lines_refusal, odd_in, or_later, outcome_lines, outcome_refusal, sums_refusal, unless_certified}
 use Rattle.dft_certify.specs.Laws.{AllCertified, CertifiedExactly, IsCertified}
-use Rattle.dft_certify.proofs.SumLemmas.{and_both, are_sums, both_and, each_sum, later_none, later_parts, once_sum, passed_sums, sums_pass}
+use Rattle.dft_certify.proofs.SumLemmas.{are_sums, each_sum, later_none, later_parts, once_sum, passed_sums, sums_pass}
 
 -- ---- columns
-
-not_true : (a : Bool) → not a ≡ true → a ≡ false
-not_true true e = absurd (let f : false ≡ true = e in cc)
-not_true false e = refl
 
 low_split : (a b : ℕ) → a ≤ b → (a ≡ b) ⊎ (a + 1 ≤ b)
 low_split zero zero le = inl refl
@@ -29,19 +26,19 @@ low_split (suc a) zero le = absurd (omega (arith, le))
 low_split (suc a) (suc b) le = elim (low_split a b (omega (arith, le))) [ inl same ↦ inl (ap suc same) | inr less ↦ inr (omega (arith, less)) ]
 
 off_by : (test : ℕ → Bool) (from c : ℕ) → (from ≡ c) ⊎ (from + 1 ≤ c) → not (test from) ≡ true → (from + 1 ≤ c → test c ≡ false) → test c ≡ false
-off_by test from c (inl same) here more = ap test (sym same) ∙ not_true (test from) here
+off_by test from c (inl same) here more = ap test (sym same) ∙ not-true (test from) here
 off_by test from c (inr less) here more = more less
 
 all_off : (test : ℕ → Bool) (from count : ℕ) → list_all (λ c. not (test c)) (range_with_len from count) ≡ true → (c : ℕ) → from ≤ c → c < from + count → test c ≡ false
 all_off test from zero e c low high = absurd (omega (arith, low, high))
 all_off test from (suc count) e c low high =
-    let parts = and_both (not (test from)) (list_all (λ k. not (test k)) (range_with_len (from + 1) count)) e in
+    let parts = and_parts (not (test from)) (list_all (λ k. not (test k)) (range_with_len (from + 1) count)) e in
     off_by test from c (low_split from c low) parts.0 (λ less. all_off test (from + 1) count parts.1 c less (omega (arith, high)))
 
 off_all : (test : ℕ → Bool) (from count : ℕ) → ((c : ℕ) → from ≤ c → c < from + count → test c ≡ false) → list_all (λ c. not (test c)) (range_with_len from count) ≡ true
 off_all test from zero off = refl
 off_all test from (suc count) off =
-    both_and (not (test from)) (list_all (λ c. not (test c)) (range_with_len (from + 1) count)) (ap not (off from (omega arith) (omega arith)))
+    and_from (not (test from)) (list_all (λ c. not (test c)) (range_with_len (from + 1) count)) (ap not (off from (omega arith) (omega arith)))
     (off_all test (from + 1) count (λ c low high. off c (omega (arith, low)) (omega (arith, high))))
 
 -- ---- a cube
@@ -55,7 +52,7 @@ module _ (n : Netlist) (ring : RingConfig) (row : CellRows) (columns : ℕ) wher
   certified number name cells lines e =
       let parts = later_parts (sums_refusal n ring row cells [] (number + 1) lines) (unless_certified (is_certificate n row columns lines) name) e in
       let are = passed_sums n ring row cells [] (number + 1) lines parts.0 in
-      let both = and_both (odd_in (λ line. line.bit) lines) (list_all (λ column. not (odd_in (has_column n row column) lines)) (range_with_len 0 columns)) (unless (is_certificate n row columns lines) name parts.1) in
+      let both = and_parts (odd_in (λ line. line.bit) lines) (list_all (λ column. not (odd_in (has_column n row column) lines)) (range_with_len 0 columns)) (unless (is_certificate n row columns lines) name parts.1) in
       record {
         each = each_sum n ring row cells [] lines are;
         once = once_sum n ring row cells [] lines are;
@@ -68,7 +65,7 @@ module _ (n : Netlist) (ring : RingConfig) (row : CellRows) (columns : ℕ) wher
       later_none (sums_refusal n ring row cells [] (number + 1) lines) (unless_certified (is_certificate n row columns lines) name)
       (sums_pass n ring row cells [] (number + 1) lines (are_sums n ring row cells [] lines is.each is.once (λ k line cell at named. refl)))
       (ap (λ (t : Bool). unless_certified t name)
-      (both_and (odd_in (λ line. line.bit) lines) (list_all (λ column. not (odd_in (has_column n row column) lines)) (range_with_len 0 columns)) is.odd
+      (and_from (odd_in (λ line. line.bit) lines) (list_all (λ column. not (odd_in (has_column n row column) lines)) (range_with_len 0 columns)) is.odd
       (off_all (λ c. odd_in (has_column n row c) lines) 0 columns (λ c low high. is.even c (omega (arith, high))))))
 
   found_by : (number : ℕ) (name : List ℕ) (lines : List SumLine) (o : Option Cube) → lines_refusal n ring row columns number name lines o ≡ None → (cube : Cube) × (o ≡ Some cube) × IsCertified n ring row columns cube.cells lines

@@ -8,14 +8,11 @@ use Rattle.std.proofs.lemmas.Bool.Decides.{same_from_decides, Decides-like}
 use Rattle.std.proofs.lemmas.List.{drop_more}
 use Rattle.std.proofs.lemmas.Option.{slice_get_past, slice_get-get_or}
 use Rattle.dft_base.specs.Lexing.{Text}
-use Rattle.dft_netlist.proofs.NamesLemmas.{same_of}
+use Rattle.dft_base.proofs.TextLemmas.{bytes_eq-comm, same_text}
 use Rattle.dft_cubes.specs.declared.cube.Cube.{Cube}
 use Rattle.dft_merge.specs.Rows.{or_else}
 use Rattle.dft_certify.specs.Certifying.{cube_named}
 use Rattle.dft_certify.specs.Naming.{Entry, Finds, first_from, look_up, noted, noted_by}
-
-bytes_eq-comm : (xs ys : Text) → bytes_eq xs ys ≡ bytes_eq ys xs
-bytes_eq-comm xs ys = same_from_decides (bytes_eq xs ys) (bytes_eq ys xs) (bytes_eq-Decides xs ys) (Decides-like (bytes_eq ys xs) sym sym (bytes_eq-Decides ys xs))
 
 -- a look-up among keys that show their bytes
 pub look_up-map : {K : Type 0} (shown : K → Text) (name : Text) (es : List (K × ℕ)) → lookup (λ k. bytes_eq name (shown k)) es ≡ look_up (map (λ e. (shown e.0, e.1)) es) name
@@ -48,7 +45,7 @@ noted_case : (o : Option ℕ) (entries : List Entry) (own name : Text) (place : 
 noted_case None entries own name place rest is = ap (λ (o : Option ℕ). or_else o rest) (look_up-push entries (own, place) name) ∙ pushed (look_up entries name) (bytes_eq own name) place rest
 noted_case (Some first) entries own name place rest is =
     stays (look_up entries name) (bytes_eq own name) place rest
-    (λ same none. (let f : Some first ≡ None = sym is ∙ ap (look_up entries) (same_of own name same) ∙ none in let g : ⊥ = cc in g))
+    (λ same none. (let f : Some first ≡ None = sym is ∙ ap (look_up entries) (same_text own name same) ∙ none in let g : ⊥ = cc in g))
 
 pub noted_more : (entries : List Entry) (cubes : List Cube) (cube : Cube) (place : ℕ) (name : Text) (whole : Option ℕ) → or_else (look_up entries name) (first_from place (cube ∷ cubes) name) ≡ whole →
     or_else (look_up (noted entries cube.name place) name) (first_from (suc place) cubes name) ≡ whole

@@ -6,6 +6,7 @@ use Rattle.std.proofs.lemmas.Bool.{cases_lt}
 use Rattle.std.proofs.lemmas.List.{length-replicate}
 use Rattle.dft_base.specs.Packed.{packed_bit}
 use Rattle.dft_base.specs.Solutions.{bit_at, xor}
+use Rattle.dft_base.proofs.SumLemmas.{xor_false, and_false}
 use Rattle.dft_lanes.specs.Rows.{bits_of, words_for, IsPacked}
 use Rattle.dft_lanes.proofs.RowLemmas.{bits-at}
 use Rattle.dft_gf2.proofs.BitsLemmas.{zero_at}
@@ -49,10 +50,6 @@ all_off : (test : ℕ → Bool) (from count : ℕ) → ((c : ℕ) → test c ≡
 all_off test from zero off = refl
 all_off test from (suc count) off = ap (λ (t : Bool). not t && list_all (λ c. not (test c)) (range_with_len (from + 1) count)) (off from) ∙ all_off test (from + 1) count off
 
-and_no : (t : Bool) → t && false ≡ false
-and_no true = refl
-and_no false = refl
-
 one_on : (test : ℕ → Bool) (from count c : ℕ) → test c ≡ true → (from ≡ c) ⊎ (from < c) → c < from + count → list_all (λ k. not (test k)) (range_with_len from count) ≡ false
 one_on test from zero c on low high = absurd (past low)
   where
@@ -61,7 +58,7 @@ one_on test from zero c on low high = absurd (past low)
     past (inr less) = omega (arith, less, high)
 one_on test from (suc count) c on (inl same) high = ap (λ (t : Bool). not t && list_all (λ k. not (test k)) (range_with_len (from + 1) count)) (ap test same ∙ on)
 one_on test from (suc count) c on (inr less) high =
-    ap (λ (t : Bool). not (test from) && t) (one_on test (from + 1) count c on (next (from + 1) c (omega (arith, less))) (omega (arith, high))) ∙ and_no (not (test from))
+    ap (λ (t : Bool). not (test from) && t) (one_on test (from + 1) count c on (next (from + 1) c (omega (arith, less))) (omega (arith, high))) ∙ and_false (not (test from))
   where
     next : (a b : ℕ) → a ≤ b → (a ≡ b) ⊎ (a < b)
     next a b le = elim (cases_lt a b) [
@@ -90,13 +87,9 @@ none_is None false e = absurd (let f : false ≡ true = e in cc)
 none_is (Some x) true e = absurd (let f : true ≡ false = e in cc)
 none_is (Some x) false e = refl
 
-xor_off : (a : Bool) → xor a false ≡ a
-xor_off true = refl
-xor_off false = refl
-
 -- where no lines are left the sums are those of all
 all_summed : (test : SumLine → Bool) (rest lines : List SumLine) (now : Bool) → rest ≡ [] → xor now (odd_in test rest) ≡ odd_in test lines → now ≡ odd_in test lines
-all_summed test rest lines now none sum = sym (xor_off now) ∙ ap (λ (ls : List SumLine). xor now (odd_in test ls)) (sym none) ∙ sum
+all_summed test rest lines now none sum = sym (xor_false now) ∙ ap (λ (ls : List SumLine). xor now (odd_in test ls)) (sym none) ∙ sum
 
 pub odd_certified : (n : Netlist) (row : CellRows) (columns : ℕ) (rest lines : List SumLine) (words read : List ℕ) (odd : Bool) (top : Option ℕ) (none : Bool) → rest ≡ [] → IsPacked columns words →
     xor odd (odd_in (λ line. line.bit) rest) ≡ odd_in (λ line. line.bit) lines → ((c : ℕ) → xor (packed_bit words c) (odd_in (has_column n row c) rest) ≡ odd_in (has_column n row c) lines) → odd ≡ true → read ≡ words →

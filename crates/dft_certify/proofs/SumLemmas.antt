@@ -1,7 +1,7 @@
 -- Lines that pass are sums of care bits.
 use Rattle.std.proofs.Common.{ℕ, zero, suc, ◌+◌, ◌≡◌, ◌==◌, ◌||◌, Bool, true, false, List, [], ◌∷◌, ◌++◌, Option, None, Some, unwrap_or, slice_get, refl, sym, ap, ap₂, arith, ◌∙◌}
 use Rattle.std.specs.Prelude.{◌&&◌, not, if◌then◌else◌}
-use Rattle.std.proofs.lemmas.Bool.{eq-eqb, eqb-true}
+use Rattle.std.proofs.lemmas.Bool.{eq-eqb, eqb-true, or_parts, not-true, and_parts, and_from, not_from_false, or_from, or_left, or_right}
 use Rattle.std.proofs.lemmas.Option.{none-some, same_Some}
 use Rattle.dft_base.specs.Solutions.{xor}
 use Rattle.dft_netlist.specs.declared.ids.InstanceId.{InstanceId}
@@ -18,27 +18,6 @@ use Rattle.dft_certify.specs.Laws.{IsSumOf}
 
 -- ---- tests
 
-pub and_both : (a b : Bool) → (a && b) ≡ true → (a ≡ true) × (b ≡ true)
-and_both true b e = (refl, e)
-and_both false b e = absurd (let f : false ≡ true = e in cc)
-
-pub both_and : (a b : Bool) → a ≡ true → b ≡ true → (a && b) ≡ true
-both_and a b e f = ap₂ (λ (x y : Bool). x && y) e f
-
-not_true : (a : Bool) → not a ≡ true → a ≡ false
-not_true true e = absurd (let f : false ≡ true = e in cc)
-not_true false e = refl
-
-not_false : (a : Bool) → a ≡ false → not a ≡ true
-not_false a e = ap not e
-
-or_neither : (a b : Bool) → (a || b) ≡ false → (a ≡ false) × (b ≡ false)
-or_neither true b e = absurd (let f : true ≡ false = e in cc)
-or_neither false b e = (refl, e)
-
-neither_or : (a b : Bool) → a ≡ false → b ≡ false → (a || b) ≡ false
-neither_or a b e f = ap₂ (λ (x y : Bool). x || y) e f
-
 same_bit : (a b : Bool) → not (xor a b) ≡ true → a ≡ b
 same_bit = grind arith
 
@@ -50,7 +29,7 @@ bit_same false = refl
 
 same_is : (a b : Variable) → same_variable a b ≡ true → a ≡ b
 same_is a b e =
-    let both = and_both (a.channel == b.channel) (a.cycle == b.cycle) e in
+    let both = and_parts (a.channel == b.channel) (a.cycle == b.cycle) e in
     (λ i. record { channel = eqb-true a.channel b.channel both.0 i; cycle = eqb-true a.cycle b.cycle both.1 i })
 
 pub variables_same : (a b : List Variable) → same_variables a b ≡ true → a ≡ b
@@ -58,12 +37,12 @@ variables_same [] [] e = refl
 variables_same [] (b ∷ others) e = absurd (let f : false ≡ true = e in cc)
 variables_same (a ∷ more) [] e = absurd (let f : false ≡ true = e in cc)
 variables_same (a ∷ more) (b ∷ others) e =
-    let both = and_both (same_variable a b) (same_variables more others) e in
+    let both = and_parts (same_variable a b) (same_variables more others) e in
     (λ i. same_is a b both.0 i ∷ variables_same more others both.1 i)
 
 own_variables : (a : List Variable) → same_variables a a ≡ true
 own_variables [] = refl
-own_variables (a ∷ more) = both_and (same_variable a a) (same_variables more more) (both_and (a.channel == a.channel) (a.cycle == a.cycle) (eq-eqb a.channel a.channel refl) (eq-eqb a.cycle a.cycle refl)) (own_variables more)
+own_variables (a ∷ more) = and_from (same_variable a a) (same_variables more more) (and_from (a.channel == a.channel) (a.cycle == a.cycle) (eq-eqb a.channel a.channel refl) (eq-eqb a.cycle a.cycle refl)) (own_variables more)
 
 same_variables_of : (a b : List Variable) → a ≡ b → same_variables a b ≡ true
 same_variables_of a b e = ap (same_variables a) (sym e) ∙ own_variables a
@@ -73,7 +52,7 @@ same_variables_of a b e = ap (same_variables a) (sym e) ∙ own_variables a
 care_by : (g : InstanceId × Bool) (cells : List (InstanceId × Bool)) (cell : InstanceId) (bit : Bool) (t : Bool) → ((g.0.0 == cell.0) && not (xor g.1 bit)) ≡ t → (t || is_care cells cell bit) ≡ true →
     (is_care cells cell bit ≡ true → (k : ℕ) × (slice_get cells k ≡ Some (cell, bit))) → (k : ℕ) × (slice_get (g ∷ cells) k ≡ Some (cell, bit))
 care_by g cells cell bit true is e more =
-    let both = and_both (g.0.0 == cell.0) (not (xor g.1 bit)) is in
+    let both = and_parts (g.0.0 == cell.0) (not (xor g.1 bit)) is in
     (zero, (λ i. Some (record { 0 = eqb-true g.0.0 cell.0 both.0 i }, same_bit g.1 bit both.1 i)))
 care_by g cells cell bit false is e more = let there = more e in (suc there.0, there.1)
 
@@ -81,19 +60,12 @@ care_there : (cells : List (InstanceId × Bool)) (cell : InstanceId) (bit : Bool
 care_there [] cell bit e = absurd (let f : false ≡ true = e in cc)
 care_there (g ∷ cells) cell bit e = care_by g cells cell bit ((g.0.0 == cell.0) && not (xor g.1 bit)) refl e (care_there cells cell bit)
 
-or_left : (a b : Bool) → a ≡ true → (a || b) ≡ true
-or_left a b e = ap (λ (x : Bool). x || b) e
-
-or_right : (a b : Bool) → b ≡ true → (a || b) ≡ true
-or_right true b e = refl
-or_right false b e = e
-
 care_at : (cells : List (InstanceId × Bool)) (cell : InstanceId) (bit : Bool) (k : ℕ) → slice_get cells k ≡ Some (cell, bit) → is_care cells cell bit ≡ true
 care_at [] cell bit k at = absurd (none-some (cell, bit) at)
 care_at (g ∷ cells) cell bit zero at =
     let same : g ≡ (cell, bit) = same_Some g (cell, bit) at in
     or_left ((g.0.0 == cell.0) && not (xor g.1 bit)) (is_care cells cell bit)
-    (both_and (g.0.0 == cell.0) (not (xor g.1 bit)) (eq-eqb g.0.0 cell.0 (ap (λ (x : InstanceId × Bool). x.0.0) same)) (ap (λ (x : InstanceId × Bool). not (xor x.1 bit)) same ∙ bit_same bit))
+    (and_from (g.0.0 == cell.0) (not (xor g.1 bit)) (eq-eqb g.0.0 cell.0 (ap (λ (x : InstanceId × Bool). x.0.0) same)) (ap (λ (x : InstanceId × Bool). not (xor x.1 bit)) same ∙ bit_same bit))
 care_at (g ∷ cells) cell bit (suc k) at = or_right ((g.0.0 == cell.0) && not (xor g.1 bit)) (is_care cells cell bit) (care_at cells cell bit k at)
 
 -- ---- cells before
@@ -159,9 +131,9 @@ module _ (n : Netlist) (ring : RingConfig) (row : CellRows) (cells : List (Insta
     where
       own : x ≡ line → IsSumOf n ring row cells line
       own same =
-          let parts = and_both (is_care cells are.0 x.bit) (not (has_cell before are.0) && has_variables ring row are.0 x) are.2 in
+          let parts = and_parts (is_care cells are.0 x.bit) (not (has_cell before are.0) && has_variables ring row are.0 x) are.2 in
           let there = care_there cells are.0 x.bit parts.0 in
-          let rest = and_both (not (has_cell before are.0)) (has_variables ring row are.0 x) parts.1 in
+          let rest = and_parts (not (has_cell before are.0)) (has_variables ring row are.0 x) parts.1 in
           record {
             cell = are.0;
             named = ap (λ (l : SumLine). scanned_named n row l.name) (sym same) ∙ are.1;
@@ -176,17 +148,17 @@ module _ (n : Netlist) (ring : RingConfig) (row : CellRows) (cells : List (Insta
   unfolding AreSums
   apart_before before [] are k line cell at is = absurd (none-some line at)
   apart_before before (x ∷ lines) are zero line cell at is =
-      let parts = and_both (is_care cells are.0 x.bit) (not (has_cell before are.0) && has_variables ring row are.0 x) are.2 in
-      let rest = and_both (not (has_cell before are.0)) (has_variables ring row are.0 x) parts.1 in
+      let parts = and_parts (is_care cells are.0 x.bit) (not (has_cell before are.0) && has_variables ring row are.0 x) are.2 in
+      let rest = and_parts (not (has_cell before are.0)) (has_variables ring row are.0 x) parts.1 in
       let same : are.0 ≡ cell = same_Some are.0 cell (sym are.1 ∙ ap (λ (l : SumLine). scanned_named n row l.name) (same_Some x line at) ∙ is) in
-      ap (has_cell before) (sym same) ∙ not_true (has_cell before are.0) rest.0
+      ap (has_cell before) (sym same) ∙ not-true (has_cell before are.0) rest.0
   apart_before before (x ∷ lines) are (suc k) line cell at is =
-      (or_neither (has_cell before cell) (are.0.0 == cell.0) (sym (has_push before are.0 cell) ∙ apart_before (before ++ are.0 ∷ []) lines are.3 k line cell at is)).0
+      (or_parts (has_cell before cell) (are.0.0 == cell.0) (sym (has_push before are.0 cell) ∙ apart_before (before ++ are.0 ∷ []) lines are.3 k line cell at is)).0
 
   not_later : (before : List InstanceId) (x : SumLine) (lines : List SumLine) → AreSums before (x ∷ lines) → (k : ℕ) (b : SumLine) → slice_get lines k ≡ Some b → scanned_named n row x.name ≡ scanned_named n row b.name → ⊥
   unfolding AreSums
   not_later before x lines are k b at same =
-      let off = or_neither (has_cell before are.0) (are.0.0 == are.0.0) (sym (has_push before are.0 are.0) ∙ apart_before (before ++ are.0 ∷ []) lines are.3 k b are.0 at (sym same ∙ are.1)) in
+      let off = or_parts (has_cell before are.0) (are.0.0 == are.0.0) (sym (has_push before are.0 are.0) ∙ apart_before (before ++ are.0 ∷ []) lines are.3 k b are.0 at (sym same ∙ are.1)) in
       let f : true ≡ false = sym (eq-eqb are.0.0 are.0.0 refl) ∙ off.1 in
       cc
 
@@ -215,12 +187,12 @@ module _ (n : Netlist) (ring : RingConfig) (row : CellRows) (cells : List (Insta
       let here = each zero x refl in (
         here.cell,
         here.named,
-        both_and (is_care cells here.cell x.bit) (not (has_cell before here.cell) && has_variables ring row here.cell x) (care_at cells here.cell x.bit here.place here.care)
-            (both_and (not (has_cell before here.cell)) (has_variables ring row here.cell x) (not_false (has_cell before here.cell) (apart zero x here.cell refl here.named))
+        and_from (is_care cells here.cell x.bit) (not (has_cell before here.cell) && has_variables ring row here.cell x) (care_at cells here.cell x.bit here.place here.care)
+            (and_from (not (has_cell before here.cell)) (has_variables ring row here.cell x) (not_from_false (has_cell before here.cell) (apart zero x here.cell refl here.named))
             (same_variables_of x.variables (variables_of ring (unwrap_or (row here.cell) [])) here.variables)),
         are_sums (before ++ here.cell ∷ []) lines (λ k line at. each (suc k) line at) (λ j k a b at_j at_k same. (let e = once (suc j) (suc k) a b at_j at_k same in omega (arith, e)))
             (λ k line cell at is. has_push before here.cell cell
-            ∙ neither_or (has_cell before cell) (here.cell.0 == cell.0) (apart (suc k) line cell at is)
+            ∙ or_from (has_cell before cell) (here.cell.0 == cell.0) (apart (suc k) line cell at is)
             (other_cell here.cell.0 cell.0 (here.cell.0 == cell.0) refl (λ same.
             let cells_same : here.cell ≡ cell = (λ i. record { 0 = same i }) in
             let e : zero ≡ suc k = once zero (suc k) x line refl at (here.named ∙ ap Some cells_same ∙ sym is) in

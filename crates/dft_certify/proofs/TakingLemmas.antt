@@ -1,11 +1,9 @@
 -- The cells of lines, and the bits that a cube gives.
 use Rattle.std.proofs.Common.{ℕ, ◌≡◌, ◌==◌, ◌||◌, Bool, List, [], ◌∷◌, map, refl, ap₂, arith}
 use Rattle.std.specs.List.{list_any}
+use Rattle.dft_base.proofs.NumberLemmas.{eqb_turned}
 use Rattle.dft_netlist.specs.declared.ids.InstanceId.{InstanceId}
 use Rattle.dft_certify.specs.Certifying.{has_cell}
-
-eqb_turned : (a b : ℕ) → (a == b) ≡ (b == a)
-eqb_turned a b = grind arith
 
 -- a look-up among numbers that stand for cells
 pub cells-map : (cell : InstanceId) (numbers : List ℕ) → list_any (λ number. cell.0 == number) numbers ≡ has_cell (map (λ number. record { 0 = number }) numbers) cell

@@ -5,9 +5,10 @@ use Rattle.std.proofs.lemmas.Bool.{cases_lt}
 use Rattle.std.proofs.lemmas.List.{length-append, get_or_append_left}
 use Rattle.std.proofs.lemmas.Option.{none-some, same_Some}
 use Rattle.dft_base.specs.Solutions.{Equation, Contradicts, IsSum, StatesFrom, bit_at, equation_at, ids_to, odd_at, odd_bits, sum_to, xor}
-use Rattle.dft_base.proofs.SumLemmas.{sum_same}
+use Rattle.dft_base.proofs.SumLemmas.{sum_same, xor_false, xor_assoc, xor_comm}
 use Rattle.dft_netlist.specs.declared.ids.InstanceId.{InstanceId}
-use Rattle.dft_gf2.proofs.Restorations.{sum_picked}
+use Rattle.dft_gf2.proofs.Restorations.{sum_picked, push_at}
+use Rattle.dft_gf2.proofs.Sums.{xor_self}
 use Rattle.dft_merge.specs.Placement.{equations_from, equations_of}
 use Rattle.dft_merge.specs.Rows.{CellRows}
 use Rattle.dft_merge.specs.Systems.{IsSystem, IsKept}
@@ -19,22 +20,12 @@ abbrev pub odd_ids : (ℕ → Bool) → List ℕ → Bool
 odd_ids f [] = false
 odd_ids f (id ∷ ids) = xor (f id) (odd_ids f ids)
 
-xor_assoc : (a b c : Bool) → xor (xor a b) c ≡ xor a (xor b c)
-xor_assoc = grind arith
-
-xor_turn : (a b : Bool) → xor a b ≡ xor b a
-xor_turn = grind arith
-
-xor_off : (a : Bool) → xor a false ≡ a
-xor_off true = refl
-xor_off false = refl
-
 odd_append : (f : ℕ → Bool) (xs ys : List ℕ) → odd_ids f (xs ++ ys) ≡ xor (odd_ids f xs) (odd_ids f ys)
 odd_append f [] ys = refl
 odd_append f (x ∷ xs) ys = ap (xor (f x)) (odd_append f xs ys) ∙ sym (xor_assoc (f x) (odd_ids f xs) (odd_ids f ys))
 
 one_picked : (f : ℕ → Bool) (t : Bool) (id : ℕ) → odd_ids f (cond t (id ∷ []) []) ≡ (t && f id)
-one_picked f true id = xor_off (f id)
+one_picked f true id = xor_false (f id)
 one_picked f false id = refl
 
 odd_picked : (f : ℕ → Bool) (m : ℕ) (picks : ℕ → Bool) (es : List Equation) → odd_ids f (ids_to m picks es) ≡ sum_to m (λ j. picks j && f (equation_at es j).id)
@@ -42,7 +33,7 @@ odd_picked f zero picks es = refl
 odd_picked f (suc m) picks es =
     odd_append f (ids_to m picks es) (cond (picks m) ((equation_at es m).id ∷ []) [])
     ∙ (λ i. xor (odd_picked f m picks es i) (one_picked f (picks m) (equation_at es m).id i))
-    ∙ xor_turn (sum_to m (λ j. picks j && f (equation_at es j).id)) (picks m && f (equation_at es m).id)
+    ∙ xor_comm (sum_to m (λ j. picks j && f (equation_at es j).id)) (picks m && f (equation_at es m).id)
 
 -- ---- positions that differ
 
@@ -128,9 +119,6 @@ record Known (m : ℕ) (row : CellRows) (cells : List (InstanceId × Bool)) (kep
 
 -- ---- one more
 
-at_front : (kept : List Equation) (e : Equation) (j : ℕ) → j < length kept → equation_at (kept ++ e ∷ []) j ≡ equation_at kept j
-at_front kept e j less = get_or_append_left kept (e ∷ []) (record { row = []; bit = false; id = 0 }) j less
-
 at_end : (kept : List Equation) (e : Equation) → equation_at (kept ++ e ∷ []) (length kept) ≡ e
 at_end [] e = refl
 at_end (x ∷ kept) e = at_end kept e
@@ -140,9 +128,6 @@ place_split j l less = elim (cases_lt j l) [ inl under ↦ inl under | inr past 
 
 size_push : (kept : List Equation) (e : Equation) (j : ℕ) → j < length (kept ++ e ∷ []) → j < length kept + 1
 size_push kept e j less = (let size = length-append kept (e ∷ []) in omega (arith, less, size))
-
-xor_self : (a : Bool) → xor a a ≡ false
-xor_self = grind arith
 
 xor_apart : (a b : Bool) → (a ≡ b → ⊥) → xor a b ≡ true
 xor_apart true true apart = absurd (apart refl)
@@ -169,18 +154,18 @@ module _ (m : ℕ) (row : CellRows) (cells : List (InstanceId × Bool)) where
   known_later kept from k = record { each = k.each; under = λ j less. (let u = k.under j less in omega (arith, u)); rise = k.rise; system = k.system }
 
   each_push : (kept : List Equation) (e : Equation) (from j : ℕ) → Known m row cells kept from → IsAt row cells e → (j < length kept) ⊎ (j ≡ length kept) → IsAt row cells (equation_at (kept ++ e ∷ []) j)
-  each_push kept e from j k is (inl less) = subst (IsAt row cells) (sym (at_front kept e j less)) (k.each j less)
+  each_push kept e from j k is (inl less) = subst (IsAt row cells) (sym (push_at kept e j less)) (k.each j less)
   each_push kept e from j k is (inr same) = subst (IsAt row cells) (sym (ap (equation_at (kept ++ e ∷ [])) same ∙ at_end kept e)) is
 
   under_push : (kept : List Equation) (e : Equation) (from j : ℕ) → Known m row cells kept from → e.id ≡ from → (j < length kept) ⊎ (j ≡ length kept) → (equation_at (kept ++ e ∷ []) j).id < suc from
-  under_push kept e from j k id (inl less) = (let u = k.under j less in let same = ap (λ (x : Equation). x.id) (at_front kept e j less) in omega (arith, u, same))
+  under_push kept e from j k id (inl less) = (let u = k.under j less in let same = ap (λ (x : Equation). x.id) (push_at kept e j less) in omega (arith, u, same))
   under_push kept e from j k id (inr same) = (let at = ap (λ (x : Equation). x.id) (ap (equation_at (kept ++ e ∷ [])) same ∙ at_end kept e) in omega (arith, at, id))
 
   rise_push : (kept : List Equation) (e : Equation) (from i j : ℕ) → Known m row cells kept from → e.id ≡ from → i < j → (j < length kept) ⊎ (j ≡ length kept) → (equation_at (kept ++ e ∷ []) i).id < (equation_at (kept ++ e ∷ []) j).id
   rise_push kept e from i j k id low (inl less) =
-      (let r = k.rise i j low less in let one = ap (λ (x : Equation). x.id) (at_front kept e i (omega (arith, low, less))) in let two = ap (λ (x : Equation). x.id) (at_front kept e j less) in omega (arith, r, one, two))
+      (let r = k.rise i j low less in let one = ap (λ (x : Equation). x.id) (push_at kept e i (omega (arith, low, less))) in let two = ap (λ (x : Equation). x.id) (push_at kept e j less) in omega (arith, r, one, two))
   rise_push kept e from i j k id low (inr same) =
-      (let u = k.under i (omega (arith, low, same)) in let one = ap (λ (x : Equation). x.id) (at_front kept e i (omega (arith, low, same))) in
+      (let u = k.under i (omega (arith, low, same)) in let one = ap (λ (x : Equation). x.id) (push_at kept e i (omega (arith, low, same))) in
       let two = ap (λ (x : Equation). x.id) (ap (equation_at (kept ++ e ∷ [])) same ∙ at_end kept e) in omega (arith, u, one, two, id))
 
   known_push : (kept : List Equation) (e : Equation) (from : ℕ) → Known m row cells kept from → IsAt row cells e → e.id ≡ from → length e.row ≡ m → (IsSum m kept e.row → ⊥) → Known m row cells (kept ++ e ∷ []) (suc from)
@@ -215,11 +200,11 @@ module _ (m : ℕ) (row : CellRows) (cells : List (InstanceId × Bool)) where
     differ = differ_push e.id (ids_to (length kept) is.picks kept) (below_ids e.id (length kept) is.picks kept (λ j less. (let u = k.under j less in omega (arith, u, id)))) (differ_ids (length kept) is.picks kept k.rise);
     even = λ c less.
         odd_append (λ p. bit_at (row_of_cell row (slice_get cells p)) c) (ids_to (length kept) is.picks kept) (e.id ∷ [])
-        ∙ (λ i. xor (rows_sum kept from is.picks c k i) (xor_off (bit_at (row_of_cell row (slice_get cells e.id)) c) i))
+        ∙ (λ i. xor (rows_sum kept from is.picks c k i) (xor_false (bit_at (row_of_cell row (slice_get cells e.id)) c) i))
         ∙ ap (λ (r : List Bool). xor (odd_at is.picks kept c) (bit_at r c)) (sym here.row_is) ∙ ap (xor (odd_at is.picks kept c)) (is.sums c less) ∙ xor_self (odd_at is.picks kept c);
     odd =
         odd_append (λ p. bit_of_cell (slice_get cells p)) (ids_to (length kept) is.picks kept) (e.id ∷ [])
-        ∙ (λ i. xor (bits_sum kept from is.picks k i) (xor_off (bit_of_cell (slice_get cells e.id)) i))
+        ∙ (λ i. xor (bits_sum kept from is.picks k i) (xor_false (bit_of_cell (slice_get cells e.id)) i))
         ∙ ap (xor (odd_bits is.picks kept)) (sym here.bit_is) ∙ xor_apart (odd_bits is.picks kept) e.bit (bit_apart kept e from ids is k);
   })
 

@@ -5,13 +5,14 @@ use Rattle.std.specs.Str.{bytes_eq}
 use Rattle.std.proofs.lemmas.Option.{none-some, same_Some, slice_get-get_or, slice_get_within}
 use Rattle.dft_base.specs.Lexing.{Text}
 use Rattle.dft_base.specs.Solutions.{bit_at, xor}
+use Rattle.dft_base.proofs.TextLemmas.{same_text, bytes_eq-self}
 use Rattle.dft_netlist.specs.declared.ids.InstanceId.{InstanceId}
 use Rattle.dft_netlist.specs.declared.instance.Instance.{Instance}
 use Rattle.dft_netlist.specs.declared.named.Named.TheVariants.{Instance as AnInstance}
 use Rattle.dft_netlist.specs.Names.{find_instance, find_instance_from, has_this_name, instance_name}
 use Rattle.dft_netlist.specs.Netlist.{Netlist}
 use Rattle.dft_netlist.specs.Sound.{IsNetlist}
-use Rattle.dft_netlist.proofs.NamesLemmas.{same_of, bytes_eq-same}
+use Rattle.dft_netlist.proofs.FindLemmas.{this_name, is_this_name, not_first_instance}
 use Rattle.dft_config.specs.declared.config.Config.{Config}
 use Rattle.dft_config.specs.declared.config.RingConfig.{RingConfig}
 use Rattle.dft_config.specs.Range.{IsInRange}
@@ -44,14 +45,6 @@ use Rattle.dft_certify_laws.proofs.Stated.{IsGood, bit_of_cell, differ_same, odd
 
 -- ---- the cell of a name
 
-this_name : (own : Option Text) (name : Text) → has_this_name own name ≡ true → own ≡ Some name
-this_name None name h = absurd (let f : false ≡ true = h in cc)
-this_name (Some x) name h = ap Some (same_of x name h)
-
-is_this_name : (own : Option Text) (name : Text) → own ≡ Some name → has_this_name own name ≡ true
-is_this_name None name h = absurd (none-some name h)
-is_this_name (Some x) name h = ap (λ (y : Text). bytes_eq y name) (same_Some x name h) ∙ bytes_eq-same name
-
 -- what is found has the name, and something is found where something has it
 first_at : (t : Bool) (from : ℕ) (x : Instance) (rest : List Instance) (name : Text) (k : InstanceId) → has_this_name x.name name ≡ t →
     (find_instance_from (suc from) rest name ≡ Some k → (j : ℕ) × (k.0 ≡ suc from + j) × (option_and_then instance_name (slice_get rest j) ≡ Some name)) →
@@ -63,15 +56,11 @@ named_at : (from : ℕ) (instances : List Instance) (name : Text) (k : InstanceI
 named_at from [] name k h = absurd (none-some k h)
 named_at from (x ∷ rest) name k h = first_at (has_this_name x.name name) from x rest name k refl (named_at (suc from) rest name k) h
 
-rest_none : (t : Bool) (k : InstanceId) (rest : Option InstanceId) → cond t (Some k) rest ≡ None → (t ≡ false) × (rest ≡ None)
-rest_none true k rest h = absurd (none-some k (sym h))
-rest_none false k rest h = (refl, h)
-
 never_missed : (from : ℕ) (instances : List Instance) (name : Text) (j : ℕ) → option_and_then instance_name (slice_get instances j) ≡ Some name → find_instance_from from instances name ≡ None → ⊥
 never_missed from [] name j has none = none-some name has
 never_missed from (x ∷ rest) name zero has none =
-    let f : true ≡ false = sym (is_this_name x.name name has) ∙ (rest_none (has_this_name x.name name) (record { 0 = from }) (find_instance_from (suc from) rest name) none).0 in cc
-never_missed from (x ∷ rest) name (suc j) has none = never_missed (suc from) rest name j has (rest_none (has_this_name x.name name) (record { 0 = from }) (find_instance_from (suc from) rest name) none).1
+    let f : true ≡ false = sym (is_this_name x.name name has) ∙ (not_first_instance (has_this_name x.name name) (record { 0 = from }) (find_instance_from (suc from) rest name) none).0 in cc
+never_missed from (x ∷ rest) name (suc j) has none = never_missed (suc from) rest name j has (not_first_instance (has_this_name x.name name) (record { 0 = from }) (find_instance_from (suc from) rest name) none).1
 
 one_named : (a b : InstanceId) → AnInstance a ≡ AnInstance b → a ≡ b
 one_named a b same = cc
@@ -160,9 +149,6 @@ module _ (n : Netlist) (ring : RingConfig) (row : CellRows) (columns : ℕ) (cel
 
 -- ---- the cube of a name
 
-bytes_of : (a b : Text) → bytes_eq a b ≡ true → a ≡ b
-bytes_of a b h = same_of a b h
-
 find_step : (cube x : Cube) (cubes : List Cube) (name : Text) (t : Bool) → bytes_eq x.name name ≡ t → (t ≡ true → x ≡ cube) → (t ≡ false → cube_named cubes name ≡ Some cube) → cond t (Some x) (cube_named cubes name) ≡ Some cube
 find_step cube x cubes name true is here later = ap Some (here refl)
 find_step cube x cubes name false is here later = later refl
@@ -170,9 +156,9 @@ find_step cube x cubes name false is here later = later refl
 find_cube : (cubes : List Cube) (name : Text) (k : ℕ) (cube : Cube) → slice_get cubes k ≡ Some cube → cube.name ≡ name → ((j : ℕ) (c : Cube) → slice_get cubes j ≡ Some c → c.name ≡ name → j ≡ k) → cube_named cubes name ≡ Some cube
 find_cube [] name k cube at is one = absurd (none-some cube at)
 find_cube (x ∷ cubes) name zero cube at is one =
-    find_step cube x cubes name (bytes_eq x.name name) refl (λ t. same_Some x cube at) (λ f. absurd (let g : true ≡ false = sym (ap (λ (y : Text). bytes_eq y name) (ap (λ (c : Cube). c.name) (same_Some x cube at) ∙ is) ∙ bytes_eq-same name) ∙ f in cc))
+    find_step cube x cubes name (bytes_eq x.name name) refl (λ t. same_Some x cube at) (λ f. absurd (let g : true ≡ false = sym (ap (λ (y : Text). bytes_eq y name) (ap (λ (c : Cube). c.name) (same_Some x cube at) ∙ is) ∙ bytes_eq-self name) ∙ f in cc))
 find_cube (x ∷ cubes) name (suc k) cube at is one =
-    find_step cube x cubes name (bytes_eq x.name name) refl (λ t. absurd (let e = one zero x refl (bytes_of x.name name t) in omega (arith, e)))
+    find_step cube x cubes name (bytes_eq x.name name) refl (λ t. absurd (let e = one zero x refl (same_text x.name name t) in omega (arith, e)))
     (λ f. find_cube cubes name k cube at is (λ j c at_j same. (let e = one (suc j) c at_j same in omega (arith, e))))
 
 -- ---- entries

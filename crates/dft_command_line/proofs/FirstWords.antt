@@ -2,6 +2,7 @@
 use Rattle.std.proofs.Common.{◌≡◌, ◌&&◌, ◌||◌, Bool, true, false, List, [], ◌∷◌, ◌++◌, map, find, fold, cond, Option, Some, None, IfSome, is_some, option_map, if◌then◌else◌, codes, bytes_eq, refl, sym, ap, ap₂, ◌∙◌, append-nil, append_assoc}
 use Rattle.std.specs.List.{list_all}
 use Rattle.std.specs.Option.{option_map_or}
+use Rattle.std.proofs.lemmas.Bool.{and_parts}
 use Rattle.clap.specs.Faults.{check_fault, defaults_fault, entered_fault, fault_of, level_fault, other_fault, settle_fault, step_fault, turn_fault, walk_fault, word_fault}
 use Rattle.clap.specs.Kinds.{Kinds, or_else}
 use Rattle.clap.specs.declared.error.kind.ErrorKind.TheVariants as kind
@@ -13,7 +14,7 @@ use Rattle.dft_command_line.specs.CommandLine.{Form, dft_app, forms, may_stand}
 use Rattle.dft_command_line.proofs.Lookups.{IsAt, found, lookup}
 use Rattle.dft_command_line.proofs.Options.{is_plain}
 use Rattle.dft_command_line.proofs.Turns.{IsLongWord, IsPlainWord, Shapes, at, dft, first_none, not_empty, shape, shape_of}
-use Rattle.dft_command_line.proofs.Walks.{both, faults, left}
+use Rattle.dft_command_line.proofs.Walks.{faults, left}
 
 -- ---- the commands by their names
 
@@ -161,4 +162,4 @@ begins (w ∷ words) stand e = go (find_form w) refl (found command_of forms w (
   where
     go : (q : Option Form) → find_form w ≡ q → IfSome q (IsAt command_of forms w) → Begins (w ∷ words)
     go (Some f) is at = record { form = f; is = at.1; rest = words; written = ap (λ (l : Text). l ∷ words) at.0 }
-    go None other at = absurd (other_turn w (is_plain w) (shape_of w (both _ _ stand).0) other (first_turn w words (first_none _ _ e)))
+    go None other at = absurd (other_turn w (is_plain w) (shape_of w (and_parts _ _ stand).0) other (first_turn w words (first_none _ _ e)))

@@ -5,14 +5,14 @@ use Rattle.std.specs.Int.{IsInRange}
 use Rattle.std.specs.List.{AllByRecursion, list_all}
 use Rattle.std.specs.Result.{OkIff, result_ok}
 use Rattle.std.specs.Str.Parse.{ParsesUnsigned, digits_value}
-use Rattle.std.proofs.lemmas.Bool.{leb-true, le-leb, ltb-true, lt-ltb}
+use Rattle.std.proofs.lemmas.Bool.{leb-true, le-leb, ltb-true, lt-ltb, and_parts}
 use Rattle.std.proofs.lemmas.Str.Parse.{IsDigitsTest, IsNumeralModel, numerals_by_value, parse_digits}
+use Rattle.std.proofs.lemmas.Option.{same_Some}
 use Rattle.clap.specs.Walk.{Row}
 use Rattle.dft_command_line.specs.Words.{CertifyFiles, IsDecimal, JobNumbers, Text, certify_options, generate_options}
 use Rattle.dft_command_line.specs.CommandLine.{certify_from, certify_in, decimal_in, decimal_of, generate_from, generate_in, is_decimal, perhaps_in, sized, value_in}
 use Rattle.dft_command_line.proofs.Taken.{Shows}
-use Rattle.dft_command_line.proofs.Values.{perhaps_shown, shown_perhaps, shown_value, some_same, value_shown}
-use Rattle.dft_command_line.proofs.Walks.{both}
+use Rattle.dft_command_line.proofs.Values.{perhaps_shown, shown_perhaps, shown_value, value_shown}
 
 -- ---- certify
 
@@ -35,7 +35,7 @@ certify_parts (Some l) (Some n) None u r files e = absurd cc
 certify_parts (Some l) (Some n) (Some c) None r files e = absurd cc
 certify_parts (Some l) (Some n) (Some c) (Some u) None files e = absurd cc
 certify_parts (Some l) (Some n) (Some c) (Some u) (Some r) files e =
-    let same = some_same _ files e in
+    let same = same_Some _ files e in
     record {
       library_is = ap (λ (f : CertifyFiles). Some f.library) same;
       netlist_is = ap (λ (f : CertifyFiles). Some f.netlist) same;
@@ -63,7 +63,7 @@ certify_shows rs files e =
 -- ---- decimal numbers
 
 digit_tells : (c : ℕ) → is_ascii_digit c ≡ true → IsInRange 48 57 c
-digit_tells c e = let k = both _ _ e in (leb-true 48 c k.0, leb-true c 57 k.1)
+digit_tells c e = let k = and_parts _ _ e in (leb-true 48 c k.0, leb-true c 57 k.1)
 
 tells_digit : (c : ℕ) → IsInRange 48 57 c → is_ascii_digit c ≡ true
 tells_digit c k = ap₂ (λ a b. a && b) (le-leb 48 c k.0) (le-leb c 57 k.1)
@@ -71,7 +71,7 @@ tells_digit c k = ap₂ (λ a b. a && b) (le-leb 48 c k.0) (le-leb c 57 k.1)
 tells_digits : IsDigitsTest (λ ds. list_all is_ascii_digit ds ≡ true)
 tells_digits = record {
   empty = refl;
-  parts = λ c cs e. let k = both (is_ascii_digit c) (list_all is_ascii_digit cs) e in (digit_tells c k.0, k.1);
+  parts = λ c cs e. let k = and_parts (is_ascii_digit c) (list_all is_ascii_digit cs) e in (digit_tells c k.0, k.1);
   more = λ c cs k e. ap₂ (λ a b. a && b) (tells_digit c k) e;
 }
 
@@ -89,15 +89,15 @@ pub decimal_is : (most : ℕ) (text : Text) (number : ℕ) → IsDecimal most te
 decimal_is most text number is = ap (λ t. if t then Some (digits_value 10 text) else None) (decimal_passes most text number is) ∙ ap Some is.value
 
 tested : (text : Text) (number : ℕ) (t : Bool) → (if t then Some (digits_value 10 text) else None) ≡ Some number → (t ≡ true) × (digits_value 10 text ≡ number)
-tested text number true e = (refl, some_same _ number e)
+tested text number true e = (refl, same_Some _ number e)
 tested text number false e = absurd cc
 
 pub is_decimal_of : (most : ℕ) (text : Text) (number : ℕ) → decimal_of most text ≡ Some number → IsDecimal most text number
 is_decimal_of most text number e =
     let test = tested text number (is_decimal most text) e in
-    let some = both _ _ test.0 in
-    let few = both _ _ some.1 in
-    let digits = both _ _ few.1 in
+    let some = and_parts _ _ test.0 in
+    let few = and_parts _ _ some.1 in
+    let digits = and_parts _ _ few.1 in
     record {
       digits = (ltb-true _ _ some.0, all_digits.to text digits.0);
       few = leb-true _ _ few.0;
@@ -108,8 +108,8 @@ is_decimal_of most text number e =
 no_decimal : (most : ℕ) (text : Text) (t : Bool) → is_decimal most text ≡ t → ((0 < length text) × (digits_value 10 text < 2 ^ 64) → ⊥) → (if t then Some (digits_value 10 text) else None) ≡ None
 no_decimal most text false e other = refl
 no_decimal most text true e other =
-    let some = both _ _ e in
-    absurd (other (ltb-true _ _ some.0, ltb-true _ _ (both _ _ (both _ _ some.1).1).1))
+    let some = and_parts _ _ e in
+    absurd (other (ltb-true _ _ some.0, ltb-true _ _ (and_parts _ _ (and_parts _ _ some.1).1).1))
 
 -- what `parse` gives of some digits
 pub read_as : {E : Type 0} (most : ℕ) (text : Text) (r : Result ℕ E) → length text ≤ most → list_all is_ascii_digit text ≡ true → ParsesUnsigned 64 10 text r → result_ok r ≡ decimal_of most text
@@ -150,12 +150,12 @@ record Sized (all job : JobNumbers) : Type 0 where
 sized_parts : (all job : JobNumbers) (t : Bool) → (t ≡ true → (16 ≤ all.size) × (all.size ≤ 20000)) → (if t then Some all else None) ≡ Some job → Sized all job
 sized_parts all job false bounds e = absurd cc
 sized_parts all job true bounds e =
-    let same = some_same all job e in
+    let same = same_Some all job e in
     let b = bounds refl in
     record { same = same; least = subst (λ (j : JobNumbers). 16 ≤ j.size) same b.0; most = subst (λ (j : JobNumbers). j.size ≤ 20000) same b.1 }
 
 size_tested : (size : ℕ) (a b : Bool) → (a ≡ true → 16 ≤ size) → (b ≡ true → size ≤ 20000) → (a && b) ≡ true → (16 ≤ size) × (size ≤ 20000)
-size_tested size a b low high e = let parts = both a b e in (low parts.0, high parts.1)
+size_tested size a b low high e = let parts = and_parts a b e in (low parts.0, high parts.1)
 
 record GenerateParts (seed size : Option ℕ) (job : JobNumbers) : Type 0 where
   seed_is : seed ≡ Some job.seed

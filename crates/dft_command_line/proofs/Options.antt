@@ -2,7 +2,7 @@
 use Rattle.std.proofs.Common.{◌≡◌, ◌⊎◌, ◌==◌, ◌||◌, ℕ, Bool, true, false, not, zero, suc, List, [], ◌∷◌, ◌++◌, map, Option, Some, None, IfSome, option_and_then, if◌then◌else◌, codes, bytes_eq, inl, inr, refl, sym, ap, ◌∙◌, subst, arith, append-nil, true≢false}
 use Rattle.std.specs.List.{list_all, list_any}
 use Rattle.std.proofs.lemmas.Slice.Eq.{bytes_eq-Decides}
-use Rattle.std.proofs.lemmas.Bool.{eqb-true, eqb-false}
+use Rattle.std.proofs.lemmas.Bool.{eqb-true, eqb-false, not-true}
 use Rattle.clap.specs.Lexer.{long_of, long_of_rest, strip_byte, name_and_value}
 use Rattle.clap.proofs.CutLemmas.{Lacks}
 use Rattle.clap.proofs.LexerLemmas.{name_and_value-at, name_and_value-without}
@@ -83,15 +83,11 @@ lacks c (x ∷ xs) e = go (x == c) (eqb-false x c) (lacks c xs) e
     go true isnt rest e = absurd (true≢false e)
     go false isnt rest e = lacks_more c x xs (isnt refl) (rest e)
 
-not_true : (b : Bool) → not b ≡ true → b ≡ false
-not_true true e = absurd (true≢false (sym e))
-not_true false e = refl
-
 -- what `clap` makes of the word of an option
 pub long_is : (n : Text) (v : Option Text) → is_name n ≡ true → long_of (word_of n v) ≡ Some (n, v)
 long_is [] v is = absurd (true≢false (sym is))
-long_is (b ∷ bs) None is = ap Some (name_and_value-without (b ∷ bs) (lacks 61 (b ∷ bs) (not_true _ is)))
-long_is (b ∷ bs) (Some v) is = ap Some (name_and_value-at (b ∷ bs) v (lacks 61 (b ∷ bs) (not_true _ is)))
+long_is (b ∷ bs) None is = ap Some (name_and_value-without (b ∷ bs) (lacks 61 (b ∷ bs) (not-true _ is)))
+long_is (b ∷ bs) (Some v) is = ap Some (name_and_value-at (b ∷ bs) v (lacks 61 (b ∷ bs) (not-true _ is)))
 
 pub no_escape : (n : Text) (v : Option Text) → is_name n ≡ true → bytes_eq (word_of n v) (45 ∷ 45 ∷ []) ≡ false
 no_escape [] v is = absurd (true≢false (sym is))

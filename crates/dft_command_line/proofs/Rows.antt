@@ -3,6 +3,7 @@ use Rattle.std.proofs.Common.{◌≡◌, ◌≤◌, ◌&&◌, ◌||◌, Bool, tr
 use Rattle.std.specs.List.{AllByRecursion, list_any}
 use Rattle.std.specs.Option.{option_map_or}
 use Rattle.std.proofs.lemmas.Slice.Eq.{bytes_eq-Decides}
+use Rattle.std.proofs.lemmas.Bool.{or_parts, or_from}
 use Rattle.clap.specs.Facts.{explicit_source}
 use Rattle.clap.specs.Faults.{repeat_fault, check_fault, defaults_fault}
 use Rattle.clap.specs.Kinds.{Kinds, or_else}
@@ -150,17 +151,9 @@ given_wanted gs o is = λ required. go (is_given o.name (rows gs)) (given_row o.
     go true same e = present_values o.name gs (sym same)
     go false same e = absurd (true≢false e)
 
-or_false : (a b : Bool) → a ≡ false → b ≡ false → (a || b) ≡ false
-or_false true b e f = e
-or_false false b e f = f
-
-or_parts : (a b : Bool) → (a || b) ≡ false → (a ≡ false) × (b ≡ false)
-or_parts true b e = absurd (true≢false e)
-or_parts false b e = (refl, e)
-
 none_misses : (os : List Known) (gs : List Given) → AreWanted os gs → list_any (misses (rows gs)) (rules os) ≡ false
 none_misses [] gs wanted = refl
-none_misses (o ∷ os) gs wanted = or_false _ _ (wanted_given gs o wanted.0) (none_misses os gs wanted.1)
+none_misses (o ∷ os) gs wanted = or_from _ _ (wanted_given gs o wanted.0) (none_misses os gs wanted.1)
 
 all_wanted : (os : List Known) (gs : List Given) → list_any (misses (rows gs)) (rules os) ≡ false → AreWanted os gs
 all_wanted [] gs e = tt

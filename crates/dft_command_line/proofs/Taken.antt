@@ -3,6 +3,7 @@ use Rattle.std.proofs.Common.{◌≡◌, ◌≤◌, ◌&&◌, ◌||◌, inl, inr
 use Rattle.std.specs.List.{AllByRecursion, list_all}
 use Rattle.std.proofs.Math.Dec.{eqb-suc-zero}
 use Rattle.std.proofs.lemmas.Slice.Eq.{bytes_eq-Decides}
+use Rattle.std.proofs.lemmas.Bool.{and_parts}
 use Rattle.clap.specs.Faults.{fault_of}
 use Rattle.clap.specs.Simple.{subcommand_of}
 use Rattle.clap.specs.Walk.{Row, first_of, has_row, idle, nothing_held}
@@ -13,7 +14,7 @@ use Rattle.dft_command_line.proofs.Options.{are_names, is_plain, names, plain_va
 use Rattle.dft_command_line.proofs.Reading.{AreRead, IsGood, IsRead, all_stand, read_back, reading, reading_reads}
 use Rattle.dft_command_line.proofs.Turns.{at}
 use Rattle.dft_command_line.proofs.Rows.{AreWanted, Fits, absent_values, first_text, first_value, rows}
-use Rattle.dft_command_line.proofs.Walks.{Claim, both, faults, left, walks}
+use Rattle.dft_command_line.proofs.Walks.{Claim, faults, left, walks}
 use Rattle.dft_command_line.proofs.FirstWords.{IsForm, begins, command_of, form_faults, form_rows}
 
 -- ---- the table of commands
@@ -25,7 +26,7 @@ good_forms : list_all is_good_form forms ≡ true
 good_forms = refl
 
 good_form : (f : Form) → IsForm f → (may_stand f.command ≡ true) × (are_names f.options ≡ true)
-good_form f is = both _ _ (found_passes command_of is_good_form forms f.command f good_forms is)
+good_form f is = and_parts _ _ (found_passes command_of is_good_form forms f.command f good_forms is)
 
 -- ---- words that pass
 
@@ -65,7 +66,7 @@ pub taken : (words : List Text) → list_all may_stand words ≡ true → fault_
 taken words stand passes =
     let b = begins words stand passes in
     let f = b.form in
-    let stands : list_all may_stand b.rest ≡ true = (both (may_stand f.command) (list_all may_stand b.rest) (ap (list_all may_stand) (sym b.written) ∙ stand)).1 in
+    let stands : list_all may_stand b.rest ≡ true = (and_parts (may_stand f.command) (list_all may_stand b.rest) (ap (list_all may_stand) (sym b.written) ∙ stand)).1 in
     subst Taken (sym b.written)
     (taken_rest f b.rest (reading f.options None b.rest) b.is (reading_reads f.options None b.rest tt) (claim_of f b.rest b.is stands) (sym (form_faults f b.rest b.is) ∙ ap (fault_of dft_app) (sym b.written) ∙ passes))
 
@@ -153,15 +154,15 @@ wanted_of : (gs : List Given) (os : List Known) (options : List Valued) → agre
 wanted_of gs [] options e all = tt
 wanted_of gs (o ∷ os) [] e all = absurd (true≢false (sym e))
 wanted_of gs (o ∷ os) (v ∷ vs) e all =
-    let parts = both _ _ e in
-    let here = both _ _ parts.0 in
+    let parts = and_parts _ _ e in
+    let here = and_parts _ _ parts.0 in
     ((λ required. subst (λ (l : List Text). 1 ≤ length l) (sym (ap (λ t. values_of t gs) ((bytes_eq-Decides o.name v.0).0 here.0) ∙ all.0)) (some_wanted o.required v.1 here.1 required)), wanted_of gs os vs parts.1 all.1)
 
 labels_agree : (os : List Known) (options : List Valued) → agrees os options ≡ true → names os ≡ labels options
 labels_agree [] [] e = refl
 labels_agree [] (v ∷ vs) e = absurd (true≢false (sym e))
 labels_agree (o ∷ os) [] e = absurd (true≢false (sym e))
-labels_agree (o ∷ os) (v ∷ vs) e = let parts = both _ _ e in ap₂ (λ n ns. n ∷ ns) ((bytes_eq-Decides o.name v.0).0 (both _ _ parts.0).0) (labels_agree os vs parts.1)
+labels_agree (o ∷ os) (v ∷ vs) e = let parts = and_parts _ _ e in ap₂ (λ n ns. n ∷ ns) ((bytes_eq-Decides o.name v.0).0 (and_parts _ _ parts.0).0) (labels_agree os vs parts.1)
 
 -- ---- a command as it is written
 

@@ -2,6 +2,7 @@
 use Rattle.std.proofs.Common.{◌≡◌, Bool, true, false, true≢false, not, List, [], Option, Some, None, option_map, if◌then◌else◌, codes, bytes_eq, refl, sym, ap, ◌∙◌, subst, ⊎_elim}
 use Rattle.std.specs.List.{AllByRecursion, list_all}
 use Rattle.std.proofs.lemmas.Slice.Eq.{bytes_eq-Decides}
+use Rattle.std.proofs.lemmas.Option.{same_Some}
 use Rattle.clap.specs.Faults.{fault_of}
 use Rattle.clap.specs.Kinds.{HasKind, Kinds}
 use Rattle.clap.specs.Values.{kind_of}
@@ -15,7 +16,7 @@ use Rattle.dft_command_line.proofs.Options.{names}
 use Rattle.dft_command_line.proofs.FirstWords.{find_form}
 use Rattle.dft_command_line.proofs.Rows.{rows}
 use Rattle.dft_command_line.proofs.Taken.{Shows, Taken, TakesOptions, command_taken, labels, taken, takes_command}
-use Rattle.dft_command_line.proofs.Values.{perhaps_shown, shown_perhaps, shown_value, some_same, value_shown}
+use Rattle.dft_command_line.proofs.Values.{perhaps_shown, shown_perhaps, shown_value, value_shown}
 use Rattle.dft_command_line.proofs.JobWords.{certify_shows, generate_shows, shows_certify, shows_generate}
 
 -- ---- replay
@@ -29,7 +30,7 @@ replay_parts None n p files e = absurd cc
 replay_parts (Some l) None p files e = absurd cc
 replay_parts (Some l) (Some n) None files e = absurd cc
 replay_parts (Some l) (Some n) (Some p) files e =
-    let same = some_same _ files e in
+    let same = same_Some _ files e in
     (ap (λ (f : ReplayFiles). Some f.library) same, ap (λ (f : ReplayFiles). Some f.netlist) same, ap (λ (f : ReplayFiles). Some f.patterns) same)
 
 replay_shows : (rs : List Row) (files : ReplayFiles) → replay_in rs ≡ Some files → AllByRecursion (Shows rs) (replay_options files)
@@ -61,7 +62,7 @@ scan_parts_of : (all files : ScanFiles) (b : Bool) → (all.out ≡ all.report �
     ScanParts (Some all.library) (Some all.netlist) (Some all.config) (Some all.out) (Some all.report) files
 scan_parts_of all files true same e = absurd cc
 scan_parts_of all files false same e =
-    subst (ScanParts (Some all.library) (Some all.netlist) (Some all.config) (Some all.out) (Some all.report)) (some_same all files e)
+    subst (ScanParts (Some all.library) (Some all.netlist) (Some all.config) (Some all.out) (Some all.report)) (same_Some all files e)
     (record { library_is = refl; netlist_is = refl; config_is = refl; out_is = refl; report_is = refl; other = λ alike. true≢false (sym (same alike)) })
 
 scan_parts : (l : Option (Option Text)) (n c o r : Option Text) (files : ScanFiles) → scan_from l n c o r ≡ Some files → ScanParts l n c o r files
@@ -152,7 +153,7 @@ compile_parts_of : (all files : CompileFiles) (b : Bool) → outputs_differ all 
     CompileParts (Some all.library) (Some all.netlist) (Some all.config) (Some all.cubes) (Some all.out_netlist) (Some all.out_patterns) (Some all.out_report) files
 compile_parts_of all files false test e = absurd cc
 compile_parts_of all files true test e =
-    subst (CompileParts (Some all.library) (Some all.netlist) (Some all.config) (Some all.cubes) (Some all.out_netlist) (Some all.out_patterns) (Some all.out_report)) (some_same all files e)
+    subst (CompileParts (Some all.library) (Some all.netlist) (Some all.config) (Some all.cubes) (Some all.out_netlist) (Some all.out_patterns) (Some all.out_report)) (same_Some all files e)
     (record {
       library_is = refl;
       netlist_is = refl;
@@ -233,7 +234,7 @@ for_taken words (Generate job) s =
 
 -- a command that is found by its name has the form of that name
 form_named : (words : List Text) (t : Taken words) (f : Form) → find_form f.command ≡ Some f → t.form.command ≡ f.command → t.form ≡ f
-form_named words t f is same = some_same t.form f (sym t.is ∙ ap find_form same ∙ is)
+form_named words t f is same = same_Some t.form f (sym t.is ∙ ap find_form same ∙ is)
 
 as_form : (words : List Text) (t : Taken words) (f : Form) (options : List Valued) → t.form ≡ f → names f.options ≡ labels options → AllByRecursion (Shows (rows t.given)) options → IsCommand f.command options words
 as_form words t f options same agree all =
@@ -242,30 +243,30 @@ as_form words t f options same agree all =
 found_replay : (words : List Text) (t : Taken words) (c : Command) (q : Option ReplayFiles) → t.form ≡ replay_form → replay_in (rows t.given) ≡ q → option_map Replay q ≡ Some c → IsFor words c
 found_replay words t c None same is e = absurd cc
 found_replay words t c (Some files) same is e =
-    subst (IsFor words) (some_same (Replay files) c e) (as_form words t replay_form (replay_options files) same refl (replay_shows (rows t.given) files is))
+    subst (IsFor words) (same_Some (Replay files) c e) (as_form words t replay_form (replay_options files) same refl (replay_shows (rows t.given) files is))
 
 found_scan : (words : List Text) (t : Taken words) (c : Command) (q : Option ScanFiles) → t.form ≡ scan_form → scan_in (rows t.given) ≡ q → option_map Scan q ≡ Some c → IsFor words c
 found_scan words t c None same is e = absurd cc
 found_scan words t c (Some files) same is e =
     let found = scan_shows (rows t.given) files is in
-    subst (IsFor words) (some_same (Scan files) c e) (as_form words t scan_form (scan_options files) same refl found.shows, found.other)
+    subst (IsFor words) (same_Some (Scan files) c e) (as_form words t scan_form (scan_options files) same refl found.shows, found.other)
 
 found_compile : (words : List Text) (t : Taken words) (c : Command) (q : Option CompileFiles) → t.form ≡ compile_form → compile_in (rows t.given) ≡ q → option_map Compile q ≡ Some c → IsFor words c
 found_compile words t c None same is e = absurd cc
 found_compile words t c (Some files) same is e =
     let found = compile_shows (rows t.given) files is in
-    subst (IsFor words) (some_same (Compile files) c e) (as_form words t compile_form (compile_options files) same refl found.shows, found.other)
+    subst (IsFor words) (same_Some (Compile files) c e) (as_form words t compile_form (compile_options files) same refl found.shows, found.other)
 
 found_certify : (words : List Text) (t : Taken words) (c : Command) (q : Option CertifyFiles) → t.form ≡ certify_form → certify_in (rows t.given) ≡ q → option_map Certify q ≡ Some c → IsFor words c
 found_certify words t c None same is e = absurd cc
 found_certify words t c (Some files) same is e =
-    subst (IsFor words) (some_same (Certify files) c e) (as_form words t certify_form (certify_options files) same refl (certify_shows (rows t.given) files is))
+    subst (IsFor words) (same_Some (Certify files) c e) (as_form words t certify_form (certify_options files) same refl (certify_shows (rows t.given) files is))
 
 found_generate : (words : List Text) (t : Taken words) (c : Command) (q : Option JobNumbers) → t.form ≡ generate_form → generate_in (rows t.given) ≡ q → option_map Generate q ≡ Some c → IsFor words c
 found_generate words t c None same is e = absurd cc
 found_generate words t c (Some job) same is e =
     let found = generate_shows (rows t.given) job is in
-    subst (IsFor words) (some_same (Generate job) c e)
+    subst (IsFor words) (same_Some (Generate job) c e)
     (record {
       seed = found.seed;
       size = found.size;

@@ -2,6 +2,7 @@
 use Rattle.std.proofs.Common.{◌≡◌, ◌&&◌, ℕ, Bool, true, false, true≢false, List, [], ◌∷◌, ◌++◌, Option, Some, None, IfSome, fold, refl, sym, ap, ap₂, ◌∙◌, subst, append_assoc, append-nil}
 use Rattle.std.specs.List.{list_all}
 use Rattle.std.proofs.lemmas.List.{map-append}
+use Rattle.std.proofs.lemmas.Bool.{and_parts}
 use Rattle.clap.specs.Faults.{check_fault, defaults_fault, react_fault, repeat_fault, settle_fault, turn_fault, use_fault, walk_fault}
 use Rattle.clap.specs.Kinds.{Kinds, or_else}
 use Rattle.clap.specs.Walk.{Held, Row, Walk, finished, has_row, idle, option, reacted, settled, used, walked, with_default}
@@ -77,10 +78,6 @@ claim_repeat : (os : List Known) (g : Given) (q : Option (List Given)) (gs : Lis
 claim_repeat os g None gs kinds rs present fails = fails
 claim_repeat os g (Some hs) gs kinds rs present fails = ((λ fits wanted. absurd (fits_not gs g hs present fits)), λ e. absurd (fails e))
 
-pub both : (a b : Bool) → (a && b) ≡ true → (a ≡ true) × (b ≡ true)
-both true b e = (refl, e)
-both false b e = absurd (true≢false (sym e))
-
 module _ (f : Form) (good : are_names f.options ≡ true) where
   -- ---- the end
 
@@ -107,7 +104,7 @@ module _ (f : Form) (good : are_names f.options ≡ true) where
 
   unsettled : (words : List Text) (h : Held) → list_all may_stand words ≡ true → (settle_fault (rules f.options) false h ≡ [] → ⊥) → faults f (at idle h) words ≡ [] → ⊥
   unsettled [] h stand fails e = fails (first_none _ _ (sym (no_words f (at idle h)) ∙ e))
-  unsettled (w ∷ words) h stand fails e = faults_fail f (at idle h) w words (unsettled_step (option_of f.options w) w h refl (option_is f.options w) (both _ _ stand).0 fails) e
+  unsettled (w ∷ words) h stand fails e = faults_fail f (at idle h) w words (unsettled_step (option_of f.options w) w h refl (option_is f.options w) (and_parts _ _ stand).0 fails) e
 
   -- ---- the walk
 
@@ -191,7 +188,7 @@ module _ (f : Form) (good : are_names f.options ≡ true) where
   pub walks : (words : List Text) → list_all may_stand words ≡ true → Idle words × Waits words
   walks [] stand = ((λ h gs holds fits. end_claim h gs holds fits), λ o gs skip has fits. waits_end o (rows gs) skip has)
   walks (w ∷ words) stand =
-      let here = both (may_stand w) (list_all may_stand words) stand in
+      let here = and_parts (may_stand w) (list_all may_stand words) stand in
       let rest = walks words here.1 in (
         (λ h gs holds fits. idle_word (option_of f.options w) w words h gs refl (option_is f.options w) here.0 holds fits rest.0 rest.1),
         λ o gs skip has fits. waits_word o w words gs skip (is_plain w) has refl here.0 here.1 fits rest.0,

@@ -15,22 +15,11 @@ use Rattle.dft_parts.specs.SumTrees.{sum_bits, tri_sum}
 use Rattle.dft_parts.proofs.Trees.{value_at, bit_at, sum_value, sum_bit}
 use Rattle.dft_edt.specs.Hardware.{EdtNets, HasHold, HasOutput, group_of}
 use Rattle.dft_edt.specs.Parts.{shown_by}
-use Rattle.dft_edt.proofs.Parts.{group_below}
+use Rattle.dft_edt.proofs.Parts.{group_below, next_bit, gate_bit, same_bits, hold_kept, hold_taken, gate_value, buffered}
 use Rattle.dft_edt.proofs.Sums.{at_nets, sum_of_bits, same_sum}
 use Rattle.dft_compact.specs.CompactorStands.{HasGated, CompactorBits, CompactorValues}
 
 -- ---- bits
-
-next_bit : (u m h : Bool) → bit_of Or (bit_of And (u ∷ m ∷ []) ∷ bit_of And (not u ∷ h ∷ []) ∷ []) ≡ (if u then m else h)
-next_bit true true h = refl
-next_bit true false h = refl
-next_bit false m true = refl
-next_bit false m false = refl
-
-and_bits : (a b : Bool) → bit_of And (a ∷ b ∷ []) ≡ (a && b)
-and_bits true true = refl
-and_bits true false = refl
-and_bits false b = refl
 
 hold_bit : (l : Logic) (hw : EdtNets) (s : Sources) (bits : ℕ → Bool) (chain : ℕ) → l.net hw.run ≡ Gate Inv (Net hw.update ∷ []) → HasHold l hw chain → IsSettled l s bits →
     bit_from s bits (l.cell (hw.hold chain)).input ≡ (if bits hw.update then bits (hw.mask_net chain) else bits (hw.hold_net chain))
@@ -46,12 +35,8 @@ hold_bit l hw s bits chain run h settled =
 gated_bit : (l : Logic) (hw : EdtNets) (s : Sources) (bits : ℕ → Bool) (chain : ℕ) → HasGated l hw chain → IsSettled l s bits → bits (hw.gated chain) ≡ (not (bits (hw.hold_net chain)) && bits (hw.end_net chain))
 gated_bit l hw s bits chain h settled =
     bit_at l s bits (hw.gated chain) (Gate And (Net h.shown ∷ Net (hw.end_net chain) ∷ [])) settled h.gate
-    ∙ and_bits (bits h.shown) (bits (hw.end_net chain))
+    ∙ gate_bit (bits h.shown) (bits (hw.end_net chain))
     ∙ ap (λ (t : Bool). t && bits (hw.end_net chain)) (bit_at l s bits h.shown (Gate Inv (Net (hw.hold_net chain) ∷ [])) settled h.show)
-
-same_bits : (n : ℕ) (s r : ℕ → Bool) (ks : List ℕ) → All (λ k. k < n) ks → ((i : ℕ) → i < n → s i ≡ r i) → sum_of s ks ≡ sum_of r ks
-same_bits n s r [] below p = refl
-same_bits n s r (k ∷ ks) below p = λ t. xor (p k (below 0 k (omega arith)) t) (same_bits n s r ks (λ i y less. below (suc i) y (omega arith)) p t)
 
 pub compactor_bits : CompactorBits
 compactor_bits l config hw s bits has run range settled = (
@@ -73,30 +58,6 @@ compactor_bits l config hw s bits has run range settled = (
 next_hold : Tri → Tri → Tri → Tri
 next_hold u m h = tri_of Or (tri_of And (u ∷ m ∷ []) ∷ tri_of And (tri_of Inv (u ∷ []) ∷ h ∷ []) ∷ [])
 
-hold_kept : (m h : Tri) → next_hold Zero m h ≡ h
-unfolding next_hold
-hold_kept Zero Zero = refl
-hold_kept Zero One = refl
-hold_kept Zero Unknown = refl
-hold_kept One Zero = refl
-hold_kept One One = refl
-hold_kept One Unknown = refl
-hold_kept Unknown Zero = refl
-hold_kept Unknown One = refl
-hold_kept Unknown Unknown = refl
-
-hold_taken : (m h : Tri) → next_hold One m h ≡ m
-unfolding next_hold
-hold_taken Zero Zero = refl
-hold_taken Zero One = refl
-hold_taken Zero Unknown = refl
-hold_taken One Zero = refl
-hold_taken One One = refl
-hold_taken One Unknown = refl
-hold_taken Unknown Zero = refl
-hold_taken Unknown One = refl
-hold_taken Unknown Unknown = refl
-
 hold_value : (l : Logic) (hw : EdtNets) (s : TriSources) (values : ℕ → Tri) (chain : ℕ) → l.net hw.run ≡ Gate Inv (Net hw.update ∷ []) → HasHold l hw chain → IsTriSettled l s values →
     value_from values (l.cell (hw.hold chain)).input ≡ next_hold (values hw.update) (values (hw.mask_net chain)) (values (hw.hold_net chain))
 unfolding next_hold
@@ -108,27 +69,11 @@ hold_value l hw s values chain run h settled =
     ∙ value_at l s values h.next (Gate Or (Net h.taken ∷ Net h.kept ∷ [])) settled h.either
     ∙ (λ i. tri_of Or (taken i ∷ kept i ∷ []))
 
-shown_value : (a b : Tri) → tri_of And (tri_of Inv (a ∷ []) ∷ b ∷ []) ≡ shown_by a b
-shown_value Zero Zero = refl
-shown_value Zero One = refl
-shown_value Zero Unknown = refl
-shown_value One Zero = refl
-shown_value One One = refl
-shown_value One Unknown = refl
-shown_value Unknown Zero = refl
-shown_value Unknown One = refl
-shown_value Unknown Unknown = refl
-
 gated_value : (l : Logic) (hw : EdtNets) (s : TriSources) (values : ℕ → Tri) (chain : ℕ) → HasGated l hw chain → IsTriSettled l s values → values (hw.gated chain) ≡ shown_by (values (hw.hold_net chain)) (values (hw.end_net chain))
 gated_value l hw s values chain h settled =
     value_at l s values (hw.gated chain) (Gate And (Net h.shown ∷ Net (hw.end_net chain) ∷ [])) settled h.gate
     ∙ ap (λ t. tri_of And (t ∷ values (hw.end_net chain) ∷ [])) (value_at l s values h.shown (Gate Inv (Net (hw.hold_net chain) ∷ [])) settled h.show)
-    ∙ shown_value (values (hw.hold_net chain)) (values (hw.end_net chain))
-
-buffered : (a : Tri) → tri_of Buf (a ∷ []) ≡ a
-buffered Zero = refl
-buffered One = refl
-buffered Unknown = refl
+    ∙ gate_value (values (hw.hold_net chain)) (values (hw.end_net chain))
 
 pub compactor_values : CompactorValues
 compactor_values l config hw s values has run range settled = (

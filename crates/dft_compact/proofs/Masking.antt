@@ -63,7 +63,7 @@ kept_refused ports run nets s t taken e h k =
 
 -- ---- a mask, step by step
 
-abbrev pair_of : (mask hold : NetId) → MaskNets
+abbrev pub pair_of : (mask hold : NetId) → MaskNets
 pair_of mask hold = record { mask = mask; hold = hold }
 
 abbrev mask_end : (mask hold : NetId) → (Unit {0}) → Recipe MaskNets

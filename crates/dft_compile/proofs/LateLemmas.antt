@@ -2,6 +2,7 @@
 use Rattle.std.proofs.Common.{◌≡◌, ◌<◌, ◌≤◌, ℕ, ℤ, pos, true, false, List, [], ◌∷◌, length, Option, None, Some, Result, Err, IfErr, refl, sym, ◌∙◌, ap, subst, arith}
 use Rattle.std.specs.Prelude.{option_map, nat_lt}
 use Rattle.std.proofs.lemmas.Bool.Decides.{nat_tests}
+use Rattle.std.proofs.lemmas.Bool.{lt-ltb, le-ltb}
 use Rattle.dft_base.specs.Lexing.{Text}
 use Rattle.dft_netlist.specs.Netlist.{Netlist}
 use Rattle.dft_config.specs.declared.config.Config.{Config}
@@ -26,23 +27,17 @@ use Rattle.dft_compile.specs.Texts.{report_text}
 
 -- ---- lengths
 
-above : (limit n : ℕ) → limit < n → nat_lt limit n ≡ true
-above limit n less = grind (arith, nat_tests)
-
-not_above : (limit n : ℕ) → n ≤ limit → nat_lt limit n ≡ false
-not_above limit n le = grind (arith, nat_tests)
-
 pub is_many : (bytes : ℕ) → MAX_TEXT < bytes → too_many bytes ≡ Some (stil.P6 (pos bytes))
-is_many bytes more = rw (above MAX_TEXT bytes more) refl
+is_many bytes more = rw (lt-ltb MAX_TEXT bytes more) refl
 
 pub not_many : (bytes : ℕ) → bytes ≤ MAX_TEXT → too_many bytes ≡ None
-not_many bytes few = rw (not_above MAX_TEXT bytes few) refl
+not_many bytes few = rw (le-ltb MAX_TEXT bytes few) refl
 
 pub is_long : (bytes : ℕ) → MAX_BYTES < bytes → of_length bytes ≡ Some (report_error.K6 (pos bytes))
-is_long bytes more = rw (above MAX_BYTES bytes more) refl
+is_long bytes more = rw (lt-ltb MAX_BYTES bytes more) refl
 
 pub not_long : (bytes : ℕ) → bytes ≤ MAX_BYTES → of_length bytes ≡ None
-not_long bytes few = rw (not_above MAX_BYTES bytes few) refl
+not_long bytes few = rw (le-ltb MAX_BYTES bytes few) refl
 
 -- an error of the writer of reports is the refusal of the text
 pub report_refused : (text : Text) (e : ReportError) → report.IsTooLong text e → IsRefusal (option_map Report (too_long text)) (of_report e)

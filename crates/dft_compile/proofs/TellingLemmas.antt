@@ -10,13 +10,15 @@ use Rattle.dft_base.specs.Name.{IsName}
 use Rattle.dft_base.specs.Solutions.{Equation, StatesCertificate, StatesFrom, equation_at, ids_to}
 use Rattle.dft_netlist.specs.declared.ids.InstanceId.{InstanceId}
 use Rattle.dft_netlist.specs.declared.instance.Instance.{Instance}
-use Rattle.dft_netlist.specs.Names.{instance_name}
+use Rattle.dft_netlist.specs.Names.{IsNameIfAny, instance_name}
 use Rattle.dft_netlist.specs.Netlist.{Netlist}
+use Rattle.dft_netlist.specs.Sound.{IsNetlist}
 use Rattle.dft_config.specs.declared.config.Config.{Config}
 use Rattle.dft_config.specs.declared.config.RingConfig.{RingConfig}
 use Rattle.dft_config.specs.Range.{IsInRange}
 use Rattle.dft_rules.specs.declared.judged.Judged.{Judged}
 use Rattle.dft_rules.specs.declared.judged.Judged.TheVariants.{Scanned, Unscanned}
+use Rattle.dft_rules.specs.Refusals as rules
 use Rattle.dft_rules.specs.Refusals.{is_scanned}
 use Rattle.dft_rules.specs.Rules.{judgements}
 use Rattle.dft_stitch.specs.Chains.{domain_of, plan_of}
@@ -44,8 +46,10 @@ use Rattle.dft_scan.proofs.ListLemmas.{filter_shorter}
 use Rattle.dft_scan.proofs.ShapeLemmas.{few_chains, judgement_count, short_chains}
 use Rattle.dft_cube_reports.specs.Outcomes.{cell_name, cube_report, cube_reports, named_outcome, outcome_of, sum_as, sum_at, sum_line, sums_of, variable_of}
 use Rattle.dft_encode.specs.Compiled.{Placing}
+use Rattle.dft_encode.proofs.PlacingLemmas.{place_count}
+use Rattle.dft_rules.proofs.Passed.{domain_is_named}
 use Rattle.dft_stitch.proofs.ChainLimits.{limits}
-use Rattle.dft_compile.specs.Named.{AreCubesNamed, AreInstancesNamed, AreNames, CanBeTold, IsNameIfAny}
+use Rattle.dft_compile.specs.Named.{AreCubesNamed}
 use Rattle.dft_compile.specs.Reports.{compile_report}
 use Rattle.dft_compile.specs.Texts.{report_text}
 
@@ -60,6 +64,12 @@ each_more P None rest here more = more
 each_more P (Some x) rest here more = (here x refl, more)
 
 -- ---- names
+
+abbrev AreInstancesNamed : List Instance → Type 0
+AreInstancesNamed instances = (place : ℕ) (instance : Instance) → slice_get instances place ≡ Some instance → IsNameIfAny instance.name
+
+abbrev AreNames : List Text → Type 0
+AreNames names = (place : ℕ) (name : Text) → slice_get names place ≡ Some name → IsName name
 
 any_name : (o : Option Text) → ((name : Text) → o ≡ Some name → IsName name) → IsNameIfAny o
 any_name None all = tt
@@ -161,13 +171,6 @@ certificate_short n row cells ids states = omega (arith, states_short n [] (equa
 
 -- ---- cubes
 
--- no cube begins more than one pattern, and none goes into a pattern behind that
-patterns_few : (n : ℕ) (row : CellRows) (window : ℕ) (old new : List Merged) (cube : Cube) (placed : Placed) → Places n row window old cube placed new → length new ≤ length old + 1
-patterns_few n row window old new cube (word.Into p) (none, inl joins) = let size = ap length joins.patterns ∙ length-set old p (joined joins.pattern cube) in omega (arith, size)
-patterns_few n row window old new cube (word.Into p) (none, inr begins) = let size = ap length begins.patterns ∙ length-append old (begun cube ∷ []) in omega (arith, size)
-patterns_few n row window old new cube (word.Unsolvable ids) places = let size = ap length places.2 in omega (arith, size)
-patterns_few n row window old new cube (word.Skipped cell) places = let size = ap length places.1 in omega (arith, size)
-
 pattern_small : (n : ℕ) (row : CellRows) (window : ℕ) (old new : List Merged) (cube : Cube) (p : ℕ) → Places n row window old cube (word.Into p) new → p ≤ length old
 pattern_small n row window old new cube p (none, inl joins) = let less = slice_get_within old p joins.pattern joins.is in omega (arith, less)
 pattern_small n row window old new cube p (none, inr begins) = omega (arith, begins.number)
@@ -205,7 +208,7 @@ module _ (n : Netlist) (ring : RingConfig) (row : CellRows) (columns window : �
       each_more IsCubeReadable (cube_report n ring row cube place) (cube_reports n ring row cubes placed)
       (λ r is. named_readable cube.name (outcome_of n ring row cube place) r (named 0 cube refl)
       (λ outcome told. outcome_readable old places.0 cube place outcome (cells 0 cube (omega arith)) (omega (arith, few)) places.1.0 told) is)
-      (let more = patterns_few columns row window old places.0 cube place places.1.0 in
+      (let more = place_count columns row window old places.0 cube place places.1.0 in
       cubes_readable places.0 new cubes placed (λ k. named (suc k)) (λ k d less. cells (suc k) d (omega (arith, less))) (omega (arith, few, more)) places.1.1)
 
 -- ---- the report
@@ -214,7 +217,7 @@ row_short : (columns : ℕ) (o : Option (List Bool)) → ((r : List Bool) → o 
 row_short columns None wide few = omega arith
 row_short columns (Some r) wide few = let size = wide r refl in omega (arith, size, few)
 
-module _ (n : Netlist) (config : Config) (cubes : List Cube) (range : IsInRange config) (fits : refusal n config ≡ None) (apart : StandApart (plan_of n config).chains) (told : CanBeTold n config cubes) (few : length cubes ≤ 65536)
+module _ (n : Netlist) (config : Config) (cubes : List Cube) (range : IsInRange config) (sound : IsNetlist n) (passed : rules.refusal n config ≡ None) (fits : refusal n config ≡ None) (apart : StandApart (plan_of n config).chains) (named : AreCubesNamed cubes) (few : length cubes ≤ 65536)
     (cells : All (λ (cube : Cube). length cube.cells < 2 ^ 32) cubes) where
   readable : (p : Placing config (plan_of n config) cubes) → IsReadable (compile_report n config (cell_row (plan_of n config).chains p.rows) cubes p.placed)
   readable p =
@@ -226,14 +229,14 @@ module _ (n : Netlist) (config : Config) (cubes : List Cube) (range : IsInRange 
       let cell_count = count_by-le-length is_scanned verdicts in
       let judged = judgement_count n config in
       record {
-        header = (omega (arith, cell_count, judged, told.few), omega (arith, chain_count), ((let le = limit.0 in omega (arith, le)), (let le = limit.1 in omega (arith, le))));
+        header = (omega (arith, cell_count, judged, sound.few_instances), omega (arith, chain_count), ((let le = limit.0 in omega (arith, le)), (let le = limit.1 in omega (arith, le))));
         count = (let size = length-map chains (λ (xs : List InstanceId). length xs) in omega (arith, size, chain_count));
         chains = lengths_small chains (short_chains n config fits);
-        scanned = chains_readable n config verdicts told.instances told.domains 0 chains (omega (arith, chain_count)) (short_chains n config fits);
-        unscanned = others_readable verdicts 0 n.instances told.instances;
-        cubes = cubes_readable n config.ring (cell_row chains p.rows) p.rows.columns config.window told.instances range.ring.channels.0
+        scanned = chains_readable n config verdicts sound.named.instances (domain_is_named n config sound passed) 0 chains (omega (arith, chain_count)) (short_chains n config fits);
+        unscanned = others_readable verdicts 0 n.instances sound.named.instances;
+        cubes = cubes_readable n config.ring (cell_row chains p.rows) p.rows.columns config.window sound.named.instances range.ring.channels.0
             (λ cell. row_short p.rows.columns (cell_row chains p.rows cell) (λ r is. row_wide chains p.rows cell r rows is) (let le = limit.1 in omega (arith, le, p.equations.columns)))
-            [] p.merged cubes p.placed told.named cells (omega (arith, few)) p.is;
+            [] p.merged cubes p.placed named cells (omega (arith, few)) p.is;
         load = tt;
       }
 

@@ -12,7 +12,7 @@ ghost use Rattle.dft_compile.specs.Prepared.{IsPrepared};
 ghost use Rattle.dft_compile.specs.Refusals.{IsLate};
 
 use crate::error::CompileError;
-use crate::names::can_be_told;
+use crate::names::cubes_are_named;
 use crate::prepared::Prepared;
 use crate::texts::CompileTexts;
 use crate::work::{Work, load_equations};
@@ -42,7 +42,8 @@ pub fn compile(
     ensures reads { IfOk result (λ t. StandsFor design.now.library t.netlist.items (scanned Edt design.now config.now)) }
     ensures refused { IfErr result (IsLate design.now config.now cubes.now) }
 {
-    can_be_told(design, config, cubes);
+    design.soundness();
+    cubes_are_named(cubes);
     let chains = &prepared.chains;
     let equations = load_equations(alloc, design, config, chains)?;
     plans_stand_apart();

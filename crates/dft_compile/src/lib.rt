@@ -7,7 +7,6 @@ mod error;
 mod laws;
 mod lengths;
 mod names;
-mod port_names;
 mod prepared;
 mod reporting;
 mod texts;

@@ -3,14 +3,12 @@
 ghost use Rattle.std.specs.Prelude.{◌≡◌, None, IfErr, IfOk};
 ghost use Rattle.dft_config.specs.Range.{IsInRange};
 ghost use Rattle.dft_config.specs.declared.config.Config.{Config};
-ghost use Rattle.dft_compile_laws.specs.Formed.{ArePortsNamed};
 ghost use Rattle.dft_rules.specs.Refusals as rules;
 ghost use Rattle.dft_scan_frame.specs.Statements.{IsReady};
 ghost use Rattle.dft_compile.specs.Prepared.{IsPrepared};
 ghost use Rattle.dft_compile.specs.Refusals.{IsRefusal, first_refusal};
 
 use crate::error::CompileError;
-use crate::port_names::ports_are_named;
 use dft_config::Config;
 use dft_insert::{Style, insert};
 use dft_netlist::Design;
@@ -33,12 +31,10 @@ pub fn prepare(alloc: Global, design: &Design, config: &Config) -> Result<Prepar
     requires { IsInRange config.now }
     ensures prepared { IfOk result (IsPrepared design.now config.now) }
     ensures ready { IfOk result (λ p. IsReady design.now config.now) }
-    ensures named { IfOk result (λ p. ArePortsNamed design.now) }
     ensures accepted { IfOk result (λ p. first_refusal design.now config.now ≡ None) }
     ensures refused { IfErr result (IsRefusal (first_refusal design.now config.now)) }
 {
     ready(design);
-    ports_are_named(design);
     let verdicts = judge(alloc, design, config)?;
     let chains = plan(alloc, design, config, &verdicts)?;
     let scanned = insert(alloc, design, config, &chains, Style::Edt)?.design;

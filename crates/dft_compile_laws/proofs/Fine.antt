@@ -30,11 +30,11 @@ use Rattle.dft_pattern_behavior.proofs.Places.{added_nets, all_inputs}
 use Rattle.dft_pattern_behavior.proofs.Playing.{act_by, bits_from}
 use Rattle.dft_compile_laws.proofs.Rows.{AllFine, Fine, Rests, Sets}
 
-bit_sets : (b : Bool) → Sets (set_to b)
+pub bit_sets : (b : Bool) → Sets (set_to b)
 bit_sets true = tt
 bit_sets false = tt
 
-driven_sets : (b : Bool) (t : Tri) → Sets (driven b t)
+pub driven_sets : (b : Bool) (t : Tri) → Sets (driven b t)
 driven_sets true t = tt
 driven_sets false Zero = tt
 driven_sets false One = tt

@@ -12,16 +12,17 @@ use Rattle.dft_netlist.specs.Names.{find_net}
 use Rattle.dft_netlist.specs.NetNumbers.{nets_from}
 use Rattle.dft_netlist.specs.Netlist.{Netlist}
 use Rattle.dft_netlist.specs.Sound.{IsNetlist, bits_of}
+use Rattle.dft_netlist.proofs.FindLemmas.{not_found}
 use Rattle.dft_expect.specs.Captures.{bits_out, output_bits}
 use Rattle.dft_patterns.specs.declared.signal.StilSignal.{StilSignal}
 use Rattle.dft_replay.specs.Fits.{first_misfit, same_dir}
 use Rattle.dft_replay.specs.Vectors.{dirs_of}
-use Rattle.dft_replay.proofs.FitLemmas.{found_named, net_fits}
+use Rattle.dft_replay.proofs.FitLemmas.{found_named, net_fits, dir_same}
 use Rattle.dft_vectors.proofs.OwnLemmas.{inputs_live, outputs_live}
 use Rattle.dft_vectors.specs.Signals.{bits_in, input_bits, signal_of}
 use Rattle.dft_pattern_behavior.proofs.Listed.{AllNets}
 use Rattle.dft_compile_laws.specs.Passing.{SignalsFit}
-use Rattle.dft_compile_laws.proofs.Rows.{all_nets, not_found}
+use Rattle.dft_compile_laws.proofs.Rows.{all_nets}
 
 found_name : (n : Netlist) (q : Text) (k : NetId) (o : Option NetId) → IsNetlist n → slice_get n.nets k.0 ≡ Some q → find_net n q ≡ o → find_net n q ≡ Some k
 found_name n q k None sound at found = absurd (not_found 0 n.nets q found k.0 at)
@@ -86,23 +87,19 @@ ports_out_dirs whole (p ∷ ps) from count e h = out_dirs whole p.dir p.bits (bi
 
 -- ---- signals
 
-same_self : (d : Dir) → same_dir d d ≡ true
-same_self dir.Input = refl
-same_self dir.Output = refl
-
 fit_all : (n : Netlist) (d : Dir) (xs : List NetId) (rest : List StilSignal) → IsNetlist n → AllNets (λ k. k < length n.nets) xs → AllNets (HasDir (dirs_of n.ports) d) xs → first_misfit n rest ≡ None → first_misfit n (map (signal_of n d) xs ++ rest) ≡ None
 fit_all n d [] rest sound live dirs none = none
 fit_all n d (x ∷ xs) rest sound live dirs none =
     let name : Text = slice_index_or n.nets x.0 [] in
     let found : find_net n name ≡ Some x = found_name n name x (find_net n name) sound (slice_get-get_or n.nets x.0 [] live.0) refl in
-    ap (λ b. if b then first_misfit n (map (signal_of n d) xs ++ rest) else Some name) (net_fits n (signal_of n d x) x d sound found dirs.0 (same_self d)) ∙ fit_all n d xs rest sound live.1 dirs.1 none
+    ap (λ b. if b then first_misfit n (map (signal_of n d) xs ++ rest) else Some name) (net_fits n (signal_of n d x) x d sound found dirs.0 (dir_same d)) ∙ fit_all n d xs rest sound live.1 dirs.1 none
 
 outs_fit : (n : Netlist) (d : Dir) (xs : List NetId) → IsNetlist n → AllNets (λ k. k < length n.nets) xs → AllNets (HasDir (dirs_of n.ports) d) xs → first_misfit n (map (signal_of n d) xs) ≡ None
 outs_fit n d [] sound live dirs = refl
 outs_fit n d (x ∷ xs) sound live dirs =
     let name : Text = slice_index_or n.nets x.0 [] in
     let found : find_net n name ≡ Some x = found_name n name x (find_net n name) sound (slice_get-get_or n.nets x.0 [] live.0) refl in
-    ap (λ b. if b then first_misfit n (map (signal_of n d) xs) else Some name) (net_fits n (signal_of n d x) x d sound found dirs.0 (same_self d)) ∙ outs_fit n d xs sound live.1 dirs.1
+    ap (λ b. if b then first_misfit n (map (signal_of n d) xs) else Some name) (net_fits n (signal_of n d x) x d sound found dirs.0 (dir_same d)) ∙ outs_fit n d xs sound live.1 dirs.1
 
 pub signals_fit : SignalsFit
 signals_fit w sound =

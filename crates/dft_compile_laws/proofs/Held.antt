@@ -65,7 +65,7 @@ module _ (n : Netlist) (config : Config) (cubes : List Cube) (placing : Placing 
       }
 
 pub compilations_hold : CompilationsHold
-compilations_hold n config order cubes placing list ready netlist ordered named sound are =
+compilations_hold n config order cubes placing list ready netlist ordered sound are =
     let stands = stand n config cubes placing list ready sound are in
     record {
       entries = all_reports n config placing.rows.columns (rows_of n config placing.rows) config.window [] placing.merged cubes placing.placed sound placing.is;
@@ -78,6 +78,6 @@ compilations_hold n config order cubes placing list ready netlist ordered named 
       passes = written_pass n config list order ready netlist ordered stands;
       formed = λ few. written_formed n config list ready netlist named stands (gives n config cubes placing list ready sound are) few;
       reads = (λ few.
-          let formed = written_formed n config list ready netlist named stands (gives n config cubes placing list ready sound are) few in
+          let formed = written_formed n config list ready netlist stands (gives n config cubes placing list ready sound are) few in
           stands_written (set_of n config list) formed.well formed.writable);
     }

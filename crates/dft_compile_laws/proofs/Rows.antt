@@ -3,12 +3,13 @@ use Rattle.std.proofs.Common.{ℕ, zero, suc, ◌<◌, ◌≤◌, ◌≡◌, ◌
 use Rattle.std.specs.Prelude.{if◌then◌else◌, slice_index_or}
 use Rattle.std.specs.List.{All}
 use Rattle.std.specs.Str.{bytes_eq}
-use Rattle.std.proofs.lemmas.Bool.{eqb-true, eq-eqb}
+use Rattle.std.proofs.lemmas.Bool.{eqb-true, eq-eqb, false_from_ne_true}
 use Rattle.std.proofs.lemmas.Option.{none-some, same_Some, slice_get-get_or}
 use Rattle.dft_base.specs.Lexing.{Text}
 use Rattle.dft_base.specs.declared.dir.Dir.{Dir}
 use Rattle.dft_base.specs.declared.dir.Dir.TheVariants as dir
 use Rattle.dft_base.specs.declared.tri.Tri.{Tri}
+use Rattle.dft_base.proofs.TextLemmas.{bytes_eq-self}
 use Rattle.dft_netlist.specs.declared.ids.NetId.{NetId}
 use Rattle.dft_netlist.specs.declared.named.Named.TheVariants.{Net}
 use Rattle.dft_netlist.specs.declared.port.Port as design_port
@@ -17,30 +18,19 @@ use Rattle.dft_netlist.specs.NetNumbers.{nets_from}
 use Rattle.dft_netlist.specs.Netlist.{Netlist}
 use Rattle.dft_netlist.specs.Runs.{Vector}
 use Rattle.dft_netlist.specs.Sound.{IsNetlist, bits_of}
-use Rattle.dft_netlist.proofs.NamesLemmas.{bytes_eq-same}
+use Rattle.dft_netlist.proofs.FindLemmas.{not_found}
 use Rattle.dft_patterns.specs.declared.act.Act.{Act}
 use Rattle.dft_patterns.specs.declared.act.Act.TheVariants.{Unset, Low, High, Pulse, ExpectLow, ExpectHigh, Ignore}
 use Rattle.dft_patterns.specs.Steadiness as steady
 use Rattle.dft_replay.specs.Rows.{act_on, is_pulse, net_named, nets_of, or_past, rows_from, set_by}
-use Rattle.dft_replay.proofs.FitLemmas.{found_named}
+use Rattle.dft_replay.proofs.FitLemmas.{found_named, not_first}
 use Rattle.dft_vectors.specs.Signals.{bits_in, input_bits, signal_of}
 use Rattle.dft_pattern_behavior.specs.Doing as doing
 use Rattle.dft_pattern_behavior.specs.Doing.{DoesAt, Does, AllDo}
 use Rattle.dft_pattern_behavior.proofs.Listed.{AllNets, is_in}
-use Rattle.dft_pattern_behavior.proofs.Places.{not_both, not_in}
+use Rattle.dft_pattern_behavior.proofs.Places.{not_in}
 
 -- ---- the nets of signals
-
-not_first : (t : Bool) (k : NetId) (r : Option NetId) → (if t then Some k else r) ≡ None → (t ≡ false) × (r ≡ None)
-not_first true k r h = absurd (none-some k (sym h))
-not_first false k r h = (refl, h)
-
-pub not_found : (from : ℕ) (nets : List Text) (q : Text) → find_net_from from nets q ≡ None → (j : ℕ) → slice_get nets j ≡ Some q → ⊥
-not_found from [] q h j at = none-some q at
-not_found from (x ∷ nets) q h zero at =
-    let other = not_first (bytes_eq x q) (record { 0 = from }) (find_net_from (suc from) nets q) h in
-    true≢false (sym (bytes_eq-same q) ∙ ap (λ y. bytes_eq y q) (sym (same_Some x q at)) ∙ other.0)
-not_found from (x ∷ nets) q h (suc j) at = not_found (suc from) nets q (not_first (bytes_eq x q) (record { 0 = from }) (find_net_from (suc from) nets q) h).1 j at
 
 named_by : (n : Netlist) (q : Text) (k : NetId) (o : Option NetId) → IsNetlist n → slice_get n.nets k.0 ≡ Some q → find_net n q ≡ o → or_past (length n.nets) o ≡ k.0
 named_by n q k None sound at found = absurd (not_found 0 n.nets q found k.0 at)
@@ -173,7 +163,7 @@ does_by x f old (k ∷ ins) outs (a ∷ acts) apart fine same ports pulsed =
       (ports k.0 ∙ ap (λ (b : Act). set_by b (old k.0)) here ∙ set_same a (old k.0) fine.0, pulsed k.0 ∙ ap is_pulse here ∙ pulse_same a),
       does_by x f old ins outs acts apart.1 fine.1
           (λ net is. same net (in_tail k ins net is)
-          ∙ ap (λ b. if b then a else act_on (numbers ins ++ outs) acts net) (not_both (k.0 == net) (λ at. true≢false (sym is ∙ ap (is_in ins) (sym (eqb-true k.0 net at)) ∙ apart.0)))) ports pulsed,
+          ∙ ap (λ b. if b then a else act_on (numbers ins ++ outs) acts net) (false_from_ne_true (k.0 == net) (λ at. true≢false (sym is ∙ ap (is_in ins) (sym (eqb-true k.0 net at)) ∙ apart.0)))) ports pulsed,
     )
 
 other_rests : (ins : List NetId) (outs : List ℕ) (acts : List Act) (net : ℕ) → Fine ins acts → is_in ins net ≡ false → is_pulse (act_on (numbers ins ++ outs) acts net) ≡ false

@@ -24,22 +24,13 @@ use Rattle.dft_vectors.specs.PatternData.{PatternData, load_of}
 use Rattle.dft_vectors.specs.VectorList.{capture_acts, load_vectors, no_table, last_of, pattern_vectors, set_up_acts, shift_acts, vectors_of}
 use Rattle.dft_pattern_behavior.specs.Doing.{AllDo}
 use Rattle.dft_pattern_behavior.specs.Listed.{ArePatterns, pattern_of}
-use Rattle.dft_pattern_behavior.proofs.Splitting.{first_do, split_do}
+use Rattle.dft_pattern_behavior.proofs.Splitting.{first_do, split_do, split_rounds, first_round}
 use Rattle.dft_pattern_behavior.proofs.Playing.{captures_capture, loads_from, loads_load, set_up_clears}
 use Rattle.dft_compile_laws.specs.Agreeing.{Agrees}
 use Rattle.dft_compile_laws.proofs.Agreements.{AllAgree, agree_append, agree_from}
 use Rattle.dft_compile_laws.proofs.Outs.{capture_agrees, set_up_agrees, shift_agrees, shown_of, signal_nets, unloads_at}
 
 -- ---- lists of vectors and rounds
-
-split_rounds : (l : Logic) (old : ℕ → Tri) (ys zs : List Vector) (rs : List Round) → AreRounds l old (ys ++ zs) rs → (us : List Round) × (vs : List Round) × (rs ≡ us ++ vs) × AreRounds l old ys us × AreRounds l (after_rounds l old ys us) zs vs
-split_rounds l old [] zs rs h = ([], rs, refl, tt, h)
-split_rounds l old (y ∷ ys) zs [] h = absurd h
-split_rounds l old (y ∷ ys) zs (r ∷ rs) h = let more = split_rounds l (after_round l y old r) ys zs rs h.1 in (r ∷ more.0, more.1, ap (λ (v : List Round). r ∷ v) more.2, (h.0, more.3), more.4)
-
-first_round : (l : Logic) (old : ℕ → Tri) (z : Vector) (zs : List Vector) (rs : List Round) → AreRounds l old (z ∷ zs) rs → (r : Round) × (vs : List Round) × (rs ≡ r ∷ vs) × IsRound l z old r × AreRounds l (after_round l z old r) zs vs
-first_round l old z zs [] h = absurd h
-first_round l old z zs (r ∷ vs) h = (r, vs, refl, h.0, h.1)
 
 rounds_length : (l : Logic) (old : ℕ → Tri) (xs : List Vector) (rs : List Round) → AreRounds l old xs rs → length rs ≡ length xs
 rounds_length l old [] [] h = refl

@@ -26,16 +26,7 @@ use Rattle.dft_vectors.specs.VectorList.{capture_acts, set_up_acts, shift_acts, 
 use Rattle.dft_pattern_behavior.proofs.Places.{added_nets, all_inputs}
 use Rattle.dft_pattern_behavior.proofs.Playing.{act_by, bits_from}
 use Rattle.dft_compile_laws.proofs.Rows.{Sets}
-
-bit_sets : (b : Bool) → Sets (set_to b)
-bit_sets true = tt
-bit_sets false = tt
-
-driven_sets : (b : Bool) (t : Tri) → Sets (driven b t)
-driven_sets true t = tt
-driven_sets false Zero = tt
-driven_sets false One = tt
-driven_sets false Unknown = tt
+use Rattle.dft_compile_laws.proofs.Fine.{bit_sets, driven_sets}
 
 -- the outputs of a set-up vector, of a shift vector and of a capture vector
 abbrev pub no_outs : Netlist → Config → List Act

@@ -2,11 +2,13 @@
 use Rattle.std.proofs.Common.{ℕ, zero, suc, ◌+◌, ◌≡◌, ◌==◌, Bool, true, false, List, [], ◌∷◌, ◌++◌, length, map, get_or, Option, None, Some, slice_get, refl, sym, ap, subst, ◌∙◌}
 use Rattle.std.specs.Prelude.{if◌then◌else◌, replicate, ◌≢◌}
 use Rattle.std.specs.List.{AllZip}
-use Rattle.std.proofs.lemmas.Bool.{eqb-true}
+use Rattle.std.proofs.lemmas.Bool.{eqb-true, false_from_ne_true}
 use Rattle.std.proofs.lemmas.List.{append_assoc}
+use Rattle.dft_merge.proofs.EquationLemmas.{Each}
 use Rattle.dft_base.specs.declared.tri.Tri.{Tri}
 use Rattle.dft_base.specs.declared.tri.Tri.TheVariants.{Zero, One, Unknown}
 use Rattle.dft_base.specs.Solutions.{bit_at}
+use Rattle.dft_base.proofs.BitLemmas.{true_false}
 use Rattle.dft_netlist.specs.declared.ids.NetId.{NetId}
 use Rattle.dft_netlist.specs.Netlist.{Netlist}
 use Rattle.dft_netlist.specs.Runs.{Vector}
@@ -22,14 +24,14 @@ use Rattle.dft_expect.specs.Masks.{by_chain}
 use Rattle.dft_patterns.specs.Patterns.{IsSteady, Patterns}
 use Rattle.dft_patterns.specs.declared.act.Act.{Act}
 use Rattle.dft_patterns.specs.declared.act.Act.TheVariants.{Unset, Low, High, Pulse, ExpectLow, ExpectHigh, Ignore}
-use Rattle.dft_pattern_behavior.proofs.Clocks.{pulsed_clock, reset_rests, true_false}
+use Rattle.dft_pattern_behavior.proofs.Clocks.{pulsed_clock, reset_rests}
 use Rattle.dft_vectors.specs.AddedPorts.{added_inputs, no_bits, set_all, shifting}
 use Rattle.dft_vectors.specs.OwnPorts.{compare, driven, expect, ignored, inputs_by, outputs_ignored, pulsing_vector, quiet_vector, set_to}
 use Rattle.dft_vectors.specs.PatternData.{PatternData}
 use Rattle.dft_vectors.specs.Signals.{input_bits}
 use Rattle.dft_vectors.specs.VectorList.{capture_acts, set_up_acts, shift_acts, unloaded, vectors_of}
 use Rattle.dft_pattern_behavior.proofs.Playing.{act_by, bits_from}
-use Rattle.dft_compile_laws.proofs.Full.{Each, HasWidth, each_listed, zip_append}
+use Rattle.dft_compile_laws.proofs.Full.{HasWidth, each_listed, zip_append}
 use Rattle.dft_compile_laws.proofs.Sides.{capture_outs, no_outs, shift_outs}
 
 -- a clock is low or pulses, and no other signal pulses
@@ -129,14 +131,10 @@ own_fit : (n : Netlist) (config : Config) (v : Vector) (own : List NetId) → ((
 own_fit n config v [] fits = tt
 own_fit n config v (k ∷ own) fits = (fits k, own_fit n config v own fits)
 
-not_true : (b : Bool) → (b ≡ true → ⊥) → b ≡ false
-not_true true never = absurd (never refl)
-not_true false never = refl
-
 -- a clock is no reset, so it rests at 0 where it is given no bit
 clock_low : (n : Netlist) (config : Config) (k : ℕ) (given : Option Bool) → IsInRange config → given ≡ None → (config_ports n config).is_clock k ≡ true → port_value ((config_ports n config).is_reset k) given ≡ Zero
 clock_low n config k given range none clock =
-    let reset : (config_ports n config).is_reset k ≡ false = not_true ((config_ports n config).is_reset k) (λ is. true_false ((config_ports n config).is_clock k) clock (reset_rests n config k range is)) in
+    let reset : (config_ports n config).is_reset k ≡ false = false_from_ne_true ((config_ports n config).is_reset k) (λ is. true_false ((config_ports n config).is_clock k) clock (reset_rests n config k range is)) in
     ap (λ (g : Option Bool). port_value ((config_ports n config).is_reset k) g) none ∙ ap (λ (b : Bool). port_value b None) reset
 
 abbrev pub GivesNoClock : Netlist → Config → Merged → Type 0
@@ -150,7 +148,7 @@ none_given : (n : Netlist) (config : Config) (k : ℕ) (ports : List (NetId × B
     bit_of_port ports k ≡ None
 none_given n config k [] h clock = refl
 none_given n config k (given ∷ ports) h clock =
-    let apart : (given.0.0 == k) ≡ false = not_true (given.0.0 == k) (λ is. true_false ((config_ports n config).is_clock k) clock (ap (config_ports n config).is_clock (sym (eqb-true given.0.0 k is)) ∙ h 0 given refl)) in
+    let apart : (given.0.0 == k) ≡ false = false_from_ne_true (given.0.0 == k) (λ is. true_false ((config_ports n config).is_clock k) clock (ap (config_ports n config).is_clock (sym (eqb-true given.0.0 k is)) ∙ h 0 given refl)) in
     ap (λ (b : Bool). if b then Some given.1 else bit_of_port ports k) apart ∙ none_given n config k ports (λ j other at. h (suc j) other at) clock
 
 -- ---- vectors
@@ -172,7 +170,7 @@ module _ (n : Netlist) (config : Config) (range : IsInRange config) where
   capture_fits merged gives k =
       fit_by (is_clock n config k) ((capture_vector n config merged).pulsed k.0) ((capture_vector n config merged).ports k.0)
       (λ clock. clock_low n config k.0 (bit_of_port merged.ports k.0) range (none_given n config k.0 merged.ports gives clock) clock)
-      (λ no. not_true ((capture_vector n config merged).pulsed k.0) (λ is. true_false (is_clock n config k) (pulsed_clock n config k.0 merged.domain is) no))
+      (λ no. false_from_ne_true ((capture_vector n config merged).pulsed k.0) (λ is. true_false (is_clock n config k) (pulsed_clock n config k.0 merged.domain is) no))
 
   no_outs_fit : AllZip Fit (out_flags n config) (no_outs n config)
   no_outs_fit =

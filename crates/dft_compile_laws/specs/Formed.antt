@@ -1,10 +1,7 @@
 -- Compiled patterns are well formed and can be written, so that their text is read back.
-use Rattle.std.specs.Prelude.{ℕ, ◌<◌, ◌^◌, ◌≡◌, Bool, false, List, length, Option, None, Some, slice_get}
+use Rattle.std.specs.Prelude.{ℕ, ◌<◌, ◌^◌, ◌≡◌, Bool, false, List, length, Some, slice_get}
 use Rattle.dft_base.specs.Lexing.{Text}
-use Rattle.dft_base.specs.Name.{IsName}
-use Rattle.dft_base.specs.declared.place.Range.{Range}
 use Rattle.dft_netlist.specs.declared.ids.NetId.{NetId}
-use Rattle.dft_netlist.specs.declared.port.Port.{Port}
 use Rattle.dft_netlist.specs.Netlist.{Netlist}
 use Rattle.dft_netlist.specs.Sound.{IsNetlist, bit_names_of}
 use Rattle.dft_config.specs.declared.config.Config.{Config}
@@ -23,15 +20,6 @@ abbrev pub GiveNoClock : Netlist → Config → List PatternData → Type 0
 GiveNoClock n config patterns =
     (number k : ℕ) (p : PatternData) (given : NetId × Bool) → slice_get patterns number ≡ Some p → slice_get p.merged.ports k ≡ Some given → (config_ports n config).is_clock given.0.0 ≡ false
 
--- a range, if there is one, is of 16-bit numbers
-abbrev pub IsShortRange : Option Range → Type 0
-IsShortRange None = Unit {0}
-IsShortRange (Some range) = (range.left < 2 ^ 16) × (range.right < 2 ^ 16)
-
--- each port has a name, and a short range if any, as the ports of every design have
-abbrev pub ArePortsNamed : Netlist → Type 0
-ArePortsNamed n = (place : ℕ) (port : Port) → slice_get n.ports place ≡ Some port → IsName port.name × IsShortRange port.range
-
 -- the names of the bits of ports may stand between double quotes
 abbrev pub HasQuotableBits : Netlist → Type 0
 HasQuotableBits n = (k : ℕ) (name : Text) → slice_get (bit_names_of n.ports) k ≡ Some name → IsQuotable name
@@ -41,8 +29,8 @@ pub record IsFormed (n : Netlist) (config : Config) (patterns : List PatternData
   pub well : IsWellFormed (set_of n config patterns)
   pub writable : IsWritable (set_of n config patterns)
 
--- So it is for patterns that give no clock a bit, where the ports of the design have names and the vectors can be counted.
+-- So it is for patterns that give no clock a bit, where the vectors can be counted.
 abbrev pub WrittenFormed : Type 0
 WrittenFormed =
-    (n : Netlist) (config : Config) (patterns : List PatternData) → IsReady n config → IsNetlist (scanned Edt n config) → ArePortsNamed n → ArePatterns n config patterns → GiveNoClock n config patterns →
+    (n : Netlist) (config : Config) (patterns : List PatternData) → IsReady n config → IsNetlist (scanned Edt n config) → ArePatterns n config patterns → GiveNoClock n config patterns →
     length (set_of n config patterns).vectors < 2 ^ 32 → IsFormed n config patterns

@@ -26,7 +26,7 @@ use Rattle.dft_scan_hardware.specs.declared.style.Style.TheVariants.{Edt}
 use Rattle.dft_scan_hardware.specs.Statements.{scanned}
 use Rattle.dft_scan_behavior.specs.EdtVectors.{SuitsEdt, edt_logic}
 use Rattle.dft_vectors.specs.PatternData.{PatternData}
-use Rattle.dft_compile_laws.specs.Formed.{ArePortsNamed, IsFormed}
+use Rattle.dft_compile_laws.specs.Formed.{IsFormed}
 use Rattle.dft_compile_laws.specs.Passing.{set_of}
 use Rattle.dft_compile_laws.specs.Written.{Passes}
 use Rattle.dft_load_laws.specs.Loading.{HoldBits, LoadRun, rows_of}
@@ -82,10 +82,10 @@ pub record HoldsOf (n : Netlist) (config : Config) (cubes : List Cube) (placing 
   pub formed : length (set_of n config list).vectors < 2 ^ 32 → IsFormed n config list
   pub reads : length (set_of n config list).vectors < 2 ^ 32 → StandsFor (noted (set_of n config list)) (without_notes (set_of n config list))
 
--- So it is for the cubes of a text and every ready design whose ports have names, where the scanned netlist is one whose nets have an order,
--- as one that was made is.
+-- So it is for the cubes of a text and every ready design, where the scanned netlist is one whose nets have an order, as one that was
+-- made is.
 abbrev pub CompilationsHold : Type 0
 CompilationsHold =
     (n : Netlist) (config : Config) (order : List ℕ) (cubes : List Cube) (placing : Placing config (plan_of n config) cubes) (list : List PatternData) →
-    IsReady n config → IsNetlist (scanned Edt n config) → IsOrder (scanned Edt n config) order → ArePortsNamed n → AreCubes n config cubes →
+    IsReady n config → IsNetlist (scanned Edt n config) → IsOrder (scanned Edt n config) order → AreCubes n config cubes →
     ArePatterns n config (plan_of n config) placing.rows placing.merged list → HoldsOf n config cubes placing list

@@ -1,6 +1,7 @@
 -- The first number that fails a test.
 use Rattle.std.proofs.Common.{ℕ, zero, suc, ◌≡◌, ◌+◌, ◌-◌, ◌<◌, ◌≤◌, Bool, true, false, ◌||◌, List, length, drop, Option, Some, if◌then◌else◌, refl, ap, ◌∙◌, arith}
 use Rattle.std.proofs.Math.ListN.{drop_of_length-le}
+use Rattle.dft_base.proofs.BitLemmas.{or_false}
 use Rattle.dft_config.specs.Checks.{first_not, is_reached}
 
 pub first_not_more : (test : ℕ → Bool) (n total : ℕ) → n < total → test n ≡ true → first_not test n (total - n) ≡ first_not test (n + 1) (total - (n + 1))
@@ -14,10 +15,6 @@ first_not_same p q n (suc more) same =
     ap (λ (b : Bool). if b then first_not p (n + 1) more else Some n) (same n (omega arith))
     ∙ ap (λ (r : Option ℕ). if q n then r else Some n) (first_not_same p q (n + 1) more (λ k less. same k (omega arith)))
 
-or_none : (b : Bool) → (b || false) ≡ b
-or_none true = refl
-or_none false = refl
-
 -- no group is left past the last
 pub reached_past : (groups : List (List ℕ)) (i k : ℕ) (b : Bool) → length groups ≤ i → (b || is_reached (drop i groups) k) ≡ b
-reached_past groups i k b past = ap (λ (l : List (List ℕ)). b || is_reached l k) (drop_of_length-le groups past) ∙ or_none b
+reached_past groups i k b past = ap (λ (l : List (List ℕ)). b || is_reached l k) (drop_of_length-le groups past) ∙ or_false b

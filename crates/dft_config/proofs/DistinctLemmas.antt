@@ -8,6 +8,7 @@ use Rattle.std.specs.Cmp.{unsigned_tied}
 use Rattle.std.specs.Cmp.Lexicographic.{slice_cmp}
 use Rattle.std.specs.Str.{bytes_eq}
 use Rattle.std.proofs.lemmas.Map.Text.{is_eq-slice_cmp}
+use Rattle.dft_base.proofs.BitLemmas.{and_true}
 use Rattle.dft_config.specs.Range.{has, all_differ}
 
 -- none of the items was seen
@@ -82,22 +83,10 @@ differ_map f p (x ∷ xs) =
     ap (λ (b : Bool). not b && all_differ (λ a b. p (f a) (f b)) xs) (has_map f p xs x)
     ∙ ap (λ (b : Bool). not (has p (map f xs) (f x)) && b) (differ_map f p xs)
 
-and_true : (a b : Bool) → b ≡ true → a ≡ (a && b)
-and_true true b e = sym e
-and_true false b e = refl
-
 -- at first nothing was seen
 pub differ_start : {T : Type 0} (same : T → T → Bool) (seen : T → Bool) → ((q : T) → seen q ≡ false) → (xs : List T)
     → all_differ same xs ≡ (all_differ same xs && unseen seen xs)
 differ_start same seen none xs = and_true (all_differ same xs) (unseen seen xs) (unseen_none seen none xs)
-
-pub not_true : (b : Bool) → not b ≡ true → b ≡ false
-not_true true e = sym e
-not_true false e = refl
-
-pub not_false : (b : Bool) → not b ≡ false → b ≡ true
-not_false true e = refl
-not_false false e = sym e
 
 -- an answer for one test is an answer for a test that agrees with it
 ok_along : {E : Type 0} (r : Result Bool E) (a b : Bool) → IfOk r (λ d. d ≡ a) → a ≡ b → IfOk r (λ d. d ≡ b)

@@ -1,6 +1,6 @@
 -- A configuration that a table gives is in range.
 use Rattle.std.proofs.Common.{ℕ, zero, suc, pos, ◌≡◌, ◌==◌, ◌≢◌, ◌+◌, ◌<◌, ◌≤◌, min, Bool, true, false, not, IsTrue, codes, List, [], ◌∷◌, length, get_or, Option, Some, None, Result, Ok, IfOk, if◌then◌else◌, All, refl, sym, ap, ◌∙◌, arith}
-use Rattle.std.proofs.lemmas.Bool.{and_parts}
+use Rattle.std.proofs.lemmas.Bool.{and_parts, not-true}
 use Rattle.std.proofs.lemmas.Bool.Decides.{nat_tests}
 use Rattle.std.proofs.lemmas.List.Elements.{All-nil, All-cons}
 use Rattle.std.proofs.lemmas.List.Sums.{AllPass-from_list_all}
@@ -27,7 +27,6 @@ use Rattle.dft_config.specs.Unknown.{first_unknown}
 use Rattle.dft_config.specs.Checks.{Test, first_failing, are_apart, each_differs, have_items, repetition_tests, emptiness_tests, first_repeated, first_empty, is_reached, first_not, first_unreached}
 use Rattle.dft_config.specs.Reading.{ring_of, compactor_of, steering_of, carrying_of, names_of_ports, clocking_of, loading_of, keys_of, checked, reading}
 use Rattle.dft_config.proofs.BoundLemmas.{ok_after, ok_any, number_ok, numbers_ok, IsTapBelow, taps_ok, IsInjectorBelow, injectors_ok, AreBelow, phase_ok, AreGroups, groups_ok, domains_ok, resets_ok, fill_ok, IsFree, port_ok}
-use Rattle.dft_config.proofs.DistinctLemmas.{not_true}
 
 -- the numbers of a ring, of a compactor and of a configuration are within their bounds
 pub record IsRingBounded (chains : ℕ) (ring : RingConfig) : Type 0 where
@@ -209,7 +208,7 @@ sets_ok bound lists below differ some k d less =
     }
 
 apart_ok : (ds rs : List (List ℕ)) → are_apart ds rs ≡ true → All (λ reset. has bytes_eq ds reset ≡ false) rs
-apart_ok ds rs e k d less = not_true (has bytes_eq ds (get_or rs k d)) (AllPass-from_list_all (λ reset. not (has bytes_eq ds reset)) rs e k d less)
+apart_ok ds rs e k d less = not-true (has bytes_eq ds (get_or rs k d)) (AllPass-from_list_all (λ reset. not (has bytes_eq ds reset)) rs e k d less)
 
 checked_ok : (config : Config) → IsBounded config → AllPassed (repetition_tests config) → AllPassed (emptiness_tests config)
     → ((chain : ℕ) → chain < config.chains → IsTrue (is_reached config.compactor.groups chain)) → IsInRange config

@@ -2,6 +2,7 @@
 use Rattle.std.proofs.Common.{◌≡◌, ℕ, zero, suc, ◌+◌, ◌<◌, ◌≤◌, inl, inr, Bool, true, false, cond, List, [], ◌∷◌, ◌++◌, length, Option, None, Some, slice_get, unwrap_or, refl, sym, subst, ap, arith}
 use Rattle.std.specs.Prelude.{IsSome, is_none, option_map}
 use Rattle.std.specs.List.{cons_option}
+use Rattle.std.proofs.lemmas.Option.{same_Some, none-some}
 use Rattle.dft_base.specs.Lexing.{Text}
 use Rattle.dft_base.specs.Solutions.{Equation, StatesCertificate, StatesFrom, equation_at, ids_to}
 use Rattle.dft_netlist.specs.declared.ids.InstanceId.{InstanceId}
@@ -19,12 +20,6 @@ use Rattle.dft_report.specs.declared.report.CubeReport.{CubeReport}
 use Rattle.dft_report.specs.declared.report.SumLine.{SumLine}
 use Rattle.dft_cube_reports.specs.Laws.{AreReportsOf, AreSumsAt, CubesHaveLines, IsReportOf, IsSumAt, Says}
 use Rattle.dft_cube_reports.specs.Outcomes.{cell_name, cube_report, cube_reports, outcome_of, sum_as, sum_at, sums_of}
-
-same_Some : {X : Type 0} (x y : X) → Some x ≡ Some y → x ≡ y
-same_Some x y e = cc
-
-none_Some : {X : Type 0} (x : X) → None ≡ Some x → ⊥
-none_Some x e = cc
 
 -- ---- the positions of a certificate
 
@@ -108,7 +103,7 @@ sums_more n ring row cells position positions sums sum is are = record {
 
 all_sums : (n : Netlist) (ring : RingConfig) (row : CellRows) (cells : List (InstanceId × Bool)) (positions : List ℕ) → ((k : ℕ) (given : InstanceId × Bool) → slice_get cells k ≡ Some given → IsSome (cell_name n given.0)) → Below (length cells) positions →
     AreSumsAt n ring row cells positions (sums_of n ring row cells positions)
-all_sums n ring row cells [] names below = record { count = refl; each = λ k other at. absurd (none_Some other at) }
+all_sums n ring row cells [] names below = record { count = refl; each = λ k other at. absurd (none-some other at) }
 all_sums n ring row cells (position ∷ positions) names below =
     let one = sum_is n ring row cells position names below.0 in
     let rest = all_sums n ring row cells positions names below.1 in
@@ -131,7 +126,7 @@ unscanned_case n row given cells cell false here later is = later is
 
 -- the first cell that is not scanned is one of the cube's
 unscanned_named : (n : Netlist) (row : CellRows) (cells : List (InstanceId × Bool)) (cell : InstanceId) → ((k : ℕ) (given : InstanceId × Bool) → slice_get cells k ≡ Some given → IsSome (cell_name n given.0)) → first_unscanned row cells ≡ Some cell → IsSome (cell_name n cell)
-unscanned_named n row [] cell names is = absurd (none_Some cell is)
+unscanned_named n row [] cell names is = absurd (none-some cell is)
 unscanned_named n row (given ∷ cells) cell names is = unscanned_case n row given cells cell (is_none (row given.0)) (names zero given refl) (unscanned_named n row cells cell (λ k. names (suc k))) is
 
 report_by : (n : Netlist) (ring : RingConfig) (row : CellRows) (cube : Cube) (placed : Placed) (outcome : CubeLine) → outcome_of n ring row cube placed ≡ Some outcome → Says n ring row cube placed outcome →
@@ -162,7 +157,7 @@ reports_more n ring row cube cubes place placed r reports is are = record {
 
 reports_of : (n : Netlist) (ring : RingConfig) (columns : ℕ) (row : CellRows) (window : ℕ) (old new : List Merged) (cubes : List Cube) (placed : List Placed) → HaveNames n cubes → PlacesAll columns row window old cubes placed new →
     AreReportsOf n ring row cubes placed (cube_reports n ring row cubes placed)
-reports_of n ring columns row window old new [] [] names places = record { count = refl; each = λ c cube p at there. absurd (none_Some cube at) }
+reports_of n ring columns row window old new [] [] names places = record { count = refl; each = λ c cube p at there. absurd (none-some cube at) }
 reports_of n ring columns row window old new [] (place ∷ placed) names places = absurd places
 reports_of n ring columns row window old new (cube ∷ cubes) [] names places = absurd places
 reports_of n ring columns row window old new (cube ∷ cubes) (place ∷ placed) names places =

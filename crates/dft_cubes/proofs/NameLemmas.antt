@@ -11,10 +11,8 @@ use Rattle.std.specs.Str.{bytes_eq}
 use Rattle.std.proofs.lemmas.Slice.Eq.{bytes_eq-Decides}
 use Rattle.std.proofs.lemmas.Bool.Decides.{same_from_decides, Decides-like}
 use Rattle.dft_base.specs.Lexing.{Text}
+use Rattle.dft_base.proofs.TextLemmas.{bytes_eq-comm, IsPrinted, printed as printed_range}
 use Rattle.dft_cells.specs.WellFormed.{has_name}
-
-bytes_eq-comm : (xs ys : Text) → bytes_eq xs ys ≡ bytes_eq ys xs
-bytes_eq-comm xs ys = same_from_decides (bytes_eq xs ys) (bytes_eq ys xs) (bytes_eq-Decides xs ys) (Decides-like (bytes_eq ys xs) sym sym (bytes_eq-Decides ys xs))
 
 -- a look-up among keys that show their bytes
 pub has-map : {K : Type 0} (shown : K → Text) (name : Text) (keys : List K) → list_any (λ k. bytes_eq name (shown k)) keys ≡ has_name (map shown keys) name
@@ -23,13 +21,7 @@ has-map shown name (k ∷ keys) = ap (λ b. b || list_any (λ x. bytes_eq name (
 
 -- ---- printed words are names
 
-abbrev InRange : ℕ → Type 0
-InRange byte = (33 ≤ byte) × (byte ≤ 126)
-
-printed_range : (byte : ℕ) → is_printed byte ≡ true → InRange byte
-printed_range byte e = (grind (arith, nat_tests), grind (arith, nat_tests))
-
-each_printed : (word : Text) → is_printed_word word ≡ true → (k d : ℕ) → k < length word → InRange (get_or word k d)
+each_printed : (word : Text) → is_printed_word word ≡ true → (k d : ℕ) → k < length word → IsPrinted (get_or word k d)
 each_printed [] e k d less = absurd (omega arith)
 each_printed (byte ∷ word) e zero d less = printed_range byte (and_parts (is_printed byte) (list_all is_printed word) e).0
 each_printed (byte ∷ word) e (suc k) d less = each_printed word (and_parts (is_printed byte) (list_all is_printed word) e).1 k d (omega arith)

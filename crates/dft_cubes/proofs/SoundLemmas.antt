@@ -5,8 +5,11 @@ use Rattle.std.specs.List.{list_any}
 use Rattle.std.specs.Str.{bytes_eq}
 use Rattle.std.proofs.lemmas.List.Quantifiers.{position-Some}
 use Rattle.std.proofs.lemmas.Slice.Eq.{bytes_eq-Decides}
+use Rattle.std.proofs.lemmas.Bool.{or_parts, eq-eqb}
+use Rattle.std.proofs.lemmas.Option.{same_Some}
 use Rattle.dft_base.specs.Lexing.{Text}
 use Rattle.dft_base.specs.declared.place.Place.{Place}
+use Rattle.dft_base.proofs.BitLemmas.{true_false}
 use Rattle.dft_cells.specs.WellFormed.{has_name}
 use Rattle.dft_config.specs.declared.config.Config.{Config}
 use Rattle.dft_netlist.specs.declared.ids.NetId.{NetId}
@@ -26,19 +29,15 @@ use Rattle.dft_cubes.specs.declared.error.CubeError.{CubeError}
 use Rattle.dft_cubes.specs.Cubes.{Line, Begin, SetCell, SetPort, End, Reading, begun, cell_refusal, cubes_from, cubes_of, domain_named, ended, is_among, line_of, line_refusal, names_of, or_refused, or_zero, place_of_line, port_refusal, said_refusal, with_cell, with_line, with_port, with_said}
 use Rattle.dft_cubes.specs.Laws.{AreCubes, IsCube}
 use Rattle.dft_cubes.proofs.CellNames.{has_name_of}
-use Rattle.dft_cubes.proofs.TextLemmas.{same_number}
 
 -- ---- one more at the end of a list
-
-some_is : {A : Type 0} (x a : A) → Some x ≡ Some a → x ≡ a
-some_is x a e = cc
 
 one_later : {A : Type 0} (y x a : A) (xs : List A) (j : ℕ) → (slice_get xs j ≡ Some a) ⊎ ((j ≡ length xs) × (a ≡ x)) → (slice_get (y ∷ xs) (suc j) ≡ Some a) ⊎ ((suc j ≡ length (y ∷ xs)) × (a ≡ x))
 one_later y x a xs j (inl e) = inl e
 one_later y x a xs j (inr e) = inr (ap suc e.0, e.1)
 
 before_or_last : {A : Type 0} (xs : List A) (x a : A) (j : ℕ) → slice_get (xs ++ x ∷ []) j ≡ Some a → (slice_get xs j ≡ Some a) ⊎ ((j ≡ length xs) × (a ≡ x))
-before_or_last [] x a zero e = inr (refl, sym (some_is x a e))
+before_or_last [] x a zero e = inr (refl, sym (same_Some x a e))
 before_or_last [] x a (suc j) e = absurd (let f : ⊥ = cc in f)
 before_or_last (y ∷ xs) x a zero e = inl e
 before_or_last (y ∷ xs) x a (suc j) e = one_later y x a xs j (before_or_last xs x a j e)
@@ -68,23 +67,16 @@ nothing_at (suc j) a e = let f : ⊥ = cc in f
 
 -- ---- what is not there
 
-or_none : (a b : Bool) → (a || b) ≡ false → (a ≡ false) × (b ≡ false)
-or_none false b e = (refl, e)
-or_none true b e = absurd (let f : ⊥ = cc in f)
-
-true_false : (b : Bool) → b ≡ true → b ≡ false → ⊥
-true_false b holds fails = let f : ⊥ = cc in f
-
 none_has : {A : Type 0} (test : A → Bool) (xs : List A) → list_any test xs ≡ false → (j : ℕ) (a : A) → slice_get xs j ≡ Some a → test a ≡ true → ⊥
 none_has test [] none j a there holds = nothing_at j a there
-none_has test (x ∷ xs) none zero a there holds = true_false (test x) (ap test (some_is x a there) ∙ holds) (or_none (test x) (list_any test xs) none).0
-none_has test (x ∷ xs) none (suc j) a there holds = none_has test xs (or_none (test x) (list_any test xs) none).1 j a there holds
+none_has test (x ∷ xs) none zero a there holds = true_false (test x) (ap test (same_Some x a there) ∙ holds) (or_parts (test x) (list_any test xs) none).0
+none_has test (x ∷ xs) none (suc j) a there holds = none_has test xs (or_parts (test x) (list_any test xs) none).1 j a there holds
 
 none_named : (cubes : List Cube) (name : Text) → has_name (names_of cubes) name ≡ false → (j : ℕ) (a : Cube) → slice_get cubes j ≡ Some a → a.name ≡ name → ⊥
 none_named [] name none j a there same = nothing_at j a there
 none_named (c ∷ cubes) name none zero a there same =
-    true_false (bytes_eq c.name name) ((bytes_eq-Decides c.name name).1 (ap (λ (cube : Cube). cube.name) (some_is c a there) ∙ same)) (or_none (bytes_eq c.name name) (has_name (names_of cubes) name) none).0
-none_named (c ∷ cubes) name none (suc j) a there same = none_named cubes name (or_none (bytes_eq c.name name) (has_name (names_of cubes) name) none).1 j a there same
+    true_false (bytes_eq c.name name) ((bytes_eq-Decides c.name name).1 (ap (λ (cube : Cube). cube.name) (same_Some c a there) ∙ same)) (or_parts (bytes_eq c.name name) (has_name (names_of cubes) name) none).0
+none_named (c ∷ cubes) name none (suc j) a there same = none_named cubes name (or_parts (bytes_eq c.name name) (has_name (names_of cubes) name) none).1 j a there same
 
 -- ---- checks that pass
 
@@ -92,7 +84,7 @@ one_passes : (a : Bool) (x : CubeError) (later : Option CubeError) → (if a the
 one_passes true x later e = absurd (let f : ⊥ = cc in f)
 one_passes false x later e = (refl, e)
 
-printed_passes : (t : Bool) (fault : Option CubeError) (x : CubeError) → (if t then fault else Some x) ≡ None → fault ≡ None
+pub printed_passes : (t : Bool) (fault : Option CubeError) (x : CubeError) → (if t then fault else Some x) ≡ None → fault ≡ None
 printed_passes true fault x e = e
 printed_passes false fault x e = absurd (let f : ⊥ = cc in f)
 
@@ -134,7 +126,7 @@ with_cell_sound n config cubes cube place name bit (Some cell) is passed pending
       record {
         domain = pending.0.domain;
         cells = record {
-          once = own_push (λ (g : InstanceId × Bool). g.0.0) cube.cells (cell, bit) pending.0.cells.once (λ j a there same. none_has test cube.cells absent j a there (same_number a.0.0 cell.0 same));
+          once = own_push (λ (g : InstanceId × Bool). g.0.0) cube.cells (cell, bit) pending.0.cells.once (λ j a there same. none_has test cube.cells absent j a there (eq-eqb a.0.0 cell.0 same));
           live = each_push (λ (g : InstanceId × Bool). g.0.0 < length n.instances) cube.cells (cell, bit) pending.0.cells.live (flip_flop_there n name cell is);
           named = each_push (λ (g : InstanceId × Bool). IsSome (option_and_then instance_name (slice_get n.instances g.0.0))) cube.cells (cell, bit) pending.0.cells.named (has_name_of n name cell is);
         };
@@ -150,13 +142,13 @@ with_port_sound n config cubes cube place name bit (Some port) is passed pending
     let test = λ (g : NetId × Bool). g.0.0 == port.0 in
     let first = one_passes (list_any test cube.ports) _ _ passed in
     let absent : list_any test cube.ports ≡ false = first.0 in
-    let apart = or_none (is_among config.domains name) (is_among config.resets name) (one_passes (is_among config.domains name || is_among config.resets name) _ _ first.1).0 in
+    let apart = or_parts (is_among config.domains name) (is_among config.resets name) (one_passes (is_among config.domains name || is_among config.resets name) _ _ first.1).0 in
     let there = input_there n name port is in (
       record {
         domain = pending.0.domain;
         cells = pending.0.cells;
         ports = record {
-          once = own_push (λ (g : NetId × Bool). g.0.0) cube.ports (port, bit) pending.0.ports.once (λ j a there same. none_has test cube.ports absent j a there (same_number a.0.0 port.0 same));
+          once = own_push (λ (g : NetId × Bool). g.0.0) cube.ports (port, bit) pending.0.ports.once (λ j a there same. none_has test cube.ports absent j a there (eq-eqb a.0.0 port.0 same));
           live = each_push (λ (g : NetId × Bool). g.0.0 < length n.nets) cube.ports (port, bit) pending.0.ports.live (net_there n name port there.0);
           input = each_push (λ (g : NetId × Bool). is_input (driver n g.0.0) ≡ true) cube.ports (port, bit) pending.0.ports.input there.1;
           no_clock = each_push (λ (g : NetId × Bool). (config_ports n config).is_clock g.0.0 ≡ false) cube.ports (port, bit) pending.0.ports.no_clock (not_among n config.domains name port is apart.0);
@@ -197,14 +189,14 @@ line_sound n config r place (word ∷ words) passed kept =
     said_sound n config r.cubes r.pending place (line_of (word ∷ words)) (printed_passes (are_printed (word ∷ words)) _ _ passed) kept.cubes kept.pending
 
 -- the text
-ok_is : (cubes told : List Cube) → ◌≡◌ {A = Result (List Cube) CubeError} (Ok cubes) (Ok told) → cubes ≡ told
+pub ok_is : (cubes told : List Cube) → ◌≡◌ {A = Result (List Cube) CubeError} (Ok cubes) (Ok told) → cubes ≡ told
 ok_is cubes told e = cc
 
 ended_sound : (n : Netlist) (config : Config) (number : ℕ) (cubes : List Cube) (pending : Option Cube) (told : List Cube) → ended number cubes pending ≡ Ok told → AreCubes n config cubes → AreCubes n config told
 ended_sound n config number cubes None told e sound = subst (AreCubes n config) (ok_is cubes told e) sound
 ended_sound n config number cubes (Some cube) told e sound = absurd (let f : ⊥ = cc in f)
 
-both_pass : (fault : Option CubeError) (later : Result (List Cube) CubeError) (told : List Cube) → or_refused fault later ≡ Ok told → (fault ≡ None) × (later ≡ Ok told)
+pub both_pass : (fault : Option CubeError) (later : Result (List Cube) CubeError) (told : List Cube) → or_refused fault later ≡ Ok told → (fault ≡ None) × (later ≡ Ok told)
 both_pass None later told e = (refl, e)
 both_pass (Some error) later told e = absurd (let f : ⊥ = cc in f)
 

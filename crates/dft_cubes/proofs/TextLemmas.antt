@@ -3,6 +3,7 @@ use Rattle.std.proofs.Common.{ℕ, suc, ◌+◌, ◌-◌, ◌==◌, ◌≡◌, �
 use Rattle.std.proofs.lemmas.List.{length-drop, drop-drop, take_all}
 use Rattle.std.specs.Prelude.{if◌then◌else◌}
 use Rattle.std.specs.List.{prefix_len}
+use Rattle.std.proofs.lemmas.Bool.{eq-eqb}
 use Rattle.dft_base.specs.Lexing.{Text}
 use Rattle.dft_netlist.specs.Netlist.{Netlist}
 use Rattle.dft_config.specs.declared.config.Config.{Config}
@@ -20,9 +21,6 @@ lines_at at text = if at == length text + 1 then [] else lines_of (drop at text)
 not_behind : (at n : ℕ) → at ≤ n → (at == n + 1) ≡ false
 not_behind = grind arith
 
-pub same_number : (m n : ℕ) → m ≡ n → (m == n) ≡ true
-same_number = grind arith
-
 next_at : (at n m k : ℕ) → m ≡ k + 1 + at → at ≤ n → (k == (n - at)) ≡ (m == n + 1)
 next_at = grind arith
 
@@ -38,7 +36,7 @@ line_at at text begun =
     ∙ (λ i. if next_at at (length text) (at + (p + 1)) p (omega arith) begun i then [] else lines_of (drop-drop (p + 1) at text i)))
 
 none_at : (at : ℕ) (text : Text) → at ≡ length text + 1 → lines_at at text ≡ []
-none_at at text end = ap (λ (b : Bool). if b then [] else lines_of (drop at text)) (same_number at (length text + 1) end)
+none_at at text end = ap (λ (b : Bool). if b then [] else lines_of (drop at text)) (eq-eqb at (length text + 1) end)
 
 -- ---- what the lines give
 

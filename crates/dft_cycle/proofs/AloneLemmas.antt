@@ -5,6 +5,7 @@ use Rattle.std.specs.List.{list_any}
 use Rattle.std.proofs.lemmas.Bool.Decides.{eqb_tells, leb_tells}
 use Rattle.std.proofs.lemmas.List.{get_or_past}
 use Rattle.std.proofs.lemmas.List.Sums.{sum_by-cons}
+use Rattle.std.proofs.lemmas.Bool.{eq-eqb}
 use Rattle.dft_base.specs.declared.tri.Tri.{Tri}
 use Rattle.dft_base.specs.declared.tri.Tri.TheVariants.{Zero, One, Unknown}
 use Rattle.dft_base.specs.Tri.{AboveTri}
@@ -28,13 +29,10 @@ same_flop false hit old a b h = refl
 same_flop true true old a b h = refl
 same_flop true false old a b h = absurd (let f : false ≡ true = h refl in let g : ⊥ = cc in g)
 
-hits : (a b : ℕ) → a ≡ b → (a == b) ≡ true
-hits a b h = elim (eqb_tells a b) [ inl is ↦ is.0 | inr other ↦ absurd (other.1 h) ]
-
 own_view : (l : Logic) (rank : ℕ → ℕ) (p : Pulse) (d : ℕ) (poss other : ℕ → Tri) (view its : ℕ → ℕ → Tri) → IsRanked l rank → IsAlone l p.pulsed → p.pulsed d ≡ true → AreViews l p poss view → AreViews l p other its → (net : ℕ) → view d net ≡ its d net
 own_view l rank p d poss other view its ranked alone up views others net =
     settled_same l rank (view_sources l p poss view d) (view_sources l p other its d) (view d) (its d) ranked (views d) (others d) (λ k. refl) (λ e. refl)
-    (λ c. same_flop (p.pulsed (l.cell c).domain) ((l.cell c).domain == d) (p.old c) (poss c) (other c) (λ h. hits (l.cell c).domain d (alone.one (l.cell c).domain d h up)))
+    (λ c. same_flop (p.pulsed (l.cell c).domain) ((l.cell c).domain == d) (p.old c) (poss c) (other c) (λ h. eq-eqb (l.cell c).domain d (alone.one (l.cell c).domain d h up)))
     (λ k c e source is same below. absurd (alone.none k c e source is)) net
 
 own_next : (l : Logic) (rank : ℕ → ℕ) (p : Pulse) (poss other : ℕ → Tri) (view its : ℕ → ℕ → Tri) → IsRanked l rank → IsAlone l p.pulsed → AreViews l p poss view → AreViews l p other its → (c : ℕ) → p.pulsed (l.cell c).domain ≡ true → next_value l p view c ≡ next_value l p its c

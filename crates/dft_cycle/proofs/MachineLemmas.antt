@@ -7,6 +7,7 @@ use Rattle.std.specs.Vec.{with_items}
 use Rattle.std.proofs.lemmas.List.{get_or_past, drop_all, with_items_is}
 use Rattle.dft_base.specs.declared.tri.Tri.{Tri}
 use Rattle.dft_base.specs.declared.tri.Tri.TheVariants.{Zero, Unknown}
+use Rattle.dft_base.proofs.BitLemmas.{or_later}
 use Rattle.dft_netlist.specs.declared.ids.NetId.{NetId}
 use Rattle.dft_netlist.specs.Drivers.{Source}
 use Rattle.dft_netlist.specs.Logic.{Logic, Cell, Force}
@@ -263,10 +264,6 @@ same_ports flags clocks same = λ i. record { is_clock = λ e. same e i; is_rese
 
 -- ---- no net but clocks is flagged
 
-skip_true : (b c : Bool) → b ≡ false → (b || c) ≡ true → c ≡ true
-skip_true false c is up = up
-skip_true true c is up = absurd cc
-
 pulses_one : (clocks : List NetId) (pulsed : List Bool) (e : ℕ) → pulses clocks pulsed e ≡ true → is_one_of clocks e ≡ true
 pulses_one [] pulsed e up = absurd cc
 pulses_one (clock ∷ clocks) [] e up = absurd cc
@@ -291,7 +288,7 @@ lower_more nets flags j d less live old e up =
       | inl q ↦ (let down : flag_at (slice_set flags net.0 false) e ≡ false = ap (λ (k : ℕ). flag_at (slice_set flags net.0 false) k) (sym q.1) ∙ get_or-set_same flags net.0 false false live in
           let none : true ≡ false = sym up ∙ down in absurd cc)
       | inr q ↦ (let ne : e ≢ net.0 = λ is. q.1 (sym is) in
-          skip_true (net.0 == e) (is_one_of (drop (j + 1) nets) e) q.0
+          or_later (net.0 == e) (is_one_of (drop (j + 1) nets) e) q.0
           (sym (ap (λ (l : List NetId). is_one_of l e) front) ∙ old e (sym (get_or-set_other flags net.0 e false false ne) ∙ up)))
     ]
 

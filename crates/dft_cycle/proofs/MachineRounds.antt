@@ -12,7 +12,7 @@ use Rattle.dft_cycle.specs.Machine.{Machine, value_at, logic, acted, at_strobe, 
 use Rattle.dft_cycle.specs.MachineLaws.{IsForced, StartIsForced, SetStands, CallsAreRound}
 
 -- the same design has the same logic
-same_logic : (m n : Machine) → n.netlist ≡ m.netlist → n.clocks ≡ m.clocks → logic n ≡ logic m
+pub same_logic : (m n : Machine) → n.netlist ≡ m.netlist → n.clocks ≡ m.clocks → logic n ≡ logic m
 unfolding logic
 same_logic m n e f = λ i. logic (record { netlist = e i; clocks = f i; inputs = m.inputs; cells = m.cells; shown = m.shown })
 
@@ -40,7 +40,7 @@ forced_twice false Unknown Zero = refl
 forced_twice false Unknown One = refl
 forced_twice false Unknown Unknown = refl
 
-by_twice : (f : Option Force) (ports : ℕ → Tri) (bit : Tri) → tri_forced_by f ports (tri_forced_by f ports bit) ≡ tri_forced_by f ports bit
+pub by_twice : (f : Option Force) (ports : ℕ → Tri) (bit : Tri) → tri_forced_by f ports (tri_forced_by f ports bit) ≡ tri_forced_by f ports bit
 by_twice None ports bit = refl
 by_twice (Some f) ports bit = forced_twice f.value (ports f.port) bit
 
@@ -86,7 +86,7 @@ set_stands start m after net value forced stands unset is =
 
 -- ---- a vector
 
-after_forced : (l : Logic) (p : Pulse) (view : ℕ → ℕ → Tri) (c : ℕ) (up : Bool) → p.pulsed (l.cell c).domain ≡ up → p.old c ≡ tri_forced_by (l.cell c).force p.ports (p.old c) →
+pub after_forced : (l : Logic) (p : Pulse) (view : ℕ → ℕ → Tri) (c : ℕ) (up : Bool) → p.pulsed (l.cell c).domain ≡ up → p.old c ≡ tri_forced_by (l.cell c).force p.ports (p.old c) →
     (if up then next_value l p view c else p.old c) ≡ tri_forced_by (l.cell c).force p.ports (if up then next_value l p view c else p.old c)
 after_forced l p view c true e old = sym (by_twice (l.cell c).force p.ports (tri_taken_by (l.cell c).scan (value_from (view (l.cell c).domain)) (value_from (view (l.cell c).domain) (l.cell c).input)))
 after_forced l p view c false e old = old

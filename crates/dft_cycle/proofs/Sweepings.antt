@@ -9,13 +9,14 @@ use Rattle.dft_netlist.specs.declared.ids.NetId.{NetId}
 use Rattle.dft_netlist.specs.Logic.{reads}
 use Rattle.dft_netlist.specs.Settled.{TriSources, value_given}
 use Rattle.dft_netlist.specs.Orders.{Has, numbers_of}
+use Rattle.dft_netlist.proofs.RankLemmas.{has_all}
 use Rattle.dft_logic.specs.declared.circuit.Op.{Op}
 use Rattle.dft_logic.specs.declared.circuit.Op.TheVariants.{Free}
 use Rattle.dft_logic.specs.declared.circuit.Circuit.{Circuit}
 use Rattle.dft_cycle.specs.Machine.{value_at}
 use Rattle.dft_logic.specs.Circuit.{meaning, op_at, leaves_from, AreOrdered, IsCircuit, flag_at}
 use Rattle.dft_logic.specs.Tables.{list_at}
-use Rattle.dft_logic.proofs.Settlings.{IsGiven, given_agree, all_more, all_has}
+use Rattle.dft_logic.proofs.Settlings.{IsGiven, given_agree, all_more}
 
 -- ---- marks
 
@@ -120,8 +121,8 @@ sweeping_more ops base held order values new marked now j net d less is s given 
       clean = λ k h. down k (flag_at now k) refl (λ up. elim (raised k up) [
         | inl was ↦ elim h [ inl q ↦ was.1 q | inr older ↦ true≢false (sym was.0 ∙ s.clean k older) ]
         | inr reader ↦ elim h [
-          | inl q ↦ (let R : ℕ → Type 0 = λ n. Has (reads (meaning (op_at ops n))) net.0 in here.0 (all_has (Has s.before) (reads (meaning (op_at ops net.0))) net.0 here.2 (subst R q reader)))
-          | inr older ↦ here.0 (all_has (Has s.before) (reads (meaning (op_at ops k))) net.0 (s.closed k older) reader)
+          | inl q ↦ (let R : ℕ → Type 0 = λ n. Has (reads (meaning (op_at ops n))) net.0 in here.0 (has_all (Has s.before) (reads (meaning (op_at ops net.0))) net.0 here.2 (subst R q reader)))
+          | inr older ↦ here.0 (has_all (Has s.before) (reads (meaning (op_at ops k))) net.0 (s.closed k older) reader)
         ]
       ]);
       given = given;

@@ -1,7 +1,7 @@
 -- The capture, by rank of the original's nets.
 use Rattle.std.proofs.Common.{ℕ, zero, suc, Bool, true, false, List, [], ◌∷◌, ◌≡◌, ◌==◌, ◌<◌, inl, inr, refl, sym, subst, ap, arith, map, ◌∙◌, Option, None, Some}
 use Rattle.std.specs.Prelude.{if◌then◌else◌}
-use Rattle.std.proofs.lemmas.Bool.{eq-eqb}
+use Rattle.std.proofs.lemmas.Bool.{eq-eqb, eqb-false}
 use Rattle.dft_base.specs.declared.tri.Tri.{Tri}
 use Rattle.dft_base.specs.declared.tri.Tri.TheVariants.{Zero, One, Unknown}
 use Rattle.dft_base.specs.Tri.{known, AboveTri}
@@ -14,6 +14,7 @@ use Rattle.dft_netlist.specs.Settled.{TriSources, value_from, value_given, IsTri
 use Rattle.dft_netlist.specs.Runs.{Vector}
 use Rattle.dft_abstract.specs.Cycle.{Pulse, tri_forced_by, tri_taken_by, view_sources, AreViews, next_value, after_pulse, pulse_of, strobe_sources}
 use Rattle.dft_abstract.specs.Laws.{next_from}
+use Rattle.dft_abstract.proofs.OneDomain.{flop_old}
 use Rattle.dft_chains.specs.ScanOff.{moved_source, moved_force, moved_meaning, Places, IsWithin, IsForceWithin, IsEnabledBy, KeepsFlop}
 use Rattle.dft_edt.specs.Captures.{Covers, ContainingCovers, WideningCovers, StandsOver, StrobeLaw, IsCapture, CaptureLaw}
 use Rattle.dft_chains.proofs.Shiftings.{value_at}
@@ -114,11 +115,6 @@ view_clock true true h = tt
 view_clock true false h = absurd (let q : false ≡ true = h refl in cc)
 view_clock false is h = tt
 
-view_flop : (pulsed is : Bool) (a b : Tri) → (pulsed ≡ true → is ≡ true) → (if pulsed then (if is then a else b) else a) ≡ a
-view_flop true true a b h = refl
-view_flop true false a b h = absurd (let q : false ≡ true = h refl in cc)
-view_flop false is a b h = refl
-
 chosen_off : (s d : Tri) → tri_chosen Zero s d ≡ d
 chosen_off Zero Zero = refl
 chosen_off Zero One = refl
@@ -158,7 +154,7 @@ captured original written rank p d y x its old poss view values ranked has captu
       ports = over.ports;
       clocks = λ f. view_clock (x.pulsed (p.moved f)) (p.moved f == e) (λ up. eq-eqb (p.moved f) e (ap p.moved (capture.alone f up)));
       flops = λ c flop. subst (λ t. AboveTri ((pulse_of original y its).old c) t)
-          (sym (view_flop (x.pulsed (written.cell c).domain) ((written.cell c).domain == e) (q.old c) (poss c)
+          (sym (flop_old (x.pulsed (written.cell c).domain) ((written.cell c).domain == e) (q.old c) (poss c)
           (λ up. eq-eqb (written.cell c).domain e ((has.flops c flop).domain ∙ ap p.moved (capture.alone (original.cell c).domain (sym (ap x.pulsed (has.flops c flop).domain) ∙ up))))))
           (old_over original written p y x its old has over c flop);
     } in
@@ -180,14 +176,11 @@ pick_false : (b : Bool) (x y : Tri) → (b ≡ true → ⊥) → (if b then x el
 pick_false true x y h = absurd (h refl)
 pick_false false x y h = refl
 
-differ : (a d : ℕ) → (a == d) ≡ false → a ≡ d → ⊥
-differ a d other same = let q : (a == d) ≡ true = eq-eqb a d same in let f : true ≡ false = sym q ∙ other in cc
-
 stays : (original written : Logic) (p : Places) (d : ℕ) (y x : Vector) (its old : ℕ → Tri) (view : ℕ → ℕ → Tri) → Covers original written p → IsCapture p d x → StandsOver p y x its old →
     (cell : ℕ) → p.is_flop cell ≡ true → ((original.cell cell).domain == d) ≡ false → AboveTri ((pulse_of original y its).old cell) (after_pulse written (pulse_of written x old) view cell)
 stays original written p d y x its old view has capture over cell is other =
     let q : Pulse = pulse_of written x old in
-    let low : x.pulsed (written.cell cell).domain ≡ true → ⊥ = λ up. differ (original.cell cell).domain d other (capture.alone (original.cell cell).domain (sym (ap x.pulsed (has.flops cell is).domain) ∙ up)) in
+    let low : x.pulsed (written.cell cell).domain ≡ true → ⊥ = λ up. eqb-false (original.cell cell).domain d other (capture.alone (original.cell cell).domain (sym (ap x.pulsed (has.flops cell is).domain) ∙ up)) in
     subst (λ t. AboveTri ((pulse_of original y its).old cell) t) (sym (pick_false (x.pulsed (written.cell cell).domain) (next_value written q view cell) (q.old cell) low)) (old_over original written p y x its old has over cell is)
 
 pub capture_law : CaptureLaw

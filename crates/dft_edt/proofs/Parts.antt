@@ -26,17 +26,17 @@ use Rattle.dft_parts.proofs.Trees.{bit_at, sum_value, sum_bit}
 
 -- ---- three-valued bits
 
-and_one : (a : Tri) → tri_of And (a ∷ One ∷ []) ≡ a
+pub and_one : (a : Tri) → tri_of And (a ∷ One ∷ []) ≡ a
 and_one Zero = refl
 and_one One = refl
 and_one Unknown = refl
 
-and_zero : (a : Tri) → tri_of And (a ∷ Zero ∷ []) ≡ Zero
+pub and_zero : (a : Tri) → tri_of And (a ∷ Zero ∷ []) ≡ Zero
 and_zero Zero = refl
 and_zero One = refl
 and_zero Unknown = refl
 
-buffered : (a : Tri) → tri_of Buf (a ∷ []) ≡ a
+pub buffered : (a : Tri) → tri_of Buf (a ∷ []) ≡ a
 buffered Zero = refl
 buffered One = refl
 buffered Unknown = refl
@@ -65,7 +65,7 @@ phase_values l ports config chains w hw s values has settled chain cell stands =
 next_hold : Tri → Tri → Tri → Tri
 next_hold u m h = tri_of Or (tri_of And (u ∷ m ∷ []) ∷ tri_of And (tri_of Inv (u ∷ []) ∷ h ∷ []) ∷ [])
 
-hold_kept : (m h : Tri) → next_hold Zero m h ≡ h
+pub hold_kept : (m h : Tri) → next_hold Zero m h ≡ h
 unfolding next_hold
 hold_kept Zero Zero = refl
 hold_kept Zero One = refl
@@ -77,7 +77,7 @@ hold_kept Unknown Zero = refl
 hold_kept Unknown One = refl
 hold_kept Unknown Unknown = refl
 
-hold_taken : (m h : Tri) → next_hold One m h ≡ m
+pub hold_taken : (m h : Tri) → next_hold One m h ≡ m
 unfolding next_hold
 hold_taken Zero Zero = refl
 hold_taken Zero One = refl
@@ -109,7 +109,7 @@ hold_values l ports config chains w hw s values has compactor settled chain less
       λ one_there. is ∙ ap (λ t. next_hold t (values (hw.mask_net chain)) (values (hw.hold_net chain))) one_there ∙ hold_taken (values (hw.mask_net chain)) (values (hw.hold_net chain)),
     )
 
-gate_value : (a b : Tri) → tri_of And (tri_of Inv (a ∷ []) ∷ b ∷ []) ≡ shown_by a b
+pub gate_value : (a b : Tri) → tri_of And (tri_of Inv (a ∷ []) ∷ b ∷ []) ≡ shown_by a b
 gate_value Zero Zero = refl
 gate_value Zero One = refl
 gate_value Zero Unknown = refl
@@ -148,7 +148,7 @@ run_bit : (l : Logic) (ports : Ports) (config : Config) (chains : List (List Ins
     bits hw.run ≡ not (bits hw.update)
 run_bit l ports config chains w hw s bits has settled = bit_at l s bits hw.run (Gate Inv (Net hw.update ∷ [])) settled has.run
 
-and_bit : (a b : Bool) → bit_of And (a ∷ b ∷ []) ≡ (b && a)
+pub and_bit : (a b : Bool) → bit_of And (a ∷ b ∷ []) ≡ (b && a)
 and_bit true true = refl
 and_bit true false = refl
 and_bit false true = refl
@@ -172,7 +172,7 @@ phase_bits l ports config chains w hw s bits has settled chain cell stands =
     ∙ ap sum_bits (at_nets bits hw.stage_net (phase_of config.ring chain))
     ∙ sum_of_bits (λ k. bits (hw.stage_net k)) (phase_of config.ring chain)
 
-next_bit : (u m h : Bool) → bit_of Or (bit_of And (u ∷ m ∷ []) ∷ bit_of And (not u ∷ h ∷ []) ∷ []) ≡ (if u then m else h)
+pub next_bit : (u m h : Bool) → bit_of Or (bit_of And (u ∷ m ∷ []) ∷ bit_of And (not u ∷ h ∷ []) ∷ []) ≡ (if u then m else h)
 next_bit true true h = refl
 next_bit true false h = refl
 next_bit false m true = refl
@@ -189,7 +189,7 @@ hold_bits l ports config chains w hw s bits has compactor settled chain less =
     ∙ (λ i. bit_of Or (taken i ∷ kept i ∷ []))
     ∙ next_bit (bits hw.update) (bits (hw.mask_net chain)) (bits (hw.hold_net chain))
 
-gate_bit : (a b : Bool) → bit_of And (a ∷ b ∷ []) ≡ (a && b)
+pub gate_bit : (a b : Bool) → bit_of And (a ∷ b ∷ []) ≡ (a && b)
 gate_bit true true = refl
 gate_bit true false = refl
 gate_bit false b = refl
@@ -202,7 +202,7 @@ gated_bit l config chains hw s bits has settled chain less =
     ∙ gate_bit (bits h.shown) (bits (hw.end_net chain))
     ∙ ap (λ (t : Bool). t && bits (hw.end_net chain)) (bit_at l s bits h.shown (Gate Inv (Net (hw.hold_net chain) ∷ [])) settled h.show)
 
-same_bits : (n : ℕ) (s r : ℕ → Bool) (ks : List ℕ) → All (λ k. k < n) ks → ((i : ℕ) → i < n → s i ≡ r i) → sum_of s ks ≡ sum_of r ks
+pub same_bits : (n : ℕ) (s r : ℕ → Bool) (ks : List ℕ) → All (λ k. k < n) ks → ((i : ℕ) → i < n → s i ≡ r i) → sum_of s ks ≡ sum_of r ks
 same_bits n s r [] below p = refl
 same_bits n s r (k ∷ ks) below p = λ t. xor (p k (below 0 k (omega arith)) t) (same_bits n s r ks (λ i y less. below (suc i) y (omega arith)) p t)
 

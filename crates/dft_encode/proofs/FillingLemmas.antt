@@ -3,7 +3,7 @@ use Rattle.std.proofs.Common.{◌≡◌, ℕ, zero, suc, ◌+◌, ◌<◌, ◌�
 use Rattle.std.specs.Prelude.{slice_get, count_by, IfSome}
 use Rattle.std.proofs.lemmas.List.{take_more, map_push, length-map}
 use Rattle.std.proofs.lemmas.List.Sums.{sum_by-append}
-use Rattle.std.proofs.lemmas.Option.{get_or_from_slice_get, slice_get_within}
+use Rattle.std.proofs.lemmas.Option.{get_or_from_slice_get, slice_get_within, same_Some}
 use Rattle.dft_netlist.specs.Netlist.{Netlist}
 use Rattle.dft_config.specs.declared.config.Config.{Config}
 use Rattle.dft_equations.specs.LoadRows.{LoadRows}
@@ -18,9 +18,6 @@ use Rattle.dft_encode.specs.declared.found.Found.{Found}
 use Rattle.dft_encode.specs.Compiled.{IsPattern, merged_of}
 use Rattle.dft_encode.specs.Counts.{is_set, masked_in}
 use Rattle.dft_encode.specs.Finding.{HasPatterns, FitsFound, data_found, last_found}
-
-same_Some : {X : Type 0} (x y : X) → Some x ≡ Some y → x ≡ y
-same_Some x y e = cc
 
 -- an item of a list with one more is among the others, or the last
 pub pushed : {X : Type 0} (xs : List X) (y p : X) (k : ℕ) → slice_get (xs ++ y ∷ []) k ≡ Some p → (slice_get xs k ≡ Some p) ⊎ ((k ≡ length xs) × (y ≡ p))

@@ -28,7 +28,7 @@ into_count n row window old new cube p (inl j) = let same = ap length j.patterns
 into_count n row window old new cube p (inr b) = let more = ap length b.patterns ∙ length-append old (begun cube ∷ []) in omega (arith, more)
 
 -- a cube begins one pattern at most
-place_count : (n : ℕ) (row : CellRows) (window : ℕ) (old new : List Merged) (cube : Cube) (place : Placed) → Places n row window old cube place new → length new ≤ length old + 1
+pub place_count : (n : ℕ) (row : CellRows) (window : ℕ) (old new : List Merged) (cube : Cube) (place : Placed) → Places n row window old cube place new → length new ≤ length old + 1
 place_count n row window old new cube (Skipped cell) is = let same = ap length is.1 in omega (arith, same)
 place_count n row window old new cube (Into p) is = into_count n row window old new cube p is.1
 place_count n row window old new cube (Unsolvable ids) is = let same = ap length is.2 in omega (arith, same)

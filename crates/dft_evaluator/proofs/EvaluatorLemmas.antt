@@ -9,6 +9,7 @@ use Rattle.std.specs.Vec.{with_items}
 use Rattle.std.proofs.lemmas.List.{get_or_past, get_or_read, get_or-replicate, length-replicate, with_items_is}
 use Rattle.dft_base.specs.declared.tri.Tri.{Tri}
 use Rattle.dft_base.specs.declared.tri.Tri.TheVariants.{Unknown}
+use Rattle.dft_base.proofs.BitLemmas.{and_true}
 use Rattle.dft_lanes.specs.declared.wide.Wide.{Wide}
 use Rattle.dft_netlist.specs.Netlist.{Netlist}
 use Rattle.dft_netlist.specs.Drivers.{Source, Driver, driver}
@@ -72,10 +73,6 @@ blank_whole n = λ k. subst (λ (v : Wide). IsWide v (value_in v)) (sym (blank_a
 
 -- ---- a value is set
 
-and_with : (b e : Bool) → e ≡ true → b ≡ b && e
-and_with true e is = sym is
-and_with false e is = refl
-
 and_without : (b e : Bool) → e ≡ false → false ≡ b && e
 and_without true e is = sym is
 and_without false e is = refl
@@ -86,7 +83,7 @@ set_case wides net pattern w value p k live each (inl e) =
     let here : (k == net) ≡ true = grind (arith, nat_tests) in
     ap (λ (n : ℕ). values_in (slice_set wides net w) p n) e ∙ ap (λ (v : Wide). value_in v p) (get_or-set_same wides net w unknown_wide live) ∙ each p
     ∙ ap (λ (n : ℕ). if p == pattern then value else values_in wides p n) (sym e)
-    ∙ ap (λ (b : Bool). if b then value else values_in wides p k) (and_with (p == pattern) (k == net) here)
+    ∙ ap (λ (b : Bool). if b then value else values_in wides p k) (and_true (p == pattern) (k == net) here)
 set_case wides net pattern w value p k live each (inr ne) =
     let apart : (k == net) ≡ false = grind (arith, nat_tests) in
     ap (λ (v : Wide). value_in v p) (get_or-set_other wides net k w unknown_wide ne)

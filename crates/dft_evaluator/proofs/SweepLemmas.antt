@@ -18,23 +18,13 @@ use Rattle.dft_logic.specs.declared.circuit.Op.{Op}
 use Rattle.dft_logic.specs.declared.circuit.Op.TheVariants as op
 use Rattle.dft_logic.specs.declared.circuit.Circuit.{Circuit}
 use Rattle.dft_logic.specs.Circuit.{meaning, op_at, AreOrdered, IsCircuit}
-use Rattle.dft_logic.proofs.Settlings.{all_more}
+use Rattle.dft_logic.proofs.Settlings.{all_more, source_agree, inputs_agree}
+use Rattle.dft_logic.proofs.Fillings.{front}
 use Rattle.dft_evaluator.specs.Wides.{value_in, values_in, wide_at, unknown_wide, IsWide, AreWides}
 use Rattle.dft_evaluator.specs.Evaluations.{value_set, IsSettledFrom}
 use Rattle.dft_evaluator.proofs.WideLemmas.{wide_is, value_is}
 
 -- ---- a value depends on what it reads
-
-source_agree : (P : ℕ → Type 0) (v w : ℕ → Tri) (source : Source) → AllByRecursion P (nets_of (source ∷ [])) → ((k : ℕ) → P k → v k ≡ w k) → value_from v source ≡ value_from w source
-source_agree P v w (Net net) all same = same net all.0
-source_agree P v w (Tied bit) all same = refl
-source_agree P v w (Loose i pin) all same = refl
-
-inputs_agree : (P : ℕ → Type 0) (v w : ℕ → Tri) (inputs : List Source) → AllByRecursion P (nets_of inputs) → ((k : ℕ) → P k → v k ≡ w k) → map (value_from v) inputs ≡ map (value_from w) inputs
-inputs_agree P v w [] all same = refl
-inputs_agree P v w (Net net ∷ inputs) all same = λ t. same net all.0 t ∷ inputs_agree P v w inputs all.1 same t
-inputs_agree P v w (Tied bit ∷ inputs) all same = ap (λ (us : List Tri). known bit ∷ us) (inputs_agree P v w inputs all same)
-inputs_agree P v w (Loose i pin ∷ inputs) all same = ap (λ (us : List Tri). Unknown ∷ us) (inputs_agree P v w inputs all same)
 
 pub set_agree : (P : ℕ → Type 0) (given v w : ℕ → Tri) (net : ℕ) (m : Meaning) → AllByRecursion P (reads m) → ((k : ℕ) → P k → v k ≡ w k) → value_set given v net m ≡ value_set given w net m
 set_agree P given v w net Input all same = refl
@@ -74,9 +64,6 @@ pub record Sweeping (ops : List Op) (start : List Wide) (order : List NetId) (wi
 pub sweeping_starts : (x : Circuit) (start : List Wide) → IsCircuit x → AreWides start → Sweeping x.ops.items start x.order.items start 0
 sweeping_starts x start is whole =
     record { whole = whole; before = []; rest = is.after; closed = λ k h. absurd h; done = λ p k less h. absurd h; later = λ k none. refl; either = λ k less. inr (is.whole k less) }
-
-front : (order : List NetId) (j : ℕ) (net : NetId) → j < length order → net ≡ get_or order j net → drop j order ≡ net ∷ drop (j + 1) order
-front order j net less is = rw (add-one) (drop-cons order j net less ∙ ap (λ (n : NetId). n ∷ drop (suc j) order) (sym is))
 
 pub net_live : (ops : List Op) (start : List Wide) (order : List NetId) (wides : List Wide) (j : ℕ) (net : NetId) → j < length order → net ≡ get_or order j net → Sweeping ops start order wides j → net.0 < length ops
 net_live ops start order wides j net less is s =

@@ -5,7 +5,7 @@ use Rattle.std.proofs.Math.Seq.{take-length}
 use Rattle.std.proofs.Math.Nat.{pow-suc, one-le-pow, mul-le-mul_left}
 use Rattle.dft_base.specs.declared.tri.Tri.{Tri}
 use Rattle.dft_cells.specs.Gates.{shared, bit_of_number, number_of}
-use Rattle.dft_cells.proofs.Pairs.{shared_equal}
+use Rattle.dft_cells.proofs.Pairs.{shared_equal, TableAt, narrow}
 use Rattle.dft_lanes.specs.declared.wide.Wide.{Wide}
 use Rattle.dft_lanes.specs.Choices.{can, some_choice_of_three}
 use Rattle.dft_netlist.specs.Settled.{value_from}
@@ -24,12 +24,6 @@ pub head_rest : (xs : List Operand) (d : Operand) → 1 ≤ length xs → xs ≡
 head_rest [] d some = absurd (omega arith)
 head_rest (x ∷ xs) d some = ap (λ (ys : List Operand). x ∷ ys) (sym (behind x xs))
 
-narrow : (place place' weight half : ℕ) → 1 ≤ half → place' ≤ place + weight → place + weight * (half * 2) < 64 + weight
-    → (place' + (2 * weight) * half < 64 + 2 * weight) × (2 * weight < 128)
-narrow place place' weight half some near small =
-    let one : weight * 1 ≤ weight * half = mul-le-mul_left weight some in
-    (omega arith, omega arith)
-
 -- the rest of a table's inputs takes at most the places that are left
 pub narrower : (xs : List Operand) (place place' weight : ℕ) → 1 ≤ length xs → place' ≤ place + weight → place + weight * 2 ^ length xs < 64 + weight
     → (place' + (2 * weight) * 2 ^ length (take (length xs - 1) (drop 1 xs)) < 64 + 2 * weight) × (2 * weight < 128)
@@ -38,22 +32,19 @@ narrower (x ∷ xs) place place' weight some near small =
     let halved : place + weight * (2 ^ length xs * 2) < 64 + weight = subst (λ (n : ℕ). place + weight * n < 64 + weight) (pow-suc 2 (length xs)) small in
     rw (behind x xs) (narrow place place' weight (2 ^ length xs) (one-le-pow (length xs) 2 (omega arith)) near halved)
 
-abbrev pub table_at : (table place weight : ℕ) → List Bool → Bool
-table_at table place weight bits = bit_of_number table (place + weight * number_of bits)
-
 -- a choice between the two halves of a table
 pub table_chosen : (table place weight : ℕ) (wides : List Wide) (inputs rest : List Operand) (x : Operand) (w a b e : Wide) → inputs ≡ x ∷ rest
-    → IsWide a (λ p. shared (table_at table place (2 * weight)) (inputs_at wides rest p)) → IsWide b (λ p. shared (table_at table (place + weight) (2 * weight)) (inputs_at wides rest p))
+    → IsWide a (λ p. shared (TableAt table place (2 * weight)) (inputs_at wides rest p)) → IsWide b (λ p. shared (TableAt table (place + weight) (2 * weight)) (inputs_at wides rest p))
     → IsWide e (λ p. value_from (values_in wides p) (source_at x))
     → ((pattern : ℕ) (v : Bool) → can w pattern v ≡ some_choice_of_three (λ x y c. if c then y else x) (can a pattern) (can b pattern) (can e pattern) v)
-    → IsWide w (λ p. shared (table_at table place weight) (inputs_at wides inputs p))
+    → IsWide w (λ p. shared (TableAt table place weight) (inputs_at wides inputs p))
 table_chosen table place weight wides inputs rest x w a b e is first second by made =
-    let f : ℕ → Bool → Tri = λ p c. shared (λ bs. table_at table place weight (c ∷ bs)) (inputs_at wides rest p) in
+    let f : ℕ → Bool → Tri = λ p c. shared (λ bs. TableAt table place weight (c ∷ bs)) (inputs_at wides rest p) in
     let low : IsWide a (λ p. f p false) =
-    wide_same a (λ p. shared (table_at table place (2 * weight)) (inputs_at wides rest p)) (λ p. f p false) first
-    (λ p less. shared_equal (table_at table place (2 * weight)) (λ bs. table_at table place weight (false ∷ bs)) (inputs_at wides rest p) (λ bs. ap (bit_of_number table) (omega arith))) in
+    wide_same a (λ p. shared (TableAt table place (2 * weight)) (inputs_at wides rest p)) (λ p. f p false) first
+    (λ p less. shared_equal (TableAt table place (2 * weight)) (λ bs. TableAt table place weight (false ∷ bs)) (inputs_at wides rest p) (λ bs. ap (bit_of_number table) (omega arith))) in
     let high : IsWide b (λ p. f p true) =
-    wide_same b (λ p. shared (table_at table (place + weight) (2 * weight)) (inputs_at wides rest p)) (λ p. f p true) second
-    (λ p less. shared_equal (table_at table (place + weight) (2 * weight)) (λ bs. table_at table place weight (true ∷ bs)) (inputs_at wides rest p) (λ bs. ap (bit_of_number table) (omega arith))) in
-    let R : List Operand → Type 0 = λ l. IsWide w (λ p. shared (table_at table place weight) (inputs_at wides l p)) in
+    wide_same b (λ p. shared (TableAt table (place + weight) (2 * weight)) (inputs_at wides rest p)) (λ p. f p true) second
+    (λ p less. shared_equal (TableAt table (place + weight) (2 * weight)) (λ bs. TableAt table place weight (true ∷ bs)) (inputs_at wides rest p) (λ bs. ap (bit_of_number table) (omega arith))) in
+    let R : List Operand → Type 0 = λ l. IsWide w (λ p. shared (TableAt table place weight) (inputs_at wides l p)) in
     subst R (sym is) (wide_chosen w a b e f (λ p. value_from (values_in wides p) (source_at x)) low high by made)

@@ -5,6 +5,7 @@ use Rattle.dft_base.specs.declared.tri.Tri.{Tri}
 use Rattle.dft_base.specs.declared.tri.Tri.TheVariants.{Zero, One, Unknown}
 use Rattle.dft_base.specs.Tri.{known, join}
 use Rattle.dft_base.specs.Solutions.{xor}
+use Rattle.dft_base.proofs.BitLemmas.{or_false}
 use Rattle.dft_cells.specs.Gates.{completing, shared}
 use Rattle.dft_cells.specs.Tables.{not_tri, and_tri, or_tri, xor_tri, mux_tri}
 use Rattle.dft_lanes.specs.declared.wide.Wide.{Wide}
@@ -103,10 +104,6 @@ may_some Zero = refl
 may_some One = refl
 may_some Unknown = refl
 
-or_none : (b : Bool) → b || false ≡ b
-or_none true = refl
-or_none false = refl
-
 or_same : (b : Bool) → b || b ≡ b
 or_same true = refl
 or_same false = refl
@@ -125,7 +122,7 @@ may_join One Unknown false = refl
 may_join Unknown t v = refl
 
 may_complete : (f : Bool → Tri) (t : Tri) (v : Bool) → (may t false && may (f false) v) || (may t true && may (f true) v) ≡ may (completing f t) v
-may_complete f Zero v = or_none (may (f false) v)
+may_complete f Zero v = or_false (may (f false) v)
 may_complete f One v = refl
 may_complete f Unknown v = may_join (f false) (f true) v
 

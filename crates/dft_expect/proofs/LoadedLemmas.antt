@@ -7,13 +7,13 @@ use Rattle.std.proofs.lemmas.List.Elements.{All-get_or}
 use Rattle.std.proofs.lemmas.Option.{get_or_from_slice_get, slice_get_within}
 use Rattle.std.proofs.lemmas.List.FromFn.{map-range_with_len_more}
 use Rattle.dft_base.specs.Solutions.{bit_at}
+use Rattle.dft_base.proofs.ListLemmas.{drop_at}
 use Rattle.dft_netlist.specs.declared.ids.InstanceId.{InstanceId}
 use Rattle.dft_config.specs.declared.config.RingConfig.{RingConfig}
 use Rattle.dft_config.specs.Ring.{Table, sum_of, phase_of, phase_sum}
 use Rattle.dft_config.specs.Loads.{moment_of_place}
 use Rattle.dft_expect.specs.Loaded.{loaded_bit, loaded_chain, loaded_of}
 use Rattle.dft_expect.specs.States.{state_at, AreStates, HaveStages, brought}
-use Rattle.dft_expect.proofs.MaskLemmas.{drop_at}
 
 pub grown : (f : ℕ → Bool) (old so_far new : List Bool) (k : ℕ) (b : Bool) → so_far ≡ old ++ map f (range_with_len 0 k) → new ≡ so_far ++ b ∷ [] → b ≡ f k → new ≡ old ++ map f (range_with_len 0 (k + 1))
 grown f old so_far new k b before more is =

@@ -7,6 +7,8 @@ use Rattle.std.proofs.lemmas.List.FromFn.{get_or-enumerate_from, length-enumerat
 use Rattle.std.proofs.lemmas.Option.{get_or_from_slice_get, slice_get_within}
 use Rattle.dft_base.specs.declared.tri.Tri.{Tri}
 use Rattle.dft_base.specs.Solutions.{bit_at}
+use Rattle.dft_base.proofs.BitLemmas.{neither}
+use Rattle.dft_base.proofs.ListLemmas.{drop_at}
 use Rattle.dft_netlist.specs.declared.ids.InstanceId.{InstanceId}
 use Rattle.dft_expect.specs.Loaded.{all_cells}
 use Rattle.dft_expect.specs.Masks.{is_unknown, is_masked, by_chain, masks_of}
@@ -24,10 +26,6 @@ mask_at always values chain cells at =
     plus_zero : (k : ℕ) → 0 + k ≡ k
     plus_zero k = omega arith
 
-neither : (a b : Bool) → a || b ≡ false → a ≡ false
-neither true b e = e
-neither false b e = refl
-
 pub unmasked : UnmaskedAreKnown
 unmasked always values chain cells at clear = neither (list_any is_unknown cells) (bit_at always chain) (sym (mask_at always values chain cells at) ∙ clear)
 
@@ -44,9 +42,6 @@ pub record Masking (always : List Bool) (chains : List (List InstanceId)) (value
 
 pub masking_starts : (always : List Bool) (chains : List (List InstanceId)) (values : List Tri) → length values ≡ length (all_cells chains) → Masking always chains values 0 0 []
 masking_starts always chains values size = record { size = omega arith; same = refl }
-
-pub drop_at : {T : Type 0} (xs : List T) (k : ℕ) (x : T) → slice_get xs k ≡ Some x → drop k xs ≡ x ∷ drop (k + 1) xs
-drop_at {T = T} xs k x at = drop_more xs k x (slice_get_within xs k x at) ∙ ap (λ (y : T). y ∷ drop (k + 1) xs) (get_or_from_slice_get xs k x x at)
 
 pub masking_fits : (always : List Bool) (chains : List (List InstanceId)) (values : List Tri) (k first : ℕ) (masks : List Bool) (cells : List InstanceId) → slice_get chains k ≡ Some cells
     → Masking always chains values k first masks → first + length cells ≤ length values

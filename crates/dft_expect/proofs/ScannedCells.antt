@@ -4,7 +4,10 @@ use Rattle.std.specs.Prelude.{if◌then◌else◌, IsTrue}
 use Rattle.std.specs.List.{list_any, position_from, AllByRecursion}
 use Rattle.std.proofs.lemmas.Iterator.Adapters.{position_from-zero}
 use Rattle.std.proofs.lemmas.Option.{none-some, same_Some}
+use Rattle.std.proofs.lemmas.Bool.{or_right}
+use Rattle.std.proofs.lemmas.Map.Keys.{any_passes_from_place}
 use Rattle.dft_base.specs.Lexing.{Text}
+use Rattle.dft_base.proofs.OptionLemmas.{some_of}
 use Rattle.dft_cells.specs.declared.kind.Kind.{Kind}
 use Rattle.dft_cells.specs.declared.kind.Kind.TheVariants as kind
 use Rattle.dft_cells.specs.declared.kind.Role.{Role}
@@ -59,19 +62,6 @@ position_item test from number (x ∷ xs) e = position_by test from number x xs 
 position_at : {A : Type 0} (test : A → Bool) (number : ℕ) (xs : List A) → position test xs ≡ Some number → IsAt test 0 xs number
 position_at test number xs e = position_item test 0 number xs (sym (position_from-zero test xs) ∙ e)
 
-or_right : (a b : Bool) → b ≡ true → (a || b) ≡ true
-or_right true b e = refl
-or_right false b e = e
-
-any_at : {A : Type 0} (test : A → Bool) (xs : List A) (j : ℕ) (x : A) → slice_get xs j ≡ Some x → test x ≡ true → list_any test xs ≡ true
-any_at test [] j x at is = absurd (none-some x at)
-any_at test (z ∷ xs) zero x at is = ap (λ b. b || list_any test xs) (ap test (same_Some z x at) ∙ is)
-any_at test (z ∷ xs) (suc j) x at is = or_right (test z) (list_any test xs) (any_at test xs j x at is)
-
-some_of : {A : Type 0} (o : Option A) → is_some o ≡ true → (x : A) × (o ≡ Some x)
-some_of None e = absurd cc
-some_of (Some x) e = (x, refl)
-
 -- ---- a scanned flip-flop
 
 -- the instance is a flip-flop on the port of a domain, with its reset or set held
@@ -109,7 +99,7 @@ record IsClocked (n : Netlist) (config : Config) (i : ℕ) : Type 0 where
 clocked_root : (n : Netlist) (config : Config) (i domain : ℕ) (source : Source) (r : Root) → pin_of role.Clock i (pins_of n i) ≡ Some source → root_of n source ≡ r → place_of_root n config.domains r ≡ Some domain → IsClocked n config i
 clocked_root n config i domain source (Port net) pin root e =
     let it = position_at (λ name. is_net net (input_net n name)) domain config.domains e in
-    record { source = source; pin = pin; net = net; root = root; is = any_at (λ name. is_net net (input_net n name)) config.domains it.place it.item it.at it.passes }
+    record { source = source; pin = pin; net = net; root = root; is = any_passes_from_place (λ name. is_net net (input_net n name)) config.domains it.place it.item it.at it.passes }
 clocked_root n config i domain source (Constant bit) pin root e = absurd (none-some domain e)
 clocked_root n config i domain source Other pin root e = absurd (none-some domain e)
 
@@ -129,7 +119,7 @@ force_root : (n : Netlist) (config : Config) (value : Bool) (r : Root) → is_he
 force_root n config value (Port net) e =
     let some = some_of (place_of_root n config.resets (Port net)) e in
     let it = position_at (λ name. is_net net (input_net n name)) some.0 config.resets some.1 in
-    let reset : (config_ports n config).is_reset net ≡ true = any_at (λ name. is_net net (input_net n name)) config.resets it.place it.item it.at it.passes in
+    let reset : (config_ports n config).is_reset net ≡ true = any_passes_from_place (λ name. is_net net (input_net n name)) config.resets it.place it.item it.at it.passes in
     (Some (record { port = net; value = value }), ap (λ b. if b then Some (Some (record { port = net; value = value })) else None) reset)
 force_root n config value (Constant true) e = (None, refl)
 force_root n config value (Constant false) e = absurd cc
@@ -260,7 +250,7 @@ cell_modelled n config chain place cell can stands =
 
 -- ---- no lock-up
 
-none_first : (check : Option RuleError) (checks : List (Option RuleError)) → first_failing (check ∷ checks) ≡ None → (check ≡ None) × (first_failing checks ≡ None)
+pub none_first : (check : Option RuleError) (checks : List (Option RuleError)) → first_failing (check ∷ checks) ≡ None → (check ≡ None) × (first_failing checks ≡ None)
 none_first None checks e = (refl, e)
 none_first (Some error) checks e = absurd (none-some error (sym e))
 

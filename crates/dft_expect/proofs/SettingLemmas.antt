@@ -8,6 +8,8 @@ use Rattle.std.proofs.lemmas.List.{drop_all, length-set, get_or-set_same, get_or
 use Rattle.std.proofs.lemmas.Option.{none-some, slice_get_within}
 use Rattle.dft_base.specs.Lexing.{Text}
 use Rattle.dft_base.specs.Solutions.{bit_at}
+use Rattle.dft_base.proofs.BitLemmas.{or_false}
+use Rattle.dft_base.proofs.ListLemmas.{drop_at}
 use Rattle.dft_netlist.specs.declared.ids.NetId.{NetId}
 use Rattle.dft_netlist.specs.declared.ids.InstanceId.{InstanceId}
 use Rattle.dft_netlist.specs.Netlist.{Netlist}
@@ -17,7 +19,6 @@ use Rattle.dft_stitch.specs.Plans.{cell_at}
 use Rattle.dft_expect.specs.Loaded.{all_cells}
 use Rattle.dft_expect.specs.Unloads.{AreStarts}
 use Rattle.dft_expect.proofs.CellNumbers.{number_of}
-use Rattle.dft_expect.proofs.MaskLemmas.{drop_at}
 use Rattle.dft_expect.proofs.UnloadLemmas.{before}
 
 -- ---- a cell by its place
@@ -79,10 +80,6 @@ flag_some n names done flags name port before at some live = record {
         let no : (port.0 == net) ≡ false = grind (arith, nat_tests) in
         ap (λ (b : Bool). b || rest net) (get_or-set_other flags port.0 net true false ne) ∙ ap (λ (b : Bool). bit_at flags net || (b || rest net)) (sym no) ∙ whole net
 
-or_none : (b : Bool) → (b || false) ≡ b
-or_none true = refl
-or_none false = refl
-
 pub flags_end : (n : Netlist) (names : List Text) (done : ℕ) (flags : List Bool) → AreFlagging n names done flags → length names ≤ done → (net : ℕ) → bit_at flags net ≡ list_any (λ name. is_net net (input_net n name)) names
 flags_end n names done flags before past net =
-    sym (or_none (bit_at flags net)) ∙ ap (λ (l : List Text). bit_at flags net || list_any (λ name. is_net net (input_net n name)) l) (sym (drop_all done names past)) ∙ before.each net
+    sym (or_false (bit_at flags net)) ∙ ap (λ (l : List Text). bit_at flags net || list_any (λ name. is_net net (input_net n name)) l) (sym (drop_all done names past)) ∙ before.each net

@@ -8,6 +8,8 @@ use Rattle.std.proofs.lemmas.Option.{same_Some}
 use Rattle.dft_base.specs.declared.tri.Tri.{Tri}
 use Rattle.dft_base.specs.declared.tri.Tri.TheVariants.{Unknown}
 use Rattle.dft_base.specs.Tri.{known}
+use Rattle.dft_base.proofs.NumberLemmas.{eqb_turned}
+use Rattle.dft_base.proofs.ListLemmas.{drop_at}
 use Rattle.dft_lanes.specs.declared.wide.Wide.{Wide}
 use Rattle.dft_netlist.specs.declared.ids.NetId.{NetId}
 use Rattle.dft_netlist.specs.Netlist.{Netlist}
@@ -23,7 +25,6 @@ use Rattle.dft_expect.specs.Captures.{bit_of_port}
 use Rattle.dft_expect.specs.Settings.{cell_value, is_input, port_or, setting_at, value_by}
 use Rattle.dft_expect.specs.Sources.{IsSame, IsPortSet, ArePortsSet}
 use Rattle.dft_expect.proofs.GivenLemmas.{port_or_value}
-use Rattle.dft_expect.proofs.MaskLemmas.{drop_at}
 
 pub same_more : (a b c : Evaluation) → IsSame a b → IsSame b c → IsSame a c
 same_more a b c one two = record { meanings = two.meanings ∙ one.meanings; nets = two.nets ∙ one.nets }
@@ -113,14 +114,11 @@ here_by : (t e b : Bool) → (e ≡ true → b ≡ true) → (t && (e && b)) ≡
 here_by t true b may = ap (λ (c : Bool). t && c) (may refl)
 here_by t false b may = refl
 
-swap_eq : (a b : ℕ) → (a == b) ≡ (b == a)
-swap_eq a b = grind (arith, nat_tests)
-
 pub port_set : (settings : List Setting) (pattern : ℕ) (given : NetId × Bool) (old new : Evaluation) (value : Tri) → setting_at settings given.0.0 ≡ setting.Input → value ≡ known given.1 → IsSet old pattern given.0.0 value new → IsPortSet settings pattern given old new
 port_set settings pattern given old new value is v set = record {
   each = λ q k.
       set.each q k
-      ∙ ap (λ (b : Bool). if (q == pattern) && b then value else value_at old q k) (swap_eq k given.0.0)
+      ∙ ap (λ (b : Bool). if (q == pattern) && b then value else value_at old q k) (eqb_turned k given.0.0)
       ∙ ap (λ (b : Bool). if b then value else value_at old q k)
       (sym (here_by (q == pattern) (given.0.0 == k) (is_input (setting_at settings k)) (λ e. ap (λ (j : ℕ). is_input (setting_at settings j)) (sym (eqb-true given.0.0 k e)) ∙ ap is_input is)))
       ∙ ap (λ (w : Tri). if (q == pattern) && ((given.0.0 == k) && is_input (setting_at settings k)) then w else value_at old q k) v;

@@ -4,10 +4,11 @@ use Rattle.std.specs.Prelude.{not, ◌&&◌, if◌then◌else◌, slice_set}
 use Rattle.std.proofs.lemmas.Bool.{cases_lt}
 use Rattle.std.proofs.lemmas.List.{get_or_past, get_or-replicate, length-replicate, get_or_read}
 use Rattle.dft_base.specs.Solutions.{xor, bit_at, sum_over, Solves, IsChosen}
+use Rattle.dft_base.proofs.SumLemmas.{and_false}
 use Rattle.dft_gf2.specs.Rows.{row_at, place_at, IsLedBy, kept_to, IsEchelon}
 use Rattle.dft_gf2.specs.declared.row.Row.{Row}
 use Rattle.dft_lanes.proofs.RowLemmas.{sum_short}
-use Rattle.dft_gf2.proofs.Sums.{xor_cancel, and_false}
+use Rattle.dft_gf2.proofs.Sums.{xor_cancel}
 use Rattle.dft_gf2.proofs.Echelons.{IsMet, AreSolvedTo, sum_led, sums_agree, solved_more, leads_of, all_met}
 use Rattle.dft_gf2.proofs.Restorations.{kept_solved, rows_met}
 

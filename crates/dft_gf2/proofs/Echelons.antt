@@ -4,9 +4,10 @@ use Rattle.std.specs.Prelude.{◌&&◌}
 use Rattle.std.proofs.lemmas.Bool.{cases_lt, and_left, eq-eqb, ne_eqb}
 use Rattle.std.proofs.lemmas.List.{get_or_past}
 use Rattle.dft_base.specs.Solutions.{xor, bit_at, sum_over}
+use Rattle.dft_base.proofs.SumLemmas.{sum_same}
 use Rattle.dft_gf2.specs.Rows.{row_at, place_at, IsLedBy, IsEchelon}
 use Rattle.dft_gf2.specs.declared.row.Row.{Row}
-use Rattle.dft_gf2.proofs.Sums.{xor_back, sum_same, sum_last}
+use Rattle.dft_gf2.proofs.Sums.{xor_back, sum_last}
 
 -- the table gives the row's set its bit
 abbrev pub IsMet : ℕ → (ℕ → Bool) → Row → Type 0

@@ -6,13 +6,14 @@ use Rattle.std.proofs.lemmas.List.Sums.{count_by-le-length, sum_by-set}
 use Rattle.std.specs.List.{count_by}
 use Rattle.std.proofs.lemmas.Bool.{cases_eq, cases_lt, and_left}
 use Rattle.dft_base.specs.Solutions.{xor, bit_at, sum_over, Equation, equation_at, Solves, IsSolvable, odd_at, odd_bits, IsSumOf, IsSum, AllGive, NoneGives}
+use Rattle.dft_base.proofs.SumLemmas.{xor_false, sum_same, sum_zero}
 use Rattle.dft_lanes.specs.Rows.{bits_of}
 use Rattle.dft_lanes.proofs.RowLemmas.{length-bits_of}
 use Rattle.dft_gf2.specs.Rows.{row_at, place_at, IsWide, IsStarted, IsLedBy, AreLed, NameEarlier, IsZero, IsNew, AreSums, Means, IsReduced, with_own, restored, kept_to, IsEchelon}
 use Rattle.dft_gf2.specs.declared.row.Row.{Row}
 use Rattle.dft_gf2.specs.declared.system.Outcome.{Outcome}
 use Rattle.dft_gf2.specs.declared.system.Outcome.TheVariants.{Kept, Implied, Conflict}
-use Rattle.dft_gf2.proofs.Sums.{xor_false, xor_back, sum_same, sum_zero}
+use Rattle.dft_gf2.proofs.Sums.{xor_back}
 use Rattle.dft_gf2.proofs.Echelons.{IsMet, echelon_solved, some_below}
 use Rattle.dft_gf2.proofs.Restorations.{odd, odd_same, restored_is, length_kept, kept_same, kept_more, sum_meant, sum_picked, kept_solved, rows_sum}
 

@@ -4,9 +4,10 @@ use Rattle.std.specs.Prelude.{◌&&◌}
 use Rattle.std.proofs.lemmas.Bool.{cases_lt}
 use Rattle.std.proofs.lemmas.List.{get_or_append_left, get_or_push, length_push, ext_get_or}
 use Rattle.dft_base.specs.Solutions.{xor, sum_to, bit_at, Equation, equation_at, sum_over, Holds, Solves, odd_at, odd_bits}
+use Rattle.dft_base.proofs.SumLemmas.{sum_same}
 use Rattle.dft_gf2.specs.Rows.{row_at, IsSumRow, Means, bits_to, restored, kept_to}
 use Rattle.dft_gf2.specs.declared.row.Row.{Row}
-use Rattle.dft_gf2.proofs.Sums.{xor_back, xor_cancel, sum_same, sum_add_left, sum_over_sum}
+use Rattle.dft_gf2.proofs.Sums.{xor_back, xor_cancel, sum_add_left, sum_over_sum}
 use Rattle.dft_gf2.proofs.Echelons.{IsMet}
 
 -- whether an odd number of the picked equations pass the test

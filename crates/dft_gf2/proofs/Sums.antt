@@ -3,40 +3,15 @@ use Rattle.std.proofs.Common.{ℕ, zero, suc, Bool, true, false, ◌≡◌, ◌<
 use Rattle.std.proofs.lemmas.Bool.{cases_lt}
 use Rattle.std.specs.Prelude.{◌&&◌}
 use Rattle.dft_base.specs.Solutions.{xor, sum_to}
-
-pub xor_false : (a : Bool) → xor a false ≡ a
-xor_false true = refl
-xor_false false = refl
+use Rattle.dft_base.proofs.SumLemmas.{xor_swap, and_over_xor, sum_same, sum_zero, sum_add}
 
 pub xor_self : (a : Bool) → xor a a ≡ false
 xor_self true = refl
 xor_self false = refl
 
-pub xor_swap : (a b c d : Bool) → xor (xor a b) (xor c d) ≡ xor (xor a c) (xor b d)
-xor_swap = grind arith
-
-pub sum_same : (n : ℕ) (f h : ℕ → Bool) → ((i : ℕ) → i < n → f i ≡ h i) → sum_to n f ≡ sum_to n h
-sum_same zero f h p = refl
-sum_same (suc n) f h p = λ t. xor (p n (omega arith) t) (sum_same n f h (λ i less. p i (omega arith)) t)
-
-pub sum_zero : (n : ℕ) (f : ℕ → Bool) → ((i : ℕ) → i < n → f i ≡ false) → sum_to n f ≡ false
-sum_zero zero f h = refl
-sum_zero (suc n) f h = ap (λ (b : Bool). xor b (sum_to n f)) (h n (omega arith)) ∙ sum_zero n f (λ i less. h i (omega arith))
-
-pub sum_add : (n : ℕ) (f h : ℕ → Bool) → sum_to n (λ i. xor (f i) (h i)) ≡ xor (sum_to n f) (sum_to n h)
-sum_add zero f h = refl
-sum_add (suc n) f h = ap (xor (xor (f n) (h n))) (sum_add n f h) ∙ xor_swap (f n) (h n) (sum_to n f) (sum_to n h)
-
-pub and_false : (a : Bool) → a && false ≡ false
-and_false true = refl
-and_false false = refl
-
 pub sum_and : (n : ℕ) (b : Bool) (f : ℕ → Bool) → sum_to n (λ i. b && f i) ≡ b && sum_to n f
 sum_and n true f = refl
 sum_and n false f = sum_zero n (λ i. false) (λ i less. refl)
-
-and_over_xor : (a b c : Bool) → (xor a b) && c ≡ xor (a && c) (b && c)
-and_over_xor = grind arith
 
 -- the bits of one factor add up
 pub sum_add_left : (n : ℕ) (f h x : ℕ → Bool) → sum_to n (λ i. (xor (f i) (h i)) && x i) ≡ xor (sum_to n (λ i. f i && x i)) (sum_to n (λ i. h i && x i))

@@ -3,8 +3,8 @@ use Rattle.std.proofs.Common.{ℕ, zero, suc, Bool, List, [], ◌∷◌, ◌++�
 use Rattle.std.specs.Prelude.{◌&&◌}
 use Rattle.std.proofs.lemmas.Bool.{and_left, false≢true}
 use Rattle.dft_base.specs.Solutions.{Equation, equation_at, Holds, Solves, odd_at, StatesFrom}
+use Rattle.dft_base.proofs.SumLemmas.{sum_zero}
 use Rattle.dft_gf2.specs.Laws.{CertifiedIsUnsolvable, StatedIsUnsolvable}
-use Rattle.dft_gf2.proofs.Sums.{sum_zero}
 use Rattle.dft_gf2.proofs.Restorations.{sum_picked, solves_push}
 
 pub certified_unsolvable : CertifiedIsUnsolvable

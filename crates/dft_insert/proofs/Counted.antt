@@ -5,6 +5,7 @@ use Rattle.std.specs.List.{AllByRecursion, cons_option, filter_map, range_with_l
 use Rattle.std.proofs.lemmas.List.Sums.{sum_by-cons}
 use Rattle.std.proofs.lemmas.Option.{none-some, same_Some}
 use Rattle.std.proofs.Math.Seq.{drop-append_seam}
+use Rattle.std.proofs.lemmas.List.FromFn.{length-range_with_len}
 use Rattle.dft_cells.specs.declared.kind.Kind.{Kind}
 use Rattle.dft_cells.specs.declared.kind.Kind.TheVariants.{Dff, Lockup}
 use Rattle.dft_cells.specs.declared.cell.Cell.{Cell}
@@ -111,10 +112,6 @@ planned_in n config = chains_in (length (plan_of n config).chains) (judgements n
 
 -- ---- the weights of the recipes
 
-range_count : (from count : ℕ) → length (range_with_len from count) ≡ count
-range_count from zero = refl
-range_count from (suc count) = ap suc (range_count (from + 1) count)
-
 module _ (test : Kind → Bool) (none : PassesNoGate test) (n : Netlist) (config : Config) (ready : IsReady n config) where
   abbrev a_flop : ℕ
   a_flop = bit_weight (test Dff)
@@ -137,7 +134,7 @@ module _ (test : Kind → Bool) (none : PassesNoGate test) (n : Netlist) (config
   late_are : sum_of (λ c. a_lock + crossed c) numbers ≡ times config.chains a_lock + times (length (plan_of n config).lockups) a_lock
   late_are =
       sum_add (λ (c : ℕ). a_lock) crossed numbers
-      ∙ omega (arith, sum_same a_lock numbers ∙ ap (λ k. times k a_lock) (range_count 0 (length (plan_of n config).chains) ∙ chains_planned n config (plan_of n config) refl), crossings_are)
+      ∙ omega (arith, sum_same a_lock numbers ∙ ap (λ k. times k a_lock) (length-range_with_len 0 (length (plan_of n config).chains) ∙ chains_planned n config (plan_of n config) refl), crossings_are)
 
   masks_are : sum_of (λ s. times (segment_length config s) (a_flop + a_flop)) (range_with_len 0 config.compactor.mask_inputs) ≡ times config.chains (a_flop + a_flop)
   masks_are =

@@ -25,7 +25,7 @@ use Rattle.dft_parts.specs.Cells.{is_dff, is_lockup, first_cell}
 use Rattle.dft_parts.specs.Parts.{Part, ANet, AnInstance, APin}
 use Rattle.dft_parts.specs.Recipes.{Recipe, pure, ◌>>=◌, ◌>>◌, each, collect, net_at, nets_made, a_net, a_gate, a_flop, a_lockup}
 use Rattle.dft_parts.specs.Sums.{a_driving_gate, pairs, levels, first_net, a_sum}
-use Rattle.dft_parts.proofs.Stores.{lockup_shape}
+use Rattle.dft_parts.proofs.Stores.{lockup_shape, dff_shape}
 use Rattle.dft_ring.specs.declared.ring.Ring.{Ring}
 use Rattle.dft_ring.specs.RingRecipe.{stage_terms, a_stage, a_phase, a_ring}
 use Rattle.dft_compact.specs.declared.mask_nets.MaskNets.{MaskNets}
@@ -36,7 +36,6 @@ use Rattle.dft_scan_hardware.specs.Chained as chained
 use Rattle.dft_scan_hardware.specs.Chained.{scan_roles, a_numbered_pin, a_role_pin, a_scan_in, an_open_output, own_or_made, a_row, rows, a_crossing, crossing_in, a_step, a_chain, a_late_chain, cells_at, row_at, last_net}
 use Rattle.dft_scan_hardware.specs.Ports.{plain_in, plain_out}
 use Rattle.dft_scan_hardware.specs.Scanned.{a_plain_chain, a_plain_end, plain_recipe, an_edt_chain, behind_rows, edt_recipe}
-use Rattle.dft_scan_equivalence.proofs.FirstFlops.{dff_shape}
 use Rattle.dft_insert.proofs.Weights.{times, times_add, sum_of, sum_add, sum_zero, sum_same, Weighs, weighs_as, weighs_pure, weighs_bind, weighs_each, none_each, none_collect, one_in_range}
 
 -- ---- the weights

@@ -3,6 +3,7 @@ use Rattle.std.proofs.Common.{ℕ, zero, suc, ◌+◌, ◌≡◌, ◌==◌, ◌<
 use Rattle.std.specs.Prelude.{if◌then◌else◌}
 use Rattle.std.specs.List.{range_with_len}
 use Rattle.std.proofs.lemmas.Bool.Decides.{nat_tests}
+use Rattle.std.proofs.lemmas.Bool.{eqb-true}
 use Rattle.dft_cells.specs.declared.cell.Cell.{Cell}
 use Rattle.dft_parts.specs.Parts.{Part}
 use Rattle.dft_parts.specs.Recipes.{Start, Recipe, pure, ◌>>=◌, behind, each, collect}
@@ -113,9 +114,6 @@ none_past : (k from count weight : ℕ) → k < from → sum_of (λ c. if k == c
 none_past k from zero weight less = refl
 none_past k from (suc count) weight less = past k from weight _ (k == from) refl less (none_past k (from + 1) count weight (omega (arith, less)))
 
-same_number : (k from : ℕ) → (k == from) ≡ true → k ≡ from
-same_number = grind (arith, nat_tests)
-
 other_number : (k from count : ℕ) → (k == from) ≡ false → from ≤ k → from + 1 ≤ k
 other_number = grind (arith, nat_tests)
 
@@ -124,4 +122,4 @@ one_in_range k from zero weight low high = absurd (omega (arith, low, high))
 one_in_range k from (suc count) weight low high =
     one_by weight _ (k == from)
     (λ is. one_in_range k (from + 1) count weight (other_number k from count is low) (omega (arith, high)))
-    (λ is. none_past k (from + 1) count weight (omega (arith, same_number k from is)))
+    (λ is. none_past k (from + 1) count weight (omega (arith, eqb-true k from is)))

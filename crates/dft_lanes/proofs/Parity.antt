@@ -13,9 +13,10 @@ use Rattle.std.proofs.Math.Seq.{drop-cons}
 use lib.Count.{ones_step, ones-le}
 use Rattle.dft_base.specs.Packed.{packed_bit}
 use Rattle.dft_base.specs.Solutions.{xor, sum_to}
+use Rattle.dft_base.proofs.SumLemmas.{xor_false, sum_same, sum_zero, sum_add, xor_comm as xor_comm_bits}
 use Rattle.dft_lanes.specs.Sums.{odd_common}
 use Rattle.dft_lanes.proofs.BitLemmas.{and_bit, xor_bit}
-use Rattle.dft_lanes.proofs.SumLemmas.{xor_comm_bits, xor_false, sum_same, sum_xor, sum_split, sum_zero}
+use Rattle.dft_lanes.proofs.SumLemmas.{sum_split}
 
 -- the sum of the words that the first n words have in common
 abbrev pub common_to : ℕ → List ℕ → List ℕ → ℕ
@@ -115,7 +116,7 @@ xor_parity : (d x y : ℕ) → bits_sum d (bit_xor x y) ≡ xor (bits_sum d x) (
 unfolding bits_sum
 xor_parity d x y =
     sum_same d (λ i. bit_at (bit_xor x y) i == 1) (λ i. xor (bit_at x i == 1) (bit_at y i == 1)) (λ i less. xor_bit x y i)
-    ∙ sum_xor d (λ i. bit_at x i == 1) (λ i. bit_at y i == 1)
+    ∙ sum_add d (λ i. bit_at x i == 1) (λ i. bit_at y i == 1)
 
 -- a bit that both rows have
 common_bit : (n i : ℕ) (a b : List ℕ) → i < 64 → (bit_at (bit_and (get_or a n 0) (get_or b n 0)) i == 1) ≡ packed_bit a (64 * n + i) && packed_bit b (64 * n + i)

@@ -11,10 +11,11 @@ use Rattle.std.proofs.lemmas.List.FromFn.{get_or-map-range_with_len, length-map-
 use Rattle.std.proofs.lemmas.Simd.{length-zip2}
 use Rattle.dft_base.specs.Solutions.{xor, bit_at, sum_to, sum_over}
 use Rattle.dft_base.specs.Packed.{packed_bit}
+use Rattle.dft_base.proofs.SumLemmas.{sum_same, sum_zero}
 use Rattle.dft_lanes.specs.Rows.{bits_of, IsPacked}
 use Rattle.dft_lanes.specs.Sums.{odd_common}
 use Rattle.dft_lanes.proofs.Holds.{packed_bit-xor}
-use Rattle.dft_lanes.proofs.SumLemmas.{sum_same, sum_zero, sum_split}
+use Rattle.dft_lanes.proofs.SumLemmas.{sum_split}
 
 or_false : (a : Bool) → a ≡ a || false
 or_false true = refl

@@ -5,14 +5,8 @@ use Rattle.std.proofs.lemmas.Bool.Decides.{nat_tests}
 use Rattle.std.proofs.lemmas.List.{get_or-take}
 use Rattle.std.proofs.lemmas.List.Sums.{prefix_len_passes}
 use Rattle.dft_base.specs.Lexing.{Text}
+use Rattle.dft_base.proofs.TextLemmas.{IsPrinted}
 use Rattle.dft_lexing.specs.Blanks.{is_printed}
-
--- a byte that may stand in a name
-abbrev pub IsPrinted : ℕ → Type 0
-IsPrinted b = (33 ≤ b) × (b ≤ 126)
-
-pub printed : (b : ℕ) → is_printed b ≡ true → IsPrinted b
-printed b e = grind (arith, nat_tests)
 
 -- each byte of such a run passes
 pub run_each : (p : ℕ → Bool) → ((b : ℕ) → p b ≡ true → IsPrinted b) → (text : Text) (n : ℕ) → n ≤ prefix_len p text → All (λ b. (33 ≤ b) × (b ≤ 126)) (take n text)

@@ -2,12 +2,13 @@
 use Rattle.std.proofs.Common.{ℕ, zero, suc, ◌+◌, ◌-◌, ◌<◌, ◌≤◌, ◌≡◌, ◌==◌, ◌||◌, inl, inr, Bool, true, false, nat_lt, List, [], ◌∷◌, length, Option, None, Some, option_and_then, refl, ap, arith, ◌∙◌}
 use Rattle.std.specs.Prelude.{if◌then◌else◌}
 use Rattle.std.specs.List.{list_any}
-use Rattle.std.proofs.lemmas.Bool.{eqb-true, eq-eqb, cases_lt}
+use Rattle.std.proofs.lemmas.Bool.{eqb-true, eq-eqb, cases_lt, or_from}
 use Rattle.std.proofs.lemmas.Bool.Decides.{nat_tests}
 use Rattle.dft_base.specs.Lexing.{Text}
 use Rattle.dft_base.specs.declared.tri.Tri.{Tri}
 use Rattle.dft_base.specs.declared.tri.Tri.TheVariants.{Zero, One, Unknown}
 use Rattle.dft_base.specs.Tri.{known}
+use Rattle.dft_base.proofs.BitLemmas.{true_false}
 use Rattle.dft_netlist.specs.declared.ids.NetId.{NetId}
 use Rattle.dft_netlist.specs.Connections.{is_input, input_net}
 use Rattle.dft_netlist.specs.Drivers.{driver}
@@ -32,43 +33,20 @@ use Rattle.dft_scan_frame.proofs.Fine.{driver_fine}
 use Rattle.dft_scan_hardware.specs.declared.style.Style.TheVariants.{Edt}
 use Rattle.dft_scan_hardware.specs.Ports.{gap_in}
 use Rattle.dft_scan_equivalence.specs.Agreeing.{ports_in}
+use Rattle.dft_scan_equivalence.proofs.MadeGood.{from_at}
 use Rattle.dft_scan_behavior.specs.EdtVectors.{edt_logic}
 use Rattle.dft_scan_behavior.specs.Facts.{chain_nets, edt_hardware}
-use Rattle.dft_scan_behavior.proofs.EdtHave.{from_at}
 use Rattle.dft_scan_behavior.proofs.EdtUnder.{edt_rank}
+use Rattle.dft_scan_behavior.proofs.PortsDriven.{not_this, not_found, no_clock}
 use Rattle.dft_load_laws.specs.Loading.{LoadRun, LoadsRun}
 
 -- ---- names of ports are names of the design's ports
-
-less_apart : (a b : ℕ) → a < b → (a == b) ≡ false
-less_apart = grind arith
-
-not_this : (n : Netlist) (at : ℕ) (net : NetId) (b : Bool) → length (bits_of n.ports) ≤ at → (b ≡ true → net.0 < length (bits_of n.ports)) → is_net at (if b then Some net else None) ≡ false
-not_this n at net true past h = less_apart net.0 at (omega (arith, h refl, past))
-not_this n at net false past h = refl
-
-not_found : (n : Netlist) (config : Config) (at : ℕ) (o : Option NetId) → IsReady n config → length (bits_of n.ports) ≤ at → is_net at (option_and_then (λ (net : NetId). if is_input (driver n net.0) then Some net else None) o) ≡ false
-not_found n config at None ready past = refl
-not_found n config at (Some net) ready past = not_this n at net (is_input (driver n net.0)) past (λ is. input_less n net.0 (driver n net.0) is (driver_fine n config net.0 ready))
-
-none_any : (a b : Bool) → a ≡ false → b ≡ false → (a || b) ≡ false
-none_any false false e f = refl
-none_any true b e f = absurd cc
-none_any false true e f = absurd cc
-
-no_name : (n : Netlist) (config : Config) (at : ℕ) (names : List Text) → IsReady n config → length (bits_of n.ports) ≤ at → list_any (λ name. is_net at (input_net n name)) names ≡ false
-no_name n config at [] ready past = refl
-no_name n config at (name ∷ names) ready past = none_any (is_net at (input_net n name)) (list_any (λ other. is_net at (input_net n other)) names) (not_found n config at (find_net n name) ready past) (no_name n config at names ready past)
-
-true_false : (b : Bool) → b ≡ true → b ≡ false → ⊥
-true_false true e f = cc
-true_false false e f = cc
 
 -- a net of this sort is one of the design's ports' nets
 named_less : (n : Netlist) (config : Config) (at : ℕ) (names : List Text) → IsReady n config → list_any (λ name. is_net at (input_net n name)) names ≡ true → at < length (bits_of n.ports)
 named_less n config at names ready is = elim (cases_lt at (length (bits_of n.ports))) [
   | inl less ↦ less
-  | inr past ↦ absurd (true_false (list_any (λ name. is_net at (input_net n name)) names) is (no_name n config at names ready (omega (arith, past))))
+  | inr past ↦ absurd (true_false (list_any (λ name. is_net at (input_net n name)) names) is (no_clock n config at names ready (omega (arith, past))))
 ]
 
 -- ---- vectors

@@ -5,6 +5,7 @@ use Rattle.std.proofs.lemmas.List.{length-map}
 use Rattle.std.proofs.lemmas.Nat.{div-add-mod'}
 use Rattle.std.proofs.lemmas.List.FromFn.{get_or-map-range_with_len}
 use Rattle.std.proofs.lemmas.Option.{none-some, same_Some, slice_get_within}
+use Rattle.dft_scan_behavior.proofs.Outputs.{HasChain}
 use Rattle.dft_base.specs.Solutions.{bit_at, sum_over}
 use Rattle.dft_base.proofs.SumLemmas.{sum_same}
 use Rattle.dft_netlist.specs.declared.ids.InstanceId.{InstanceId}
@@ -34,11 +35,6 @@ row_brings config cycles chain place bits range chain_less place_less =
     ∙ sym (loads_sum config (table_of ring bits) cycles chain place range chain_less place_less)
 
 -- ---- where a cell stands there is a row
-
-record HasChain (chains : List (List InstanceId)) (chain place : ℕ) (cell : InstanceId) : Type 0 where
-  pub cells : List InstanceId
-  pub at : slice_get chains chain ≡ Some cells
-  pub here : slice_get cells place ≡ Some cell
 
 chain_by : (chains : List (List InstanceId)) (chain place : ℕ) (cell : InstanceId) (o : Option (List InstanceId)) → slice_get chains chain ≡ o → option_and_then (λ cells. slice_get cells place) o ≡ Some cell → HasChain chains chain place cell
 chain_by chains chain place cell None at is = absurd (none-some cell is)

@@ -13,6 +13,7 @@ use Rattle.dft_logic.specs.declared.circuit.Op.TheVariants as op
 use Rattle.dft_logic.specs.declared.circuit.Circuit.{Circuit}
 use Rattle.dft_logic.specs.Circuit.{meaning, op_at, logic_at, AreOrdered, IsCircuit}
 use Rattle.dft_logic.specs.Ranks.{rank_from, rank_of}
+use Rattle.dft_logic.proofs.Settlings.{all_more}
 
 -- the ranks of the nets so far
 pub record Ranking (ops : List Op) (before : List ℕ) (next : ℕ) (rank : ℕ → ℕ) : Type 0 where
@@ -27,10 +28,6 @@ chosen_same false a b h = absurd cc
 chosen_other : (t : Bool) (a b : ℕ) → t ≡ false → (if t then a else b) ≡ b
 chosen_other true a b h = absurd cc
 chosen_other false a b h = refl
-
-all_more : (before : List ℕ) (net : ℕ) (xs : List ℕ) → AllByRecursion (Has before) xs → AllByRecursion (Has (net ∷ before)) xs
-all_more before net [] all = tt
-all_more before net (x ∷ xs) all = (inr all.0, all_more before net xs all.1)
 
 -- nets whose ranks did not change, below a rank
 still_below : (before : List ℕ) (rank new : ℕ → ℕ) (r : ℕ) (xs : List ℕ) → AllByRecursion (Has before) xs → ((k : ℕ) → Has before k → new k ≡ rank k) → AreBelow rank r xs → AreBelow new r xs

@@ -4,6 +4,7 @@ use Rattle.std.specs.Prelude.{if◌then◌else◌}
 use Rattle.std.specs.List.{AllByRecursion}
 use Rattle.std.proofs.lemmas.Bool.Decides.{leb_tells}
 use Rattle.std.proofs.lemmas.List.{get_or_past, length-map}
+use Rattle.std.proofs.lemmas.Option.{slice_get_past}
 use Rattle.dft_cells.specs.declared.kind.Kind.{Kind}
 use Rattle.dft_cells.specs.declared.kind.Kind.TheVariants as kind
 use Rattle.dft_cells.specs.declared.kind.Role.{Role}
@@ -94,15 +95,10 @@ ordered_from n ports ops size means (net ∷ nets) before ordered =
 
 -- ---- past the end
 
-none_at : {X : Type 0} (xs : List X) (i : ℕ) → length xs ≤ i → slice_get xs i ≡ None
-none_at [] i far = refl
-none_at (x ∷ xs) zero far = absurd (omega arith)
-none_at (x ∷ xs) (suc i) far = none_at xs i (omega arith)
-
-past_cell : (n : Netlist) (ports : Ports) (i : ℕ) → length n.instances ≤ i → (logic_of n ports).cell i ≡ no_cell i
+pub past_cell : (n : Netlist) (ports : Ports) (i : ℕ) → length n.instances ≤ i → (logic_of n ports).cell i ≡ no_cell i
 past_cell n ports i far =
     let P : Option Instance → Cell = λ o. cell_or_none i (if is_flip_flop (kind_of n.library o) then modelled_of n ports i (pins_of n i) else None) in
-    ap P (none_at n.instances i far)
+    ap P (slice_get_past n.instances i far)
 
 -- ---- a lock-up's domain is a clock
 

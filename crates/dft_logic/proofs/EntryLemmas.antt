@@ -146,7 +146,7 @@ entry_still l p origin shown settled c entry is up =
     (where_up (p.pulsed d) (forced_entry (l.cell c).force p.ports taken) entry up is)
     (λ was found. taken_still shown d origin (l.cell c).scan (value_from settled) (l.cell c).input was found)
 
-every : (nets : List ℕ) → HasAll (λ net. true) nets
+pub every : (nets : List ℕ) → HasAll (λ net. true) nets
 every [] = tt
 every (net ∷ nets) = (refl, every nets)
 

@@ -29,7 +29,7 @@ pub record Filling {V W : Type 0} (f : V → W) (none : V) (given : (ℕ → W) 
 pub filling_starts : {V W : Type 0} (f : V → W) (none : V) (given : (ℕ → W) → ℕ → Meaning → W) (ops : List Op) (order : List NetId) (values : List V) → AreOrdered ops [] (numbers_of order) → Filling f none given ops order values 0
 filling_starts f none given ops order values ordered = record { before = []; rest = ordered; closed = λ k h. absurd h; done = λ k h. absurd h; either = λ k h. inr h }
 
-front : (order : List NetId) (j : ℕ) (net : NetId) → j < length order → net ≡ get_or order j net → drop j order ≡ net ∷ drop (j + 1) order
+pub front : (order : List NetId) (j : ℕ) (net : NetId) → j < length order → net ≡ get_or order j net → drop j order ≡ net ∷ drop (j + 1) order
 front order j net less is = rw (add-one) (drop-cons order j net less ∙ ap (λ (n : NetId). n ∷ drop (suc j) order) (sym is))
 
 pub filling_more : {V W : Type 0} (f : V → W) (none : V) (given : (ℕ → W) → ℕ → Meaning → W) → Depends given → (ops : List Op) (order : List NetId) (values : List V) (j : ℕ) (net : NetId) (t : V) → j < length order → net ≡ get_or order j net →

@@ -1,7 +1,7 @@
 -- Lists settle in their order.
 use Rattle.std.proofs.Common.{ℕ, Bool, true, false, List, [], ◌∷◌, ◌≡◌, ◌==◌, ◌⊎◌, inl, inr, refl, sym, ap, subst, ◌∙◌}
 use Rattle.std.specs.Prelude.{◌||◌}
-use Rattle.std.proofs.lemmas.Bool.{eqb-true}
+use Rattle.std.proofs.lemmas.Bool.{eqb-true, cases_Bool, or_left, or_right, or_cases}
 use Rattle.dft_base.specs.declared.tri.Tri.{Tri}
 use Rattle.dft_netlist.specs.Logic.{Logic, Meaning, reads}
 use Rattle.dft_netlist.specs.Settled.{value_given}
@@ -12,31 +12,16 @@ use Rattle.dft_logic.proofs.ReadLemmas.{Agree, given_agrees, set_agrees}
 
 -- ---- what is listed
 
-cases : (b : Bool) → (b ≡ true) ⊎ (b ≡ false)
-cases true = inl refl
-cases false = inr refl
-
-or_first : (b c : Bool) → b ≡ true → (b || c) ≡ true
-or_first b c is = rw is refl
-
-or_second : (b c : Bool) → c ≡ true → (b || c) ≡ true
-or_second true c is = refl
-or_second false c is = is
-
-or_either : (b c : Bool) → (b || c) ≡ true → (b ≡ true) ⊎ (c ≡ true)
-or_either true c is = inl refl
-or_either false c is = inr is
-
 more_listed : (before : List ℕ) (net : ℕ) (nets : List ℕ) → HasAll (is_listed before) nets → HasAll (is_listed (net ∷ before)) nets
 more_listed before net [] all = tt
-more_listed before net (k ∷ nets) all = (or_second (net == k) (is_listed before k) all.0, more_listed before net nets all.1)
+more_listed before net (k ∷ nets) all = (or_right (net == k) (is_listed before k) all.0, more_listed before net nets all.1)
 
 wider : (some all : ℕ → Bool) (nets : List ℕ) → ((k : ℕ) → some k ≡ true → all k ≡ true) → HasAll some nets → HasAll all nets
 wider some all [] over has = tt
 wider some all (net ∷ nets) over has = (over net has.0, wider some all nets over has.1)
 
 closed_more : (l : Logic) (before : List ℕ) (net : ℕ) → IsStrobeClosed l (is_listed before) → HasAll (is_listed before) (reads (l.net net)) → IsStrobeClosed l (is_listed (net ∷ before))
-closed_more l before net closed read k is = elim (or_either (net == k) (is_listed before k) is) [
+closed_more l before net closed read k is = elim (or_cases (net == k) (is_listed before k) is) [
   | inl same ↦ (let e : net ≡ k = eqb-true net k same in more_listed before net (reads (l.net k)) (subst (λ (n : ℕ). HasAll (is_listed before) (reads (l.net n))) e read))
   | inr old ↦ more_listed before net (reads (l.net k)) (closed k old)
 ]
@@ -49,7 +34,7 @@ strobe_agrees ports flops v w net m same =
     given_agrees (strobe_from ports flops v) (strobe_from ports flops w) (λ d. v) (λ d. w) 0 net m (λ k. refl) (λ is. refl) (λ c inverted is. refl) (λ c e source h. h) same
 
 stays : (l : Logic) (ports flops : ℕ → Tri) (net : ℕ) (values : ℕ → Tri) (before : List ℕ) → is_listed before net ≡ false → (k : ℕ) → is_listed before k ≡ true → values k ≡ settled_at l ports flops net values k
-stays l ports flops net values before new k old = elim (cases (net == k)) [
+stays l ports flops net values before new k old = elim (cases_Bool (net == k)) [
   | inl same ↦ (let e : is_listed before net ≡ is_listed before k = ap (is_listed before) (eqb-true net k same) in absurd cc)
   | inr other ↦ rw other refl
 ]
@@ -65,7 +50,7 @@ on_more : (l : Logic) (ports flops : ℕ → Tri) (before : List ℕ) (net : ℕ
 on_more l ports flops before net values new closed read on k is =
     let after : ℕ → Tri = settled_at l ports flops net values in
     let agree : (nets : List ℕ) → HasAll (is_listed before) nets → Agree values after nets = λ nets all. set_agrees (is_listed before) values after nets all (stays l ports flops net values before new) in
-    elim (or_either (net == k) (is_listed before k) is) [
+    elim (or_cases (net == k) (is_listed before k) is) [
       | inl same ↦ settles l ports flops net values k same
           ∙ strobe_agrees ports flops values after k (l.net k) (agree (reads (l.net k)) (subst (λ (n : ℕ). HasAll (is_listed before) (reads (l.net n))) (eqb-true net k same) read))
       | inr old ↦ sym (stays l ports flops net values before new k old) ∙ on k old ∙ strobe_agrees ports flops values after k (l.net k) (agree (reads (l.net k)) (closed k old))
@@ -75,9 +60,9 @@ on_more l ports flops before net values new closed read on k is =
 
 -- what comes before a list, or in it
 moved : (before : List ℕ) (net : ℕ) (nets : List ℕ) (k : ℕ) → (is_listed before k ≡ true) ⊎ (is_listed (net ∷ nets) k ≡ true) → (is_listed (net ∷ before) k ≡ true) ⊎ (is_listed nets k ≡ true)
-moved before net nets k (inl old) = inl (or_second (net == k) (is_listed before k) old)
-moved before net nets k (inr is) = elim (or_either (net == k) (is_listed nets k) is) [
-  | inl same ↦ inl (or_first (net == k) (is_listed before k) same)
+moved before net nets k (inl old) = inl (or_right (net == k) (is_listed before k) old)
+moved before net nets k (inr is) = elim (or_cases (net == k) (is_listed nets k) is) [
+  | inl same ↦ inl (or_left (net == k) (is_listed before k) same)
   | inr later ↦ inr later
 ]
 
@@ -95,11 +80,11 @@ list_is_settled l ports flops nets values list k is = list_settled l ports flops
 list_closed : (l : Logic) (before nets all : List ℕ) → IsListFrom l before nets → ((k : ℕ) → is_listed before k ≡ true → is_listed all k ≡ true) → ((k : ℕ) → is_listed nets k ≡ true → is_listed all k ≡ true) →
     (k : ℕ) → is_listed nets k ≡ true → HasAll (is_listed all) (reads (l.net k))
 list_closed l before [] all list old later k is = absurd cc
-list_closed l before (net ∷ nets) all list old later k is = elim (or_either (net == k) (is_listed nets k) is) [
+list_closed l before (net ∷ nets) all list old later k is = elim (or_cases (net == k) (is_listed nets k) is) [
   | inl same ↦ wider (is_listed before) (is_listed all) (reads (l.net k)) old (subst (λ (n : ℕ). HasAll (is_listed before) (reads (l.net n))) (eqb-true net k same) list.1)
   | inr rest ↦ list_closed l (net ∷ before) nets all list.2
-      (λ j has. elim (or_either (net == j) (is_listed before j) has) [ inl same ↦ later j (or_first (net == j) (is_listed nets j) same) | inr was ↦ old j was ])
-      (λ j has. later j (or_second (net == j) (is_listed nets j) has)) k rest
+      (λ j has. elim (or_cases (net == j) (is_listed before j) has) [ inl same ↦ later j (or_left (net == j) (is_listed nets j) same) | inr was ↦ old j was ])
+      (λ j has. later j (or_right (net == j) (is_listed nets j) has)) k rest
 ]
 
 pub list_is_closed : ListIsClosed

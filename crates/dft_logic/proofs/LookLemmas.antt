@@ -12,15 +12,12 @@ use Rattle.dft_logic.specs.Ranks.{rank_of}
 use Rattle.dft_logic.proofs.CircuitRanks.{circuit_ranked}
 use Rattle.dft_logic.proofs.NeededLemmas.{look_of_needed}
 use Rattle.dft_logic.proofs.PlanLemmas.{needs_of, has_needs, needs_closed, needs_on}
-
-all_true : (xs : List ℕ) → HasAll (λ net. true) xs
-all_true [] = tt
-all_true (x ∷ xs) = (refl, all_true xs)
+use Rattle.dft_logic.proofs.EntryLemmas.{every}
 
 pub look_of_all : (x : Circuit) (ports flops : ℕ → Tri) (values : List Tri) (nets : List NetId) → IsCircuit x → IsStrobe (logic_at x) ports flops (value_at values) →
     AreSeen (logic_at x) ports flops nets (map (λ net. value_at values net.0) nets)
 look_of_all x ports flops values nets is settled =
-    look_of_needed (logic_at x) (rank_of x) ports flops (λ net. true) (value_at values) nets (circuit_ranked x is) (λ net up. all_true (reads ((logic_at x).net net))) (λ net up. settled net) (all_true (numbers_of nets))
+    look_of_needed (logic_at x) (rank_of x) ports flops (λ net. true) (value_at values) nets (circuit_ranked x is) (λ net up. every (reads ((logic_at x).net net))) (λ net up. settled net) (every (numbers_of nets))
 
 pub look_of_marked : (x : Circuit) (ports flops : ℕ → Tri) (marked : List Bool) (values : List Tri) (nets : List NetId) → IsCircuit x → length values ≡ length x.ops.items → IsStrobeClosed (logic_at x) (flag_at marked) →
     IsStrobeOn (logic_at x) ports flops (flag_at marked) (value_at values) → ((k : ℕ) → k < length x.ops.items → Has (numbers_of nets) k → flag_at marked k ≡ true) →

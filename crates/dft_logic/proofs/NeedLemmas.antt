@@ -4,15 +4,16 @@ use Rattle.std.specs.Prelude.{if◌then◌else◌}
 use Rattle.std.specs.List.{AllByRecursion}
 use Rattle.std.proofs.lemmas.Bool.Decides.{leb_tells}
 use Rattle.std.proofs.lemmas.List.{get_or_past, drop_all, append-nil}
+use Rattle.std.proofs.lemmas.Bool.{cases_Bool}
 use Rattle.dft_netlist.specs.declared.ids.NetId.{NetId}
 use Rattle.dft_netlist.specs.Logic.{reads}
 use Rattle.dft_netlist.specs.Orders.{Has, numbers_of}
+use Rattle.dft_netlist.proofs.RankLemmas.{has_all}
 use Rattle.dft_logic.specs.Needs.{HasAll, IsStrobeClosed}
 use Rattle.dft_logic.specs.declared.circuit.Op.{Op}
 use Rattle.dft_logic.specs.declared.circuit.Op.TheVariants.{Free}
 use Rattle.dft_logic.specs.declared.circuit.Circuit.{Circuit}
 use Rattle.dft_logic.specs.Circuit.{meaning, op_at, logic_at, AreOrdered, IsCircuit, flag_at}
-use Rattle.dft_logic.proofs.Settlings.{all_has}
 
 -- ---- orders
 
@@ -30,7 +31,7 @@ ordered_at ops before (net ∷ order) (suc j) o = ordered_at ops (net.0 ∷ befo
 
 -- a net of an order is not settled from itself or from a later one
 reads_earlier : (ops : List Op) (before : List ℕ) (net : ℕ) (nets : List ℕ) → AreOrdered ops before (net ∷ nets) → (k : ℕ) → Has (reads (meaning (op_at ops net))) k → Has (net ∷ nets) k → ⊥
-reads_earlier ops before net nets o k read later = ordered_apart ops before (net ∷ nets) o k later (all_has (Has before) (reads (meaning (op_at ops net))) k o.2 read)
+reads_earlier ops before net nets o k read later = ordered_apart ops before (net ∷ nets) o k later (has_all (Has before) (reads (meaning (op_at ops net))) k o.2 read)
 
 front : (order : List NetId) (j : ℕ) (d : NetId) → j < length order → numbers_of (drop j order) ≡ (get_or order j d).0 ∷ numbers_of (drop (suc j) order)
 front order j d less = ap numbers_of (drop-cons order j d less)
@@ -39,7 +40,7 @@ front order j d less = ap numbers_of (drop-cons order j d less)
 reads_within : (ops : List Op) (before nets : List ℕ) → AreOrdered ops before nets → (k : ℕ) → Has nets k → (m : ℕ) → Has (reads (meaning (op_at ops k))) m → Has before m ⊎ Has nets m
 reads_within ops before [] o k h m read = absurd h
 reads_within ops before (n ∷ ns) o k h m read = elim h [
-  | inl e ↦ inl (all_has (Has before) (reads (meaning (op_at ops n))) m o.2 (subst (λ (i : ℕ). Has (reads (meaning (op_at ops i))) m) e read))
+  | inl e ↦ inl (has_all (Has before) (reads (meaning (op_at ops n))) m o.2 (subst (λ (i : ℕ). Has (reads (meaning (op_at ops i))) m) e read))
   | inr rest ↦ elim (reads_within ops (n ∷ before) ns o.3 k rest m read) [
     | inl was ↦ elim was [ inl e ↦ inr (inl e) | inr older ↦ inl older ]
     | inr later ↦ inr (inr later)
@@ -137,10 +138,6 @@ both_all : (P Q R : ℕ → Type 0) (xs : List ℕ) → AllByRecursion P xs → 
 both_all P Q R [] p q r = tt
 both_all P Q R (x ∷ xs) p q r = (r x p.0 q.0, both_all P Q R xs p.1 q.1 r)
 
-cases : (b : Bool) → (b ≡ true) ⊎ (b ≡ false)
-cases true = inl refl
-cases false = inr refl
-
 -- the marked nets of an order are in order, where the marks are closed under reading
 kept_ordered : (ops : List Op) (flags : List Bool) (before kept : List ℕ) (order : List NetId) → AreOrdered ops before (numbers_of order) →
     ((k : ℕ) → flag_at flags k ≡ true → HasAll (flag_at flags) (reads (meaning (op_at ops k)))) → ((k : ℕ) → Has before k → flag_at flags k ≡ true → Has kept k) → ((k : ℕ) → Has kept k → Has before k) →
@@ -148,7 +145,7 @@ kept_ordered : (ops : List Op) (flags : List Bool) (before kept : List ℕ) (ord
 kept_ordered ops flags before kept [] o closed up old = tt
 kept_ordered ops flags before kept (net ∷ order) o closed up old =
     let R : Bool → Type 0 = λ t. AreOrdered ops kept (numbers_of (if t then net ∷ kept_of flags order else kept_of flags order)) in
-    elim (cases (flag_at flags net.0)) [
+    elim (cases_Bool (flag_at flags net.0)) [
       | inl is ↦ subst R (sym is) (
         (λ h. o.0 (old net.0 h)),
         o.1,
@@ -166,7 +163,7 @@ kept_has : (flags : List Bool) (order : List NetId) (k : ℕ) → Has (numbers_o
 kept_has flags [] k h f = absurd h
 kept_has flags (net ∷ order) k h f =
     let R : Bool → Type 0 = λ t. Has (numbers_of (if t then net ∷ kept_of flags order else kept_of flags order)) k in
-    elim (cases (flag_at flags net.0)) [
+    elim (cases_Bool (flag_at flags net.0)) [
       | inl is ↦ subst R (sym is) (elim h [ inl e ↦ inl e | inr rest ↦ inr (kept_has flags order k rest f) ])
       | inr is_not ↦ subst R (sym is_not) (elim h [ inl e ↦ absurd (true≢false (sym f ∙ ap (flag_at flags) e ∙ is_not)) | inr rest ↦ kept_has flags order k rest f ])
     ]

@@ -4,6 +4,7 @@ use Rattle.std.specs.Prelude.{◌||◌, if◌then◌else◌}
 use Rattle.std.proofs.Math.Dec.{leb}
 use Rattle.std.proofs.lemmas.Bool.Decides.{leb_tells}
 use Rattle.std.proofs.lemmas.List.{get_or_past, length-map}
+use Rattle.std.proofs.lemmas.Bool.{or_left, or_right}
 use Rattle.dft_base.specs.declared.tri.Tri.{Tri}
 use Rattle.dft_base.specs.declared.tri.Tri.TheVariants.{Zero, One, Unknown}
 use Rattle.dft_netlist.specs.Drivers.{Source, Net, Tied, Loose, nets_of}
@@ -26,6 +27,7 @@ use Rattle.dft_logic.specs.Ranks.{rank_of}
 use Rattle.dft_logic.proofs.EntryLemmas.{pass_of_needed}
 use Rattle.dft_logic.proofs.CircuitRanks.{circuit_ranked}
 use Rattle.dft_logic.specs.EntryTables.{scan_needs, entry_needs, entry_for}
+use Rattle.dft_logic.proofs.Writings.{cell_past}
 
 -- ---- what a flip-flop needs
 
@@ -96,13 +98,6 @@ computes_needed k cell ports at h = taken_needed k cell.scan at cell.input (forc
 abbrev pub needs_of : (count : ℕ) (marked : List Bool) → ℕ → Bool
 needs_of count marked k = flag_at marked k || leb count k
 
-or_first : (b c : Bool) → b ≡ true → (b || c) ≡ true
-or_first b c is = rw is refl
-
-or_second : (b c : Bool) → c ≡ true → (b || c) ≡ true
-or_second true c is = refl
-or_second false c is = is
-
 or_only : (b c : Bool) → c ≡ false → (b || c) ≡ true → b ≡ true
 or_only true c down is = refl
 or_only false c down is = absurd (true≢false (sym is ∙ down))
@@ -110,13 +105,13 @@ or_only false c down is = absurd (true≢false (sym is ∙ down))
 pub has_needs : (count : ℕ) (marked : List Bool) (nets : List ℕ) → ((k : ℕ) → k < count → Has nets k → flag_at marked k ≡ true) → HasAll (needs_of count marked) nets
 has_needs count marked [] each = tt
 has_needs count marked (n ∷ ns) each = (
-  elim (leb_tells count n) [ inl out ↦ or_second (flag_at marked n) (leb count n) out.0 | inr live ↦ or_first (flag_at marked n) (leb count n) (each n live.1 (inl refl)) ],
+  elim (leb_tells count n) [ inl out ↦ or_right (flag_at marked n) (leb count n) out.0 | inr live ↦ or_left (flag_at marked n) (leb count n) (each n live.1 (inl refl)) ],
   has_needs count marked ns (λ k live h. each k live (inr h)),
 )
 
 all_needs : (count : ℕ) (marked : List Bool) (nets : List ℕ) → HasAll (flag_at marked) nets → HasAll (needs_of count marked) nets
 all_needs count marked [] all = tt
-all_needs count marked (n ∷ ns) all = (or_first (flag_at marked n) (leb count n) all.0, all_needs count marked ns all.1)
+all_needs count marked (n ∷ ns) all = (or_left (flag_at marked n) (leb count n) all.0, all_needs count marked ns all.1)
 
 pub needs_closed : (x : Circuit) (marked : List Bool) → IsStrobeClosed (logic_at x) (flag_at marked) → IsStrobeClosed (logic_at x) (needs_of (length x.ops.items) marked)
 unfolding logic_at
@@ -161,9 +156,6 @@ past_computes : (up : Bool) → or_keeps (past up) ≡ Computes → ⊥
 past_computes true is = absurd cc
 past_computes false is = absurd cc
 
-past_cell : (flops : List FlipFlop) (c : ℕ) → length flops ≤ c → cell_at (map cell_of flops) c ≡ no_cell c
-past_cell flops c out = get_or_past (map cell_of flops) c (no_cell c) (let e = length-map flops cell_of in omega arith)
-
 -- What the parts give comes to the pulse at a least map.
 pub planned : (x : Circuit) (p : Pulse) (origin : ℕ → Option ℕ) (shown : ℕ → Shown) (table : ℕ → Entry) (marked : List Bool) (values next : List Tri) → IsCircuit x → length values ≡ length x.ops.items →
     AreOrigins (logic_at x) origin → IsShownOn (logic_at x) p.pulsed (λ net. true) shown → IsStrobeClosed (logic_at x) (flag_at marked) → IsStrobeOn (logic_at x) p.ports p.old (flag_at marked) (value_at values) →
@@ -180,15 +172,15 @@ planned x p origin shown table marked values next is len origins on closed settl
     let entries : ℕ → Entry = λ c. or_keeps (found (cells c)) in
     let same : (c : ℕ) → c < length x.flops.items → entries c ≡ table c = λ c live. ap or_keeps (has c live) in
     let given : (c : ℕ) → found (cells c) ≡ Some (entries c) = λ c. elim (leb_tells (length x.flops.items) c) [
-      | inl out ↦ (let P : Cell → Type 0 = λ cell. found cell ≡ Some (or_keeps (found cell)) in subst P (sym (past_cell x.flops.items c out.1)) (past_there (p.pulsed 0)))
+      | inl out ↦ (let P : Cell → Type 0 = λ cell. found cell ≡ Some (or_keeps (found cell)) in subst P (sym (cell_past x.flops.items c out.1)) (past_there (p.pulsed 0)))
       | inr live ↦ there (found (cells c)) (table c) (has c live.1)
     ] in
     let enables : (c : ℕ) (scan : Scan) → (cells c).scan ≡ Some scan → HasAll (needs_of count marked) (nets_of (scan.enable ∷ [])) = λ c scan at. elim (leb_tells (length x.flops.items) c) [
-      | inl out ↦ (let none : (cells c).scan ≡ None = ap (λ (cell : Cell). cell.scan) (past_cell x.flops.items c out.1) in absurd cc)
+      | inl out ↦ (let none : (cells c).scan ≡ None = ap (λ (cell : Cell). cell.scan) (cell_past x.flops.items c out.1) in absurd cc)
       | inr live ↦ has_needs count marked (nets_of (scan.enable ∷ [])) (λ k less h. marks c live.1 k less (enable_needed k (cells c) (table c) scan at h))
     ] in
     let reading : (c net : ℕ) → entries c ≡ Reads net → needs_of count marked net ≡ true = λ c net at. elim (leb_tells (length x.flops.items) c) [
-      | inl out ↦ (let P : Cell → Type 0 = λ cell. or_keeps (found cell) ≡ Reads net in absurd (past_reads (p.pulsed 0) net (subst P (past_cell x.flops.items c out.1) at)))
+      | inl out ↦ (let P : Cell → Type 0 = λ cell. or_keeps (found cell) ≡ Reads net in absurd (past_reads (p.pulsed 0) net (subst P (cell_past x.flops.items c out.1) at)))
       | inr live ↦ (let N : Entry → Type 0 = λ e. Has (entry_needs (cells c) e) net in
           (has_needs count marked (net ∷ []) (λ k less h. elim h [
             | inl e ↦ subst (λ (i : ℕ). flag_at marked i ≡ true) (sym e) (marks c live.1 net (subst (λ (i : ℕ). i < count) e less) (subst N (sym at ∙ same c live.1) (inl refl)))
@@ -196,7 +188,7 @@ planned x p origin shown table marked values next is len origins on closed settl
           ])).0)
     ] in
     let computing : (c : ℕ) → entries c ≡ Computes → HasAll (needs_of count marked) (nets_of (next_reads (cells c) p.ports (value_from v))) = λ c at. elim (leb_tells (length x.flops.items) c) [
-      | inl out ↦ (let P : Cell → Type 0 = λ cell. or_keeps (found cell) ≡ Computes in absurd (past_computes (p.pulsed 0) (subst P (past_cell x.flops.items c out.1) at)))
+      | inl out ↦ (let P : Cell → Type 0 = λ cell. or_keeps (found cell) ≡ Computes in absurd (past_computes (p.pulsed 0) (subst P (cell_past x.flops.items c out.1) at)))
       | inr live ↦ has_needs count marked (nets_of (next_reads (cells c) p.ports (value_from v)))
           (λ k less h. (let N : Entry → Type 0 = λ e. Has (entry_needs (cells c) e) k in marks c live.1 k less (subst N (sym at ∙ same c live.1) (computes_needed k (cells c) p.ports (value_from v) h))))
     ] in

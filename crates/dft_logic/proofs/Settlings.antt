@@ -20,18 +20,14 @@ use Rattle.dft_logic.specs.Circuit.{meaning, op_at, lockup_from, leaves_from, Ar
 
 -- ---- lists
 
-pub all_has : (P : ℕ → Type 0) (xs : List ℕ) (k : ℕ) → AllByRecursion P xs → Has xs k → P k
-all_has P [] k all h = absurd h
-all_has P (x ∷ xs) k all h = elim h [ inl e ↦ subst P (sym e) all.0 | inr more ↦ all_has P xs k all.1 more ]
-
 -- ---- a value depends on what it reads
 
-source_agree : (P : ℕ → Type 0) (v w : ℕ → Tri) (source : Source) → AllByRecursion P (nets_of (source ∷ [])) → ((k : ℕ) → P k → v k ≡ w k) → value_from v source ≡ value_from w source
+pub source_agree : (P : ℕ → Type 0) (v w : ℕ → Tri) (source : Source) → AllByRecursion P (nets_of (source ∷ [])) → ((k : ℕ) → P k → v k ≡ w k) → value_from v source ≡ value_from w source
 source_agree P v w (Net net) all same = same net all.0
 source_agree P v w (Tied bit) all same = refl
 source_agree P v w (Loose i pin) all same = refl
 
-inputs_agree : (P : ℕ → Type 0) (v w : ℕ → Tri) (inputs : List Source) → AllByRecursion P (nets_of inputs) → ((k : ℕ) → P k → v k ≡ w k) → map (value_from v) inputs ≡ map (value_from w) inputs
+pub inputs_agree : (P : ℕ → Type 0) (v w : ℕ → Tri) (inputs : List Source) → AllByRecursion P (nets_of inputs) → ((k : ℕ) → P k → v k ≡ w k) → map (value_from v) inputs ≡ map (value_from w) inputs
 inputs_agree P v w [] all same = refl
 inputs_agree P v w (Net net ∷ inputs) all same = λ t. same net all.0 t ∷ inputs_agree P v w inputs all.1 same t
 inputs_agree P v w (Tied bit ∷ inputs) all same = ap (λ (us : List Tri). known bit ∷ us) (inputs_agree P v w inputs all same)

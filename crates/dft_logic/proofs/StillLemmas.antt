@@ -10,6 +10,7 @@ use Rattle.dft_netlist.specs.Logic.{Logic, Meaning, Clock, Flop}
 use Rattle.dft_netlist.specs.Settled.{value_from}
 use Rattle.dft_abstract.specs.Cycle.{Pulse, view_sources, AreViews, next_value, IsClosed, IsLeast}
 use Rattle.dft_abstract.proofs.Views.{views_exist}
+use Rattle.dft_abstract.proofs.OneDomain.{raised, raised_old, above_equal}
 use Rattle.dft_logic.specs.Needs.{strobe_from, next_reads}
 use Rattle.dft_logic.specs.Moves.{moves, is_other_clock}
 use Rattle.dft_logic.specs.Laws.{StillIsOne, StillHasOneNext, StillIsStrobe, StillNextIsStrobe, OnePass}
@@ -63,17 +64,6 @@ still_next_is_strobe l rank p poss needs view settled ranked closed still uncloc
     (λ k need. sym (still_is_strobe l rank p poss needs view settled ranked closed still unclocked views strobe d k need))))
 
 -- ---- the map of one pass
-
--- the old value, joined with the next one where the domain pulses
-abbrev raised : (up : Bool) (old next : Tri) → Tri
-raised up old next = if up then join old next else old
-
-raised_old : (up : Bool) (old next : Tri) → AboveTri (raised up old next) old
-raised_old true old next = join_over_left old next old (above_self old)
-raised_old false old next = above_self old
-
-above_equal : (t u v : Tri) → u ≡ v → AboveTri t u → AboveTri t v
-above_equal t u v is h = rw is at h
 
 raised_next : (up : Bool) (old next its : Tri) → up ≡ true → its ≡ next → AboveTri (raised up old next) its
 raised_next true old next its is same = rw same (join_over_right old next next (above_self next))

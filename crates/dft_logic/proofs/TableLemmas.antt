@@ -4,15 +4,12 @@ use Rattle.std.proofs.lemmas.Bool.Decides.{eqb_tells}
 use Rattle.std.proofs.lemmas.List.{drop_all, length-replicate}
 use Rattle.dft_netlist.specs.Drivers.{Source, Net, Tied, Loose, nets_of}
 use Rattle.dft_netlist.specs.Orders.{Has}
+use Rattle.dft_netlist.proofs.StandLemmas.{has_left}
 use Rattle.dft_logic.specs.declared.circuit.Operand.{Operand}
 use Rattle.dft_logic.specs.Circuit.{source_at}
 use Rattle.dft_logic.specs.Tables.{list_at, IsAdded, IsTable}
 
 -- ---- the numbers of two lists
-
-pub has_left : (xs ys : List ℕ) (k : ℕ) → Has xs k → Has (xs ++ ys) k
-has_left [] ys k h = absurd h
-has_left (x ∷ xs) ys k h = elim h [ inl e ↦ inl e | inr more ↦ inr (has_left xs ys k more) ]
 
 pub has_right : (xs ys : List ℕ) (k : ℕ) → Has ys k → Has (xs ++ ys) k
 has_right [] ys k h = h

@@ -1,7 +1,7 @@
 -- The pins of an instance, one after another.
 use Rattle.std.proofs.Common.{ℕ, zero, suc, Bool, false, List, [], ◌∷◌, ◌≡◌, ◌<◌, ◌≤◌, ◌+◌, ◌++◌, None, Some, length, map, drop, drop-cons, add-one, refl, sym, ap, ◌∙◌, subst, get_or, slice_get, append_assoc, arith}
 use Rattle.std.specs.Prelude.{if◌then◌else◌}
-use Rattle.std.proofs.lemmas.List.{get_or_default, drop_all}
+use Rattle.std.proofs.lemmas.List.{get_or_default, drop_all, drop_more}
 use Rattle.std.proofs.lemmas.Option.{get_or_from_slice_get, slice_get-get_or}
 use Rattle.dft_cells.specs.declared.kind.Role.{Role}
 use Rattle.dft_netlist.specs.declared.instance.Signal.{Signal}
@@ -15,25 +15,22 @@ use Rattle.dft_logic.specs.declared.wires.Wire.{Wire}
 use Rattle.dft_logic.specs.Circuit.{source_at}
 use Rattle.dft_logic.specs.Compiling.{Wired, wired_at, wired_by, found_in, IsLiveOperand, AreLiveWires}
 
-pub drop_front : {X : Type 0} (xs : List X) (j : ℕ) (d : X) → j < length xs → drop j xs ≡ get_or xs j d ∷ drop (j + 1) xs
-drop_front xs j d less = rw (add-one) (drop-cons xs j d less)
-
 -- a pin of another role is passed over
 pub find_more : (wires : List Wire) (role : Role) (j : ℕ) (d : Wire) → j < length wires → same_role role (get_or wires j d).role ≡ false →
     found_in role (map wired_at (drop (j + 1) wires)) ≡ found_in role (map wired_at (drop j wires))
 find_more wires role j d less other =
-    sym (ap (λ (l : List Wire). found_in role (map wired_at l)) (drop_front wires j d less)
+    sym (ap (λ (l : List Wire). found_in role (map wired_at l)) (drop_more wires j d less)
     ∙ ap (λ (b : Bool). if b then Some (source_at (get_or wires j d).source) else found_in role (map wired_at (drop (j + 1) wires))) other)
 
 pub live_more : (wires : List Wire) (j : ℕ) (d : Wire) (count : ℕ) → j < length wires → AreLiveWires count (drop j wires) → IsLiveOperand count (get_or wires j d).source × AreLiveWires count (drop (j + 1) wires)
-live_more wires j d count less live = let P : List Wire → Type 0 = λ l. AreLiveWires count l in subst P (drop_front wires j d less) live
+live_more wires j d count less live = let P : List Wire → Type 0 = λ l. AreLiveWires count l in subst P (drop_more wires j d less) live
 
 -- one pin more
 pub wire_more : (roles : List Role) (signals : List Signal) (j : ℕ) (r : Role) (s : Signal) → j < length roles → j < length signals → get_or roles j r ≡ r → get_or signals j s ≡ s →
     connections_from j (drop j roles) (drop j signals) ≡ record { role = r; pin = j; to = s } ∷ connections_from (j + 1) (drop (j + 1) roles) (drop (j + 1) signals)
 wire_more roles signals j r s a b rr ss =
-    let f : drop j roles ≡ r ∷ drop (j + 1) roles = drop_front roles j r a ∙ ap (λ (x : Role). x ∷ drop (j + 1) roles) rr in
-    let g : drop j signals ≡ s ∷ drop (j + 1) signals = drop_front signals j s b ∙ ap (λ (x : Signal). x ∷ drop (j + 1) signals) ss in
+    let f : drop j roles ≡ r ∷ drop (j + 1) roles = drop_more roles j r a ∙ ap (λ (x : Role). x ∷ drop (j + 1) roles) rr in
+    let g : drop j signals ≡ s ∷ drop (j + 1) signals = drop_more signals j s b ∙ ap (λ (x : Signal). x ∷ drop (j + 1) signals) ss in
     (λ i. connections_from j (f i) (g i)) ∙ rw (add-one) refl
 
 pub wire_step : (so_far : List Wired) (w : Wired) (whole : List Wired) (number : ℕ) (roles : List Role) (signals : List Signal) (j : ℕ) (r : Role) (s : Signal) → j < length roles → j < length signals → get_or roles j r ≡ r → get_or signals j s ≡ s →

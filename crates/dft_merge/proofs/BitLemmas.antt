@@ -6,6 +6,7 @@ use Rattle.std.proofs.lemmas.Bool.{eqb-true, or_parts}
 use Rattle.std.proofs.lemmas.Option.{same_Some}
 use Rattle.std.proofs.lemmas.List.{drop_all, drop_more, with_items_is}
 use Rattle.std.proofs.lemmas.List.Elements.{All-more, All-weaker, filter_agree}
+use Rattle.dft_gf2.proofs.OneStated.{xor_same}
 use Rattle.dft_base.specs.Solutions.{xor}
 use Rattle.dft_merge.specs.Rows.{or_else}
 use Rattle.dft_merge.specs.Placement.{bit_in, has_opposite, is_opposite, missing}
@@ -28,9 +29,6 @@ held_case number P g o k b false other here later is = later is
 pub bit_held : {T : Type 0} (number : T → ℕ) (P : ℕ → Bool → Type 0) (given : List (T × Bool)) (k : ℕ) (b : Bool) → Each (Has number P) given → bit_in number given k ≡ Some b → P k b
 bit_held number P [] k b each is = absurd cc
 bit_held number P (g ∷ more) k b each is = held_case number P g (bit_in number more k) k b (number g.0 == k) refl each.0 (bit_held number P more k b each.1) is
-
-xor_same : (a b : Bool) → xor a b ≡ false → a ≡ b
-xor_same = grind arith
 
 covered_case : {T : Type 0} (number : T → ℕ) (P : ℕ → Bool → Type 0) (pattern : List (T × Bool)) (g : T × Bool) (more : List (T × Bool)) (new : List (T × Bool)) (o : Option Bool) → bit_in number pattern (number g.0) ≡ o →
     (is_opposite o g.1 || has_opposite number pattern more) ≡ false → Each (Has number P) pattern → Each (Has number P) (cond (is_none o) (g ∷ new) new) →

@@ -19,7 +19,7 @@ use Rattle.dft_merge.specs.Slots.{AreRows}
 
 -- ---- places in a chain
 
-same_cell : (a b : InstanceId) → a.0 ≡ b.0 → a ≡ b
+pub same_cell : (a b : InstanceId) → a.0 ≡ b.0 → a ≡ b
 same_cell a b same = λ i. record { 0 = same i }
 
 abbrev is_cell : InstanceId → InstanceId → Bool

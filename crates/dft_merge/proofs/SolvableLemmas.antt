@@ -3,7 +3,7 @@ use Rattle.std.proofs.Common.{ℕ, zero, suc, Bool, true, false, cond, List, [],
 use Rattle.std.specs.Prelude.{not}
 use Rattle.std.proofs.lemmas.Bool.{and_from, and_parts, cases_Bool, cases_eq, eq-eqb, ne_eqb, false≢true}
 use Rattle.dft_base.specs.Solutions.{xor, bit_at, sum_over, Equation, Holds, IsSolvable}
-use Rattle.dft_gf2.proofs.Sums.{sum_same}
+use Rattle.dft_base.proofs.SumLemmas.{sum_same}
 use Rattle.dft_merge.proofs.EquationLemmas.{Each, each_solves, solves_each}
 
 -- ---- tests of tables

@@ -2,10 +2,11 @@
 use Rattle.std.proofs.Common.{ℕ, zero, suc, Bool, false, List, [], ◌∷◌, ◌++◌, ◌≡◌, refl, sym, ap, subst, ◌∙◌, inl, inr, Some, slice_get, slice_set}
 use Rattle.std.proofs.lemmas.Bool.{cases_eq}
 use Rattle.std.proofs.lemmas.Option.{none-some, same_Some}
+use Rattle.dft_base.proofs.ListLemmas.{get_left}
 use Rattle.dft_netlist.specs.declared.ids.InstanceId.{InstanceId}
 use Rattle.dft_netlist.specs.declared.ids.NetId.{NetId}
 use Rattle.dft_netlist.proofs.DriveLemmas.{get_set_same, get_set_other}
-use Rattle.dft_netlist.proofs.Places.{get_left, get_push}
+use Rattle.dft_netlist.proofs.Places.{get_push}
 use Rattle.dft_cubes.specs.declared.cube.Cube.{Cube}
 use Rattle.dft_cubes.specs.declared.cube.Merged.{Merged}
 use Rattle.dft_merge.specs.declared.placed.Placed.{Placed}
@@ -15,6 +16,7 @@ use Rattle.dft_merge.specs.Placement.{Places, PlacesAll, begun, cell_number, has
 use Rattle.dft_merge.specs.Staying.{AllIn, CubesStay, IsIn}
 use Rattle.dft_merge.proofs.BitLemmas.{Has, covered}
 use Rattle.dft_merge.proofs.EquationLemmas.{Each, each_left, each_right}
+use Rattle.dft_merge.proofs.PlaceLemmas.{same_cell}
 
 -- ---- entries of a list
 
@@ -58,9 +60,6 @@ all_then xs ys zs one two k given at = let there = one k given at in two there.0
 
 all_same : {T : Type 0} (xs : List (T × Bool)) → AllIn xs xs
 all_same xs k given at = (k, at)
-
-one_cell : (a b : InstanceId) → a.0 ≡ b.0 → a ≡ b
-one_cell a b same = λ i. record { 0 = same i }
 
 one_port : (a b : NetId) → a.0 ≡ b.0 → a ≡ b
 one_port a b same = λ i. record { 0 = same i }
@@ -142,7 +141,7 @@ here_in n row window old new cube p (scanned, inl joins) = record {
   is = ap (λ (l : List Merged). slice_get l p) joins.patterns ∙ get_set_same old p joins.pattern (joined joins.pattern cube) joins.is;
   holds = record {
     domain = joins.fits.domain;
-    cells = all_joined cell_number joins.pattern.cells cube.cells one_cell joins.fits.cells;
+    cells = all_joined cell_number joins.pattern.cells cube.cells same_cell joins.fits.cells;
     ports = all_joined port_number joins.pattern.ports cube.ports one_port joins.fits.ports;
   };
   scanned = scanned;

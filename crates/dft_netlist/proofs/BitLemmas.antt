@@ -1,22 +1,25 @@
 -- The names of a vector's bits.
-use Rattle.std.proofs.Common.{◌≡◌, ℕ, zero, suc, ◌+◌, ◌-◌, ◌<◌, ◌≤◌, ◌^◌, Bool, true, false, List, [], ◌∷◌, ◌++◌, length, Some, refl, ◌∙◌, ap, arith, slice_get, length-append, append_assoc}
+use Rattle.std.proofs.Common.{◌≡◌, ℕ, zero, suc, ◌+◌, ◌-◌, ◌<◌, ◌≤◌, ◌^◌, Bool, true, false, List, [], ◌∷◌, ◌++◌, length, Option, None, Some, refl, sym, ◌∙◌, ap, subst, arith, slice_get, length-append, append_assoc}
 use Rattle.std.specs.Prelude.{nat_le}
 use Rattle.std.specs.List.{All}
 use Rattle.std.specs.Fmt.{decimal}
 use Rattle.std.proofs.lemmas.Bool.Decides.{nat_tests}
 use Rattle.std.proofs.lemmas.List.Elements.{All-append, All-cons, All-nil, All-from_get_or}
 use Rattle.std.proofs.lemmas.Fmt.{digits_decimal}
+use Rattle.std.proofs.lemmas.Option.{same_Some, slice_get_within}
 use Rattle.std.proofs.lemmas.Str.Parse.{numerals_by_value, tells_by_index}
+use Rattle.std.proofs.lemmas.Bool.{le-leb, lt-leb}
 use Rattle.dft_base.specs.Name.{IsName}
 use Rattle.dft_base.specs.declared.place.Range.{Range}
-use Rattle.dft_netlist.specs.Names.{indices_of, going_up, going_down, bit_name}
-use Rattle.dft_netlist.proofs.RefusalLemmas.{le_true, le_false}
+use Rattle.dft_base.proofs.TextLemmas.{IsPrinted, digits_printed}
+use Rattle.dft_netlist.specs.Names.{IsShortRange, indices_of, going_up, going_down, bit_name, bit_names}
+use Rattle.dft_netlist.proofs.Places.{each_made}
 
-up_length : (from count : ℕ) → length (going_up from count) ≡ count
+pub up_length : (from count : ℕ) → length (going_up from count) ≡ count
 up_length from zero = refl
 up_length from (suc count) = ap suc (up_length (suc from) count)
 
-down_length : (from count : ℕ) → length (going_down from count) ≡ count
+pub down_length : (from count : ℕ) → length (going_down from count) ≡ count
 down_length from zero = refl
 down_length from (suc count) = ap suc (down_length (from - 1) count)
 
@@ -31,10 +34,10 @@ down_at from (suc count) zero lt = let e : from ≡ from - 0 = omega arith in ap
 down_at from (suc count) (suc k) lt = let e : from - 1 - k ≡ from - suc k = omega arith in down_at (from - 1) count k (omega arith) ∙ ap Some e
 
 pub rising : (r : Range) → r.left ≤ r.right → indices_of r ≡ going_up r.left (suc (r.right - r.left))
-rising r le = rw (le_true r.left r.right le) refl
+rising r le = rw (le-leb r.left r.right le) refl
 
 pub falling : (r : Range) → r.right < r.left → indices_of r ≡ going_down r.left (suc (r.left - r.right))
-falling r lt = rw (le_false r.left r.right lt) refl
+falling r lt = rw (lt-leb r.left r.right lt) refl
 
 pub rising_at : (r : Range) (k : ℕ) → r.left ≤ r.right → k < length (indices_of r) → (r.left + k ≤ r.right) × (slice_get (indices_of r) k ≡ Some (r.left + k))
 rising_at r k le lt =
@@ -59,19 +62,27 @@ indices_length r = cases_le r.left r.right (nat_le r.left r.right) refl _
 
 -- ---- a bit's printed name is a name
 
-abbrev Printed : ℕ → Type 0
-Printed b = (33 ≤ b) × (b ≤ 126)
-
-digits_printed : (index : ℕ) → index < 2 ^ 64 → All Printed (decimal index)
-digits_printed index lt = All-from_get_or Printed (decimal index) 0 (λ i within. let d = digits_decimal (numerals_by_value _ tells_by_index) index lt i within in (omega (arith, d.0), omega (arith, d.1)))
-
 pub is_bit_name : (name : List ℕ) (index : ℕ) → index < 2 ^ 64 → IsName name → IsName (bit_name name index)
 is_bit_name name index lt h = record {
   some = (let e = length-append (name ++ (91 ∷ decimal index)) (93 ∷ []) in omega (arith, e));
-  each = All-append Printed (name ++ (91 ∷ decimal index)) (93 ∷ [])
-      (All-append Printed name (91 ∷ decimal index) h.each (All-cons Printed 91 (decimal index) (omega arith, omega arith) (digits_printed index lt)))
-      (All-cons Printed 93 [] (omega arith, omega arith) (All-nil Printed));
+  each = All-append IsPrinted (name ++ (91 ∷ decimal index)) (93 ∷ [])
+      (All-append IsPrinted name (91 ∷ decimal index) h.each (All-cons IsPrinted 91 (decimal index) (omega arith, omega arith) (digits_printed index lt)))
+      (All-cons IsPrinted 93 [] (omega arith, omega arith) (All-nil IsPrinted));
 }
+
+pub index_short : (r : Range) (k i : ℕ) → IsShortRange (Some r) → slice_get (indices_of r) k ≡ Some i → i < 2 ^ 64
+index_short r k i short at =
+    let within : k < length (indices_of r) = slice_get_within (indices_of r) k i at in
+    let left = short.0 in
+    let right = short.1 in
+    cases_le r.left r.right (nat_le r.left r.right) refl (i < 2 ^ 64)
+    (λ le. (let up = rising_at r k le within in let same : i ≡ r.left + k = same_Some i (r.left + k) (sym at ∙ up.1) in let top = up.0 in omega (arith, same, top, right)))
+    (λ gt. (let down = falling_at r k gt within in let same : i ≡ r.left - k = same_Some i (r.left - k) (sym at ∙ down.1) in omega (arith, same, left)))
+
+pub bits_are_names : (name : List ℕ) (range : Option Range) → IsName name → IsShortRange range → (k : ℕ) (q : List ℕ) → slice_get (bit_names name range) k ≡ Some q → IsName q
+bits_are_names name None is short zero q at = subst IsName (same_Some name q at) is
+bits_are_names name None is short (suc k) q at = absurd (cc)
+bits_are_names name (Some r) is short k q at = each_made IsName (bit_name name) (indices_of r) (λ j i there. is_bit_name name i (index_short r j i short there) is) k q at
 
 pub regroup : (name : List ℕ) (index : ℕ) → ((name ++ 91 ∷ []) ++ decimal index) ++ 93 ∷ [] ≡ bit_name name index
 regroup name index = ap (λ xs. xs ++ 93 ∷ []) (append_assoc name (91 ∷ []) (decimal index))

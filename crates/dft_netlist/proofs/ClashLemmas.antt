@@ -3,6 +3,7 @@ use Rattle.std.proofs.Common.{◌≡◌, ℕ, zero, suc, ◌+◌, ◌<◌, ◌�
 use Rattle.std.specs.Prelude.{nat_le}
 use Rattle.std.proofs.lemmas.Bool.Decides.{nat_tests}
 use Rattle.std.proofs.lemmas.List.Sums.{sum_by-cons}
+use Rattle.std.proofs.lemmas.Bool.{eqb-true, eq-eqb, ne_eqb}
 use Rattle.dft_netlist.specs.declared.ids.NetId.{NetId}
 use Rattle.dft_netlist.specs.declared.net_driver.NetDriver.{NetDriver}
 use Rattle.dft_netlist.specs.declared.net_driver.NetDriver.TheVariants.{Input, Pin, Join, Nothing}
@@ -11,7 +12,7 @@ use Rattle.dft_netlist.specs.Drivers.{Driven, driver_in}
 use Rattle.dft_netlist.specs.NetDrivers.{driver_at, Drives}
 use Rattle.dft_netlist.specs.Notes.{Drive, Notes, noted, noted_at, all_noted, least_net}
 use Rattle.dft_netlist.proofs.NotesLemmas.{length-noted}
-use Rattle.dft_netlist.proofs.DriveLemmas.{AreEntries, merged, of_net, first_by, noted_found, same_number, is_number, merged_some}
+use Rattle.dft_netlist.proofs.DriveLemmas.{AreEntries, merged, of_net, first_by, noted_found, merged_some}
 
 abbrev pub occ : NetDriver → ℕ
 occ Nothing = 0
@@ -74,13 +75,6 @@ pub record BelowOne (s : Notes) (d : Drive) (net : ℕ) (a : NetDriver) : Type 0
   pub below : IsBelow s.clash net
   pub exact : occ (merged a (cond (d.0.0 == net) d.1 Nothing)) ≡ occ a + once d net
 
-not_equal : (a b : ℕ) → (a ≡ b → ⊥) → (a == b) ≡ false
-not_equal a b ne = by (a == b) refl
-  where
-    by : (t : Bool) → (a == b) ≡ t → (a == b) ≡ false
-    by true is = absurd (ne (same_number a b is))
-    by false is = is
-
 kept : (x : NetDriver) → occ (merged x Nothing) ≡ occ x + 0
 kept Nothing = omega arith
 kept Input = omega arith
@@ -88,7 +82,7 @@ kept (Pin i p) = omega arith
 kept (Join j) = omega arith
 
 apart : (d : Drive) (net : ℕ) (a : NetDriver) → (d.0.0 ≡ net → ⊥) → occ (merged a (cond (d.0.0 == net) d.1 Nothing)) ≡ occ a + once d net
-apart d net a ne = rw (not_equal d.0.0 net ne) (kept a)
+apart d net a ne = rw (ne_eqb d.0.0 net ne) (kept a)
 
 below_one : (s : Notes) (d : Drive) (net : ℕ) (a : NetDriver) (o : Option NetDriver) → (d.1 ≡ Nothing → ⊥) → slice_get s.found net ≡ Some a → slice_get s.found d.0.0 ≡ o → d.0.0 < length s.found → IsBelow (noted_at o s d).clash net → BelowOne s d net a
 below_one s d net a None some at is live h = absurd (past s.found d.0.0 live is)
@@ -101,7 +95,7 @@ below_one s d net a (Some Nothing) some at is live h = record { below = h; exact
   where
     by : (t : Bool) → (d.0.0 == net) ≡ t → occ (merged a (cond t d.1 Nothing)) ≡ occ a + cond t 1 0
     by true test =
-        let was : Some a ≡ Some Nothing = sym at ∙ ap (slice_get s.found) (sym (same_number d.0.0 net test)) ∙ is in
+        let was : Some a ≡ Some Nothing = sym at ∙ ap (slice_get s.found) (sym (eqb-true d.0.0 net test)) ∙ is in
         let nothing : a ≡ Nothing = cc in
         rw nothing (occ_some d.1 some)
     by false test = kept a
@@ -131,7 +125,7 @@ again s d b k a some at is h = elim (least_is s.clash d.0 k h) [
       let both : Some a ≡ Some b = sym at ∙ ap (slice_get s.found) (sym number) ∙ is in
       let same : a ≡ b = cc in
       let one : occ a ≡ 1 = ap occ same ∙ occ_some b some in
-      let two : once d k.0 ≡ 1 = ap (λ t. cond t 1 0) (is_number d.0.0 k.0 number) in
+      let two : once d k.0 ≡ 1 = ap (λ t. cond t 1 0) (eq-eqb d.0.0 k.0 number) in
       inr (omega arith))
 ]
 
@@ -178,7 +172,7 @@ pub times_past : (ds : List Drive) (count net : ℕ) → AreLiveDrives count ds 
 times_past [] count net live le = refl
 times_past (d ∷ ds) count net live le =
     let lt = live.1 in
-    rw (not_equal d.0.0 net (λ e. omega arith), times_past ds count net live.2 le) refl
+    rw (ne_eqb d.0.0 net (λ e. omega arith), times_past ds count net live.2 le) refl
 
 pub driver_same : (n : Netlist) (ds : List Drive) (es : List Driven) (net : ℕ) → AreEntries n ds es → driver_in es net ≡ driver_at n (first_by ds net)
 driver_same n [] [] net h = refl
@@ -197,5 +191,5 @@ first_drives n (d ∷ ds) [] net h = absurd h
 first_drives n (d ∷ ds) (e ∷ es) net h = by (d.0.0 == net) refl (first_drives n ds es net h.1)
   where
     by : (t : Bool) → (d.0.0 == net) ≡ t → ((first_by ds net ≡ Nothing) × (times_in ds net ≡ 0)) ⊎ Drives n (first_by ds net) net → ((merged (cond t d.1 Nothing) (first_by ds net) ≡ Nothing) × (cond t 1 0 + times_in ds net ≡ 0)) ⊎ Drives n (merged (cond t d.1 Nothing) (first_by ds net)) net
-    by true is more = inr (rw (merged_some d.1 (first_by ds net) h.0.some) (subst (λ k. Drives n d.1 k) (same_number d.0.0 net is) h.0.drives))
+    by true is more = inr (rw (merged_some d.1 (first_by ds net) h.0.some) (subst (λ k. Drives n d.1 k) (eqb-true d.0.0 net is) h.0.drives))
     by false is more = elim more [ inl none ↦ inl (none.0, (let z = none.1 in omega arith)) | inr drives ↦ inr drives ]

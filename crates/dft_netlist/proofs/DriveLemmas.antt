@@ -1,12 +1,14 @@
 -- The drives of a netlist are its drivers, and what is noted of them is what drives each net.
 use Rattle.std.proofs.Common.{◌≡◌, ℕ, zero, suc, Bool, true, false, cond, List, [], ◌∷◌, ◌++◌, length, Option, None, Some, refl, sym, ◌∙◌, ap, arith, slice_get, slice_set, ◌==◌, append_assoc}
 use Rattle.std.proofs.lemmas.Bool.Decides.{nat_tests}
+use Rattle.std.proofs.lemmas.Bool.{eqb-true, eqb-false}
 use Rattle.dft_cells.specs.declared.kind.Role.{Role}
 use Rattle.dft_cells.specs.declared.kind.Role.TheVariants as role
 use Rattle.dft_netlist.specs.declared.ids.NetId.{NetId}
 use Rattle.dft_netlist.specs.declared.port.Port.{Port}
 use Rattle.dft_base.specs.declared.dir.Dir.{Dir}
 use Rattle.dft_base.specs.declared.dir.Dir.TheVariants as dir
+use Rattle.dft_base.proofs.ListLemmas.{length_push}
 use Rattle.dft_netlist.specs.declared.instance.Signal.{Signal}
 use Rattle.dft_netlist.specs.declared.instance.Signal.TheVariants as signal
 use Rattle.dft_netlist.specs.declared.instance.Instance.{Instance}
@@ -48,10 +50,6 @@ get_middle (y ∷ front) x back = get_middle front x back
 move_front : {X : Type 0} (front : List X) (x : X) (back : List X) → front ++ x ∷ back ≡ (front ++ x ∷ []) ++ back
 move_front [] x back = refl
 move_front (y ∷ front) x back = ap (λ zs. y ∷ zs) (move_front front x back)
-
-length_push : {X : Type 0} (xs : List X) (x : X) → length (xs ++ x ∷ []) ≡ suc (length xs)
-length_push [] x = refl
-length_push (y ∷ xs) x = ap suc (length_push xs x)
 
 -- ---- ports
 
@@ -180,15 +178,6 @@ merged_none (Join j) = refl
 
 -- ---- what is found
 
-pub same_number : (a b : ℕ) → (a == b) ≡ true → a ≡ b
-same_number a b h = grind (arith, nat_tests)
-
-pub other_number : (a b : ℕ) → (a == b) ≡ false → a ≡ b → ⊥
-other_number a b h = grind (arith, nat_tests)
-
-pub is_number : (a b : ℕ) → a ≡ b → (a == b) ≡ true
-is_number a b h = grind (arith, nat_tests)
-
 pub get_set_same : {X : Type 0} (xs : List X) (i : ℕ) (a y : X) → slice_get xs i ≡ Some a → slice_get (slice_set xs i y) i ≡ Some y
 get_set_same [] i a y h = absurd (let f : ⊥ = cc in f)
 get_set_same (x ∷ xs) zero a y h = refl
@@ -210,17 +199,17 @@ found_at : (s : Notes) (d : Drive) (net : ℕ) (a : NetDriver) (o : Option NetDr
 found_at s d net a None t at is test = at ∙ absent t test
   where
     absent : (u : Bool) → (d.0.0 == net) ≡ u → Some a ≡ Some (merged a (cond u d.1 Nothing))
-    absent true h = (let e : Some a ≡ None = sym at ∙ ap (slice_get s.found) (sym (same_number d.0.0 net h)) ∙ is in absurd (let f : ⊥ = cc in f))
+    absent true h = (let e : Some a ≡ None = sym at ∙ ap (slice_get s.found) (sym (eqb-true d.0.0 net h)) ∙ is in absurd (let f : ⊥ = cc in f))
     absent false h = ap Some (sym (merged_none a))
 found_at s d net a (Some Nothing) true at is test =
-    let e = same_number d.0.0 net test in
+    let e = eqb-true d.0.0 net test in
     let was : Some a ≡ Some Nothing = sym at ∙ ap (slice_get s.found) (sym e) ∙ is in
     let nothing : a ≡ Nothing = cc in
     ap (λ k. slice_get (slice_set s.found d.0.0 d.1) k) (sym e) ∙ get_set_same s.found d.0.0 Nothing d.1 is ∙ ap (λ x. Some (merged x d.1)) (sym nothing)
-found_at s d net a (Some Nothing) false at is test = get_set_other s.found d.0.0 net d.1 (other_number d.0.0 net test) ∙ at ∙ ap Some (sym (merged_none a))
-found_at s d net a (Some Input) t at is test = at ∙ ap Some (taken a Input d.1 t (λ h. let e : Some a ≡ Some Input = sym at ∙ ap (slice_get s.found) (sym (same_number d.0.0 net (test ∙ h))) ∙ is in cc) (λ h. cc))
-found_at s d net a (Some (Pin i p)) t at is test = at ∙ ap Some (taken a (Pin i p) d.1 t (λ h. let e : Some a ≡ Some (Pin i p) = sym at ∙ ap (slice_get s.found) (sym (same_number d.0.0 net (test ∙ h))) ∙ is in cc) (λ h. cc))
-found_at s d net a (Some (Join j)) t at is test = at ∙ ap Some (taken a (Join j) d.1 t (λ h. let e : Some a ≡ Some (Join j) = sym at ∙ ap (slice_get s.found) (sym (same_number d.0.0 net (test ∙ h))) ∙ is in cc) (λ h. cc))
+found_at s d net a (Some Nothing) false at is test = get_set_other s.found d.0.0 net d.1 (eqb-false d.0.0 net test) ∙ at ∙ ap Some (sym (merged_none a))
+found_at s d net a (Some Input) t at is test = at ∙ ap Some (taken a Input d.1 t (λ h. let e : Some a ≡ Some Input = sym at ∙ ap (slice_get s.found) (sym (eqb-true d.0.0 net (test ∙ h))) ∙ is in cc) (λ h. cc))
+found_at s d net a (Some (Pin i p)) t at is test = at ∙ ap Some (taken a (Pin i p) d.1 t (λ h. let e : Some a ≡ Some (Pin i p) = sym at ∙ ap (slice_get s.found) (sym (eqb-true d.0.0 net (test ∙ h))) ∙ is in cc) (λ h. cc))
+found_at s d net a (Some (Join j)) t at is test = at ∙ ap Some (taken a (Join j) d.1 t (λ h. let e : Some a ≡ Some (Join j) = sym at ∙ ap (slice_get s.found) (sym (eqb-true d.0.0 net (test ∙ h))) ∙ is in cc) (λ h. cc))
 
 pub noted_found : (s : Notes) (d : Drive) (net : ℕ) (a : NetDriver) → slice_get s.found net ≡ Some a → slice_get (noted s d).found net ≡ Some (merged a (of_net d net))
 noted_found s d net a at = found_at s d net a (slice_get s.found d.0.0) (d.0.0 == net) at refl refl

@@ -1,11 +1,11 @@
 -- What is listed as the driver of a net, where there is one, drives it.
 use Rattle.std.proofs.Common.{◌≡◌, ℕ, zero, suc, ◌+◌, ◌≤◌, Bool, true, false, cond, List, [], ◌∷◌, Some, refl, ◌∙◌, ap, arith, slice_get, count_by, ◌==◌}
 use Rattle.std.proofs.lemmas.List.Sums.{sum_by-cons}
+use Rattle.std.proofs.lemmas.Bool.{eq-eqb}
 use Rattle.dft_netlist.specs.Drivers.{Driven, driver_in}
 use Rattle.dft_netlist.specs.DesignLaws.{ListedDrives}
-use Rattle.dft_netlist.proofs.DriveLemmas.{is_number}
 
-abbrev times : List Driven → (net : ℕ) → ℕ
+abbrev pub times : List Driven → (net : ℕ) → ℕ
 times es net = count_by (λ (x : Driven). x.0 == net) es
 
 abbrev one_if : Bool → ℕ
@@ -18,7 +18,7 @@ listed_once : (es : List Driven) (k : ℕ) (d : Driven) → slice_get es k ≡ S
 listed_once [] k d h = absurd (let f : ⊥ = cc in f)
 listed_once (e ∷ es) zero d h =
     let same : e ≡ d = cc in
-    let one : one_if (e.0 == d.0) ≡ 1 = ap one_if (is_number e.0 d.0 (ap (λ (x : Driven). x.0) same)) in
+    let one : one_if (e.0 == d.0) ≡ 1 = ap one_if (eq-eqb e.0 d.0 (ap (λ (x : Driven). x.0) same)) in
     omega (arith, one, times-cons e es d.0)
 listed_once (e ∷ es) (suc k) d h = omega (arith, listed_once es k d h, times-cons e es d.0)
 
@@ -26,7 +26,7 @@ listed : (es : List Driven) (k : ℕ) (d : Driven) → times es d.0 ≤ 1 → sl
 listed [] k d few h = absurd (let f : ⊥ = cc in f)
 listed (e ∷ es) zero d few h =
     let same : e ≡ d = cc in
-    ap (λ t. cond t e.1 (driver_in es d.0)) (is_number e.0 d.0 (ap (λ (x : Driven). x.0) same)) ∙ ap (λ (x : Driven). x.1) same
+    ap (λ t. cond t e.1 (driver_in es d.0)) (eq-eqb e.0 d.0 (ap (λ (x : Driven). x.0) same)) ∙ ap (λ (x : Driven). x.1) same
 listed (e ∷ es) (suc k) d few h = by (e.0 == d.0) refl (listed es k d)
   where
     by : (t : Bool) → (e.0 == d.0) ≡ t → (times es d.0 ≤ 1 → slice_get es k ≡ Some d → driver_in es d.0 ≡ d.1) → cond t e.1 (driver_in es d.0) ≡ d.1

@@ -12,7 +12,7 @@ use Rattle.dft_netlist.specs.Names.{Names, find_net, find_net_from, find_instanc
 use Rattle.dft_netlist.specs.NamedParts.{net_in, instance_in}
 use Rattle.dft_netlist.specs.NameTables.{Entry, look_up, Knows}
 use Rattle.dft_base.specs.Lexing.{Text}
-use Rattle.dft_netlist.proofs.NamesLemmas.{same_of, bytes_eq-same}
+use Rattle.dft_base.proofs.TextLemmas.{same_text, bytes_eq-self}
 
 -- ---- nets
 
@@ -20,7 +20,7 @@ abbrev IsAt : (from : ℕ) → List Text → Text → NetId → Type 0
 IsAt from nets q k = (j : ℕ) × (k.0 ≡ from + j) × (slice_get nets j ≡ Some q)
 
 first_or : (t : Bool) (from : ℕ) (x : Text) (nets : List Text) (q : Text) (k : NetId) → bytes_eq x q ≡ t → (find_net_from (suc from) nets q ≡ Some k → IsAt (suc from) nets q k) → cond t (Some (record { 0 = from })) (find_net_from (suc from) nets q) ≡ Some k → IsAt from (x ∷ nets) q k
-first_or true from x nets q k is rest h = let e : record { 0 = from } ≡ k = cc in (0, sym (ap (λ (i : NetId). i.0) e) ∙ omega arith, ap Some (same_of x q is))
+first_or true from x nets q k is rest h = let e : record { 0 = from } ≡ k = cc in (0, sym (ap (λ (i : NetId). i.0) e) ∙ omega arith, ap Some (same_text x q is))
 first_or false from x nets q k is rest h = let r = rest h in (suc r.0, r.1 ∙ omega arith, r.2)
 
 found_at : (from : ℕ) (nets : List Text) (q : Text) (k : NetId) → find_net_from from nets q ≡ Some k → IsAt from nets q k
@@ -31,12 +31,12 @@ not_first : (t : Bool) (k : NetId) (r : Option NetId) → cond t (Some k) r ≡ 
 not_first true k r h = absurd (let f : ⊥ = cc in f)
 not_first false k r h = (refl, h)
 
-not_found : (from : ℕ) (nets : List Text) (q : Text) → find_net_from from nets q ≡ None → (j : ℕ) → slice_get nets j ≡ Some q → ⊥
+pub not_found : (from : ℕ) (nets : List Text) (q : Text) → find_net_from from nets q ≡ None → (j : ℕ) → slice_get nets j ≡ Some q → ⊥
 not_found from [] q h j at = cc
 not_found from (x ∷ nets) q h zero at =
     let e : x ≡ q = cc in
     let other = not_first (bytes_eq x q) (record { 0 = from }) (find_net_from (suc from) nets q) h in
-    true≢false (sym (bytes_eq-same q) ∙ ap (λ y. bytes_eq y q) (sym e) ∙ other.0)
+    true≢false (sym (bytes_eq-self q) ∙ ap (λ y. bytes_eq y q) (sym e) ∙ other.0)
 not_found from (x ∷ nets) q h (suc j) at = not_found (suc from) nets q (not_first (bytes_eq x q) (record { 0 = from }) (find_net_from (suc from) nets q) h).1 j at
 
 names_net : (n : Netlist) (q : Text) (k : NetId) → find_net n q ≡ Some k → Names n q (Net k)
@@ -57,26 +57,26 @@ net_found es n q r k looked = net_cases es n q r (find_net n q) k looked refl
 
 -- ---- instances
 
-abbrev IsInstanceAt : (from : ℕ) → List Instance → Text → InstanceId → Type 0
+abbrev pub IsInstanceAt : (from : ℕ) → List Instance → Text → InstanceId → Type 0
 IsInstanceAt from instances q k = (j : ℕ) × (k.0 ≡ from + j) × (option_and_then instance_name (slice_get instances j) ≡ Some q)
 
-this_name : (name : Option Text) (q : Text) → has_this_name name q ≡ true → name ≡ Some q
+pub this_name : (name : Option Text) (q : Text) → has_this_name name q ≡ true → name ≡ Some q
 this_name None q h = absurd (true≢false (sym h))
-this_name (Some x) q h = ap Some (same_of x q h)
+this_name (Some x) q h = ap Some (same_text x q h)
 
-is_this_name : (name : Option Text) (q : Text) → name ≡ Some q → has_this_name name q ≡ true
+pub is_this_name : (name : Option Text) (q : Text) → name ≡ Some q → has_this_name name q ≡ true
 is_this_name None q h = absurd (let f : ⊥ = cc in f)
-is_this_name (Some x) q h = let e : x ≡ q = cc in rw e (bytes_eq-same q)
+is_this_name (Some x) q h = let e : x ≡ q = cc in rw e (bytes_eq-self q)
 
-first_instance_or : (t : Bool) (from : ℕ) (x : Instance) (rest : List Instance) (q : Text) (k : InstanceId) → has_this_name x.name q ≡ t → (find_instance_from (suc from) rest q ≡ Some k → IsInstanceAt (suc from) rest q k) → cond t (Some (record { 0 = from })) (find_instance_from (suc from) rest q) ≡ Some k → IsInstanceAt from (x ∷ rest) q k
+pub first_instance_or : (t : Bool) (from : ℕ) (x : Instance) (rest : List Instance) (q : Text) (k : InstanceId) → has_this_name x.name q ≡ t → (find_instance_from (suc from) rest q ≡ Some k → IsInstanceAt (suc from) rest q k) → cond t (Some (record { 0 = from })) (find_instance_from (suc from) rest q) ≡ Some k → IsInstanceAt from (x ∷ rest) q k
 first_instance_or true from x rest q k is more h = let e : record { 0 = from } ≡ k = cc in (0, sym (ap (λ (i : InstanceId). i.0) e) ∙ omega arith, this_name x.name q is)
 first_instance_or false from x rest q k is more h = let r = more h in (suc r.0, r.1 ∙ omega arith, r.2)
 
-instance_at : (from : ℕ) (instances : List Instance) (q : Text) (k : InstanceId) → find_instance_from from instances q ≡ Some k → IsInstanceAt from instances q k
+pub instance_at : (from : ℕ) (instances : List Instance) (q : Text) (k : InstanceId) → find_instance_from from instances q ≡ Some k → IsInstanceAt from instances q k
 instance_at from [] q k h = absurd (let f : ⊥ = cc in f)
 instance_at from (x ∷ rest) q k h = first_instance_or (has_this_name x.name q) from x rest q k refl (instance_at (suc from) rest q k) h
 
-not_first_instance : (t : Bool) (k : InstanceId) (r : Option InstanceId) → cond t (Some k) r ≡ None → (t ≡ false) × (r ≡ None)
+pub not_first_instance : (t : Bool) (k : InstanceId) (r : Option InstanceId) → cond t (Some k) r ≡ None → (t ≡ false) × (r ≡ None)
 not_first_instance true k r h = absurd (let f : ⊥ = cc in f)
 not_first_instance false k r h = (refl, h)
 

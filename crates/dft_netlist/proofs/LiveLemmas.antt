@@ -1,6 +1,7 @@
 -- What drives a net of a sound netlist drives one that is there.
 use Rattle.std.proofs.Common.{◌≡◌, ℕ, zero, suc, ◌+◌, ◌<◌, ◌≤◌, List, [], ◌∷◌, ◌++◌, length, None, Some, refl, sym, ◌∙◌, ap, subst, arith, slice_get, length-append, replicate, ◌⊎◌, inl, inr}
 use Rattle.std.proofs.lemmas.Option.{slice_get_within}
+use Rattle.dft_base.proofs.ListLemmas.{get_left, get_right}
 use Rattle.dft_netlist.specs.declared.ids.NetId.{NetId}
 use Rattle.dft_netlist.specs.declared.port.Port.{Port}
 use Rattle.dft_netlist.specs.declared.net_driver.NetDriver.{NetDriver}
@@ -13,7 +14,6 @@ use Rattle.dft_netlist.specs.NetDrivers.{Drives, times_driven, driver_at, IsFirs
 use Rattle.dft_netlist.specs.NetNumbers.{nets_from}
 use Rattle.dft_netlist.specs.Notes.{Drive, Notes, all_noted, all_drives, ports_drives, instances_drives, joins_drives}
 use Rattle.dft_netlist.specs.Sound.{IsNetlist, bits_of, bit_names_of}
-use Rattle.dft_netlist.proofs.Places.{get_left}
 use Rattle.dft_netlist.proofs.NotesLemmas.{length-all_noted, all_noted-append}
 use Rattle.dft_netlist.proofs.DriveLemmas.{AreEntries, all_entries, all_found, first_by}
 use Rattle.dft_netlist.proofs.ClashLemmas.{IsBelow, AreLiveDrives, times_same, times_past, driver_same, first_drives, below_all, clash_all, clash_live}
@@ -36,10 +36,6 @@ from_at from zero k net h = absurd (let f : ⊥ = cc in f)
 from_at from (suc count) zero net h = let e : record { 0 = from } ≡ net = cc in (sym (ap (λ (x : NetId). x.0) e) ∙ omega arith, omega arith)
 from_at from (suc count) (suc k) net h = let r = from_at (suc from) count k net h in (r.0 ∙ omega arith, let lt = r.1 in omega arith)
 
-behind : {X : Type 0} (xs ys : List X) (k : ℕ) (y : X) → slice_get ys k ≡ Some y → slice_get (xs ++ ys) (length xs + k) ≡ Some y
-behind [] ys k y h = let e : 0 + k ≡ k = omega arith in ap (slice_get ys) e ∙ h
-behind (x ∷ xs) ys k y h = let e : suc (length xs) + k ≡ suc (length xs + k) = omega arith in ap (slice_get (x ∷ (xs ++ ys))) e ∙ behind xs ys k y h
-
 bit_among : (ports : List Port) (place bit : ℕ) (port : Port) (net : NetId) → slice_get ports place ≡ Some port → slice_get port.bits bit ≡ Some net → (k : ℕ) × (slice_get (bits_of ports) k ≡ Some net)
 bit_among [] place bit port net at joined = absurd (let f : ⊥ = cc in f)
 bit_among (p ∷ ports) zero bit port net at joined =
@@ -47,7 +43,7 @@ bit_among (p ∷ ports) zero bit port net at joined =
     (bit, get_left p.bits (bits_of ports) bit net (ap (λ (q : Port). slice_get q.bits bit) e ∙ joined))
 bit_among (p ∷ ports) (suc place) bit port net at joined =
     let r = bit_among ports place bit port net at joined in
-    (length p.bits + r.0, behind p.bits (bits_of ports) r.0 net r.1)
+    (length p.bits + r.0, get_right p.bits (bits_of ports) r.0 net r.1)
 
 pub bit_live : (n : Netlist) → IsNetlist n → (place bit : ℕ) (port : Port) (net : NetId) → slice_get n.ports place ≡ Some port → slice_get port.bits bit ≡ Some net → net.0 < length n.nets
 bit_live n s place bit port net at joined =

@@ -4,6 +4,7 @@ use Rattle.std.specs.List.{filter_map, cons_option}
 use Rattle.std.specs.Option.{option_and_then}
 use Rattle.std.specs.Str.{bytes_eq}
 use Rattle.std.proofs.lemmas.Slice.Eq.{bytes_eq-Decides}
+use Rattle.std.proofs.lemmas.Bool.{or_cases}
 use Rattle.dft_cells.specs.WellFormed.{has_name}
 use Rattle.dft_netlist.specs.declared.named.Named.{Named}
 use Rattle.dft_netlist.specs.declared.named.Named.TheVariants.{Net, Vector, Instance}
@@ -12,14 +13,10 @@ use Rattle.dft_netlist.specs.Names.{Names, NamesDiffer, is_taken, first_taken, v
 use Rattle.dft_netlist.specs.NameTables.{Entry, look_up, Knows, IsFree}
 use Rattle.dft_netlist.specs.Building.{own_names}
 use Rattle.dft_base.specs.Lexing.{Text}
+use Rattle.dft_base.proofs.BitLemmas.{or_true, or_assoc}
+use Rattle.dft_base.proofs.TextLemmas.{same_text, bytes_eq-self}
 
 -- ---- equal texts
-
-pub same_of : (x y : Text) → bytes_eq x y ≡ true → x ≡ y
-same_of x y h = (bytes_eq-Decides x y).0 h
-
-pub bytes_eq-same : (x : Text) → bytes_eq x x ≡ true
-bytes_eq-same x = (bytes_eq-Decides x x).1 refl
 
 -- ---- a table with one entry more
 
@@ -36,14 +33,14 @@ choose_none true v r r' a f h = absurd (cc)
 choose_none false v r r' a f h = f h
 
 pub new_found : (es : List Entry) (q : Text) (a : Named) → look_up es q ≡ None → look_up (es ++ (q, a) ∷ []) q ≡ Some a
-new_found [] q a h = rw (bytes_eq-same q) refl
+new_found [] q a h = rw (bytes_eq-self q) refl
 new_found (d ∷ es) q a h = choose_none (bytes_eq q d.0) d.1 (look_up es q) (look_up (es ++ (q, a) ∷ []) q) a (new_found es q a) h
 
 abbrev pub IsEntry : Entry → Text → Named → Type 0
 IsEntry e q a = (q ≡ e.0) × (e.1 ≡ a)
 
 one_case : (t : Bool) (e : Entry) (q : Text) (a : Named) → bytes_eq q e.0 ≡ t → cond t (Some e.1) None ≡ Some a → IsEntry e q a
-one_case true e q a is h = (same_of q e.0 is, cc)
+one_case true e q a is h = (same_text q e.0 is, cc)
 one_case false e q a is h = absurd (cc)
 
 choose_cases : (t : Bool) (v : Named) (r r' : Option Named) (a : Named) (P : Type 0) → (r' ≡ Some a → (r ≡ Some a) ⊎ P) → cond t (Some v) r' ≡ Some a → (cond t (Some v) r ≡ Some a) ⊎ P
@@ -89,46 +86,34 @@ differ_of es n k = λ q a b ha hb.
 
 -- ---- names that are taken
 
-or_right : (t : Bool) → (t || true) ≡ true
-or_right true = refl
-or_right false = refl
-
-or_assoc : (a b c : Bool) → ((a || b) || c) ≡ (a || (b || c))
-or_assoc true b c = refl
-or_assoc false b c = refl
-
-or_cases : (a b : Bool) → (a || b) ≡ true → (a ≡ true) ⊎ (b ≡ true)
-or_cases true b h = inl refl
-or_cases false b h = inr h
-
-has-append : (xs ys : List Text) (q : Text) → has_name (xs ++ ys) q ≡ (has_name xs q || has_name ys q)
+pub has-append : (xs ys : List Text) (q : Text) → has_name (xs ++ ys) q ≡ (has_name xs q || has_name ys q)
 has-append [] ys q = refl
 has-append (x ∷ xs) ys q = rw (has-append xs ys q) (sym (or_assoc (bytes_eq x q) (has_name xs q) (has_name ys q)))
 
-has_here : (xs : List Text) (k : ℕ) (q : Text) → slice_get xs k ≡ Some q → has_name xs q ≡ true
+pub has_here : (xs : List Text) (k : ℕ) (q : Text) → slice_get xs k ≡ Some q → has_name xs q ≡ true
 has_here [] k q h = absurd (cc)
-has_here (x ∷ xs) zero q h = let e : x ≡ q = cc in rw (e, bytes_eq-same q) refl
-has_here (x ∷ xs) (suc k) q h = rw (has_here xs k q h) (or_right (bytes_eq x q))
+has_here (x ∷ xs) zero q h = let e : x ≡ q = cc in rw (e, bytes_eq-self q) refl
+has_here (x ∷ xs) (suc k) q h = rw (has_here xs k q h) (or_true (bytes_eq x q))
 
-has_where : (xs : List Text) (q : Text) → has_name xs q ≡ true → (k : ℕ) × (slice_get xs k ≡ Some q)
+pub has_where : (xs : List Text) (q : Text) → has_name xs q ≡ true → (k : ℕ) × (slice_get xs k ≡ Some q)
 has_where [] q h = absurd (cc)
 has_where (x ∷ xs) q h = elim (or_cases (bytes_eq x q) (has_name xs q) h) [
-  | inl is ↦ (0, ap Some (same_of x q is))
+  | inl is ↦ (0, ap Some (same_text x q is))
   | inr more ↦ (let r = has_where xs q more in (suc r.0, r.1))
 ]
 
 module _ {X : Type 0} (f : X → Option Text) where
   cons_here : (o : Option Text) (names : List Text) (q : Text) → o ≡ Some q → has_name (cons_option o names) q ≡ true
   cons_here None names q h = absurd (cc)
-  cons_here (Some x) names q h = let e : x ≡ q = cc in rw (e, bytes_eq-same q) refl
+  cons_here (Some x) names q h = let e : x ≡ q = cc in rw (e, bytes_eq-self q) refl
 
   cons_later : (o : Option Text) (names : List Text) (q : Text) → has_name names q ≡ true → has_name (cons_option o names) q ≡ true
   cons_later None names q h = h
-  cons_later (Some x) names q h = rw h (or_right (bytes_eq x q))
+  cons_later (Some x) names q h = rw h (or_true (bytes_eq x q))
 
   cons_cases : (o : Option Text) (names : List Text) (q : Text) → has_name (cons_option o names) q ≡ true → (o ≡ Some q) ⊎ (has_name names q ≡ true)
   cons_cases None names q h = inr h
-  cons_cases (Some x) names q h = elim (or_cases (bytes_eq x q) (has_name names q) h) [ inl is ↦ inl (ap Some (same_of x q is)) | inr more ↦ inr more ]
+  cons_cases (Some x) names q h = elim (or_cases (bytes_eq x q) (has_name names q) h) [ inl is ↦ inl (ap Some (same_text x q is)) | inr more ↦ inr more ]
 
   has_here_shown : (xs : List X) (k : ℕ) (q : Text) → option_and_then f (slice_get xs k) ≡ Some q → has_name (filter_map f xs) q ≡ true
   has_here_shown [] k q h = absurd (cc)
@@ -147,8 +132,8 @@ taken_parts n q = has-append n.nets (filter_map vector_name n.ports ++ filter_ma
 
 pub named_is_taken : (n : Netlist) (q : Text) (a : Named) → Names n q a → is_taken n q ≡ true
 named_is_taken n q (Net net) h = taken_parts n q ∙ rw (has_here n.nets net.0 q h) refl
-named_is_taken n q (Vector port) h = taken_parts n q ∙ rw (has_here_shown vector_name n.ports port.0 q h) (or_right (has_name n.nets q))
-named_is_taken n q (Instance id) h = taken_parts n q ∙ rw (has_here_shown instance_name n.instances id.0 q h, or_right (has_name (filter_map vector_name n.ports) q)) (or_right (has_name n.nets q))
+named_is_taken n q (Vector port) h = taken_parts n q ∙ rw (has_here_shown vector_name n.ports port.0 q h) (or_true (has_name n.nets q))
+named_is_taken n q (Instance id) h = taken_parts n q ∙ rw (has_here_shown instance_name n.instances id.0 q h, or_true (has_name (filter_map vector_name n.ports) q)) (or_true (has_name n.nets q))
 
 pub taken_is_named : (n : Netlist) (q : Text) → is_taken n q ≡ true → (a : Named) × Names n q a
 taken_is_named n q h = elim (or_cases _ _ (sym (taken_parts n q) ∙ h)) [
@@ -172,10 +157,6 @@ taken_of es n q None k h = not_taken n q (is_taken n q) (λ a is. let e : Some a
 pub named_of : (es : List Entry) (n : Netlist) (q : Text) (r : Option Named) → Knows es n → look_up es q ≡ r → IsNamed n q r
 named_of es n q (Some a) k h = k.says q a h
 named_of es n q None k h = λ a is. let e : Some a ≡ None = sym (k.knows q a is) ∙ h in let f : ⊥ = cc in f
-
-pub none_of : {X : Type 0} (r : Option X) → is_some r ≡ false → r ≡ None
-none_of None h = refl
-none_of (Some x) h = absurd (true≢false h)
 
 -- a name that is not taken is not in the table
 pub free_look_up : (es : List Entry) (n : Netlist) (q : Text) (r : Option Named) → Knows es n → is_taken n q ≡ false → look_up es q ≡ r → look_up es q ≡ None

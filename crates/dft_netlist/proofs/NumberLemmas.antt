@@ -3,7 +3,7 @@ use Rattle.std.proofs.Common.{◌≡◌, ℕ, zero, suc, ◌+◌, [], ◌∷◌,
 use Rattle.dft_netlist.specs.declared.ids.NetId.{NetId}
 use Rattle.dft_netlist.specs.NetNumbers.{nets_from}
 
-abbrev net_of : ℕ → NetId
+abbrev pub net_of : ℕ → NetId
 net_of k = record { 0 = k }
 
 one_more : (from count : ℕ) → nets_from from (suc count) ≡ nets_from from count ++ net_of (from + count) ∷ []

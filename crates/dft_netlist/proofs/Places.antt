@@ -1,11 +1,7 @@
 -- Elements of lists by their places: one list behind another, and one element more.
-use Rattle.std.proofs.Common.{◌≡◌, ℕ, zero, suc, List, [], ◌∷◌, ◌++◌, length, Option, Some, refl, ap, ◌⊎◌, inl, inr, slice_get, slice_set}
+use Rattle.std.proofs.Common.{◌≡◌, ℕ, zero, suc, List, [], ◌∷◌, ◌++◌, length, map, Option, Some, refl, ap, subst, ◌⊎◌, inl, inr, slice_get, slice_set}
+use Rattle.std.proofs.lemmas.Option.{same_Some}
 use Rattle.std.specs.Option.{option_and_then}
-
-pub get_left : {X : Type 0} (xs ys : List X) (k : ℕ) (x : X) → slice_get xs k ≡ Some x → slice_get (xs ++ ys) k ≡ Some x
-get_left [] ys k x h = absurd (cc)
-get_left (y ∷ xs) ys zero x h = h
-get_left (y ∷ xs) ys (suc k) x h = get_left xs ys k x h
 
 pub get_push : {X : Type 0} (xs : List X) (x : X) → slice_get (xs ++ x ∷ []) (length xs) ≡ Some x
 get_push [] x = refl
@@ -53,3 +49,15 @@ shown_set f (z ∷ xs) zero x y zero at same = let e : z ≡ x = cc in rw e same
 shown_set f (z ∷ xs) zero x y (suc k) at same = refl
 shown_set f (z ∷ xs) (suc i) x y zero at same = refl
 shown_set f (z ∷ xs) (suc i) x y (suc k) at same = shown_set f xs i x y k at same
+
+-- ---- what holds of each
+
+pub each_both : {X : Type 0} (P : X → Type 0) (xs ys : List X) → ((k : ℕ) (x : X) → slice_get xs k ≡ Some x → P x) → ((k : ℕ) (x : X) → slice_get ys k ≡ Some x → P x) → (k : ℕ) (x : X) → slice_get (xs ++ ys) k ≡ Some x → P x
+each_both P [] ys h g k x at = g k x at
+each_both P (y ∷ xs) ys h g zero x at = h zero x at
+each_both P (y ∷ xs) ys h g (suc k) x at = each_both P xs ys (λ i z there. h (suc i) z there) g k x at
+
+pub each_made : {X : Type 0} (P : X → Type 0) (f : ℕ → X) (xs : List ℕ) → ((k i : ℕ) → slice_get xs k ≡ Some i → P (f i)) → (k : ℕ) (x : X) → slice_get (map f xs) k ≡ Some x → P x
+each_made P f [] h k x at = absurd (cc)
+each_made P f (i ∷ is) h zero x at = subst P (same_Some (f i) x at) (h zero i refl)
+each_made P f (i ∷ is) h (suc k) x at = each_made P f is (λ j y there. h (suc j) y there) k x at

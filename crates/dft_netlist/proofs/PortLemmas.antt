@@ -6,15 +6,18 @@ use Rattle.dft_netlist.specs.declared.named.Named.TheVariants.{Net as ANet, Vect
 use Rattle.dft_netlist.specs.declared.port.Port.{Port}
 use Rattle.dft_netlist.specs.declared.limits.TheConstants.{MAX_PORTS, MAX_NETS}
 use Rattle.dft_netlist.specs.Netlist.{Netlist}
-use Rattle.dft_netlist.specs.Names.{Names, vector_name, bit_names}
+use Rattle.dft_base.specs.Name.{IsName}
+use Rattle.dft_netlist.specs.Names.{HasNames, IsShortRange, Names, vector_name, bit_names}
 use Rattle.dft_netlist.specs.NameTables.{Entry, Knows, own_entries, net_entries, AreNew, IsFree}
 use Rattle.dft_netlist.specs.NetNumbers.{nets_from}
 use Rattle.dft_netlist.specs.Sound.{IsNetlist, HasOnlyPorts, Begins, bits_of, bit_names_of}
 use Rattle.dft_base.specs.Lexing.{Text}
-use Rattle.dft_netlist.proofs.Places.{push_cases, shown_left, shown_push, shown_cases}
+use Rattle.dft_netlist.proofs.BitLemmas.{bits_are_names}
+use Rattle.dft_netlist.proofs.Places.{each_both, push_cases, shown_left, shown_push, shown_cases}
 use Rattle.dft_netlist.proofs.NamesLemmas.{Adds, SameNames, knows_more, knows_same, differ_of}
 use Rattle.dft_netlist.proofs.NewNames.{first_new, others_new}
 use Rattle.dft_netlist.proofs.SoundLemmas.{with_net, net_number, net_knows, instance_more, join_more}
+use Rattle.dft_netlist.proofs.LiveLemmas.{AreWide}
 
 -- ---- the port's own name
 
@@ -77,7 +80,7 @@ pub bit_names_of-push : (ports : List Port) (port : Port) → bit_names_of (port
 bit_names_of-push [] port = append-nil (bit_names port.name port.range)
 bit_names_of-push (p ∷ ports) port = rw (bit_names_of-push ports port) (sym (append_assoc (bit_names p.name p.range) (bit_names_of ports) (bit_names port.name port.range)))
 
-nets_from-length : (from count : ℕ) → length (nets_from from count) ≡ count
+pub nets_from-length : (from count : ℕ) → length (nets_from from count) ≡ count
 nets_from-length from zero = refl
 nets_from-length from (suc count) = ap suc (nets_from-length (suc from) count)
 
@@ -93,9 +96,6 @@ numbers_more bits more from count is at new =
     sym (whole ∙ ap (λ xs. xs ++ nets_from from count) (sym is) ∙ ap (λ xs. bits ++ xs) (sym new))
 
 -- ---- all nets are bits
-
-abbrev AreWide : List Port → Type 0
-AreWide ports = (place : ℕ) (port : Port) → slice_get ports place ≡ Some port → length port.bits ≡ length (bit_names port.name port.range)
 
 all_wide : (ports : List Port) → AreWide ports → length (bits_of ports) ≡ length (bit_names_of ports)
 all_wide [] wide = refl
@@ -122,8 +122,16 @@ whole_front front whole begins same =
 abbrev pub with_bits : Netlist → Port → Netlist
 with_bits n port = record n { ports = n.ports ++ port ∷ []; nets = n.nets ++ bit_names port.name port.range }
 
-pub port_sound : (es : List Entry) (n : Netlist) (port : Port) → IsNetlist n → HasOnlyPorts n → Knows es (with_bits n port) → length n.ports < MAX_PORTS → length n.nets + length (bit_names port.name port.range) ≤ MAX_NETS → port.bits ≡ nets_from (length n.nets) (length (bit_names port.name port.range)) → IsNetlist (with_bits n port)
-port_sound es n port s only k few room numbers =
+port_named : (n : Netlist) (port : Port) → HasNames n → IsName port.name → IsShortRange port.range → HasNames (with_bits n port)
+port_named n port h is short = record {
+  own = h.own;
+  ports = λ i p at. elim (push_cases n.ports port i p at) [ inl was ↦ h.ports i p was | inr new ↦ subst (λ (x : Port). IsName x.name × IsShortRange x.range) new.1 (is, short) ];
+  nets = each_both IsName n.nets (bit_names port.name port.range) h.nets (bits_are_names port.name port.range is short);
+  instances = h.instances;
+}
+
+pub port_sound : (es : List Entry) (n : Netlist) (port : Port) → IsNetlist n → IsName port.name → IsShortRange port.range → HasOnlyPorts n → Knows es (with_bits n port) → length n.ports < MAX_PORTS → length n.nets + length (bit_names port.name port.range) ≤ MAX_NETS → port.bits ≡ nets_from (length n.nets) (length (bit_names port.name port.range)) → IsNetlist (with_bits n port)
+port_sound es n port s is short only k few room numbers =
     let names = bit_names port.name port.range in
     let more : length n.nets ≤ length (n.nets ++ names) = omega (arith, length-append n.nets names) in
     let bits = whole_front (bit_names_of n.ports) n.nets s.bits (only ∙ all_wide n.ports s.widths) in
@@ -132,6 +140,7 @@ port_sound es n port s only k few room numbers =
       few_nets = omega (arith, length-append n.nets names);
       few_instances = s.few_instances;
       names = differ_of es (with_bits n port) k;
+      named = port_named n port s.named is short;
       widths = λ i p at. elim (push_cases n.ports port i p at) [
         | inl was ↦ s.widths i p was
         | inr new ↦ subst (λ (x : Port). length x.bits ≡ length (bit_names x.name x.range)) new.1 (ap (λ (xs : List NetId). length xs) numbers ∙ nets_from-length (length n.nets) (length names))

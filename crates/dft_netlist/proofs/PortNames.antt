@@ -3,12 +3,14 @@ use Rattle.std.proofs.Common.{◌≡◌, ℕ, zero, suc, ◌+◌, ◌-◌, ◌<�
 use Rattle.std.proofs.lemmas.List.{append_cancel_left, append_cancel_right}
 use Rattle.std.specs.Fmt.{decimal}
 use Rattle.std.proofs.lemmas.Fmt.{decimal_injective}
+use Rattle.std.proofs.lemmas.Option.{slice_get_within}
 use Rattle.dft_base.specs.declared.place.Range.{Range}
 use Rattle.dft_netlist.specs.declared.named.Named.{Named}
 use Rattle.dft_netlist.specs.Netlist.{Netlist}
 use Rattle.dft_netlist.specs.Names.{is_taken, first_taken, bit_name, bit_names, port_names, vector_name_in, indices_of}
 use Rattle.dft_netlist.specs.NameTables.{Entry, look_up, own_entries, Knows, AreNew, AllDiffer, IsFree}
 use Rattle.dft_base.specs.Lexing.{Text}
+use Rattle.dft_base.proofs.ListLemmas.{at_of_map}
 use Rattle.dft_netlist.proofs.BitLemmas.{cases_le, rising_at, falling_at}
 use Rattle.dft_netlist.proofs.NamesLemmas.{free_look_up}
 use Rattle.dft_netlist.proofs.NewNames.{still_free}
@@ -32,25 +34,20 @@ bit_is_not_vector name i same =
 
 -- ---- the indices of a range differ
 
-slice_get_lt : {X : Type 0} (xs : List X) (k : ℕ) (x : X) → slice_get xs k ≡ Some x → k < length xs
-slice_get_lt [] k x at = absurd (let f : ⊥ = cc in f)
-slice_get_lt (y ∷ xs) zero x at = omega arith
-slice_get_lt (y ∷ xs) (suc k) x at = let lt = slice_get_lt xs k x at in omega arith
-
 abbrev Small : Range → Type 0
 Small r = (r.left < 2 ^ 64) × (r.right < 2 ^ 64)
 
 index_small : (r : Range) (k i : ℕ) → Small r → slice_get (indices_of r) k ≡ Some i → i < 2 ^ 64
 index_small r k i small at =
-    let lt = slice_get_lt (indices_of r) k i at in
+    let lt = slice_get_within (indices_of r) k i at in
     cases_le r.left r.right _ refl _
     (λ le. let here = rising_at r k le lt in let e : Some (r.left + k) ≡ Some i = sym here.1 ∙ at in let f : r.left + k ≡ i = cc in let b = here.0 in let s = small.1 in omega arith)
     (λ gt. let here = falling_at r k gt lt in let e : Some (r.left - k) ≡ Some i = sym here.1 ∙ at in let f : r.left - k ≡ i = cc in let s = small.0 in omega arith)
 
 index_once : (r : Range) (k j i : ℕ) → slice_get (indices_of r) k ≡ Some i → slice_get (indices_of r) j ≡ Some i → k ≡ j
 index_once r k j i at also =
-    let lt = slice_get_lt (indices_of r) k i at in
-    let lt2 = slice_get_lt (indices_of r) j i also in
+    let lt = slice_get_within (indices_of r) k i at in
+    let lt2 = slice_get_within (indices_of r) j i also in
     cases_le r.left r.right _ refl _
     (λ le.
     let here = rising_at r k le lt in
@@ -66,11 +63,6 @@ index_once r k j i at also =
     let b = there.0 in omega arith)
 
 -- ---- names by their places
-
-at_of_map : {X Y : Type 0} (f : X → Y) (xs : List X) (k : ℕ) (y : Y) → slice_get (map f xs) k ≡ Some y → (x : X) × (slice_get xs k ≡ Some x) × (f x ≡ y)
-at_of_map f [] k y at = absurd (let g : ⊥ = cc in g)
-at_of_map f (x ∷ xs) zero y at = (x, refl, cc)
-at_of_map f (x ∷ xs) (suc k) y at = at_of_map f xs k y at
 
 only_one : (name q : Text) (k : ℕ) → slice_get (name ∷ []) k ≡ Some q → k ≡ 0
 only_one name q zero at = refl

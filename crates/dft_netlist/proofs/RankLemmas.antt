@@ -1,6 +1,7 @@
 -- An order ranks the nets by their places.
 use Rattle.std.proofs.Common.{◌≡◌, ℕ, suc, ◌<◌, ◌≤◌, Bool, true, false, cond, List, [], ◌∷◌, length, refl, sym, ◌∙◌, ap, subst, arith, ◌⊎◌, inl, inr, ◌==◌}
 use Rattle.std.specs.List.{AllByRecursion}
+use Rattle.std.proofs.lemmas.Bool.{eqb-true, eq-eqb}
 use Rattle.dft_netlist.specs.declared.net_driver.NetDriver.{NetDriver}
 use Rattle.dft_netlist.specs.declared.net_driver.NetDriver.TheVariants.{Input, Pin, Join, Nothing}
 use Rattle.dft_netlist.specs.Netlist.{Netlist}
@@ -10,7 +11,7 @@ use Rattle.dft_netlist.specs.NetDrivers.{driver_at, Drives}
 use Rattle.dft_netlist.specs.Notes.{all_drives}
 use Rattle.dft_netlist.specs.Orders.{Has, reads_of, IsOrderFrom}
 use Rattle.dft_netlist.specs.Sound.{IsNetlist}
-use Rattle.dft_netlist.proofs.DriveLemmas.{all_entries, first_by, is_number, same_number}
+use Rattle.dft_netlist.proofs.DriveLemmas.{all_entries, first_by}
 use Rattle.dft_netlist.proofs.ClashLemmas.{driver_same, first_drives}
 use Rattle.dft_netlist.proofs.LiveLemmas.{drive_live, le_or_lt}
 
@@ -31,18 +32,18 @@ apart_place : (x : ℕ) (xs : List ℕ) (net : ℕ) → (x ≡ net → ⊥) → 
 apart_place x xs net ne = by (x == net) refl
   where
     by : (t : Bool) → (x == net) ≡ t → cond t 0 (suc (place_in xs net)) ≡ suc (place_in xs net)
-    by true is = absurd (ne (same_number x net is))
+    by true is = absurd (ne (eqb-true x net is))
     by false is = refl
 
 first_place : (x : ℕ) (xs : List ℕ) → place_in (x ∷ xs) x ≡ 0
-first_place x xs = rw (is_number x x refl) refl
+first_place x xs = rw (eq-eqb x x refl) refl
 
 -- what is still to come was not before
 not_before : (n : Netlist) (before xs : List ℕ) → IsOrderFrom n before xs → (k : ℕ) → Has xs k → Has before k → ⊥
 not_before n before [] o k has was = has
 not_before n before (x ∷ xs) o k has was = elim has [ inl e ↦ o.0 (subst (Has before) e was) | inr more ↦ not_before n (x ∷ before) xs o.3 k more (inr was) ]
 
-has_all : (P : ℕ → Type 0) (ys : List ℕ) (r : ℕ) → AllByRecursion P ys → Has ys r → P r
+pub has_all : (P : ℕ → Type 0) (ys : List ℕ) (r : ℕ) → AllByRecursion P ys → Has ys r → P r
 has_all P [] r all mem = absurd mem
 has_all P (y ∷ ys) r all mem = elim mem [ inl e ↦ subst P (sym e) all.0 | inr m ↦ has_all P ys r all.1 m ]
 

@@ -2,6 +2,7 @@
 use Rattle.std.proofs.Common.{◌≡◌, Err, ℕ, ◌+◌, ◌<◌, ◌≤◌, Bool, true, false, cond, length, Option, None, Some, refl, arith, pos}
 use Rattle.std.specs.Prelude.{nat_le}
 use Rattle.std.proofs.lemmas.Bool.Decides.{nat_tests}
+use Rattle.std.proofs.lemmas.Bool.{le-leb, lt-leb, leb-true}
 use Rattle.dft_netlist.specs.declared.error.Counted.TheVariants.{Nets, Instances}
 use Rattle.dft_netlist.specs.declared.error.NetlistError.{NetlistError}
 use Rattle.dft_netlist.specs.declared.error.NetlistError.TheVariants.{MultipleDrivers, Loop, DuplicateName, TooMany, Memory}
@@ -10,15 +11,6 @@ use Rattle.dft_netlist.specs.Netlist.{Netlist}
 use Rattle.dft_netlist.specs.Building.{Answers, net_refusal, instance_refusal, room_limit, taken_or, own_names}
 use Rattle.dft_netlist.specs.Names.{is_taken, first_taken}
 use Rattle.dft_base.specs.Lexing.{Text}
-
-pub le_true : (m n : ℕ) → m ≤ n → nat_le m n ≡ true
-le_true m n h = grind (arith, nat_tests)
-
-pub le_false : (m n : ℕ) → n < m → nat_le m n ≡ false
-le_false m n h = grind (arith, nat_tests)
-
-le_of : (m n : ℕ) → nat_le m n ≡ true → m ≤ n
-le_of m n h = grind (arith, nat_tests)
 
 both : (a b : Bool) (x y : NetlistError) → cond a (cond b None (Some x)) (Some y) ≡ None → (a ≡ true) × (b ≡ true)
 both true true x y h = (refl, refl)
@@ -29,8 +21,8 @@ both false b x y h = absurd (let f : ⊥ = cc in f)
 pub room_of : (n : Netlist) (width : ℕ) → room_limit n width ≡ None → (length n.ports < MAX_PORTS) × (length n.nets + width ≤ MAX_NETS)
 room_of n width h =
     let tests = both (nat_le (length n.ports + 1) MAX_PORTS) (nat_le (length n.nets + width) MAX_NETS) _ _ h in
-    let ports = le_of (length n.ports + 1) MAX_PORTS tests.0 in
-    (omega (arith, ports), le_of (length n.nets + width) MAX_NETS tests.1)
+    let ports = leb-true (length n.ports + 1) MAX_PORTS tests.0 in
+    (omega (arith, ports), leb-true (length n.nets + width) MAX_NETS tests.1)
 
 -- ---- nets
 
@@ -38,10 +30,10 @@ pub net_taken : (n : Netlist) (q : Text) → is_taken n q ≡ true → net_refus
 net_taken n q h = rw h refl
 
 pub net_full : (n : Netlist) (q : Text) → is_taken n q ≡ false → MAX_NETS ≤ length n.nets → net_refusal n q ≡ Some (TooMany Nets (pos MAX_NETS))
-net_full n q h full = rw (h, le_false (length n.nets + 1) MAX_NETS (omega arith)) refl
+net_full n q h full = rw (h, lt-leb (length n.nets + 1) MAX_NETS (omega arith)) refl
 
 pub net_open : (n : Netlist) (q : Text) → is_taken n q ≡ false → length n.nets < MAX_NETS → net_refusal n q ≡ None
-net_open n q h few = rw (h, le_true (length n.nets + 1) MAX_NETS (omega arith)) refl
+net_open n q h few = rw (h, le-leb (length n.nets + 1) MAX_NETS (omega arith)) refl
 
 free_and_room : (t r : Bool) (x y : NetlistError) → cond t (Some x) (cond r None (Some y)) ≡ None → (t ≡ false) × (r ≡ true)
 free_and_room true r x y h = absurd (let f : ⊥ = cc in f)
@@ -52,7 +44,7 @@ free_and_room false false x y h = absurd (let f : ⊥ = cc in f)
 pub net_fits : (n : Netlist) (q : Text) → net_refusal n q ≡ None → (is_taken n q ≡ false) × (length n.nets < MAX_NETS)
 net_fits n q h =
     let tests = free_and_room (is_taken n q) (nat_le (length n.nets + 1) MAX_NETS) _ _ h in
-    let room = le_of (length n.nets + 1) MAX_NETS tests.1 in
+    let room = leb-true (length n.nets + 1) MAX_NETS tests.1 in
     (tests.0, omega (arith, room))
 
 -- ---- instances
@@ -66,7 +58,7 @@ none_and_room None false y h = absurd (let f : ⊥ = cc in f)
 pub instance_fits : (n : Netlist) (name : Option Text) → instance_refusal n name ≡ None → (first_taken n (own_names name) ≡ None) × (length n.instances < MAX_INSTANCES)
 instance_fits n name h =
     let tests = none_and_room (first_taken n (own_names name)) (nat_le (length n.instances + 1) MAX_INSTANCES) _ h in
-    let room = le_of (length n.instances + 1) MAX_INSTANCES tests.1 in
+    let room = leb-true (length n.instances + 1) MAX_INSTANCES tests.1 in
     (tests.0, omega (arith, room))
 
 pub instance_taken : (n : Netlist) (name : Option Text) (q : Text) → name ≡ Some q → is_taken n q ≡ true → instance_refusal n name ≡ Some (DuplicateName q)
@@ -74,10 +66,10 @@ instance_taken n None q is h = absurd (let f : ⊥ = cc in f)
 instance_taken n (Some name) q is h = let e : name ≡ q = cc in rw (e, h) refl
 
 pub instance_full : (n : Netlist) (name : Option Text) → first_taken n (own_names name) ≡ None → MAX_INSTANCES ≤ length n.instances → instance_refusal n name ≡ Some (TooMany Instances (pos MAX_INSTANCES))
-instance_full n name h full = rw (h, le_false (length n.instances + 1) MAX_INSTANCES (omega arith)) refl
+instance_full n name h full = rw (h, lt-leb (length n.instances + 1) MAX_INSTANCES (omega arith)) refl
 
 pub instance_open : (n : Netlist) (name : Option Text) → first_taken n (own_names name) ≡ None → length n.instances < MAX_INSTANCES → instance_refusal n name ≡ None
-instance_open n name h few = rw (h, le_true (length n.instances + 1) MAX_INSTANCES (omega arith)) refl
+instance_open n name h few = rw (h, le-leb (length n.instances + 1) MAX_INSTANCES (omega arith)) refl
 
 -- ---- names before limits
 

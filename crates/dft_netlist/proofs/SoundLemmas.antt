@@ -13,11 +13,13 @@ use Rattle.dft_netlist.specs.declared.instance.Join.{Join}
 use Rattle.dft_netlist.specs.declared.limits.TheConstants.{MAX_NETS, MAX_INSTANCES}
 use Rattle.dft_netlist.specs.Netlist.{Netlist}
 use Rattle.dft_netlist.specs.Building.{empty_netlist, with_pin}
-use Rattle.dft_netlist.specs.Names.{Names, instance_name}
+use Rattle.dft_base.specs.Name.{IsName}
+use Rattle.dft_netlist.specs.Names.{HasNames, IsNameIfAny, Names, instance_name}
 use Rattle.dft_netlist.specs.NameTables.{Entry, look_up, Knows, own_entries, IsFree}
 use Rattle.dft_netlist.specs.Sound.{IsLive, IsInstance, IsInstanceOf, IsAJoin, IsJoinOf, IsNetlist, Begins}
 use Rattle.dft_base.specs.Lexing.{Text}
-use Rattle.dft_netlist.proofs.Places.{get_left, get_push, push_cases, shown_left, shown_push, shown_cases, set_cases, shown_set}
+use Rattle.dft_base.proofs.ListLemmas.{get_left}
+use Rattle.dft_netlist.proofs.Places.{get_push, push_cases, shown_left, shown_push, shown_cases, set_cases, shown_set}
 use Rattle.dft_netlist.proofs.NamesLemmas.{Adds, SameNames, knows_more, knows_same, differ_of}
 
 -- ---- more nets
@@ -49,12 +51,13 @@ empty_knows name library = record { says = λ q a h. absurd (let f : ⊥ = cc in
     nothing q (Vector port) h = absurd (let f : ⊥ = cc in f)
     nothing q (AnInstance id) h = absurd (let f : ⊥ = cc in f)
 
-pub empty_sound : (name : Text) (library : List Cell) → IsNetlist (empty_netlist name library)
-empty_sound name library = record {
+pub empty_sound : (name : Text) (library : List Cell) → IsName name → IsNetlist (empty_netlist name library)
+empty_sound name library is = record {
   few_ports = omega arith;
   few_nets = omega arith;
   few_instances = omega arith;
   names = differ_of [] (empty_netlist name library) (empty_knows name library);
+  named = record { own = is; ports = λ k p at. absurd (let f : ⊥ = cc in f); nets = λ k q at. absurd (let f : ⊥ = cc in f); instances = λ k i at. absurd (let f : ⊥ = cc in f) };
   widths = λ k p at. absurd (let f : ⊥ = cc in f);
   numbered = refl;
   bits = record { rest = []; same = refl };
@@ -86,14 +89,23 @@ net_adds n name = record { kept = kept; only = only; here = get_push n.nets name
 pub net_knows : (es : List Entry) (n : Netlist) (name : Text) → Knows es n → look_up es name ≡ None → Knows (es ++ (name, net_number (length n.nets)) ∷ []) (with_net n name)
 net_knows es n name k none = knows_more es n (with_net n name) name (net_number (length n.nets)) k none (net_adds n name)
 
-pub net_sound : (es : List Entry) (n : Netlist) (name : Text) → IsNetlist n → Knows es (with_net n name) → length n.nets < MAX_NETS → IsNetlist (with_net n name)
-net_sound es n name s k few =
+net_named : (n : Netlist) (name : Text) → HasNames n → IsName name → HasNames (with_net n name)
+net_named n name h is = record {
+  own = h.own;
+  ports = h.ports;
+  nets = λ i q at. elim (push_cases n.nets name i q at) [ inl was ↦ h.nets i q was | inr new ↦ subst IsName new.1 is ];
+  instances = h.instances;
+}
+
+pub net_sound : (es : List Entry) (n : Netlist) (name : Text) → IsNetlist n → IsName name → Knows es (with_net n name) → length n.nets < MAX_NETS → IsNetlist (with_net n name)
+net_sound es n name s is k few =
     let more = longer n.nets (name ∷ []) in
     record {
       few_ports = s.few_ports;
       few_nets = omega (arith, length-append n.nets (name ∷ []));
       few_instances = s.few_instances;
       names = differ_of es (with_net n name) k;
+      named = net_named n name s.named is;
       widths = s.widths;
       numbered = s.numbered;
       bits = begins_more _ n.nets (name ∷ []) s.bits;
@@ -128,6 +140,7 @@ join_sound es n join s k is = record {
   few_nets = s.few_nets;
   few_instances = s.few_instances;
   names = differ_of es (with_join n join) (join_knows es n join k);
+  named = record { own = s.named.own; ports = s.named.ports; nets = s.named.nets; instances = s.named.instances };
   widths = s.widths;
   numbered = s.numbered;
   bits = s.bits;
@@ -146,12 +159,21 @@ with_instance n instance = record n { instances = n.instances ++ instance ∷ []
 abbrev pub instance_number : ℕ → Named
 instance_number k = AnInstance (record { 0 = k })
 
-pub instance_sound : (es : List Entry) (n : Netlist) (instance : Instance) → IsNetlist n → Knows es (with_instance n instance) → length n.instances < MAX_INSTANCES → IsInstanceOf n instance.name instance.cell instance.pins → IsNetlist (with_instance n instance)
-instance_sound es n instance s k few is = record {
+instance_named : (n : Netlist) (instance : Instance) → HasNames n → IsNameIfAny instance.name → HasNames (with_instance n instance)
+instance_named n instance h is = record {
+  own = h.own;
+  ports = h.ports;
+  nets = h.nets;
+  instances = λ i x at. elim (push_cases n.instances instance i x at) [ inl was ↦ h.instances i x was | inr new ↦ subst (λ y. IsNameIfAny y.name) new.1 is ];
+}
+
+pub instance_sound : (es : List Entry) (n : Netlist) (instance : Instance) → IsNetlist n → IsNameIfAny instance.name → Knows es (with_instance n instance) → length n.instances < MAX_INSTANCES → IsInstanceOf n instance.name instance.cell instance.pins → IsNetlist (with_instance n instance)
+instance_sound es n instance s named k few is = record {
   few_ports = s.few_ports;
   few_nets = s.few_nets;
   few_instances = omega (arith, length-append n.instances (instance ∷ []));
   names = differ_of es (with_instance n instance) k;
+  named = instance_named n instance s.named named;
   widths = s.widths;
   numbered = s.numbered;
   bits = s.bits;
@@ -241,12 +263,21 @@ pin_instance library nets x pin net live h = record {
   ];
 }
 
+pin_named : (n : Netlist) (id pin : ℕ) (instance : Instance) (net : NetId) → slice_get n.instances id ≡ Some instance → HasNames n → HasNames (with_pin_of n id pin instance net)
+pin_named n id pin instance net at h = record {
+  own = h.own;
+  ports = h.ports;
+  nets = h.nets;
+  instances = λ j x there. elim (set_cases n.instances id (with_pin instance pin net) j x there) [ inl was ↦ h.instances j x was | inr is ↦ subst (λ y. IsNameIfAny y.name) is (h.instances id instance at) ];
+}
+
 pub pin_sound : (es : List Entry) (n : Netlist) (id pin : ℕ) (instance : Instance) (net : NetId) → slice_get n.instances id ≡ Some instance → net.0 < length n.nets → IsNetlist n → Knows es n → IsNetlist (with_pin_of n id pin instance net)
 pin_sound es n id pin instance net at live s k = record {
   few_ports = s.few_ports;
   few_nets = s.few_nets;
   few_instances = rw (length-set n.instances id (with_pin instance pin net)) s.few_instances;
   names = differ_of es (with_pin_of n id pin instance net) (pin_knows es n id pin instance net at k);
+  named = pin_named n id pin instance net at s.named;
   widths = s.widths;
   numbered = s.numbered;
   bits = s.bits;

@@ -2,6 +2,7 @@
 use Rattle.std.proofs.Common.{◌≡◌, ℕ, zero, suc, ◌+◌, ◌-◌, ◌<◌, Bool, true, false, cond, List, [], ◌∷◌, ◌++◌, length, take, Option, None, Some, refl, sym, ◌∙◌, ap, subst, arith, slice_get, slice_set, ◌⊎◌, inl, inr, length-set, length-append, true≢false, ◌==◌, replicate}
 use Rattle.std.specs.List.{AllByRecursion}
 use Rattle.std.proofs.lemmas.Option.{slice_get_within}
+use Rattle.std.proofs.lemmas.Bool.{eqb-true, eqb-false, cases_eq}
 use Rattle.dft_netlist.specs.declared.ids.NetId.{NetId}
 use Rattle.dft_netlist.specs.declared.progress.State.{State}
 use Rattle.dft_netlist.specs.declared.progress.State.TheVariants.{New, Walked, Placed}
@@ -11,24 +12,17 @@ use Rattle.dft_netlist.specs.OrderSteps.{back_of, IsChain, IsUnderWay, IsBetween
 use Rattle.dft_netlist.specs.Progress.{Stand, entered, left, top_of, first_open, is_placed, is_new, is_walked}
 use Rattle.dft_netlist.proofs.Places.{set_cases}
 use Rattle.dft_netlist.proofs.Weights.{count_met, count_placed, count_none, count_all, all_new, length_new}
-use Rattle.dft_netlist.proofs.DriveLemmas.{get_set_same, get_set_other, same_number, other_number}
-
-eq_or : (a b : ℕ) → (a ≡ b) ⊎ (a ≡ b → ⊥)
-eq_or a b = by (a == b) refl
-  where
-    by : (t : Bool) → (a == b) ≡ t → (a ≡ b) ⊎ (a ≡ b → ⊥)
-    by true h = inl (same_number a b h)
-    by false h = inr (other_number a b h)
+use Rattle.dft_netlist.proofs.DriveLemmas.{get_set_same, get_set_other}
 
 back-push : (walk : List NetId) (net : NetId) → back_of (walk ++ net ∷ []) ≡ net.0 ∷ back_of walk
 back-push [] net = refl
 back-push (x ∷ walk) net = ap (λ xs. xs ++ x.0 ∷ []) (back-push walk net)
 
-numbers-push : (order : List NetId) (net : NetId) → numbers_of (order ++ net ∷ []) ≡ numbers_of order ++ net.0 ∷ []
+pub numbers-push : (order : List NetId) (net : NetId) → numbers_of (order ++ net ∷ []) ≡ numbers_of order ++ net.0 ∷ []
 numbers-push [] net = refl
 numbers-push (x ∷ order) net = ap (λ xs. x.0 ∷ xs) (numbers-push order net)
 
-has_left : (xs ys : List ℕ) (k : ℕ) → Has xs k → Has (xs ++ ys) k
+pub has_left : (xs ys : List ℕ) (k : ℕ) → Has xs k → Has (xs ++ ys) k
 has_left [] ys k h = absurd h
 has_left (x ∷ xs) ys k h = elim h [ inl e ↦ inl e | inr more ↦ inr (has_left xs ys k more) ]
 
@@ -90,7 +84,7 @@ has_split (x ∷ front) back k = inr (has_split front back k)
 -- ---- a net is met
 
 enter_open : (s : List State) (net : ℕ) → slice_get s net ≡ Some New → (k : ℕ) → is_placed (slice_get (slice_set s net Walked) k) ≡ is_placed (slice_get s k)
-enter_open s net is k = elim (eq_or net k) [
+enter_open s net is k = elim (cases_eq net k) [
   | inl e ↦ subst (λ j. is_placed (slice_get (slice_set s net Walked) j) ≡ is_placed (slice_get s j)) e (ap is_placed (get_set_same s net New Walked is) ∙ sym (ap is_placed is))
   | inr ne ↦ ap is_placed (get_set_other s net k Walked ne)
 ]
@@ -101,7 +95,7 @@ chain_same n start s t same (a ∷ []) h = h
 chain_same n start s t same (a ∷ b ∷ w) h = (open_same s t same (reads_of n b) ∙ h.0, chain_same n start s t same (b ∷ w) h.1)
 
 state_apart : (s : List State) (v : State) (net k : ℕ) (u : State) → (v ≡ u → ⊥) → slice_get s net ≡ Some New → slice_get (slice_set s net v) k ≡ Some u → slice_get s k ≡ Some u
-state_apart s v net k u ne is h = elim (eq_or net k) [
+state_apart s v net k u ne is h = elim (cases_eq net k) [
   | inl e ↦ (let same : Some v ≡ Some u = sym (get_set_same s net New v is) ∙ ap (slice_get (slice_set s net v)) e ∙ h in absurd (ne (cc)))
   | inr other ↦ sym (get_set_other s net k v other) ∙ h
 ]
@@ -125,7 +119,7 @@ enters n start s net u is chain = record {
 }
   where
     walked : (k : ℕ) → slice_get (slice_set s.states net.0 Walked) k ≡ Some Walked → (k ≡ net.0) ⊎ Has (back_of s.walk) k
-    walked k h = elim (eq_or net.0 k) [ inl e ↦ inl (sym e) | inr ne ↦ inr (u.walked k (sym (get_set_other s.states net.0 k Walked ne) ∙ h)) ]
+    walked k h = elim (cases_eq net.0 k) [ inl e ↦ inl (sym e) | inr ne ↦ inr (u.walked k (sym (get_set_other s.states net.0 k Walked ne) ∙ h)) ]
 
     on_walk : (k : ℕ) → (k ≡ net.0) ⊎ Has (back_of s.walk) k → slice_get (slice_set s.states net.0 Walked) k ≡ Some Walked
     on_walk k h = elim h [
@@ -151,7 +145,7 @@ order_push n before (x ∷ xs) net o new live reads = (
 )
 
 leave_more : (s : List State) (net : ℕ) (a : State) → slice_get s net ≡ Some a → (k : ℕ) → is_placed (slice_get s k) ≡ true → is_placed (slice_get (slice_set s net Placed) k) ≡ true
-leave_more s net a is k h = elim (eq_or net k) [
+leave_more s net a is k h = elim (cases_eq net k) [
   | inl e ↦ ap is_placed (ap (slice_get (slice_set s net Placed)) (sym e) ∙ get_set_same s net a Placed is)
   | inr ne ↦ ap is_placed (get_set_other s net k Placed ne) ∙ h
 ]
@@ -203,7 +197,7 @@ leaves n start s net u top none = by (popped s.walk net top).same
           ordered = rw (numbers-push s.order net) (order_push n [] (numbers_of s.order) net.0 u.ordered
               (λ h. elim h [ inl never ↦ never | inr has ↦ (let e : Some Walked ≡ Some Placed = sym is ∙ u.in_order net.0 has in cc) ])
               (omega arith) (all_placed s.states _ (λ k p. inr (u.placed k p)) (reads_of n net.0) none));
-          placed = λ k h. rw (numbers-push s.order net) (elim (eq_or net.0 k) [
+          placed = λ k h. rw (numbers-push s.order net) (elim (cases_eq net.0 k) [
             | inl e ↦ subst (Has (numbers_of s.order ++ net.0 ∷ [])) e (has_push (numbers_of s.order) net.0)
             | inr ne ↦ has_left (numbers_of s.order) (net.0 ∷ []) k (u.placed k (sym (get_set_other s.states net.0 k Placed ne) ∙ h))
           ]);
@@ -211,7 +205,7 @@ leaves n start s net u top none = by (popped s.walk net top).same
             | inl was ↦ state_kept s.states Placed net.0 k Placed Walked is (λ e. cc) (u.in_order k was)
             | inr e ↦ ap (slice_get (slice_set s.states net.0 Placed)) e ∙ get_set_same s.states net.0 Walked Placed is
           ];
-          walked = λ k h. elim (eq_or net.0 k) [
+          walked = λ k h. elim (cases_eq net.0 k) [
             | inl e ↦ (let f : Some Placed ≡ Some Walked = sym (get_set_same s.states net.0 Walked Placed is) ∙ ap (slice_get (slice_set s.states net.0 Placed)) e ∙ h in absurd (let g : ⊥ = cc in g))
             | inr ne ↦ elim (subst (λ xs. Has xs k) same (u.walked k (sym (get_set_other s.states net.0 k Placed ne) ∙ h))) [ inl e ↦ absurd (ne (sym e)) | inr more ↦ more ]
           ];
@@ -331,7 +325,7 @@ ends n start s u none live started = record {
     on_walk = u.on_walk;
     once = u.once;
     chain = rw none tt;
-    before = λ k lt. elim (eq_or k start) [ inl e ↦ ap (slice_get s.states) e ∙ here | inr ne ↦ u.before k (omega arith) ];
+    before = λ k lt. elim (cases_eq k start) [ inl e ↦ ap (slice_get s.states) e ∙ here | inr ne ↦ u.before k (omega arith) ];
   };
   no_walk = none;
 }

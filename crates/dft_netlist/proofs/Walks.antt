@@ -47,10 +47,10 @@ join_below : (n : Netlist) (rank : ℕ → ℕ) (r : ℕ) (d : Driver) (source :
 join_below n rank r d source is below = rw is at below
 
 -- a source that stands below so many steps
-abbrev IsWithin : (ℕ → ℕ) → ℕ → Source → Type 0
+abbrev pub IsWithin : (ℕ → ℕ) → ℕ → Source → Type 0
 IsWithin rank steps source = AreBelow rank steps (nets_of (source ∷ []))
 
-weaker : (rank : ℕ → ℕ) (r q : ℕ) (source : Source) → r < suc q → IsWithin rank r source → IsWithin rank q source
+pub weaker : (rank : ℕ → ℕ) (r q : ℕ) (source : Source) → r < suc q → IsWithin rank r source → IsWithin rank q source
 weaker rank r q (Net net) less below = (omega arith, tt)
 weaker rank r q (Tied bit) less below = tt
 weaker rank r q (Loose i pin) less below = tt

@@ -1,5 +1,5 @@
 -- The printed names of a netlist: of nets, among them the bits of ports, of vector ports and of instances (IEEE 1364, identifiers).
-use Rattle.std.specs.Prelude.{ℕ, suc, ◌≡◌, Bool, false, List, [], ◌∷◌, ◌++◌, map, Option, None, Some, slice_get, if◌then◌else◌}
+use Rattle.std.specs.Prelude.{ℕ, suc, ◌≡◌, ◌<◌, ◌^◌, Bool, false, List, [], ◌∷◌, ◌++◌, map, Option, None, Some, slice_get, if◌then◌else◌}
 use Rattle.std.specs.List.{filter_map}
 use Rattle.std.specs.Option.{option_and_then}
 use Rattle.std.specs.Str.{bytes_eq}
@@ -15,6 +15,7 @@ use Rattle.dft_netlist.specs.declared.named.Named.{Named}
 use Rattle.dft_netlist.specs.declared.named.Named.TheVariants.{Net, Vector, Instance as AnInstance}
 use Rattle.dft_netlist.specs.Netlist.{Netlist}
 use Rattle.dft_base.specs.Lexing.{Text}
+use Rattle.dft_base.specs.Name.{IsName}
 
 -- ---- the names of a port's bits
 
@@ -55,6 +56,27 @@ Names n name (AnInstance instance) = option_and_then instance_name (slice_get n.
 -- a printed name stands for one thing at most
 abbrev pub NamesDiffer : Netlist → Type 0
 NamesDiffer n = (name : Text) (a b : Named) → Names n name a → Names n name b → a ≡ b
+
+-- ---- names are names
+
+-- a name, if there is one
+abbrev pub IsNameIfAny : Option Text → Type 0
+IsNameIfAny None = Unit {0}
+IsNameIfAny (Some name) = IsName name
+
+-- a range, if there is one, is of 16-bit numbers
+abbrev pub IsShortRange : Option Range → Type 0
+IsShortRange None = Unit {0}
+IsShortRange (Some range) = (range.left < 2 ^ 16) × (range.right < 2 ^ 16)
+
+-- the names of the module, of its ports, nets and instances are names, and the ranges of its ports are of 16-bit numbers
+pub record HasNames (n : Netlist) : Type 0 where
+  pub own : IsName n.name
+  pub ports : (place : ℕ) (port : Port) → slice_get n.ports place ≡ Some port → IsName port.name × IsShortRange port.range
+  pub nets : (place : ℕ) (name : Text) → slice_get n.nets place ≡ Some name → IsName name
+  pub instances : (place : ℕ) (instance : Instance) → slice_get n.instances place ≡ Some instance → IsNameIfAny instance.name
+
+-- ---- names that are taken
 
 -- the printed names that are taken
 abbrev pub names_taken : Netlist → List Text

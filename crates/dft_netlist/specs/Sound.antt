@@ -18,7 +18,7 @@ use Rattle.dft_netlist.specs.declared.limits.TheConstants.{MAX_PORTS, MAX_NETS, 
 use Rattle.dft_netlist.specs.Netlist.{Netlist}
 use Rattle.dft_netlist.specs.Drivers.{shape_of}
 use Rattle.dft_netlist.specs.NetNumbers.{nets_from}
-use Rattle.dft_netlist.specs.Names.{bit_names, NamesDiffer}
+use Rattle.dft_netlist.specs.Names.{bit_names, HasNames, NamesDiffer}
 use Rattle.dft_base.specs.Lexing.{Text}
 
 -- the gate primitives that a netlist may use (IEEE 1364)
@@ -105,6 +105,8 @@ pub record IsNetlist (n : Netlist) : Type 0 where
   pub few_instances : length n.instances ≤ MAX_INSTANCES
   -- names of nets, ports and instances differ
   pub names : NamesDiffer n
+  -- and are names
+  pub named : HasNames n
   -- a port has a bit for each name that its range gives
   pub widths : (place : ℕ) (port : Port) → slice_get n.ports place ≡ Some port → length port.bits ≡ length (bit_names port.name port.range)
   -- the bits of the ports, in order, are the first nets

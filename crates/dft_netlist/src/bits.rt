@@ -2,7 +2,8 @@
 
 ghost use Rattle.std.specs.Prelude.{◌≡◌, ◌+◌, ◌<◌, ◌≤◌, ◌++◌, IfOk, Some, length, map, option_map, slice_get, vec_len, vec_capacity};
 ghost use Rattle.dft_netlist.specs.Names as spec;
-ghost use Rattle.dft_netlist.specs.Names.{indices_of, vector_name_in};
+ghost use Rattle.dft_base.specs.Name.{IsName};
+ghost use Rattle.dft_netlist.specs.Names.{IsShortRange, indices_of, vector_name_in};
 ghost use Rattle.dft_netlist.specs.NameTables.{AllDiffer};
 
 use dft_base::{Name, Range};
@@ -64,14 +65,18 @@ fn bit_name(alloc: Global, name: &Name, index: u16) -> Result<Name, AllocError>
     Name::from_slice(alloc, &bytes)
 }
 
-/// The own name of a vector; a scalar port has none besides its bit's.
+/// The own name of a vector; a scalar port has none besides its bit's. A port's name is a name, and its range of 16-bit
+/// numbers.
 pub(crate) fn vector_key(
     alloc: Global,
     name: &Name,
     range: Option<Range>,
 ) -> Result<Option<Name>, AllocError>
-    ensures { IfOk result (λ key. key ≡ vector_name_in name.now range) }
+    ensures key { IfOk result (λ key. key ≡ vector_name_in name.now range) }
+    ensures name { IsName name.now }
+    ensures short { IsShortRange range }
 {
+    name.soundness();
     match range {
         Some(_) => Ok(Some(name.copy(alloc)?)),
         None => Ok(None),

@@ -51,6 +51,7 @@ impl DesignBuilder {
     pub fn new(alloc: Global, module: Name, library: Library) -> DesignBuilder
         ensures { result ≡ empty_netlist «module» library }
     {
+        module.soundness();
         DesignBuilder {
             alloc,
             name: module,

@@ -1,7 +1,8 @@
 //! Calls of a builder for parts that are known to fit: a name is hashed once, and nothing is tested.
 
-ghost use Rattle.std.specs.Prelude.{◌≡◌, None, IfOk, OnErr};
+ghost use Rattle.std.specs.Prelude.{◌≡◌, None, IfOk, OnErr, OnOk};
 ghost use Rattle.dft_netlist.specs.Building.{WithNet, WithInstance, net_refusal, instance_refusal};
+ghost use Rattle.dft_netlist.specs.Names.{IsNameIfAny};
 ghost use Rattle.dft_netlist.specs.Sound.{IsInstanceOf};
 
 use crate::builder::DesignBuilder;
@@ -27,6 +28,7 @@ impl DesignBuilder {
         ensures err { OnErr result (self.new ≡ self.old) }
     {
         let count = self.table.net_count();
+        name.soundness();
         self.table.reserve(1)?;
         self.table.insert_net(name);
         Ok(NetId(count as u32))
@@ -51,10 +53,14 @@ impl DesignBuilder {
 
 /// The bytes of a name, if there is one.
 fn key_of(alloc: Global, name: &Option<Name>) -> Result<Option<Name>, AllocError>
-    ensures { IfOk result (λ key. key ≡ name.now) }
+    ensures key { IfOk result (λ key. key ≡ name.now) }
+    ensures name { OnOk result (IsNameIfAny name.now) }
 {
     match name {
-        Some(name) => Ok(Some(name.copy(alloc)?)),
+        Some(name) => {
+            name.soundness();
+            Ok(Some(name.copy(alloc)?))
+        }
         None => Ok(None),
     }
 }

@@ -1,7 +1,7 @@
 -- The first cell of a kind in a library.
 use Rattle.std.proofs.Common.{ℕ, zero, suc, ◌+◌, ◌≡◌, ◌<◌, Bool, true, false, List, [], ◌∷◌, Some, length, slice_get, refl, sym, ap, arith, ◌∙◌}
 use Rattle.std.specs.Prelude.{if◌then◌else◌}
-use Rattle.std.proofs.lemmas.Option.{none-some, same_Some}
+use Rattle.std.proofs.lemmas.Option.{none-some, same_Some, slice_get_within}
 use Rattle.dft_cells.specs.declared.kind.Kind.{Kind}
 use Rattle.dft_cells.specs.declared.kind.Kind.TheVariants as kind
 use Rattle.dft_cells.specs.declared.cell.Cell.{Cell}
@@ -74,10 +74,5 @@ first_dff_is library id first = first_is is_dff kind.Dff library id refl not_dff
 pub first_lockup_is : (library : List Cell) (id : CellId) → IsFirstOf library kind.Lockup id → id ≡ first_cell is_lockup library
 first_lockup_is library id first = first_is is_lockup kind.Lockup library id refl not_lockup first
 
-within : {X : Type 0} (xs : List X) (k : ℕ) (x : X) → slice_get xs k ≡ Some x → k < length xs
-within [] k x at = absurd (none-some x at)
-within (z ∷ xs) zero x at = omega arith
-within (z ∷ xs) (suc k) x at = let h = within xs k x at in omega (arith, h)
-
 pub first_there : (library : List Cell) (k : Kind) (id : CellId) → IsFirstOf library k id → id.0 < length library
-first_there library k id first = within library id.0 first.cell first.at
+first_there library k id first = slice_get_within library id.0 first.cell first.at

@@ -4,6 +4,7 @@ use Rattle.std.specs.Prelude.{IsTrue}
 use Rattle.std.specs.List.{All}
 use Rattle.std.proofs.lemmas.Option.{none-some, same_Some}
 use Rattle.std.proofs.lemmas.List.{length-map}
+use Rattle.std.proofs.lemmas.List.Elements.{All-head, All-tail}
 use Rattle.dft_cells.specs.declared.kind.Kind.{Kind}
 use Rattle.dft_cells.specs.declared.kind.Role.{Role}
 use Rattle.dft_cells.specs.declared.kind.Role.TheVariants as role
@@ -21,12 +22,6 @@ use Rattle.dft_parts.specs.Recipes.{AreThere, at_nets}
 
 -- ---- what holds of all items
 
-pub all_head : {X : Type 0} (P : X → Type 0) (x : X) (xs : List X) → All P (x ∷ xs) → P x
-all_head P x xs h = h zero x (omega arith)
-
-pub all_tail : {X : Type 0} (P : X → Type 0) (x : X) (xs : List X) → All P (x ∷ xs) → All P xs
-all_tail P x xs h = λ k d less. h (suc k) d (omega (arith, less))
-
 -- nets that were there are there
 pub there_on : (n m : Netlist) (nets : List NetId) → length n.nets ≤ length m.nets → AreThere n nets → AreThere m nets
 there_on n m nets more h = λ k d less. omega (arith, more, h k d less)
@@ -40,8 +35,8 @@ gate_width (x ∷ xs) o = ap suc (gate_width xs o)
 gate_live : (count : ℕ) (xs : List NetId) (o : NetId) → All (λ net. net.0 < count) xs → o.0 < count → AreLive count (at_nets xs ++ Net o ∷ [])
 gate_live count [] o h k zero signal at = subst (IsLive count) (same_Some (Net o) signal at) k
 gate_live count [] o h k (suc place) signal at = absurd (none-some signal at)
-gate_live count (x ∷ xs) o h k zero signal at = subst (IsLive count) (same_Some (Net x) signal at) (all_head (λ (net : NetId). net.0 < count) x xs h)
-gate_live count (x ∷ xs) o h k (suc place) signal at = gate_live count xs o (all_tail (λ (net : NetId). net.0 < count) x xs h) k place signal at
+gate_live count (x ∷ xs) o h k zero signal at = subst (IsLive count) (same_Some (Net x) signal at) (All-head (λ (net : NetId). net.0 < count) x xs h)
+gate_live count (x ∷ xs) o h k (suc place) signal at = gate_live count xs o (All-tail (λ (net : NetId). net.0 < count) x xs h) k place signal at
 
 -- a signal that is no constant
 not_constant : (net : NetId) (bit : Bool) → Some (Net net) ≡ Some (Constant bit) → ⊥

@@ -4,13 +4,14 @@ use Rattle.std.specs.List.{range_with_len}
 use Rattle.std.proofs.lemmas.List.{append-nil, map-append}
 use Rattle.std.proofs.lemmas.Option.{none-some, same_Some}
 use Rattle.dft_base.specs.Lexing.{Text}
+use Rattle.dft_base.proofs.ListLemmas.{get_left, length_push}
 use Rattle.dft_netlist.specs.declared.ids.NetId.{NetId}
 use Rattle.dft_netlist.specs.declared.instance.CellRef.{CellRef}
 use Rattle.dft_netlist.specs.declared.instance.Signal.{Signal}
 use Rattle.dft_netlist.specs.declared.instance.Signal.TheVariants.{Net, Constant, Unconnected}
 use Rattle.dft_netlist.specs.declared.instance.Instance.{Instance}
 use Rattle.dft_netlist.specs.Names.{instance_name}
-use Rattle.dft_netlist.proofs.Places.{get_left, get_push}
+use Rattle.dft_netlist.proofs.Places.{get_push}
 use Rattle.dft_parts.specs.MadeNames.{made_net, made_instance}
 use Rattle.dft_parts.specs.Parts.{Part, ANet, AnInstance, APin, Making, next_instance, joined_to, pin_joined, instance_joined, with_part, with_parts}
 use Rattle.dft_parts.specs.Recipes.{nets_in}
@@ -76,7 +77,7 @@ joined_get (suc i) pin net (z ∷ xs) zero x at = record {
 }
 joined_get (suc i) pin net (z ∷ xs) (suc k) x at = let h = joined_get i pin net xs k x at in record { instance = h.instance; at = h.at; cell_is = h.cell_is; kept = h.kept }
 
-joined_length : (i pin : ℕ) (net : NetId) (xs : List Instance) → length (instance_joined i pin net xs) ≡ length xs
+pub joined_length : (i pin : ℕ) (net : NetId) (xs : List Instance) → length (instance_joined i pin net xs) ≡ length xs
 joined_length i pin net [] = refl
 joined_length zero pin net (x ∷ xs) = refl
 joined_length (suc i) pin net (x ∷ xs) = ap suc (joined_length i pin net xs)
@@ -112,10 +113,6 @@ parts_stay s more (AnInstance cell pins ∷ parts) i h = (stands_on s more i cel
 parts_stay s more (APin instance pin net ∷ parts) i h = parts_stay s more parts i h
 
 -- ---- lists that grow
-
-pub one_more : {X : Type 0} (xs : List X) (x : X) → length (xs ++ x ∷ []) ≡ suc (length xs)
-one_more [] x = refl
-one_more (y ∷ xs) x = ap suc (one_more xs x)
 
 instance_there : (s : Making) (parts : List Part) (cell : CellRef) (pins : List Signal) → Stands (with_parts (with_part s (AnInstance cell pins)) parts).netlist (length s.netlist.instances) cell pins
 instance_there s parts cell pins =
@@ -164,7 +161,7 @@ parts_grow s (AnInstance cell pins ∷ parts) =
       stay = λ number other more k. stands_on s (AnInstance cell pins ∷ parts) number other more k;
       there = (
         instance_there s parts cell pins,
-        subst (λ (k : ℕ). HasParts (with_parts (with_part s (AnInstance cell pins)) parts).netlist k parts) (one_more s.netlist.instances (next_instance s.made cell pins)) h.there,
+        subst (λ (k : ℕ). HasParts (with_parts (with_part s (AnInstance cell pins)) parts).netlist k parts) (length_push s.netlist.instances (next_instance s.made cell pins)) h.there,
       );
     }
 parts_grow s (APin instance pin net ∷ parts) =

@@ -16,11 +16,11 @@ use Rattle.dft_netlist.specs.Sound.{bits_of, bit_names_of, IsNetlist, IsLive, Ar
 use Rattle.dft_netlist.specs.NetNumbers.{nets_from}
 use Rattle.dft_netlist.proofs.LiveLemmas.{length-bits}
 use Rattle.dft_parts.specs.Single.{NewIsFree}
-use Rattle.dft_parts.proofs.Singles.{times_at}
 use Rattle.std.specs.Prelude.{Bool}
 use Rattle.std.proofs.lemmas.List.Sums.{sum_by-cons}
 use Rattle.std.proofs.lemmas.Bool.{eqb-true}
 use Rattle.dft_netlist.specs.Drivers.{Source, Driver, Driven, connections_from, connections_of, inputs_of, driver_of_kind, at_signal, at_role, driven_by_pins, driven_by, driven_by_instances, driven_by_bits, driven_by_ports, driven_by_joins, all_driven, shape_of}
+use Rattle.dft_netlist.proofs.DriverLaws.{times}
 
 -- these are among the first nets
 abbrev AreBefore : (count : ℕ) → List NetId → Type 0
@@ -107,7 +107,7 @@ not_yet : (b : Bool) (x net count : ℕ) → (x == net) ≡ b → x < count → 
 not_yet false x net count h less past = refl
 not_yet true x net count h less past = absurd (omega (arith, eqb-true x net h, less, past))
 
-none_at : (count net : ℕ) (ds : List Driven) → DriveBelow count ds → count ≤ net → times_at ds net ≡ 0
+none_at : (count net : ℕ) (ds : List Driven) → DriveBelow count ds → count ≤ net → times ds net ≡ 0
 none_at count net [] h past = refl
 none_at count net (d ∷ ds) h past =
     omega (arith, sum_by-cons (λ (e : Driven). cond (e.0 == net) 1 0) d ds, not_yet (d.0 == net) d.0 net count refl h.0 past, none_at count net ds h.1 past)

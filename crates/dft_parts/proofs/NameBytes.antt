@@ -6,14 +6,8 @@ use Rattle.std.proofs.lemmas.List.Elements.{All-append, All-from_get_or}
 use Rattle.std.proofs.lemmas.Fmt.{digits_decimal}
 use Rattle.std.proofs.lemmas.Str.Parse.{numerals_by_value, tells_by_index}
 use Rattle.dft_base.specs.Name.{IsName}
+use Rattle.dft_base.proofs.TextLemmas.{IsPrinted, digits_printed}
 use Rattle.dft_parts.specs.MadeNames.{numbered}
-
--- a byte of a name
-abbrev IsPrinted : ℕ → Type 0
-IsPrinted b = (33 ≤ b) × (b ≤ 126)
-
-digits_printed : (number : ℕ) → number < 2 ^ 64 → All IsPrinted (decimal number)
-digits_printed number lt = All-from_get_or IsPrinted (decimal number) 0 (λ i within. let d = digits_decimal (numerals_by_value _ tells_by_index) number lt i within in (omega (arith, d.0), omega (arith, d.1)))
 
 pub is_numbered : (name : List ℕ) (number : ℕ) → number < 2 ^ 64 → IsName name → IsName (numbered name number)
 is_numbered name number lt is = record {

@@ -88,7 +88,7 @@ gate_latch : (i pin : ℕ) (xs : List NetId) (o : NetId) → lockup_inputs i (co
 gate_latch i pin [] o = refl
 gate_latch i pin (x ∷ xs) o = gate_latch i (suc pin) xs o
 
-gate_drives : (xs : List NetId) (o : NetId) → nets_driven (gate_roles (length xs)) (at_nets xs ++ signal.Net o ∷ []) ≡ o.0 ∷ []
+pub gate_drives : (xs : List NetId) (o : NetId) → nets_driven (gate_roles (length xs)) (at_nets xs ++ signal.Net o ∷ []) ≡ o.0 ∷ []
 gate_drives [] o = refl
 gate_drives (x ∷ xs) o = gate_drives xs o
 

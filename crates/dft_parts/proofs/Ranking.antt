@@ -5,6 +5,7 @@ use Rattle.std.proofs.lemmas.Option.{none-some, same_Some}
 use Rattle.std.proofs.lemmas.Bool.{eqb-true}
 use Rattle.dft_base.specs.declared.dir.Dir.{Dir}
 use Rattle.dft_base.specs.declared.dir.Dir.TheVariants as dir
+use Rattle.dft_base.proofs.ListLemmas.{get_right}
 use Rattle.dft_cells.specs.declared.kind.Kind.{Kind}
 use Rattle.dft_cells.specs.declared.kind.Kind.TheVariants as kind
 use Rattle.dft_cells.specs.declared.kind.Role.{Role}
@@ -20,17 +21,13 @@ use Rattle.dft_netlist.specs.NetDrivers.{IsSingle}
 use Rattle.dft_netlist.specs.Orders.{Has, IsOrderable, Follows, reads_of}
 use Rattle.dft_netlist.specs.Drivers.{Source, Driver, Driven, Connection, Joined, driver_of_kind, at_role, inputs_of, lockup_inputs, connections_from, connections_of, driven_by_pins, driven_by, driven_by_instances, driven_by_bits, driven_by_ports, driven_by_joins, driver_in, driver, nets_read, nets_of, pins_at, pins_of, shape_of, source_of, AreBelow, IsOrdered}
 use Rattle.dft_netlist.proofs.DriverLaws.{listed_drives}
+use Rattle.dft_netlist.proofs.StandLemmas.{has_left}
 use Rattle.dft_parts.specs.Parts.{Part, ANet, AnInstance, APin, Making, next_instance, pin_joined, instance_joined, with_part}
 use Rattle.dft_parts.specs.Single.{net_driven, nets_driven}
 use Rattle.dft_parts.specs.Ranks.{reads_by, read_by, IsRanked, IsJoinRanked, AreRanked, RanksOrder, OrderRanks, IsPinRanked, IsPartRanked, PartsRank}
-use Rattle.dft_parts.proofs.Standing.{get_behind, instance_drives}
+use Rattle.dft_parts.proofs.Standing.{instance_drives}
 
 -- ---- lists of nets
-
-pub has_left : (xs ys : List ℕ) (k : ℕ) → Has xs k → Has (xs ++ ys) k
-has_left [] ys k h = absurd h
-has_left (x ∷ xs) ys k (inl e) = inl e
-has_left (x ∷ xs) ys k (inr h) = inr (has_left xs ys k h)
 
 pub has_right : (xs ys : List ℕ) (k : ℕ) → Has ys k → Has (xs ++ ys) k
 has_right [] ys k h = h
@@ -176,7 +173,7 @@ listed_left k i ins ds es net h = record { inverted = h.inverted; place = h.plac
     left (d ∷ ds) (suc place) e = left ds place e
 
 listed_right : (k : Kind) (i : ℕ) (ins : List Source) (ds es : List Driven) (net : ℕ) → IsListed k i ins es net → IsListed k i ins (ds ++ es) net
-listed_right k i ins ds es net h = record { inverted = h.inverted; place = length ds + h.place; at = get_behind ds es h.place (net, driver_of_kind k i h.inverted ins) h.at }
+listed_right k i ins ds es net h = record { inverted = h.inverted; place = length ds + h.place; at = get_right ds es h.place (net, driver_of_kind k i h.inverted ins) h.at }
 
 listed_role : (r : Role) (k : Kind) (i : ℕ) (ins : List Source) (s : Signal) (net : ℕ) → Has (net_driven r s) net → IsListed k i ins (at_role r k i ins s) net
 listed_role role.Output k i ins (signal.Net own) net (inl e) = record { inverted = false; place = zero; at = ap (λ m. Some (m, driver_of_kind k i false ins)) (sym e) }
@@ -243,7 +240,7 @@ ranked_join : (n : Netlist) (rank : ℕ → ℕ) (k : ℕ) (join : Join) → IsS
 ranked_join n rank k join single ordered at read has =
     let front = driven_by_ports n.ports ++ driven_by_instances n.library 0 n.instances in
     let d : Driven = (join.target.0, Joined (source_of 0 0 join.source)) in
-    let drives : driver n join.target.0 ≡ Joined (source_of 0 0 join.source) = listed_drives n (length front + k) d single (get_behind front (driven_by_joins n.joins) k d (join_at n.joins k join at)) in
+    let drives : driver n join.target.0 ≡ Joined (source_of 0 0 join.source) = listed_drives n (length front + k) d single (get_right front (driven_by_joins n.joins) k d (join_at n.joins k join at)) in
     below_has rank (rank join.target.0) (reads_of n join.target.0) read (ordered.after join.target.0) (subst (λ (nets : List ℕ). Has nets read) (sym (ap (nets_read n) drives)) has)
 
 pub order_ranks : OrderRanks

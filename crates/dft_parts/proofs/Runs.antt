@@ -14,9 +14,6 @@ use Rattle.dft_parts.proofs.Loops.{goes_on, goes_start, each_step, each_refused,
 pub range_on : (k n : ℕ) → k < n → range_with_len k (n - k) ≡ k ∷ range_with_len (k + 1) (n - (k + 1))
 range_on k n less = let e : n - k ≡ suc (n - (k + 1)) = omega (arith, less) in ap (range_with_len k) e
 
-pub range_over : (k n : ℕ) → n ≤ k → range_with_len k (n - k) ≡ []
-range_over k n past = let e : n - k ≡ 0 = omega (arith, past) in ap (range_with_len k) e
-
 pub range_start : (n : ℕ) → range_with_len 0 (n - 0) ≡ range_with_len 0 n
 range_start n = let e : n - 0 ≡ n = omega arith in ap (range_with_len 0) e
 

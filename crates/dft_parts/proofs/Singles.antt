@@ -14,26 +14,23 @@ use Rattle.dft_netlist.specs.Netlist.{Netlist}
 use Rattle.dft_netlist.specs.NetDrivers.{times_driven}
 use Rattle.dft_netlist.specs.Orders.{AreOnce, Has}
 use Rattle.dft_netlist.specs.Drivers.{Source, Driven, connections_from, connections_of, inputs_of, at_role, driven_by_pins, driven_by, driven_by_instances, driven_by_ports, driven_by_joins, shape_of}
+use Rattle.dft_netlist.proofs.DriverLaws.{times}
 use Rattle.dft_parts.specs.Parts.{Part, ANet, AnInstance, APin, Making, next_instance, joined_to, pin_joined, instance_joined, with_part}
 use Rattle.dft_parts.specs.Single.{net_driven, nets_driven, opened, opened_in, opened_at, driven_by_part, driven_by_parts, times_in, TimesAddUp, StaysSingle}
 
--- how often a net is driven in a list
-abbrev pub times_at : List Driven → (net : ℕ) → ℕ
-times_at ds net = count_by (λ d. d.0 == net) ds
-
-pub times_at-append : (xs ys : List Driven) (net : ℕ) → times_at (xs ++ ys) net ≡ times_at xs net + times_at ys net
-times_at-append [] ys net = (let e : times_at ys net ≡ 0 + times_at ys net = omega arith in e)
+pub times_at-append : (xs ys : List Driven) (net : ℕ) → times (xs ++ ys) net ≡ times xs net + times ys net
+times_at-append [] ys net = (let e : times ys net ≡ 0 + times ys net = omega arith in e)
 times_at-append (x ∷ xs) ys net =
     omega (arith, sum_by-cons (λ (d : Driven). cond (d.0 == net) 1 0) x (xs ++ ys), sum_by-cons (λ (d : Driven). cond (d.0 == net) 1 0) x xs, times_at-append xs ys net)
 
-times_in-append : (xs ys : List ℕ) (net : ℕ) → times_in (xs ++ ys) net ≡ times_in xs net + times_in ys net
+pub times_in-append : (xs ys : List ℕ) (net : ℕ) → times_in (xs ++ ys) net ≡ times_in xs net + times_in ys net
 times_in-append [] ys net = (let e : times_in ys net ≡ 0 + times_in ys net = omega arith in e)
 times_in-append (x ∷ xs) ys net =
     omega (arith, sum_by-cons (λ (k : ℕ). cond (k == net) 1 0) x (xs ++ ys), sum_by-cons (λ (k : ℕ). cond (k == net) 1 0) x xs, times_in-append xs ys net)
 
 -- ---- pins
 
-role_times : (r : Role) (k : Kind) (i : ℕ) (ins : List Source) (s : Signal) (net : ℕ) → times_at (at_role r k i ins s) net ≡ times_in (net_driven r s) net
+role_times : (r : Role) (k : Kind) (i : ℕ) (ins : List Source) (s : Signal) (net : ℕ) → times (at_role r k i ins s) net ≡ times_in (net_driven r s) net
 role_times role.Output k i ins (AtNet n) net = refl
 role_times role.Output k i ins (Constant bit) net = refl
 role_times role.Output k i ins Unconnected net = refl
@@ -62,7 +59,7 @@ role_times role.ScanEnable k i ins (AtNet n) net = refl
 role_times role.ScanEnable k i ins (Constant bit) net = refl
 role_times role.ScanEnable k i ins Unconnected net = refl
 
-pins_times : (k : Kind) (i pin : ℕ) (ins : List Source) (roles : List Role) (signals : List Signal) (net : ℕ) → times_at (driven_by_pins k i ins (connections_from pin roles signals)) net ≡ times_in (nets_driven roles signals) net
+pins_times : (k : Kind) (i pin : ℕ) (ins : List Source) (roles : List Role) (signals : List Signal) (net : ℕ) → times (driven_by_pins k i ins (connections_from pin roles signals)) net ≡ times_in (nets_driven roles signals) net
 pins_times k i pin ins [] signals net = refl
 pins_times k i pin ins (r ∷ roles) [] net = refl
 pins_times k i pin ins (r ∷ roles) (s ∷ signals) net =
@@ -76,7 +73,7 @@ instance_times : List Cell → List Instance → ℕ → ℕ
 instance_times library [] net = 0
 instance_times library (x ∷ xs) net = times_in (nets_driven (shape_of library x.cell).roles x.pins) net + instance_times library xs net
 
-counted : (library : List Cell) (i : ℕ) (xs : List Instance) (net : ℕ) → times_at (driven_by_instances library i xs) net ≡ instance_times library xs net
+counted : (library : List Cell) (i : ℕ) (xs : List Instance) (net : ℕ) → times (driven_by_instances library i xs) net ≡ instance_times library xs net
 unfolding instance_times
 counted library i [] net = refl
 counted library i (x ∷ xs) net =
@@ -84,7 +81,7 @@ counted library i (x ∷ xs) net =
     omega (arith, times_at-append (driven_by library i x) (driven_by_instances library (suc i) xs) net, pins_times (shape_of library x.cell).kind i 0 own (shape_of library x.cell).roles x.pins net, counted library (suc i) xs net)
 
 -- how often a net is driven by all that is there
-all_times : (n : Netlist) (net : ℕ) → times_driven n net ≡ times_at (driven_by_ports n.ports) net + instance_times n.library n.instances net + times_at (driven_by_joins n.joins) net
+all_times : (n : Netlist) (net : ℕ) → times_driven n net ≡ times (driven_by_ports n.ports) net + instance_times n.library n.instances net + times (driven_by_joins n.joins) net
 all_times n net =
     let ports = driven_by_ports n.ports in
     let instances = driven_by_instances n.library 0 n.instances in
@@ -136,7 +133,7 @@ same_or : (a b : ℕ) (t : Bool) → (a == b) ≡ t → (a ≡ b) ⊎ ((a == b) 
 same_or a b true h = inl (eqb-true a b h)
 same_or a b false h = inr h
 
-counted_first : (x net : ℕ) (xs : List ℕ) (b : Bool) → (x == net) ≡ b → times_in (x ∷ xs) net ≡ cond b 1 0 + times_in xs net
+pub counted_first : (x net : ℕ) (xs : List ℕ) (b : Bool) → (x == net) ≡ b → times_in (x ∷ xs) net ≡ cond b 1 0 + times_in xs net
 counted_first x net xs b h = sum_by-cons (λ (k : ℕ). cond (k == net) 1 0) x xs ∙ ap (λ (t : Bool). cond t 1 0 + times_in xs net) h
 
 not_has : (nets : List ℕ) (net : ℕ) → (Has nets net → ⊥) → times_in nets net ≡ 0

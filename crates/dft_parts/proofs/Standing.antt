@@ -2,6 +2,7 @@
 use Rattle.std.proofs.Common.{ℕ, zero, suc, ◌+◌, ◌≡◌, false, List, [], ◌∷◌, ◌++◌, length, Some, slice_get, refl, sym, ap, arith, ◌∙◌}
 use Rattle.std.specs.Prelude.{IsTrue}
 use Rattle.std.proofs.lemmas.Option.{none-some, same_Some}
+use Rattle.dft_base.proofs.ListLemmas.{get_left, get_right}
 use Rattle.dft_cells.specs.declared.kind.Kind.{Kind}
 use Rattle.dft_cells.specs.declared.kind.Kind.TheVariants as kind
 use Rattle.dft_cells.specs.declared.cell.Cell.{Cell}
@@ -16,16 +17,11 @@ use Rattle.dft_netlist.specs.Sound.{is_primitive}
 use Rattle.dft_netlist.specs.Drivers.{Shape, Source, Net, Driver, Driven, Gate, gate_roles, connections_from, inputs_of, driver_of_kind, driven_by, driven_by_pins, driven_by_instances, driven_by_ports, driven_by_joins, driver, shape_of}
 use Rattle.dft_netlist.specs.Logic.{meaning_of}
 use Rattle.dft_netlist.proofs.DriverLaws.{listed_drives}
-use Rattle.dft_netlist.proofs.Places.{get_left}
 use Rattle.dft_parts.specs.Recipes.{at_nets}
 use Rattle.dft_parts.specs.Growth.{AreKept}
 use Rattle.dft_parts.specs.Standing.{sources_at, GateStands}
 
 -- ---- an instance drives what it lists
-
-pub get_behind : {X : Type 0} (xs ys : List X) (k : ℕ) (y : X) → slice_get ys k ≡ Some y → slice_get (xs ++ ys) (length xs + k) ≡ Some y
-get_behind [] ys k y h = ap (slice_get ys) (let e : 0 + k ≡ k = omega arith in e) ∙ h
-get_behind (x ∷ xs) ys k y h = ap (slice_get (x ∷ (xs ++ ys))) (let e : suc (length xs) + k ≡ suc (length xs + k) = omega arith in e) ∙ get_behind xs ys k y h
 
 in_instances : (library : List Cell) (i k number m : ℕ) (xs : List Instance) (x : Instance) (d : Driven) → number ≡ i + k → slice_get xs k ≡ Some x → slice_get (driven_by library number x) m ≡ Some d → (j : ℕ) × (slice_get (driven_by_instances library i xs) j ≡ Some d)
 in_instances library i k number m [] x d is at here = absurd (none-some x at)
@@ -34,14 +30,14 @@ in_instances library i zero number m (z ∷ xs) x d is at here =
     (m, get_left (driven_by library i z) (driven_by_instances library (suc i) xs) m d (ap (λ v. slice_get (driven_by library i v) m) (same_Some z x at) ∙ ap (λ k. slice_get (driven_by library k x) m) (sym same) ∙ here))
 in_instances library i (suc k) number m (z ∷ xs) x d is at here =
     let more = in_instances library (suc i) k number m xs x d (omega (arith, is)) at here in
-    (length (driven_by library i z) + more.0, get_behind (driven_by library i z) (driven_by_instances library (suc i) xs) more.0 d more.1)
+    (length (driven_by library i z) + more.0, get_right (driven_by library i z) (driven_by_instances library (suc i) xs) more.0 d more.1)
 
 pub instance_drives : (n : Netlist) (i m : ℕ) (x : Instance) (d : Driven) → IsSingle n → slice_get n.instances i ≡ Some x → slice_get (driven_by n.library i x) m ≡ Some d → driver n d.0 ≡ d.1
 instance_drives n i m x d single at here =
     let listed = in_instances n.library 0 i i m n.instances x d (omega arith) at here in
     listed_drives n (length (driven_by_ports n.ports) + listed.0) d single
     (get_left (driven_by_ports n.ports ++ driven_by_instances n.library 0 n.instances) (driven_by_joins n.joins) (length (driven_by_ports n.ports) + listed.0) d
-    (get_behind (driven_by_ports n.ports) (driven_by_instances n.library 0 n.instances) listed.0 d listed.1))
+    (get_right (driven_by_ports n.ports) (driven_by_instances n.library 0 n.instances) listed.0 d listed.1))
 
 -- ---- gates
 
@@ -84,7 +80,7 @@ primitive_drives kind.Lockup i ins h = absurd cc
 primitive_drives kind.Opaque i ins h = absurd cc
 
 -- what a gate with these pins drives
-abbrev driven_as : Shape → (i : ℕ) → List Signal → List Driven
+abbrev pub driven_as : Shape → (i : ℕ) → List Signal → List Driven
 driven_as s i pins = let cs = connections_from 0 s.roles pins in driven_by_pins s.kind i (inputs_of i cs) cs
 
 gate_driven : (library : List Cell) (i : ℕ) (k : Kind) (xs : List NetId) (o : NetId) (x : Instance) → IsTrue (is_primitive k) → x.cell ≡ cell_ref.Gate k (length xs) → AreKept (at_nets xs ++ AtNet o ∷ []) x.pins →

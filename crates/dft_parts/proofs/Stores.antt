@@ -25,25 +25,25 @@ use Rattle.dft_netlist.specs.Logic.{Ports, domain_of, domain_at, modelled, model
 use Rattle.dft_parts.specs.Cells.{is_dff, is_lockup, first_from, numbered_cell, first_cell, pin_between, pins_between}
 use Rattle.dft_parts.specs.Growth.{AreKept, Stands}
 use Rattle.dft_parts.specs.Standing.{IsClockNet, plain_cell, IsFlop, FlopStands, LockupStands}
-use Rattle.dft_parts.proofs.Standing.{instance_drives}
+use Rattle.dft_parts.proofs.Standing.{instance_drives, driven_as}
 
 -- ---- the first cell of a kind
 
 -- a cell of this kind stands at this number
-abbrev IsAt : (Kind → Bool) → List Cell → (from : ℕ) → Option ℕ → Type 0
+abbrev pub IsAt : (Kind → Bool) → List Cell → (from : ℕ) → Option ℕ → Type 0
 IsAt test cells from None = ⊥
 IsAt test cells from (Some k) = (place : ℕ) × (cell : Cell) × (k ≡ from + place) × (slice_get cells place ≡ Some cell) × (test cell.kind ≡ true)
 
-later_at : (test : Kind → Bool) (c : Cell) (cells : List Cell) (from : ℕ) (o : Option ℕ) → IsAt test cells (suc from) o → IsAt test (c ∷ cells) from o
+pub later_at : (test : Kind → Bool) (c : Cell) (cells : List Cell) (from : ℕ) (o : Option ℕ) → IsAt test cells (suc from) o → IsAt test (c ∷ cells) from o
 later_at test c cells from None h = h
 later_at test c cells from (Some k) h = (suc h.0, h.1, (omega (arith, h.2)), h.3, h.4)
 
-chosen_at : (test : Kind → Bool) (c : Cell) (cells : List Cell) (from : ℕ) (b : Bool) → test c.kind ≡ b → (b ≡ false → IsAt test cells (suc from) (first_from test (suc from) cells)) →
+pub chosen_at : (test : Kind → Bool) (c : Cell) (cells : List Cell) (from : ℕ) (b : Bool) → test c.kind ≡ b → (b ≡ false → IsAt test cells (suc from) (first_from test (suc from) cells)) →
     IsAt test (c ∷ cells) from (if b then Some from else first_from test (suc from) cells)
 chosen_at test c cells from true is h = (zero, c, (omega arith), refl, is)
 chosen_at test c cells from false is h = later_at test c cells from (first_from test (suc from) cells) (h refl)
 
-found_at : (test : Kind → Bool) (cells : List Cell) (from place : ℕ) (cell : Cell) → slice_get cells place ≡ Some cell → test cell.kind ≡ true → IsAt test cells from (first_from test from cells)
+pub found_at : (test : Kind → Bool) (cells : List Cell) (from place : ℕ) (cell : Cell) → slice_get cells place ≡ Some cell → test cell.kind ≡ true → IsAt test cells from (first_from test from cells)
 found_at test [] from place cell at is = absurd (none-some cell at)
 found_at test (c ∷ cells) from zero cell at is = chosen_at test c cells from (test c.kind) refl (λ no. absurd (let yes : test c.kind ≡ true = ap (λ (x : Cell). test x.kind) (same_Some c cell at) ∙ is in let e = sym yes ∙ no in cc))
 found_at test (c ∷ cells) from (suc place) cell at is = chosen_at test c cells from (test c.kind) refl (λ no. found_at test cells (suc from) place cell at is)
@@ -61,7 +61,7 @@ found_in test cells (Some k) h = let e : k ≡ h.0 = omega (arith, h.2) in recor
 found : (test : Kind → Bool) (cells : List Cell) (place : ℕ) (cell : Cell) → slice_get cells place ≡ Some cell → test cell.kind ≡ true → IsFound test cells (first_cell test cells)
 found test cells place cell at is = found_in test cells (first_from test zero cells) (found_at test cells zero place cell at is)
 
-dff_is : (k : Kind) → is_dff k ≡ true → k ≡ kind.Dff
+pub dff_is : (k : Kind) → is_dff k ≡ true → k ≡ kind.Dff
 dff_is kind.Dff h = refl
 dff_is kind.Buf h = absurd cc
 dff_is kind.Inv h = absurd cc
@@ -110,7 +110,7 @@ lockup_is kind.Opaque h = absurd cc
 abbrev pub shape_as : Kind → List Role → Shape
 shape_as k roles = record { kind = k; roles = roles }
 
-dff_shape : (library : List Cell) → IsWellFormed library →
+pub dff_shape : (library : List Cell) → IsWellFormed library →
     (shape_of library (Library (first_cell is_dff library)) ≡ shape_as kind.Dff (AClock ∷ Din ∷ Output ∷ [])) ⊎ (shape_of library (Library (first_cell is_dff library)) ≡ shape_as kind.Dff (AClock ∷ Din ∷ Output ∷ Inverted ∷ []))
 dff_shape library well =
     let h = well.dff in
@@ -129,10 +129,6 @@ lockup_shape library well =
     let k = lockup_is f.cell.kind f.passes in
     let e : map role_of f.cell.pins ≡ AClock ∷ Din ∷ Output ∷ [] = subst (λ (v : Kind). HasRoles v (map role_of f.cell.pins)) k (well.each (first_cell is_lockup library).0 f.cell f.at).roles in
     ap (λ (o : Option Cell). shape_of_cell o) f.at ∙ (λ i. record { kind = k i; roles = e i })
-
--- what an instance of a shape with these pins drives, and where its pins lead
-abbrev driven_as : Shape → (i : ℕ) → List Signal → List Driven
-driven_as s i pins = let cs = connections_from 0 s.roles pins in driven_by_pins s.kind i (inputs_of i cs) cs
 
 clock_root : (n : Netlist) (clock : ℕ) → driver n clock ≡ Input → root_of n (Net clock) ≡ Port clock
 clock_root n clock at = ap (root_of_driver (root_within n (length n.nets)) clock) at

@@ -1,10 +1,12 @@
 -- The ports of listed vectors suit those of the configuration: its clocks and edt_clock pulse, and nothing else does.
 use Rattle.std.proofs.Common.{ℕ, zero, suc, ◌+◌, ◌*◌, ◌/◌, ◌<◌, ◌≤◌, ◌≡◌, ◌==◌, ◌||◌, Bool, true, false, not, List, [], ◌∷◌, ◌++◌, map, Option, None, Some, refl, sym, ap, subst, arith, ◌∙◌}
 use Rattle.std.specs.List.{list_any, range_with_len}
-use Rattle.std.proofs.lemmas.Bool.{eqb-true}
+use Rattle.std.proofs.lemmas.Bool.{eqb-true, or_left, or_right, false_from_ne_true}
 use Rattle.std.proofs.lemmas.List.{append_assoc}
 use Rattle.std.proofs.lemmas.Nat.{le-div}
 use Rattle.dft_base.specs.Solutions.{bit_at}
+use Rattle.dft_base.proofs.BitLemmas.{or_later, same_tests, true_false}
+use Rattle.dft_base.proofs.NumberLemmas.{eqb_turned}
 use Rattle.dft_netlist.specs.declared.ids.NetId.{NetId}
 use Rattle.dft_netlist.specs.NetNumbers.{nets_from}
 use Rattle.dft_netlist.specs.Netlist.{Netlist}
@@ -25,7 +27,7 @@ use Rattle.dft_scan_hardware.specs.declared.style.Style.TheVariants.{Edt}
 use Rattle.dft_scan_hardware.specs.Ports.{gap_in}
 use Rattle.dft_scan_hardware.specs.Statements.{scanned}
 use Rattle.dft_scan_equivalence.specs.Agreeing.{ports_in}
-use Rattle.dft_pattern_behavior.proofs.Clocks.{named_input, pulsed_clock, reset_rests, true_false}
+use Rattle.dft_pattern_behavior.proofs.Clocks.{named_input, pulsed_clock, reset_rests}
 use Rattle.dft_vectors.specs.AddedPorts.{added_inputs, no_bits, set_all, shifting}
 use Rattle.dft_vectors.specs.OwnPorts.{inputs_by, outputs_ignored, pulsing_vector, quiet_vector, set_to}
 use Rattle.dft_vectors.specs.PatternData.{PatternData, load_of}
@@ -33,7 +35,7 @@ use Rattle.dft_vectors.specs.Signals.{input_bits}
 use Rattle.dft_vectors.specs.VectorList.{capture_acts, load_vectors, no_table, last_of, pattern_vectors, set_up_acts, shift_acts, unloaded, vectors_of}
 use Rattle.dft_pattern_behavior.specs.Doing.{DoesAt, Does, AllDo, SetSuits}
 use Rattle.dft_pattern_behavior.proofs.Listed.{is_in}
-use Rattle.dft_pattern_behavior.proofs.Places.{added_nets, all_inputs, not_both, not_in_both}
+use Rattle.dft_pattern_behavior.proofs.Places.{added_nets, all_inputs, not_in_both}
 use Rattle.dft_pattern_behavior.proofs.Playing.{bits_from, clock_pulses, does_head, does_more, does_own, does_past, does_tail, input_before, plays, pulse_is}
 
 -- ---- what does not pulse
@@ -51,21 +53,6 @@ low_all : (x : Vector) (net b from count : ℕ) (bits : ℕ → Bool) (more : Li
 low_all x net b from zero bits more rest h past is = past is
 low_all x net b from (suc count) bits more rest h past is =
     low_by x net b (is_in (nets_from (suc b) count ++ more) net) (b == net) refl (h.0.1 ∙ low_act (bits from)) is (λ later. low_all x net (suc b) (from + 1) count bits more rest h.1 past later)
-
-or_later : (a b : Bool) → a ≡ false → (a || b) ≡ true → b ≡ true
-or_later true b e h = absurd (true_false true refl e)
-or_later false b e h = h
-
-or_left : (a b : Bool) → a ≡ true → (a || b) ≡ true
-or_left true b e = refl
-or_left false b e = absurd cc
-
-or_right : (a b : Bool) → b ≡ true → (a || b) ≡ true
-or_right true b e = refl
-or_right false b e = e
-
-swapped : (a b : ℕ) → (a == b) ≡ (b == a)
-swapped a b = grind arith
 
 module _ (n : Netlist) (config : Config) (v : Vector) (enable update : Bool) (channels masks : ℕ → Bool) (outs : List Act) (x : Vector) (does : Does (scanned Edt n config) (inputs_by n v ++ (added_inputs config enable update channels masks ++ outs)) x) where
   abbrev before : ℕ
@@ -98,7 +85,7 @@ module _ (n : Netlist) (config : Config) (v : Vector) (enable update : Bool) (ch
       let both : DoesAt x (cs ++ (ms ++ [])) (a ++ (b ++ outs)) = subst (λ (acts : List Act). DoesAt x (cs ++ (ms ++ [])) acts) (append_assoc a b outs) after_three in
       let last : DoesAt x (ms ++ []) (b ++ outs) = does_past x (before + 3) 0 config.ring.channels channels (ms ++ []) (b ++ outs) both in
       low_by x net before (is_in (record { 0 = before + 1 } ∷ two) net) (before == net) refl (first.1 ∙ low_act enable) is
-      (λ behind. low_by x net (before + 2) (is_in (cs ++ (ms ++ [])) net) (before + 2 == net) refl (third.1 ∙ low_act update) (or_later (before + 1 == net) (is_in two net) (swapped (before + 1) net ∙ apart) behind)
+      (λ behind. low_by x net (before + 2) (is_in (cs ++ (ms ++ [])) net) (before + 2 == net) refl (third.1 ∙ low_act update) (or_later (before + 1 == net) (is_in two net) (eqb_turned (before + 1) net ∙ apart) behind)
       (λ next. low_all x net (before + 3) 0 config.ring.channels channels (ms ++ []) (b ++ outs) both
       (λ past. low_all x net (before + 3 + config.ring.channels) 0 config.compactor.mask_inputs masks [] outs last (λ none. absurd (true_false false none refl)) past) next))
 
@@ -205,11 +192,6 @@ clocks_pulse n config p ps (x ∷ xs) ready h net clock =
 
 -- ---- the ports
 
-bool_same : (a b : Bool) → (a ≡ true → b ≡ true) → (b ≡ true → a ≡ true) → a ≡ b
-bool_same true b f g = sym (f refl)
-bool_same false true f g = g refl
-bool_same false false f g = refl
-
 -- a reset is no clock there
 reset_apart : (n : Netlist) (config : Config) (net : ℕ) → IsReady n config → (config_ports n config).is_reset net ≡ true → (ports_in Edt n config).is_clock net ≡ true → ⊥
 reset_apart n config net ready is clock =
@@ -220,7 +202,7 @@ pub set_suits : SetSuits
 set_suits n config p ps xs ready h =
     let tame_all = tame_set n config p ps in
     record {
-      clocks = λ net. bool_same (list_any (λ (x : Vector). x.pulsed net) xs) ((ports_in Edt n config).is_clock net) (λ pulse. tame_list n config (vectors_of n config (plan_of n config) (p ∷ ps)) xs tame_all h net pulse)
+      clocks = λ net. same_tests (list_any (λ (x : Vector). x.pulsed net) xs) ((ports_in Edt n config).is_clock net) (λ pulse. tame_list n config (vectors_of n config (plan_of n config) (p ∷ ps)) xs tame_all h net pulse)
           (λ clock. clocks_pulse n config p ps xs ready h net clock);
-      resets = λ net is. ap not (not_both (list_any (λ (x : Vector). x.pulsed net) xs) (λ pulse. reset_apart n config net ready is (tame_list n config (vectors_of n config (plan_of n config) (p ∷ ps)) xs tame_all h net pulse)));
+      resets = λ net is. ap not (false_from_ne_true (list_any (λ (x : Vector). x.pulsed net) xs) (λ pulse. reset_apart n config net ready is (tame_list n config (vectors_of n config (plan_of n config) (p ∷ ps)) xs tame_all h net pulse)));
     }

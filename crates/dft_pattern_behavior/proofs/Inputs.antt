@@ -2,6 +2,7 @@
 use Rattle.std.proofs.Common.{ℕ, ◌≡◌, Bool, true, false, Option, None, Some, refl, sym, ap, ◌∙◌}
 use Rattle.std.specs.Prelude.{if◌then◌else◌}
 use Rattle.std.proofs.lemmas.Option.{none-some, same_Some}
+use Rattle.dft_pattern_behavior.proofs.Capturing.{IsData, SameAt, input_by, forced_same, given_same, forced_reset, forcing_reset, modelled_force, flop_reset}
 use Rattle.dft_base.specs.declared.tri.Tri.{Tri}
 use Rattle.dft_base.specs.declared.tri.Tri.TheVariants.{Unknown}
 use Rattle.dft_base.specs.Tri.{AboveTri}
@@ -26,80 +27,9 @@ use Rattle.dft_rules.proofs.NamedPorts.{named_input, reset_rests}
 
 -- ---- inputs of the design
 
--- an input whose value is settled from its port is no clock
-input_by : (n : Netlist) (ports : Ports) (net : ℕ) (d : Driver) → meaning_of n ports net d ≡ Input → (is_input d ≡ true) × (ports.is_clock net ≡ false)
-input_by n ports net drivers.Input e = (refl, no_clock (ports.is_clock net) refl e)
-  where
-    no_clock : (b : Bool) → ports.is_clock net ≡ b → (if b then Clock else Input) ≡ Input → ports.is_clock net ≡ false
-    no_clock true is h = absurd cc
-    no_clock false is h = is
-input_by n ports net (drivers.Gate kind inputs) e = absurd cc
-input_by n ports net (drivers.Joined source) e = absurd cc
-input_by n ports net (drivers.Flop i inverted) e = absurd (no_flop (flip_flop n ports i) e)
-  where
-    no_flop : (o : Option Cell) → flop_meaning i inverted o ≡ Input → ⊥
-    no_flop None h = cc
-    no_flop (Some c) h = cc
-input_by n ports net (drivers.Lockup i) e = absurd (no_lockup _ _ e)
-  where
-    no_lockup : (o : Option ℕ) (s : drivers.Source) → lockup_meaning i o s ≡ Input → ⊥
-    no_lockup None s h = cc
-    no_lockup (Some d) s h = cc
-input_by n ports net drivers.Free e = absurd cc
-
 -- ---- two vectors that are the same at inputs that are no clocks
 
--- an input that is no clock
-abbrev IsData : Netlist → Ports → (net : ℕ) → Type 0
-IsData n ports net = (is_input (driver n net) ≡ true) × (ports.is_clock net ≡ false)
-
-abbrev SameAt : Netlist → Ports → (x y : Vector) → Type 0
-SameAt n ports x y = (net : ℕ) → IsData n ports net → x.ports net ≡ y.ports net
-
-forced_same : (n : Netlist) (ports : Ports) (x y : Vector) (force : Option Force) (t : Tri) → SameAt n ports x y → ((f : Force) → force ≡ Some f → IsData n ports f.port) → tri_forced_by force x.ports t ≡ tri_forced_by force y.ports t
-forced_same n ports x y None t same input = refl
-forced_same n ports x y (Some f) t same input = ap (λ p. tri_forced_by (Some f) (λ _. p) t) (same f.port (input f refl))
-
--- the sources of a strobe give the same value
-given_same : (n : Netlist) (ports : Ports) (l : Logic) (x y : Vector) (old values : ℕ → Tri) (net : ℕ) (m : Meaning) → (m ≡ Input → IsData n ports net) → SameAt n ports x y → ((c : ℕ) → (pulse_of l x old).old c ≡ (pulse_of l y old).old c) →
-    value_given (strobe_sources l x old values) values net m ≡ value_given (strobe_sources l y old values) values net m
-given_same n ports l x y old values net Input input same flops = same net (input refl)
-given_same n ports l x y old values net Clock input same flops = refl
-given_same n ports l x y old values net (Gate kind inputs) input same flops = refl
-given_same n ports l x y old values net (Joined source) input same flops = refl
-given_same n ports l x y old values net (Flop cell true) input same flops = ap inverse (flops cell)
-given_same n ports l x y old values net (Flop cell false) input same flops = flops cell
-given_same n ports l x y old values net (Lockup cell domain source) input same flops = refl
-given_same n ports l x y old values net Free input same flops = refl
-
 -- ---- resets
-
-forced_reset : (p : Ports) (value : Bool) (root : Root) (f : Force) → force_of p value root ≡ Some (Some f) → p.is_reset f.port ≡ true
-forced_reset p value (Port net) f e = by_reset (p.is_reset net) refl e
-  where
-    by_reset : (b : Bool) → p.is_reset net ≡ b → (if b then Some (Some (record { port = net; value = value })) else None) ≡ Some (Some f) → p.is_reset f.port ≡ true
-    by_reset true is h = ap (λ (g : Force). p.is_reset g.port) (sym (same_Some (record { port = net; value = value }) f (same_Some (Some (record { port = net; value = value })) (Some f) h))) ∙ is
-    by_reset false is h = absurd (none-some (Some f) h)
-forced_reset p value (Constant true) f e = absurd (none-some f (same_Some None (Some f) e))
-forced_reset p value (Constant false) f e = absurd (none-some (Some f) e)
-forced_reset p value Other f e = absurd (none-some (Some f) e)
-
-forcing_reset : (n : Netlist) (p : Ports) (reset preset : Option Source) (f : Force) → forcing n p reset preset ≡ Some (Some f) → p.is_reset f.port ≡ true
-forcing_reset n p (Some reset) preset f e = forced_reset p false (root_of n reset) f e
-forcing_reset n p None (Some preset) f e = forced_reset p true (root_of n preset) f e
-forcing_reset n p None None f e = absurd (none-some f (same_Some None (Some f) e))
-
-modelled_force : (domain : Option ℕ) (force : Option (Option Force)) (input : Source) (scan : Option Scan) (i : ℕ) (f : Force) → (cell_or_none i (modelled domain force input scan)).force ≡ Some f → force ≡ Some (Some f)
-modelled_force None force input scan i f e = absurd (none-some f e)
-modelled_force (Some d) None input scan i f e = absurd (none-some f e)
-modelled_force (Some d) (Some g) input scan i f e = ap Some e
-
-flop_reset : (n : Netlist) (p : Ports) (i : ℕ) (b : Bool) (f : Force) → (cell_or_none i (if b then modelled_of n p i (pins_of n i) else None)).force ≡ Some f → p.is_reset f.port ≡ true
-flop_reset n p i true f e =
-    forcing_reset n p (pin_of role.Reset i (pins_of n i)) (pin_of role.Preset i (pins_of n i)) f
-    (modelled_force (domain_at n p (pin_of role.Clock i (pins_of n i))) (forcing n p (pin_of role.Reset i (pins_of n i)) (pin_of role.Preset i (pins_of n i))) (or_loose i (pin_of role.Din i (pins_of n i)))
-    (scan_of (pin_of role.ScanEnable i (pins_of n i)) (pin_of role.ScanIn i (pins_of n i))) i f e)
-flop_reset n p i false f e = absurd (none-some f e)
 
 -- ---- the capture vector at inputs that are no clocks
 

@@ -2,7 +2,7 @@
 use Rattle.std.proofs.Common.{ℕ, zero, suc, ◌≡◌, ◌==◌, ◌||◌, Bool, true, false, List, [], ◌∷◌, ◌++◌, Some, slice_get, refl, ap, subst}
 use Rattle.std.specs.Prelude.{if◌then◌else◌}
 use Rattle.std.specs.List.{list_any}
-use Rattle.std.proofs.lemmas.Bool.{eqb-true, eq-eqb}
+use Rattle.std.proofs.lemmas.Bool.{eqb-true, eq-eqb, or_left, or_right}
 use Rattle.std.proofs.lemmas.Option.{none-some, same_Some}
 use Rattle.dft_base.specs.declared.dir.Dir.{Dir}
 use Rattle.dft_base.specs.declared.dir.Dir.TheVariants as dir
@@ -49,14 +49,6 @@ all_each P (x ∷ xs) each = (each 0 x refl, all_each P xs (λ k net at. each (s
 
 abbrev pub is_in : List NetId → (net : ℕ) → Bool
 is_in nets net = list_any (λ k. k.0 == net) nets
-
-or_right : (a b : Bool) → b ≡ true → (a || b) ≡ true
-or_right true b e = refl
-or_right false b e = e
-
-or_left : (a b : Bool) → a ≡ true → (a || b) ≡ true
-or_left true b e = refl
-or_left false b e = absurd cc
 
 in_at : (xs : List NetId) (k : ℕ) (net : NetId) → slice_get xs k ≡ Some net → is_in xs net.0 ≡ true
 in_at [] k net at = absurd (none-some net at)

@@ -3,6 +3,7 @@ use Rattle.std.proofs.Common.{ℕ, zero, suc, ◌<◌, ◌≡◌, ◌||◌, Bool
 use Rattle.std.specs.List.{list_any}
 use Rattle.std.proofs.lemmas.List.{length-take, map-append}
 use Rattle.std.proofs.lemmas.Option.{none-some, same_Some, slice_get_within}
+use Rattle.std.proofs.lemmas.Bool.{or_parts}
 use Rattle.dft_base.specs.declared.tri.Tri.{Tri}
 use Rattle.dft_netlist.specs.declared.ids.InstanceId.{InstanceId}
 use Rattle.dft_netlist.specs.Logic.{Logic, Ports}
@@ -38,20 +39,10 @@ cut_back f (x ∷ chains) =
     ∙ ap (λ (vs : List Tri). map f x ∷ by_chain chains vs) (drop_front f x rest)
     ∙ ap (λ (vs : List (List Tri)). map f x ∷ vs) (cut_back f chains)
 
-pub get_there : {X : Type 0} (xs : List X) (k : ℕ) → k < length xs → (x : X) × (slice_get xs k ≡ Some x)
-get_there [] k less = absurd (omega (arith, less))
-get_there (x ∷ xs) zero less = (x, refl)
-get_there (x ∷ xs) (suc k) less = get_there xs k (omega (arith, less))
-
-or_none : (a b : Bool) → (a || b) ≡ false → (a ≡ false) × (b ≡ false)
-or_none false false e = (refl, refl)
-or_none true b e = absurd cc
-or_none false true e = absurd cc
-
 pub any_none : {X : Type 0} (q : X → Bool) (xs : List X) (k : ℕ) (x : X) → list_any q xs ≡ false → slice_get xs k ≡ Some x → q x ≡ false
 any_none q [] k x none at = absurd (none-some x at)
-any_none q (y ∷ xs) zero x none at = ap q (sym (same_Some y x at)) ∙ (or_none (q y) (list_any q xs) none).0
-any_none q (y ∷ xs) (suc k) x none at = any_none q xs k x (or_none (q y) (list_any q xs) none).1 at
+any_none q (y ∷ xs) zero x none at = ap q (sym (same_Some y x at)) ∙ (or_parts (q y) (list_any q xs) none).0
+any_none q (y ∷ xs) (suc k) x none at = any_none q xs k x (or_parts (q y) (list_any q xs) none).1 at
 
 -- ---- rounds
 

@@ -1,9 +1,10 @@
 -- Where the bits of the input ports of a scanned netlist of style Edt stand.
 use Rattle.std.proofs.Common.{ℕ, zero, suc, ◌+◌, ◌<◌, ◌≤◌, ◌≡◌, ◌==◌, ◌||◌, Bool, true, false, List, [], ◌∷◌, ◌++◌, length, map, refl, ap, subst, arith, ◌∙◌}
 use Rattle.std.specs.List.{range_with_len}
-use Rattle.std.proofs.lemmas.Bool.{eqb-true}
+use Rattle.std.proofs.lemmas.Bool.{eqb-true, or_parts, or_from, false_from_ne_true}
 use Rattle.std.proofs.lemmas.Grind.{flat_map-append}
 use Rattle.std.proofs.lemmas.List.{length-append}
+use Rattle.std.proofs.lemmas.List.FromFn.{length-map-range_with_len}
 use Rattle.dft_base.specs.Lexing.{Text}
 use Rattle.dft_base.specs.declared.dir.Dir.{Dir}
 use Rattle.dft_base.specs.declared.dir.Dir.TheVariants.{Input, Output}
@@ -97,10 +98,6 @@ added_within before channels masks width h =
     let numbered_ports = all_both (Within before (before + width)) (nets_from (before + 3) channels) (nets_from (before + 3 + channels) masks ++ []) ports (all_both (Within before (before + width)) (nets_from (before + 3 + channels) masks) [] segments tt) in
     ((omega arith, omega (arith, h)), ((omega arith, omega (arith, h)), ((omega arith, omega (arith, h)), numbered_ports)))
 
-numbered_count : {X : Type 0} (f : ℕ → X) (from count : ℕ) → length (map f (range_with_len from count)) ≡ count
-numbered_count f from zero = refl
-numbered_count f from (suc count) = ap suc (numbered_count f (from + 1) count)
-
 wide : (config : Config) → 3 + config.ring.channels + config.compactor.mask_inputs ≤ length (added_ports Edt config)
 wide config =
     let ins : List NewPort = map (λ number. new_port Input (numbered config.names.channel number)) (range_with_len 0 config.ring.channels) in
@@ -108,8 +105,8 @@ wide config =
     let outs : List NewPort = map (λ number. new_port Output (numbered config.names.output number)) (range_with_len 0 (length config.compactor.groups)) in
     let a : length (ins ++ (masks ++ outs)) ≡ length ins + length (masks ++ outs) = length-append ins (masks ++ outs) in
     let b : length (masks ++ outs) ≡ length masks + length outs = length-append masks outs in
-    let c : length ins ≡ config.ring.channels = numbered_count (λ number. new_port Input (numbered config.names.channel number)) 0 config.ring.channels in
-    let d : length masks ≡ config.compactor.mask_inputs = numbered_count (λ number. new_port Input (numbered config.names.mask number)) 0 config.compactor.mask_inputs in
+    let c : length ins ≡ config.ring.channels = length-map-range_with_len (λ number. new_port Input (numbered config.names.channel number)) 0 config.ring.channels in
+    let d : length masks ≡ config.compactor.mask_inputs = length-map-range_with_len (λ number. new_port Input (numbered config.names.mask number)) 0 config.compactor.mask_inputs in
     omega (arith, a, b, c, d)
 
 pub gap_within : (n : Netlist) (config : Config) → AllNets (Within (gap_in Edt n config).before ((gap_in Edt n config).before + (gap_in Edt n config).width)) (added_nets (gap_in Edt n config).before config.ring.channels config.compactor.mask_inputs)
@@ -117,24 +114,10 @@ gap_within n config = added_within (gap_in Edt n config).before config.ring.chan
 
 -- ---- nets that stand elsewhere
 
-none_any : (a b : Bool) → a ≡ false → b ≡ false → (a || b) ≡ false
-none_any false false e f = refl
-none_any true b e f = absurd cc
-none_any false true e f = absurd cc
-
-pub not_both : (b : Bool) → (b ≡ true → ⊥) → b ≡ false
-not_both true never = absurd (never refl)
-not_both false never = refl
-
-or_none : (a b : Bool) → (a || b) ≡ false → (a ≡ false) × (b ≡ false)
-or_none false false e = (refl, refl)
-or_none true b e = absurd cc
-or_none false true e = absurd cc
-
 pub not_in : (P : ℕ → Type 0) (xs : List NetId) (net : ℕ) → AllNets P xs → (P net → ⊥) → is_in xs net ≡ false
 not_in P [] net h never = refl
-not_in P (x ∷ xs) net h never = none_any (x.0 == net) (is_in xs net) (not_both (x.0 == net) (λ same. never (subst P (eqb-true x.0 net same) h.0))) (not_in P xs net h.1 never)
+not_in P (x ∷ xs) net h never = or_from (x.0 == net) (is_in xs net) (false_from_ne_true (x.0 == net) (λ same. never (subst P (eqb-true x.0 net same) h.0))) (not_in P xs net h.1 never)
 
 pub not_in_both : (xs ys : List NetId) (net : ℕ) → is_in xs net ≡ false → is_in ys net ≡ false → is_in (xs ++ ys) net ≡ false
 not_in_both [] ys net h k = k
-not_in_both (x ∷ xs) ys net h k = let apart = or_none (x.0 == net) (is_in xs net) h in none_any (x.0 == net) (is_in (xs ++ ys) net) apart.0 (not_in_both xs ys net apart.1 k)
+not_in_both (x ∷ xs) ys net h k = let apart = or_parts (x.0 == net) (is_in xs net) h in or_from (x.0 == net) (is_in (xs ++ ys) net) apart.0 (not_in_both xs ys net apart.1 k)

@@ -1,12 +1,13 @@
 -- Listed vectors clear, load and capture.
 use Rattle.std.proofs.Common.{ℕ, zero, suc, ◌+◌, ◌<◌, ◌≤◌, ◌≡◌, ◌==◌, ◌||◌, ◌⊎◌, inl, inr, Bool, true, false, List, [], ◌∷◌, ◌++◌, length, map, Option, None, Some, refl, sym, ap, subst, arith, ◌∙◌}
 use Rattle.std.specs.List.{range_with_len}
-use Rattle.std.proofs.lemmas.Bool.{cases_lt, eqb-true}
+use Rattle.std.proofs.lemmas.Bool.{cases_lt, eqb-true, false_from_ne_true}
 use Rattle.std.proofs.lemmas.List.{append_assoc}
 use Rattle.dft_base.specs.declared.tri.Tri.{Tri}
 use Rattle.dft_base.specs.declared.tri.Tri.TheVariants.{Zero, One, Unknown}
 use Rattle.dft_base.specs.Solutions.{bit_at}
 use Rattle.dft_base.specs.Tri.{known}
+use Rattle.dft_base.proofs.BitLemmas.{true_false}
 use Rattle.dft_netlist.specs.declared.ids.NetId.{NetId}
 use Rattle.dft_netlist.specs.Connections.{is_input}
 use Rattle.dft_netlist.specs.Drivers.{driver}
@@ -36,9 +37,9 @@ use Rattle.dft_scan_hardware.specs.declared.style.Style.TheVariants.{Edt}
 use Rattle.dft_scan_hardware.specs.Ports.{gap_in}
 use Rattle.dft_scan_hardware.specs.Statements.{scanned}
 use Rattle.dft_scan_equivalence.specs.Agreeing.{ports_in}
+use Rattle.dft_scan_equivalence.proofs.MadeGood.{from_at}
 use Rattle.dft_scan_behavior.specs.Facts.{chain_nets, edt_hardware}
-use Rattle.dft_scan_behavior.proofs.EdtHave.{from_at}
-use Rattle.dft_pattern_behavior.proofs.Clocks.{named_input, pulsed_clock, reset_rests, true_false}
+use Rattle.dft_pattern_behavior.proofs.Clocks.{named_input, pulsed_clock, reset_rests}
 use Rattle.dft_vectors.specs.AddedPorts.{added_inputs, no_bits, set_all, shifting}
 use Rattle.dft_vectors.specs.OwnPorts.{driven, inputs_by, outputs_ignored, pulsing_vector, quiet_vector, set_to}
 use Rattle.dft_vectors.specs.PatternData.{PatternData}
@@ -46,7 +47,7 @@ use Rattle.dft_vectors.specs.Signals.{input_bits}
 use Rattle.dft_vectors.specs.VectorList.{shift_acts, unloaded}
 use Rattle.dft_pattern_behavior.specs.Doing.{set_by, DoesAt, Does, AllDo, SetUpClears, LoadsLoad, CapturesCapture}
 use Rattle.dft_pattern_behavior.proofs.Listed.{is_in, input_listed}
-use Rattle.dft_pattern_behavior.proofs.Places.{added_nets, all_inputs, gap_within, not_both, not_in, not_in_both, own_before}
+use Rattle.dft_pattern_behavior.proofs.Places.{added_nets, all_inputs, gap_within, not_in, not_in_both, own_before}
 
 -- ---- acts
 
@@ -235,7 +236,7 @@ module _ (n : Netlist) (config : Config) (ready : IsReady n config) where
   front : (merged : Merged) (x : Vector) → Plays n config (capture_vector n config merged) false true no_bits no_bits x → (e : ℕ) (b : Bool) → is_in (input_bits n.ports) e ≡ b → e < gap.before → x.pulsed e ≡ (capture_vector n config merged).pulsed e
   front merged x it e true is less = (it.own e is).1 ∙ pulse_is ((capture_vector n config merged).pulsed e) ((capture_vector n config merged).ports e)
   front merged x it e false is less =
-      it.others e is (inl less) ∙ sym (not_both ((capture_vector n config merged).pulsed e) (λ pulse. true_false (is_in (input_bits n.ports) e) (input_listed n e (clock_input merged e pulse)) is))
+      it.others e is (inl less) ∙ sym (false_from_ne_true ((capture_vector n config merged).pulsed e) (λ pulse. true_false (is_in (input_bits n.ports) e) (input_listed n e (clock_input merged e pulse)) is))
 
   capture_pulses : (merged : Merged) (x : Vector) → Plays n config (capture_vector n config merged) false true no_bits no_bits x → (e : ℕ) → x.pulsed (moved gap e) ≡ (capture_vector n config merged).pulsed e
   capture_pulses merged x it e = elim (cases_lt e gap.before) [
@@ -243,7 +244,7 @@ module _ (n : Netlist) (config : Config) (ready : IsReady n config) where
     | inr past ↦ (
         let back : gap.before ≤ e = omega (arith, past) in
         let none : is_in (input_bits n.ports) (e + gap.width) ≡ false = not_in (λ k. k < length (bits_of n.ports)) (input_bits n.ports) (e + gap.width) (own_before n config ready) (λ less. omega (arith, less, back)) in
-        let rests : (capture_vector n config merged).pulsed e ≡ false = not_both ((capture_vector n config merged).pulsed e) (λ pulse. (let less = input_before e (clock_input merged e pulse) in omega (arith, less, back))) in
+        let rests : (capture_vector n config merged).pulsed e ≡ false = false_from_ne_true ((capture_vector n config merged).pulsed e) (λ pulse. (let less = input_before e (clock_input merged e pulse) in omega (arith, less, back))) in
         ap x.pulsed (moved_back gap e back) ∙ it.others (e + gap.width) none (inr (omega (arith, back))) ∙ sym rests)
   ]
 

@@ -32,12 +32,12 @@ pub first_do : (w : Netlist) (acts : List Act) (a : List (List Act)) (xs : List 
 first_do w acts a [] h = absurd h
 first_do w acts a (z ∷ zs) h = (z, zs, refl, h.0, h.1)
 
-split_rounds : (l : Logic) (old : ℕ → Tri) (ys zs : List Vector) (rs : List Round) → AreRounds l old (ys ++ zs) rs → (us : List Round) × (vs : List Round) × (rs ≡ us ++ vs) × AreRounds l old ys us × AreRounds l (after_rounds l old ys us) zs vs
+pub split_rounds : (l : Logic) (old : ℕ → Tri) (ys zs : List Vector) (rs : List Round) → AreRounds l old (ys ++ zs) rs → (us : List Round) × (vs : List Round) × (rs ≡ us ++ vs) × AreRounds l old ys us × AreRounds l (after_rounds l old ys us) zs vs
 split_rounds l old [] zs rs h = ([], rs, refl, tt, h)
 split_rounds l old (y ∷ ys) zs [] h = absurd h
 split_rounds l old (y ∷ ys) zs (r ∷ rs) h = let more = split_rounds l (after_round l y old r) ys zs rs h.1 in (r ∷ more.0, more.1, ap (λ (v : List Round). r ∷ v) more.2, (h.0, more.3), more.4)
 
-first_round : (l : Logic) (old : ℕ → Tri) (z : Vector) (zs : List Vector) (rs : List Round) → AreRounds l old (z ∷ zs) rs → (r : Round) × (vs : List Round) × (rs ≡ r ∷ vs) × IsRound l z old r × AreRounds l (after_round l z old r) zs vs
+pub first_round : (l : Logic) (old : ℕ → Tri) (z : Vector) (zs : List Vector) (rs : List Round) → AreRounds l old (z ∷ zs) rs → (r : Round) × (vs : List Round) × (rs ≡ r ∷ vs) × IsRound l z old r × AreRounds l (after_round l z old r) zs vs
 first_round l old z zs [] h = absurd h
 first_round l old z zs (r ∷ vs) h = (r, vs, refl, h.0, h.1)
 

@@ -9,6 +9,7 @@ use Rattle.dft_base.specs.declared.tri.Tri.{Tri}
 use Rattle.dft_base.specs.declared.tri.Tri.TheVariants.{Zero, One, Unknown}
 use Rattle.dft_base.specs.Solutions.{bit_at}
 use Rattle.dft_base.specs.Tri.{known, AboveTri}
+use Rattle.dft_base.proofs.ListLemmas.{get_there}
 use Rattle.dft_netlist.specs.declared.ids.InstanceId.{InstanceId}
 use Rattle.dft_netlist.specs.Logic.{Logic, Ports}
 use Rattle.dft_netlist.specs.Netlist.{Netlist}
@@ -39,7 +40,7 @@ use Rattle.dft_scan_behavior.proofs.Outputs.{at_chain}
 use Rattle.dft_scan_behavior.proofs.Reaching.{unloads_show}
 use Rattle.dft_pattern_behavior.specs.Given.{Pattern, IsPattern}
 use Rattle.dft_pattern_behavior.specs.Rounds.{ShowsUnload}
-use Rattle.dft_pattern_behavior.proofs.Lists.{cut_back, get_there, any_none, rounds_there, rounds_at, carry_take, carry_at, take_length}
+use Rattle.dft_pattern_behavior.proofs.Lists.{cut_back, any_none, rounds_there, rounds_at, carry_take, carry_at, take_length}
 
 -- ---- what stands after a capture
 

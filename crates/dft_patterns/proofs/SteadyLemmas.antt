@@ -1,7 +1,9 @@
 -- Loops over acts that look for a pulsing signal which is not low.
 use Rattle.std.proofs.Common.{cond, add-one, drop, drop-cons, ◌⊎◌, inl, inr, replicate, is_some, ◌≡◌, ◌≢◌, ℕ, zero, suc, ◌<◌, ◌≤◌, ◌+◌, Bool, true, false, true≢false, ◌||◌, ◌&&◌, List, [], ◌∷◌, length, get_or, slice_set, get_or-set_same, get_or-set_other, below_more, Option, Some, None, refl, sym, ap, ◌∙◌, arith}
-use Rattle.std.proofs.lemmas.Bool.{cases_lt}
+use Rattle.std.proofs.lemmas.Bool.{cases_lt, or_right}
 use Rattle.std.proofs.lemmas.List.{length-set, length-replicate, get_or_past}
+use Rattle.dft_base.proofs.SumLemmas.{and_false as and_with_false}
+use Rattle.dft_base.proofs.BitLemmas.{or_false}
 use Rattle.dft_patterns.specs.declared.act.Act.{Act}
 use Rattle.dft_patterns.specs.declared.act.Act.TheVariants.{Unset, Low, High, Pulse, ExpectLow, ExpectHigh, Ignore}
 use Rattle.dft_patterns.specs.declared.steadiness.Unsteady.{Unsteady}
@@ -66,10 +68,6 @@ or_swap true true r = refl
 or_swap true false r = refl
 or_swap false s r = refl
 
-or_false : (t : Bool) → (t || false) ≡ t
-or_false true = refl
-or_false false = refl
-
 pub one_vector_more : (count : ℕ) (all left : List (List Act)) (acts : List Act) (start now : List Bool) → AreFlagged count all (acts ∷ left) start
     → ((k : ℕ) → get_or now k false ≡ (is_pulse (act_of_signal acts k) || get_or start k false)) → length now ≡ length start → AreFlagged count all left now
 one_vector_more count all left acts start now f e l = record {
@@ -96,10 +94,6 @@ one_ahead f acts place d whole less h = ap (first_not_low f place) (sym (drop-co
 
 pub low_passed : (f : ℕ → Bool) (acts : List Act) (place : ℕ) (d : Act) (whole : Option ℕ) → place < length acts → is_not_low (get_or acts place d) ≡ false → Ahead f acts place whole → Ahead f acts (place + 1) whole
 low_passed f acts place d whole less low h = rw (add-one) (sym (ap (λ t. cond (t && f place) (Some place) (first_not_low f (suc place) (drop (suc place) acts))) low) ∙ one_ahead f acts place d whole less h)
-
-and_with_false : (t : Bool) → (t && false) ≡ false
-and_with_false true = refl
-and_with_false false = refl
 
 pub flagless_passed : (f : ℕ → Bool) (acts : List Act) (place : ℕ) (d : Act) (whole : Option ℕ) → place < length acts → f place ≡ false → Ahead f acts place whole → Ahead f acts (place + 1) whole
 flagless_passed f acts place d whole less unset h = rw (add-one)
@@ -147,10 +141,6 @@ none_from : (f : ℕ → Bool) (n : ℕ) (vs : List (List Act)) → first_unstea
 none_from f n [] e v k h = refl
 none_from f n (acts ∷ vs) e zero k h = none_here f 0 acts (none_found n _ _ e).0 k (ap f (omega arith) ∙ h)
 none_from f n (acts ∷ vs) e (suc v) k h = none_from f (suc n) vs (none_found n _ _ e).1 v k h
-
-or_right : (a b : Bool) → b ≡ true → (a || b) ≡ true
-or_right true b h = refl
-or_right false b h = h
 
 pulse_told : (vs : List (List Act)) (v s : ℕ) → act_of_signal (get_or vs v []) s ≡ Pulse → pulses vs s ≡ true
 pulse_told [] v s e = absurd (true≢false (sym (ap is_pulse e)))

@@ -6,6 +6,7 @@ use Rattle.std.specs.Str.{bytes_eq}
 use Rattle.std.specs.List.{list_any}
 use Rattle.std.proofs.lemmas.List.{length-map}
 use Rattle.std.proofs.lemmas.Option.{slice_get_within, slice_get_past, slice_get-get_or}
+use Rattle.std.proofs.lemmas.Bool.{and_parts, and_from, or_left, or_right, false_from_ne_true, or_cases}
 use Rattle.dft_cells.specs.WellFormed.{has_name}
 use Rattle.dft_netlist.specs.declared.ids.NetId.{NetId}
 use Rattle.dft_base.specs.declared.dir.Dir.{Dir}
@@ -16,12 +17,14 @@ use Rattle.dft_netlist.specs.Netlist.{Netlist}
 use Rattle.dft_netlist.specs.Names.{bit_names, find_net, find_net_from}
 use Rattle.dft_netlist.specs.Sound.{IsNetlist, bit_names_of}
 use Rattle.dft_base.specs.Lexing.{Text}
-use Rattle.dft_netlist.proofs.NamesLemmas.{same_of, bytes_eq-same}
+use Rattle.dft_base.proofs.ListLemmas.{get_left, get_right, get_there}
+use Rattle.dft_base.proofs.TextLemmas.{same_text, bytes_eq-self}
+use Rattle.dft_netlist.proofs.NamesLemmas.{has_here, has_where}
 use Rattle.dft_netlist.proofs.LiveLemmas.{AreWide}
+use Rattle.dft_netlist.proofs.FindLemmas.{not_found}
 use Rattle.dft_patterns.specs.declared.signal.StilSignal.{StilSignal}
 use Rattle.dft_replay.specs.Fits.{same_dir, has_bit, is_port_bit}
 use Rattle.dft_replay.specs.Vectors.{dirs_of}
-use Rattle.dft_replay.proofs.TestLemmas.{or_cases, or_left, or_right, and_parts, and_both}
 
 -- ---- directions
 
@@ -39,24 +42,16 @@ record IsAt (from : ℕ) (nets : List Text) (q : Text) (k : ℕ) : Type 0 where
   pub here : slice_get nets place ≡ Some q
 
 first_or : (t : Bool) (from : ℕ) (x : Text) (nets : List Text) (q : Text) (k : NetId) → bytes_eq x q ≡ t → (find_net_from (suc from) nets q ≡ Some k → IsAt (suc from) nets q k.0) → (if t then Some (record { 0 = from }) else find_net_from (suc from) nets q) ≡ Some k → IsAt from (x ∷ nets) q k.0
-first_or true from x nets q k is rest h = let e : record { 0 = from } ≡ k = cc in record { place = 0; number = sym (ap (λ (i : NetId). i.0) e) ∙ omega arith; here = ap Some (same_of x q is) }
+first_or true from x nets q k is rest h = let e : record { 0 = from } ≡ k = cc in record { place = 0; number = sym (ap (λ (i : NetId). i.0) e) ∙ omega arith; here = ap Some (same_text x q is) }
 first_or false from x nets q k is rest h = let r = rest h in record { place = suc r.place; number = r.number ∙ omega arith; here = r.here }
 
 found_at : (from : ℕ) (nets : List Text) (q : Text) (k : NetId) → find_net_from from nets q ≡ Some k → IsAt from nets q k.0
 found_at from [] q k h = absurd (let f : ⊥ = cc in f)
 found_at from (x ∷ nets) q k h = first_or (bytes_eq x q) from x nets q k refl (found_at (suc from) nets q k) h
 
-not_first : (t : Bool) (k : NetId) (r : Option NetId) → (if t then Some k else r) ≡ None → (t ≡ false) × (r ≡ None)
+pub not_first : (t : Bool) (k : NetId) (r : Option NetId) → (if t then Some k else r) ≡ None → (t ≡ false) × (r ≡ None)
 not_first true k r h = absurd (let f : ⊥ = cc in f)
 not_first false k r h = (refl, h)
-
-not_found : (from : ℕ) (nets : List Text) (q : Text) → find_net_from from nets q ≡ None → (j : ℕ) → slice_get nets j ≡ Some q → ⊥
-not_found from [] q h j at = cc
-not_found from (x ∷ nets) q h zero at =
-    let e : x ≡ q = cc in
-    let other = not_first (bytes_eq x q) (record { 0 = from }) (find_net_from (suc from) nets q) h in
-    true≢false (sym (bytes_eq-same q) ∙ ap (λ y. bytes_eq y q) (sym e) ∙ other.0)
-not_found from (x ∷ nets) q h (suc j) at = not_found (suc from) nets q (not_first (bytes_eq x q) (record { 0 = from }) (find_net_from (suc from) nets q) h).1 j at
 
 -- the net that is found has the name
 pub found_named : (n : Netlist) (q : Text) (k : NetId) → find_net n q ≡ Some k → slice_get n.nets k.0 ≡ Some q
@@ -74,33 +69,12 @@ pub record Behind {X : Type 0} (front back : List X) (k : ℕ) (x : X) : Type 0 
   pub number : k ≡ length front + place
   pub here : slice_get back place ≡ Some x
 
-at_front : {X : Type 0} (xs ys : List X) (k : ℕ) (x : X) → slice_get xs k ≡ Some x → slice_get (xs ++ ys) k ≡ Some x
-at_front [] ys k x h = absurd (let f : ⊥ = cc in f)
-at_front (y ∷ xs) ys zero x h = h
-at_front (y ∷ xs) ys (suc k) x h = at_front xs ys k x h
-
-at_back : {X : Type 0} (xs ys : List X) (k : ℕ) (x : X) → slice_get ys k ≡ Some x → slice_get (xs ++ ys) (length xs + k) ≡ Some x
-at_back [] ys k x h = (let e : 0 + k ≡ k = omega arith in rw e h)
-at_back (y ∷ xs) ys k x h = (let e : suc (length xs) + k ≡ suc (length xs + k) = omega arith in rw e (at_back xs ys k x h))
-
 at_either : {X : Type 0} (xs ys : List X) (k : ℕ) (x : X) → slice_get (xs ++ ys) k ≡ Some x → (slice_get xs k ≡ Some x) ⊎ Behind xs ys k x
 at_either [] ys k x h = inr (record { place = k; number = omega arith; here = h })
 at_either (y ∷ xs) ys zero x h = inl h
 at_either (y ∷ xs) ys (suc k) x h = elim (at_either xs ys k x h) [
   | inl a ↦ inl a
   | inr b ↦ inr (record { place = b.place; number = (let e = b.number in omega arith); here = b.here })
-]
-
-has_here : (xs : List Text) (k : ℕ) (q : Text) → slice_get xs k ≡ Some q → has_name xs q ≡ true
-has_here [] k q h = absurd cc
-has_here (x ∷ xs) zero q h = (let e : x ≡ q = cc in rw (e, bytes_eq-same q) refl)
-has_here (x ∷ xs) (suc k) q h = or_right (bytes_eq x q) (has_name xs q) (has_here xs k q h)
-
-has_where : (xs : List Text) (q : Text) → has_name xs q ≡ true → (k : ℕ) × (slice_get xs k ≡ Some q)
-has_where [] q h = absurd cc
-has_where (x ∷ xs) q h = elim (or_cases (bytes_eq x q) (has_name xs q) h) [
-  | inl is ↦ (0, ap Some (same_of x q is))
-  | inr more ↦ (let r = has_where xs q more in (suc r.0, r.1))
 ]
 
 -- each element is the same
@@ -116,7 +90,7 @@ same_from y z (x ∷ xs) (suc k) h = same_from y z xs k h
 
 -- ---- bits of ports
 
-dir_same : (d : Dir) → same_dir d d ≡ true
+pub dir_same : (d : Dir) → same_dir d d ≡ true
 dir_same Input = refl
 dir_same Output = refl
 
@@ -133,7 +107,7 @@ bit_fits (port ∷ ports) s k d wide named goes same =
           let within = slice_get_within names k s.name here in
           elim (at_either dirs (dirs_of ports) k d goes) [
             | inl there ↦ or_left (has_bit s port) (list_any (has_bit s) ports)
-                (and_both (same_dir port.dir s.dir) (has_name names s.name) (subst (λ (e : Dir). same_dir e s.dir ≡ true) (sym (same_from port.dir d port.bits k there)) same) (has_here names k s.name here))
+                (and_from (same_dir port.dir s.dir) (has_name names s.name) (subst (λ (e : Dir). same_dir e s.dir ≡ true) (sym (same_from port.dir d port.bits k there)) same) (has_here names k s.name here))
             | inr behind ↦ (let e = behind.number in absurd (omega arith))
           ])
       | inr later ↦ (
@@ -169,15 +143,15 @@ fitting_bit (port ∷ ports) s wide h =
           let less : found.0 < length port.bits = omega arith in
           record {
             place = found.0;
-            named = at_front names (bit_names_of ports) found.0 s.name found.1;
-            goes = at_front dirs (dirs_of ports) found.0 s.dir (same_at port.dir port.bits found.0 less ∙ ap Some (same_dir_is port.dir s.dir both.0));
+            named = get_left names (bit_names_of ports) found.0 s.name found.1;
+            goes = get_left dirs (dirs_of ports) found.0 s.dir (same_at port.dir port.bits found.0 less ∙ ap Some (same_dir_is port.dir s.dir both.0));
           })
       | inr later ↦ (
           let r = fitting_bit ports s (λ place q at. wide (suc place) q at) later in
           record {
             place = length names + r.place;
-            named = at_back names (bit_names_of ports) r.place s.name r.named;
-            goes = (let e : length dirs + r.place ≡ length names + r.place = omega arith in subst (λ (j : ℕ). slice_get (dirs ++ dirs_of ports) j ≡ Some s.dir) e (at_back dirs (dirs_of ports) r.place s.dir r.goes));
+            named = get_right names (bit_names_of ports) r.place s.name r.named;
+            goes = (let e : length dirs + r.place ≡ length names + r.place = omega arith in subst (λ (j : ℕ). slice_get (dirs ++ dirs_of ports) j ≡ Some s.dir) e (get_right dirs (dirs_of ports) r.place s.dir r.goes));
           })
     ]
 
@@ -185,7 +159,7 @@ fitting_bit (port ∷ ports) s wide h =
 
 -- the name of a bit is that of its net
 bit_named : (n : Netlist) (k : ℕ) (q : Text) → IsNetlist n → slice_get (bit_names_of n.ports) k ≡ Some q → slice_get n.nets k ≡ Some q
-bit_named n k q sound at = sym (ap (λ (xs : List Text). slice_get xs k) (sym sound.bits.same)) ∙ at_front (bit_names_of n.ports) sound.bits.rest k q at
+bit_named n k q sound at = sym (ap (λ (xs : List Text). slice_get xs k) (sym sound.bits.same)) ∙ get_left (bit_names_of n.ports) sound.bits.rest k q at
 
 dirs_long : (ports : List Port) → AreWide ports → length (dirs_of ports) ≡ length (bit_names_of ports)
 dirs_long [] wide = refl
@@ -195,16 +169,11 @@ dirs_long (port ∷ ports) wide =
     let rest = dirs_long ports (λ place q at. wide (suc place) q at) in
     omega (arith, length-append (map (λ (net : NetId). port.dir) port.bits) (dirs_of ports), length-append (bit_names port.name port.range) (bit_names_of ports))
 
-some_at : {X : Type 0} (xs : List X) (k : ℕ) → k < length xs → (x : X) × (slice_get xs k ≡ Some x)
-some_at [] k h = absurd (omega arith)
-some_at (x ∷ xs) zero h = (x, refl)
-some_at (x ∷ xs) (suc k) h = some_at xs k (omega arith)
-
 pub net_fits : (n : Netlist) (s : StilSignal) (k : NetId) (d : Dir) → IsNetlist n → find_net n s.name ≡ Some k → slice_get (dirs_of n.ports) k.0 ≡ Some d → same_dir d s.dir ≡ true → is_port_bit n s ≡ true
 net_fits n s k d sound found goes same =
     let within = slice_get_within (dirs_of n.ports) k.0 d goes in
     let long = dirs_long n.ports sound.widths in
-    let some = some_at (bit_names_of n.ports) k.0 (omega arith) in
+    let some = get_there (bit_names_of n.ports) k.0 (omega arith) in
     let e : Some some.0 ≡ Some s.name = sym (bit_named n k.0 some.0 sound some.1) ∙ found_named n s.name k found in
     bit_fits n.ports s k.0 d sound.widths (some.1 ∙ e) goes same
 
@@ -221,15 +190,11 @@ fitting_net n s sound h =
 
 -- ---- misfits
 
-misfit_from : (b : Bool) → (b ≡ true → ⊥) → b ≡ false
-misfit_from true never = absurd (never refl)
-misfit_from false never = refl
-
 pub unnamed_misfit : (n : Netlist) (s : StilSignal) → IsNetlist n → find_net n s.name ≡ None → is_port_bit n s ≡ false
-unnamed_misfit n s sound none = misfit_from (is_port_bit n s) (λ h. (let r = fitting_net n s sound h in let e : None ≡ Some r.net = sym none ∙ r.found in cc))
+unnamed_misfit n s sound none = false_from_ne_true (is_port_bit n s) (λ h. (let r = fitting_net n s sound h in let e : None ≡ Some r.net = sym none ∙ r.found in cc))
 
 pub no_port_misfit : (n : Netlist) (s : StilSignal) (k : NetId) → IsNetlist n → find_net n s.name ≡ Some k → slice_get (dirs_of n.ports) k.0 ≡ None → is_port_bit n s ≡ false
-no_port_misfit n s k sound found none = misfit_from (is_port_bit n s) (λ h.
+no_port_misfit n s k sound found none = false_from_ne_true (is_port_bit n s) (λ h.
     (let r = fitting_net n s sound h in
     let e : Some k ≡ Some r.net = sym found ∙ r.found in
     let f : k ≡ r.net = cc in
@@ -237,7 +202,7 @@ no_port_misfit n s k sound found none = misfit_from (is_port_bit n s) (λ h.
     cc))
 
 pub other_way_misfit : (n : Netlist) (s : StilSignal) (k : NetId) (d : Dir) → IsNetlist n → find_net n s.name ≡ Some k → slice_get (dirs_of n.ports) k.0 ≡ Some d → same_dir d s.dir ≡ false → is_port_bit n s ≡ false
-other_way_misfit n s k d sound found goes other = misfit_from (is_port_bit n s) (λ h.
+other_way_misfit n s k d sound found goes other = false_from_ne_true (is_port_bit n s) (λ h.
     (let r = fitting_net n s sound h in
     let e : Some k ≡ Some r.net = sym found ∙ r.found in
     let f : k ≡ r.net = cc in

@@ -7,6 +7,7 @@ use Rattle.dft_base.specs.declared.tri.Tri.{Tri}
 use Rattle.dft_base.specs.declared.tri.Tri.TheVariants.{Zero, One, Unknown}
 use Rattle.dft_netlist.specs.declared.ids.NetId.{NetId}
 use Rattle.dft_netlist.specs.Orders.{numbers_of}
+use Rattle.dft_netlist.proofs.StandLemmas.{numbers-push}
 use Rattle.dft_patterns.specs.declared.act.Act.{Act}
 use Rattle.dft_patterns.specs.declared.act.Act.TheVariants.{Unset, Low, High, Pulse, ExpectLow, ExpectHigh, Ignore}
 use Rattle.dft_replay.specs.declared.comparing.Asked.{Asked}
@@ -111,10 +112,6 @@ listed_none nets acts i wanted asked same less none listed =
       few_asked = (let few = listed.few_asked in omega arith);
     }
 
-numbers_push : (nets : List NetId) (net : NetId) → numbers_of (nets ++ net ∷ []) ≡ numbers_of nets ++ net.0 ∷ []
-numbers_push [] net = refl
-numbers_push (first ∷ nets) net = ap (λ (ns : List ℕ). first.0 ∷ ns) (numbers_push nets net)
-
 -- a signal that is compared
 pub listed_some : (nets : List NetId) (acts : List Act) (i : ℕ) (wanted : List NetId) (asked : List Asked) (net : NetId) (bit : Bool) → length acts ≡ length nets → i < length acts → printed (act_at acts i) ≡ Some bit → get_or (numbers_of nets) i 0 ≡ net.0 →
     Listed nets acts i wanted asked → Listed nets acts (i + 1) (wanted ++ net ∷ []) (asked ++ record { signal = i; printed = bit } ∷ [])
@@ -124,7 +121,7 @@ listed_some nets acts i wanted asked net bit same less some here listed =
     compared_split (numbers_of nets) acts i (omega arith) less ∙ at_some i (get_or (numbers_of nets) i 0) (act_at acts i) (rest_from nets acts (suc i)) bit some
     ∙ (λ k. record { signal = i; net = here k; bit = bit } ∷ next_rest nets acts i k) in
     record {
-      nets_are = ap (λ (ns : List ℕ). ns ++ map (λ (c : Compared). c.net) (rest_from nets acts (i + 1))) (numbers_push wanted net)
+      nets_are = ap (λ (ns : List ℕ). ns ++ map (λ (c : Compared). c.net) (rest_from nets acts (i + 1))) (numbers-push wanted net)
           ∙ append_assoc (numbers_of wanted) (net.0 ∷ []) (map (λ (c : Compared). c.net) (rest_from nets acts (i + 1)))
           ∙ ap (λ (cs : List Compared). numbers_of wanted ++ map (λ (c : Compared). c.net) cs) (sym rest) ∙ listed.nets_are;
       asked_are = append_assoc asked (record { signal = i; printed = bit } ∷ []) (map asked_of (rest_from nets acts (i + 1)))

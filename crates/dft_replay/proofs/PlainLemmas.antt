@@ -14,8 +14,10 @@ use Rattle.dft_netlist.proofs.Ranks.{order_is_rank}
 use Rattle.dft_abstract.specs.Cycle.{Pulse, view_sources, AreViews, next_value, IsClosed, IsLeast, after_pulse, pulse_of, strobe_sources, Round, IsRound, after_round}
 use Rattle.dft_abstract.proofs.Views.{given_same}
 use Rattle.dft_abstract.proofs.Least.{step_below}
+use Rattle.dft_abstract.proofs.OneDomain.{raised as risen}
 use Rattle.dft_cells.proofs.Completions.{above_self, join_over_left}
-use Rattle.std.proofs.lemmas.Bool.{and_cases}
+use Rattle.std.proofs.lemmas.Bool.{and_cases, cases_Bool, and_parts, cases_lt}
+use Rattle.dft_logic.proofs.Compiled.{past_cell}
 use Rattle.dft_replay.specs.declared.verdict.Verdict.{Verdict}
 use Rattle.dft_replay.specs.Rows.{Row, rows_of, ports_of}
 use Rattle.dft_replay.specs.Verdicts.{decided, Stops, HasVerdictFrom}
@@ -23,11 +25,6 @@ use Rattle.dft_replay.specs.Plain.{value_at, table, strobe_values, view_values, 
 use Rattle.dft_replay.proofs.Uniqueness.{same_map}
 
 -- ---- lists
-
-within_or_past : (c count : ℕ) → (c < count) ⊎ (count ≤ c)
-within_or_past c zero = inr (omega arith)
-within_or_past zero (suc count) = inl (omega arith)
-within_or_past (suc c) (suc count) = elim (within_or_past c count) [ inl h ↦ inl (omega arith) | inr h ↦ inr (omega arith) ]
 
 table_cases : (P : Tri → Type 0) (count c : ℕ) (f : ℕ → Tri) → (c < count → P (f c)) → (count ≤ c → P Unknown) → P (value_at (table count f) c)
 table_cases P zero c f within past = past (omega arith)
@@ -41,10 +38,6 @@ IsPast count ts = (c : ℕ) → count ≤ c → value_at ts c ≡ Unknown
 table_past : (count : ℕ) (f : ℕ → Tri) → IsPast count (table count f)
 table_past count f c past = table_cases (λ t. t ≡ Unknown) count c f (λ within. absurd (omega arith)) (λ h. refl)
 
-and_both : (a b : Bool) → (a && b) ≡ true → (a ≡ true) × (b ≡ true)
-and_both true b h = (refl, h)
-and_both false b h = absurd cc
-
 -- whether all the first numbers, so many, pass a test
 abbrev all_first : (count : ℕ) → (ℕ → Bool) → Bool
 all_first zero f = true
@@ -52,8 +45,8 @@ all_first (suc count) f = f 0 && all_first count (λ c. f (suc c))
 
 all_first_at : (count c : ℕ) (f : ℕ → Bool) → all_first count f ≡ true → c < count → f c ≡ true
 all_first_at zero c f all less = absurd (omega arith)
-all_first_at (suc count) zero f all less = (and_both (f 0) (all_first count (λ i. f (suc i))) all).0
-all_first_at (suc count) (suc c) f all less = all_first_at count c (λ i. f (suc i)) (and_both (f 0) (all_first count (λ i. f (suc i))) all).1 (omega arith)
+all_first_at (suc count) zero f all less = (and_parts (f 0) (all_first count (λ i. f (suc i))) all).0
+all_first_at (suc count) (suc c) f all less = all_first_at count c (λ i. f (suc i)) (and_parts (f 0) (all_first count (λ i. f (suc i))) all).1 (omega arith)
 
 -- whether the first value stands above the second
 abbrev is_above : Tri → Tri → Bool
@@ -175,10 +168,6 @@ raised_by_over l s p (suc rounds) poss over = raised_by_over l s p rounds (raise
 
 -- ---- as many rounds as cells are enough
 
--- a value that stays, or is joined with another
-abbrev risen : (rises : Bool) → (t next : Tri) → Tri
-risen rises t next = if rises then join t next else t
-
 abbrev stays : (rises : Bool) → (t next : Tri) → Bool
 stays rises t next = if rises then is_above t next else true
 
@@ -280,19 +269,15 @@ round_rises l s p poss moves =
     let view : ℕ → ℕ → Tri = view_values l p (value_at poss) s.levels in
     rw (tally_table s.cells (raised_value l p (value_at poss) view)) (tally_rises s.cells (λ c. p.pulsed (l.cell c).domain) (value_at poss) (next_value l p view) moves)
 
-open_or_closed : (b : Bool) → (b ≡ true) ⊎ (b ≡ false)
-open_or_closed true = inl refl
-open_or_closed false = inr refl
-
 closes : (l : Logic) (s : Size) (p : Pulse) (rounds : ℕ) (poss : List Tri) → IsPast s.cells poss → s.cells ≤ tally s.cells (value_at poss) + rounds → is_closed l p s (raised_by l p s rounds poss) ≡ true
-closes l s p zero poss past enough = elim (open_or_closed (is_closed l p s poss)) [
+closes l s p zero poss past enough = elim (cases_Bool (is_closed l p s poss)) [
   | inl closed ↦ closed
   | inr moves ↦ (
       let more : tally s.cells (value_at poss) < tally s.cells (value_at (raised l p s poss)) = round_rises l s p poss moves in
       let most : tally s.cells (value_at (raised l p s poss)) ≤ s.cells = tally_at_most s.cells _ in
       absurd (omega arith))
 ]
-closes l s p (suc rounds) poss past enough = elim (open_or_closed (is_closed l p s poss)) [
+closes l s p (suc rounds) poss past enough = elim (cases_Bool (is_closed l p s poss)) [
   | inl closed ↦ closed_stays l s p (suc rounds) poss past closed
   | inr moves ↦ (
       let more : tally s.cells (value_at poss) < tally s.cells (value_at (raised l p s poss)) = round_rises l s p poss moves in
@@ -311,7 +296,7 @@ closed_from l rank s p poss fits past over closed =
     record {
       views = views_settled l rank s p (value_at poss) fits;
       old = over;
-      next = λ c is. elim (within_or_past c s.cells) [
+      next = λ c is. elim (cases_lt c s.cells) [
         | inl h ↦ tested (p.pulsed (l.cell c).domain) _ _ (all_first_at s.cells c (λ k. stays (p.pulsed (l.cell k).domain) (value_at poss k) (next_value l p view k)) closed h) is
         | inr h ↦ over_unknown _ _ (past c h)
       ];
@@ -369,15 +354,12 @@ verdict_from l rank s old v count (x ∷ xs) fits past =
 
 -- ---- designs
 
-cells_end : (n : Netlist) (ports : Ports) (c : ℕ) → length n.instances ≤ c → (logic_of n ports).cell c ≡ no_cell c
-cells_end n ports c h = rw (slice_get_past n.instances c h) refl
-
 pub verdict_plain : VerdictIsPlain
 verdict_plain n rank p order =
     verdict_from (logic_of n (ports_of n p)) rank (size_of n) [] 0 0 (rows_of n p)
     (record {
       ranked = order_is_rank n (ports_of n p) rank order;
       levels = λ net. (let h : rank net ≤ length n.nets = order.within net in omega arith);
-      cells = cells_end n (ports_of n p);
+      cells = past_cell n (ports_of n p);
     })
     (λ c h. refl)

@@ -14,7 +14,7 @@ use Rattle.dft_abstract.proofs.Views.{family}
 use Rattle.dft_logic.specs.Needs.{IsStrobe, strobe_from}
 use Rattle.dft_cycle.specs.Machine.{Machine, value_at, logic, pulses, pulse_from, ports_of, IsPulsed}
 use Rattle.dft_cycle.specs.MachineLaws.{IsForced, StandsSince}
-use Rattle.dft_cycle.proofs.MachineRounds.{forced_twice}
+use Rattle.dft_cycle.proofs.MachineRounds.{forced_twice, same_logic, by_twice, after_forced}
 use Rattle.dft_patterns.specs.declared.act.Act.{Act}
 use Rattle.dft_replay.specs.declared.comparing.Asked.{Asked}
 use Rattle.dft_replay.specs.declared.verdict.Verdict.{Verdict}
@@ -24,20 +24,6 @@ use Rattle.dft_replay.specs.Verdicts.{decided}
 use Rattle.dft_replay.specs.Vectors.{act_at, AreClocks, IsPlayed}
 use Rattle.dft_replay.proofs.LookLemmas.{looks_decide}
 use Rattle.dft_replay.proofs.VectorLemmas.{Differ, clocks_marked}
-
--- the same design has the same logic
-same_logic : (m n : Machine) → n.netlist ≡ m.netlist → n.clocks ≡ m.clocks → logic n ≡ logic m
-unfolding logic
-same_logic m n e f = λ i. logic (record { netlist = e i; clocks = f i; inputs = m.inputs; cells = m.cells; shown = m.shown })
-
-by_twice : (f : Option Force) (ports : ℕ → Tri) (bit : Tri) → tri_forced_by f ports (tri_forced_by f ports bit) ≡ tri_forced_by f ports bit
-by_twice None ports bit = refl
-by_twice (Some f) ports bit = forced_twice f.value (ports f.port) bit
-
-after_forced : (l : Logic) (p : Pulse) (view : ℕ → ℕ → Tri) (c : ℕ) (up : Bool) → p.pulsed (l.cell c).domain ≡ up → p.old c ≡ tri_forced_by (l.cell c).force p.ports (p.old c) →
-    (if up then next_value l p view c else p.old c) ≡ tri_forced_by (l.cell c).force p.ports (if up then next_value l p view c else p.old c)
-after_forced l p view c true e old = sym (by_twice (l.cell c).force p.ports (tri_taken_by (l.cell c).scan (value_from (view (l.cell c).domain)) (value_from (view (l.cell c).domain) (l.cell c).input)))
-after_forced l p view c false e old = old
 
 -- an assignment that is settled for a strobe of the machine, once its inputs are set, and its pulse are a round of the vector
 record IsLooked (start set after : Machine) (x : Vector) (shown : ℕ → Tri) : Type 0 where

@@ -8,7 +8,10 @@ use Rattle.std.proofs.lemmas.List.Sums.{sum_by-cons}
 use Rattle.std.proofs.lemmas.List.{length-map, append-nil}
 use Rattle.std.proofs.lemmas.List.Elements.{filter-append}
 use Rattle.std.proofs.lemmas.Option.{slice_get-get_or}
+use Rattle.std.proofs.lemmas.Bool.{eqb-true, and_parts, and_from, or_left, or_right, eq-eqb, or_cases}
 use Rattle.dft_base.specs.declared.tri.Tri.{Tri}
+use Rattle.dft_base.proofs.BitLemmas.{same_tests}
+use Rattle.dft_base.proofs.ListLemmas.{range_last}
 use Rattle.dft_netlist.specs.declared.ids.NetId.{NetId}
 use Rattle.dft_netlist.specs.Orders.{Has, numbers_of}
 use Rattle.dft_cycle.specs.Machine.{Machine, value_at, logic, is_one_of, pulses, IsSet}
@@ -19,7 +22,6 @@ use Rattle.dft_patterns.specs.declared.act.Act.TheVariants.{Unset, Low, High, Pu
 use Rattle.dft_replay.specs.Rows.{Compared, Row, act_on, set_by, is_pulse, compared_at, compared_from, row_of}
 use Rattle.dft_replay.specs.Rows as rows
 use Rattle.dft_replay.specs.Vectors.{act_at, net_at, is_compared, pulses_at, clocks_of, AreClocks}
-use Rattle.dft_replay.proofs.TestLemmas.{or_cases, or_left, or_right, and_parts, and_both}
 
 -- ---- the act at a net
 
@@ -137,17 +139,6 @@ all_told start now nets acts count differ same all told net = elim (signal_or_no
 
 -- ---- clocks
 
-same_tests : (a b : Bool) → (a ≡ true → b ≡ true) → (b ≡ true → a ≡ true) → a ≡ b
-same_tests true b to from = sym (to refl)
-same_tests false true to from = from refl
-same_tests false false to from = refl
-
-eqb_is : (a b : ℕ) → (a == b) ≡ true → a ≡ b
-eqb_is a b h = elim (eqb_tells a b) [ inl is ↦ is.1 | inr other ↦ absurd (let f : true ≡ false = sym h ∙ other.0 in let g : ⊥ = cc in g) ]
-
-is_eqb : (a b : ℕ) → a ≡ b → (a == b) ≡ true
-is_eqb a b h = elim (eqb_tells a b) [ inl is ↦ is.0 | inr other ↦ absurd (other.1 h) ]
-
 -- a net that pulses is that of a signal that does
 record PulsesBy (nets : List ℕ) (acts : List Act) (net : ℕ) : Type 0 where
   pub signal : ℕ
@@ -175,7 +166,7 @@ marked : (nets : List NetId) (acts : List Act) (clocks : List ℕ) (e : ℕ) →
     (s : ℕ) × (Has clocks s × (is_pulse (act_at acts s) ≡ true) × ((net_at nets s).0 ≡ e))
 marked nets acts [] e h = absurd (let f : ⊥ = cc in f)
 marked nets acts (c ∷ clocks) e h = elim (or_cases (is_pulse (act_at acts c) && ((net_at nets c).0 == e)) (pulses (map (net_at nets) clocks) (map (λ s. is_pulse (act_at acts s)) clocks) e) h) [
-  | inl here ↦ (let both = and_parts (is_pulse (act_at acts c)) ((net_at nets c).0 == e) here in (c, (inl refl, both.0, eqb_is (net_at nets c).0 e both.1)))
+  | inl here ↦ (let both = and_parts (is_pulse (act_at acts c)) ((net_at nets c).0 == e) here in (c, (inl refl, both.0, eqb-true (net_at nets c).0 e both.1)))
   | inr later ↦ (let r = marked nets acts clocks e later in (r.0, (inr r.1.0, r.1.1, r.1.2)))
 ]
 
@@ -183,7 +174,7 @@ marks : (nets : List NetId) (acts : List Act) (clocks : List ℕ) (e s : ℕ) �
 marks nets acts [] e s has up at = absurd has
 marks nets acts (c ∷ clocks) e s has up at = elim has [
   | inl is ↦ or_left (is_pulse (act_at acts c) && ((net_at nets c).0 == e)) (pulses (map (net_at nets) clocks) (map (λ k. is_pulse (act_at acts k)) clocks) e)
-      (and_both (is_pulse (act_at acts c)) ((net_at nets c).0 == e) (ap (λ (k : ℕ). is_pulse (act_at acts k)) (sym is) ∙ up) (is_eqb (net_at nets c).0 e (ap (λ (k : ℕ). (net_at nets k).0) (sym is) ∙ at)))
+      (and_from (is_pulse (act_at acts c)) ((net_at nets c).0 == e) (ap (λ (k : ℕ). is_pulse (act_at acts k)) (sym is) ∙ up) (eq-eqb (net_at nets c).0 e (ap (λ (k : ℕ). (net_at nets k).0) (sym is) ∙ at)))
   | inr later ↦ or_right (is_pulse (act_at acts c) && ((net_at nets c).0 == e)) (pulses (map (net_at nets) clocks) (map (λ k. is_pulse (act_at acts k)) clocks) e) (marks nets acts clocks e s later up at)
 ]
 
@@ -204,14 +195,14 @@ clocks_marked m nets clocks acts e differ same are =
 one_among : (nets : List NetId) (clocks : List ℕ) (e : ℕ) → is_one_of (map (net_at nets) clocks) e ≡ true → (s : ℕ) × (Has clocks s × ((net_at nets s).0 ≡ e))
 one_among nets [] e h = absurd (let f : ⊥ = cc in f)
 one_among nets (c ∷ clocks) e h = elim (or_cases ((net_at nets c).0 == e) (is_one_of (map (net_at nets) clocks) e) h) [
-  | inl here ↦ (c, (inl refl, eqb_is (net_at nets c).0 e here))
+  | inl here ↦ (c, (inl refl, eqb-true (net_at nets c).0 e here))
   | inr later ↦ (let r = one_among nets clocks e later in (r.0, (inr r.1.0, r.1.1)))
 ]
 
 among_one : (nets : List NetId) (clocks : List ℕ) (e s : ℕ) → Has clocks s → (net_at nets s).0 ≡ e → is_one_of (map (net_at nets) clocks) e ≡ true
 among_one nets [] e s has at = absurd has
 among_one nets (c ∷ clocks) e s has at = elim has [
-  | inl is ↦ or_left ((net_at nets c).0 == e) (is_one_of (map (net_at nets) clocks) e) (is_eqb (net_at nets c).0 e (ap (λ (k : ℕ). (net_at nets k).0) (sym is) ∙ at))
+  | inl is ↦ or_left ((net_at nets c).0 == e) (is_one_of (map (net_at nets) clocks) e) (eq-eqb (net_at nets c).0 e (ap (λ (k : ℕ). (net_at nets k).0) (sym is) ∙ at))
   | inr later ↦ or_right ((net_at nets c).0 == e) (is_one_of (map (net_at nets) clocks) e) (among_one nets clocks e s later at)
 ]
 
@@ -252,12 +243,9 @@ range_grows : (a n : ℕ) → range_with_len a (suc n) ≡ range_with_len a n ++
 range_grows a zero = (let e : a ≡ a + 0 = omega arith in ap (λ (k : ℕ). k ∷ []) e)
 range_grows a (suc n) = (let e : (a + 1) + n ≡ a + suc n = omega arith in ap (λ (xs : List ℕ). a ∷ xs) (range_grows (a + 1) n ∙ ap (λ (k : ℕ). range_with_len (a + 1) n ++ k ∷ []) e))
 
-range_more : (count : ℕ) → range_with_len 0 (count + 1) ≡ range_with_len 0 count ++ count ∷ []
-range_more count = (let e : count + 1 ≡ suc count = omega arith in let f : 0 + count ≡ count = omega arith in ap (range_with_len 0) e ∙ range_grows 0 count ∙ ap (λ (k : ℕ). range_with_len 0 count ++ k ∷ []) f)
-
 -- the clocks of one signal more
 clocks_step : (vectors : List (List Act)) (count : ℕ) → clocks_of (count + 1) vectors ≡ clocks_of count vectors ++ (if pulses_at vectors count then count ∷ [] else [])
-clocks_step vectors count = ap (filter (pulses_at vectors)) (range_more count) ∙ filter-append (pulses_at vectors) (range_with_len 0 count) (count ∷ [])
+clocks_step vectors count = ap (filter (pulses_at vectors)) (range_last count) ∙ filter-append (pulses_at vectors) (range_with_len 0 count) (count ∷ [])
 
 pub clocks_more : (vectors : List (List Act)) (count : ℕ) (clocks new : List ℕ) → clocks ≡ clocks_of count vectors → new ≡ clocks ++ count ∷ [] → pulses_at vectors count ≡ true → new ≡ clocks_of (count + 1) vectors
 clocks_more vectors count clocks new is grown up = grown ∙ ap (λ (cs : List ℕ). cs ++ count ∷ []) is ∙ sym (clocks_step vectors count ∙ ap (λ b. clocks_of count vectors ++ (if b then count ∷ [] else [])) up)

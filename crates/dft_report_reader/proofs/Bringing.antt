@@ -6,6 +6,7 @@ use Rattle.std.proofs.lemmas.Bool.Decides.{nat_tests}
 use Rattle.std.proofs.lemmas.List.{append-nil, append_assoc, length-append}
 use Rattle.dft_base.specs.Lexing.{Text}
 use Rattle.dft_base.specs.Name.{IsName}
+use Rattle.dft_base.proofs.NumberLemmas.{not_zero, same_number}
 use Rattle.dft_report.specs.declared.report.Load.{Load}
 use Rattle.dft_report.specs.declared.report.Header.{Header}
 use Rattle.dft_report.specs.declared.report.ScannedLine.{ScannedLine}
@@ -55,9 +56,6 @@ pub header_brings : (header : Header) → IsHeaderReadable header → Brings tit
 header_brings header is = header_with header.cells header.chains header.load is.0 is.1 is.2
 
 -- ---- chains
-
-same_number : (n : ℕ) → (n == n) ≡ true
-same_number n = grind (arith, nat_tests)
 
 abbrev pub chained : Header → List ℕ → Reading
 chained header chains = record (headed header) { chains = chains }
@@ -144,12 +142,12 @@ owed_by r cubes o = record r { cubes = cubes; owing = Some o; stage = 5 }
 may_be : (low stage : ℕ) → low ≤ stage → (b : Bool) → b ≡ true → (nat_le low stage && true && b) ≡ true
 may_be low stage a b e = grind (arith, nat_tests, e)
 
-bit_texts : (bit : Bool) (rest : Text) → bit_text bit ++ rest ≡ 32 ∷ (bit_word bit ++ rest)
+pub bit_texts : (bit : Bool) (rest : Text) → bit_text bit ++ rest ≡ 32 ∷ (bit_word bit ++ rest)
 bit_texts false rest = refl
 bit_texts true rest = refl
 
 -- the line of a sum is a line of words
-sum_words : (line : SumLine) → sum_line line ≡ codes "sum" ++ behind (line.name ∷ bit_word line.bit ∷ variable_words line.variables) (10 ∷ [])
+pub sum_words : (line : SumLine) → sum_line line ≡ codes "sum" ++ behind (line.name ∷ bit_word line.bit ∷ variable_words line.variables) (10 ∷ [])
 unfolding sum_line
 sum_words line =
     ap (λ (t : Text). codes "sum " ++ (line.name ++ t)) (bit_texts line.bit (variables_text line.variables ++ codes "\n") ∙ ap (λ (t : Text). 32 ∷ (bit_word line.bit ++ t)) (variables_behind line.variables (10 ∷ [])))
@@ -184,9 +182,6 @@ sums_bring r cubes name done line (next ∷ more) each =
     (sums_bring r cubes name (done ++ line ∷ []) next more each.1) in
     brings_both (owed_by r cubes o) (owed_by r cubes p) s (sum_line line) (flat_map sum_line (next ∷ more)) here rest
 
-not_none : (n : ℕ) → (suc n == 0) ≡ false
-not_none n = grind (arith, nat_tests)
-
 cube_with : (r : Reading) (cubes : List CubeReport) (stage : ℕ) (name : Text) (o : CubeLine) → is_some r.header.load ≡ true → 2 ≤ stage → IsName name → IsOutcomeReadable o →
     Brings (cubed r cubes stage) (cube_lines (record { name = name; outcome = o })) (cubed r (cubes ++ record { name = name; outcome = o } ∷ []) 5)
 unfolding cube_lines unsolvable_text
@@ -209,7 +204,7 @@ cube_with r cubes stage name (outcome.Unsolvable (line ∷ more)) load low named
     let head : Brings (cubed r cubes stage) first (owed_by r cubes o) =
     brings_line (cubed r cubes stage) (owed_by r cubes o) (codes "cube") (name ∷ codes "unsolvable" ∷ decimal (suc (length more)) ∷ []) refl (name_fine name named, (refl, (number_fine (suc (length more)) is.0, tt)))
     (ap (with_said (cubed r cubes stage)) (says_unsolvable name (suc (length more)) named is.0)
-    ∙ ap (λ (t : Bool). if t then with_cube (cubed r cubes stage) name (outcome.Unsolvable []) else with_owing (cubed r cubes stage) name (suc (length more))) (not_none (length more))
+    ∙ ap (λ (t : Bool). if t then with_cube (cubed r cubes stage) name (outcome.Unsolvable []) else with_owing (cubed r cubes stage) name (suc (length more))) (not_zero (length more))
     ∙ ap (λ (t : Bool). if t then Some (owed_by r cubes o) else None) (may_be 2 stage low (is_some r.header.load) load)) in
     let whole : first ++ flat_map sum_line (line ∷ more) ≡ codes "cube" ++ behind (name ∷ codes "unsolvable" ∷ decimal (suc (length more)) ∷ []) (10 ∷ flat_map sum_line (line ∷ more)) =
     append_assoc (codes "cube") (behind (name ∷ codes "unsolvable" ∷ decimal (suc (length more)) ∷ []) (10 ∷ [])) (flat_map sum_line (line ∷ more))

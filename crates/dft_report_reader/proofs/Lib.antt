@@ -6,3 +6,6 @@ pub mod Lines
 pub mod Saying
 pub mod Bringing
 pub mod Whole
+mod CanonicalNumbers
+mod CanonicalWords
+mod CanonicalReading

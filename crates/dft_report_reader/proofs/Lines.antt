@@ -4,6 +4,7 @@ use Rattle.std.specs.Prelude.{nat_le}
 use Rattle.std.specs.List.{list_all, onto_first, slice_split}
 use Rattle.std.proofs.lemmas.Bool.Decides.{nat_tests}
 use Rattle.std.proofs.lemmas.List.{append-nil, append_assoc}
+use Rattle.std.proofs.lemmas.Bool.{and_parts}
 use Rattle.dft_base.specs.Lexing.{Text}
 use Rattle.dft_report.specs.declared.report.Report.{Report}
 use Rattle.dft_report_reader.specs.declared.error.ReadError.{ReadError}
@@ -24,11 +25,6 @@ behind_append (word ∷ words) rest more = ap (λ (text : Text). 32 ∷ text) (a
 
 -- ---- cutting
 
-both_true : (a b : Bool) → (a && b) ≡ true → (a ≡ true) × (b ≡ true)
-both_true true true e = (refl, refl)
-both_true true false e = absurd cc
-both_true false b e = absurd cc
-
 not_this : (c b : ℕ) → c < 33 → nat_le 33 b ≡ true → (b == c) ≡ false
 not_this c b less h = grind (arith, nat_tests)
 
@@ -36,7 +32,7 @@ not_this c b less h = grind (arith, nat_tests)
 front_split : (c : ℕ) (word text first : Text) (more : List Text) → c < 33 → IsFine word → slice_split (λ b. b == c) text ≡ first ∷ more → slice_split (λ b. b == c) (word ++ text) ≡ (word ++ first) ∷ more
 front_split c [] text first more less fine e = e
 front_split c (b ∷ word) text first more less fine e =
-    let r = both_true (nat_le 33 b) (list_all (λ k. nat_le 33 k) word) fine in
+    let r = and_parts (nat_le 33 b) (list_all (λ k. nat_le 33 k) word) fine in
     ap (λ (t : Bool). cond t ([] ∷ slice_split (λ k. k == c) (word ++ text)) (onto_first b (slice_split (λ k. k == c) (word ++ text)))) (not_this c b less r.0)
     ∙ ap (λ (parts : List Text). onto_first b parts) (front_split c word text first more less r.1 e)
 
@@ -65,24 +61,24 @@ split_by true b parts h = ([], parts, refl)
 split_by false b parts h = onto_some b parts h
 
 -- a text has a line
-lines_some : (text : Text) → (first : Text) × (more : List Text) × (lines_of text ≡ first ∷ more)
+pub lines_some : (text : Text) → (first : Text) × (more : List Text) × (lines_of text ≡ first ∷ more)
 lines_some [] = ([], [], refl)
 lines_some (b ∷ text) = split_by (b == 10) b (lines_of text) (lines_some text)
 
 -- ---- reading line by line
 
-front : List Text → List Text
+unfoldable pub front : List Text → List Text
 front [] = []
 front (line ∷ []) = []
 front (line ∷ next ∷ lines) = line ∷ front (next ∷ lines)
 
-last : List Text → Text
+unfoldable pub last : List Text → Text
 last [] = []
 last (line ∷ []) = line
 last (line ∷ next ∷ lines) = last (next ∷ lines)
 
 -- what comes of a text from some reading on, behind so many lines; the number is that of the last line
-read_on : (number : ℕ) → Reading → (k : ℕ) → List Text → Result Report ReadError
+unfoldable pub read_on : (number : ℕ) → Reading → (k : ℕ) → List Text → Result Report ReadError
 read_on number r k lines = then_ended number (last lines) (read_lines r k (front lines))
 
 next_line : (number k : ℕ) (r s : Reading) (line next : Text) (lines : List Text) → with_said r (said_of (words_of line)) ≡ Some s → read_on number r k (line ∷ next ∷ lines) ≡ read_on number s (suc k) (next ∷ lines)
@@ -124,7 +120,7 @@ unfolding last
 last_got line [] = refl
 last_got line (next ∷ lines) = last_got next lines
 
-by_lines : (line : Text) (lines : List Text) → report_by (line ∷ lines) ≡ read_on (suc (length lines)) nothing_read 0 (line ∷ lines)
+pub by_lines : (line : Text) (lines : List Text) → report_by (line ∷ lines) ≡ read_on (suc (length lines)) nothing_read 0 (line ∷ lines)
 unfolding read_on
 by_lines line lines =
     let count : length (line ∷ lines) - 1 ≡ length lines = omega arith in

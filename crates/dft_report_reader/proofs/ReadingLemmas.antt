@@ -4,6 +4,7 @@ use Rattle.std.proofs.lemmas.List.{drop_more, length-map}
 use Rattle.std.proofs.lemmas.List.Splits.{length-slice_split}
 use Rattle.std.proofs.lemmas.List.Sums.{count_by-le-length}
 use Rattle.dft_base.specs.Lexing.{Text}
+use Rattle.dft_base.proofs.ListLemmas.{drop_over}
 use Rattle.dft_report.specs.declared.report.Report.{Report}
 use Rattle.dft_report.specs.declared.report.Variable.{Variable}
 use Rattle.dft_report_reader.specs.declared.error.ReadError.{ReadError}
@@ -11,12 +12,6 @@ use Rattle.dft_report_reader.specs.declared.error.ReadError.TheVariants.{K1, Mem
 use Rattle.dft_report_reader.specs.Words.{lines_of, words_of}
 use Rattle.dft_report_reader.specs.Saying.{said_of, variable_of, and_variable, all_variables}
 use Rattle.dft_report_reader.specs.Reading.{Reading, IsRefused, nothing_read, with_said, then_lines, read_lines, place_of_line, ended, then_ended, report_by}
-
-none_left : {A : Type 0} (xs : List A) (k : ℕ) → length xs ≤ k → drop k xs ≡ []
-none_left [] zero le = refl
-none_left [] (suc k) le = refl
-none_left (x ∷ xs) zero le = absurd (omega (arith, le))
-none_left (x ∷ xs) (suc k) le = none_left xs k (omega (arith, le))
 
 -- ---- lines
 
@@ -44,7 +39,7 @@ line_fails f xs n d r total less is e =
 
 -- behind the last one
 pub lines_end : {X : Type 0} (f : X → Text) (xs : List X) (n : ℕ) (r : Reading) (total : Result Reading ReadError) → length xs ≤ n → read_lines r n (map f (drop n xs)) ≡ total → total ≡ Ok r
-lines_end f xs n r total le e = sym e ∙ ap (λ ys. read_lines r n (map f ys)) (none_left xs n le)
+lines_end f xs n r total le e = sym e ∙ ap (λ ys. read_lines r n (map f ys)) (drop_over xs n le)
 
 -- ---- variables
 
@@ -73,7 +68,7 @@ variable_fails f xs n d front total less is e =
     sym e ∙ ap (λ ys. with_front front (all_variables (map f ys))) (drop_more xs n d less) ∙ ap (λ (o : Option Variable). with_front front (and_variable o rest)) is
 
 pub variables_end : {X : Type 0} (f : X → Text) (xs : List X) (n : ℕ) (front : List Variable) (total : Option (List Variable)) → length xs ≤ n → with_front front (all_variables (map f (drop n xs))) ≡ total → total ≡ Some front
-variables_end f xs n front total le e = sym e ∙ ap (λ ys. with_front front (all_variables (map f ys))) (none_left xs n le) ∙ ap Some (append-nil front)
+variables_end f xs n front total le e = sym e ∙ ap (λ ys. with_front front (all_variables (map f ys))) (drop_over xs n le) ∙ ap Some (append-nil front)
 
 -- ---- how many lines there are
 

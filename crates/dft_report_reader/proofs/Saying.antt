@@ -12,6 +12,7 @@ use Rattle.std.proofs.lemmas.Str.Parse.{numerals_by_value, tells_by_index}
 use Rattle.std.proofs.lemmas.Bool.Decides.{nat_tests}
 use Rattle.std.proofs.lemmas.List.{append_assoc, get_or_append_left}
 use Rattle.std.proofs.lemmas.List.Sums.{list_all-from_AllPass}
+use Rattle.std.proofs.lemmas.Bool.{and_from}
 use Rattle.dft_base.specs.Lexing.{Text}
 use Rattle.dft_base.specs.Name.{IsName}
 use Rattle.dft_base.specs.declared.rule.Rule.{Rule}
@@ -33,14 +34,9 @@ name_fine name is = list_all-from_AllPass (λ b. nat_le 33 b) name (λ k d less.
     low : (b : ℕ) → 33 ≤ b → nat_le 33 b ≡ true
     low b h = grind (arith, nat_tests)
 
-both_hold : (a b : Bool) → a ≡ true → b ≡ true → (a && b) ≡ true
-both_hold true true e f = refl
-both_hold true false e f = absurd cc
-both_hold false b e f = absurd cc
-
 pub name_heard : (name : Text) → IsName name → is_name name ≡ true
 name_heard name is =
-    both_hold (nat_lt 0 (length name)) (is_printed_word name) (some (length name) is.some)
+    and_from (nat_lt 0 (length name)) (is_printed_word name) (some (length name) is.some)
     (list_all-from_AllPass is_printed name (λ k d less. printed (get_or name k d) (is.each k d less).0 (is.each k d less).1))
   where
     some : (n : ℕ) → 0 < n → nat_lt 0 n ≡ true
@@ -67,7 +63,7 @@ says_chain chain size a b = ap₂ (with_two Chain) (number_read chain a) (number
 pub says_scanned : (name domain : Text) (chain place : ℕ) → IsName name → IsName domain → IsSmall chain → IsSmall place →
     said_of (codes "scanned" ∷ name ∷ domain ∷ codes "chain" ∷ decimal chain ∷ codes "place" ∷ decimal place ∷ []) ≡ Some (Scanned name domain chain place)
 says_scanned name domain chain place a b c d =
-    ap (λ (t : Bool). if t then in_chain name domain (codes "chain" ∷ decimal chain ∷ codes "place" ∷ decimal place ∷ []) else None) (both_hold (is_name name) (is_name domain) (name_heard name a) (name_heard domain b))
+    ap (λ (t : Bool). if t then in_chain name domain (codes "chain" ∷ decimal chain ∷ codes "place" ∷ decimal place ∷ []) else None) (and_from (is_name name) (is_name domain) (name_heard name a) (name_heard domain b))
     ∙ ap₂ (with_two (Scanned name domain)) (number_read chain c) (number_read place d)
 
 rule_heard : (rule : Rule) → rule_of (rule_text rule) ≡ Some rule
@@ -165,7 +161,7 @@ variables_heard (v ∷ u ∷ vs) each = all_heard (v ∷ u ∷ vs) each
 
 fine_append : (a b : Text) → IsFine a → IsFine b → IsFine (a ++ b)
 fine_append [] b h k = k
-fine_append (x ∷ a) b h k = let r = both_parts (nat_le 33 x) (list_all (λ b. nat_le 33 b) a) h in both_hold (nat_le 33 x) (list_all (λ b. nat_le 33 b) (a ++ b)) r.0 (fine_append a b r.1 k)
+fine_append (x ∷ a) b h k = let r = both_parts (nat_le 33 x) (list_all (λ b. nat_le 33 b) a) h in and_from (nat_le 33 x) (list_all (λ b. nat_le 33 b) (a ++ b)) r.0 (fine_append a b r.1 k)
   where
     both_parts : (p q : Bool) → (p && q) ≡ true → (p ≡ true) × (q ≡ true)
     both_parts true true e = (refl, refl)

@@ -1,5 +1,6 @@
 -- The written form of a report is read as that report.
 use Rattle.std.specs.Prelude.{ℕ, ◌<◌, ◌^◌, ◌≡◌, List, [], ◌∷◌, length, Option, None, Some, Ok}
+use Rattle.dft_base.specs.Lexing.{Text}
 use Rattle.dft_base.specs.Name.{IsName}
 use Rattle.dft_report.specs.declared.report.Load.{Load}
 use Rattle.dft_report.specs.declared.report.Header.{Header}
@@ -68,3 +69,7 @@ pub record IsReadable (r : Report) : Type 0 where
 -- So the text of each such report stands for it.
 abbrev pub WrittenIsRead : Type 0
 WrittenIsRead = (r : Report) → IsReadable r → report_of (written r) ≡ Ok r
+
+-- And no other text is read as it.
+abbrev pub ReadIsWritten : Type 0
+ReadIsWritten = (text : Text) (r : Report) → report_of text ≡ Ok r → text ≡ written r

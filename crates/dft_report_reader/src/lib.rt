@@ -11,5 +11,5 @@ mod variables;
 mod words;
 
 pub use error::ReadError;
-pub use laws::written_is_read;
+pub use laws::{read_is_written, written_is_read};
 pub use reader::read;

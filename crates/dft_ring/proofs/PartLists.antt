@@ -2,6 +2,7 @@
 use Rattle.std.proofs.Common.{ℕ, zero, suc, ◌+◌, ◌-◌, ◌<◌, ◌≡◌, List, [], ◌∷◌, ◌++◌, refl, sym, subst, ap, arith, ◌∙◌, append_assoc}
 use Rattle.std.specs.List.{range_with_len}
 use Rattle.std.proofs.lemmas.List.{append-nil}
+use Rattle.dft_base.proofs.ListLemmas.{range_split}
 use Rattle.dft_netlist.specs.Netlist.{Netlist}
 use Rattle.dft_netlist.specs.declared.ids.NetId.{NetId}
 use Rattle.dft_parts.specs.Parts.{Part, ANet, AnInstance, APin}
@@ -9,7 +10,7 @@ use Rattle.dft_parts.specs.Growth.{HasParts, instances_in}
 use Rattle.dft_parts.specs.Recipes.{Start, Recipe, nets_in, behind, each, collect, net_at}
 use Rattle.dft_parts.proofs.Trees.{front, back}
 
-nets_in-append : (xs ys : List Part) → nets_in (xs ++ ys) ≡ nets_in xs + nets_in ys
+pub nets_in-append : (xs ys : List Part) → nets_in (xs ++ ys) ≡ nets_in xs + nets_in ys
 nets_in-append [] ys = omega arith
 nets_in-append (ANet ∷ xs) ys = omega (arith, nets_in-append xs ys)
 nets_in-append (AnInstance cell pins ∷ xs) ys = nets_in-append xs ys
@@ -79,22 +80,12 @@ collect_there f n P i at (x ∷ xs) fact h =
 
 -- ---- numbers
 
-range_split : (from k m : ℕ) → range_with_len from (k + m) ≡ range_with_len from k ++ range_with_len (from + k) m
-range_split from zero m = let e : 0 + m ≡ m = omega arith in let same : from ≡ from + 0 = omega arith in ap (range_with_len from) e ∙ ap (λ (a : ℕ). range_with_len a m) same
-range_split from (suc k) m =
-    let e : suc k + m ≡ suc (k + m) = omega arith in
-    let same : from + 1 + k ≡ from + suc k = omega arith in
-    ap (range_with_len from) e ∙ ap (λ (xs : List ℕ). from ∷ xs) (range_split (from + 1) k m ∙ ap (λ (a : ℕ). range_with_len (from + 1) k ++ range_with_len a m) same)
-
 -- a number below the bound stands behind those below it
 pub range_at : (n k : ℕ) → k < n → range_with_len 0 n ≡ range_with_len 0 k ++ k ∷ range_with_len (k + 1) (n - (k + 1))
 range_at n k less =
     let e : n ≡ k + suc (n - (k + 1)) = omega (arith, less) in
     let at : 0 + k ≡ k = omega arith in
     ap (range_with_len 0) e ∙ range_split 0 k (suc (n - (k + 1))) ∙ ap (λ (a : ℕ). range_with_len 0 k ++ range_with_len a (suc (n - (k + 1)))) at
-
-pub range_last : (k : ℕ) → range_with_len 0 (k + 1) ≡ range_with_len 0 k ++ k ∷ []
-range_last k = let at : 0 + k ≡ k = omega arith in range_split 0 k 1 ∙ ap (λ (a : ℕ). range_with_len 0 k ++ a ∷ []) at
 
 -- what holds of each number and what was collected for it
 both_from : (P : ℕ → NetId → Type 0) (from count k : ℕ) (vs : List NetId) → k < count → Both P (range_with_len from count) vs → P (from + k) (net_at vs k)

@@ -2,6 +2,7 @@
 use Rattle.std.proofs.Common.{ℕ, zero, suc, ◌+◌, ◌-◌, ◌<◌, ◌≡◌, List, [], ◌∷◌, ◌++◌, length, map, refl, subst, ap, arith, ◌∙◌}
 use Rattle.std.specs.List.{range_with_len}
 use Rattle.std.proofs.lemmas.List.{length-map}
+use Rattle.dft_base.proofs.ListLemmas.{range_last}
 use Rattle.dft_cells.specs.declared.kind.Kind.TheVariants.{And, Inv}
 use Rattle.dft_cells.specs.declared.cell.Cell.{Cell}
 use Rattle.dft_cells.specs.WellFormed.{IsWellFormed}
@@ -30,7 +31,7 @@ use Rattle.dft_edt.specs.Feeds.{Feed, Stage, Channel, at_feed, feeds}
 use Rattle.dft_edt.specs.Hardware.{EdtNets, HasStage}
 use Rattle.dft_ring.specs.RingRecipe.{stage_terms, a_stage, a_phase, a_ring}
 use Rattle.dft_ring.specs.RingStands.{run_parts, stage_flop, RingStands}
-use Rattle.dft_ring.proofs.PartLists.{instances_in-append, each_there, each_more, collect_there, range_at, range_last, both_at}
+use Rattle.dft_ring.proofs.PartLists.{instances_in-append, each_there, each_more, collect_there, range_at, both_at}
 
 -- ---- nets by their numbers
 

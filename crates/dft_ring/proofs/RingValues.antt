@@ -15,13 +15,8 @@ use Rattle.dft_parts.proofs.Trees.{value_at, bit_at, sum_value, sum_bit}
 use Rattle.dft_edt.specs.Feeds.{at_feed, feeds}
 use Rattle.dft_edt.specs.Hardware.{HasStage}
 use Rattle.dft_edt.proofs.Sums.{at_feeds, at_nets, sum_of_bits, feeds_step}
+use Rattle.dft_edt.proofs.Parts.{and_one, and_zero, and_bit}
 use Rattle.dft_ring.specs.RingStands.{RingBits, RingValues}
-
-and_bit : (a b : Bool) → bit_of And (a ∷ b ∷ []) ≡ (b && a)
-and_bit true true = refl
-and_bit true false = refl
-and_bit false true = refl
-and_bit false false = refl
 
 pub ring_bits : RingBits
 ring_bits l config hw phase_nets s bits has settled = (
@@ -40,16 +35,6 @@ ring_bits l config hw phase_nets s bits has settled = (
       ∙ ap sum_bits (at_nets bits hw.stage_net (phase_of config.ring chain))
       ∙ sum_of_bits (λ k. bits (hw.stage_net k)) (phase_of config.ring chain)),
 )
-
-and_one : (a : Tri) → tri_of And (a ∷ One ∷ []) ≡ a
-and_one Zero = refl
-and_one One = refl
-and_one Unknown = refl
-
-and_zero : (a : Tri) → tri_of And (a ∷ Zero ∷ []) ≡ Zero
-and_zero Zero = refl
-and_zero One = refl
-and_zero Unknown = refl
 
 pub ring_values : RingValues
 ring_values l config hw phase_nets s values has settled = (

@@ -3,13 +3,13 @@ use Rattle.std.proofs.Common.{ℕ, zero, suc, ◌+◌, ◌%◌, ◌<◌, ◌≤�
 use Rattle.std.specs.Prelude.{if◌then◌else◌}
 use Rattle.std.specs.List.{All}
 use Rattle.std.proofs.lemmas.List.{append-nil, map-append}
-use Rattle.std.proofs.lemmas.List.Elements.{All-append, All-cons}
+use Rattle.std.proofs.lemmas.List.Elements.{All-append, All-cons, All-head, All-tail}
+use Rattle.dft_base.proofs.ListLemmas.{drop_over}
 use Rattle.dft_netlist.specs.declared.ids.NetId.{NetId}
 use Rattle.dft_config.specs.declared.config.Tap.{Tap}
 use Rattle.dft_config.specs.declared.config.Injector.{Injector}
 use Rattle.dft_config.specs.declared.config.RingConfig.{RingConfig}
 use Rattle.dft_parts.specs.Recipes.{net_at}
-use Rattle.dft_parts.proofs.Fitting.{all_head, all_tail}
 use Rattle.dft_edt.specs.Feeds.{Feed, Stage, Channel, at_feed, tap_feeds, injector_feeds, feeds}
 use Rattle.dft_ring.specs.RingRecipe.{tap_nets, injector_nets, stage_terms}
 
@@ -49,8 +49,8 @@ none_below bound k d less = absurd (omega (arith, less))
 pub set_below : (bound : ℕ) (stages : List NetId) (set : List ℕ) → All (λ net. net.0 < bound) stages → All (λ k. k < length stages) set → All (λ (net : NetId). net.0 < bound) (map (net_at stages) set)
 set_below bound stages [] h k = none_below bound
 set_below bound stages (x ∷ set) h k =
-    All-cons (λ (net : NetId). net.0 < bound) (net_at stages x) (map (net_at stages) set) (h x (record { 0 = 0 }) (all_head (λ (i : ℕ). i < length stages) x set k))
-    (set_below bound stages set h (all_tail (λ (i : ℕ). i < length stages) x set k))
+    All-cons (λ (net : NetId). net.0 < bound) (net_at stages x) (map (net_at stages) set) (h x (record { 0 = 0 }) (All-head (λ (i : ℕ). i < length stages) x set k))
+    (set_below bound stages set h (All-tail (λ (i : ℕ). i < length stages) x set k))
 
 -- a feed that is there
 abbrev IsBelow : (stages channels : List NetId) → Feed → Type 0
@@ -61,11 +61,11 @@ feeds_below : (bound : ℕ) (stages channels : List NetId) (fs : List Feed) → 
     All (λ (net : NetId). net.0 < bound) (map (at_feed (net_at stages) (net_at channels)) fs)
 feeds_below bound stages channels [] s c h = none_below bound
 feeds_below bound stages channels (Stage i ∷ fs) s c h =
-    All-cons (λ (net : NetId). net.0 < bound) (net_at stages i) (map (at_feed (net_at stages) (net_at channels)) fs) (s i (record { 0 = 0 }) (all_head (IsBelow stages channels) (Stage i) fs h))
-    (feeds_below bound stages channels fs s c (all_tail (IsBelow stages channels) (Stage i) fs h))
+    All-cons (λ (net : NetId). net.0 < bound) (net_at stages i) (map (at_feed (net_at stages) (net_at channels)) fs) (s i (record { 0 = 0 }) (All-head (IsBelow stages channels) (Stage i) fs h))
+    (feeds_below bound stages channels fs s c (All-tail (IsBelow stages channels) (Stage i) fs h))
 feeds_below bound stages channels (Channel j ∷ fs) s c h =
-    All-cons (λ (net : NetId). net.0 < bound) (net_at channels j) (map (at_feed (net_at stages) (net_at channels)) fs) (c j (record { 0 = 0 }) (all_head (IsBelow stages channels) (Channel j) fs h))
-    (feeds_below bound stages channels fs s c (all_tail (IsBelow stages channels) (Channel j) fs h))
+    All-cons (λ (net : NetId). net.0 < bound) (net_at channels j) (map (at_feed (net_at stages) (net_at channels)) fs) (c j (record { 0 = 0 }) (All-head (IsBelow stages channels) (Channel j) fs h))
+    (feeds_below bound stages channels fs s c (All-tail (IsBelow stages channels) (Channel j) fs h))
 
 kept : (P : Feed → Type 0) (b : Bool) (f : Feed) (fs : List Feed) → P f → All P fs → All P (if b then f ∷ fs else fs)
 kept P true f fs h k = All-cons P f fs h k
@@ -74,14 +74,14 @@ kept P false f fs h k = k
 taps_below : (stages channels : List NetId) (taps : List Tap) (stage : ℕ) → All (λ tap. tap.from < length stages) taps → All (IsBelow stages channels) (tap_feeds taps stage)
 taps_below stages channels [] stage h = λ k d less. absurd (omega (arith, less))
 taps_below stages channels (tap ∷ taps) stage h =
-    kept (IsBelow stages channels) (tap.to == stage) (Stage tap.from) (tap_feeds taps stage) (all_head (λ (t : Tap). t.from < length stages) tap taps h)
-    (taps_below stages channels taps stage (all_tail (λ (t : Tap). t.from < length stages) tap taps h))
+    kept (IsBelow stages channels) (tap.to == stage) (Stage tap.from) (tap_feeds taps stage) (All-head (λ (t : Tap). t.from < length stages) tap taps h)
+    (taps_below stages channels taps stage (All-tail (λ (t : Tap). t.from < length stages) tap taps h))
 
 injectors_below : (stages channels : List NetId) (injectors : List Injector) (stage : ℕ) → All (λ injector. injector.channel < length channels) injectors → All (IsBelow stages channels) (injector_feeds injectors stage)
 injectors_below stages channels [] stage h = λ k d less. absurd (omega (arith, less))
 injectors_below stages channels (injector ∷ injectors) stage h =
-    kept (IsBelow stages channels) (injector.stage == stage) (Channel injector.channel) (injector_feeds injectors stage) (all_head (λ (t : Injector). t.channel < length channels) injector injectors h)
-    (injectors_below stages channels injectors stage (all_tail (λ (t : Injector). t.channel < length channels) injector injectors h))
+    kept (IsBelow stages channels) (injector.stage == stage) (Channel injector.channel) (injector_feeds injectors stage) (All-head (λ (t : Injector). t.channel < length channels) injector injectors h)
+    (injectors_below stages channels injectors stage (All-tail (λ (t : Injector). t.channel < length channels) injector injectors h))
 
 pub terms_below : (bound : ℕ) (ring : RingConfig) (channels stages : List NetId) (stage : ℕ) → (stage + 1) % ring.stages < length stages → All (λ tap. tap.from < length stages) ring.taps → All (λ injector. injector.channel < length channels) ring.injectors →
     All (λ net. net.0 < bound) stages → All (λ net. net.0 < bound) channels → All (λ (net : NetId). net.0 < bound) (stage_terms ring channels stages stage)
@@ -100,12 +100,6 @@ terms_made ring channels stages stage next taps injectors a b c d is same_taps s
     ∙ (λ i. (first i ++ tap_nets (same_taps i) stages stage) ++ injector_nets ring.injectors channels stage)
     ∙ (λ i. ((none i ++ next ∷ []) ++ tap_nets ring.taps stages stage) ++ injector_nets ring.injectors channels stage)
     ∙ terms_of ring channels stages stage next is
-
-drop_over : {T : Type 0} (xs : List T) (i : ℕ) → length xs ≤ i → drop i xs ≡ []
-drop_over [] zero h = refl
-drop_over [] (suc i) h = refl
-drop_over (x ∷ xs) zero h = absurd (omega (arith, h))
-drop_over (x ∷ xs) (suc i) h = drop_over xs i (omega (arith, h))
 
 pub set_made : (stages terms : List NetId) (set : List ℕ) (i : ℕ) → length set ≤ i → terms ++ map (net_at stages) (drop i set) ≡ map (net_at stages) set → terms ≡ map (net_at stages) set
 set_made stages terms set i past h = sym (append-nil terms) ∙ ap (λ (xs : List ℕ). terms ++ map (net_at stages) xs) (sym (drop_over set i past)) ∙ h

@@ -2,6 +2,7 @@
 use Rattle.std.proofs.Common.{◌≡◌, ℕ, zero, suc, ◌+◌, ◌-◌, ◌<◌, ◌≤◌, Bool, true, false, cond, List, length, get_or, drop, find, Option, None, Some, refl, ◌∙◌, ap, arith}
 use Rattle.std.specs.List.{range_with_len}
 use Rattle.std.proofs.lemmas.List.{at_drop_more, at_drop_all}
+use Rattle.dft_base.proofs.NumberLemmas.{one_left}
 
 -- the next item passes, or it does not, or there is none
 pub find_here : {X : Type 0} (p : X → Bool) (xs : List X) (k : ℕ) (d : X) → k < length xs → p (get_or xs k d) ≡ true → find p (drop k xs) ≡ Some (get_or xs k d)
@@ -12,10 +13,6 @@ find_on p xs k d less is = at_drop_more (find p) xs k d less ∙ ap (λ (b : Boo
 
 pub find_over : {X : Type 0} (p : X → Bool) (xs : List X) (k : ℕ) → length xs ≤ k → find p (drop k xs) ≡ None
 find_over p xs k past = at_drop_all (find p) xs k past
-
--- the same for numbers that go up to a bound
-one_left : (k total : ℕ) → k < total → total - k ≡ suc (total - (k + 1))
-one_left k total less = omega arith
 
 pub range_here : (p : ℕ → Bool) (k total : ℕ) → k < total → p k ≡ true → find p (range_with_len k (total - k)) ≡ Some k
 range_here p k total less is = ap (λ (m : ℕ). find p (range_with_len k m)) (one_left k total less) ∙ ap (λ (b : Bool). cond b (Some k) (find p (range_with_len (k + 1) (total - (k + 1))))) is

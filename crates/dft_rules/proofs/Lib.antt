@@ -5,6 +5,7 @@ pub mod CheckLemmas
 pub mod PinLemmas
 pub mod NameLemmas
 pub mod NamedPorts
+pub mod Passed
 pub mod MarkLemmas
 pub mod PlaceLemmas
 pub mod WorkedRules

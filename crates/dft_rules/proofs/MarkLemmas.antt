@@ -5,6 +5,8 @@ use Rattle.std.proofs.lemmas.Bool.Decides.{nat_tests}
 use Rattle.std.proofs.lemmas.List.{get_or-set_same, get_or-set_other, take_all, drop_all, append-nil}
 use Rattle.std.proofs.lemmas.List.Folds.{list_any_more}
 use Rattle.dft_base.specs.Lexing.{Text}
+use Rattle.dft_base.proofs.BitLemmas.{or_false, or_true}
+use Rattle.dft_base.proofs.NumberLemmas.{same_number}
 use Rattle.dft_cells.specs.declared.cell.Cell.{Cell}
 use Rattle.dft_netlist.specs.declared.ids.InstanceId.{InstanceId}
 use Rattle.dft_netlist.specs.declared.instance.Instance.{Instance}
@@ -13,24 +15,13 @@ use Rattle.dft_rules.specs.Findings.{AreUsed}
 use Rattle.dft_rules.specs.Refusals.{is_data_of}
 use Rattle.dft_rules.specs.Rules.{flip_flop_named, is_instance, is_kept}
 
-or_true : (b : Bool) → (b || true) ≡ true
-or_true true = refl
-or_true false = refl
-
-or_false : (b : Bool) → (b || false) ≡ b
-or_false true = refl
-or_false false = refl
-
-same_test : (k : ℕ) → (k == k) ≡ true
-same_test k = grind (arith, nat_tests)
-
 other_test : (i k : ℕ) → (i ≡ k → ⊥) → (k == i) ≡ false
 other_test i k apart = grind (arith, nat_tests)
 
 -- a mark more
 pub marked : (marks : List Bool) (k i : ℕ) → k < length marks → get_or (set marks k true) i false ≡ (get_or marks i false || (k == i))
 marked marks k i live = elim (cases_eq i k) [
-  | inl e ↦ ap (λ (j : ℕ). get_or (set marks k true) j false) e ∙ get_or-set_same marks k true false live ∙ sym (ap (λ (j : ℕ). get_or marks i false || (k == j)) e ∙ ap (λ (b : Bool). get_or marks i false || b) (same_test k) ∙ or_true (get_or marks i false))
+  | inl e ↦ ap (λ (j : ℕ). get_or (set marks k true) j false) e ∙ get_or-set_same marks k true false live ∙ sym (ap (λ (j : ℕ). get_or marks i false || (k == j)) e ∙ ap (λ (b : Bool). get_or marks i false || b) (same_number k) ∙ or_true (get_or marks i false))
   | inr apart ↦ get_or-set_other marks k i true false apart ∙ sym (ap (λ (b : Bool). get_or marks i false || b) (other_test i k apart) ∙ or_false (get_or marks i false))
 ]
 
@@ -68,8 +59,3 @@ used_more library instances k nets d old new less same marks h = record {
 
 pub used_all : (library : List Cell) (instances : List Instance) (k nets : ℕ) (marks : List Bool) → length instances ≤ k → AreUsed library (take k instances) nets marks → AreUsed library instances nets marks
 used_all library instances k nets marks past h = let P : List Instance → Type 0 = λ xs. AreUsed library xs nets marks in subst P (take_all k instances past) h
-
-pub none_marked : (count net : ℕ) → get_or (replicate count false) net false ≡ false
-none_marked zero net = refl
-none_marked (suc count) zero = refl
-none_marked (suc count) (suc net) = none_marked count net

@@ -21,7 +21,7 @@ pub found_flip_flop : (n : Netlist) (name : Text) (k : InstanceId) (x : Instance
     flip_flop_named n name ≡ (if t then Some k else None)
 found_flip_flop n name k x t found at is = rw (found, at, is) refl
 
-if_there : (t : Bool) (id k : InstanceId) → (if t then Some id else None) ≡ Some k → id ≡ k
+pub if_there : (t : Bool) (id k : InstanceId) → (if t then Some id else None) ≡ Some k → id ≡ k
 if_there true id k h = cc
 if_there false id k h = absurd (let f : ⊥ = cc in f)
 

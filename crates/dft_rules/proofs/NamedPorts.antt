@@ -3,29 +3,27 @@ use Rattle.std.proofs.Common.{ℕ, zero, suc, ◌+◌, ◌≡◌, ◌||◌, Bool
 use Rattle.std.specs.Prelude.{if◌then◌else◌}
 use Rattle.std.specs.List.{list_any}
 use Rattle.std.specs.Str.{bytes_eq}
-use Rattle.std.proofs.lemmas.Bool.{eqb-true}
+use Rattle.std.proofs.lemmas.Bool.{eqb-true, or_left, or_right, false_from_ne_true}
 use Rattle.std.proofs.lemmas.Option.{none-some, same_Some, get_or_from_slice_get, slice_get_within}
+use Rattle.std.proofs.lemmas.Map.Keys.{any_passes_from_place}
 use Rattle.dft_base.specs.Lexing.{Text}
+use Rattle.dft_base.proofs.BitLemmas.{true_false}
+use Rattle.dft_base.proofs.TextLemmas.{same_text, bytes_eq-self}
 use Rattle.dft_netlist.specs.declared.ids.NetId.{NetId}
 use Rattle.dft_netlist.specs.Connections.{is_input, input_net}
 use Rattle.dft_netlist.specs.Drivers.{driver}
 use Rattle.dft_netlist.specs.Names.{find_net, find_net_from}
 use Rattle.dft_netlist.specs.Netlist.{Netlist}
-use Rattle.dft_netlist.proofs.NamesLemmas.{same_of, bytes_eq-same}
 use Rattle.dft_config.specs.declared.config.Config.{Config}
 use Rattle.dft_config.specs.Range.{IsInRange, has}
 use Rattle.dft_rules.specs.Rules.{is_net}
 use Rattle.dft_rules.specs.ConfigPorts.{config_ports}
 
-pub true_false : (b : Bool) → b ≡ true → b ≡ false → ⊥
-true_false true e f = cc
-true_false false e f = cc
-
 -- ---- the net of a name
 
 by_first : (t : Bool) (from : ℕ) (x : Text) (nets : List Text) (q : Text) (k : NetId) → bytes_eq x q ≡ t → (find_net_from (suc from) nets q ≡ Some k → (j : ℕ) × (k.0 ≡ suc from + j) × (slice_get nets j ≡ Some q)) →
     cond t (Some (record { 0 = from })) (find_net_from (suc from) nets q) ≡ Some k → (j : ℕ) × (k.0 ≡ from + j) × (slice_get (x ∷ nets) j ≡ Some q)
-by_first true from x nets q k is more h = (0, sym (ap (λ (i : NetId). i.0) (same_Some (record { 0 = from }) k h)) ∙ omega arith, ap Some (same_of x q is))
+by_first true from x nets q k is more h = (0, sym (ap (λ (i : NetId). i.0) (same_Some (record { 0 = from }) k h)) ∙ omega arith, ap Some (same_text x q is))
 by_first false from x nets q k is more h = let r = more h in (suc r.0, r.1 ∙ omega arith, r.2)
 
 found_at : (from : ℕ) (nets : List Text) (q : Text) (k : NetId) → find_net_from from nets q ≡ Some k → (j : ℕ) × (k.0 ≡ from + j) × (slice_get nets j ≡ Some q)
@@ -46,14 +44,6 @@ input_by n net (Some other) h = this_or n net other (is_input (driver n other.0)
 
 -- ---- named nets
 
-or_left : (a b : Bool) → a ≡ true → (a || b) ≡ true
-or_left true b e = refl
-or_left false b e = absurd (true_false false e refl)
-
-or_right : (a b : Bool) → b ≡ true → (a || b) ≡ true
-or_right true b e = refl
-or_right false b e = e
-
 any_by : {X : Type 0} (q : X → Bool) (x : X) (xs : List X) (t : Bool) → q x ≡ t → (t || list_any q xs) ≡ true → (list_any q xs ≡ true → (k : ℕ) × (y : X) × (slice_get xs k ≡ Some y) × (q y ≡ true)) →
     (k : ℕ) × (y : X) × (slice_get (x ∷ xs) k ≡ Some y) × (q y ≡ true)
 any_by q x xs true is h more = (zero, x, refl, is)
@@ -63,14 +53,9 @@ any_there : {X : Type 0} (q : X → Bool) (xs : List X) → list_any q xs ≡ tr
 any_there q [] h = absurd (true_false false h refl)
 any_there q (x ∷ xs) h = any_by q x xs (q x) refl h (any_there q xs)
 
-pub any_at : {X : Type 0} (q : X → Bool) (xs : List X) (k : ℕ) (y : X) → slice_get xs k ≡ Some y → q y ≡ true → list_any q xs ≡ true
-any_at q [] k y at is = absurd (none-some y at)
-any_at q (x ∷ xs) zero y at is = or_left (q x) (list_any q xs) (ap q (same_Some x y at) ∙ is)
-any_at q (x ∷ xs) (suc k) y at is = or_right (q x) (list_any q xs) (any_at q xs k y at is)
-
 has_at : (xs : List Text) (k : ℕ) (y : Text) → slice_get xs k ≡ Some y → has bytes_eq xs y ≡ true
 has_at [] k y at = absurd (none-some y at)
-has_at (x ∷ xs) zero y at = or_left (bytes_eq x y) (has bytes_eq xs y) (ap (λ z. bytes_eq z y) (same_Some x y at) ∙ bytes_eq-same y)
+has_at (x ∷ xs) zero y at = or_left (bytes_eq x y) (has bytes_eq xs y) (ap (λ z. bytes_eq z y) (same_Some x y at) ∙ bytes_eq-self y)
 has_at (x ∷ xs) (suc k) y at = or_right (bytes_eq x y) (has bytes_eq xs y) (has_at xs k y at)
 
 -- a name of these, with its net
@@ -87,13 +72,9 @@ named_input n net names h = (named n net names h).4
 
 -- ---- clocks and resets
 
-pub not_both : (b : Bool) → (b ≡ true → ⊥) → b ≡ false
-not_both true never = absurd (never refl)
-not_both false never = refl
-
 -- no reset is a clock
 pub reset_rests : (n : Netlist) (config : Config) (net : ℕ) → IsInRange config → (config_ports n config).is_reset net ≡ true → (config_ports n config).is_clock net ≡ false
-reset_rests n config net range reset = not_both ((config_ports n config).is_clock net) (λ clock.
+reset_rests n config net range reset = false_from_ne_true ((config_ports n config).is_clock net) (λ clock.
     let r = named n net config.resets reset in
     let d = named n net config.domains clock in
     let same : d.1 ≡ r.1 = same_Some d.1 r.1 (sym (name_at n d.1 net d.3) ∙ name_at n r.1 net r.3) in
@@ -118,7 +99,7 @@ input_there n name net h = found_by n net (find_net n name) h
 
 -- where its name is none of these, it is the net of none of these
 pub not_among : (n : Netlist) (names : List Text) (name : Text) (net : NetId) → input_net n name ≡ Some net → list_any (λ other. bytes_eq other name) names ≡ false → list_any (λ other. is_net net.0 (input_net n other)) names ≡ false
-not_among n names name net is none = not_both (list_any (λ (other : Text). is_net net.0 (input_net n other)) names) (λ among.
+not_among n names name net is none = false_from_ne_true (list_any (λ (other : Text). is_net net.0 (input_net n other)) names) (λ among.
     let r = named n net.0 names among in
     let same : r.1 ≡ name = same_Some r.1 name (sym (name_at n r.1 net.0 r.3) ∙ name_at n name net.0 (input_there n name net is).0) in
-    true_false (list_any (λ (other : Text). bytes_eq other name) names) (any_at (λ (other : Text). bytes_eq other name) names r.0 r.1 r.2 (ap (λ (x : Text). bytes_eq x name) same ∙ bytes_eq-same name)) none)
+    true_false (list_any (λ (other : Text). bytes_eq other name) names) (any_passes_from_place (λ (other : Text). bytes_eq other name) names r.0 r.1 r.2 (ap (λ (x : Text). bytes_eq x name) same ∙ bytes_eq-self name)) none)

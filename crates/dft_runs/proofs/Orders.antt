@@ -1,6 +1,7 @@
 -- There is an order: the pulsed clocks by their numbers.
 use Rattle.std.proofs.Common.{ℕ, zero, suc, Bool, true, false, ◌+◌, ◌<◌, ◌==◌, List, [], ◌∷◌, ◌≡◌, inl, inr, refl, sym, ap, arith, ◌∙◌}
 use Rattle.std.specs.Prelude.{◌≤◌, if◌then◌else◌}
+use Rattle.dft_base.proofs.NumberLemmas.{less_apart, more_apart, same_number}
 use Rattle.dft_netlist.proofs.LiveLemmas.{le_or_lt}
 use Rattle.dft_netlist.specs.Runs.{Moment, Vector, Edge, Turn, times, IsOrder}
 use Rattle.dft_runs.specs.Choices.{OrdersExist, RunsExist}
@@ -18,21 +19,12 @@ abbrev edges_below : (pulsed : ℕ → Bool) → ℕ → List Edge
 edges_below pulsed zero = []
 edges_below pulsed (suc n) = if pulsed n then edge_of n ∷ edges_below pulsed n else edges_below pulsed n
 
-less_apart : (a b : ℕ) → a < b → (a == b) ≡ false
-less_apart = grind arith
-
-more_apart : (a b : ℕ) → a < b → (b == a) ≡ false
-more_apart = grind arith
-
-same_here : (n : ℕ) → (n == n) ≡ true
-same_here = grind arith
-
 other_times : (t : Bool) (d n : ℕ) (es : List Edge) → (d == n) ≡ false → times d (if t then edge_of n ∷ es else es) ≡ times d es
 other_times true d n es apart = ap (λ (s : Bool). (if s then 1 else 0) + times d es) apart ∙ omega arith
 other_times false d n es apart = refl
 
 here_times : (t : Bool) (n : ℕ) (es : List Edge) → times n es ≡ 0 → times n (if t then edge_of n ∷ es else es) ≡ (if t then 1 else 0)
-here_times true n es none = ap (λ (s : Bool). (if s then 1 else 0) + times n es) (same_here n) ∙ omega (arith, none)
+here_times true n es none = ap (λ (s : Bool). (if s then 1 else 0) + times n es) (same_number n) ∙ omega (arith, none)
 here_times false n es none = none
 
 none_past : (pulsed : ℕ → Bool) (n d : ℕ) → n ≤ d → times d (edges_below pulsed n) ≡ 0

@@ -20,6 +20,7 @@ use Rattle.dft_stitch.specs.Chains.{plan_of}
 use Rattle.dft_parts.specs.Parts.{Part, ANet, AnInstance, APin, Making, joined_to, pin_joined, instance_joined, with_part, with_parts}
 use Rattle.dft_parts.specs.Recipes.{at_nets}
 use Rattle.dft_scan_frame.specs.Moves.{Gap, moved_signal, map_from}
+use Rattle.dft_scan_frame.proofs.Joined.{connected}
 use Rattle.dft_scan_hardware.specs.declared.style.Style.{Style}
 use Rattle.dft_scan_hardware.specs.Frame.{as_scan_cell, framed_instance, framed_at}
 use Rattle.dft_scan_hardware.specs.Ports.{gap_in}
@@ -35,14 +36,9 @@ use Rattle.dft_verilog_out.specs.Named.{IsJoinedGate, GatesAreJoined}
 abbrev pub AreConnected : List Signal → Type 0
 AreConnected pins = (pin : ℕ) (to : Signal) → slice_get pins pin ≡ Some to → IsConnected to
 
-moved_connected : (gap : Gap) (to : Signal) → IsConnected to → IsConnected (moved_signal gap to)
-moved_connected gap (Net net) h = _
-moved_connected gap (Constant bit) h = _
-moved_connected gap Unconnected h = absurd h
-
 all_moved : (gap : Gap) (pins : List Signal) → AreConnected pins → AreConnected (map (moved_signal gap) pins)
 all_moved gap [] each pin to at = absurd (none-some to at)
-all_moved gap (x ∷ pins) each zero to at = subst IsConnected (same_Some _ _ at) (moved_connected gap x (each zero x refl))
+all_moved gap (x ∷ pins) each zero to at = subst IsConnected (same_Some _ _ at) (connected gap x (each zero x refl))
 all_moved gap (x ∷ pins) each (suc pin) to at = all_moved gap pins (λ p. each (suc p)) pin to at
 
 connected_now : (net : NetId) (to : Signal) → IsConnected (joined_to net to)

@@ -27,6 +27,7 @@ use Rattle.dft_base.specs.declared.rule.Rule.{Rule}
 use Rattle.dft_netlist.specs.Connections.{input_net}
 use Rattle.dft_rules.specs.Rules.{judged, judged_by, judgements, place_of_root, place_of_source, may_be_scanned, is_net, domain_of as clock_domain, are_held_at, scan_cell_of, is_kept}
 use Rattle.dft_stitch.specs.Chains.{domain_in}
+use Rattle.dft_stitch.proofs.OnceLemmas.{scanned_in, within_names, root_within_names, source_within_names, domain_within}
 use Rattle.dft_scan_frame.specs.Statements.{IsReady}
 use Rattle.dft_scan.specs.Reports.{domain_name, name_of, scanned_as, unscanned_as}
 use Rattle.dft_scan.specs.Laws.{FlipFlopsHaveLines, HasLine}
@@ -81,33 +82,6 @@ is_there n i s = elim (le_or_lt (length n.instances) i) [
 ]
 
 -- ---- domains
-
-scanned_in : (t : Bool) (domain : Option ℕ) (held scans kept : Bool) (d : ℕ) → cond t (judged_by domain held scans kept) None ≡ Some (Scanned d) → domain ≡ Some d
-scanned_in false domain held scans kept d h = absurd (let f : ⊥ = cc in f)
-scanned_in true None held scans kept d h = absurd (let f : ⊥ = cc in f)
-scanned_in true (Some e) false scans kept d h = absurd (let f : ⊥ = cc in f)
-scanned_in true (Some e) true false kept d h = absurd (let f : ⊥ = cc in f)
-scanned_in true (Some e) true true true d h = absurd (let f : ⊥ = cc in f)
-scanned_in true (Some e) true true false d h = cc
-
-within_by : (t : Bool) (p count d : ℕ) → nat_lt p count ≡ t → cond t (Some p) None ≡ Some d → d < count
-within_by true p count d is h = let e : p ≡ d = cc in grind (arith, nat_tests)
-within_by false p count d is h = absurd (let f : ⊥ = cc in f)
-
-root_within : (n : Netlist) (names : List Text) (root : Root) (d : ℕ) → place_of_root n names root ≡ Some d → d < length names
-root_within n names (Port net) d h =
-    let p = position_or_len (λ name. is_net net (input_net n name)) names in within_by (nat_lt p (length names)) p (length names) d refl h
-root_within n names (Constant bit) d h = absurd (let f : ⊥ = cc in f)
-root_within n names Other d h = absurd (let f : ⊥ = cc in f)
-
-source_within : (n : Netlist) (names : List Text) (o : Option Source) (d : ℕ) → option_and_then (place_of_source n names) o ≡ Some d → d < length names
-source_within n names None d h = absurd (let f : ⊥ = cc in f)
-source_within n names (Some source) d h = root_within n names (root_of n source) d h
-
-domain_within : (n : Netlist) (config : Config) (i d : ℕ) → judged n config i ≡ Some (Scanned d) → d < length config.domains
-domain_within n config i d h =
-    source_within n config.domains (pin_of Clock i (pins_of n i)) d
-    (scanned_in (may_be_scanned (kind_at n i)) (clock_domain n config i) (are_held_at n config i) (is_some (scan_cell_of n i)) (is_kept n config.keep i) d h)
 
 domain_named : (n : Netlist) (config : Config) (i d : ℕ) → judged n config i ≡ Some (Scanned d) → IsSome (domain_name config (judgements n config) (record { 0 = i }))
 domain_named n config i d h =

@@ -3,10 +3,7 @@ use Rattle.std.proofs.Common.{◌≡◌, ℕ, zero, suc, ◌+◌, ◌≤◌, ◌
 use Rattle.std.specs.List.{filter_map, cons_option, enumerate_from, range_with_len}
 use Rattle.std.proofs.lemmas.List.{drop_more}
 use Rattle.std.proofs.lemmas.Option.{slice_get_within, get_or_from_slice_get}
-
--- the list from an item on
-drop_at : {T : Type 0} (xs : List T) (k : ℕ) (x : T) → slice_get xs k ≡ Some x → drop k xs ≡ x ∷ drop (k + 1) xs
-drop_at {T = T} xs k x at = drop_more xs k x (slice_get_within xs k x at) ∙ ap (λ (y : T). y ∷ drop (k + 1) xs) (get_or_from_slice_get xs k x x at)
+use Rattle.dft_base.proofs.ListLemmas.{drop_at}
 
 -- what is left to give begins with what the next item gives
 pub flat_at : {S T : Type 0} (f : ℕ × S → List T) (xs : List S) (k : ℕ) (x : S) → slice_get xs k ≡ Some x → flat_map f (enumerate_from k (drop k xs)) ≡ f (k, x) ++ flat_map f (enumerate_from (k + 1) (drop (k + 1) xs))

@@ -2,6 +2,7 @@
 use Rattle.std.proofs.Common.{◌≡◌, ◌<◌, ◌≤◌, ℕ, ℤ, pos, true, false, List, [], ◌∷◌, length, Option, None, Some, Result, Err, IfErr, refl, sym, ◌∙◌, ap, subst, arith}
 use Rattle.std.specs.Prelude.{option_map, nat_lt}
 use Rattle.std.proofs.lemmas.Bool.Decides.{nat_tests}
+use Rattle.std.proofs.lemmas.Bool.{lt-ltb, le-ltb}
 use Rattle.dft_base.specs.Lexing.{Text}
 use Rattle.dft_netlist.specs.Netlist.{Netlist}
 use Rattle.dft_config.specs.declared.config.Config.{Config}
@@ -64,11 +65,8 @@ insert_refused more r (insert_error.Memory error) is = _
 
 -- ---- the length of the report
 
-above : (limit n : ℕ) → limit < n → nat_lt limit n ≡ true
-above limit n less = grind (arith, nat_tests)
-
 is_too_long : (text : Text) (bytes : ℤ) → MAX_BYTES < length text → bytes ≡ pos (length text) → too_long text ≡ Some (report_error.K6 bytes)
-is_too_long text bytes more is = rw (is, above MAX_BYTES (length text) more) refl
+is_too_long text bytes more is = rw (is, lt-ltb MAX_BYTES (length text) more) refl
 
 pub report_refused : (text : Text) (e : ReportError) → report.IsTooLong text e → IsRefusal (first_failing (option_map scan_error.Report (too_long text) ∷ [])) (of_report e)
 report_refused text (report_error.K6 bytes) is = ap (λ (o : Option ReportError). first_failing (option_map scan_error.Report o ∷ [])) (is_too_long text bytes is.0 is.1)
@@ -117,13 +115,10 @@ refused_by_report n config e r s i h =
     (after_insert (report_checks n config) (insert.refusal Plain n config (plan_of n config)) (of_report e) i
     (report_refused (report_text n config) e h)))
 
-not_above : (limit n : ℕ) → n ≤ limit → nat_lt limit n ≡ false
-not_above limit n le = grind (arith, nat_tests)
-
 -- no check fails
 pub passed : (n : Netlist) (config : Config) → rules.refusal n config ≡ None → stitch.refusal n config ≡ None → insert.refusal Plain n config (plan_of n config) ≡ None → length (report_text n config) ≤ MAX_BYTES →
     refusal n config ≡ None
-passed n config r s i le = rw (r, s, i, not_above MAX_BYTES (length (report_text n config)) le) refl
+passed n config r s i le = rw (r, s, i, le-ltb MAX_BYTES (length (report_text n config)) le) refl
 
 -- ---- what a step answers
 

@@ -3,6 +3,7 @@ use Rattle.std.proofs.Common.{ℕ, suc, ◌+◌, ◌<◌, ◌≡◌, ◌==◌, �
 use Rattle.std.specs.Prelude.{if◌then◌else◌}
 use Rattle.std.specs.List.{range_with_len}
 use Rattle.std.proofs.lemmas.Bool.{eqb-true, eq-eqb}
+use Rattle.dft_base.proofs.ListLemmas.{get_range}
 use Rattle.dft_cells.specs.declared.cell.Cell.{Cell}
 use Rattle.dft_cells.specs.declared.kind.Role.TheVariants.{ScanIn}
 use Rattle.dft_netlist.specs.declared.ids.NetId.{NetId}
@@ -16,7 +17,7 @@ use Rattle.dft_scan_frame.specs.Moves.{Gap}
 use Rattle.dft_scan_frame.specs.Pins.{number_of, domain_in}
 use Rattle.dft_scan_hardware.specs.Chained.{scan_roles, a_numbered_pin, a_scan_in, a_crossing, crossing_in, a_step, a_chain, a_late_chain}
 use Rattle.dft_scan_behavior.proofs.FirstNets.{first_at, Found, Fits, part_fits, part_found, FitsIn, FoundIn, fits_bind, found_bind, found_then, fits_each, found_each}
-use Rattle.dft_scan_behavior.proofs.Lockups.{LockupStands, range_is, get_range}
+use Rattle.dft_scan_behavior.proofs.Lockups.{LockupStands, range_is}
 
 module _ (n w : Netlist) (config : Config) (gap : Gap) (i p : ℕ) (P : NetId → Type 0) where
   -- a cell, where it is the one with this pin

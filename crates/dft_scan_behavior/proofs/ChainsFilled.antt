@@ -7,6 +7,7 @@ use Rattle.std.proofs.lemmas.List.{length-append}
 use Rattle.std.proofs.lemmas.List.FromFn.{get_or-map-range_with_len, length-map-range_with_len}
 use Rattle.std.proofs.lemmas.List.Sums.{sum_by-cons}
 use Rattle.std.proofs.lemmas.Option.{none-some, same_Some, slice_get-map}
+use Rattle.dft_base.proofs.ListLemmas.{get_range}
 use Rattle.dft_netlist.specs.declared.ids.InstanceId.{InstanceId}
 use Rattle.dft_netlist.specs.Netlist.{Netlist}
 use Rattle.dft_config.specs.declared.config.Config.{Config}
@@ -21,7 +22,6 @@ use Rattle.dft_stitch.specs.Chains as chains
 use Rattle.dft_stitch.proofs.EvenLemmas.{at_block, lengths_total}
 use Rattle.dft_stitch.proofs.OnceLemmas.{domain_within}
 use Rattle.dft_scan_frame.specs.Statements.{IsReady}
-use Rattle.dft_scan_behavior.proofs.Lockups.{get_range}
 
 -- ---- how often a cell is in domains
 

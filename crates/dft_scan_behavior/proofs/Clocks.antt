@@ -2,10 +2,12 @@
 use Rattle.std.proofs.Common.{ℕ, zero, suc, ◌+◌, ◌≡◌, Bool, true, false, ◌||◌, List, [], ◌∷◌, cond, position, Option, None, Some, is_some, option_and_then, slice_get, refl, sym, ap, arith, ◌∙◌}
 use Rattle.std.specs.Prelude.{if◌then◌else◌}
 use Rattle.std.specs.List.{list_any, position_from}
-use Rattle.std.proofs.lemmas.Bool.{eqb-true}
+use Rattle.std.proofs.lemmas.Bool.{eqb-true, or_right}
 use Rattle.std.proofs.lemmas.Iterator.Adapters.{position_from-zero}
 use Rattle.std.proofs.lemmas.Option.{none-some, same_Some}
+use Rattle.std.proofs.lemmas.Map.Keys.{any_passes_from_place}
 use Rattle.dft_base.specs.Lexing.{Text}
+use Rattle.dft_base.proofs.OptionLemmas.{some_of}
 use Rattle.dft_cells.specs.declared.kind.Kind.{Kind}
 use Rattle.dft_cells.specs.declared.kind.Kind.TheVariants as kind
 use Rattle.dft_cells.specs.declared.kind.Role.TheVariants as role
@@ -50,19 +52,6 @@ position_item test from number (x ∷ xs) e = position_by test from number x xs 
 position_at : {A : Type 0} (test : A → Bool) (number : ℕ) (xs : List A) → position test xs ≡ Some number → IsAt test 0 xs number
 position_at test number xs e = position_item test 0 number xs (sym (position_from-zero test xs) ∙ e)
 
-or_right : (a b : Bool) → b ≡ true → (a || b) ≡ true
-or_right true b e = refl
-or_right false b e = e
-
-any_at : {A : Type 0} (test : A → Bool) (xs : List A) (j : ℕ) (x : A) → slice_get xs j ≡ Some x → test x ≡ true → list_any test xs ≡ true
-any_at test [] j x at is = absurd (none-some x at)
-any_at test (z ∷ xs) zero x at is = ap (λ b. b || list_any test xs) (ap test (same_Some z x at) ∙ is)
-any_at test (z ∷ xs) (suc j) x at is = or_right (test z) (list_any test xs) (any_at test xs j x at is)
-
-some_of : {A : Type 0} (o : Option A) → is_some o ≡ true → (x : A) × (o ≡ Some x)
-some_of None e = absurd cc
-some_of (Some x) e = (x, refl)
-
 -- ---- the clock
 
 -- the clock of an instance traces to the port of a domain
@@ -90,7 +79,7 @@ pub clocked : (n : Netlist) (config : Config) (i domain : ℕ) → domain_of n c
 clocked n config i domain e = clocked_pin n config i domain (pin_of role.Clock i (pins_of n i)) refl e
 
 pub clock_is : (n : Netlist) (config : Config) (i domain : ℕ) (c : IsClocked n config i domain) → (config_ports n config).is_clock c.net ≡ true
-clock_is n config i domain c = any_at (λ name. is_net c.net (input_net n name)) config.domains domain c.name c.named c.is
+clock_is n config i domain c = any_passes_from_place (λ name. is_net c.net (input_net n name)) config.domains domain c.name c.named c.is
 
 pub domain_is : (n : Netlist) (config : Config) (i domain : ℕ) (c : IsClocked n config i domain) → domain_at n (config_ports n config) (pin_of role.Clock i (pins_of n i)) ≡ Some c.net
 domain_is n config i domain c =
@@ -122,7 +111,7 @@ acts_root : (style : Style) (n : Netlist) (config : Config) (value : Bool) (sour
 acts_root style n config value source (Port net) ready root e =
     let some = some_of (place_of_root n config.resets (Port net)) e in
     let it = position_at (λ name. is_net net (input_net n name)) some.0 config.resets some.1 in
-    let reset : (config_ports n config).is_reset net ≡ true = any_at (λ name. is_net net (input_net n name)) config.resets it.place it.item it.at it.passes in
+    let reset : (config_ports n config).is_reset net ≡ true = any_passes_from_place (λ name. is_net net (input_net n name)) config.resets it.place it.item it.at it.passes in
     record {
       force = Some (record { port = net; value = value });
       is = ap (λ b. if b then Some (Some (record { port = net; value = value })) else None) reset;

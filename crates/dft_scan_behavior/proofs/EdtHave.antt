@@ -1,6 +1,7 @@
 -- In style Edt a scanned netlist has all of the compression hardware.
 use Rattle.std.proofs.Common.{ℕ, zero, suc, ◌+◌, ◌-◌, ◌<◌, ◌≤◌, ◌≡◌, List, [], ◌∷◌, length, map, None, Some, option_map, option_and_then, slice_get, refl, sym, subst, ap, arith, ◌∙◌}
-use Rattle.std.proofs.lemmas.Option.{slice_get-map, get_or_from_slice_get}
+use Rattle.std.proofs.lemmas.Option.{slice_get-map, get_or_from_slice_get, slice_get_past}
+use Rattle.dft_base.proofs.ListLemmas.{get_there}
 use Rattle.dft_netlist.specs.declared.ids.NetId.{NetId}
 use Rattle.dft_netlist.specs.declared.ids.InstanceId.{InstanceId}
 use Rattle.dft_netlist.specs.NetNumbers.{nets_from}
@@ -21,6 +22,7 @@ use Rattle.dft_scan_hardware.specs.Chained.{last_net}
 use Rattle.dft_scan_hardware.specs.Ports.{gap_in}
 use Rattle.dft_scan_hardware.specs.Statements.{scanned}
 use Rattle.dft_scan_equivalence.specs.Agreeing.{ports_in}
+use Rattle.dft_scan_equivalence.proofs.MadeGood.{from_at}
 use Rattle.dft_scan_behavior.specs.Facts.{chain_nets, rows_in, ports_of, ring_start, ring_parts, ring_number, no_nets, edt_hardware, HasEdtHardware}
 use Rattle.dft_scan_behavior.proofs.ChainsFilled.{chain_filled}
 use Rattle.dft_scan_behavior.proofs.ChainsHave.{into_is, chains_have}
@@ -32,21 +34,6 @@ use Rattle.dft_scan_behavior.proofs.PortsDriven.{edt_means, edt_clock_is}
 use Rattle.dft_scan_behavior.proofs.ScanInputs.{entry_joined}
 
 -- ---- lists
-
-pub from_at : (first count j : ℕ) → j < count → (net_at (nets_from first count) j).0 ≡ first + j
-from_at first zero j less = absurd (omega (arith, less))
-from_at first (suc count) zero less = omega arith
-from_at first (suc count) (suc j) less = omega (arith, from_at (suc first) count j (omega (arith, less)))
-
-get_there : {X : Type 0} (xs : List X) (k : ℕ) → k < length xs → (x : X) × (slice_get xs k ≡ Some x)
-get_there [] k less = absurd (omega (arith, less))
-get_there (x ∷ xs) zero less = (x, refl)
-get_there (x ∷ xs) (suc k) less = get_there xs k (omega (arith, less))
-
-get_past : {X : Type 0} (xs : List X) (k : ℕ) → length xs ≤ k → slice_get xs k ≡ None
-get_past [] k le = refl
-get_past (x ∷ xs) zero le = absurd (omega (arith, le))
-get_past (x ∷ xs) (suc k) le = get_past xs k (omega (arith, le))
 
 -- the last net of a row, among those of all rows
 last_in : (rows : List (List NetId)) (chain place : ℕ) (row : List NetId) (net : NetId) → slice_get rows chain ≡ Some row → length row - 1 ≡ place → slice_get row place ≡ Some net → net_at (map last_net rows) chain ≡ net
@@ -117,7 +104,7 @@ module _ (n : Netlist) (config : Config) (ready : IsReady n config) where
       let its = get_there cells place (omega (arith, some)) in
       let cell : InstanceId = its.0 in
       let stands : cell_at chains chain place ≡ Some cell = at_chain chains chain place cells cell there.1 its.1 in
-      let past : slice_get cells (suc place) ≡ None = get_past cells (suc place) (omega (arith, some)) in
+      let past : slice_get cells (suc place) ≡ None = slice_get_past cells (suc place) (omega (arith, some)) in
       let s : IsPlanned Edt n config cell.0 = planned Edt n config chain place cell ready stands in
       let out : IsShown Edt n config cell s chain place = shown Edt n config cell s ready chain place stands in
       let out_past : slice_get out.cells (suc place) ≡ None = sym (ap (option_and_then (λ (cs : List InstanceId). slice_get cs (suc place))) out.chained) ∙ ap (option_and_then (λ (cs : List InstanceId). slice_get cs (suc place))) there.1 ∙ past in

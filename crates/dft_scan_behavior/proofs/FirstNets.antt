@@ -1,7 +1,7 @@
 -- The net that parts join an open pin to: that of the first part that joins it.
 use Rattle.std.proofs.Common.{ℕ, zero, suc, ◌+◌, ◌≡◌, ◌==◌, ◌&&◌, ◌⊎◌, inl, inr, Bool, true, false, List, [], ◌∷◌, ◌++◌, Option, None, Some, slice_get, refl, sym, subst, ap, ◌∙◌}
 use Rattle.std.specs.Prelude.{if◌then◌else◌}
-use Rattle.std.proofs.lemmas.Bool.{eqb-true, eq-eqb}
+use Rattle.std.proofs.lemmas.Bool.{eqb-true, eq-eqb, eqb-false}
 use Rattle.std.proofs.lemmas.Option.{none-some, same_Some}
 use Rattle.dft_netlist.specs.declared.ids.NetId.{NetId}
 use Rattle.dft_netlist.specs.declared.instance.Signal.{Signal}
@@ -11,7 +11,7 @@ use Rattle.dft_parts.specs.Growth.{HasParts, instances_in}
 use Rattle.dft_parts.specs.Parts.{Part, ANet, AnInstance, APin, joined_to, pin_joined}
 use Rattle.dft_parts.specs.Recipes.{Start, Recipe, ◌>>=◌, behind, each}
 use Rattle.dft_parts.proofs.Trees.{front, back}
-use Rattle.dft_scan_hardware.proofs.Joins.{Each, JoinsAt, joined_in, stays_joined}
+use Rattle.dft_scan_hardware.proofs.Joins.{Each, JoinsAt, joined_in, stays_joined, joined_if}
 
 -- the net of the first of these parts that joins a pin of an instance
 abbrev pub first_at : List Part → (i p : ℕ) → Option NetId
@@ -48,22 +48,12 @@ joined_apart zero (suc p) net (x ∷ pins) apart = refl
 joined_apart (suc pin) zero net (x ∷ pins) apart = refl
 joined_apart (suc pin) (suc p) net (x ∷ pins) apart = joined_apart pin p net pins (λ same. apart (ap suc same))
 
-pub true_false : (b : Bool) → b ≡ true → b ≡ false → ⊥
-true_false true e f = cc
-true_false false e f = cc
-
-pub differ : (a b : ℕ) → (a == b) ≡ false → a ≡ b → ⊥
-differ a b apart same = true_false (a == b) (eq-eqb a b same) apart
-
-abbrev joined_if : (pin : ℕ) → NetId → Bool → List Signal → List Signal
-joined_if pin net b pins = if b then pin_joined pin net pins else pins
-
 -- the first part joins the pin, or a later one
 joined_by : (parts : List Part) (i p : ℕ) (pins : List Signal) (pin : ℕ) (its net : NetId) (a b : Bool) → (pin == p) ≡ b → slice_get pins p ≡ Some Unconnected →
     ((ps : List Signal) → slice_get ps p ≡ Some Unconnected → first_at parts i p ≡ Some net → slice_get (joined_in parts i ps) p ≡ Some (Net net)) → (if a && b then Some its else first_at parts i p) ≡ Some net →
     slice_get (joined_in parts i (joined_if pin its a pins)) p ≡ Some (Net net)
 joined_by parts i p pins pin its net false b is free more e = more pins free e
-joined_by parts i p pins pin its net true false is free more e = more (pin_joined pin its pins) (joined_apart pin p its pins (differ pin p is) ∙ free) e
+joined_by parts i p pins pin its net true false is free more e = more (pin_joined pin its pins) (joined_apart pin p its pins (eqb-false pin p is) ∙ free) e
 joined_by parts i p pins pin its net true true is free more e =
     stays_joined parts i (pin_joined pin its pins) p net
     (subst (λ k. slice_get (pin_joined k its pins) p ≡ Some (Net net)) (sym (eqb-true pin p is)) (joined_here p its pins free ∙ ap (λ (k : NetId). Some (Net k)) (same_Some its net e)))

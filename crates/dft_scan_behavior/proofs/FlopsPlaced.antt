@@ -3,6 +3,7 @@ use Rattle.std.proofs.Common.{ℕ, zero, suc, ◌+◌, ◌*◌, ◌≤◌, ◌�
 use Rattle.std.specs.Prelude.{if◌then◌else◌}
 use Rattle.std.specs.List.{range_with_len}
 use Rattle.std.proofs.lemmas.List.{append-nil, length-append, map-append}
+use Rattle.dft_base.proofs.ListLemmas.{range_last}
 use Rattle.dft_cells.specs.declared.kind.Kind.TheVariants.{Buf, Inv, And}
 use Rattle.dft_cells.specs.declared.kind.Role.TheVariants.{Output}
 use Rattle.dft_cells.specs.declared.cell.Cell.{Cell}
@@ -26,7 +27,7 @@ use Rattle.dft_edt.specs.Hardware.{group_of}
 use Rattle.dft_config.specs.Segments.{segment_length, segment_start}
 use Rattle.dft_ring.specs.RingRecipe.{stage_terms, a_stage, a_phase, a_ring}
 use Rattle.dft_ring.specs.RingStands.{run_parts, stage_flop}
-use Rattle.dft_ring.proofs.PartLists.{instances_in-append, each_parts, each_more, range_last}
+use Rattle.dft_ring.proofs.PartLists.{instances_in-append, each_parts, each_more}
 use Rattle.dft_compact.specs.CompactorRecipe.{a_next, a_mask, a_segment, segments, masks_at, a_gated, a_compactor}
 use Rattle.dft_compact.specs.CompactorRecipe as compact
 use Rattle.dft_compact.proofs.MaskFacts.{segment_count, cut_count}

@@ -6,6 +6,7 @@ use Rattle.std.proofs.lemmas.Bool.{eqb-true}
 use Rattle.std.proofs.lemmas.List.FromFn.{get_or-map-range_with_len}
 use Rattle.std.proofs.lemmas.Option.{none-some, same_Some, slice_get_within, get_or_from_slice_get}
 use Rattle.dft_base.specs.Lexing.{Text}
+use Rattle.dft_base.proofs.ListLemmas.{get_left, get_right, get_range}
 use Rattle.dft_cells.specs.declared.cell.Cell as library_cells
 use Rattle.dft_cells.specs.WellFormed.{IsWellFormed}
 use Rattle.dft_netlist.specs.declared.ids.NetId.{NetId}
@@ -16,7 +17,6 @@ use Rattle.dft_netlist.specs.Netlist.{Netlist}
 use Rattle.dft_netlist.specs.Connections.{input_net}
 use Rattle.dft_netlist.specs.Drivers.{Net, driver}
 use Rattle.dft_netlist.specs.Logic.{Cell, Lockup, logic_of}
-use Rattle.dft_netlist.proofs.Places.{get_left}
 use Rattle.dft_netlist.proofs.Walks.{port_found}
 use Rattle.dft_config.specs.declared.config.Config.{Config}
 use Rattle.dft_rules.specs.declared.judged.Judged.{Judged}
@@ -31,7 +31,6 @@ use Rattle.dft_parts.specs.Growth.{Stands}
 use Rattle.dft_parts.specs.Recipes.{net_at}
 use Rattle.dft_parts.specs.Standing.{IsClockNet}
 use Rattle.dft_parts.proofs.Growing.{parts_grow}
-use Rattle.dft_parts.proofs.Standing.{get_behind}
 use Rattle.dft_parts.proofs.Stores.{lockup_stands}
 use Rattle.dft_scan_frame.specs.Moves.{moved}
 use Rattle.dft_scan_frame.specs.Pins.{moved_or_none}
@@ -55,11 +54,6 @@ use Rattle.dft_scan_behavior.proofs.Planned.{IsPlanned, flop_is, clock_in}
 
 -- ---- lists
 
-pub get_range : (from count k : ℕ) → k < count → slice_get (range_with_len from count) k ≡ Some (from + k)
-get_range from zero k h = absurd (omega (arith, h))
-get_range from (suc count) zero h = ap Some (omega arith)
-get_range from (suc count) (suc k) h = get_range (from + 1) count k (omega (arith, h)) ∙ ap Some (omega arith)
-
 pub range_is : (from count j x : ℕ) → slice_get (range_with_len from count) j ≡ Some x → (x ≡ from + j) × (j < count)
 range_is from zero j x e = absurd (none-some x e)
 range_is from (suc count) zero x e = (sym (same_Some from x e) ∙ omega arith, omega arith)
@@ -68,7 +62,7 @@ range_is from (suc count) (suc j) x e = let it = range_is (from + 1) count j x e
 get_flat : {X A : Type 0} (f : X → List A) (xs : List X) (j l : ℕ) (x : X) (y : A) → slice_get xs j ≡ Some x → slice_get (f x) l ≡ Some y → (m : ℕ) × (slice_get (flat_map f xs) m ≡ Some y)
 get_flat f [] j l x y at within = absurd (none-some x at)
 get_flat f (z ∷ xs) zero l x y at within = (l, get_left (f z) (flat_map f xs) l y (subst (λ v. slice_get (f v) l ≡ Some y) (sym (same_Some z x at)) within))
-get_flat f (z ∷ xs) (suc j) l x y at within = let more = get_flat f xs j l x y at within in (length (f z) + more.0, get_behind (f z) (flat_map f xs) more.0 y more.1)
+get_flat f (z ∷ xs) (suc j) l x y at within = let more = get_flat f xs j l x y at within in (length (f z) + more.0, get_right (f z) (flat_map f xs) more.0 y more.1)
 
 in_append : {X : Type 0} (xs ys : List X) (k : ℕ) (x : X) → slice_get (xs ++ ys) k ≡ Some x → (slice_get xs k ≡ Some x) ⊎ ((j : ℕ) × (slice_get ys j ≡ Some x))
 in_append [] ys k x e = inr (k, e)

@@ -29,6 +29,7 @@ use Rattle.dft_scan_hardware.specs.Scanned.{framed}
 use Rattle.dft_scan_hardware.specs.Statements.{scanned, made_in}
 use Rattle.dft_scan_hardware.proofs.Joins.{stays_joined}
 use Rattle.dft_scan_equivalence.specs.Agreeing.{ports_in}
+use Rattle.dft_scan_equivalence.proofs.Driving.{index_is, moved_index}
 use Rattle.dft_scan_behavior.specs.Facts.{rows_in}
 use Rattle.dft_scan_behavior.proofs.Collected.{rows_found, rows_own, rows_none}
 use Rattle.dft_scan_behavior.proofs.Cuts.{rest_of, made_cut}
@@ -75,16 +76,6 @@ index_none [] p h = refl
 index_none (x ∷ pins) zero h = absurd (none-some x (sym h))
 index_none (x ∷ pins) (suc p) h = index_none pins p h
 
-index_some : (pins : List Signal) (p : ℕ) (s : Signal) → slice_get pins p ≡ Some s → slice_index_or pins p signal.Unconnected ≡ s
-index_some [] p s h = absurd (none-some s h)
-index_some (x ∷ pins) zero s h = same_Some x s h
-index_some (x ∷ pins) (suc p) s h = index_some pins p s h
-
-index_moved : (gap : Gap) (pins : List Signal) (p : ℕ) → slice_index_or (map (moved_signal gap) pins) p signal.Unconnected ≡ moved_signal gap (slice_index_or pins p signal.Unconnected)
-index_moved gap [] p = refl
-index_moved gap (x ∷ pins) zero = refl
-index_moved gap (x ∷ pins) (suc p) = index_moved gap pins p
-
 own_by : (i before : ℕ) (roles : List Role) (pins : List Signal) (o : Option Signal) → number_of (same_role Output) 0 roles ≡ Some before → slice_get roles before ≡ Some Output → NoConstantOutput roles pins → slice_get pins before ≡ o →
     slice_index_or pins before signal.Unconnected ≡ own_signal (option_and_then net_of (pin_of Output i (connections_from 0 roles pins)))
 own_by i before roles pins None number role none at =
@@ -92,11 +83,11 @@ own_by i before roles pins None number role none at =
     index_none pins before at ∙ ap (λ o. own_signal (option_and_then net_of o)) (sym (pin_none Output i 0 before roles pins (number ∙ ap Some (sym e)) at))
 own_by i before roles pins (Some (signal.Net net)) number role none at =
     let e : 0 + before ≡ before = omega arith in
-    index_some pins before (signal.Net net) at ∙ ap (λ o. own_signal (option_and_then net_of o)) (sym (pin_number Output i 0 before roles pins (signal.Net net) (number ∙ ap Some (sym e)) at))
+    index_is pins before (signal.Net net) at ∙ ap (λ o. own_signal (option_and_then net_of o)) (sym (pin_number Output i 0 before roles pins (signal.Net net) (number ∙ ap Some (sym e)) at))
 own_by i before roles pins (Some (signal.Constant bit)) number role none at = absurd (none before Output bit role refl at)
 own_by i before roles pins (Some signal.Unconnected) number role none at =
     let e : 0 + before ≡ before = omega arith in
-    index_some pins before signal.Unconnected at ∙ ap (λ o. own_signal (option_and_then net_of o)) (sym (pin_number Output i 0 before roles pins signal.Unconnected (number ∙ ap Some (sym e)) at))
+    index_is pins before signal.Unconnected at ∙ ap (λ o. own_signal (option_and_then net_of o)) (sym (pin_number Output i 0 before roles pins signal.Unconnected (number ∙ ap Some (sym e)) at))
 
 -- the net at the output of a planned cell
 pub record IsShown (style : Style) (n : Netlist) (config : Config) (cell : InstanceId) (s : IsPlanned style n config cell.0) (chain place : ℕ) : Type 0 where
@@ -124,7 +115,7 @@ module _ (style : Style) (n : Netlist) (config : Config) (cell : InstanceId) (s 
       let before = s.shape.before in
       let own = own_by cell.0 before roles s.instance.pins (slice_get s.instance.pins before) s.shape.is_before s.shape.at_before (ready.netlist.instances cell.0 s.instance s.at).outputs refl in
       let its = ap (λ (o : Option Instance). own_signal (option_and_then net_of (pin_of Output cell.0 (pins_at n.library o)))) s.at in
-      s.shape.shown (at_net gap.before) (map (moved_signal gap) s.instance.pins) ∙ ap Some (index_moved gap s.instance.pins before ∙ ap (moved_signal gap) (own ∙ sym its))
+      s.shape.shown (at_net gap.before) (map (moved_signal gap) s.instance.pins) ∙ ap Some (moved_index gap s.instance.pins before ∙ ap (moved_signal gap) (own ∙ sym its))
 
   -- the number of its output
   output_number : number_of (same_role Output) 0 (scan_roles n cell) ≡ Some s.shape.output

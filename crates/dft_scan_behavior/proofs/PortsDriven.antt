@@ -2,11 +2,12 @@
 use Rattle.std.proofs.Common.{ℕ, zero, suc, ◌+◌, ◌≡◌, ◌<◌, ◌≤◌, ◌==◌, Bool, true, false, ◌||◌, List, [], ◌∷◌, ◌++◌, length, map, Option, None, Some, option_and_then, refl, sym, ap, arith, ◌∙◌, append_assoc}
 use Rattle.std.specs.Prelude.{if◌then◌else◌}
 use Rattle.std.specs.List.{AllByRecursion, list_any, range_with_len}
-use Rattle.std.proofs.lemmas.Bool.{eq-eqb, eqb-true}
+use Rattle.std.proofs.lemmas.Bool.{eq-eqb, eqb-true, or_from, or_right}
 use Rattle.std.proofs.lemmas.List.{length-append}
 use Rattle.dft_base.specs.Lexing.{Text}
 use Rattle.dft_base.specs.declared.dir.Dir.{Dir}
 use Rattle.dft_base.specs.declared.dir.Dir.TheVariants as dir
+use Rattle.dft_base.proofs.NumberLemmas.{less_apart}
 use Rattle.dft_netlist.specs.declared.ids.NetId.{NetId}
 use Rattle.dft_netlist.specs.Drivers as drivers
 use Rattle.dft_netlist.specs.Drivers.{Driver, Driven, driven_by_bits, driven_by_ports, driven_by_instances, driven_by_joins, driver_in, driver}
@@ -90,14 +91,10 @@ edt_input n config j ready less =
     ∙ ap (λ (ports : List NewPort). driver_in (driven_by_ports (ports_from before (a ∷ b ∷ c ∷ ports)) ++ (its ++ joins)) (before + j)) (sym (append_assoc channels masks outputs))
     ∙ inputs_drive inputs outputs before j (its ++ joins) are few
 
-or_true : (a b : Bool) → b ≡ true → (a || b) ≡ true
-or_true true b e = refl
-or_true false b e = e
-
 pub edt_clock_is : (n : Netlist) (config : Config) → IsReady n config → IsClockNet (scanned Edt n config) (ports_in Edt n config) (edt_clock_net n config)
 edt_clock_is n config ready = record {
   input = edt_input n config 1 ready (omega arith);
-  clock = or_true ((config_ports n config).is_clock (edt_clock_net n config)) (edt_clock_net n config == edt_clock_net n config) (eq-eqb (edt_clock_net n config) (edt_clock_net n config) refl);
+  clock = or_right ((config_ports n config).is_clock (edt_clock_net n config)) (edt_clock_net n config == edt_clock_net n config) (eq-eqb (edt_clock_net n config) (edt_clock_net n config) refl);
 }
 
 -- ---- style Plain
@@ -121,25 +118,17 @@ plain_input n config j ready less =
 
 -- ---- nets past the design's ports are no clocks of its configuration
 
-less_apart : (a b : ℕ) → a < b → (a == b) ≡ false
-less_apart = grind arith
-
-not_this : (n : Netlist) (at : ℕ) (net : NetId) (b : Bool) → length (bits_of n.ports) ≤ at → (b ≡ true → net.0 < length (bits_of n.ports)) → is_net at (if b then Some net else None) ≡ false
+pub not_this : (n : Netlist) (at : ℕ) (net : NetId) (b : Bool) → length (bits_of n.ports) ≤ at → (b ≡ true → net.0 < length (bits_of n.ports)) → is_net at (if b then Some net else None) ≡ false
 not_this n at net true past h = less_apart net.0 at (omega (arith, h refl, past))
 not_this n at net false past h = refl
 
-not_found : (n : Netlist) (config : Config) (at : ℕ) (o : Option NetId) → IsReady n config → length (bits_of n.ports) ≤ at → is_net at (option_and_then (λ (net : NetId). if is_input (driver n net.0) then Some net else None) o) ≡ false
+pub not_found : (n : Netlist) (config : Config) (at : ℕ) (o : Option NetId) → IsReady n config → length (bits_of n.ports) ≤ at → is_net at (option_and_then (λ (net : NetId). if is_input (driver n net.0) then Some net else None) o) ≡ false
 not_found n config at None ready past = refl
 not_found n config at (Some net) ready past = not_this n at net (is_input (driver n net.0)) past (λ is. input_less n net.0 (driver n net.0) is (driver_fine n config net.0 ready))
 
-none_any : (a b : Bool) → a ≡ false → b ≡ false → (a || b) ≡ false
-none_any false false e f = refl
-none_any true b e f = absurd cc
-none_any false true e f = absurd cc
-
-no_clock : (n : Netlist) (config : Config) (at : ℕ) (names : List Text) → IsReady n config → length (bits_of n.ports) ≤ at → list_any (λ name. is_net at (input_net n name)) names ≡ false
+pub no_clock : (n : Netlist) (config : Config) (at : ℕ) (names : List Text) → IsReady n config → length (bits_of n.ports) ≤ at → list_any (λ name. is_net at (input_net n name)) names ≡ false
 no_clock n config at [] ready past = refl
-no_clock n config at (name ∷ names) ready past = none_any (is_net at (input_net n name)) (list_any (λ other. is_net at (input_net n other)) names) (not_found n config at (find_net n name) ready past) (no_clock n config at names ready past)
+no_clock n config at (name ∷ names) ready past = or_from (is_net at (input_net n name)) (list_any (λ other. is_net at (input_net n other)) names) (not_found n config at (find_net n name) ready past) (no_clock n config at names ready past)
 
 -- what an added input port is
 pub plain_means : (n : Netlist) (config : Config) (j : ℕ) → IsReady n config → j < 1 + config.chains → (logic_of (scanned Plain n config) (ports_in Plain n config)).net ((gap_in Plain n config).before + j) ≡ logic.Input
@@ -158,4 +147,4 @@ pub edt_means : (n : Netlist) (config : Config) (j : ℕ) → IsReady n config �
 edt_means n config j ready apart less =
     ap (meaning_of (scanned Edt n config) (ports_in Edt n config) ((gap_in Edt n config).before + j)) (edt_input n config j ready less)
     ∙ ap (λ b. if b then logic.Clock else logic.Input)
-    (none_any ((config_ports n config).is_clock ((gap_in Edt n config).before + j)) ((gap_in Edt n config).before + j == edt_clock_net n config) (no_clock n config ((gap_in Edt n config).before + j) config.domains ready (omega arith)) (not_one (gap_in Edt n config).before j apart))
+    (or_from ((config_ports n config).is_clock ((gap_in Edt n config).before + j)) ((gap_in Edt n config).before + j == edt_clock_net n config) (no_clock n config ((gap_in Edt n config).before + j) config.domains ready (omega arith)) (not_one (gap_in Edt n config).before j apart))

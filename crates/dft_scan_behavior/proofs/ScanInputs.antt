@@ -1,8 +1,9 @@
 -- The scan inputs of the planned cells, where all parts are made: what each is joined to.
 use Rattle.std.proofs.Common.{ℕ, zero, suc, ◌+◌, ◌<◌, ◌≡◌, ◌==◌, inl, inr, Bool, true, false, List, [], ◌∷◌, ◌++◌, length, map, None, Some, option_and_then, slice_get, slice_index_or, refl, sym, subst, ap, arith, ◌∙◌}
 use Rattle.std.specs.List.{range_with_len}
-use Rattle.std.proofs.lemmas.Bool.{eqb-true}
+use Rattle.std.proofs.lemmas.Bool.{eqb-true, eqb-false}
 use Rattle.std.proofs.lemmas.Option.{none-some, slice_get_within, get_or_from_slice_get}
+use Rattle.dft_base.proofs.ListLemmas.{get_range}
 use Rattle.dft_cells.specs.declared.kind.Role.TheVariants.{ScanIn}
 use Rattle.dft_netlist.specs.declared.ids.NetId.{NetId}
 use Rattle.dft_netlist.specs.declared.ids.InstanceId.{InstanceId}
@@ -33,8 +34,8 @@ use Rattle.dft_scan_equivalence.specs.Agreeing.{ports_in}
 use Rattle.dft_scan_behavior.specs.Facts.{rows_in, ports_of, ring_start, ring_parts, chains_start, chain_parts}
 use Rattle.dft_scan_behavior.proofs.ChainNets.{IfHere, AllCross, AllStep, entry_found, crossing_first, step_first, chain_apart, late_found, late_fits}
 use Rattle.dft_scan_behavior.proofs.Cuts.{plain_start, plain_chain_parts, end_parts, compactor_list, rest_of, made_cut, all_there}
-use Rattle.dft_scan_behavior.proofs.FirstNets.{first_at, differ, Found, joined_first, none_first, FitsIn, FoundIn, found_front, found_back, found_each}
-use Rattle.dft_scan_behavior.proofs.Lockups.{get_range, cell_domain, same_or_lockup, by_lockup, directly, lockup_means}
+use Rattle.dft_scan_behavior.proofs.FirstNets.{first_at, Found, joined_first, none_first, FitsIn, FoundIn, found_front, found_back, found_each}
+use Rattle.dft_scan_behavior.proofs.Lockups.{cell_domain, same_or_lockup, by_lockup, directly, lockup_means}
 use Rattle.dft_scan_behavior.proofs.Outputs.{has_chain, one_place, IsShown, shown, input_free}
 use Rattle.dft_scan_behavior.proofs.Planned.{cell_pins, now_pins, IsPlanned}
 use Rattle.dft_scan_behavior.proofs.PortsDriven.{edt_clock_is}
@@ -75,7 +76,7 @@ module _ (n : Netlist) (config : Config) (i p : ℕ) (P : NetId → Type 0) wher
 
   either_fits : (style : Style) (chain other : ℕ) (b : Bool) → (other == chain) ≡ b → Elsewhere chain → FoundIn (scanned style n config) i p P (chain_recipe style n config chain) → FitsIn (scanned style n config) i p P (chain_recipe style n config other)
   either_fits style chain other true is only found = subst (λ k. FitsIn (scanned style n config) i p P (chain_recipe style n config k)) (sym (eqb-true other chain is)) (λ at k lib has. inr (found at k lib has))
-  either_fits style chain other false is only found = other_fits style chain other only (differ other chain is)
+  either_fits style chain other false is only found = other_fits style chain other only (eqb-false other chain is)
 
   -- where the rows do not join the pin and the recipe of its chain does, the chain's is the net that it is joined to
   pub made_first : (style : Style) (chain : ℕ) → first_at (rows_in style n config).parts i p ≡ None → chain < length (plan_of n config).chains → Elsewhere chain → FoundIn (scanned style n config) i p P (chain_recipe style n config chain) → Found P (first_at (made_in style n config) i p)

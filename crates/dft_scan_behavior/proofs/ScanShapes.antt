@@ -2,6 +2,7 @@
 use Rattle.std.proofs.Common.{ℕ, zero, suc, ◌+◌, ◌≡◌, Bool, true, false, List, [], ◌∷◌, ◌++◌, length, drop, None, Some, slice_get, refl, sym, subst, ap, arith, ◌∙◌}
 use Rattle.std.specs.Prelude.{slice_index_or, if◌then◌else◌}
 use Rattle.std.proofs.lemmas.Option.{none-some, same_Some}
+use Rattle.dft_base.proofs.ListLemmas.{get_right}
 use Rattle.dft_cells.specs.declared.kind.Kind.{Kind}
 use Rattle.dft_cells.specs.declared.kind.Kind.TheVariants as kind
 use Rattle.dft_cells.specs.declared.kind.Role.{Role}
@@ -12,7 +13,6 @@ use Rattle.dft_netlist.specs.declared.instance.Signal.{Signal}
 use Rattle.dft_netlist.specs.declared.instance.Signal.TheVariants as signal
 use Rattle.dft_netlist.specs.Drivers.{Source, Driver, Driven, Flop, connections_from, source_of, at_role, driven_by_pins, driver_of_kind}
 use Rattle.dft_netlist.specs.Logic.{same_role, pin_of}
-use Rattle.dft_parts.proofs.Standing.{get_behind}
 use Rattle.dft_scan_frame.specs.Pins.{number_of}
 use Rattle.dft_scan_frame.proofs.ScanPairs.{ScanPair, Plain, PlainBoth, Resets, ResetsBoth, Sets, SetsBoth}
 use Rattle.dft_scan_hardware.specs.Frame.{framed_pins}
@@ -128,7 +128,7 @@ abbrev pub Lists : List Driven → Driven → Type 0
 Lists ds d = (m : ℕ) × (slice_get ds m ≡ Some d)
 
 lists_behind : (xs ys : List Driven) (d : Driven) → Lists ys d → Lists (xs ++ ys) d
-lists_behind xs ys d h = (length xs + h.0, get_behind xs ys h.0 d h.1)
+lists_behind xs ys d h = (length xs + h.0, get_right xs ys h.0 d h.1)
 
 output_first : (k : Kind) (i : ℕ) (ins : List Source) (x : Role) (net : NetId) (rest : List Driven) → is_flip_flop k ≡ true → same_role Output x ≡ true → Lists (at_role x k i ins (signal.Net net) ++ rest) (net.0, Flop i false)
 output_first k i ins Output net rest flop is = (0, ap (λ (d : Driver). Some (net.0, d)) (flop_drives k i false ins flop))

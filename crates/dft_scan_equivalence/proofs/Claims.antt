@@ -21,31 +21,24 @@ use Rattle.dft_parts.specs.Ranks.{IsRanked, IsPinRanked, IsPartRanked, ArePartsR
 use Rattle.dft_parts.specs.Single.{net_driven, nets_driven, opened, opened_in, opened_at, driven_by_part, driven_by_parts, times_in}
 use Rattle.dft_parts.proofs.Growing.{parts_grow}
 use Rattle.dft_parts.proofs.RankedParts.{flip_flop_ranked}
+use Rattle.dft_parts.proofs.Singles.{times_in-append, counted_first}
 
 -- ---- numbers of nets
 
-pub times_in-append : (xs ys : List ℕ) (net : ℕ) → times_in (xs ++ ys) net ≡ times_in xs net + times_in ys net
-times_in-append [] ys net = (let e : times_in ys net ≡ 0 + times_in ys net = omega arith in e)
-times_in-append (x ∷ xs) ys net =
-    omega (arith, sum_by-cons (λ (k : ℕ). cond (k == net) 1 0) x (xs ++ ys), sum_by-cons (λ (k : ℕ). cond (k == net) 1 0) x xs, times_in-append xs ys net)
-
-pub counted_by : (x net : ℕ) (xs : List ℕ) (b : Bool) → (x == net) ≡ b → times_in (x ∷ xs) net ≡ cond b 1 0 + times_in xs net
-counted_by x net xs b h = sum_by-cons (λ (k : ℕ). cond (k == net) 1 0) x xs ∙ ap (λ (t : Bool). cond t 1 0 + times_in xs net) h
-
 -- a net stands at most as often in a list as in a longer one
 pub counted_more : (x net : ℕ) (xs : List ℕ) → times_in xs net ≤ times_in (x ∷ xs) net
-counted_more x net xs = let e = counted_by x net xs (x == net) refl in omega (arith, e)
+counted_more x net xs = let e = counted_first x net xs (x == net) refl in omega (arith, e)
 
 pub has_times : (nets : List ℕ) (net : ℕ) → Has nets net → 1 ≤ times_in nets net
 has_times [] net h = absurd h
-has_times (x ∷ nets) net (inl e) = let first = counted_by x net nets true (eq-eqb x net (sym e)) in omega (arith, first)
+has_times (x ∷ nets) net (inl e) = let first = counted_first x net nets true (eq-eqb x net (sym e)) in omega (arith, first)
 has_times (x ∷ nets) net (inr h) = omega (arith, counted_more x net nets, has_times nets net h)
 
 -- none stands twice where each is counted once at most
 pub once_by : (nets : List ℕ) → ((net : ℕ) → times_in nets net ≤ 1) → AreOnce nets
 once_by [] h = tt
 once_by (x ∷ nets) h = (
-  λ has. (let first = counted_by x x nets true (eq-eqb x x refl) in let more = has_times nets x has in let few = h x in absurd (omega (arith, first, more, few))),
+  λ has. (let first = counted_first x x nets true (eq-eqb x x refl) in let more = has_times nets x has in let few = h x in absurd (omega (arith, first, more, few))),
   once_by nets (λ net. (let few = h net in omega (arith, counted_more x net nets, few))),
 )
 

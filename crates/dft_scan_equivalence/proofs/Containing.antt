@@ -1,7 +1,7 @@
 -- A scanned netlist of either style contains its design, where the parts that are made leave the design's nets alone.
 use Rattle.std.proofs.Common.{ℕ, suc, ◌+◌, ◌≡◌, ◌==◌, ◌<◌, Bool, true, false, ◌||◌, List, ◌∷◌, ◌++◌, drop, length, map, slice_get, refl, ap, arith, ◌∙◌, append_assoc}
 use Rattle.std.specs.Prelude.{if◌then◌else◌}
-use Rattle.std.proofs.lemmas.Bool.{eq-eqb}
+use Rattle.std.proofs.lemmas.Bool.{eq-eqb, or_from}
 use Rattle.dft_netlist.specs.Netlist.{Netlist}
 use Rattle.dft_netlist.specs.Sound.{bits_of}
 use Rattle.dft_netlist.specs.Drivers.{Source, Driver, Driven, driven_by_instances, driven_by_ports, driven_by_joins, driver, driver_in}
@@ -51,17 +51,12 @@ enable_driven style n config ready =
     ∙ skips before old (added ++ (its ++ joins)) (ports_below before n.ports (ports_before n config ready))
     ∙ first_added style config before (its ++ joins)
 
-or_false : (a b : Bool) → a ≡ false → b ≡ false → (a || b) ≡ false
-or_false false false e f = refl
-or_false true b e f = absurd cc
-or_false false true e f = absurd cc
-
 not_next : (k : ℕ) → (k == k + 1) ≡ false
 not_next = grind arith
 
 enable_no_clock : (style : Style) (n : Netlist) (config : Config) → IsReady n config → (ports_in style n config).is_clock (gap_in style n config).before ≡ false
 enable_no_clock Plain n config ready = no_clock n config config.domains ready
-enable_no_clock Edt n config ready = or_false ((config_ports n config).is_clock (length (bits_of n.ports))) (length (bits_of n.ports) == edt_clock_net n config) (no_clock n config config.domains ready) (not_next (length (bits_of n.ports)))
+enable_no_clock Edt n config ready = or_from ((config_ports n config).is_clock (length (bits_of n.ports))) (length (bits_of n.ports) == edt_clock_net n config) (no_clock n config config.domains ready) (not_next (length (bits_of n.ports)))
 
 pub enable_input : (style : Style) (n : Netlist) (config : Config) → IsReady n config → (logic_of (scanned style n config) (ports_in style n config)).net (gap_in style n config).before ≡ logic.Input
 enable_input style n config ready =

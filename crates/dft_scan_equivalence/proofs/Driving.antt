@@ -2,9 +2,11 @@
 use Rattle.std.proofs.Common.{ℕ, zero, suc, ◌+◌, ◌≡◌, ◌==◌, ◌<◌, ◌≤◌, inl, inr, Bool, true, false, nat_lt, List, [], ◌∷◌, ◌++◌, length, map, Option, None, Some, is_some, option_and_then, slice_get, refl, sym, subst, ap, arith, ◌∙◌, append-nil}
 use Rattle.std.specs.Prelude.{slice_index_or, if◌then◌else◌}
 use Rattle.std.proofs.lemmas.List.{length-map}
-use Rattle.std.proofs.lemmas.Option.{none-some, same_Some}
+use Rattle.std.proofs.lemmas.Option.{none-some, same_Some, slice_get_within}
 use Rattle.dft_base.specs.declared.dir.Dir.{Dir}
 use Rattle.dft_base.specs.declared.dir.Dir.TheVariants as dir
+use Rattle.dft_base.proofs.BitLemmas.{true_false}
+use Rattle.dft_base.proofs.NumberLemmas.{less_apart}
 use Rattle.dft_cells.specs.declared.kind.Kind.{Kind}
 use Rattle.dft_cells.specs.declared.kind.Role.{Role}
 use Rattle.dft_cells.specs.declared.kind.Role.TheVariants.{Clock, Din, Reset, Preset, ScanIn, ScanEnable, Output, Inverted}
@@ -103,7 +105,7 @@ outputs_fit e _ _ _ _ pins old SetsBoth h = let l : ListOf5 pins = five pins h i
 
 -- ---- pins by their numbers
 
-index_is : (pins : List Signal) (p : ℕ) (s : Signal) → slice_get pins p ≡ Some s → slice_index_or pins p Unconnected ≡ s
+pub index_is : (pins : List Signal) (p : ℕ) (s : Signal) → slice_get pins p ≡ Some s → slice_index_or pins p Unconnected ≡ s
 index_is [] p s h = absurd (none-some s h)
 index_is (x ∷ pins) zero s h = same_Some x s h
 index_is (x ∷ pins) (suc p) s h = index_is pins p s h
@@ -116,7 +118,7 @@ index_same (x ∷ xs) (y ∷ ys) zero zero h = same_Some x y h
 index_same [] (y ∷ ys) p zero h = absurd (none-some y h)
 index_same (x ∷ xs) [] zero q h = absurd (none-some x (sym h))
 
-moved_index : (gap : Gap) (pins : List Signal) (p : ℕ) → slice_index_or (map (moved_signal gap) pins) p Unconnected ≡ moved_signal gap (slice_index_or pins p Unconnected)
+pub moved_index : (gap : Gap) (pins : List Signal) (p : ℕ) → slice_index_or (map (moved_signal gap) pins) p Unconnected ≡ moved_signal gap (slice_index_or pins p Unconnected)
 moved_index gap [] p = refl
 moved_index gap (x ∷ pins) zero = refl
 moved_index gap (x ∷ pins) (suc p) = moved_index gap pins p
@@ -143,10 +145,6 @@ instances_carry f k library written i (x ∷ xs) each =
     carries_append f k (driven_by library i x) (driven_by library i (written i x)) (driven_by_instances library (suc i) xs) (driven_by_instances library (suc i) (map_from written (suc i) xs))
     (each zero i x (omega arith) refl)
     (instances_carry f k library written (suc i) xs (λ j number z is at. each (suc j) number z (omega (arith, is)) at))
-
-pub true_false : (b : Bool) → b ≡ true → b ≡ false → ⊥
-true_false true e f = cc
-true_false false e f = cc
 
 -- a scan cell drives what its flip-flop drove, and where it drives more, not this net
 cell_carries : (style : Style) (n : Netlist) (config : Config) (k i : ℕ) (x : Instance) (id : CellId) → IsReady n config → slice_get n.instances i ≡ Some x → scan_cell_in n.library x.cell ≡ Some id → is_scanned (judged n config i) ≡ true → Each (Spares (frame style n config) k) (made_in style n config) →
@@ -205,14 +203,9 @@ now_by style n config k i x true ready at is spared = cell_by style n config k i
 
 -- ---- parts join pins of the design's instances
 
-get_less : {A : Type 0} (xs : List A) (i : ℕ) (x : A) → slice_get xs i ≡ Some x → i < length xs
-get_less [] i x h = absurd (none-some x h)
-get_less (y ∷ xs) zero x h = omega arith
-get_less (y ∷ xs) (suc i) x h = omega (arith, get_less xs i x h)
-
 there_by : (n : Netlist) (i : ℕ) (o : Option Instance) → slice_get n.instances i ≡ o → is_some (option_and_then (λ (x : Instance). scan_cell_in n.library x.cell) o) ≡ true → i < length n.instances
 there_by n i None at some = absurd cc
-there_by n i (Some x) at some = get_less n.instances i x at
+there_by n i (Some x) at some = slice_get_within n.instances i x at
 
 pub scanned_there : (n : Netlist) (config : Config) (i : ℕ) → is_scanned (judged n config i) ≡ true → i < length n.instances
 scanned_there n config i on = there_by n i (slice_get n.instances i) refl (scans_of n config i on)
@@ -321,9 +314,6 @@ driver_kept style n config net ready spared less =
 pub skips : (k : ℕ) (xs ys : List Driven) → NoneAt xs k → driver_in (xs ++ ys) k ≡ driver_in ys k
 skips k [] ys h = refl
 skips k (x ∷ xs) ys h = ap (λ b. if b then x.1 else driver_in (xs ++ ys) k) h.0 ∙ skips k xs ys h.1
-
-less_apart : (a b : ℕ) → a < b → (a == b) ≡ false
-less_apart = grind arith
 
 bits_below : (k : ℕ) (d : Dir) (bits : List NetId) → AreBefore k bits → NoneAt (driven_by_bits d bits) k
 bits_below k dir.Output bits h = tt

@@ -13,6 +13,7 @@ use Rattle.dft_parts.specs.Ranks.{AreRanked}
 use Rattle.dft_parts.specs.Single.{driven_by_parts, times_in}
 use Rattle.dft_parts.proofs.Ranking as ranks
 use Rattle.dft_parts.proofs.Singles.{stays_single}
+use Rattle.dft_parts.proofs.Growing.{kept_refl}
 use Rattle.dft_scan_frame.specs.Statements.{IsReady}
 use Rattle.dft_scan_hardware.specs.declared.style.Style.{Style}
 use Rattle.dft_scan_hardware.specs.Frame.{frame}
@@ -29,14 +30,8 @@ use Rattle.dft_scan_equivalence.proofs.MadeGood.{top_of, rank_of, made_good, cla
 
 -- ---- a netlist keeps its own
 
-kept_same : (pins : List Signal) → AreKept pins pins
-kept_same [] = tt
-kept_same (Net net ∷ pins) = (refl, kept_same pins)
-kept_same (Constant bit ∷ pins) = (refl, kept_same pins)
-kept_same (Unconnected ∷ pins) = (tt, kept_same pins)
-
 keeps_own : (n : Netlist) → Keeps n n
-keeps_own n i x at = record { instance = x; at = at; cell_is = refl; kept = kept_same x.pins }
+keeps_own n i x at = record { instance = x; at = at; cell_is = refl; kept = kept_refl x.pins }
 
 less_or_past : (a b : ℕ) → (b < a) ⊎ (a ≤ b)
 less_or_past zero b = inr (omega arith)

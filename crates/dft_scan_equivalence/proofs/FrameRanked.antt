@@ -17,6 +17,7 @@ use Rattle.dft_netlist.specs.Drivers.{Source, Net, Tied, Loose, Shape, connectio
 use Rattle.dft_netlist.specs.Netlist.{Netlist}
 use Rattle.dft_netlist.specs.Orders.{Has}
 use Rattle.dft_netlist.specs.Sound.{IsLive, AreLive, is_output}
+use Rattle.dft_netlist.proofs.StandLemmas.{has_left}
 use Rattle.dft_config.specs.declared.config.Config.{Config}
 use Rattle.dft_chains.specs.ScanOff.{moved_source}
 use Rattle.dft_parts.specs.Ranks.{reads_by, IsRanked, IsJoinRanked, AreRanked}
@@ -99,11 +100,6 @@ has_split [] ys k h = inr h
 has_split (x ∷ xs) ys k (inl e) = inl (inl e)
 has_split (x ∷ xs) ys k (inr h) = elim (has_split xs ys k h) [ inl a ↦ inl (inr a) | inr b ↦ inr b ]
 
-has_front : (xs ys : List ℕ) (k : ℕ) → Has xs k → Has (xs ++ ys) k
-has_front [] ys k h = absurd h
-has_front (x ∷ xs) ys k (inl e) = inl e
-has_front (x ∷ xs) ys k (inr h) = inr (has_front xs ys k h)
-
 has_back : (xs ys : List ℕ) (k : ℕ) → Has ys k → Has (xs ++ ys) k
 has_back [] ys k h = h
 has_back (x ∷ xs) ys k h = inr (has_back xs ys k h)
@@ -122,7 +118,7 @@ moved_driven : (gap : Gap) (count : ℕ) (roles : List Role) (signals : List Sig
 moved_driven gap count [] signals net live h = absurd h
 moved_driven gap count (r ∷ roles) [] net live h = absurd h
 moved_driven gap count (r ∷ roles) (s ∷ signals) net live h = elim (has_split (net_driven r (moved_signal gap s)) (nets_driven roles (map (moved_signal gap) signals)) net h) [
-  | inl here ↦ (let it = pin_driven gap count r s net (live zero s refl) here in record { own = it.own; has = has_front (net_driven r s) (nets_driven roles signals) it.own it.has; live = it.live; is = it.is })
+  | inl here ↦ (let it = pin_driven gap count r s net (live zero s refl) here in record { own = it.own; has = has_left (net_driven r s) (nets_driven roles signals) it.own it.has; live = it.live; is = it.is })
   | inr there ↦ (let it = moved_driven gap count roles signals net (λ k z at. live (suc k) z at) there in record { own = it.own; has = has_back (net_driven r s) (nets_driven roles signals) it.own it.has; live = it.live; is = it.is })
 ]
 

@@ -3,6 +3,7 @@ use Rattle.std.proofs.Common.{ℕ, zero, suc, ◌+◌, ◌≡◌, ◌<◌, ◌�
 use Rattle.std.proofs.lemmas.List.{append-nil, length-append}
 use Rattle.dft_base.specs.declared.dir.Dir.{Dir}
 use Rattle.dft_base.specs.declared.dir.Dir.TheVariants as dir
+use Rattle.dft_base.proofs.NumberLemmas.{less_apart}
 use Rattle.dft_cells.specs.declared.kind.Kind.{Kind}
 use Rattle.dft_cells.specs.declared.kind.Role.{Role}
 use Rattle.dft_cells.specs.declared.cell.Cell.{Cell}
@@ -147,9 +148,6 @@ added_below Edt n config =
     (subst (λ (ports : List NewPort). DriveBelow (before + length inputs) (driven_by_ports (ports_from before (a ∷ b ∷ c ∷ ports)))) (append_assoc channels masks outputs)
     (ports_below before inputs outputs (λ k. outputs_none k config.names.output 0 (length config.compactor.groups))))
 
-differ_up : (a b : ℕ) → a < b → (a == b) ≡ false
-differ_up = grind arith
-
 differ_down : (a b : ℕ) → b < a → (a == b) ≡ false
 differ_down = grind arith
 
@@ -159,7 +157,7 @@ none_before from net (d ∷ ds) h less = (differ_down d.0 net (omega (arith, h.0
 
 none_behind : (to net : ℕ) (ds : List Driven) → DriveBelow to ds → to ≤ net → NoneAt ds net
 none_behind to net [] h past = tt
-none_behind to net (d ∷ ds) h past = (differ_up d.0 net (omega (arith, h.0, past)), none_behind to net ds h.1 past)
+none_behind to net (d ∷ ds) h past = (less_apart d.0 net (omega (arith, h.0, past)), none_behind to net ds h.1 past)
 
 -- no added port drives a net of the design
 none_moved : (style : Style) (n : Netlist) (config : Config) (own : ℕ) → IsReady n config → (own < (gap_in style n config).before) ⊎ ((gap_in style n config).before ≤ own) → NoneAt (added_drives style n config) (moved (gap_in style n config) own)
@@ -201,10 +199,10 @@ pub frame_single : (style : Style) (n : Netlist) (config : Config) → IsReady n
 frame_single style n config ready net = frame_by style n config net ready (moved_or_new (gap_in style n config) (length n.nets) net (laid style n config ready).before)
 
 moved_not : (gap : Gap) (count k net : ℕ) → (k < gap.before) ⊎ (gap.before ≤ k) → k < count → gap.before ≤ net → (net < gap.before + gap.width) ⊎ (count + gap.width ≤ net) → (moved gap k == net) ≡ false
-moved_not gap count k net (inl front) less from (inl inside) = ap (λ (m : ℕ). m == net) (moved_front gap k front) ∙ differ_up k net (omega (arith, front, from))
-moved_not gap count k net (inl front) less from (inr past) = ap (λ (m : ℕ). m == net) (moved_front gap k front) ∙ differ_up k net (omega (arith, front, from))
+moved_not gap count k net (inl front) less from (inl inside) = ap (λ (m : ℕ). m == net) (moved_front gap k front) ∙ less_apart k net (omega (arith, front, from))
+moved_not gap count k net (inl front) less from (inr past) = ap (λ (m : ℕ). m == net) (moved_front gap k front) ∙ less_apart k net (omega (arith, front, from))
 moved_not gap count k net (inr back) less from (inl inside) = ap (λ (m : ℕ). m == net) (moved_back gap k back) ∙ differ_down (k + gap.width) net (omega (arith, back, inside))
-moved_not gap count k net (inr back) less from (inr past) = ap (λ (m : ℕ). m == net) (moved_back gap k back) ∙ differ_up (k + gap.width) net (omega (arith, less, past))
+moved_not gap count k net (inr back) less from (inr past) = ap (λ (m : ℕ). m == net) (moved_back gap k back) ∙ less_apart (k + gap.width) net (omega (arith, less, past))
 
 -- an added output, or a net past the end, has no driver in the frame
 pub frame_free : (style : Style) (n : Netlist) (config : Config) (net : ℕ) → IsReady n config → outs_start style n config ≤ net → (net < (gap_in style n config).before + (gap_in style n config).width) ⊎ (length n.nets + (gap_in style n config).width ≤ net) →

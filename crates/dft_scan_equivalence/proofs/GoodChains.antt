@@ -2,6 +2,7 @@
 use Rattle.std.proofs.Common.{ℕ, zero, suc, ◌+◌, ◌≡◌, ◌≤◌, ◌==◌, Bool, true, false, List, [], ◌∷◌, ◌++◌, length, Option, None, Some, slice_get, refl, ap, arith, ◌∙◌}
 use Rattle.std.specs.Prelude.{if◌then◌else◌}
 use Rattle.std.specs.List.{AllByRecursion, range_with_len}
+use Rattle.dft_ring.proofs.PartLists.{nets_in-append}
 use Rattle.dft_cells.specs.declared.kind.Role.{Role}
 use Rattle.dft_cells.specs.declared.kind.Role.TheVariants.{Input, Clock, Din, Reset, Preset, ScanIn, ScanEnable, Output, Inverted}
 use Rattle.dft_netlist.specs.declared.ids.NetId.{NetId}
@@ -17,7 +18,7 @@ use Rattle.dft_scan_frame.specs.Moves.{Gap, moved}
 use Rattle.dft_scan_frame.specs.Pins.{domain_in, number_of, own_output}
 use Rattle.dft_scan_hardware.specs.Chained.{scan_roles, a_numbered_pin, a_role_pin, a_scan_in, an_open_output, own_or_made, an_output, a_row, rows, a_crossing, crossing_in, a_step, a_chain, a_late_chain}
 use Rattle.dft_scan_equivalence.proofs.Claims.{claimed, IsFlopIn}
-use Rattle.dft_scan_equivalence.proofs.Goods.{nets_in-append, Setting, IsBelow, AreBelow, made_below, none_below, below_more, below_at, none, one, IsGood, good_nil, good_both, good_as, good_net, good_lockup, good_pin, good_input, good_after, good_end}
+use Rattle.dft_scan_equivalence.proofs.Goods.{Setting, IsBelow, AreBelow, made_below, none_below, below_more, below_at, none, one, IsGood, good_nil, good_both, good_as, good_net, good_lockup, good_pin, good_input, good_after, good_end}
 use Rattle.dft_scan_equivalence.proofs.GoodSums.{Collected, collect_good}
 use Rattle.dft_scan_equivalence.proofs.GoodRing.{any}
 

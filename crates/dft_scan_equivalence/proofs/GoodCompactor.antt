@@ -1,6 +1,8 @@
 -- The parts of masks, hold bits and compactor are good.
 use Rattle.std.proofs.Common.{ℕ, zero, suc, ◌+◌, ◌≡◌, ◌<◌, ◌≤◌, List, [], ◌∷◌, ◌++◌, length, map, subst, arith}
 use Rattle.std.specs.List.{AllByRecursion, range_with_len}
+use Rattle.dft_base.proofs.ListLemmas.{all_append}
+use Rattle.dft_ring.proofs.PartLists.{nets_in-append}
 use Rattle.dft_cells.specs.declared.kind.Kind.TheVariants.{And, Buf, Inv, Or}
 use Rattle.dft_netlist.specs.declared.ids.NetId.{NetId}
 use Rattle.dft_netlist.specs.Netlist.{Netlist}
@@ -13,7 +15,7 @@ use Rattle.dft_edt.specs.Hardware.{group_of}
 use Rattle.dft_config.specs.Segments.{segment_length}
 use Rattle.dft_compact.specs.declared.mask_nets.MaskNets.{MaskNets}
 use Rattle.dft_compact.specs.CompactorRecipe.{a_next, a_mask, a_segment, segments, masks_at, a_gated, an_output, a_compactor}
-use Rattle.dft_scan_equivalence.proofs.Goods.{nets_in-append, Setting, IsBelow, AreBelow, made_below, none_below, below_more, below_at, none, one, IsGood, good_nil, good_both, good_as, good_net, good_gate, good_flop, good_after, good_end}
+use Rattle.dft_scan_equivalence.proofs.Goods.{Setting, IsBelow, AreBelow, made_below, none_below, below_more, below_at, none, one, IsGood, good_nil, good_both, good_as, good_net, good_gate, good_flop, good_after, good_end}
 use Rattle.dft_scan_equivalence.proofs.GoodSums.{front_less, Gives, gives_last, gate_gives, sum_gives, all_of, each_good, Collected, all_more, collect_good}
 use Rattle.dft_scan_equivalence.proofs.GoodRing.{any, places_below}
 
@@ -100,10 +102,6 @@ segment_gives n rank base at ports run before (suc count) s from same update run
         all_more (AreMasked rank) (a.next + nets_in more.parts) (at.next + nets_in whole) more.value (masked_more rank) (omega (arith, nets_in-append first.parts (more.parts ++ []), nets_in-append more.parts [])) rest.all,
       );
     }
-
-all_append : {A : Type 0} (P : A → Type 0) (xs ys : List A) → AllByRecursion P xs → AllByRecursion P ys → AllByRecursion P (xs ++ ys)
-all_append P [] ys h k = k
-all_append P (x ∷ xs) ys h k = (h.0, all_append P xs ys h.1 k)
 
 segments_give : (n : Netlist) (rank : ℕ → ℕ) (base : ℕ) (at : Start) (config : Config) (ports : EdtPorts) (run : NetId) (segment count : ℕ) → Setting n.library rank base → base ≤ at.next → at.library ≡ n.library → IsBelow rank at.next ports.edt_update →
     IsBelow rank at.next run → MasksGive n rank at (segments config ports run segment count at).parts (segments config ports run segment count at).value

@@ -10,12 +10,13 @@ use Rattle.dft_stitch.specs.Plans.{Plan}
 use Rattle.dft_parts.specs.declared.edt_ports.EdtPorts.{EdtPorts}
 use Rattle.dft_parts.specs.Recipes.{Start, nets_in, behind, each, net_at}
 use Rattle.dft_ring.specs.RingRecipe.{a_ring}
+use Rattle.dft_ring.proofs.PartLists.{nets_in-append}
 use Rattle.dft_compact.specs.CompactorRecipe.{a_compactor}
 use Rattle.dft_scan_frame.specs.Moves.{Gap}
 use Rattle.dft_scan_hardware.specs.Chained.{rows, cells_at, row_at, last_net}
 use Rattle.dft_scan_hardware.specs.Ports.{plain_in, plain_out}
 use Rattle.dft_scan_hardware.specs.Scanned.{a_plain_chain, a_plain_end, plain_recipe, an_edt_chain, behind_rows, edt_recipe}
-use Rattle.dft_scan_equivalence.proofs.Goods.{nets_in-append, IsBelow, AreBelow, none_below, below_more, below_at, none, one, IsGood, good_gate, good_after}
+use Rattle.dft_scan_equivalence.proofs.Goods.{IsBelow, AreBelow, none_below, below_more, below_at, none, one, IsGood, good_gate, good_after}
 use Rattle.dft_scan_equivalence.proofs.GoodSums.{all_of, each_good, all_more}
 use Rattle.dft_scan_equivalence.proofs.GoodRing.{any, ring_gives}
 use Rattle.dft_scan_equivalence.proofs.GoodCompactor.{numbers_below, outputs_of, compactor_good}

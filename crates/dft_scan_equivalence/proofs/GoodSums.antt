@@ -2,6 +2,7 @@
 use Rattle.std.proofs.Common.{ℕ, zero, suc, ◌+◌, ◌≡◌, ◌<◌, ◌≤◌, List, [], ◌∷◌, ◌++◌, length, refl, ap, arith, ◌∙◌, cond, ◌==◌}
 use Rattle.std.proofs.lemmas.List.Sums.{sum_by-cons}
 use Rattle.std.specs.List.{AllByRecursion, range_with_len}
+use Rattle.dft_ring.proofs.PartLists.{nets_in-append}
 use Rattle.dft_cells.specs.declared.kind.Kind.{Kind}
 use Rattle.dft_cells.specs.declared.kind.Kind.TheVariants.{Xor}
 use Rattle.dft_netlist.specs.declared.ids.NetId.{NetId}
@@ -11,7 +12,7 @@ use Rattle.dft_parts.specs.Parts.{Part}
 use Rattle.dft_parts.specs.Recipes.{Start, Recipe, nets_in, behind, each, collect, net_at, a_net, a_gate}
 use Rattle.dft_parts.specs.Single.{times_in}
 use Rattle.dft_parts.specs.Sums.{a_driving_gate, pairs, levels, first_net, a_sum}
-use Rattle.dft_scan_equivalence.proofs.Goods.{nets_in-append, Setting, IsBelow, AreBelow, made_below, none_below, below_more, ranks_less, none, one, IsGood, good_nil, good_both, good_as, good_net, good_gate}
+use Rattle.dft_scan_equivalence.proofs.Goods.{Setting, IsBelow, AreBelow, made_below, none_below, below_more, ranks_less, none, one, IsGood, good_nil, good_both, good_as, good_net, good_gate}
 
 pub front_less : (next : ℕ) (xs ys : List Part) → next + nets_in xs ≤ next + nets_in (xs ++ ys)
 front_less next xs ys = omega (arith, nets_in-append xs ys)

@@ -2,6 +2,8 @@
 use Rattle.std.proofs.Common.{ℕ, zero, suc, ◌+◌, ◌≡◌, ◌<◌, ◌≤◌, ◌⊎◌, inl, inr, List, [], ◌∷◌, ◌++◌, length, map, Option, None, Some, slice_get, refl, sym, subst, ap, arith, ◌∙◌}
 use Rattle.std.specs.Prelude.{IsTrue}
 use Rattle.std.specs.List.{AllByRecursion, range_with_len}
+use Rattle.dft_base.proofs.ListLemmas.{range_split}
+use Rattle.dft_ring.proofs.PartLists.{nets_in-append}
 use Rattle.dft_cells.specs.declared.kind.Kind.{Kind}
 use Rattle.dft_cells.specs.declared.kind.Kind.TheVariants as kind
 use Rattle.dft_cells.specs.declared.kind.Role.{Role}
@@ -20,23 +22,10 @@ use Rattle.dft_parts.specs.Cells.{is_dff, is_lockup, first_cell, pin_between, pi
 use Rattle.dft_parts.specs.Parts.{Part, ANet, AnInstance, APin}
 use Rattle.dft_parts.specs.Recipes.{Start, nets_in, behind, net_at, a_net, a_gate, a_flop, a_lockup, a_pin, at_nets}
 use Rattle.dft_parts.specs.Single.{nets_driven, times_in}
-use Rattle.dft_parts.proofs.RankedParts.{flip_flop_ranked, gate_ranked, lockup_ranked}
-use Rattle.dft_parts.proofs.Stores.{shape_as, lockup_shape}
-use Rattle.dft_scan_equivalence.proofs.FirstFlops.{dff_shape}
-use Rattle.dft_scan_equivalence.proofs.Claims.{times_in-append, claim, claims, claimed, IsFlopIn, IsFine, AreFine, fine_append, claims-append}
-
-pub nets_in-append : (xs ys : List Part) → nets_in (xs ++ ys) ≡ nets_in xs + nets_in ys
-nets_in-append [] ys = omega arith
-nets_in-append (ANet ∷ xs) ys = omega (arith, nets_in-append xs ys)
-nets_in-append (AnInstance cell pins ∷ xs) ys = nets_in-append xs ys
-nets_in-append (APin instance pin net ∷ xs) ys = nets_in-append xs ys
-
-range_split : (from k m : ℕ) → range_with_len from (k + m) ≡ range_with_len from k ++ range_with_len (from + k) m
-range_split from zero m = let e : 0 + m ≡ m = omega arith in let same : from ≡ from + 0 = omega arith in ap (range_with_len from) e ∙ ap (λ (a : ℕ). range_with_len a m) same
-range_split from (suc k) m =
-    let e : suc k + m ≡ suc (k + m) = omega arith in
-    let same : from + 1 + k ≡ from + suc k = omega arith in
-    ap (range_with_len from) e ∙ ap (λ (xs : List ℕ). from ∷ xs) (range_split (from + 1) k m ∙ ap (λ (a : ℕ). range_with_len (from + 1) k ++ range_with_len a m) same)
+use Rattle.dft_parts.proofs.RankedParts.{flip_flop_ranked, gate_ranked, lockup_ranked, gate_drives}
+use Rattle.dft_parts.proofs.Stores.{shape_as, lockup_shape, dff_shape}
+use Rattle.dft_parts.proofs.Singles.{times_in-append}
+use Rattle.dft_scan_equivalence.proofs.Claims.{claim, claims, claimed, IsFlopIn, IsFine, AreFine, fine_append, claims-append}
 
 -- ---- ranks
 
@@ -112,10 +101,6 @@ good_as n rank at parts o p e f le h = record { fine = h.fine; few = λ k. (let 
 
 pub good_net : (n : Netlist) (rank : ℕ → ℕ) (at : Start) → IsGood n rank at (a_net at).parts (one at.next) none
 good_net n rank at = record { fine = (tt, tt); few = λ k. omega arith }
-
-gate_drives : (xs : List NetId) (o : NetId) → nets_driven (gate_roles (length xs)) (at_nets xs ++ Net o ∷ []) ≡ o.0 ∷ []
-gate_drives [] o = refl
-gate_drives (x ∷ xs) o = gate_drives xs o
 
 -- parts that claim one net at most and make none
 good_one : (n : Netlist) (rank : ℕ → ℕ) (at : Start) (part : Part) (net : ℕ) → nets_in (part ∷ []) ≡ 0 → IsFine n rank part → claim n part ≡ net ∷ [] → IsGood n rank at (part ∷ []) none (one net)

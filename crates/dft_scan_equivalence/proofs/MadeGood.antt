@@ -9,6 +9,7 @@ use Rattle.dft_config.specs.declared.config.Config.{Config}
 use Rattle.dft_parts.specs.declared.edt_ports.EdtPorts.{EdtPorts}
 use Rattle.dft_parts.specs.Recipes.{nets_in, net_at, start_of}
 use Rattle.dft_parts.specs.Single.{times_in}
+use Rattle.dft_parts.proofs.Singles.{counted_first}
 use Rattle.dft_stitch.specs.Chains.{cells_of, plan_of}
 use Rattle.dft_stitch.proofs.BlockLemmas.{chain_count}
 use Rattle.dft_scan_frame.specs.Statements.{IsReady}
@@ -20,7 +21,7 @@ use Rattle.dft_scan_hardware.specs.Scanned.{framed}
 use Rattle.dft_scan_hardware.specs.Statements.{made_in}
 use Rattle.dft_scan_hardware.proofs.Filling.{chains_planned}
 use Rattle.dft_scan_hardware.proofs.Frames.{frame_nets, plain_count, edt_count}
-use Rattle.dft_scan_equivalence.proofs.Claims.{counted_by, claims}
+use Rattle.dft_scan_equivalence.proofs.Claims.{claims}
 use Rattle.dft_scan_equivalence.proofs.Goods.{IsBelow, AreBelow, none, one, IsGood}
 use Rattle.dft_scan_equivalence.proofs.GoodSums.{all_of}
 use Rattle.dft_scan_equivalence.proofs.GoodCompactor.{outputs_of}
@@ -31,11 +32,11 @@ use Rattle.dft_scan_equivalence.proofs.FrameRanks.{outs_start, rank_in, laid, ra
 
 one_by : (x k : ℕ) (b : Bool) → (x == k) ≡ b → (x ≡ k) ⊎ (one x k ≡ 0)
 one_by x k true h = inl (eqb-true x k h)
-one_by x k false h = inr (let e = counted_by x k [] false h in omega (arith, e))
+one_by x k false h = inr (let e = counted_first x k [] false h in omega (arith, e))
 
 one_few : (x k : ℕ) (b : Bool) → (x == k) ≡ b → one x k ≤ 1
-one_few x k true h = let e = counted_by x k [] true h in omega (arith, e)
-one_few x k false h = let e = counted_by x k [] false h in omega (arith, e)
+one_few x k true h = let e = counted_first x k [] true h in omega (arith, e)
+one_few x k false h = let e = counted_first x k [] false h in omega (arith, e)
 
 -- at most once, and only from a number up to another
 record IsRow (times from end k : ℕ) : Type 0 where
@@ -77,7 +78,7 @@ range_row from count k =
       back = λ past. (let f = h.back (omega (arith, past)) in omega (arith, f, same));
     }
 
-from_at : (first count j : ℕ) → j < count → (net_at (nets_from first count) j).0 ≡ first + j
+pub from_at : (first count j : ℕ) → j < count → (net_at (nets_from first count) j).0 ≡ first + j
 from_at first zero j less = absurd (omega (arith, less))
 from_at first (suc count) zero less = omega arith
 from_at first (suc count) (suc j) less = omega (arith, from_at (suc first) count j (omega (arith, less)))

@@ -2,6 +2,7 @@
 use Rattle.std.proofs.Common.{ℕ, ◌+◌, ◌≡◌, ◌==◌, ◌<◌, ◌≤◌, inl, inr, Bool, true, false, ◌||◌, List, length, map, Option, None, Some, is_some, option_map, option_and_then, slice_get, refl, sym, subst, ap, arith, ◌∙◌, length-append}
 use Rattle.std.specs.Prelude.{if◌then◌else◌}
 use Rattle.std.specs.List.{range_with_len}
+use Rattle.dft_base.proofs.BitLemmas.{true_false, or_not}
 use Rattle.dft_cells.specs.declared.kind.Role.{Role}
 use Rattle.dft_cells.specs.declared.kind.Role.TheVariants.{Clock, Din, Reset, Preset, ScanIn, ScanEnable, Output}
 use Rattle.dft_cells.specs.declared.cell.Cell as library_cells
@@ -48,7 +49,7 @@ use Rattle.dft_scan_hardware.proofs.Frames.{framed_width, scan_pair, frame_nets}
 use Rattle.dft_scan_hardware.proofs.Joins.{joined_in, instance_stays, pin_kept, none_joined, joined_width}
 use Rattle.dft_scan_hardware.proofs.Keeping.{from_get, scanned_names}
 use Rattle.dft_scan_equivalence.specs.Agreeing.{edt_clock_net, ports_in, places_in}
-use Rattle.dft_scan_equivalence.proofs.Driving.{now_at, index_same, true_false, AreSpared, driver_kept}
+use Rattle.dft_scan_equivalence.proofs.Driving.{now_at, index_same, AreSpared, driver_kept}
 use Rattle.dft_scan_equivalence.proofs.Merging.{joined_at}
 use Rattle.dft_scan_equivalence.proofs.ScanPins.{not_fixed, output_off, input_off, KeepsPins, AreFixed, scan_keeps}
 
@@ -82,10 +83,6 @@ roots_kept style n config ready spared = record {
 pub record AreAlike (p q : Ports) (count : ℕ) : Type 0 where
   pub clocks : (net : ℕ) → net < count → q.is_clock net ≡ p.is_clock net
   pub resets : q.is_reset ≡ p.is_reset
-
-or_not : (a b : Bool) → b ≡ false → (a || b) ≡ a
-or_not true b e = refl
-or_not false b e = e
 
 not_later : (count net : ℕ) → net < count → (net == count + 1) ≡ false
 not_later = grind arith

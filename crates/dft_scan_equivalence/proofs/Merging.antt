@@ -1,8 +1,9 @@
 -- The drivers of a design, with their nets moved, among those of its scanned netlist.
 use Rattle.std.proofs.Common.{ℕ, zero, suc, ◌+◌, ◌≡◌, ◌==◌, ◌<◌, ◌⊎◌, inl, inr, Bool, true, false, List, [], ◌∷◌, ◌++◌, length, map, Option, None, Some, slice_get, refl, sym, subst, ap, arith, ◌∙◌, append_assoc, append-nil}
 use Rattle.std.specs.Prelude.{slice_index_or, if◌then◌else◌}
-use Rattle.std.proofs.lemmas.Bool.{eqb-true}
+use Rattle.std.proofs.lemmas.Bool.{eqb-true, eq-eqb}
 use Rattle.std.proofs.lemmas.Bool.Decides.{nat_tests}
+use Rattle.dft_base.proofs.NumberLemmas.{less_apart}
 use Rattle.dft_cells.specs.declared.kind.Kind.{Kind}
 use Rattle.dft_cells.specs.declared.kind.Kind.TheVariants.{Dff, Dffr, Dffs, Sdff, Sdffr, Sdffs}
 use Rattle.dft_cells.specs.declared.kind.Role.{Role}
@@ -15,11 +16,12 @@ use Rattle.dft_netlist.specs.Drivers.{Source, Driver, Flop, Driven, connections_
 use Rattle.dft_netlist.specs.Sound.{is_output}
 use Rattle.dft_parts.specs.MadeNames.{made_instance}
 use Rattle.dft_parts.specs.Parts.{Part, ANet, AnInstance, APin, Making, pin_joined, instance_joined, with_part, with_parts}
+use Rattle.dft_parts.proofs.Growing.{joined_length}
 use Rattle.dft_scan_frame.specs.Moves.{map_from, Gap, moved, moved_signal}
 use Rattle.dft_scan_frame.proofs.Mergings.{Merges, moved_driver, moved_driven, append_merges, all_kept, all_added, NoneAt}
 use Rattle.dft_scan_frame.proofs.ScanPairs.{ScanPair, Plain, PlainBoth, Resets, ResetsBoth, Sets, SetsBoth, ListOf3, ListOf4, ListOf5, three, four, five}
 use Rattle.dft_scan_frame.proofs.Tabled.{map_from_same}
-use Rattle.dft_scan_hardware.proofs.Joins.{Each, joined_in, stays_joined}
+use Rattle.dft_scan_hardware.proofs.Joins.{Each, joined_in, stays_joined, joined_if, one_joined}
 
 -- ---- the instances of a netlist that grew
 
@@ -45,25 +47,14 @@ joined_front i pin net [] ys less = absurd (omega (arith, less))
 joined_front zero pin net (x ∷ xs) ys less = refl
 joined_front (suc i) pin net (x ∷ xs) ys less = ap (λ (zs : List Instance). x ∷ zs) (joined_front i pin net xs ys (omega (arith, less)))
 
-joined_length : (i pin : ℕ) (net : NetId) (xs : List Instance) → length (instance_joined i pin net xs) ≡ length xs
-joined_length i pin net [] = refl
-joined_length zero pin net (x ∷ xs) = refl
-joined_length (suc i) pin net (x ∷ xs) = ap suc (joined_length i pin net xs)
-
-same_number : (m k : ℕ) → m ≡ k → (m == k) ≡ true
-same_number m k same = grind (arith, nat_tests, same)
-
-other_number : (m k : ℕ) → m < k → (m == k) ≡ false
-other_number m k less = grind (arith, nat_tests, less)
-
 joined_more : (i pin : ℕ) (net : NetId) (parts : List Part) (b j : ℕ) (xs : List Instance) → i ≡ b + j →
     map_from (λ (k : ℕ) (x : Instance). record x { pins = joined_in parts k (if i == k then pin_joined pin net x.pins else x.pins) }) b xs ≡ map_from (joined_at parts) b (instance_joined j pin net xs)
 joined_more i pin net parts b j [] is = refl
 joined_more i pin net parts b zero (x ∷ xs) is =
-    ap (λ t. record x { pins = joined_in parts b (if t then pin_joined pin net x.pins else x.pins) } ∷ map_from (λ (k : ℕ) (y : Instance). record y { pins = joined_in parts k (if i == k then pin_joined pin net y.pins else y.pins) }) (suc b) xs) (same_number i b (omega (arith, is)))
+    ap (λ t. record x { pins = joined_in parts b (if t then pin_joined pin net x.pins else x.pins) } ∷ map_from (λ (k : ℕ) (y : Instance). record y { pins = joined_in parts k (if i == k then pin_joined pin net y.pins else y.pins) }) (suc b) xs) (eq-eqb i b (omega (arith, is)))
     ∙ ap (λ (ys : List Instance). record x { pins = joined_in parts b (pin_joined pin net x.pins) } ∷ ys)
     (map_from_same (λ (k : ℕ) (y : Instance). record y { pins = joined_in parts k (if i == k then pin_joined pin net y.pins else y.pins) }) (joined_at parts) (suc b) xs
-    (λ k y at. ap (λ t. record y { pins = joined_in parts (suc b + k) (if t then pin_joined pin net y.pins else y.pins) }) (other_number i (suc b + k) (omega (arith, is)))))
+    (λ k y at. ap (λ t. record y { pins = joined_in parts (suc b + k) (if t then pin_joined pin net y.pins else y.pins) }) (less_apart i (suc b + k) (omega (arith, is)))))
 joined_more i pin net parts b (suc j) (x ∷ xs) is =
     ap (λ t. record x { pins = joined_in parts b (if t then pin_joined pin net x.pins else x.pins) } ∷ map_from (λ (k : ℕ) (y : Instance). record y { pins = joined_in parts k (if i == k then pin_joined pin net y.pins else y.pins) }) (suc b) xs) (not_number i b (omega (arith, is)))
     ∙ ap (λ (ys : List Instance). joined_at parts b x ∷ ys) (joined_more i pin net parts (suc b) j xs (omega (arith, is)))
@@ -99,18 +90,6 @@ JoinsWith Q (APin i pin net) = Q i.0 pin net
 
 abbrev pub IsKeptOr : (Q : NetId → Type 0) → (old new : Option Signal) → Type 0
 IsKeptOr Q old new = (new ≡ old) ⊎ ((net : NetId) × Q net × (old ≡ Some Unconnected) × (new ≡ Some (Net net)))
-
-abbrev joined_if : (pin : ℕ) → NetId → Bool → List Signal → List Signal
-joined_if pin net b pins = if b then pin_joined pin net pins else pins
-
-one_joined : (pin : ℕ) (net : NetId) (pins : List Signal) (p : ℕ) → (slice_get (pin_joined pin net pins) p ≡ slice_get pins p) ⊎ ((pin ≡ p) × (slice_get pins p ≡ Some Unconnected) × (slice_get (pin_joined pin net pins) p ≡ Some (Net net)))
-one_joined pin net [] p = inl refl
-one_joined zero net (Unconnected ∷ pins) zero = inr (refl, refl, refl)
-one_joined zero net (Net other ∷ pins) zero = inl refl
-one_joined zero net (Constant bit ∷ pins) zero = inl refl
-one_joined zero net (x ∷ pins) (suc p) = inl refl
-one_joined (suc pin) net (x ∷ pins) zero = inl refl
-one_joined (suc pin) net (x ∷ pins) (suc p) = elim (one_joined pin net pins p) [ inl same ↦ inl same | inr it ↦ inr (ap suc it.0, it.1, it.2) ]
 
 kept_by : (Q : ℕ → ℕ → NetId → Type 0) (parts : List Part) (i : ℕ) (pins : List Signal) (p : ℕ) (j pin : ℕ) (net : NetId) (b : Bool) → (j == i) ≡ b → Q j pin net → ((ps : List Signal) → IsKeptOr (Q i p) (slice_get ps p) (slice_get (joined_in parts i ps) p)) →
     IsKeptOr (Q i p) (slice_get pins p) (slice_get (joined_in parts i (joined_if pin net b pins)) p)
@@ -173,7 +152,7 @@ both_carry gap k i q p r s h g =
     (carries_append (moved gap) k (at_signal r (Flop i true)) (at_signal s (Flop i true)) [] [] (output_carries gap k r s (Flop i true) refl g) (carries_all (moved gap) k [] [] refl))
 
 -- the pin at a number of a list
-abbrev pin_at : List Signal → ℕ → Signal
+abbrev pub pin_at : List Signal → ℕ → Signal
 pin_at pins p = slice_index_or pins p Unconnected
 
 abbrev Drives : Gap → (k i : ℕ) → Kind → List Role → Kind → List Role → (ins its : List Source) → (pins joined : List Signal) → Type 0

@@ -2,6 +2,7 @@
 use Rattle.std.proofs.Common.{ℕ, zero, suc, ◌+◌, ◌≡◌, inl, inr, Bool, true, false, List, [], ◌∷◌, length, map, Option, None, Some, slice_get, refl, sym, subst, ap, arith, ◌∙◌}
 use Rattle.std.specs.Prelude.{slice_index_or}
 use Rattle.std.proofs.lemmas.Option.{none-some}
+use Rattle.dft_base.proofs.BitLemmas.{true_false}
 use Rattle.dft_cells.specs.declared.kind.Kind.{Kind}
 use Rattle.dft_cells.specs.declared.kind.Role.{Role}
 use Rattle.dft_cells.specs.declared.kind.Role.TheVariants.{Input, Clock, Din, Reset, Preset, ScanIn, ScanEnable, Output, Inverted}
@@ -17,7 +18,7 @@ use Rattle.dft_scan_frame.proofs.Mergings.{moved_source_of}
 use Rattle.dft_scan_frame.proofs.ScanPairs.{ScanPair, Plain, PlainBoth, Resets, ResetsBoth, Sets, SetsBoth, ListOf3, ListOf4, ListOf5, three, four, five}
 use Rattle.dft_scan_hardware.specs.Frame.{framed_pins}
 use Rattle.dft_scan_hardware.proofs.Keeping.{at_by, past}
-use Rattle.dft_scan_equivalence.proofs.Merging.{ListOf6, ListOf7, six, seven}
+use Rattle.dft_scan_equivalence.proofs.Merging.{ListOf6, ListOf7, six, seven, pin_at}
 
 -- ---- pins that no part joins
 
@@ -39,10 +40,6 @@ is_fixed_role (Some role) = is_fixed role
 
 abbrev pub is_fixed_at : List Role → (place : ℕ) → Bool
 is_fixed_at roles place = is_fixed_role (slice_get roles place)
-
-true_false : (b : Bool) → b ≡ true → b ≡ false → ⊥
-true_false true e f = cc
-true_false false e f = cc
 
 -- where no role of this sort is fixed, the first pin of the sort is not fixed
 pub not_fixed : (r : Role) (k p j : ℕ) (roles : List Role) → ((x : Role) → same_role r x ≡ true → is_fixed x ≡ false) → p ≡ k + j → number_of (same_role r) k roles ≡ Some p → is_fixed_at roles j ≡ true → ⊥
@@ -89,13 +86,9 @@ pub record KeepsPins (gap : Gap) (i : ℕ) (old new : List Connection) : Type 0 
 abbrev KeepsOf : Gap → (i : ℕ) → (r s : List Role) → (pins now : List Signal) → Type 0
 KeepsOf gap i r s pins now = KeepsPins gap i (connections_from 0 r pins) (connections_from 0 s now)
 
--- a pin at a number
-abbrev at_number : List Signal → ℕ → Signal
-at_number pins p = slice_index_or pins p Unconnected
-
 -- pins that no part joins are as they were in the frame
 abbrev pub AreFixed : Gap → (s : List Role) → (pins now : List Signal) → Type 0
-AreFixed gap s pins now = (p : ℕ) → is_fixed_at s p ≡ true → at_number now p ≡ at_number (framed_pins (at_net gap.before) s (map (moved_signal gap) pins)) p
+AreFixed gap s pins now = (p : ℕ) → is_fixed_at s p ≡ true → pin_at now p ≡ pin_at (framed_pins (at_net gap.before) s (map (moved_signal gap) pins)) p
 
 pin_is : (gap : Gap) (i k : ℕ) (s t : Signal) → t ≡ moved_signal gap s → ◌≡◌ {A = Option Source} (Some (source_of i k t)) (Some (moved_source (moved gap) (source_of i k s)))
 pin_is gap i k s t e = ap (λ z. Some (source_of i k z)) e ∙ ap Some (moved_source_of gap i k s)

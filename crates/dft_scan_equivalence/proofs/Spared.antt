@@ -14,6 +14,7 @@ use Rattle.dft_netlist.specs.Netlist.{Netlist}
 use Rattle.dft_parts.specs.MadeNames.{made_instance}
 use Rattle.dft_parts.specs.Parts.{Part, ANet, AnInstance, APin}
 use Rattle.dft_parts.specs.Single.{net_driven, nets_driven, times_in}
+use Rattle.dft_parts.proofs.Singles.{times_in-append, counted_first}
 use Rattle.dft_scan_frame.proofs.Mergings.{NoneAt}
 use Rattle.dft_scan_hardware.proofs.Joins.{Each}
 use Rattle.dft_scan_equivalence.proofs.Merging.{news, JoinsWith, none_append, is_output_at}
@@ -36,16 +37,9 @@ others_joined n k (APin i pin net ∷ parts) h = (h.0, others_joined n k parts h
 
 -- ---- what made instances drive
 
-counted_by : (x net : ℕ) (xs : List ℕ) (b : Bool) → (x == net) ≡ b → times_in (x ∷ xs) net ≡ cond b 1 0 + times_in xs net
-counted_by x net xs b h = sum_by-cons (λ (k : ℕ). cond (k == net) 1 0) x xs ∙ ap (λ (t : Bool). cond t 1 0 + times_in xs net) h
-
-times_append : (xs ys : List ℕ) (net : ℕ) → times_in (xs ++ ys) net ≡ times_in xs net + times_in ys net
-times_append [] ys net = (let e : times_in ys net ≡ 0 + times_in ys net = omega arith in e)
-times_append (x ∷ xs) ys net = omega (arith, counted_by x net (xs ++ ys) (x == net) refl, counted_by x net xs (x == net) refl, times_append xs ys net)
-
 pub one_none : (x k : ℕ) (b : Bool) → (x == k) ≡ b → times_in (x ∷ []) k ≡ 0 → (x == k) ≡ false
 one_none x k false is none = is
-one_none x k true is none = absurd (let e : times_in (x ∷ []) k ≡ 1 + times_in [] k = counted_by x k [] true is in omega (arith, e, none))
+one_none x k true is none = absurd (let e : times_in (x ∷ []) k ≡ 1 + times_in [] k = counted_first x k [] true is in omega (arith, e, none))
 
 signal_none : (s : Signal) (d : Driver) (k : ℕ) → times_in (net_driven Output s) k ≡ 0 → NoneAt (at_signal s d) k
 signal_none (Net net) d k h = (one_none net.0 k (net.0 == k) refl h, tt)
@@ -72,7 +66,7 @@ pins_none : (kind : Kind) (i : ℕ) (inputs : List Source) (pin : ℕ) (roles : 
 pins_none kind i inputs pin [] signals k h = tt
 pins_none kind i inputs pin (r ∷ roles) [] k h = tt
 pins_none kind i inputs pin (r ∷ roles) (s ∷ signals) k h =
-    let both : times_in (net_driven r s ++ nets_driven roles signals) k ≡ times_in (net_driven r s) k + times_in (nets_driven roles signals) k = times_append (net_driven r s) (nets_driven roles signals) k in
+    let both : times_in (net_driven r s ++ nets_driven roles signals) k ≡ times_in (net_driven r s) k + times_in (nets_driven roles signals) k = times_in-append (net_driven r s) (nets_driven roles signals) k in
     none_append (at_role r kind i inputs s) (driven_by_pins kind i inputs (connections_from (suc pin) roles signals)) k
     (role_none r kind i inputs s k (omega (arith, both, h)))
     (pins_none kind i inputs (suc pin) roles signals k (omega (arith, both, h)))

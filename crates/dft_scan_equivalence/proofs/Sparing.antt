@@ -9,6 +9,7 @@ use Rattle.dft_netlist.specs.Netlist.{Netlist}
 use Rattle.dft_config.specs.declared.config.Config.{Config}
 use Rattle.dft_parts.specs.Parts.{Part, ANet, AnInstance, APin}
 use Rattle.dft_parts.specs.Single.{nets_driven, times_in}
+use Rattle.dft_parts.proofs.Singles.{times_in-append}
 use Rattle.dft_scan_frame.specs.Moves.{Gap, moved}
 use Rattle.dft_scan_frame.specs.Statements.{IsReady}
 use Rattle.dft_scan_frame.proofs.LiveNets.{moved_less}
@@ -19,7 +20,7 @@ use Rattle.dft_scan_hardware.specs.Ports.{gap_in}
 use Rattle.dft_scan_hardware.specs.Statements.{made_in}
 use Rattle.dft_scan_hardware.proofs.Frames.{frame_nets}
 use Rattle.dft_scan_hardware.proofs.Joins.{Each}
-use Rattle.dft_scan_equivalence.proofs.Claims.{claimed, claims, times_in-append}
+use Rattle.dft_scan_equivalence.proofs.Claims.{claimed, claims}
 use Rattle.dft_scan_equivalence.proofs.FrameRanks.{outs_start}
 use Rattle.dft_scan_equivalence.proofs.MadeGood.{claims_none}
 use Rattle.dft_scan_equivalence.proofs.Driving.{AreSpared}

@@ -2,7 +2,9 @@
 use Rattle.std.proofs.Common.{ℕ, zero, suc, ◌≡◌, ◌==◌, ◌<◌, inl, inr, Bool, true, false, ◌||◌, option_and_then, List, ◌∷◌, length, map, Option, None, Some, is_some, slice_get, refl, sym, subst, ap, arith, ◌∙◌, []}
 use Rattle.std.specs.Prelude.{if◌then◌else◌}
 use Rattle.std.specs.List.{list_any}
+use Rattle.std.proofs.lemmas.Bool.{or_from}
 use Rattle.dft_base.specs.Lexing.{Text}
+use Rattle.dft_base.proofs.NumberLemmas.{less_apart}
 use Rattle.dft_cells.specs.declared.kind.Kind.{Kind}
 use Rattle.dft_cells.specs.declared.kind.Kind.TheVariants as kind
 use Rattle.dft_cells.specs.declared.kind.Role.{Role}
@@ -188,9 +190,6 @@ lockup_by n ports net cell domain source drivers.Free fine e = cc
 
 -- ---- the port scan_enable
 
-less_apart : (a b : ℕ) → a < b → (a == b) ≡ false
-less_apart = grind arith
-
 pub input_less : (n : Netlist) (net : ℕ) (d : drivers.Driver) → is_input d ≡ true → FineBy n net d → net < length (bits_of n.ports)
 input_less n net drivers.Input is fine = fine
 input_less n net (drivers.Gate k inputs) is fine = absurd cc
@@ -207,11 +206,6 @@ not_found : (n : Netlist) (config : Config) (o : Option NetId) → IsReady n con
 not_found n config None ready = refl
 not_found n config (Some net) ready = not_this n net (is_input (driver n net.0)) (λ is. input_less n net.0 (driver n net.0) is (driver_fine n config net.0 ready))
 
-none_any : (a b : Bool) → a ≡ false → b ≡ false → (a || b) ≡ false
-none_any false false e f = refl
-none_any true b e f = absurd cc
-none_any false true e f = absurd cc
-
 pub no_clock : (n : Netlist) (config : Config) (names : List Text) → IsReady n config → list_any (λ name. is_net (length (bits_of n.ports)) (input_net n name)) names ≡ false
 no_clock n config [] ready = refl
-no_clock n config (name ∷ names) ready = none_any (is_net (length (bits_of n.ports)) (input_net n name)) (list_any (λ other. is_net (length (bits_of n.ports)) (input_net n other)) names) (not_found n config (find_net n name) ready) (no_clock n config names ready)
+no_clock n config (name ∷ names) ready = or_from (is_net (length (bits_of n.ports)) (input_net n name)) (list_any (λ other. is_net (length (bits_of n.ports)) (input_net n other)) names) (not_found n config (find_net n name) ready) (no_clock n config names ready)

@@ -2,6 +2,7 @@
 use Rattle.std.proofs.Common.{ℕ, zero, suc, ◌+◌, ◌≡◌, ◌≤◌, false, List, ◌∷◌, ◌++◌, length, Option, None, Some, slice_get, refl, sym, subst, ap, arith, ◌∙◌, append_assoc, append-nil, length-append, []}
 use Rattle.std.specs.List.{filter_map, cons_option}
 use Rattle.std.specs.Prelude.{if◌then◌else◌}
+use Rattle.std.proofs.lemmas.Bool.{le-leb}
 use Rattle.dft_base.specs.Lexing.{Text}
 use Rattle.dft_base.specs.declared.place.Range.{Range}
 use Rattle.dft_netlist.specs.declared.port.Port.{Port}
@@ -13,7 +14,8 @@ use Rattle.dft_netlist.specs.Names.{names_taken, is_taken, first_taken, bit_name
 use Rattle.dft_netlist.specs.NetNumbers.{nets_from}
 use Rattle.dft_netlist.specs.Building.{port_of, port_limit, room_limit, taken_or, own_names}
 use Rattle.dft_netlist.specs.Sound.{bits_of, bit_names_of, HasOnlyPorts, IsInstance, IsAJoin}
-use Rattle.dft_netlist.proofs.RefusalLemmas.{le_true, net_open, instance_open}
+use Rattle.dft_netlist.proofs.RefusalLemmas.{net_open, instance_open}
+use Rattle.dft_netlist.proofs.PortLemmas.{nets_from-length}
 use Rattle.dft_scan_frame.specs.Growing.{APort, ANet, AnInstance, AJoin, with_thing, with_things, AllFit, port_things, net_things, instance_things, join_things}
 use Rattle.dft_scan_frame.proofs.NamesOnce.{times_named, named-append, never_has, named_here, taken_times, shown_append}
 
@@ -107,15 +109,11 @@ own_and_bits q port (Some range) rest is = subst (λ (o : Option Text). times_na
     (ap (vector_name_in port.name) (sym is)) (omega arith)
 
 room : (n : Netlist) (width : ℕ) → length n.ports + 1 ≤ MAX_PORTS → length n.nets + width ≤ MAX_NETS → room_limit n width ≡ None
-room n width ports nets = rw (le_true (length n.ports + 1) MAX_PORTS ports, le_true (length n.nets + width) MAX_NETS nets) refl
+room n width ports nets = rw (le-leb (length n.ports + 1) MAX_PORTS ports, le-leb (length n.nets + width) MAX_NETS nets) refl
 
 bits_behind : (ports : List Port) (port : Port) → length (bits_of (ports ++ port ∷ [])) ≡ length (bits_of ports) + length port.bits
 bits_behind [] port = omega (arith, length-append port.bits [])
 bits_behind (p ∷ ports) port = omega (arith, length-append p.bits (bits_of (ports ++ port ∷ [])), length-append p.bits (bits_of ports), bits_behind ports port)
-
-length_from : (from count : ℕ) → length (nets_from from count) ≡ count
-length_from from zero = refl
-length_from from (suc count) = ap suc (length_from (suc from) count)
 
 pub ports_fit : (w n : Netlist) (ports more : List Port) (rest : List Text) (instances : List Instance) → IsWhole w → IsFront w n (ports ++ more) (bit_names_of ports ++ rest) instances → HasOnlyPorts n → AreNumbered (length n.nets) ports → AllFit n (port_things ports)
 ports_fit w n [] more rest instances whole front only numbers = tt
@@ -125,7 +123,7 @@ ports_fit w n (port ∷ ports) more rest instances whole front only numbers =
     let nets : List Text = names ++ later in
     let here : IsFront w n (port ∷ (ports ++ more)) nets instances =
     record { its_ports = front.its_ports; its_nets = front.its_nets ∙ ap (λ xs. n.nets ++ xs) (append_assoc names (bit_names_of ports) rest); its_instances = front.its_instances } in
-    let wide : length port.bits ≡ length names = ap length numbers.0 ∙ length_from (length n.nets) (length names) in (
+    let wide : length port.bits ≡ length names = ap length numbers.0 ∙ nets_from-length (length n.nets) (length names) in (
       record {
         only = only;
         next = ap (port_of port.name port.dir port.range) numbers.0;

@@ -10,7 +10,7 @@ use Rattle.dft_scan_frame.proofs.SoundParts.{signal_live}
 
 -- ---- joins
 
-connected : (gap : Gap) (s : Signal) → IsConnected s → IsConnected (moved_signal gap s)
+pub connected : (gap : Gap) (s : Signal) → IsConnected s → IsConnected (moved_signal gap s)
 connected gap (Net net) h = h
 connected gap (Constant bit) h = h
 connected gap Unconnected h = h

@@ -2,6 +2,7 @@
 use Rattle.std.proofs.Common.{ℕ, zero, suc, ◌+◌, ◌≡◌, ◌<◌, ◌≤◌, inl, inr, List, ◌∷◌, length, refl, sym, subst, ap, arith, ◌∙◌, []}
 use Rattle.std.specs.List.{AllByRecursion, range_with_len}
 use Rattle.std.proofs.lemmas.List.{length-append, length-map}
+use Rattle.std.proofs.lemmas.List.FromFn.{length-range_with_len}
 use Rattle.dft_base.specs.Lexing.{Text}
 use Rattle.dft_base.specs.declared.dir.Dir.{Dir}
 use Rattle.dft_base.specs.declared.dir.Dir.TheVariants as dir
@@ -20,12 +21,8 @@ use Rattle.dft_scan_frame.proofs.Fine.{driver_fine}
 
 -- ---- counts
 
-length_range : (from count : ℕ) → length (range_with_len from count) ≡ count
-length_range from zero = refl
-length_range from (suc count) = ap suc (length_range (from + 1) count)
-
 pub numbered_count : (d : Dir) (name : Text) (count : ℕ) → length (numbered_ports d name count) ≡ count
-numbered_count d name count = length-map (range_with_len 0 count) (λ number. new_port d (numbered name number)) ∙ length_range 0 count
+numbered_count d name count = length-map (range_with_len 0 count) (λ number. new_port d (numbered name number)) ∙ length-range_with_len 0 count
 
 -- style Plain adds scan_enable and two ports for each chain
 pub ports_count : (config : Config) → length (plain_ports config) ≡ 1 + config.chains + config.chains

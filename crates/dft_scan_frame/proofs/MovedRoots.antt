@@ -5,6 +5,7 @@ use Rattle.dft_cells.specs.declared.kind.Kind.TheVariants as kind
 use Rattle.dft_netlist.specs.Netlist.{Netlist}
 use Rattle.dft_netlist.specs.Drivers.{Source, Net, Tied, Loose, Driver, Input, Gate, Joined, Flop, Lockup, Free, driver, nets_of, nets_read, AreBelow, IsOrdered}
 use Rattle.dft_netlist.specs.Traces.{Root, Port, Constant, Other, passed_by_buffer, passed_by_gate, root_of_passed, root_of_driver, root_within, root_of}
+use Rattle.dft_netlist.proofs.Walks.{IsWithin as StandsWithin, weaker}
 use Rattle.dft_chains.specs.ScanOff.{moved_source, IsWithin}
 use Rattle.dft_scan_frame.proofs.Mergings.{moved_driver}
 
@@ -75,10 +76,6 @@ walk_moved n other f count kept (suc steps) (Net net) inside =
 
 -- ---- more steps find no other root
 
--- a source stands below a number of steps
-abbrev StandsWithin : (rank : ℕ → ℕ) → ℕ → Source → Type 0
-StandsWithin rank steps source = AreBelow rank steps (nets_of (source ∷ []))
-
 buffer_same : (walk its : Source → Root) (rank : ℕ → ℕ) (r : ℕ) (inputs : List Source) → AreBelow rank r (nets_of inputs) → ((source : Source) → StandsWithin rank r source → its source ≡ walk source) → root_of_passed its (passed_by_buffer inputs) ≡ root_of_passed walk (passed_by_buffer inputs)
 buffer_same walk its rank r [] below ih = refl
 buffer_same walk its rank r (Net net ∷ []) below ih = ih (Net net) below
@@ -116,11 +113,6 @@ driver_same n walk its rank r net (Flop i inverted) below ih = refl
 driver_same n walk its rank r net (Lockup i) below ih = refl
 driver_same n walk its rank r net Free below ih = refl
 
-lower : (rank : ℕ → ℕ) (r q : ℕ) (source : Source) → r < suc q → StandsWithin rank r source → StandsWithin rank q source
-lower rank r q (Net net) less below = (let h = below.0 in omega arith, tt)
-lower rank r q (Tied bit) less below = tt
-lower rank r q (Loose i pin) less below = tt
-
 walk_same : (n : Netlist) (rank : ℕ → ℕ) → IsOrdered n rank → (a b : ℕ) (source : Source) → StandsWithin rank a source → StandsWithin rank b source → root_within n a source ≡ root_within n b source
 walk_same n rank order a b (Tied bit) above below = refl
 walk_same n rank order a b (Loose i pin) above below = refl
@@ -128,7 +120,7 @@ walk_same n rank order zero b (Net net) above below = absurd (let h = above.0 in
 walk_same n rank order (suc a) zero (Net net) above below = absurd (let h = below.0 in omega arith)
 walk_same n rank order (suc a) (suc b) (Net net) above below =
     driver_same n (root_within n b) (root_within n a) rank (rank net) net (driver n net) (order.after net)
-    (λ source within. walk_same n rank order a b source (lower rank (rank net) a source above.0 within) (lower rank (rank net) b source below.0 within))
+    (λ source within. walk_same n rank order a b source (weaker rank (rank net) a source above.0 within) (weaker rank (rank net) b source below.0 within))
 
 stands_in : (n : Netlist) (rank : ℕ → ℕ) (steps : ℕ) (source : Source) → IsOrdered n rank → length n.nets < steps → StandsWithin rank steps source
 stands_in n rank steps (Net net) order less = (let h = order.within net in omega arith, tt)

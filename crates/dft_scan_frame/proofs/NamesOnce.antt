@@ -5,12 +5,12 @@ use Rattle.std.specs.Option.{option_and_then}
 use Rattle.std.specs.Str.{bytes_eq}
 use Rattle.std.proofs.lemmas.List.Elements.{filter_map-append}
 use Rattle.dft_base.specs.Lexing.{Text}
+use Rattle.dft_base.proofs.TextLemmas.{same_text, bytes_eq-self}
 use Rattle.dft_cells.specs.WellFormed.{has_name}
 use Rattle.dft_netlist.specs.declared.named.Named.{Named}
 use Rattle.dft_netlist.specs.declared.named.Named.TheVariants.{Net, Vector, Instance}
 use Rattle.dft_netlist.specs.Netlist.{Netlist}
 use Rattle.dft_netlist.specs.Names.{NamesDiffer, names_taken, vector_name, instance_name}
-use Rattle.dft_netlist.proofs.NamesLemmas.{same_of, bytes_eq-same}
 
 abbrev pub as_count : Bool → ℕ
 as_count true = 1
@@ -47,7 +47,7 @@ has_never q [] e = refl
 has_never q (x ∷ xs) e = none_has (bytes_eq x q) (has_name xs q) (times_named q xs) e (has_never q xs)
 
 pub named_here : (q : Text) (xs : List Text) → times_named q (q ∷ xs) ≡ 1 + times_named q xs
-named_here q xs = ap (λ b. as_count b + times_named q xs) (bytes_eq-same q)
+named_here q xs = ap (λ b. as_count b + times_named q xs) (bytes_eq-self q)
 
 -- ---- names of a netlist
 
@@ -68,7 +68,7 @@ module _ {X : Type 0} (f : X → Option Text) where
   where_by q (Some y) names xs x is more e = by (bytes_eq y q) refl
     where
       by : (b : Bool) → bytes_eq y q ≡ b → (k : ℕ) × (option_and_then f (slice_get (x ∷ xs) k) ≡ Some q)
-      by true same = (0, is ∙ ap Some (same_of y q same))
+      by true same = (0, is ∙ ap Some (same_text y q same))
       by false other = (let it = more (omega (arith, e, ap as_count other)) in (suc it.0, it.1))
 
   -- where a name stands there, an item shows it
@@ -83,7 +83,7 @@ module _ {X : Type 0} (f : X → Option Text) where
     where
       by : (b : Bool) → bytes_eq y q ≡ b → (m : ℕ) → times_named q names ≡ m → as_count (bytes_eq y q) + times_named q names ≤ 1
       by true same zero none = omega (arith, none, one_named (bytes_eq y q))
-      by true same (suc m) some = (let it = more (omega (arith, some)) in absurd (apart it.0 (is ∙ ap Some (same_of y q same)) it.1))
+      by true same (suc m) some = (let it = more (omega (arith, some)) in absurd (apart it.0 (is ∙ ap Some (same_text y q same)) it.1))
       by false other m e = omega (arith, once, ap as_count other)
 
   -- where no two items show a name it stands there once at most

@@ -4,6 +4,7 @@ use Rattle.std.specs.Prelude.{slice_index_or}
 use Rattle.std.proofs.lemmas.List.{length-map}
 use Rattle.std.proofs.lemmas.Option.{none-some, same_Some, slice_get-map, slice_get_within}
 use Rattle.dft_base.specs.Lexing.{Text}
+use Rattle.dft_base.proofs.ListLemmas.{at_of_map}
 use Rattle.dft_cells.specs.declared.kind.Kind.{Kind}
 use Rattle.dft_cells.specs.declared.kind.Kind.TheVariants as kind
 use Rattle.dft_cells.specs.declared.kind.Role.{Role}
@@ -29,9 +30,6 @@ map_by : {A B : Type 0} (f : A → B) (o : Option A) (y : B) → option_map f o 
 map_by f None y e = absurd (none-some y e)
 map_by f (Some x) y e = (x, refl, same_Some (f x) y e)
 
-pub map_at : {A B : Type 0} (f : A → B) (xs : List A) (k : ℕ) (y : B) → slice_get (map f xs) k ≡ Some y → (x : A) × (slice_get xs k ≡ Some x) × (f x ≡ y)
-map_at f xs k y at = map_by f (slice_get xs k) y (sym (slice_get-map f xs k) ∙ at)
-
 pub signal_live : (gap : Gap) (count all : ℕ) (s : Signal) → count + gap.width ≤ all → IsLive count s → IsLive all (moved_signal gap s)
 signal_live gap count all (Net net) le live = omega (arith, le, moved_less gap net.0 count live)
 signal_live gap count all (Constant bit) le live = tt
@@ -39,7 +37,7 @@ signal_live gap count all Unconnected le live = tt
 
 pub moved_live : (gap : Gap) (count all : ℕ) (pins : List Signal) → count + gap.width ≤ all → AreLive count pins → AreLive all (map (moved_signal gap) pins)
 moved_live gap count all pins le live place s at =
-    let it = map_at (moved_signal gap) pins place s at in subst (IsLive all) it.2 (signal_live gap count all it.0 le (live place it.0 it.1))
+    let it = at_of_map (moved_signal gap) pins place s at in subst (IsLive all) it.2 (signal_live gap count all it.0 le (live place it.0 it.1))
 
 moved_constant : (gap : Gap) (s : Signal) (bit : Bool) → moved_signal gap s ≡ Constant bit → s ≡ Constant bit
 moved_constant gap (Net net) bit e = absurd cc
@@ -48,7 +46,7 @@ moved_constant gap Unconnected bit e = e
 
 pub moved_outputs : (gap : Gap) (roles : List Role) (pins : List Signal) → NoConstantOutput roles pins → NoConstantOutput roles (map (moved_signal gap) pins)
 moved_outputs gap roles pins none pin role bit at is there =
-    let it = map_at (moved_signal gap) pins pin (Constant bit) there in none pin role bit at is (it.1 ∙ ap Some (moved_constant gap it.0 bit it.2))
+    let it = at_of_map (moved_signal gap) pins pin (Constant bit) there in none pin role bit at is (it.1 ∙ ap Some (moved_constant gap it.0 bit it.2))
 
 pub moved_sound : (library : List Cell) (gap : Gap) (count all : ℕ) (x : Instance) → count + gap.width ≤ all → IsInstance library count x.name x.cell x.pins → IsInstance library all x.name x.cell (map (moved_signal gap) x.pins)
 moved_sound library gap count all x le sound = record {

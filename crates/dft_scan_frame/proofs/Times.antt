@@ -1,6 +1,7 @@
 -- How often nets are driven in lists of drivers.
 use Rattle.std.proofs.Common.{ℕ, suc, ◌+◌, ◌≡◌, ◌==◌, ◌<◌, ◌≤◌, Bool, true, false, List, ◌∷◌, cond, refl, sym, subst, ap, arith, ◌∙◌, []}
 use Rattle.std.proofs.lemmas.Bool.{eqb-true}
+use Rattle.dft_base.proofs.NumberLemmas.{less_apart, more_apart}
 use Rattle.dft_netlist.specs.Drivers.{Driven}
 use Rattle.dft_scan_frame.proofs.Mergings.{times, times-cons, none_more, moved_driven, Merges, Nothing, Kept, Added}
 use Rattle.dft_scan_frame.proofs.LiveDriven.{DriveBelow}
@@ -20,15 +21,9 @@ abbrev pub Rises : (from : ℕ) → List Driven → Type 0
 Rises from [] = Unit {0}
 Rises from (d ∷ ds) = (from ≤ d.0) × Rises (suc d.0) ds
 
-not_same : (a b : ℕ) → a < b → (b == a) ≡ false
-not_same = grind arith
-
-not_same_up : (a b : ℕ) → a < b → (a == b) ≡ false
-not_same_up = grind arith
-
 pub rises_none : (net from : ℕ) (ds : List Driven) → Rises from ds → net < from → times net ds ≡ 0
 rises_none net from [] h less = refl
-rises_none net from (d ∷ ds) h less = none_more net d ds 0 (not_same net d.0 (omega (arith, h.0, less))) (rises_none net (suc d.0) ds h.1 (omega (arith, h.0, less)))
+rises_none net from (d ∷ ds) h less = none_more net d ds 0 (more_apart net d.0 (omega (arith, h.0, less))) (rises_none net (suc d.0) ds h.1 (omega (arith, h.0, less)))
 
 pub rises_once : (net from : ℕ) (ds : List Driven) → Rises from ds → times net ds ≤ 1
 rises_once net from [] h = omega arith
@@ -36,7 +31,7 @@ rises_once net from (d ∷ ds) h = times_once net d ds (λ is. rises_none net (s
 
 pub past_none : (net count : ℕ) (ds : List Driven) → DriveBelow count ds → count ≤ net → times net ds ≡ 0
 past_none net count [] h le = refl
-past_none net count (d ∷ ds) h le = none_more net d ds 0 (not_same_up d.0 net (omega (arith, h.0, le))) (past_none net count ds h.1 le)
+past_none net count (d ∷ ds) h le = none_more net d ds 0 (less_apart d.0 net (omega (arith, h.0, le))) (past_none net count ds h.1 le)
 
 -- ---- a net that is none of the design's, moved
 

@@ -2,6 +2,7 @@
 use Rattle.std.proofs.Common.{ℕ, zero, suc, ◌+◌, ◌≡◌, ◌==◌, ◌<◌, ◌≤◌, true, false, nat_lt, List, ◌∷◌, ◌++◌, length, refl, sym, ap, arith, ◌∙◌, []}
 use Rattle.std.specs.Prelude.{if◌then◌else◌}
 use Rattle.std.proofs.lemmas.List.{append_assoc}
+use Rattle.std.proofs.lemmas.Bool.{lt-ltb, le-ltb}
 use Rattle.dft_cells.specs.declared.cell.Cell.{Cell}
 use Rattle.dft_netlist.specs.declared.ids.NetId.{NetId}
 use Rattle.dft_netlist.specs.declared.instance.Instance.{Instance}
@@ -11,18 +12,12 @@ use Rattle.dft_scan_frame.specs.Moves.{Gap, moved, map_from}
 
 -- ---- moved nets
 
-less_is : (a b : ℕ) → a < b → nat_lt a b ≡ true
-less_is = grind arith
-
-less_not : (a b : ℕ) → b ≤ a → nat_lt a b ≡ false
-less_not = grind arith
-
 -- a net of a port is not moved, and any other is
 pub moved_front : (gap : Gap) (net : ℕ) → net < gap.before → moved gap net ≡ net
-moved_front gap net h = ap (λ b. if b then net else net + gap.width) (less_is net gap.before h)
+moved_front gap net h = ap (λ b. if b then net else net + gap.width) (lt-ltb net gap.before h)
 
 pub moved_back : (gap : Gap) (net : ℕ) → gap.before ≤ net → moved gap net ≡ net + gap.width
-moved_back gap net h = ap (λ b. if b then net else net + gap.width) (less_not net gap.before h)
+moved_back gap net h = ap (λ b. if b then net else net + gap.width) (le-ltb net gap.before h)
 
 apart_by : (before width a b : ℕ) → ((if nat_lt a before then a else a + width) == (if nat_lt b before then b else b + width)) ≡ (a == b)
 apart_by = grind arith

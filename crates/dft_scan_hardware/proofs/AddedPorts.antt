@@ -5,6 +5,9 @@ use Rattle.std.specs.List.{range_with_len}
 use Rattle.std.specs.Str.{bytes_eq}
 use Rattle.std.proofs.lemmas.Option.{none-some}
 use Rattle.dft_base.specs.Lexing.{Text}
+use Rattle.dft_base.proofs.BitLemmas.{true_false}
+use Rattle.dft_base.proofs.ListLemmas.{range_over}
+use Rattle.dft_base.proofs.TextLemmas.{same_text}
 use Rattle.dft_netlist.specs.declared.error.Counted.TheVariants.{Ports, Nets}
 use Rattle.dft_netlist.specs.declared.error.NetlistError.{NetlistError}
 use Rattle.dft_netlist.specs.declared.error.NetlistError.TheVariants as netlist
@@ -14,7 +17,6 @@ use Rattle.dft_netlist.specs.Building.{port_refusal, room_limit, taken_or}
 use Rattle.dft_netlist.specs.Names.{is_taken, names_taken, vector_name}
 use Rattle.dft_netlist.specs.Netlist.{Netlist}
 use Rattle.dft_netlist.specs.Sound.{HasOnlyPorts, bits_of}
-use Rattle.dft_netlist.proofs.NamesLemmas.{same_of}
 use Rattle.dft_scan_frame.specs.declared.error.InsertError.{InsertError}
 use Rattle.dft_scan_frame.specs.declared.error.InsertError.TheVariants.{NameClash, TooMany, Memory}
 use Rattle.dft_scan_frame.specs.AddedPorts.{NewPort, port_name, ports_from}
@@ -23,7 +25,7 @@ use Rattle.dft_scan_frame.specs.Refusals.{IsRefusal, or_else}
 use Rattle.dft_scan_frame.proofs.AddedNames.{le_by}
 use Rattle.dft_scan_frame.proofs.Additions.{both_none}
 use Rattle.dft_scan_frame.proofs.NamesOnce.{times_named, as_count, named-append, has_never, one_named, taken_times, shown_append}
-use Rattle.dft_parts.proofs.Runs.{range_on, range_over}
+use Rattle.dft_parts.proofs.Runs.{range_on}
 use Rattle.dft_scan_hardware.specs.Refusals.{as_told, new_port_refusal, ports_refusal, with_port, with_ports}
 
 -- ---- lists that grow by one for each number
@@ -88,13 +90,9 @@ one_taken s port q =
       shown_append vector_name q s.ports (next_port s port.name port.dir None ∷ []),
     )
 
-true_false : (b : Bool) → b ≡ true → b ≡ false → ⊥
-true_false true e f = cc
-true_false false e f = cc
-
 once_by : (n s : Netlist) (q : Text) (port : NewPort) (names : List Text) (b : Bool) → bytes_eq port.name q ≡ b → IsNew n s port.name → AreOnce n q (times_named q (names_taken (with_port s port))) names → AreOnce n q (times_named q (names_taken s)) (port.name ∷ names)
 once_by n s q port names true same new more =
-    let is : port.name ≡ q = same_of port.name q same in
+    let is : port.name ≡ q = same_text port.name q same in
     let counted = one_taken s port q in
     let one = ap as_count same in
     let none : times_named q names ≡ 0 = more.added (omega (arith, counted, one)) in record {

@@ -6,6 +6,7 @@ use Rattle.dft_netlist.specs.declared.error.NetlistError.TheVariants.{MultipleDr
 use Rattle.dft_netlist.specs.declared.limits.TheConstants.{MAX_PORTS, MAX_NETS}
 use Rattle.dft_netlist.specs.Netlist.{Netlist}
 use Rattle.dft_netlist.specs.Sound.{IsNetlist}
+use Rattle.dft_netlist.proofs.PortLemmas.{nets_from-length}
 use Rattle.dft_config.specs.declared.config.Config.{Config}
 use Rattle.dft_config.specs.Range.{IsInRange}
 use Rattle.dft_stitch.specs.Chains.{plan_of, cells_of}
@@ -23,7 +24,7 @@ use Rattle.dft_scan_hardware.specs.Frame.{frame}
 use Rattle.dft_scan_hardware.specs.Ports.{added_ports, gap_in, edt_nets}
 use Rattle.dft_scan_hardware.specs.Refusals.{as_told}
 use Rattle.dft_scan_hardware.proofs.Frames.{frame_nets, plain_count, edt_count}
-use Rattle.dft_scan_hardware.proofs.MadeParts.{from_there, from_count}
+use Rattle.dft_scan_hardware.proofs.MadeParts.{from_there}
 
 -- ---- outcomes
 
@@ -89,7 +90,7 @@ edt_ports_there n config sound =
       channels = from_there w (first + 3) config.ring.channels (omega (arith, all, added, fit));
       masks = from_there w masks config.compactor.mask_inputs (omega (arith, all, added, fit));
       outputs = from_there w outputs (length config.compactor.groups) (omega (arith, all, added, fit));
-      channel_count = from_count (first + 3) config.ring.channels;
-      mask_count = from_count masks config.compactor.mask_inputs;
-      output_count = from_count outputs (length config.compactor.groups);
+      channel_count = nets_from-length (first + 3) config.ring.channels;
+      mask_count = nets_from-length masks config.compactor.mask_inputs;
+      output_count = nets_from-length outputs (length config.compactor.groups);
     }

@@ -28,6 +28,7 @@ use Rattle.dft_rules.specs.Refusals.{is_scanned}
 use Rattle.dft_rules.specs.Rules.{judged, scan_cell_in}
 use Rattle.dft_scan_frame.specs.declared.error.InsertError.TheVariants.{TooMany}
 use Rattle.dft_base.specs.declared.dir.Dir.TheVariants as dir
+use Rattle.dft_base.proofs.ListLemmas.{at_of_map}
 use Rattle.dft_scan_frame.specs.AddedPorts.{NewPort, numbered_ports, port_name, ports_from}
 use Rattle.dft_scan_frame.specs.Growing.{AllFit, port_things, net_things, instance_things, join_things, with_things}
 use Rattle.dft_scan_frame.specs.Moves.{Gap, moved_signal, moved_join, at_net, map_from}
@@ -40,7 +41,7 @@ use Rattle.dft_scan_frame.proofs.Kept.{numbered_count, ports_count, ports_fit as
 use Rattle.dft_scan_frame.proofs.NamesOnce.{times_named, named-append, has_never, taken_times, stands_once}
 use Rattle.dft_scan_frame.proofs.Pairs.{shared_roles}
 use Rattle.dft_scan_frame.proofs.ScanPairs.{ScanPair}
-use Rattle.dft_scan_frame.proofs.SoundParts.{map_at, moved_live, moved_outputs, moved_sound, live_none, live_cons, live_drop, live_first, none_none, none_cons, none_drop, none_first, pair_shared, pair_modelled, there, named_by}
+use Rattle.dft_scan_frame.proofs.SoundParts.{moved_live, moved_outputs, moved_sound, live_none, live_cons, live_drop, live_first, none_none, none_cons, none_drop, none_first, pair_shared, pair_modelled, there, named_by}
 use Rattle.dft_scan_frame.proofs.Stages.{before_of, numbered_from, front_count, ports_stand}
 use Rattle.dft_scan_frame.proofs.Tabled.{from_at}
 use Rattle.dft_scan_frame.proofs.Whole.{length_map_from}
@@ -280,7 +281,7 @@ joins_pass style n config b sound is =
     subst (λ (m : Netlist). AllFit m (join_things (map (moved_join gap) n.joins))) (sym is)
     (joins_fit (with_others style n config) (map (moved_join gap) n.joins)
     (λ k join at.
-    let it = map_at (moved_join gap) n.joins k join at in
+    let it = at_of_map (moved_join gap) n.joins k join at in
     subst (λ (j : Join). IsAJoin (length (with_others style n config).nets) j.target j.source) it.2
     (join_sound gap (length n.nets) (length (with_others style n config).nets) it.0 (omega (arith, others_count style n config)) (sound.joins k it.0 it.1))))
 

@@ -18,8 +18,10 @@ use Rattle.dft_edt.specs.Hardware.{group_of}
 use Rattle.dft_config.specs.Segments.{segment_length}
 use Rattle.dft_ring.specs.declared.ring.Ring.{Ring}
 use Rattle.dft_ring.specs.RingRecipe.{stage_terms, a_stage, a_phase, a_ring}
+use Rattle.dft_ring.proofs.Made.{end_with}
 use Rattle.dft_compact.specs.declared.mask_nets.MaskNets.{MaskNets}
 use Rattle.dft_compact.specs.CompactorRecipe.{a_next, a_mask, a_segment, segments, masks_at, a_gated, an_output, a_compactor}
+use Rattle.dft_compact.proofs.Masking.{pair_of}
 use Rattle.dft_scan_hardware.proofs.Joins.{Holds, holds_pure, holds_bind, holds_each, holds_collect}
 
 -- it holds of every net, of every instance of a cell of the library, and of every gate between nets
@@ -71,11 +73,8 @@ stage_free P ring ports run stages stage f =
     holds_bind P (a_sum (stage_terms ring ports.channels stages stage)) (λ sum. a_driving_gate And (sum ∷ run ∷ []) >>= (λ kept. a_flop ports.edt_clock kept (net_at stages stage))) (sum_free P (stage_terms ring ports.channels stages stage) f)
     (λ sum. holds_bind P (a_driving_gate And (sum ∷ run ∷ [])) (λ kept. a_flop ports.edt_clock kept (net_at stages stage)) (driving_free P And (sum ∷ run ∷ []) f) (λ kept. flop_free P ports.edt_clock kept (net_at stages stage) f))
 
-abbrev ring_end : (run : NetId) → (phases : List NetId) → Recipe Ring
-ring_end run phases = pure (record { run = run; phases = phases })
-
 abbrev phased : Config → (run : NetId) → (stages : List NetId) → (Unit {0}) → Recipe Ring
-phased config run stages done = collect (a_phase config.ring stages) (range_with_len 0 config.chains) >>= ring_end run
+phased config run stages done = collect (a_phase config.ring stages) (range_with_len 0 config.chains) >>= end_with run
 
 abbrev staged : Config → EdtPorts → (run : NetId) → (stages : List NetId) → Recipe Ring
 staged config ports run stages = each (a_stage config.ring ports run stages) (range_with_len 0 config.ring.stages) >>= phased config run stages
@@ -90,7 +89,7 @@ ring_free P config ports f =
     (λ run. holds_bind P (nets_made config.ring.stages) (staged config ports run) (holds_collect P (λ _. a_net) (range_with_len 0 config.ring.stages) (λ k x there. net_free P f))
     (λ stages. holds_bind P (each (a_stage config.ring ports run stages) (range_with_len 0 config.ring.stages)) (phased config run stages)
     (holds_each P (a_stage config.ring ports run stages) (range_with_len 0 config.ring.stages) (λ k stage there. stage_free P config.ring ports run stages stage f))
-    (λ done. holds_bind P (collect (a_phase config.ring stages) (range_with_len 0 config.chains)) (ring_end run)
+    (λ done. holds_bind P (collect (a_phase config.ring stages) (range_with_len 0 config.chains)) (end_with run)
     (holds_collect P (a_phase config.ring stages) (range_with_len 0 config.chains) (λ k chain there. sum_free P _ f)) (λ phases. holds_pure {A = Ring} P (record { run = run; phases = phases })))))
 
 -- ---- the compactor
@@ -101,11 +100,8 @@ next_free P ports run nets f =
     holds_bind P (a_driving_gate And (ports.edt_update ∷ nets.mask ∷ [])) (λ taken. a_driving_gate And (run ∷ nets.hold ∷ []) >>= (λ kept. a_driving_gate Or (taken ∷ kept ∷ []))) (driving_free P And (ports.edt_update ∷ nets.mask ∷ []) f)
     (λ taken. holds_bind P (a_driving_gate And (run ∷ nets.hold ∷ [])) (λ kept. a_driving_gate Or (taken ∷ kept ∷ [])) (driving_free P And (run ∷ nets.hold ∷ []) f) (λ kept. driving_free P Or (taken ∷ kept ∷ []) f))
 
-abbrev mask_of : (mask hold : NetId) → MaskNets
-mask_of mask hold = record { mask = mask; hold = hold }
-
 abbrev held : EdtPorts → (run mask : NetId) → (hold : NetId) → Recipe MaskNets
-held ports run mask hold = a_next ports run (mask_of mask hold) >>= (λ next. a_flop ports.edt_clock next hold >> pure (mask_of mask hold))
+held ports run mask hold = a_next ports run (pair_of mask hold) >>= (λ next. a_flop ports.edt_clock next hold >> pure (pair_of mask hold))
 
 abbrev masked : EdtPorts → (run before : NetId) → (mask : NetId) → Recipe MaskNets
 masked ports run before mask = a_flop ports.edt_clock before mask >> (a_net >>= held ports run mask)
@@ -116,8 +112,8 @@ mask_free P ports run before f =
     holds_bind P a_net (masked ports run before) (net_free P f)
     (λ mask. holds_bind P (a_flop ports.edt_clock before mask) (λ _. a_net >>= held ports run mask) (flop_free P ports.edt_clock before mask f)
     (λ _. holds_bind P a_net (held ports run mask) (net_free P f)
-    (λ hold. holds_bind P (a_next ports run (mask_of mask hold)) (λ next. a_flop ports.edt_clock next hold >> pure (mask_of mask hold)) (next_free P ports run (mask_of mask hold) f)
-    (λ next. holds_bind P (a_flop ports.edt_clock next hold) (λ _. pure (mask_of mask hold)) (flop_free P ports.edt_clock next hold f) (λ _. holds_pure P (mask_of mask hold))))))
+    (λ hold. holds_bind P (a_next ports run (pair_of mask hold)) (λ next. a_flop ports.edt_clock next hold >> pure (pair_of mask hold)) (next_free P ports run (pair_of mask hold) f)
+    (λ next. holds_bind P (a_flop ports.edt_clock next hold) (λ _. pure (pair_of mask hold)) (flop_free P ports.edt_clock next hold f) (λ _. holds_pure P (pair_of mask hold))))))
 
 segment_free : (P : Part → Type 0) (ports : EdtPorts) (run before : NetId) (count : ℕ) → HoldsFree P → Holds P (a_segment ports run before count)
 unfolding a_segment

@@ -5,6 +5,7 @@ use Rattle.std.specs.List.{AllByRecursion}
 use Rattle.std.proofs.lemmas.Bool.{eqb-true}
 use Rattle.std.proofs.lemmas.Bool.Decides.{nat_tests}
 use Rattle.std.proofs.lemmas.Option.{none-some, same_Some}
+use Rattle.dft_base.proofs.ListLemmas.{get_left}
 use Rattle.dft_netlist.specs.declared.ids.NetId.{NetId}
 use Rattle.dft_netlist.specs.declared.instance.Signal.{Signal}
 use Rattle.dft_netlist.specs.declared.instance.Signal.TheVariants.{Net, Constant, Unconnected}
@@ -54,12 +55,7 @@ joined_in (ANet ∷ parts) i pins = joined_in parts i pins
 joined_in (AnInstance cell its ∷ parts) i pins = joined_in parts i pins
 joined_in (APin j pin net ∷ parts) i pins = joined_in parts i (if j.0 == i then pin_joined pin net pins else pins)
 
-get_left : {X : Type 0} (xs ys : List X) (k : ℕ) (x : X) → slice_get xs k ≡ Some x → slice_get (xs ++ ys) k ≡ Some x
-get_left [] ys k x h = absurd (none-some x h)
-get_left (y ∷ xs) ys zero x h = h
-get_left (y ∷ xs) ys (suc k) x h = get_left xs ys k x h
-
-abbrev joined_if : (pin : ℕ) → NetId → Bool → List Signal → List Signal
+abbrev pub joined_if : (pin : ℕ) → NetId → Bool → List Signal → List Signal
 joined_if pin net b pins = if b then pin_joined pin net pins else pins
 
 joined_here : (j pin : ℕ) (net : NetId) (xs : List Instance) (x : Instance) → slice_get xs j ≡ Some x → slice_get (instance_joined j pin net xs) j ≡ Some (record x { pins = pin_joined pin net x.pins })
@@ -108,7 +104,7 @@ JoinsAt Q (APin i pin net) = Q i.0 pin
 abbrev pub IsKeptOr : (Q : Type 0) → (old new : Option Signal) → Type 0
 IsKeptOr Q old new = (new ≡ old) ⊎ ((net : NetId) × Q × (old ≡ Some Unconnected) × (new ≡ Some (Net net)))
 
-one_joined : (pin : ℕ) (net : NetId) (pins : List Signal) (p : ℕ) → (slice_get (pin_joined pin net pins) p ≡ slice_get pins p) ⊎ ((pin ≡ p) × (slice_get pins p ≡ Some Unconnected) × (slice_get (pin_joined pin net pins) p ≡ Some (Net net)))
+pub one_joined : (pin : ℕ) (net : NetId) (pins : List Signal) (p : ℕ) → (slice_get (pin_joined pin net pins) p ≡ slice_get pins p) ⊎ ((pin ≡ p) × (slice_get pins p ≡ Some Unconnected) × (slice_get (pin_joined pin net pins) p ≡ Some (Net net)))
 one_joined pin net [] p = inl refl
 one_joined zero net (Unconnected ∷ pins) zero = inr (refl, refl, refl)
 one_joined zero net (Net other ∷ pins) zero = inl refl

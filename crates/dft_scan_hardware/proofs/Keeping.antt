@@ -5,6 +5,7 @@ use Rattle.std.specs.List.{range_with_len}
 use Rattle.std.proofs.lemmas.List.{length-map}
 use Rattle.std.proofs.lemmas.Option.{none-some, same_Some}
 use Rattle.dft_base.specs.Lexing.{Text}
+use Rattle.dft_base.proofs.BitLemmas.{true_false}
 use Rattle.dft_cells.specs.declared.kind.Role.{Role}
 use Rattle.dft_cells.specs.declared.kind.Role.TheVariants.{Input, Clock, Din, Reset, Preset, ScanIn, ScanEnable, Output, Inverted}
 use Rattle.dft_cells.specs.declared.cell.Cell.{Cell}
@@ -211,10 +212,6 @@ is_input_role Preset e = absurd cc
 is_input_role Output e = absurd cc
 is_input_role ScanEnable e = absurd cc
 is_input_role Inverted e = absurd cc
-
-true_false : (b : Bool) → b ≡ true → b ≡ false → ⊥
-true_false true e f = cc
-true_false false e f = cc
 
 output_alone : (r : Role) → IsBoth r Output → r ≡ Output
 output_alone r both = as_output r (subst (λ (x : Role). same_role r x ≡ true) (is_output_role both.role both.other) both.one)

@@ -121,13 +121,6 @@ rows_end f whole rest start now so_far g none = g.goes ∙ ap (λ (xs : List (Li
 pub next_item : {X : Type 0} (xs : List X) (k : ℕ) (x d : X) → k < length xs → x ≡ slice_index_or xs k d → drop k xs ≡ x ∷ drop (k + 1) xs
 next_item xs k x d less is = drop_more xs k d less ∙ ap (λ y. y ∷ drop (k + 1) xs) (sym is)
 
--- past the end nothing is left
-pub none_left : {X : Type 0} (xs : List X) (k : ℕ) → length xs ≤ k → drop k xs ≡ []
-none_left [] zero past = refl
-none_left [] (suc k) past = refl
-none_left (x ∷ xs) zero past = absurd (omega (arith, past))
-none_left (x ∷ xs) (suc k) past = none_left xs k (omega (arith, past))
-
 -- ---- nets of rows
 
 pub net_there : (n : Netlist) (nets : List NetId) (k : ℕ) → 0 < length n.nets → AreThere n nets → (net_at nets k).0 < length n.nets
@@ -325,7 +318,3 @@ pub from_there : (n : Netlist) (first count : ℕ) → first + count ≤ length 
 from_there n first zero le k d less = absurd (omega (arith, less))
 from_there n first (suc count) le zero d less = omega (arith, le)
 from_there n first (suc count) le (suc k) d less = from_there n (suc first) count (omega (arith, le)) k d (omega (arith, less))
-
-pub from_count : (first count : ℕ) → length (nets_from first count) ≡ count
-from_count first zero = refl
-from_count first (suc count) = ap suc (from_count (suc first) count)

@@ -1,18 +1,11 @@
 -- Signals that are flagged are no more than flags.
 use Rattle.std.proofs.Common.{◌≡◌, ℕ, zero, suc, ◌<◌, ◌≤◌, Bool, true, false, true≢false, ◌||◌, eqb, List, [], ◌∷◌, replicate, length, get_or, inl, inr, ◌⊎◌, refl, sym, ◌∙◌, arith}
-use Rattle.std.proofs.lemmas.Bool.{cases_lt}
+use Rattle.std.proofs.lemmas.Bool.{cases_lt, or_left, or_right}
 use Rattle.std.proofs.lemmas.Bool.Decides.{nat_tests}
 use Rattle.std.proofs.lemmas.List.{get_or_past}
+use Rattle.dft_base.proofs.ListLemmas.{none_marked}
 use Rattle.dft_stil_text.specs.SignalGroups as spec
 use Rattle.dft_stil.specs.MembersShown.{Sees, AreBelow}
-
-or_right : (a b : Bool) → b ≡ true → (a || b) ≡ true
-or_right true b h = refl
-or_right false b h = h
-
-or_left : (a b : Bool) → a ≡ true → (a || b) ≡ true
-or_left true b h = refl
-or_left false b h = absurd (true≢false (sym h))
 
 has_element : (ns : List ℕ) (k d : ℕ) → k < length ns → spec.has_signal ns (get_or ns k d) ≡ true
 has_element [] k d h = absurd (omega arith)
@@ -26,12 +19,7 @@ flag_inside seen n e (inr far) = absurd (true≢false (sym e ∙ get_or_past see
 pub sees_below : (m : spec.Members) (seen : List Bool) → Sees m seen → AreBelow (length seen) m.signals
 sees_below m seen s k d h = let n = get_or m.signals k d in flag_inside seen n (s n ∙ has_element m.signals k d h) (cases_lt n (length seen))
 
-no_flag : (n k : ℕ) → get_or (replicate n false) k false ≡ false
-no_flag zero k = refl
-no_flag (suc n) zero = refl
-no_flag (suc n) (suc k) = no_flag n k
-
 pub sees_none : (n : ℕ) → Sees spec.no_members (replicate n false)
-sees_none n k = no_flag n k
+sees_none n k = none_marked n k
 
 pub ruleset flags = (sees_none)

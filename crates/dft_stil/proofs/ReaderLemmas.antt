@@ -3,6 +3,7 @@ use Rattle.std.proofs.Common.{◌≡◌, ℕ, suc, ◌<◌, ◌≤◌, ◌+◌, 
 use Rattle.dft_base.specs.Lexing.{Text, place_of, place_after}
 use Rattle.dft_base.specs.Parser.{value_of}
 use Rattle.dft_base.specs.declared.place.Place.{Place}
+use Rattle.dft_base.proofs.PlaceLemmas.{placed}
 use Rattle.dft_patterns.specs.declared.act.Act.{Act}
 use Rattle.dft_patterns.specs.declared.signal.StilSignal.{StilSignal}
 use Rattle.dft_stil_tokens.specs.declared.text.Cause.{Cause}
@@ -23,12 +24,6 @@ use Rattle.dft_stil_text.proofs.WellFormed.{fitting, well_formed}
 use Rattle.dft_stil_text.proofs.LimitLemmas.{stands_within}
 
 -- ---- places
-
--- a fault behind the begin of the text is at its begin
-pub placed : (text : Text) (left : ℕ) → place_of text (min left (length text)) ≡ place_of text left
-placed text left =
-    let e : length text - min left (length text) ≡ length text - left = omega arith in
-    ap (λ (n : ℕ). place_after (record { line = 1; column = 1 }) (take n text)) e
 
 pub ruleset places = (placed)
 

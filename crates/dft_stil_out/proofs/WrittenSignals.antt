@@ -7,9 +7,11 @@ use Rattle.std.proofs.lemmas.Bool.Decides.{nat_tests}
 use Rattle.std.proofs.lemmas.List.{get_or_append_left}
 use Rattle.std.proofs.lemmas.Slice.Eq.{bytes_eq-Decides}
 use Rattle.std.proofs.Math.Seq.{get_or-append_seam}
+use Rattle.std.proofs.lemmas.Bool.{and_parts, and_from}
 use Rattle.dft_base.specs.Lexing.{Text}
 use Rattle.dft_base.specs.declared.dir.Dir.{Dir}
 use Rattle.dft_base.specs.declared.dir.Dir.TheVariants.{Input, Output}
+use Rattle.dft_base.proofs.TextLemmas.{bytes_eq-self}
 use Rattle.dft_patterns.specs.declared.signal.StilSignal.{StilSignal}
 use Rattle.dft_stil_tokens.specs.declared.text.TokenKind.{TokenKind}
 use Rattle.dft_stil_tokens.specs.declared.text.TokenKind.TheVariants as kind
@@ -26,21 +28,13 @@ use Rattle.dft_stil_out.proofs.WrittenTokens.{cut_up, token, ahead, cut_up-name,
 abbrev pub are_others : List Text → Text → Bool
 are_others names word = list_all (λ known. not (bytes_eq known word)) names
 
-both_true : (a b : Bool) → a ≡ true → b ≡ true → (a && b) ≡ true
-both_true true b f g = g
-both_true false b f g = f
-
-and_parts : (a b : Bool) → (a && b) ≡ true → (a ≡ true) × (b ≡ true)
-and_parts true b h = (refl, h)
-and_parts false b h = absurd (cc)
-
 differs : (t : Bool) (a b : Text) → bytes_eq a b ≡ t → a ≢ b → not t ≡ true
 differs true a b e h = absurd (h ((bytes_eq-Decides a b).0 e))
 differs false a b e h = refl
 
 others_from : (ss : List StilSignal) (word : Text) → ((k : ℕ) (d : StilSignal) → k < length ss → (get_or ss k d).name ≢ word) → are_others (names_of_signals ss) word ≡ true
 others_from [] word h = refl
-others_from (s ∷ ss) word h = both_true (not (bytes_eq s.name word)) _ (differs _ s.name word refl (h 0 s (omega arith))) (others_from ss word (λ k d l. h (suc k) d (omega arith)))
+others_from (s ∷ ss) word h = and_from (not (bytes_eq s.name word)) _ (differs _ s.name word refl (h 0 s (omega arith))) (others_from ss word (λ k d l. h (suc k) d (omega arith)))
 
 prefix_len-all : {X : Type 0} (p : X → Bool) (xs : List X) → list_all p xs ≡ true → prefix_len p xs ≡ length xs
 prefix_len-all p [] all = refl
@@ -60,13 +54,10 @@ no_number names word h =
     let past : nat_lt (length names) (length names) ≡ false = grind (arith, nat_tests) in
     rw (len, past) refl
 
-same_bytes : (word : Text) → bytes_eq word word ≡ true
-same_bytes word = (bytes_eq-Decides word word).1 refl
-
 pub number_at : (names : List Text) (word : Text) (more : List Text) → are_others names word ≡ true → number_of (names ++ word ∷ more) word ≡ Some (length names)
 number_at names word more h =
     let len : position_or_len (λ known. bytes_eq known word) (names ++ word ∷ more) ≡ length names =
-    prefix_len-seam (λ known. not (bytes_eq known word)) names word more h (ap not (same_bytes word)) in
+    prefix_len-seam (λ known. not (bytes_eq known word)) names word more h (ap not (bytes_eq-self word)) in
     let inside : nat_lt (length names) (length (names ++ word ∷ more)) ≡ true = grind (arith, nat_tests, length-append names (word ∷ more)) in
     rw (len, inside) refl
 

@@ -7,8 +7,11 @@ use Rattle.std.specs.Fmt.{digits_onto, digits, digit_glyph}
 use Rattle.std.proofs.lemmas.Bool.Decides.{nat_tests}
 use Rattle.std.proofs.lemmas.List.Sums.{list_all-from_AllPass}
 use Rattle.std.proofs.Math.Seq.{take-append_seam, drop-append_seam}
+use Rattle.std.proofs.lemmas.Bool.{and_parts, and_from, or_left}
 use Rattle.dft_base.specs.Lexing.{Text, Blank, Cut, tokens_from}
 use Rattle.dft_base.proofs.LexingLemmas.{tokens_from-cut, tokens_from-blank}
+use Rattle.dft_base.proofs.NumberLemmas.{minus_zero}
+use Rattle.dft_base.proofs.TextLemmas.{prefix_len-run}
 use Rattle.dft_patterns.specs.declared.act.Act.{Act}
 use Rattle.dft_patterns.specs.declared.act.Act.TheVariants.{Unset, Low, High, Pulse, ExpectLow, ExpectHigh, Ignore}
 use Rattle.dft_patterns.specs.declared.notes.Note.{Note}
@@ -34,9 +37,6 @@ token k bytes left = record { kind = k; bytes = bytes; left = left }
 abbrev pub ahead : ℕ → Text → ℕ
 ahead zero rest = length rest
 ahead (suc n) rest = suc (ahead n rest)
-
-pub minus_zero : (n : ℕ) → n - 0 ≡ n
-minus_zero n = omega arith
 
 -- ---- words and marks
 
@@ -140,17 +140,6 @@ cut_front quoted text l e cut full moves =
     front_token quoted text e ∙ ap (λ (m : Lexeme). Cut (token_of m text) m.len (quoted_behind m.kind quoted)) cut in
     tokens_from-cut front quoted text (token_of l text) l.len (quoted_behind l.kind quoted) full moves token
 
-and_parts : (a b : Bool) → (a && b) ≡ true → (a ≡ true) × (b ≡ true)
-and_parts true b h = (refl, h)
-and_parts false b h = absurd (cc)
-
--- how far a test passes, over a text all of whose bytes pass, and one that does not
-prefix_len-run : (p : ℕ → Bool) (xs : Text) (b : ℕ) (rest : Text) → list_all p xs ≡ true → p b ≡ false → prefix_len p (xs ++ b ∷ rest) ≡ length xs
-prefix_len-run p [] b rest all stops = ap (λ t. cond t (1 + prefix_len p rest) 0) stops
-prefix_len-run p (x ∷ xs) b rest all stops =
-    let parts = and_parts (p x) (list_all p xs) all in
-    ap (λ t. cond t (1 + prefix_len p (xs ++ b ∷ rest)) 0) parts.0 ∙ (let ih = prefix_len-run p xs b rest parts.1 stops in omega arith)
-
 prefix_len-over : (p : ℕ → Bool) (xs rest : Text) → list_all p xs ≡ true → length xs ≤ prefix_len p (xs ++ rest)
 prefix_len-over p [] rest all = omega arith
 prefix_len-over p (x ∷ xs) rest all =
@@ -229,21 +218,15 @@ letter_passes ExpectLow h = refl
 letter_passes ExpectHigh h = refl
 letter_passes Ignore h = refl
 
-both_true : (a b : Bool) → a ≡ true → b ≡ true → (a && b) ≡ true
-both_true a b f g = rw (f, g) refl
-
-or_true : (a b : Bool) → a ≡ true → (a || b) ≡ true
-or_true a b f = rw f refl
-
 letters_pass : (p : ℕ → Bool) → ((c : ℕ) → is_ascii_alphanumeric c ≡ true → p c ≡ true) → (acts : List Act) → AllTold acts → list_all p (map letter acts) ≡ true
 letters_pass p passes [] h = refl
-letters_pass p passes (a ∷ acts) h = both_true (p (letter a)) _ (passes (letter a) (letter_passes a h.0)) (letters_pass p passes acts h.1)
+letters_pass p passes (a ∷ acts) h = and_from (p (letter a)) _ (passes (letter a) (letter_passes a h.0)) (letters_pass p passes acts h.1)
 
 in_number : (c : ℕ) → is_ascii_alphanumeric c ≡ true → is_in_number false c ≡ true
 in_number c h = grind (arith, nat_tests)
 
 in_name : (c : ℕ) → is_ascii_alphanumeric c ≡ true → continues_name c ≡ true
-in_name c h = or_true (is_ascii_alphanumeric c) _ h
+in_name c h = or_left (is_ascii_alphanumeric c) _ h
 
 -- the text of a run, and a semicolon behind it
 abbrev pub run_text : Act → List Act → Text → Text
@@ -337,7 +320,7 @@ no_star-glyph d = by (ltb d 10) d where
 no_star-digits : (k n : ℕ) (acc : Text) → list_all no_star acc ≡ true → list_all no_star (digits_onto k 10 false n acc) ≡ true
 no_star-digits zero n acc h = h
 no_star-digits (suc k) n acc h =
-    let one : list_all no_star (digit_glyph false (n % 10) ∷ acc) ≡ true = both_true (no_star (digit_glyph false (n % 10))) _ (no_star-glyph (n % 10)) h in
+    let one : list_all no_star (digit_glyph false (n % 10) ∷ acc) ≡ true = and_from (no_star (digit_glyph false (n % 10))) _ (no_star-glyph (n % 10)) h in
     by (eqb (n / 10) 0) (digit_glyph false (n % 10) ∷ acc) (digits_onto k 10 false (n / 10) (digit_glyph false (n % 10) ∷ acc)) one (no_star-digits k (n / 10) (digit_glyph false (n % 10) ∷ acc) one) where
       by : (t : Bool) (xs ys : Text) → list_all no_star xs ≡ true → list_all no_star ys ≡ true → list_all no_star (cond t xs ys) ≡ true
       by true xs ys f g = f

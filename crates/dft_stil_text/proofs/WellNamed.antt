@@ -8,6 +8,7 @@ use Rattle.std.proofs.lemmas.List.{get_or_append_left}
 use Rattle.std.proofs.lemmas.Slice.Eq.{bytes_eq-Decides}
 use Rattle.dft_base.specs.Lexing.{Text}
 use Rattle.dft_base.specs.declared.dir.Dir.{Dir}
+use Rattle.dft_base.proofs.BitLemmas.{neither}
 use Rattle.dft_stil_tokens.specs.declared.text.TokenKind.TheVariants as kind
 use Rattle.dft_patterns.specs.declared.signal.StilSignal.{StilSignal}
 use Rattle.dft_stil_tokens.specs.Steps.{left, no_token, expect, eat, keyword, name}
@@ -31,17 +32,13 @@ pairs_at R xs x h a i j d less inside (inr far) =
 pairs_more : {X : Type 0} (R : X → X → Type 0) (xs : List X) (x : X) → AllPairs R xs → All (λ y. R y x) xs → AllPairs R (xs ++ x ∷ [])
 pairs_more R xs x h a i j d less inside = let long = length-append xs (x ∷ []) in pairs_at R xs x h a i j d less (omega arith) (cases_lt j (length xs))
 
-no_left : (a b : Bool) → (a || b) ≡ false → a ≡ false
-no_left true b e = e
-no_left false b e = refl
-
 no_right : (a b : Bool) → (a || b) ≡ false → b ≡ false
 no_right true b e = absurd (true≢false e)
 no_right false b e = e
 
 none_named : {X : Type 0} (p : X → Bool) (xs : List X) → list_any p xs ≡ false → All (λ x. p x ≡ false) xs
 none_named p [] e k d h = absurd (omega arith)
-none_named p (x ∷ xs) e zero d h = no_left (p x) (list_any p xs) e
+none_named p (x ∷ xs) e zero d h = neither (p x) (list_any p xs) e
 none_named p (x ∷ xs) e (suc k) d h = none_named p xs (no_right (p x) (list_any p xs) e) k d (omega arith)
 
 not_some : (o : Option ℕ) → not (is_some o) ≡ true → o ≡ None

@@ -10,6 +10,7 @@ use Rattle.std.proofs.lemmas.List.Elements.{All-append}
 use Rattle.dft_base.specs.Lexing.{Text}
 use Rattle.dft_base.specs.declared.dir.Dir.{Dir}
 use Rattle.dft_base.specs.declared.dir.Dir.TheVariants.{Input, Output}
+use Rattle.dft_base.proofs.BitLemmas.{and_first, and_second}
 use Rattle.dft_patterns.specs.declared.act.Act.{Act}
 use Rattle.dft_patterns.specs.declared.act.Act.TheVariants.{Low, High, Pulse, ExpectLow, ExpectHigh, Ignore}
 use Rattle.dft_patterns.specs.declared.shapes.Event.{Event}
@@ -108,19 +109,11 @@ set_fits' names waveforms n c a m d b false other f small less h e =
 set_fits : (names : Names) (waveforms : spec.Waveforms) (n c : ℕ) (a : Act) → Fit names waveforms → c < 256 → IsActOf (dir_of names n) a → Fit names (record { acts = slice_set waveforms.acts (place_of_character n c) (Some a) })
 set_fits names waveforms n c a f small h m d b less e = set_fits' names waveforms n c a m d b _ refl f small less h e
 
-both_left : (a b : Bool) → (a && b) ≡ true → a ≡ true
-both_left true b e = refl
-both_left false b e = absurd (true≢false (sym e))
-
-both_right : (a b : Bool) → (a && b) ≡ true → b ≡ true
-both_right true b e = e
-both_right false b e = absurd (true≢false (sym e))
-
 waveform_fits' : (names : Names) (signals : List ℕ) (c : ℕ) (a : Act) (d : Drawing) (waveforms : spec.Waveforms) → begin_all names signals d ≡ true → act_of_events d ≡ Some a → c < 256 → Fit names waveforms → Fit names (with_waveform signals c a waveforms)
 waveform_fits' names [] c a d waveforms h e small f = f
 waveform_fits' names (n ∷ signals) c a d waveforms h e small f =
-    waveform_fits' names signals c a d _ (both_right (begins_shape (dir_of names n) d) _ h) e small
-    (set_fits names waveforms n c a f small (fits_dir (dir_of names n) d a (both_left (begins_shape (dir_of names n) d) _ h) e))
+    waveform_fits' names signals c a d _ (and_second (begins_shape (dir_of names n) d) _ h) e small
+    (set_fits names waveforms n c a f small (fits_dir (dir_of names n) d a (and_first (begins_shape (dir_of names n) d) _ h) e))
 
 -- ---- characters and events
 

@@ -8,7 +8,8 @@ use Rattle.std.proofs.lemmas.List.Sums.{prefix_len-le-length}
 use Rattle.dft_base.specs.Lexing.{Text}
 use Rattle.dft_base.specs.Name.{IsName}
 use Rattle.dft_base.specs.Words.{begins_word}
-use Rattle.dft_lexing.proofs.PrintedLemmas.{IsPrinted, printed, run_each, runs_on}
+use Rattle.dft_base.proofs.TextLemmas.{IsPrinted, printed}
+use Rattle.dft_lexing.proofs.PrintedLemmas.{run_each, runs_on}
 use Rattle.dft_stil_tokens.specs.Lexemes.{is_printed, is_in_number, continues_name, index_len, word_len}
 
 continues_printed : (b : ℕ) → continues_name b ≡ true → IsPrinted b

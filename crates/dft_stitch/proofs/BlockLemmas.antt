@@ -4,12 +4,14 @@ use Rattle.std.specs.Prelude.{slice_range}
 use Rattle.std.specs.List.{All, filter_map, cons_option, range_with_len}
 use Rattle.std.proofs.lemmas.List.{length-take, length-drop, length-map, drop-drop, take_min, drop_min}
 use Rattle.std.proofs.lemmas.List.FromFn.{length-range_with_len}
+use Rattle.std.proofs.lemmas.List.Elements.{All-nil, All-cons, All-take, All-drop, All-append}
 use Rattle.dft_netlist.specs.declared.ids.InstanceId.{InstanceId}
 use Rattle.dft_config.specs.Cycles.{part_length}
 use Rattle.dft_rules.specs.declared.judged.Judged.{Judged}
 use Rattle.dft_stitch.specs.Chains.{blocks, chain_lengths, chains_of, cell_in, cells_in, scanned_cells, domain_of, if_domain}
 use Rattle.dft_stitch.specs.Tables.{AreBelow}
 use Rattle.dft_stitch.proofs.RangeLemmas.{begun, ended, grown}
+use Rattle.dft_stitch.proofs.ChainLimits.{blocks_count}
 
 -- ---- the cut
 
@@ -57,44 +59,19 @@ cut_more xs chains k start part end done new less is ends e h =
 
 -- ---- what holds of each block
 
-all_none : {X : Type 0} (P : X → Type 0) → All P []
-all_none P k d less = absurd (omega arith)
-
-all_cons : {X : Type 0} (P : X → Type 0) (x : X) (xs : List X) → P x → All P xs → All P (x ∷ xs)
-all_cons P x xs here all zero d less = here
-all_cons P x xs here all (suc k) d less = all k d (omega arith)
-
-all_take : {X : Type 0} (P : X → Type 0) (n : ℕ) (xs : List X) → All P xs → All P (take n xs)
-all_take P zero xs all = all_none P
-all_take P (suc n) [] all = all_none P
-all_take P (suc n) (x ∷ xs) all = all_cons P x (take n xs) (all 0 x (omega arith)) (all_take P n xs (λ k d less. all (suc k) d (omega arith)))
-
-all_drop : {X : Type 0} (P : X → Type 0) (n : ℕ) (xs : List X) → All P xs → All P (drop n xs)
-all_drop P zero xs all = all
-all_drop P (suc n) [] all = all
-all_drop P (suc n) (x ∷ xs) all = all_drop P n xs (λ k d less. all (suc k) d (omega arith))
-
-all_append : {X : Type 0} (P : X → Type 0) (xs ys : List X) → All P xs → All P ys → All P (xs ++ ys)
-all_append P [] ys a b = b
-all_append P (x ∷ xs) ys a b = all_cons P x (xs ++ ys) (a 0 x (omega arith)) (all_append P xs ys (λ k d less. a (suc k) d (omega arith)) b)
-
 pub blocks_short : {T : Type 0} (lengths : List ℕ) (items : List T) (b : ℕ) → length items ≤ b → All (λ cells. length cells ≤ b) (blocks lengths items)
-blocks_short [] items b le = all_none (λ cells. length cells ≤ b)
+blocks_short [] items b le = All-nil (λ cells. length cells ≤ b)
 blocks_short (l ∷ lengths) items b le =
-    all_cons (λ cells. length cells ≤ b) (take l items) (blocks lengths (drop l items)) (let t = length-take l items in omega arith)
+    All-cons (λ cells. length cells ≤ b) (take l items) (blocks lengths (drop l items)) (let t = length-take l items in omega arith)
     (blocks_short lengths (drop l items) b (let t = length-drop l items in omega arith))
 
 pub blocks_below : (count : ℕ) (lengths : List ℕ) (cells : List InstanceId) → AreBelow count cells → All (AreBelow count) (blocks lengths cells)
-blocks_below count [] cells all = all_none (AreBelow count)
+blocks_below count [] cells all = All-nil (AreBelow count)
 blocks_below count (l ∷ lengths) cells all =
-    all_cons (AreBelow count) (take l cells) (blocks lengths (drop l cells)) (all_take (λ cell. cell.0 < count) l cells all) (blocks_below count lengths (drop l cells) (all_drop (λ cell. cell.0 < count) l cells all))
-
-length-blocks : {T : Type 0} (lengths : List ℕ) (items : List T) → length (blocks lengths items) ≡ length lengths
-length-blocks [] items = refl
-length-blocks (l ∷ lengths) items = ap suc (length-blocks lengths (drop l items))
+    All-cons (AreBelow count) (take l cells) (blocks lengths (drop l cells)) (All-take (λ cell. cell.0 < count) l cells all) (blocks_below count lengths (drop l cells) (All-drop (λ cell. cell.0 < count) l cells all))
 
 pub chain_count : (xs : List InstanceId) (chains : ℕ) → length (chains_of xs chains) ≡ chains
-chain_count xs chains = length-blocks (chain_lengths (length xs) chains) xs ∙ length-map (range_with_len 0 chains) (part_length (length xs) chains) ∙ length-range_with_len 0 chains
+chain_count xs chains = blocks_count (chain_lengths (length xs) chains) xs ∙ length-map (range_with_len 0 chains) (part_length (length xs) chains) ∙ length-range_with_len 0 chains
 
 -- ---- each scanned cell is an instance
 
@@ -103,18 +80,18 @@ below_option count d i None xs less all = all
 below_option count d i (Some e) xs less all = by (e == d)
   where
     by : (t : Bool) → AreBelow count (cons_option (cond t (Some (record { 0 = i })) None) xs)
-    by true = all_cons (λ (cell : InstanceId). cell.0 < count) (record { 0 = i }) xs less all
+    by true = All-cons (λ (cell : InstanceId). cell.0 < count) (record { 0 = i }) xs less all
     by false = all
 
 below_range : (count : ℕ) (verdicts : List (Option Judged)) (d k m : ℕ) → k + m ≤ count → AreBelow count (filter_map (cell_in verdicts d) (range_with_len k m))
-below_range count verdicts d k zero le = all_none (λ (cell : InstanceId). cell.0 < count)
+below_range count verdicts d k zero le = All-nil (λ (cell : InstanceId). cell.0 < count)
 below_range count verdicts d k (suc m) le =
     below_option count d k (domain_of verdicts (record { 0 = k })) (filter_map (cell_in verdicts d) (range_with_len (k + 1) m)) (omega arith) (below_range count verdicts d (k + 1) m (omega arith))
 
 below_domains : (verdicts : List (Option Judged)) (d m : ℕ) → AreBelow (length verdicts) (flat_map (cells_in verdicts) (range_with_len d m))
-below_domains verdicts d zero = all_none (λ (cell : InstanceId). cell.0 < length verdicts)
+below_domains verdicts d zero = All-nil (λ (cell : InstanceId). cell.0 < length verdicts)
 below_domains verdicts d (suc m) =
-    all_append (λ (cell : InstanceId). cell.0 < length verdicts) (cells_in verdicts d) (flat_map (cells_in verdicts) (range_with_len (d + 1) m))
+    All-append (λ (cell : InstanceId). cell.0 < length verdicts) (cells_in verdicts d) (flat_map (cells_in verdicts) (range_with_len (d + 1) m))
     (below_range (length verdicts) verdicts d 0 (length verdicts) (omega arith)) (below_domains verdicts (d + 1) m)
 
 pub cells_below : (verdicts : List (Option Judged)) (domains : ℕ) → AreBelow (length verdicts) (scanned_cells verdicts domains)

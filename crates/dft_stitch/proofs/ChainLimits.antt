@@ -5,6 +5,7 @@ use Rattle.std.specs.List.{All, range_with_len}
 use Rattle.std.proofs.lemmas.Bool.Decides.{nat_tests}
 use Rattle.std.proofs.lemmas.List.Elements.{All-nil, All-cons, All-head, All-tail, All-map}
 use Rattle.std.proofs.lemmas.List.FromFn.{length-map-range_with_len}
+use Rattle.std.proofs.lemmas.Bool.{ltb-false}
 use Rattle.dft_netlist.specs.Netlist.{Netlist}
 use Rattle.dft_config.specs.declared.config.Config.{Config}
 use Rattle.dft_config.specs.Cycles.{part_length, longest_segment}
@@ -39,9 +40,9 @@ pub chains_short : (n : Netlist) (config : Config) → All (λ cells. length cel
 chains_short n config =
     let cells = cells_of n config in
     let longest = longest_chain (length cells) config.chains in
-    let within : longest ≤ max (config.warm + longest) (longest_segment config) = omega arith in
+    let ltb-false : longest ≤ max (config.warm + longest) (longest_segment config) = omega arith in
     blocks_short (cycles_of config (length cells)) (chain_lengths (length cells) config.chains) cells
-    (All-map (λ (l : ℕ). l ≤ cycles_of config (length cells)) (part_length (length cells) config.chains) (range_with_len 0 config.chains) (λ k d less. omega (arith, within, part_le (length cells) config.chains (slice_index_or (range_with_len 0 config.chains) k d))))
+    (All-map (λ (l : ℕ). l ≤ cycles_of config (length cells)) (part_length (length cells) config.chains) (range_with_len 0 config.chains) (λ k d less. omega (arith, ltb-false, part_le (length cells) config.chains (slice_index_or (range_with_len 0 config.chains) k d))))
 
 pub chains_count : (n : Netlist) (config : Config) → length (plan_of n config).chains ≡ config.chains
 chains_count n config = let cells = cells_of n config in blocks_count (chain_lengths (length cells) config.chains) cells ∙ length-map-range_with_len (part_length (length cells) config.chains) 0 config.chains
@@ -54,13 +55,10 @@ none_passed false true c x y z none = absurd (let f : ⊥ = cc in f)
 none_passed false false true x y z none = absurd (let f : ⊥ = cc in f)
 none_passed false false false x y z none = (refl, refl)
 
-within : (limit n : ℕ) → nat_lt limit n ≡ false → n ≤ limit
-within limit n is = grind (arith, nat_tests)
-
 -- a plan that is accepted has no more cycles and variables than their limits
 pub limits : (n : Netlist) (config : Config) → refusal n config ≡ None → ((plan_of n config).cycles ≤ MAX_CYCLES) × ((plan_of n config).cycles * config.ring.channels ≤ MAX_VARIABLES)
 limits n config none =
     let cells = length (cells_of n config) in
     let cycles = cycles_of config cells in
     let h = none_passed (nat_lt MAX_CELLS cells) (nat_lt MAX_CYCLES cycles) (nat_lt MAX_VARIABLES (cycles * config.ring.channels)) (TooMany Cells (pos MAX_CELLS)) (TooMany Cycles (pos MAX_CYCLES)) (TooMany Variables (pos MAX_VARIABLES)) none in
-    (within MAX_CYCLES cycles h.0, within MAX_VARIABLES (cycles * config.ring.channels) h.1)
+    (ltb-false MAX_CYCLES cycles h.0, ltb-false MAX_VARIABLES (cycles * config.ring.channels) h.1)

@@ -5,6 +5,7 @@ use Rattle.std.specs.List.{range_with_len}
 use Rattle.std.proofs.lemmas.Bool.Decides.{nat_tests}
 use Rattle.std.proofs.lemmas.List.{length-take}
 use Rattle.std.proofs.lemmas.Option.{none-some, same_Some, slice_get-map, slice_get_within}
+use Rattle.dft_base.proofs.ListLemmas.{get_range}
 use Rattle.dft_netlist.specs.declared.ids.InstanceId.{InstanceId}
 use Rattle.dft_config.specs.Cycles.{part_length}
 use Rattle.dft_stitch.specs.Chains.{blocks, chain_lengths, cells_of, plan_of}
@@ -12,11 +13,6 @@ use Rattle.dft_stitch.proofs.BlockLemmas.{chain_count}
 use Rattle.dft_netlist.specs.Netlist.{Netlist}
 use Rattle.dft_config.specs.declared.config.Config.{Config}
 use Rattle.dft_config.specs.Range.{IsInRange}
-
-get_range : (from count k : ℕ) → k < count → slice_get (range_with_len from count) k ≡ Some (from + k)
-get_range from zero k h = absurd (omega (arith, h))
-get_range from (suc count) zero h = ap Some (omega arith)
-get_range from (suc count) (suc k) h = get_range (from + 1) count k (omega (arith, h)) ∙ ap Some (omega arith)
 
 -- ---- a block is as long as asked, at most
 

@@ -2,12 +2,14 @@
 use Rattle.std.proofs.Common.{◌≡◌, ℕ, zero, suc, ◌+◌, ◌<◌, ◌≤◌, ◌==◌, Bool, true, false, cond, List, [], ◌∷◌, ◌++◌, length, get_or, flat_map, Option, None, Some, option_and_then, slice_get, refl, sym, ◌∙◌, ap, subst, arith, ◌⊎◌, inl, inr}
 use Rattle.std.specs.Prelude.{nat_lt, is_some}
 use Rattle.std.specs.List.{filter_map, cons_option, position_or_len, range_with_len}
-use Rattle.std.proofs.lemmas.Bool.{cases_eq}
+use Rattle.std.proofs.lemmas.Bool.{cases_eq, eqb-true}
 use Rattle.std.proofs.lemmas.Bool.Decides.{nat_tests}
 use Rattle.std.proofs.lemmas.List.{get_or_past}
 use Rattle.std.proofs.lemmas.Option.{slice_get_within, slice_get_past}
 use Rattle.std.proofs.lemmas.List.FromFn.{get_or-map-range_with_len, length-map-range_with_len}
 use Rattle.dft_base.specs.Lexing.{Text}
+use Rattle.dft_base.proofs.NumberLemmas.{same_number}
+use Rattle.dft_base.proofs.ListLemmas.{get_left, get_right}
 use Rattle.dft_cells.specs.declared.kind.Role.TheVariants.{Clock}
 use Rattle.dft_netlist.specs.declared.ids.InstanceId.{InstanceId}
 use Rattle.dft_netlist.specs.declared.instance.Instance.{Instance}
@@ -16,7 +18,6 @@ use Rattle.dft_netlist.specs.Drivers.{Source, pins_of, kind_of, kind_at}
 use Rattle.dft_netlist.specs.Logic.{pin_of}
 use Rattle.dft_netlist.specs.Traces.{Root, Port, Constant, Other, root_of}
 use Rattle.dft_netlist.proofs.LiveLemmas.{le_or_lt}
-use Rattle.dft_netlist.proofs.Places.{get_left}
 use Rattle.dft_config.specs.declared.config.Config.{Config}
 use Rattle.dft_rules.specs.declared.judged.Judged.{Judged}
 use Rattle.dft_rules.specs.declared.judged.Judged.TheVariants.{Scanned, Unscanned}
@@ -28,10 +29,6 @@ use Rattle.dft_stitch.specs.Plans.{cell_at}
 use Rattle.dft_stitch.proofs.EvenLemmas.{chains_hold}
 
 -- ---- items of lists, by their places
-
-get_right : {X : Type 0} (xs ys : List X) (k : ℕ) (x : X) → slice_get ys k ≡ Some x → slice_get (xs ++ ys) (length xs + k) ≡ Some x
-get_right [] ys k x h = let e : 0 + k ≡ k = omega arith in rw e h
-get_right (y ∷ xs) ys k x h = let e : suc (length xs) + k ≡ suc (length xs + k) = omega arith in rw e (get_right xs ys k x h)
 
 pub record Behind {X : Type 0} (xs ys : List X) (k : ℕ) (x : X) : Type 0 where
   pub place : ℕ
@@ -101,19 +98,13 @@ IsHead v d k x = (x ≡ record { 0 = k }) × (domain_of v (record { 0 = k }) ≡
 abbrev IsLater : (rest : List InstanceId) (x : InstanceId) → Type 0
 IsLater rest x = (q : ℕ) × (slice_get rest q ≡ Some x)
 
-same_number : (a b : ℕ) → (a == b) ≡ true → a ≡ b
-same_number a b h = grind (arith, nat_tests)
-
-number_same : (a : ℕ) → (a == a) ≡ true
-number_same a = grind (arith, nat_tests)
-
 by_domain : (v : List (Option Judged)) (d k : ℕ) (rest : List InstanceId) (p : ℕ) (x : InstanceId) (o : Option ℕ) → domain_of v (record { 0 = k }) ≡ o →
     slice_get (cons_option (if_domain d o (record { 0 = k })) rest) p ≡ Some x → IsHead v d k x ⊎ IsLater rest x
 by_domain v d k rest p x None is h = inr (p, h)
 by_domain v d k rest p x (Some e) is h = by (e == d) refl p h
   where
     by : (t : Bool) → (e == d) ≡ t → (p : ℕ) → slice_get (cons_option (cond t (Some (record { 0 = k })) None) rest) p ≡ Some x → IsHead v d k x ⊎ IsLater rest x
-    by true same zero at = inl (cc, is ∙ ap Some (same_number e d same))
+    by true same zero at = inl (cc, is ∙ ap Some (eqb-true e d same))
     by true same (suc q) at = inr (q, at)
     by false same q at = inr (q, at)
 
@@ -167,7 +158,7 @@ later (Some y) rest x h = (suc h.0, h.1)
 
 taken : (d k : ℕ) (rest : List InstanceId) (o : Option ℕ) → o ≡ Some d → IsLater (cons_option (if_domain d o (record { 0 = k })) rest) (record { 0 = k })
 taken d k rest None is = absurd (let f : ⊥ = cc in f)
-taken d k rest (Some e) is = let same : e ≡ d = cc in let yes : (e == d) ≡ true = ap (λ (j : ℕ). j == d) same ∙ number_same d in rw yes (0, refl)
+taken d k rest (Some e) is = let same : e ≡ d = cc in let yes : (e == d) ≡ true = ap (λ (j : ℕ). j == d) same ∙ same_number d in rw yes (0, refl)
 
 has_cell : (v : List (Option Judged)) (d k m i : ℕ) → k ≤ i → i < k + m → domain_of v (record { 0 = i }) ≡ Some d → IsLater (filter_map (cell_in v d) (range_with_len k m)) (record { 0 = i })
 has_cell v d k zero i low high is = absurd (let f : ⊥ = omega arith in f)
@@ -210,7 +201,7 @@ has_domain v d e (suc m) x low high has = elim (cases_eq d e) [
 
 -- ---- a scanned flip-flop has a domain of the configuration
 
-scanned_in : (t : Bool) (domain : Option ℕ) (held scans kept : Bool) (d : ℕ) → cond t (judged_by domain held scans kept) None ≡ Some (Scanned d) → domain ≡ Some d
+pub scanned_in : (t : Bool) (domain : Option ℕ) (held scans kept : Bool) (d : ℕ) → cond t (judged_by domain held scans kept) None ≡ Some (Scanned d) → domain ≡ Some d
 scanned_in false domain held scans kept d h = absurd (let f : ⊥ = cc in f)
 scanned_in true None held scans kept d h = absurd (let f : ⊥ = cc in f)
 scanned_in true (Some e) false scans kept d h = absurd (let f : ⊥ = cc in f)
@@ -218,16 +209,16 @@ scanned_in true (Some e) true false kept d h = absurd (let f : ⊥ = cc in f)
 scanned_in true (Some e) true true true d h = absurd (let f : ⊥ = cc in f)
 scanned_in true (Some e) true true false d h = cc
 
-within_names : (t : Bool) (p count d : ℕ) → nat_lt p count ≡ t → cond t (Some p) None ≡ Some d → d < count
+pub within_names : (t : Bool) (p count d : ℕ) → nat_lt p count ≡ t → cond t (Some p) None ≡ Some d → d < count
 within_names true p count d is h = let e : p ≡ d = cc in grind (arith, nat_tests)
 within_names false p count d is h = absurd (let f : ⊥ = cc in f)
 
-root_within_names : (n : Netlist) (names : List Text) (root : Root) (d : ℕ) → place_of_root n names root ≡ Some d → d < length names
+pub root_within_names : (n : Netlist) (names : List Text) (root : Root) (d : ℕ) → place_of_root n names root ≡ Some d → d < length names
 root_within_names n names (Port net) d h = within_names (nat_lt (position_or_len (λ name. is_net net (input_net n name)) names) (length names)) (position_or_len (λ name. is_net net (input_net n name)) names) (length names) d refl h
 root_within_names n names (Constant bit) d h = absurd (let f : ⊥ = cc in f)
 root_within_names n names Other d h = absurd (let f : ⊥ = cc in f)
 
-source_within_names : (n : Netlist) (names : List Text) (o : Option Source) (d : ℕ) → option_and_then (place_of_source n names) o ≡ Some d → d < length names
+pub source_within_names : (n : Netlist) (names : List Text) (o : Option Source) (d : ℕ) → option_and_then (place_of_source n names) o ≡ Some d → d < length names
 source_within_names n names None d h = absurd (let f : ⊥ = cc in f)
 source_within_names n names (Some source) d h = root_within_names n names (root_of n source) d h
 

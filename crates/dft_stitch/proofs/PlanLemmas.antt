@@ -2,6 +2,7 @@
 use Rattle.std.proofs.Common.{◌≡◌, ◌≤◌, ◌*◌, ℕ, Bool, true, false, cond, List, length, Option, None, Some, pos, refl, ◌∙◌, ap, subst, arith}
 use Rattle.std.specs.Prelude.{nat_lt}
 use Rattle.std.proofs.lemmas.Bool.Decides.{nat_tests}
+use Rattle.std.proofs.lemmas.Bool.{le-ltb}
 use Rattle.dft_netlist.specs.declared.ids.InstanceId.{InstanceId}
 use Rattle.dft_netlist.specs.Netlist.{Netlist}
 use Rattle.dft_config.specs.declared.config.Config.{Config}
@@ -18,9 +19,6 @@ use Rattle.dft_stitch.specs.Plans.{Plan}
 
 -- ---- limits
 
-under : (limit n : ℕ) → n ≤ limit → nat_lt limit n ≡ false
-under limit n le = grind (arith, nat_tests)
-
 none_of : (a b c : Bool) (x y z : Option StitchError) → a ≡ false → b ≡ false → c ≡ false → cond a x (cond b y (cond c z None)) ≡ None
 none_of a b c x y z p q r = rw (p, q, r) refl
 
@@ -29,7 +27,7 @@ pub fits : (config : Config) (cells : ℕ) → cells ≤ MAX_CELLS → cycles_of
 fits config cells few short small =
     none_of (nat_lt MAX_CELLS cells) (nat_lt MAX_CYCLES (cycles_of config cells)) (nat_lt MAX_VARIABLES (cycles_of config cells * config.ring.channels))
     (Some (TooMany Cells (pos MAX_CELLS))) (Some (TooMany Cycles (pos MAX_CYCLES))) (Some (TooMany Variables (pos MAX_VARIABLES)))
-    (under MAX_CELLS cells few) (under MAX_CYCLES (cycles_of config cells) short) (under MAX_VARIABLES (cycles_of config cells * config.ring.channels) small)
+    (le-ltb MAX_CELLS cells few) (le-ltb MAX_CYCLES (cycles_of config cells) short) (le-ltb MAX_VARIABLES (cycles_of config cells * config.ring.channels) small)
 
 within : (t : Bool) (cells : ℕ) (x more : Option StitchError) (error : StitchError) → nat_lt MAX_CELLS cells ≡ t → x ≡ Some error → cond t x more ≡ None → cells ≤ MAX_CELLS
 within true cells x more error is some none = absurd (let f : ⊥ = cc in f)

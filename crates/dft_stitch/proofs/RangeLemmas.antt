@@ -2,13 +2,9 @@
 use Rattle.std.proofs.Common.{◌≡◌, ℕ, suc, ◌+◌, ◌-◌, ◌<◌, ◌≤◌, List, [], ◌++◌, flat_map, Option, None, Some, refl, sym, ◌∙◌, ap, arith, append_assoc}
 use Rattle.std.proofs.lemmas.List.{append-nil}
 use Rattle.std.specs.List.{filter_map, cons_option, range_with_len}
+use Rattle.dft_base.proofs.NumberLemmas.{one_left}
+use Rattle.dft_base.proofs.ListLemmas.{range_over}
 use Rattle.dft_stitch.specs.Chains.{listed}
-
-one_left : (k total : ℕ) → k < total → total - k ≡ suc (total - (k + 1))
-one_left k total less = omega arith
-
-pub range_over : (k total : ℕ) → total ≤ k → range_with_len k (total - k) ≡ []
-range_over k total past = let none : total - k ≡ 0 = omega arith in ap (range_with_len k) none
 
 cons_listed : {T : Type 0} (o : Option T) (xs : List T) → cons_option o xs ≡ listed o ++ xs
 cons_listed None xs = refl

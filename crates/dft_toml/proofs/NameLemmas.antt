@@ -4,15 +4,10 @@ use Rattle.std.proofs.lemmas.Bool.{and_parts}
 use Rattle.std.proofs.lemmas.Bool.Decides.{nat_tests}
 use Rattle.std.proofs.lemmas.List.{length-map, length-take-le}
 use Rattle.dft_base.specs.Name.{IsName}
+use Rattle.dft_base.proofs.TextLemmas.{IsPrinted, printed as printed_range}
 use Rattle.dft_toml.specs.Values.{is_printed, all_printed, is_name, shown}
 
-abbrev InRange : ℕ → Type 0
-InRange byte = (33 ≤ byte) × (byte ≤ 126)
-
-printed_range : (byte : ℕ) → is_printed byte ≡ true → InRange byte
-printed_range byte e = (grind (arith, nat_tests), grind (arith, nat_tests))
-
-each_printed : (bytes : List ℕ) → all_printed bytes ≡ true → (k d : ℕ) → k < length bytes → InRange (get_or bytes k d)
+each_printed : (bytes : List ℕ) → all_printed bytes ≡ true → (k d : ℕ) → k < length bytes → IsPrinted (get_or bytes k d)
 each_printed [] e k d less = absurd (omega arith)
 each_printed (byte ∷ bytes) e zero d less = printed_range byte (and_parts (is_printed byte) (all_printed bytes) e).0
 each_printed (byte ∷ bytes) e (suc k) d less = each_printed bytes (and_parts (is_printed byte) (all_printed bytes) e).1 k d (omega arith)
@@ -25,11 +20,11 @@ name_tested bytes e =
     let (some, all) = and_parts (nat_lt 0 (length bytes)) (all_printed bytes) e in
     record { some = some_byte (length bytes) some; each = each_printed bytes all }
 
-shown_or : (printed : Bool) (byte : ℕ) → is_printed byte ≡ printed → InRange (cond printed byte 63)
+shown_or : (printed : Bool) (byte : ℕ) → is_printed byte ≡ printed → IsPrinted (cond printed byte 63)
 shown_or true byte e = printed_range byte e
 shown_or false byte e = (omega arith, omega arith)
 
-each_shown : (bytes : List ℕ) (k d : ℕ) → k < length bytes → InRange (get_or (map shown bytes) k d)
+each_shown : (bytes : List ℕ) (k d : ℕ) → k < length bytes → IsPrinted (get_or (map shown bytes) k d)
 each_shown [] k d less = absurd (omega arith)
 each_shown (byte ∷ bytes) zero d less = shown_or (is_printed byte) byte refl
 each_shown (byte ∷ bytes) (suc k) d less = each_shown bytes k d (omega arith)

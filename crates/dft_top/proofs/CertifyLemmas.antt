@@ -48,7 +48,7 @@ fault_is fault (certify.K4 place name) refusal is told = is
 fault_is fault (certify.K5 name) refusal is told = is
 fault_is fault (certify.Memory error) refusal is told = absurd cc
 
-refusal_is : (r : Option Refusal) (refusal : Refusal) → r ≡ Some refusal → IsRefusal r (Refused refusal)
+pub refusal_is : (r : Option Refusal) (refusal : Refusal) → r ≡ Some refusal → IsRefusal r (Refused refusal)
 refusal_is r refusal is = subst (λ (o : Option Refusal). IsRefusal o (Refused refusal)) (sym is) refl
 
 pub uncertified_is : (n : Netlist) (config : Config) (cubes : List Cube) (report : Report) (plan : Plan) (rows : LoadRows) (error : CertifyError) (refusal : Refusal) → plan ≡ plan_of n config →
@@ -61,7 +61,7 @@ uncertified_is n config cubes report plan rows error refusal planned are fault t
 
 -- ---- one outcome
 
-refusal_one : (r : Option Refusal) (a b : Outcome) → IsRefusal r a → IsRefusal r b → a ≡ b
+pub refusal_one : (r : Option Refusal) (a b : Outcome) → IsRefusal r a → IsRefusal r b → a ≡ b
 refusal_one None a b x y = absurd x
 refusal_one (Some refusal) a b x y = x ∙ sym y
 

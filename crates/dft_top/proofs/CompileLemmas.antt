@@ -29,6 +29,7 @@ use Rattle.dft_answers.specs.Refusals.{compile_refusal}
 use Rattle.dft_top.specs.Outcomes.{IsCompiled, IsOutcomeOfCubes, IsOutcomeOfPlacing, refusal_of}
 use Rattle.dft_top.specs.Outcomes as outcomes
 use Rattle.dft_top.proofs.CompiledOnce.{SamePlacing, patterns_one, placing_one}
+use Rattle.dft_top.proofs.CertifyLemmas.{refusal_is, refusal_one}
 
 -- ---- what is refused
 
@@ -40,9 +41,6 @@ first_told refused (compile.Insert error) refusal is told = is
 first_told refused (compile.Patterns error) refusal is told = is
 first_told refused (compile.Report error) refusal is told = is
 first_told refused (compile.Memory error) refusal is told = absurd cc
-
-refusal_is : (r : Option Refusal) (refusal : Refusal) → r ≡ Some refusal → outcomes.IsRefusal r (Refused refusal)
-refusal_is r refusal is = subst (λ (o : Option Refusal). outcomes.IsRefusal o (Refused refusal)) (sym is) refl
 
 late_is : (n : Netlist) (config : Config) (cubes : List Cube) (error : CompileError) (refusal : Refusal) → IsRefusedLate n config cubes error → compile_refusal error ≡ Some refusal →
     IsOutcomeOfCubes n config cubes (Refused refusal)
@@ -110,10 +108,6 @@ told_of n config cubes p q same told =
     subst (λ (placed : List Placed). IsRead n config cubes p.rows placed) (sym same.placed) (subst (λ (rows : LoadRows). IsRead n config cubes rows q.placed) (sym same.rows) told)
 
 -- ---- one outcome
-
-refusal_one : (r : Option Refusal) (a b : Outcome) → outcomes.IsRefusal r a → outcomes.IsRefusal r b → a ≡ b
-refusal_one None a b x y = absurd x
-refusal_one (Some refusal) a b x y = x ∙ sym y
 
 placed_one : (n : Netlist) (rank : ℕ → ℕ) (config : Config) (cubes : List Cube) (p q : Placing config (plan_of n config) cubes) (a b : Outcome) (refused : Option CompileError) → IsOrdered n rank →
     SamePlacing config (plan_of n config) cubes p q → IsOutcomeOfPlacing n config cubes p refused a → IsOutcomeOfPlacing n config cubes q refused b → a ≡ b

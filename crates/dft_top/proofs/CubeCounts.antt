@@ -19,6 +19,7 @@ use Rattle.dft_cubes.specs.declared.error.CubeError.{CubeError}
 use Rattle.dft_cubes.specs.declared.error.CubeError.TheVariants.{Q4, Q5, Q9}
 use Rattle.dft_cubes.specs.declared.limits.TheConstants.{MAX_CUBES}
 use Rattle.dft_cubes.specs.Cubes.{Line, Begin, SetCell, SetPort, End, Reading, cubes_from, cubes_of, domain_named, ended, line_of, line_refusal, names_of, or_refused, place_of_line, said_refusal, with_cell, with_line, with_port, with_said}
+use Rattle.dft_cubes.proofs.SoundLemmas.{printed_passes, ok_is, both_pass}
 use Rattle.dft_top.specs.declared.limits.TheConstants.{MAX_CUBE_BYTES}
 use Rattle.dft_top.specs.Checks.{AreFew}
 
@@ -115,14 +116,10 @@ said_few m left n config cubes (Some cube) place (Some End) passed holds =
       room = omega (arith, holds.room);
     }
 
-printed : (test : Bool) (fault : Option CubeError) (error : CubeError) → (if test then fault else Some error) ≡ None → fault ≡ None
-printed true fault error e = e
-printed false fault error e = absurd (let f : ⊥ = cc in f)
-
 line_few : (m left : ℕ) (n : Netlist) (config : Config) (r : Reading) (place : Place) (words : List Text) → line_refusal n config r place words ≡ None →
     Holds m (suc left) r.cubes r.pending → Holds m left (with_line n config r words).cubes (with_line n config r words).pending
 line_few m left n config r place [] passed holds = waits m left r.cubes r.pending holds
-line_few m left n config r place (word ∷ words) passed holds = said_few m left n config r.cubes r.pending place (line_of (word ∷ words)) (printed (are_printed (word ∷ words)) _ _ passed) holds
+line_few m left n config r place (word ∷ words) passed holds = said_few m left n config r.cubes r.pending place (line_of (word ∷ words)) (printed_passes (are_printed (word ∷ words)) _ _ passed) holds
 
 -- ---- the text
 
@@ -130,16 +127,9 @@ record AreBelow (m : ℕ) (given : List Cube) : Type 0 where
   count : length given ≤ MAX_CUBES
   cells : AllByRecursion (Few m) given
 
-ok_same : (a b : List Cube) → ◌≡◌ {A = Result (List Cube) CubeError} (Ok a) (Ok b) → a ≡ b
-ok_same a b e = cc
-
 ended_few : (m number : ℕ) (cubes : List Cube) (pending : Option Cube) (given : List Cube) → ended number cubes pending ≡ Ok given → Holds m 0 cubes pending → AreBelow m given
-ended_few m number cubes None given e holds = subst (AreBelow m) (ok_same cubes given e) (record { count = omega (arith, holds.count); cells = holds.given })
+ended_few m number cubes None given e holds = subst (AreBelow m) (ok_is cubes given e) (record { count = omega (arith, holds.count); cells = holds.given })
 ended_few m number cubes (Some cube) given e holds = absurd (let f : ⊥ = cc in f)
-
-both_pass : (fault : Option CubeError) (later : Result (List Cube) CubeError) (given : List Cube) → or_refused fault later ≡ Ok given → (fault ≡ None) × (later ≡ Ok given)
-both_pass None later given e = (refl, e)
-both_pass (Some error) later given e = absurd (let f : ⊥ = cc in f)
 
 all_few : (m : ℕ) (n : Netlist) (config : Config) (r : Reading) (number : ℕ) (lines : List Text) (given : List Cube) → cubes_from n config r number lines ≡ Ok given → Holds m (length lines) r.cubes r.pending → AreBelow m given
 unfolding cubes_from

@@ -1,6 +1,7 @@
 -- A netlist is finished or refused, and for one reason.
 use Rattle.std.proofs.Common.{ℕ, zero, suc, ◌<◌, ◌≤◌, ◌≡◌, ◌⊎◌, inl, inr, List, [], ◌∷◌, ◌++◌, length, Some, sym, ap, ◌∙◌, subst, arith, slice_get, ⊎_elim}
 use Rattle.std.specs.List.{AllByRecursion}
+use Rattle.std.proofs.lemmas.Bool.{cases_lt}
 use Rattle.dft_netlist.specs.declared.error.NetlistError.{NetlistError}
 use Rattle.dft_netlist.specs.declared.error.NetlistError.TheVariants.{MultipleDrivers, Loop, DuplicateName, TooMany, Memory}
 use Rattle.dft_netlist.specs.Netlist.{Netlist}
@@ -10,15 +11,9 @@ use Rattle.dft_netlist.specs.Finishing.{IsFinished, CannotFinish}
 
 -- ---- the first of its kind is one
 
-order : (x y : ℕ) → (x < y) ⊎ (y ≤ x)
-order zero zero = inr (omega arith)
-order zero (suc y) = inl (omega arith)
-order (suc x) zero = inr (omega arith)
-order (suc x) (suc y) = ⊎_elim (λ lt. inl (omega (arith, lt))) (λ le. inr (omega (arith, le))) (order x y)
-
 -- two numbers are one where neither is below the other
 neither_below : (a b : ℕ) → (a < b → ⊥) → (b < a → ⊥) → a ≡ b
-neither_below a b p q = ⊎_elim (λ lt. absurd (p lt)) (λ le. ⊎_elim (λ lt. absurd (q lt)) (λ le'. omega (arith, le, le')) (order b a)) (order a b)
+neither_below a b p q = ⊎_elim (λ lt. absurd (p lt)) (λ le. ⊎_elim (λ lt. absurd (q lt)) (λ le'. omega (arith, le, le')) (cases_lt b a)) (cases_lt a b)
 
 first_multiple_one : (n : Netlist) (a b : ℕ) → IsFirstMultiple n a → IsFirstMultiple n b → a ≡ b
 first_multiple_one n a b x y = neither_below a b (λ lt. omega (arith, x.twice, y.first a lt)) (λ lt. omega (arith, y.twice, x.first b lt))
@@ -82,7 +77,7 @@ no_longer n a u (b ∷ []) x again y once long =
 no_longer n a u (b ∷ d ∷ w) x again y once long = ⊎_elim
     (λ shorter. no_longer n a u (d ∷ w) x again (walked n (b ∷ d ∷ w) y).0 once.1 (omega (arith, shorter)))
     (λ not_shorter. let same : a ∷ u ≡ b ∷ d ∷ w = walks_one n (a ∷ u) (b ∷ d ∷ w) x y (omega (arith, long, not_shorter)) in (subst AreOnce (sym same) once).0 again)
-    (order (length (a ∷ u)) (length (b ∷ d ∷ w)))
+    (cases_lt (length (a ∷ u)) (length (b ∷ d ∷ w)))
 
 loop_net_one : (n : Netlist) (a b : ℕ) → IsLoopNet n a → IsLoopNet n b → a ≡ b
 loop_net_one n a b x y = ⊎_elim
@@ -91,8 +86,8 @@ loop_net_one n a b x y = ⊎_elim
     (λ lt. absurd (no_longer n b (y.last ∷ y.walk) (x.last ∷ x.walk) (Goes y.walked y.next) y.again x.walked x.once (omega (arith, lt))))
     (λ le'. let same : x.last ∷ x.walk ≡ y.last ∷ y.walk = walks_one n (x.last ∷ x.walk) (y.last ∷ y.walk) x.walked y.walked (omega (arith, le, le')) in
     next_one n y.last a b (subst (λ (net : ℕ). IsNextStuck n net a) (head_same x.last y.last x.walk y.walk same) x.next) y.next)
-    (order (length (y.last ∷ y.walk)) (length (x.last ∷ x.walk))))
-    (order (length (x.last ∷ x.walk)) (length (y.last ∷ y.walk)))
+    (cases_lt (length (y.last ∷ y.walk)) (length (x.last ∷ x.walk))))
+    (cases_lt (length (x.last ∷ x.walk)) (length (y.last ∷ y.walk)))
 
 -- ---- refusals
 

@@ -24,7 +24,7 @@ use Rattle.dft_top.specs.Outcomes.{IsOutcomeFor, IsOutcomeOfJob, IsOutcomeOfScan
 use Rattle.dft_top.specs.Laws.{OutcomeIsOne}
 use Rattle.dft_top.proofs.CompileLemmas.{cubes_one}
 use Rattle.dft_top.proofs.Readings.{config_text_one, cube_text_one, design_gives_one, file_one, library_gives_one, netlist_text_one, pattern_text_one, plan_gives_one, report_text_one, text_of}
-use Rattle.dft_top.proofs.CertifyLemmas.{report_one}
+use Rattle.dft_top.proofs.CertifyLemmas.{report_one, refusal_one}
 use Rattle.dft_top.proofs.Determined.{IsDetermined, reaches_one}
 
 -- ---- a replay
@@ -60,10 +60,6 @@ replay_determined files held = (
 )
 
 -- ---- a scan
-
-refusal_one : (r : Option Refusal) (a b : Outcome) → IsRefusal r a → IsRefusal r b → a ≡ b
-refusal_one None a b x y = absurd x
-refusal_one (Some refusal) a b x y = x ∙ sym y
 
 scan_of_one : (n : Netlist) (c : Config) (refused : Option ScanError) (a b : Outcome) → IsOutcomeOfScanOf n c refused a → IsOutcomeOfScanOf n c refused b → a ≡ b
 scan_of_one n c (Some error) a b x y = refusal_one (scan_refusal error) a b x y

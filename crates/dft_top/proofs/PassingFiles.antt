@@ -32,7 +32,7 @@ use Rattle.dft_top.specs.Outcomes.{IsCompiled, IsOutcomeFor, IsOutcomeOfReport, 
 use Rattle.dft_top.specs.Laws.{PassingIsCertified, PassingIsCompiled, PassingIsReplayed, PassingIsScanned}
 use Rattle.dft_top.proofs.CompileLemmas.{compiled_due}
 use Rattle.dft_top.proofs.CertifyLemmas.{report_over}
-use Rattle.dft_top.proofs.Readings.{config_text_one, cube_text_one, file_one, given_next, library_gives_one, netlist_text_one, pattern_text_one, report_text_one}
+use Rattle.dft_top.proofs.Readings.{config_text_one, cube_text_one, file_one, given_next, library_gives_one, netlist_text_one, pattern_text_one, report_text_one, accepted_or_refused}
 use Rattle.dft_top.proofs.Steps.{CertifyFor, CertifyOf, CertifyOn, CertifyOver, CertifyWith, CompileOf, CompileOn, CompileOver, CompileWith, ReplayOn, ReplayOver, ScanOn, ScanOver}
 
 pub replay_due : (files : ReplayFiles) (held : Held) (cells : List Cell) (n : Netlist) (p : Patterns) (o : Outcome) → LibraryGives files.library held (Ok cells) → NetlistGives cells files.netlist held (Ok n) →
@@ -50,13 +50,10 @@ scan_due files held cells c n o library config netlist none is =
     let scan = given_next (NetlistGives cells files.netlist held) (λ n. IsOutcomeOfScanOf n c (refusal n c)) o n (file_one MAX_NETLIST_BYTES (codes "netlist") (NetlistText cells) (netlist_text_one cells) (file_at files.netlist held)) netlist on in
     (subst (λ (refused : Option ScanError). IsOutcomeOfScanOf n c refused o) none scan).is
 
-no_error : (refused : Option CompileError) (error : CompileError) → refused ≡ None → refused ≡ Some error → ⊥
-no_error refused error none some = let e : None ≡ Some error = sym none ∙ some in cc
-
 -- where no check of the design fails, what comes behind gives the outcome
 design_next : (n : Netlist) (c : Config) (next : Prepared → Outcome → Type 0) (o : Outcome) → first_refusal n c ≡ None → Then (DesignGives n c) next o → (prepared : Prepared) × next prepared o
 design_next n c next o none (inl x) = (x.0, x.1.1)
-design_next n c next o none (inr x) = absurd (no_error (first_refusal n c) x.1.0.0 none x.1.0.1.0)
+design_next n c next o none (inr x) = absurd (accepted_or_refused (first_refusal n c) x.1.0.0 none x.1.0.1.0)
 
 compile_due : (files : CompileFiles) (held : Held) (cells : List Cell) (c : Config) (n : Netlist) (cubes : List Cube) (placing : Placing c (plan_of n c) cubes) (o : Outcome) → LibraryGives files.library held (Ok cells) →
     ConfigGives files.config held (Ok c) → NetlistGives cells files.netlist held (Ok n) → first_refusal n c ≡ None → CubesGive n c files.cubes held (Ok cubes) → refusal_of n c cubes placing ≡ None →
@@ -71,7 +68,7 @@ compile_due files held cells c n cubes placing o library config netlist first gi
 
 plan_next : (n : Netlist) (c : Config) (next : Plan → Outcome → Type 0) (o : Outcome) → plan_refusal n c ≡ None → Then (PlanGives n c) next o → (plan : Plan) × next plan o
 plan_next n c next o none (inl x) = (x.0, x.1.1)
-plan_next n c next o none (inr x) = absurd (no_error (plan_refusal n c) x.1.0.0 none x.1.0.1.0)
+plan_next n c next o none (inr x) = absurd (accepted_or_refused (plan_refusal n c) x.1.0.0 none x.1.0.1.0)
 
 pub certify_due : (files : CertifyFiles) (held : Held) (cells : List Cell) (c : Config) (n : Netlist) (cubes : List Cube) (report : Report) (rows : LoadRows) (o : Outcome) → LibraryGives files.library held (Ok cells) →
     ConfigGives files.config held (Ok c) → NetlistGives cells files.netlist held (Ok n) → plan_refusal n c ≡ None → CubesGive n c files.cubes held (Ok cubes) → ReportGives files.report held (Ok report) →

@@ -1,5 +1,6 @@
 -- What Done says of the files of a command.
 use Rattle.std.proofs.Common.{ℕ, ◌≡◌, ◌∙◌, inl, inr, List, [], ◌∷◌, codes, refl, sym, ap, subst, Option, None, Some, Result, Ok}
+use Rattle.dft_base.proofs.TextLemmas.{differ}
 use Rattle.dft_files.specs.Outside.{Held, Told, ToldChange, file_at}
 use Rattle.dft_cells.specs.declared.cell.Cell.{Cell}
 use Rattle.dft_config.specs.declared.config.Config.{Config}
@@ -65,7 +66,6 @@ use Rattle.dft_top.specs.Saves.{AreSaved, HaveSaved, Saving, compile_savings, sa
 use Rattle.dft_top.proofs.Lengths.{late_short}
 use Rattle.dft_top.proofs.Readings.{text_of}
 use Rattle.dft_top.proofs.Steps.{CertifyFor, CertifyOf, CertifyOn, CertifyOver, CertifyWith, CompileOf, CompileOn, CompileOver, CompileWith, ReplayOn, ReplayOver, ScanOn, ScanOver}
-use Rattle.dft_top.proofs.SavesInTurn.{differ}
 
 not_done : (refusal : Refusal) (o : Outcome) → o ≡ outcome.Refused refusal → status_of o ≡ Done → ⊥
 not_done refusal o is done = let e = ap status_of is in cc
@@ -228,7 +228,7 @@ made hold files old o done h =
       late = placed.0;
       is = is;
       reads = subst (λ (cells : List Cell). StandsFor cells (compiled.netlist_text n c) (scanned Edt n c)) (library_kept x.0 design.0 n design.1.stands) is.reads;
-      holds = hold n c p.1.0.order cubes placing is.list p.1.0.ready p.1.0.sound p.1.0.ordered p.1.0.named (are_cubes n c files.cubes old cubes u.1.0) is.are;
+      holds = hold n c p.1.0.order cubes placing is.list p.1.0.ready p.1.0.sound p.1.0.ordered (are_cubes n c files.cubes old cubes u.1.0) is.are;
     }
 
 compiles : CompilationsHold → (files : CompileFiles) (old new : Held) (o : Outcome) → status_of o ≡ Done → Reaches (course_of_compile files) old o → HaveSaved (compile_savings files o) (Some old) (Some new) → Compiles files old new

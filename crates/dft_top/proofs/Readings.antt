@@ -281,7 +281,7 @@ prepared_one n c p q x y =
     let scanned : p.scanned ≡ q.scanned = x.scanned ∙ sym y.scanned in
     λ i. record { verdicts = verdicts i; chains = chains i; scanned = scanned i }
 
-accepted_or_refused : (refused : Option CompileError) (error : CompileError) → refused ≡ None → refused ≡ Some error → ⊥
+pub accepted_or_refused : (refused : Option CompileError) (error : CompileError) → refused ≡ None → refused ≡ Some error → ⊥
 accepted_or_refused refused error x y = let e : None ≡ Some error = sym x ∙ y in cc
 
 compile_error_one : (refused : Option CompileError) (a b : CompileError) → refused ≡ Some a → refused ≡ Some b → a ≡ b

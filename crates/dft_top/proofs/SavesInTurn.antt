@@ -4,6 +4,7 @@ use Rattle.std.specs.Prelude.{slice_index_or}
 use Rattle.std.specs.List.{AllByRecursion}
 use Rattle.std.proofs.lemmas.List.{append-nil, drop_more}
 use Rattle.std.proofs.lemmas.Slice.Eq.{bytes_eq-Decides}
+use Rattle.dft_base.proofs.TextLemmas.{differ}
 use Rattle.dft_files.specs.Outside.{Held, LeavesPart, Rose, Told, ToldChange, file_at}
 use Rattle.dft_files.specs.Outside as base
 use Rattle.dft_top.specs.Saves.{Saving, AreApart, AreSavedBut, HaveSaved, HaveSavedSome, SaveFailed, Stand}
@@ -27,10 +28,6 @@ all_at P (x ∷ xs) ys y all = all_at P xs ys y all.1
 no_of : (t : Bool) (P : Type 0) → Decides t P → (P → ⊥) → t ≡ false
 no_of true P decides not = absurd (not (decides.0 refl))
 no_of false P decides not = refl
-
--- names that differ, by the test of their bytes
-pub differ : (a b : List ℕ) → (a ≡ b → ⊥) → bytes_eq a b ≡ false
-differ a b not = no_of (bytes_eq a b) (a ≡ b) (bytes_eq-Decides a b) not
 
 -- a name differs from each of these
 abbrev DiffersFrom : List Saving → List ℕ → Type 0

@@ -29,7 +29,6 @@ use Rattle.dft_cubes.specs.Cubes as cubes
 use Rattle.dft_scan_frame.specs.Statements.{IsReady}
 use Rattle.dft_scan_hardware.specs.declared.style.Style.TheVariants.{Edt}
 use Rattle.dft_scan_hardware.specs.Statements.{scanned}
-use Rattle.dft_compile_laws.specs.Formed.{ArePortsNamed}
 use Rattle.dft_rules.specs.Refusals as rules
 use Rattle.dft_stitch.specs.Chains.{plan_of}
 use Rattle.dft_stitch.specs.Limits as stitch
@@ -122,11 +121,10 @@ PatternsGive name held r = FileGives MAX_PATTERN_BYTES (codes "patterns") Patter
 
 -- ---- a design, before its cubes are read
 
--- the design as it is prepared, which no check refuses, and whose ports have names; the nets of its scanned netlist have an order
+-- the design as it is prepared, which no check refuses; the nets of its scanned netlist have an order
 pub record IsReadied (n : Netlist) (config : Config) (p : Prepared) : Type 0 where
   pub is : IsPrepared n config p
   pub ready : IsReady n config
-  pub named : ArePortsNamed n
   pub accepted : first_refusal n config ≡ None
   pub sound : IsNetlist (scanned Edt n config)
   pub order : List ℕ

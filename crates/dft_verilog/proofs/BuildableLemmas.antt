@@ -1,7 +1,7 @@
 -- A draft whose printed names differ and that keeps the limits is built.
 use Rattle.std.proofs.Common.{◌≡◌, ℕ, ◌+◌, ◌≤◌, pos, map, get_or, Bool, true, false, ◌||◌, cond, leb, List, [], ◌∷◌, ◌++◌, length, Option, Some, None, Ok, refl, sym, ap, ◌∙◌, subst, arith, length-append}
 use Rattle.std.specs.List.{cons_option, filter_map}
-use Rattle.std.proofs.lemmas.Bool.{le-leb}
+use Rattle.std.proofs.lemmas.Bool.{le-leb, or_parts, or_from}
 use Rattle.std.proofs.lemmas.List.{append_assoc, append-nil, length_push, length-map}
 use Rattle.std.proofs.lemmas.List.Elements.{filter_map-append}
 use Rattle.std.specs.Str.{bytes_eq}
@@ -20,37 +20,24 @@ use Rattle.dft_netlist.specs.Netlist.{Netlist}
 use Rattle.dft_netlist.specs.Names.{bit_names, port_names, is_taken, first_taken, vector_name, instance_name}
 use Rattle.dft_netlist.specs.NetNumbers.{nets_from}
 use Rattle.dft_netlist.specs.Building.{taken_or, port_limit, port_of, own_names, empty_netlist, port_refusal, net_refusal, instance_refusal}
+use Rattle.dft_netlist.proofs.SoundLemmas.{with_net}
+use Rattle.dft_netlist.proofs.BitLemmas.{up_length}
+use Rattle.dft_netlist.proofs.NamesLemmas.{has-append}
 use Rattle.dft_netlist_text.specs.Modules.{HeaderPort, net_count}
 use Rattle.dft_netlist_text.specs.NetlistText.{Grown, final_signal, unless_refused, and_grown, add_declared, add_ports, add_net, add_nets, add_instance, add_instances, add_joins, built, nets_of_port, nets_of_ports, net_order, other_nets, names_of_others}
 use Rattle.dft_verilog_draft.specs.Free.{IsApart, AreApart}
 use Rattle.dft_verilog.specs.Buildable.{names_of_port, names_of_header, names_of_instances, printed_names, BuildableAreBuilt}
-use Rattle.dft_verilog_draft.proofs.DeclareLemmas.{length-bit_names, length-going_up}
+use Rattle.dft_verilog_draft.proofs.DeclareLemmas.{length-bit_names}
 use Rattle.dft_verilog.proofs.GrowLemmas.{add_port-Ok, add_ports-Ok, add_declared-Ok}
 
 -- ---- names that are new
 
-or_false : (a b : Bool) → a ≡ false → b ≡ false → (a || b) ≡ false
-or_false true b p q = absurd (cc)
-or_false false b p q = q
-
-or_parts : (a b : Bool) → (a || b) ≡ false → (a ≡ false) × (b ≡ false)
-or_parts true b p = absurd (cc)
-or_parts false b p = (refl, p)
-
-or_assoc : (a b c : Bool) → ((a || b) || c) ≡ (a || (b || c))
-or_assoc true b c = refl
-or_assoc false b c = refl
-
-has_name-append : (xs ys : List Text) (word : Text) → has_name (xs ++ ys) word ≡ (has_name xs word || has_name ys word)
-has_name-append [] ys word = refl
-has_name-append (x ∷ xs) ys word = ap (λ b. bytes_eq x word || b) (has_name-append xs ys word) ∙ sym (or_assoc (bytes_eq x word) (has_name xs word) (has_name ys word))
-
 -- none of two lists has the name, and so the two together
 neither : (xs ys : List Text) (word : Text) → has_name xs word ≡ false → has_name ys word ≡ false → has_name (xs ++ ys) word ≡ false
-neither xs ys word p q = has_name-append xs ys word ∙ or_false (has_name xs word) (has_name ys word) p q
+neither xs ys word p q = has-append xs ys word ∙ or_from (has_name xs word) (has_name ys word) p q
 
 apart_parts : (xs ys : List Text) (word : Text) → has_name (xs ++ ys) word ≡ false → (has_name xs word ≡ false) × (has_name ys word ≡ false)
-apart_parts xs ys word h = or_parts (has_name xs word) (has_name ys word) (sym (has_name-append xs ys word) ∙ h)
+apart_parts xs ys word h = or_parts (has_name xs word) (has_name ys word) (sym (has-append xs ys word) ∙ h)
 
 -- each of these is none of those before it
 abbrev AreNew : (before words : List Text) → Type 0
@@ -63,7 +50,7 @@ apart_at first (x ∷ xs) word more h = apart_at first xs word more h.1
 
 new_here : (before : List Text) (word : Text) (words : List Text) → AreApart (before ++ word ∷ words) → has_name before word ≡ false
 new_here [] word words h = refl
-new_here (b ∷ bs) word words h = or_false (bytes_eq b word) (has_name bs word) (apart_at b bs word words h.0) (new_here bs word words h.1)
+new_here (b ∷ bs) word words h = or_from (bytes_eq b word) (has_name bs word) (apart_at b bs word words h.0) (new_here bs word words h.1)
 
 AreNew-apart : (before words : List Text) → AreApart (before ++ words) → AreNew before words
 AreNew-apart before [] h = tt
@@ -138,9 +125,6 @@ room_by false false a b free h = absurd (cc)
 net_free : (n : Netlist) (word : Text) → is_taken n word ≡ false → length n.nets + 1 ≤ MAX_NETS → net_refusal n word ≡ None
 net_free n word free room = room_by (is_taken n word) (leb (length n.nets + 1) MAX_NETS) (error.DuplicateName word) (error.TooMany counted.Nets (pos MAX_NETS)) free (le-leb (length n.nets + 1) MAX_NETS room)
 
-abbrev with_net : Netlist → Text → Netlist
-with_net n word = record n { nets = n.nets ++ word ∷ [] }
-
 net_more : (n : Netlist) (word : Text) → TakesMore n (with_net n word) (word ∷ [])
 net_more n word = record {
   nets = word ∷ [];
@@ -204,7 +188,7 @@ port_more n m word dir (Some range) bits e = record {
   more_nets = ap (λ (x : Netlist). x.nets) e;
   more_vectors = ap vectors e ∙ filter_map-append vector_name n.ports (port_of word dir (Some range) bits ∷ []);
   more_owns = ap owns e ∙ sym (append-nil (owns n));
-  among = λ other h. let p = or_parts (bytes_eq word other) (has_name (bit_names word (Some range)) other) h in (p.1, or_false (bytes_eq word other) false p.0 refl, refl);
+  among = λ other h. let p = or_parts (bytes_eq word other) (has_name (bit_names word (Some range)) other) h in (p.1, or_from (bytes_eq word other) false p.0 refl, refl);
 }
 
 declared-built : (n : Netlist) (before : List Text) (word : Text) (declared : Option Declared) → Frees n before → AreNew before (names_of_port word declared) → length n.ports + 1 ≤ MAX_PORTS
@@ -212,7 +196,7 @@ declared-built : (n : Netlist) (before : List Text) (word : Text) (declared : Op
 declared-built n before word None free new ports nets = record { new = n; built = refl; frees = subst (Frees n) (sym (append-nil before)) free; instances = refl }
 declared-built n before word (Some d) free new ports nets =
     let range = d.shape.range in
-    let count : length (bit_names word range) ≡ length (nets_of_port (Some d)) = length-bit_names word range ∙ sym (length-going_up d.shape.first.0 (net_count range)) in
+    let count : length (bit_names word range) ≡ length (nets_of_port (Some d)) = length-bit_names word range ∙ sym (up_length d.shape.first.0 (net_count range)) in
     let bits = nets_from (length n.nets) (length (bit_names word range)) in
     let m : Netlist = record n { ports = n.ports ++ port_of word d.dir range bits ∷ []; nets = n.nets ++ bit_names word range } in
     record {

@@ -3,6 +3,7 @@ use Rattle.std.proofs.Common.{◌≡◌, ℕ, ◌+◌, ◌≤◌, Bool, true, fa
 use Rattle.std.specs.Str.{bytes_eq}
 use Rattle.std.proofs.lemmas.Slice.Eq.{bytes_eq-Decides}
 use Rattle.dft_base.specs.Lexing.{Text}
+use Rattle.dft_base.proofs.TextLemmas.{same_text, bytes_eq-self}
 use Rattle.dft_netlist_text.specs.Modules.{Draft, TakenName, first_taken, is_taken}
 use Rattle.dft_verilog_draft.specs.Free.{IsApart, AreApart}
 
@@ -24,12 +25,6 @@ count-append word (x ∷ xs) ys = omega (arith, count-append word xs ys)
 abbrev pub AreOnce : List Text → Type 0
 AreOnce words = (word : Text) → count word words ≤ 1
 
-eq_self : (x : Text) → bytes_eq x x ≡ true
-eq_self x = (bytes_eq-Decides x x).1 refl
-
-pub eq_same : (x y : Text) → bytes_eq x y ≡ true → x ≡ y
-eq_same x y e = (bytes_eq-Decides x y).0 e
-
 once_none : (b : Bool) → once b ≤ 0 → b ≡ false
 once_none true h = absurd (omega arith)
 once_none false h = refl
@@ -37,7 +32,7 @@ once_none false h = refl
 apart_of : (word : Text) (words : List Text) → ((other : Text) → once (bytes_eq word other) + count other words ≤ 1) → IsApart word words
 apart_of word [] h = tt
 apart_of word (x ∷ xs) h =
-    let here : once (bytes_eq x x) ≡ 1 = ap once (eq_self x) in
+    let here : once (bytes_eq x x) ≡ 1 = ap once (bytes_eq-self x) in
     (once_none (bytes_eq word x) (omega (arith, h x)), apart_of word xs (λ other. omega (arith, h other)))
 
 -- words that come once differ
@@ -50,7 +45,7 @@ flip_false : (x y : Text) → bytes_eq x y ≡ false → bytes_eq y x ≡ false
 flip_false x y e = by (bytes_eq y x) refl where
   by : (b : Bool) → bytes_eq y x ≡ b → bytes_eq y x ≡ false
   by false h = h
-  by true h = absurd (cc (e, (bytes_eq-Decides x y).1 (sym (eq_same y x h))))
+  by true h = absurd (cc (e, (bytes_eq-Decides x y).1 (sym (same_text y x h))))
 
 none_apart : (word : Text) (words : List Text) → IsApart word words → count word words ≡ 0
 none_apart word [] h = refl
@@ -100,5 +95,5 @@ pub free_once : (d : Draft) (words : List Text) → AreOnce (names_of d.names) �
 free_once d [] taken free apart word = omega (arith, taken word)
 free_once d (x ∷ xs) taken free apart word =
     once_by (bytes_eq x word) (count word (names_of d.names)) (count word xs) (λ e. free_once d xs taken free.1 apart.1 word)
-    (λ e. subst (λ w. count w (names_of d.names) ≡ 0) (eq_same x word e) (free_none d x free.0))
-    (λ e. subst (λ w. count w xs ≡ 0) (eq_same x word e) (none_apart x xs apart.0))
+    (λ e. subst (λ w. count w (names_of d.names) ≡ 0) (same_text x word e) (free_none d x free.0))
+    (λ e. subst (λ w. count w xs ≡ 0) (same_text x word e) (none_apart x xs apart.0))

@@ -8,11 +8,12 @@ use Rattle.std.proofs.lemmas.List.Quantifiers.{position-Some}
 use Rattle.dft_base.specs.Lexing.{Text}
 use Rattle.dft_base.specs.Ranges.{going_up}
 use Rattle.dft_netlist.specs.declared.ids.NetId.{NetId}
+use Rattle.dft_netlist.proofs.NumberLemmas.{net_of}
+use Rattle.dft_netlist.proofs.BitLemmas.{up_length}
 use Rattle.dft_netlist_text.specs.Modules.{Draft}
 use Rattle.dft_netlist_text.specs.NetlistText.{nets_of_ports, other_nets, net_order, final_net, names_of_others}
 use Rattle.dft_verilog.specs.FinalNets.{number_among, numbers_among, without_number, all_numbered, AreFinal}
-use Rattle.dft_verilog.proofs.NumberingLemmas.{position-cons, position-append, or_behind, id_of, is_net}
-use Rattle.dft_verilog_draft.proofs.DeclareLemmas.{length-going_up}
+use Rattle.dft_verilog.proofs.NumberingLemmas.{position-cons, position-append, or_behind, is_net}
 
 -- the nets that are none of these
 abbrev pub is_other : List ℕ → ℕ → Bool
@@ -34,7 +35,7 @@ any_some (x ∷ xs) net = some_cons (eqb x net) (list_any (λ bit. eqb bit net) 
 -- ---- the names of the others
 
 name_by : (o : Option ℕ) (b : Bool) (x : Text) (xs : List Text) (net : ℕ) (f : ℕ → Text) (numbers : List (Option NetId)) (rest : List ℕ) → b ≡ is_some o → f net ≡ x → without_number xs numbers ≡ map f rest
-    → without_number (x ∷ xs) (option_map id_of o ∷ numbers) ≡ map f (cond (not b) (net ∷ rest) rest)
+    → without_number (x ∷ xs) (option_map net_of o ∷ numbers) ≡ map f (cond (not b) (net ∷ rest) rest)
 name_by None true x xs net f numbers rest e here there = absurd (cc)
 name_by None false x xs net f numbers rest e here there = ap₂ (λ y ys. y ∷ ys) (sym here) there
 name_by (Some k) true x xs net f numbers rest e here there = there
@@ -62,26 +63,26 @@ length-all_numbered next (None ∷ numbers) = ap suc (length-all_numbered (suc n
 
 -- the place that is counted on, or 0
 abbrev or_zero : Option ℕ → NetId
-or_zero o = id_of (unwrap_or o 0)
+or_zero o = net_of (unwrap_or o 0)
 
 first_by : (o : Option ℕ) (b : Bool) (net next : ℕ) (numbers : List (Option NetId)) (rest : List ℕ) → b ≡ is_some o
-    → slice_get (all_numbered next (option_map id_of o ∷ numbers)) 0 ≡ Some (or_zero (or_behind next o (position (is_net net) (cond (not b) (net ∷ rest) rest))))
+    → slice_get (all_numbered next (option_map net_of o ∷ numbers)) 0 ≡ Some (or_zero (or_behind next o (position (is_net net) (cond (not b) (net ∷ rest) rest))))
 first_by None true net next numbers rest e = absurd (cc)
 first_by None false net next numbers rest e =
     let zeroth : next ≡ next + 0 = omega arith in
     let at : position (is_net net) (net ∷ rest) ≡ Some 0 = position-cons (is_net net) net rest ∙ ap (λ b. cond b (Some 0) (option_map suc (position (is_net net) rest))) (eq-eqb net net refl) in
-    ap (λ n. Some (id_of n)) zeroth ∙ sym (ap (λ o. Some (or_zero (or_behind next None o))) at)
+    ap (λ n. Some (net_of n)) zeroth ∙ sym (ap (λ o. Some (or_zero (or_behind next None o))) at)
 first_by (Some k) true net next numbers rest e = refl
 first_by (Some k) false net next numbers rest e = absurd (cc)
 
 later_by : (next : ℕ) (mine later : Option ℕ) → or_zero (or_behind (suc next) mine later) ≡ or_zero (or_behind next mine (option_map suc later))
 later_by next (Some k) later = refl
 later_by next None None = refl
-later_by next None (Some k) = let move : suc next + k ≡ next + suc k = omega arith in ap id_of move
+later_by next None (Some k) = let move : suc next + k ≡ next + suc k = omega arith in ap net_of move
 
 next_by : (o mine : Option ℕ) (b : Bool) (net other next k : ℕ) (numbers : List (Option NetId)) (rest : List ℕ) → b ≡ is_some o → net ≢ other
     → ((n : ℕ) → slice_get (all_numbered n numbers) k ≡ Some (or_zero (or_behind n mine (position (is_net other) rest))))
-    → slice_get (all_numbered next (option_map id_of o ∷ numbers)) (suc k) ≡ Some (or_zero (or_behind next mine (position (is_net other) (cond (not b) (net ∷ rest) rest))))
+    → slice_get (all_numbered next (option_map net_of o ∷ numbers)) (suc k) ≡ Some (or_zero (or_behind next mine (position (is_net other) (cond (not b) (net ∷ rest) rest))))
 next_by None mine true net other next k numbers rest e ne there = absurd (cc)
 next_by None mine false net other next k numbers rest e ne there =
     let at : position (is_net other) (net ∷ rest) ≡ option_map suc (position (is_net other) rest) =
@@ -121,9 +122,9 @@ AreWithin count (number ∷ numbers) = IsWithin count number × AreWithin count 
 numbered-within : (count next : ℕ) (numbers : List (Option NetId)) → AreWithin count numbers → next + unnumbered numbers ≤ count → All (λ (f : NetId). f.0 < count) (all_numbered next numbers)
 numbered-within count next [] h le = All-nil (λ (f : NetId). f.0 < count)
 numbered-within count next (Some number ∷ numbers) h le = All-cons (λ (f : NetId). f.0 < count) number (all_numbered next numbers) h.0 (numbered-within count next numbers h.1 le)
-numbered-within count next (None ∷ numbers) h le = All-cons (λ (f : NetId). f.0 < count) (id_of next) (all_numbered (suc next) numbers) (omega arith) (numbered-within count (suc next) numbers h.1 (omega arith))
+numbered-within count next (None ∷ numbers) h le = All-cons (λ (f : NetId). f.0 < count) (net_of next) (all_numbered (suc next) numbers) (omega arith) (numbered-within count (suc next) numbers h.1 (omega arith))
 
-within_by : (count : ℕ) (o : Option ℕ) → ((k : ℕ) → o ≡ Some k → k < count) → IsWithin count (option_map id_of o)
+within_by : (count : ℕ) (o : Option ℕ) → ((k : ℕ) → o ≡ Some k → k < count) → IsWithin count (option_map net_of o)
 within_by count None h = tt
 within_by count (Some k) h = h k refl
 
@@ -132,7 +133,7 @@ among-within nets count from zero le = tt
 among-within nets count from (suc n) le =
     (within_by count (position (is_net from) nets) (λ k e. let lt : k < length nets = (position-Some (is_net from) nets k 0 e).0 in omega arith), among-within nets count (suc from) n le)
 
-one_other : (o : Option ℕ) (b : Bool) (net : ℕ) (numbers : List (Option NetId)) (rest : List ℕ) → b ≡ is_some o → unnumbered numbers ≡ length rest → unnumbered (option_map id_of o ∷ numbers) ≡ length (cond (not b) (net ∷ rest) rest)
+one_other : (o : Option ℕ) (b : Bool) (net : ℕ) (numbers : List (Option NetId)) (rest : List ℕ) → b ≡ is_some o → unnumbered numbers ≡ length rest → unnumbered (option_map net_of o ∷ numbers) ≡ length (cond (not b) (net ∷ rest) rest)
 one_other None true net numbers rest e h = absurd (cc)
 one_other None false net numbers rest e h = ap suc h
 one_other (Some k) true net numbers rest e h = h
@@ -145,7 +146,7 @@ unnumbered-others nets from (suc n) =
 
 -- ---- the final numbers
 
-final_by : (nets others : List ℕ) (y : ℕ) → final_net (nets ++ others) (id_of y) ≡ or_zero (or_behind (length nets) (position (is_net y) nets) (position (is_net y) others))
+final_by : (nets others : List ℕ) (y : ℕ) → final_net (nets ++ others) (net_of y) ≡ or_zero (or_behind (length nets) (position (is_net y) nets) (position (is_net y) others))
 final_by nets others y = ap or_zero (position-append (is_net y) nets others)
 
 -- numbers that go on behind the ports' bits are final
@@ -154,7 +155,7 @@ AreFinal-numbered d next e =
     let bits = nets_of_ports d.ports in
     let numbers = numbers_among bits (length d.nets) in
     record {
-      count = length-all_numbered next numbers ∙ length-map (going_up 0 (length d.nets)) (number_among bits) ∙ length-going_up 0 (length d.nets);
+      count = length-all_numbered next numbers ∙ length-map (going_up 0 (length d.nets)) (number_among bits) ∙ up_length 0 (length d.nets);
       each = λ net lt.
           numbered-at bits next 0 (length d.nets) net.0 net.0 lt (omega arith)
           ∙ ap (λ n. Some (or_zero (or_behind n (position (is_net net.0) bits) (position (is_net net.0) (other_nets d))))) e

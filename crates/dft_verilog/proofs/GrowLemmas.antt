@@ -19,10 +19,12 @@ use Rattle.dft_netlist.specs.Names.{bit_names}
 use Rattle.dft_netlist.specs.Building.{WithPort, port_of, port_refusal, net_refusal, instance_refusal}
 use Rattle.dft_netlist.specs.NetNumbers.{nets_from}
 use Rattle.dft_netlist.specs.Sound.{HasOnlyPorts, bits_of}
+use Rattle.dft_netlist.proofs.BitLemmas.{up_length}
+use Rattle.dft_netlist.proofs.PortLemmas.{nets_from-length}
 use Rattle.dft_netlist_text.specs.Modules.{HeaderPort, Draft, net_count}
 use Rattle.dft_netlist_text.specs.NetlistText.{Grown, add_port, nets_of_port, nets_of_ports, net_order, unless_refused, and_grown, add_declared, add_ports, add_net, add_nets, add_instance, add_instances, add_joins, final_join, final_signal}
 use Rattle.dft_verilog.specs.FinalNets.{name_unless, without_number, all_numbered}
-use Rattle.dft_verilog_draft.proofs.DeclareLemmas.{length-bit_names, length-going_up}
+use Rattle.dft_verilog_draft.proofs.DeclareLemmas.{length-bit_names}
 use Rattle.dft_verilog.specs.Built.{IsGrown, IsRefusal, HasNetsOf}
 
 -- ---- one step behind another
@@ -68,10 +70,6 @@ IsRefusal-same a b why e h = subst (λ g. IsRefusal g why) (sym e) h
 
 -- ---- ports
 
-length-nets_from : (from count : ℕ) → length (nets_from from count) ≡ count
-length-nets_from from zero = refl
-length-nets_from from (suc count) = ap suc (length-nets_from (suc from) count)
-
 bits_of-push : (ports : List Port) (port : Port) → length (bits_of (ports ++ port ∷ [])) ≡ length (bits_of ports) + length port.bits
 bits_of-push [] port = ap length (append-nil port.bits) ∙ omega arith
 bits_of-push (first ∷ ports) port = omega (arith, length-append first.bits (bits_of (ports ++ port ∷ [])), length-append first.bits (bits_of ports), bits_of-push ports port)
@@ -83,7 +81,7 @@ HasOnlyPorts-port old new name dir range port h only =
     let bits = nets_from (length old.nets) (length names) in
     let nets : length new.nets ≡ length (old.nets ++ names) = ap (λ (n : Netlist). length n.nets) h.grown in
     let ports : length (bits_of new.ports) ≡ length (bits_of (old.ports ++ port_of name dir range bits ∷ [])) = ap (λ (n : Netlist). length (bits_of n.ports)) h.grown in
-    omega (arith, length-append old.nets names, bits_of-push old.ports (port_of name dir range bits), length-nets_from (length old.nets) (length names))
+    omega (arith, length-append old.nets names, bits_of-push old.ports (port_of name dir range bits), nets_from-length (length old.nets) (length names))
 
 -- the ports ahead are to be added
 pub record PortsAhead (all ahead : List HeaderPort) (start now : Netlist) : Type 0 where
@@ -104,7 +102,7 @@ pub add_declared-Ok : (n m : Netlist) (word : Text) (declared : Option Declared)
 add_declared-Ok n m word None e = let same : m ≡ n = cc in record { library = ap (λ (x : Netlist). x.library) same; nets = ap (λ (x : Netlist). length x.nets) same ∙ sym (add-zero (length n.nets)) }
 add_declared-Ok n m word (Some d) e =
     let grown = add_port-Ok n m word d.dir d.shape.range e in
-    let count : length (bit_names word d.shape.range) ≡ length (nets_of_port (Some d)) = length-bit_names word d.shape.range ∙ sym (length-going_up d.shape.first.0 (net_count d.shape.range)) in
+    let count : length (bit_names word d.shape.range) ≡ length (nets_of_port (Some d)) = length-bit_names word d.shape.range ∙ sym (up_length d.shape.first.0 (net_count d.shape.range)) in
     record {
       library = ap (λ (x : Netlist). x.library) grown;
       nets = ap (λ (x : Netlist). length x.nets) grown ∙ length-append n.nets (bit_names word d.shape.range) ∙ ap (λ k. length n.nets + k) count;

@@ -7,11 +7,12 @@ use Rattle.std.proofs.lemmas.Bool.Decides.{nat_tests}
 use Rattle.std.proofs.lemmas.List.{length_push, length-set, append_assoc}
 use Rattle.dft_base.specs.Ranges.{going_up}
 use Rattle.dft_netlist.specs.declared.ids.NetId.{NetId}
+use Rattle.dft_netlist.proofs.NumberLemmas.{net_of}
+use Rattle.dft_netlist.proofs.BitLemmas.{up_length}
 use Rattle.dft_netlist_text.specs.declared.text.Declared.{Declared}
 use Rattle.dft_netlist_text.specs.Modules.{HeaderPort, net_count}
 use Rattle.dft_netlist_text.specs.NetlistText.{nets_of_port, nets_of_ports}
 use Rattle.dft_verilog_draft.specs.Drafts.{IsDeclaredWithin}
-use Rattle.dft_verilog_draft.proofs.DeclareLemmas.{length-going_up}
 use Rattle.dft_verilog.specs.FinalNets.{number_among, numbers_among, with_number, with_numbers}
 
 -- ---- the first place
@@ -62,9 +63,6 @@ position-one p x = position-cons p x []
 
 -- ---- one net more
 
-abbrev pub id_of : ℕ → NetId
-id_of k = record { 0 = k }
-
 abbrev pub is_net : ℕ → ℕ → Bool
 is_net net other = eqb other net
 
@@ -73,33 +71,33 @@ pushed_by count (Some k) here = refl
 pushed_by count None true = ap Some (add-zero count)
 pushed_by count None false = refl
 
-is_some_map : (o : Option ℕ) → is_some (option_map id_of o) ≡ is_some o
+is_some_map : (o : Option ℕ) → is_some (option_map net_of o) ≡ is_some o
 is_some_map None = refl
 is_some_map (Some k) = refl
 
 -- the place of a net among those before, or the new place where it is the new net
 abbrev number_or : (count : ℕ) → Option ℕ → (here : Bool) → Option NetId
-number_or count before here = option_map id_of (cond (is_some before) before (cond here (Some count) None))
+number_or count before here = option_map net_of (cond (is_some before) before (cond here (Some count) None))
 
 number_among-push : (nets : List ℕ) (new net : ℕ) → number_among (nets ++ new ∷ []) net ≡ number_or (length nets) (position (is_net net) nets) (eqb new net)
 number_among-push nets new net =
-    ap (option_map id_of)
+    ap (option_map net_of)
     (position-append (is_net net) nets (new ∷ [])
     ∙ ap (or_behind (length nets) (position (is_net net) nets)) (position-one (is_net net) new)
     ∙ pushed_by (length nets) (position (is_net net) nets) (eqb new net))
 
 -- another net has the number that it had
-other_by : (count : ℕ) (before : Option ℕ) → number_or count before false ≡ option_map id_of before
+other_by : (count : ℕ) (before : Option ℕ) → number_or count before false ≡ option_map net_of before
 other_by count None = refl
 other_by count (Some k) = refl
 
 -- a net that has a number keeps it
-kept_by : (count : ℕ) (before : Option ℕ) (here : Bool) → is_some before ≡ true → number_or count before here ≡ option_map id_of before
+kept_by : (count : ℕ) (before : Option ℕ) (here : Bool) → is_some before ≡ true → number_or count before here ≡ option_map net_of before
 kept_by count (Some k) here h = refl
 kept_by count None here h = absurd (cc)
 
 -- the new net has the new number, if it had none
-new_by : (count : ℕ) (before : Option ℕ) → is_some before ≡ false → number_or count before true ≡ Some (id_of count)
+new_by : (count : ℕ) (before : Option ℕ) → is_some before ≡ false → number_or count before true ≡ Some (net_of count)
 new_by count (Some k) h = absurd (cc)
 new_by count None h = refl
 
@@ -132,7 +130,7 @@ get_or-count f from (suc count) (suc k) d lt =
 -- ---- numbers that are given
 
 one_by : (had : Bool) (nets : List ℕ) (count net : ℕ) → net < count → is_some (number_among nets net) ≡ had
-    → cond had (numbers_among nets count) (set (numbers_among nets count) net (Some (id_of (length nets)))) ≡ numbers_among (nets ++ net ∷ []) count
+    → cond had (numbers_among nets count) (set (numbers_among nets count) net (Some (net_of (length nets)))) ≡ numbers_among (nets ++ net ∷ []) count
 one_by true nets count net lt has =
     same-map (number_among nets) (number_among (nets ++ net ∷ [])) 0 count (λ y le. number_among-push nets net y ∙ kept nets net y has) where
       at_other : (nets : List ℕ) (net y : ℕ) (here : Bool) → eqb net y ≡ here → is_some (number_among nets net) ≡ true → number_or (length nets) (position (is_net y) nets) here ≡ number_among nets y
@@ -145,7 +143,7 @@ one_by true nets count net lt has =
       kept : (nets : List ℕ) (net y : ℕ) → is_some (number_among nets net) ≡ true → number_or (length nets) (position (is_net y) nets) (eqb net y) ≡ number_among nets y
       kept nets net y has = at_other nets net y (eqb net y) refl has
 one_by false nets count net lt has =
-    set-map (number_among nets) (number_among (nets ++ net ∷ [])) (Some (id_of (length nets))) 0 count net lt
+    set-map (number_among nets) (number_among (nets ++ net ∷ [])) (Some (net_of (length nets))) 0 count net lt
     (let zero_more : 0 + net ≡ net = omega arith in
     ap (number_among (nets ++ net ∷ [])) zero_more ∙ number_among-push nets net net
     ∙ ap (number_or (length nets) (position (is_net net) nets)) (eq-eqb net net refl)
@@ -157,7 +155,7 @@ one_by false nets count net lt has =
 with_number-one : (nets : List ℕ) (count net : ℕ) → net < count → with_number net (length nets) (numbers_among nets count) ≡ numbers_among (nets ++ net ∷ []) count
 with_number-one nets count net lt =
     let zero_more : 0 + net ≡ net = omega arith in
-    ap (λ o. cond (is_some o) (numbers_among nets count) (set (numbers_among nets count) net (Some (id_of (length nets))))) (get_or-count (number_among nets) 0 count net None lt ∙ ap (number_among nets) zero_more)
+    ap (λ o. cond (is_some o) (numbers_among nets count) (set (numbers_among nets count) net (Some (net_of (length nets))))) (get_or-count (number_among nets) 0 count net None lt ∙ ap (number_among nets) zero_more)
     ∙ one_by (is_some (number_among nets net)) nets count net lt refl
 
 -- each of these nets is one of the first so many
@@ -211,7 +209,7 @@ pub length-with_numbers : (nets : List ℕ) (next : ℕ) (numbers : List (Option
 length-with_numbers [] next numbers = refl
 length-with_numbers (net ∷ nets) next numbers =
     length-with_numbers nets (suc next) (with_number net next numbers)
-    ∙ length-set_if (is_some (get_or numbers net None)) numbers net (Some (id_of next))
+    ∙ length-set_if (is_some (get_or numbers net None)) numbers net (Some (net_of next))
 
 -- the ports ahead are to be numbered from `next` on; so many ports were
 pub record NumbersPorts (count : ℕ) (all : List HeaderPort) (index : ℕ) (ahead : List HeaderPort) (next : ℕ) (numbers : List (Option NetId)) : Type 0 where
@@ -249,4 +247,4 @@ AreBelow-ports count (port ∷ ports) h =
     (AreBelow-ports count ports (All-tail (λ (p : HeaderPort). IsDeclaredWithin count p.declared) port ports h))
 
 pub length-of_port : (declared : Option Declared) (d : Declared) (n : ℕ) → declared ≡ Some d → n ≡ net_count d.shape.range → n ≡ length (nets_of_port declared)
-length-of_port declared d n is e = e ∙ sym (length-going_up d.shape.first.0 (net_count d.shape.range)) ∙ ap (λ o. length (nets_of_port o)) (sym is)
+length-of_port declared d n is e = e ∙ sym (up_length d.shape.first.0 (net_count d.shape.range)) ∙ ap (λ o. length (nets_of_port o)) (sym is)

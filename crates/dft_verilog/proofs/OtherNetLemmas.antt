@@ -1,13 +1,15 @@
 -- The nets that are no port's bits, as nets and ports come.
 use Rattle.std.proofs.Common.{◌≡◌, ℕ, zero, suc, ◌+◌, ◌<◌, ◌≤◌, Bool, true, false, not, ◌||◌, cond, eqb, List, [], ◌∷◌, ◌++◌, length, map, filter, get_or, refl, sym, ap, ap₂, ◌∙◌, arith, length-append}
 use Rattle.std.specs.List.{list_any}
-use Rattle.std.proofs.lemmas.Bool.{ne_eqb}
+use Rattle.std.proofs.lemmas.Bool.{ne_eqb, or_right}
 use Rattle.std.proofs.lemmas.Bool.Decides.{nat_tests}
 use Rattle.std.proofs.lemmas.List.{append-nil, append_assoc, get_or_append_left}
 use Rattle.std.proofs.lemmas.List.Elements.{filter-append}
 use Rattle.std.proofs.Math.Seq.{get_or-append_seam}
 use Rattle.dft_base.specs.Lexing.{Text}
 use Rattle.dft_base.specs.Ranges.{going_up}
+use Rattle.dft_base.proofs.BitLemmas.{or_not}
+use Rattle.dft_base.proofs.ListLemmas.{going_up-append}
 use Rattle.dft_verilog.proofs.NumberingLemmas.{AreBelow}
 
 -- whether a net is one of these
@@ -17,10 +19,6 @@ is_among net nets = list_any (λ bit. eqb bit net) nets
 -- the nets from one on that are none of these
 abbrev pub others_from : List ℕ → (from count : ℕ) → List ℕ
 others_from used from count = filter (λ net. not (is_among net used)) (going_up from count)
-
-going_up-append : (from m n : ℕ) → going_up from (m + n) ≡ going_up from m ++ going_up (from + m) n
-going_up-append from zero n = let e : from ≡ from + 0 = omega arith in let m : 0 + n ≡ n = omega arith in ap (going_up from) m ∙ ap (λ k. going_up k n) e
-going_up-append from (suc m) n = let e : suc from + m ≡ from + suc m = omega arith in let more : suc m + n ≡ suc (m + n) = omega arith in ap (going_up from) more ∙ ap (λ xs. from ∷ xs) (going_up-append (suc from) m n ∙ ap (λ k. going_up (suc from) m ++ going_up k n) e)
 
 -- ---- tests of nets in a row
 
@@ -77,14 +75,6 @@ others_more used n m below =
     ∙ filter-append test (going_up 0 n) (going_up n m)
     ∙ ap (λ xs. others_from used 0 n ++ xs) (filter_all test n m (λ y lo. ap not (among_below y n used below lo)))
 
-or_true : (a b : Bool) → b ≡ true → (a || b) ≡ true
-or_true true b h = refl
-or_true false b h = h
-
-or_false : (a b : Bool) → b ≡ false → (a || b) ≡ a
-or_false true b h = refl
-or_false false b h = h
-
 -- new nets that are all a port's
 pub others_kept : (used with : List ℕ) (n m : ℕ) → ((y : ℕ) → is_among y with ≡ (is_among y used || is_among y (going_up n m))) → others_from with 0 (n + m) ≡ others_from used 0 n
 others_kept used with n m any =
@@ -92,8 +82,8 @@ others_kept used with n m any =
     ap (filter test) (rows n m)
     ∙ filter-append test (going_up 0 n) (going_up n m)
     ∙ ap₂ (λ xs ys. xs ++ ys)
-    (filter_same test (λ net. not (is_among net used)) 0 n (λ y lo hi. ap not (any y ∙ or_false (is_among y used) _ (among_less y n m (omega arith)))))
-    (filter_none test n m (λ y lo hi. ap not (any y ∙ or_true (is_among y used) _ (among_row y n m lo hi))))
+    (filter_same test (λ net. not (is_among net used)) 0 n (λ y lo hi. ap not (any y ∙ or_not (is_among y used) _ (among_less y n m (omega arith)))))
+    (filter_none test n m (λ y lo hi. ap not (any y ∙ or_right (is_among y used) _ (among_row y n m lo hi))))
     ∙ append-nil (others_from used 0 n)
 
 -- ---- their names

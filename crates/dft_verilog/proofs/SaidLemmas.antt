@@ -11,6 +11,8 @@ use Rattle.dft_base.specs.Lexing.{Text}
 use Rattle.dft_base.specs.Parser.{Checked}
 use Rattle.dft_base.specs.declared.dir.Dir.{Dir}
 use Rattle.dft_base.specs.Ranges.{going_up}
+use Rattle.dft_base.proofs.BitLemmas.{assoc_or}
+use Rattle.dft_base.proofs.TextLemmas.{same_text}
 use Rattle.dft_netlist_text.specs.declared.text.Cause.TheVariants as cause
 use Rattle.dft_netlist.specs.declared.error.Counted.TheVariants as counted
 use Rattle.dft_netlist_text.specs.declared.text.Fault.{Fault}
@@ -21,15 +23,16 @@ use Rattle.dft_netlist.specs.declared.instance.Instance.{Instance}
 use Rattle.dft_netlist.specs.declared.limits.TheConstants.{MAX_PORTS, MAX_NETS, MAX_INSTANCES}
 use Rattle.dft_netlist.specs.Names.{bit_names, port_names}
 use Rattle.dft_netlist.specs.Building.{own_names}
+use Rattle.dft_netlist.proofs.BitLemmas.{up_length}
 use Rattle.dft_netlist_text.specs.Steps.{fault}
 use Rattle.dft_netlist_text.specs.Modules.{Draft, HeaderPort, TakenName, meaning_of, is_taken, with_name, net_count, names_of_bits, first_taken, free_bits, with_bits, next_shape, with_nets, declare_nets, declared_at, port_place, announce, with_declared, declare_found, declare_port, declare_new_port, same_range, repeat_port, declare_wire_as, declare_wire, room_for_instance, name_instance, with_instance}
 use Rattle.dft_netlist_text.specs.NetlistText.{nets_of_port, nets_of_ports, other_nets, names_of_others}
 use Rattle.dft_verilog_draft.specs.Free.{AreApart, taken_bit}
 use Rattle.dft_verilog.specs.Buildable.{names_of_port, names_of_header, names_of_instances, printed_names, IsBuildable}
 use Rattle.dft_verilog_draft.proofs.ApartLemmas.{bit_names-apart}
-use Rattle.dft_verilog_draft.proofs.DeclareLemmas.{length-bit_names, length-going_up}
+use Rattle.dft_verilog_draft.proofs.DeclareLemmas.{length-bit_names}
 use Rattle.dft_verilog.proofs.NumberingLemmas.{AreBelow, AreBelow-append, AreBelow-count}
-use Rattle.dft_verilog.proofs.CountLemmas.{count, count-append, AreOnce, apart_if_once, names_of, AreFreeIn, first_taken-none, free_once, eq_same}
+use Rattle.dft_verilog.proofs.CountLemmas.{count, count-append, AreOnce, apart_if_once, names_of, AreFreeIn, first_taken-none, free_once}
 use Rattle.dft_verilog.proofs.OtherNetLemmas.{is_among, others_from, others_more, others_kept, name_at, names_kept, names_new}
 
 -- ---- what a draft names
@@ -151,7 +154,7 @@ port_steps room more d names bits words ports h named g placed few fits =
     record {
       names = named;
       said_more = λ word. omega (arith, count_said word d, count_said word e, ap (count word) same, g.header word);
-      numbered = omega (arith, all, g.len, length-going_up (length d.nets) (length bits), ap (λ (ns : List ℕ). length ns) kept, h.numbered);
+      numbered = omega (arith, all, g.len, up_length (length d.nets) (length bits), ap (λ (ns : List ℕ). length ns) kept, h.numbered);
       below = subst (λ n. AreBelow n (nets_of_ports ports)) (sym all)
           (g.below (length d.nets + length bits) (below_more (length d.nets) (length d.nets + length bits) (nets_of_ports d.ports) (omega arith) h.below) (AreBelow-count (length d.nets + length bits) (length d.nets) (length bits) (omega arith)));
       places = placed;
@@ -173,7 +176,7 @@ wire_steps room more d names bits words h named few placed fits =
     record {
       names = named;
       said_more = λ word. omega (arith, count_said word d, count_said word e, ap (count word) named_more, count-append word (names_of_others d) bits, few word);
-      numbered = omega (arith, all, ap (λ (ns : List ℕ). length ns) grown, length-append (other_nets d) new, length-going_up (length d.nets) (length bits), h.numbered);
+      numbered = omega (arith, all, ap (λ (ns : List ℕ). length ns) grown, length-append (other_nets d) new, up_length (length d.nets) (length bits), h.numbered);
       below = subst (λ n. AreBelow n (nets_of_ports d.ports)) (sym all) (below_more (length d.nets) (length d.nets + length bits) (nets_of_ports d.ports) (omega arith) h.below);
       places = placed;
       few_ports = h.few_ports;
@@ -182,10 +185,6 @@ wire_steps room more d names bits words h named few placed fits =
     }
 
 -- ---- ports that gain nets
-
-or_assoc : (a b c : Bool) → (a || (b || c)) ≡ ((a || b) || c)
-or_assoc true b c = refl
-or_assoc false b c = refl
 
 among_append : (net : ℕ) (xs ys : List ℕ) → is_among net (xs ++ ys) ≡ (is_among net xs || is_among net ys)
 among_append net xs ys = list_any-append _ xs ys
@@ -199,7 +198,7 @@ gains_cons p old new nets words g =
       any = λ net.
           among_append net mine (nets_of_ports new)
           ∙ ap (λ b. is_among net mine || b) (g.any net)
-          ∙ or_assoc (is_among net mine) (is_among net (nets_of_ports old)) (is_among net nets)
+          ∙ assoc_or (is_among net mine) (is_among net (nets_of_ports old)) (is_among net nets)
           ∙ ap (λ b. b || is_among net nets) (sym (among_append net mine (nets_of_ports old)));
       len = omega (arith, length-append mine (nets_of_ports new), length-append mine (nets_of_ports old), g.len);
       below = λ n was come. let parts = below_parts n mine (nets_of_ports old) was in AreBelow-append n mine (nets_of_ports new) parts.0 (g.below n parts.1 come);
@@ -317,7 +316,7 @@ place_found : (ports : List Text) (entries : List TakenName) (word : Text) (plac
     → option_map (λ (e : TakenName). e.meaning) (find (λ (e : TakenName). bytes_eq e.name word) entries) ≡ Some (meaning.Port place) → slice_get ports place ≡ Some word
 place_found ports [] word place placed h = absurd (cc)
 place_found ports (e ∷ es) word place placed h =
-    place_by (bytes_eq e.name word) ports e (find (λ (e : TakenName). bytes_eq e.name word) es) word place (eq_same e.name word) placed.0 (place_found ports es word place placed.1) h
+    place_by (bytes_eq e.name word) ports e (find (λ (e : TakenName). bytes_eq e.name word) es) word place (same_text e.name word) placed.0 (place_found ports es word place placed.1) h
 
 -- ---- names of bits
 

@@ -7,7 +7,10 @@ use Rattle.std.proofs.lemmas.Fmt.{decimal_injective}
 use Rattle.std.proofs.lemmas.Slice.Eq.{bytes_eq-Decides}
 use Rattle.std.proofs.lemmas.Bool.Decides.{same_from_decides, nat_tests}
 use Rattle.dft_base.specs.declared.place.Range.{Range}
+use Rattle.dft_base.proofs.OptionLemmas.{none_of}
+use Rattle.dft_base.proofs.TextLemmas.{differ}
 use Rattle.dft_netlist.specs.Names.{bit_name, bit_names, going_up, going_down}
+use Rattle.dft_netlist.proofs.PortNames.{bit_name_injective}
 use Rattle.dft_netlist_text.specs.declared.text.Meaning.{Meaning}
 use Rattle.dft_netlist_text.specs.Modules.{Draft, TakenName, first_taken, names_of_bits}
 use Rattle.dft_verilog_draft.specs.Free.{AreFree, AreFreeBits, taken_bit, IsApart, AreApart, AreBitsApart}
@@ -15,20 +18,11 @@ use Rattle.dft_verilog_draft.specs.TakenNames.{meaning_in}
 
 -- ---- the names of bits differ
 
-differ : (xs ys : List ℕ) → xs ≢ ys → bytes_eq xs ys ≡ false
-differ xs ys ne =
-    let no : Decides false (xs ≡ ys) = (λ t. absurd (cc), λ e. absurd (ne e)) in
-    same_from_decides (bytes_eq xs ys) false (bytes_eq-Decides xs ys) no
-
 tail_same : (x : ℕ) (xs ys : List ℕ) → x ∷ xs ≡ x ∷ ys → xs ≡ ys
 tail_same x xs ys e = cc
 
-bit_name-injective : (word : List ℕ) (i j : ℕ) → i < 2 ^ 64 → j < 2 ^ 64 → bit_name word i ≡ bit_name word j → i ≡ j
-bit_name-injective word i j hi hj e =
-    decimal_injective i j hi hj (tail_same 91 _ _ (append_cancel_left word _ _ (append_cancel_right _ _ (93 ∷ []) e)))
-
 bits_differ : (word : List ℕ) (i j : ℕ) → i < 2 ^ 64 → j < 2 ^ 64 → i ≢ j → bytes_eq (bit_name word i) (bit_name word j) ≡ false
-bits_differ word i j hi hj ne = differ _ _ (λ e. ne (bit_name-injective word i j hi hj e))
+bits_differ word i j hi hj ne = differ _ _ (λ e. ne (bit_name_injective word i j hi hj e))
 
 bit_differs : (word : List ℕ) (i : ℕ) → bytes_eq word (bit_name word i) ≡ false
 bit_differs word i = differ word (bit_name word i) (λ (e : word ≡ bit_name word i). omega (arith, ap length e, length-append (word ++ (91 ∷ decimal i)) (93 ∷ []), length-append word (91 ∷ decimal i)))
@@ -64,10 +58,6 @@ bit_names-apart word r left right = (own_apart word _, all_by (nat_le r.left r.r
 
 -- ---- names that are free
 
-pub is_none : {A : Type 0} (o : Option A) → is_some o ≡ false → o ≡ None
-is_none None h = refl
-is_none (Some a) h = absurd (cc)
-
 find_by : (b : Bool) (w : List ℕ) (rest : Option (List ℕ)) → cond b (Some w) rest ≡ None → (b ≡ false) × (rest ≡ None)
 find_by true w rest h = absurd (cc)
 find_by false w rest h = (refl, h)
@@ -98,13 +88,13 @@ find_push : (names : List TakenName) (e : TakenName) (ws : List (List ℕ)) → 
 find_push names e [] none apart = refl
 find_push names e (w ∷ ws) none apart =
     let h : (taken_in names w ≡ false) × (find (λ w. taken_in names w) ws ≡ None) = find_by (taken_in names w) w _ none in
-    find_free (taken_in (names ++ e ∷ []) w) w _ (ap is_some (meaning_in-push names e w (is_none (meaning_in names w) h.0) apart.0)) (find_push names e ws h.1 apart.1)
+    find_free (taken_in (names ++ e ∷ []) w) w _ (ap is_some (meaning_in-push names e w (none_of (meaning_in names w) h.0) apart.0)) (find_push names e ws h.1 apart.1)
 
 AreFree-from : (names : List TakenName) (ws : List (List ℕ)) → find (λ w. taken_in names w) ws ≡ None → AreApart ws → AreFree names ws
 AreFree-from names [] none apart = tt
 AreFree-from names (w ∷ ws) none apart =
     let h : (taken_in names w ≡ false) × (find (λ w. taken_in names w) ws ≡ None) = find_by (taken_in names w) w _ none in
-    (is_none (meaning_in names w) h.0, AreFree-from (names ++ taken_bit w ∷ []) ws (find_push names (taken_bit w) ws h.1 apart.0) apart.1)
+    (none_of (meaning_in names w) h.0, AreFree-from (names ++ taken_bit w ∷ []) ws (find_push names (taken_bit w) ws h.1 apart.0) apart.1)
 
 -- the bits are free in the draft
 pub AreFreeBits-plain : (word : List ℕ) (range : Option Range) (d : Draft) → first_taken d (names_of_bits word range) ≡ None → AreBitsApart word range (bit_names word range) → AreFreeBits range d.names (bit_names word range)

@@ -8,6 +8,7 @@ use Rattle.std.proofs.lemmas.Bool.Decides.{nat_tests}
 use Rattle.dft_base.specs.declared.place.Range.{Range}
 use Rattle.dft_base.specs.Name.{IsName}
 use Rattle.dft_base.specs.Ranges.{width}
+use Rattle.dft_base.proofs.TextLemmas.{IsPrinted}
 use Rattle.dft_netlist.specs.Names.{bit_name, going_up, going_down, indices_of}
 use Rattle.dft_verilog_draft.specs.BitNames.{index_at}
 
@@ -58,23 +59,6 @@ names_more word r n =
     ∙ map-append (bit_name word) (first_indices r n) (index_at r n ∷ []))
 
 -- ---- the bytes of a bit's name
-
--- a byte of a name
-abbrev pub IsPrinted : ℕ → Type 0
-IsPrinted b = (33 ≤ b) × (b ≤ 126)
-
-decimal-printed : (n : ℕ) → n < 2 ^ 64 → All IsPrinted (decimal n)
-decimal-printed = decimal_by_steps (λ n ds. All IsPrinted ds)
-    (λ n lt. All-push IsPrinted [] (48 + n) (All-nil IsPrinted) (omega arith, omega arith))
-    (λ n ds ge h. All-push IsPrinted ds (48 + n % 10) h (omega arith, omega arith))
-
-pub IsName-bit_name : (word : List ℕ) (index : ℕ) → index < 2 ^ 64 → IsName word → IsName (bit_name word index)
-IsName-bit_name word index lt name = record {
-  some = omega (arith, name.some, length-append (word ++ (91 ∷ decimal index)) (93 ∷ []), length-append word (91 ∷ decimal index));
-  each = All-append IsPrinted (word ++ (91 ∷ decimal index)) (93 ∷ [])
-      (All-append IsPrinted word (91 ∷ decimal index) name.each (All-cons IsPrinted 91 (decimal index) (omega arith, omega arith) (decimal-printed index lt)))
-      (All-cons IsPrinted 93 [] (omega arith, omega arith) (All-nil IsPrinted));
-}
 
 -- the parts of a bit's name, put together one after another
 pub bit_name-parts : (word digits : List ℕ) → ((word ++ 91 ∷ []) ++ digits) ++ 93 ∷ [] ≡ (word ++ (91 ∷ digits)) ++ 93 ∷ []

@@ -13,6 +13,7 @@ use Rattle.dft_netlist_text.specs.declared.text.Fault.{Fault}
 use Rattle.dft_netlist_text.specs.declared.text.Meaning.{Meaning}
 use Rattle.dft_netlist.specs.declared.limits.TheConstants.{MAX_NETS, MAX_PORTS}
 use Rattle.dft_netlist.specs.Names.{bit_names, bit_name, going_up, going_down, indices_of}
+use Rattle.dft_netlist.proofs.BitLemmas.{up_length, down_length}
 use Rattle.dft_netlist_text.specs.Modules.{Draft, net_count, names_of_bits, first_taken, free_bits, room_for_nets, with_nets, with_bits, next_shape}
 use Rattle.dft_verilog_draft.specs.Free.{new_bits, unless_taken, with_bits_of, AreFreeBits}
 use Rattle.dft_verilog_draft.specs.Drafts.{IsShapeWithin}
@@ -47,18 +48,9 @@ full_by full b f next h = ap (λ (t : Bool). cond t (Err f) next) h
 ports_by : (n m : ℕ) → n ≡ m → n < MAX_PORTS → nat_le MAX_PORTS m ≡ false
 ports_by n m at few = grind (arith, nat_tests)
 
--- so many numbers going up
-pub length-going_up : (from n : ℕ) → length (going_up from n) ≡ n
-length-going_up from zero = refl
-length-going_up from (suc n) = ap suc (length-going_up (suc from) n)
-
-length-going_down : (from n : ℕ) → length (going_down from n) ≡ n
-length-going_down from zero = refl
-length-going_down from (suc n) = ap suc (length-going_down (from - 1) n)
-
 length_by : (rises : Bool) (from n : ℕ) → length (cond rises (going_up from n) (going_down from n)) ≡ n
-length_by true from n = length-going_up from n
-length_by false from n = length-going_down from n
+length_by true from n = up_length from n
+length_by false from n = down_length from n
 
 -- a name has as many nets as names
 pub length-bit_names : (word : List ℕ) (range : Option Range) → length (bit_names word range) ≡ net_count range

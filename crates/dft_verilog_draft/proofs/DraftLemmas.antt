@@ -14,6 +14,7 @@ use Rattle.dft_netlist.specs.declared.instance.Instance.{Instance}
 use Rattle.dft_netlist.specs.declared.instance.Join.{Join}
 use Rattle.dft_netlist.specs.declared.limits.TheConstants.{MAX_NETS}
 use Rattle.dft_netlist.specs.Sound.{IsLive}
+use Rattle.dft_netlist.proofs.SoundLemmas.{live_more}
 use Rattle.dft_netlist_text.specs.Modules.{Draft, HeaderPort, TakenName, next_shape}
 use Rattle.dft_verilog_draft.specs.Drafts.{IsDraft, IsMeaningWithin, AreNamesWithin, IsDeclaredWithin, InstanceFits, JoinFits, netlist_of_nets, nets_alone}
 
@@ -28,11 +29,6 @@ meaning_more a b le meaning.Instance h = tt
 declared_more : (a b : ℕ) → a ≤ b → (d : Option Declared) → IsDeclaredWithin a d → IsDeclaredWithin b d
 declared_more a b le None h = tt
 declared_more a b le (Some declared) h = omega arith
-
-live_more : (a b : ℕ) → a ≤ b → (s : Signal) → IsLive a s → IsLive b s
-live_more a b le (signal.Net net) h = omega arith
-live_more a b le (signal.Constant bit) h = tt
-live_more a b le signal.Unconnected h = tt
 
 instance_more : (name : Text) (library : List Cell) (xs ys : List Text) → length xs ≤ length ys → (i : Instance) → InstanceFits (netlist_of_nets name library xs) i → InstanceFits (netlist_of_nets name library ys) i
 instance_more name library xs ys le i h = record {

@@ -5,12 +5,10 @@ use Rattle.std.specs.Map.{lookup}
 use Rattle.indexmap.specs.IndexMap.{insert_entry}
 use Rattle.std.proofs.lemmas.Slice.Eq.{bytes_eq-Decides}
 use Rattle.std.proofs.lemmas.Bool.Decides.{same_from_decides, Decides-like}
+use Rattle.dft_base.proofs.TextLemmas.{bytes_eq-comm}
 use Rattle.dft_netlist_text.specs.declared.text.Meaning.{Meaning}
 use Rattle.dft_netlist_text.specs.Modules.{TakenName}
 use Rattle.dft_verilog_draft.specs.TakenNames.{meaning_in}
-
-pub bytes_eq-comm : (xs ys : List ℕ) → bytes_eq xs ys ≡ bytes_eq ys xs
-bytes_eq-comm xs ys = same_from_decides (bytes_eq xs ys) (bytes_eq ys xs) (bytes_eq-Decides xs ys) (Decides-like (bytes_eq ys xs) sym sym (bytes_eq-Decides ys xs))
 
 -- the first of two, or else the rest, seen by its meaning
 first_or : (here : Bool) (e : TakenName) (rest : Option Meaning) (more : Option TakenName) → rest ≡ option_map (λ (o : TakenName). o.meaning) more → cond here (Some e.meaning) rest ≡ option_map (λ (o : TakenName). o.meaning) (cond here (Some e) more)

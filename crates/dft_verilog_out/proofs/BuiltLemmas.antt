@@ -8,6 +8,7 @@ use Rattle.std.proofs.lemmas.List.Elements.{filter_map-append, filter-append}
 use Rattle.dft_base.specs.declared.place.Range.{Range}
 use Rattle.dft_base.specs.Lexing.{Text}
 use Rattle.dft_base.specs.Ranges.{going_up}
+use Rattle.dft_base.proofs.ListLemmas.{going_up-append}
 use Rattle.dft_netlist.specs.declared.ids.NetId.{NetId}
 use Rattle.dft_netlist.specs.declared.port.Port.{Port}
 use Rattle.dft_netlist.specs.declared.instance.Signal.{Signal}
@@ -31,20 +32,13 @@ use Rattle.dft_verilog_out.proofs.PhaseLemmas.{stage, declared_ports, net_count-
 
 -- ---- numbers
 
-count_append : (from a b : ℕ) → going_up from (a + b) ≡ going_up from a ++ going_up (from + a) b
-count_append from zero b = let e : 0 + b ≡ b = omega arith in let f : from ≡ from + 0 = omega arith in ap (going_up from) e ∙ ap (λ k. going_up k b) f
-count_append from (suc a) b =
-    let e : suc a + b ≡ suc (a + b) = omega arith in
-    let f : suc from + a ≡ from + suc a = omega arith in
-    ap (going_up from) e ∙ ap (λ (ks : List ℕ). from ∷ ks) (count_append (suc from) a b ∙ ap (λ k. going_up (suc from) a ++ going_up k b) f)
-
 ports_count : (first : ℕ) (ps : List Port) → nets_of_ports (declared_ports first ps) ≡ going_up first (length (bit_names_of ps))
 ports_count first [] = refl
 ports_count first (p ∷ ps) =
     let size : length (bit_names_of (p ∷ ps)) ≡ length (bit_names p.name p.range) + length (bit_names_of ps) = length-append (bit_names p.name p.range) (bit_names_of ps) in
     ap (λ k. going_up first k ++ nets_of_ports (declared_ports (first + length (bit_names p.name p.range)) ps)) (net_count-is p.name p.range)
     ∙ ap (λ ks. going_up first (length (bit_names p.name p.range)) ++ ks) (ports_count (first + length (bit_names p.name p.range)) ps)
-    ∙ sym (ap (going_up first) size ∙ count_append first (length (bit_names p.name p.range)) (length (bit_names_of ps)))
+    ∙ sym (ap (going_up first) size ∙ going_up-append first (length (bit_names p.name p.range)) (length (bit_names_of ps)))
 
 any_in : (k from n : ℕ) → from ≤ k → k < from + n → list_any (λ bit. eqb bit k) (going_up from n) ≡ true
 any_in k from zero low high = absurd (omega arith)
@@ -80,7 +74,7 @@ module _ (d : Draft) (ps : List Port) (ws : List Text) (ports : d.ports ≡ decl
       let size : length d.nets ≡ bits + length ws = ap length nets ∙ length-append (bit_names_of ps) ws in
       let zeroth : 0 + bits ≡ bits = omega arith in
       ap (λ (ks : List ℕ). filter (λ net. not (list_any (λ bit. eqb bit net) ks)) (going_up 0 (length d.nets))) bits_first
-      ∙ ap (filter (is_other bits)) (ap (going_up 0) size ∙ count_append 0 bits (length ws) ∙ ap (λ k. going_up 0 bits ++ going_up k (length ws)) zeroth)
+      ∙ ap (filter (is_other bits)) (ap (going_up 0) size ∙ going_up-append 0 bits (length ws) ∙ ap (λ k. going_up 0 bits ++ going_up k (length ws)) zeroth)
       ∙ filter-append (is_other bits) (going_up 0 bits) (going_up bits (length ws))
       ∙ ap (λ ks. ks ++ filter (is_other bits) (going_up bits (length ws))) (filter_bits bits 0 bits (omega arith)) ∙ filter_others bits bits (length ws) (omega arith)
 
@@ -90,7 +84,7 @@ module _ (d : Draft) (ps : List Port) (ws : List Text) (ports : d.ports ≡ decl
       let size : length d.nets ≡ bits + length ws = ap length nets ∙ length-append (bit_names_of ps) ws in
       let zeroth : 0 + bits ≡ bits = omega arith in
       ap (λ ks. ks ++ other_nets d) bits_first ∙ ap (λ ks. going_up 0 bits ++ ks) others_count
-      ∙ sym (ap (going_up 0) size ∙ count_append 0 bits (length ws) ∙ ap (λ k. going_up 0 bits ++ going_up k (length ws)) zeroth)
+      ∙ sym (ap (going_up 0) size ∙ going_up-append 0 bits (length ws) ∙ ap (λ k. going_up 0 bits ++ going_up k (length ws)) zeroth)
 
   others_named : names_of_others d ≡ ws
   others_named =

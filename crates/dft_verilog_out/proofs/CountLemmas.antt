@@ -6,6 +6,7 @@ use Rattle.std.specs.Option.{option_and_then}
 use Rattle.std.specs.Str.{bytes_eq}
 use Rattle.std.proofs.lemmas.Slice.Eq.{bytes_eq-Decides}
 use Rattle.dft_base.specs.Lexing.{Text}
+use Rattle.dft_base.proofs.TextLemmas.{same_text, bytes_eq-self}
 use Rattle.dft_cells.specs.WellFormed.{has_name}
 use Rattle.dft_netlist.specs.declared.named.Named.{Named}
 use Rattle.dft_netlist.specs.declared.named.Named.TheVariants as named
@@ -29,14 +30,8 @@ pub times-append : (word : Text) (xs ys : List Text) → times word (xs ++ ys) �
 times-append word [] ys = omega arith
 times-append word (x ∷ xs) ys = let ih = times-append word xs ys in omega arith
 
-pub same_of : (x y : Text) → bytes_eq x y ≡ true → x ≡ y
-same_of x y h = (bytes_eq-Decides x y).0 h
-
-pub bytes_eq-same : (x : Text) → bytes_eq x x ≡ true
-bytes_eq-same x = (bytes_eq-Decides x x).1 refl
-
 pub times-head : (x : Text) (xs : List Text) → times x (x ∷ xs) ≡ 1 + times x xs
-times-head x xs = rw (bytes_eq-same x) refl
+times-head x xs = rw (bytes_eq-self x) refl
 
 -- ---- names in lists
 
@@ -78,7 +73,7 @@ new_by false e x r r' n h ih = ih (omega arith)
 
 -- a new name is found behind the others
 pub look-new : (es more : List TakenName) (x : TakenName) → times x.name (words es) ≡ 0 → look (es ++ x ∷ more) x.name ≡ Some x
-look-new [] more x h = rw (bytes_eq-same x.name) refl
+look-new [] more x h = rw (bytes_eq-self x.name) refl
 look-new (e ∷ es) more x h = new_by (bytes_eq e.name x.name) e x None (look (es ++ x ∷ more) x.name) (times x.name (words es)) h (look-new es more x)
 
 -- ---- names that stand once
@@ -88,7 +83,7 @@ times-zero [] word h = refl
 times-zero (x ∷ xs) word h = by (bytes_eq x word) refl (times-zero xs word (λ k at. h (suc k) at))
   where
     by : (b : Bool) → bytes_eq x word ≡ b → times word xs ≡ 0 → one_if b + times word xs ≡ 0
-    by true is rest = absurd (h 0 (ap Some (same_of x word is)))
+    by true is rest = absurd (h 0 (ap Some (same_text x word is)))
     by false is rest = omega arith
 
 pub times-one : (xs : List Text) (word : Text) → ((k j : ℕ) → slice_get xs k ≡ Some word → slice_get xs j ≡ Some word → k ≡ j) → times word xs ≤ 1
@@ -97,7 +92,7 @@ times-one (x ∷ xs) word h = by (bytes_eq x word) refl (times-one xs word (λ k
   where
     by : (b : Bool) → bytes_eq x word ≡ b → times word xs ≤ 1 → one_if b + times word xs ≤ 1
     by true is rest =
-        let none : times word xs ≡ 0 = times-zero xs word (λ k at. let e : 0 ≡ suc k = h 0 (suc k) (ap Some (same_of x word is)) at in absurd (omega arith)) in omega arith
+        let none : times word xs ≡ 0 = times-zero xs word (λ k at. let e : 0 ≡ suc k = h 0 (suc k) (ap Some (same_text x word is)) at in absurd (omega arith)) in omega arith
     by false is rest = omega arith
 
 pub times-where : (xs : List Text) (word : Text) → 1 ≤ times word xs → (k : ℕ) × (slice_get xs k ≡ Some word)
@@ -105,7 +100,7 @@ times-where [] word h = absurd (omega arith)
 times-where (x ∷ xs) word h = by (bytes_eq x word) refl h (times-where xs word)
   where
     by : (b : Bool) → bytes_eq x word ≡ b → 1 ≤ one_if b + times word xs → (1 ≤ times word xs → (k : ℕ) × (slice_get xs k ≡ Some word)) → (k : ℕ) × (slice_get (x ∷ xs) k ≡ Some word)
-    by true is some later = (0, ap Some (same_of x word is))
+    by true is some later = (0, ap Some (same_text x word is))
     by false is some later = let r = later (omega arith) in (suc r.0, r.1)
 
 -- the same for names that some parts have
@@ -115,7 +110,7 @@ module _ {X : Type 0} (f : X → Option Text) where
   cons_zero (Some x) names word h rest = by (bytes_eq x word) refl
     where
       by : (b : Bool) → bytes_eq x word ≡ b → one_if b + times word names ≡ 0
-      by true is = absurd (h (ap Some (same_of x word is)))
+      by true is = absurd (h (ap Some (same_text x word is)))
       by false is = omega arith
 
   pub shown-zero : (xs : List X) (word : Text) → ((k : ℕ) → option_and_then f (slice_get xs k) ≡ Some word → ⊥) → times word (filter_map f xs) ≡ 0
@@ -127,7 +122,7 @@ module _ {X : Type 0} (f : X → Option Text) where
   cons_one (Some x) names word h rest = by (bytes_eq x word) refl
     where
       by : (b : Bool) → bytes_eq x word ≡ b → one_if b + times word names ≤ 1
-      by true is = let none = h (ap Some (same_of x word is)) in omega arith
+      by true is = let none = h (ap Some (same_text x word is)) in omega arith
       by false is = omega arith
 
   pub shown-one : (xs : List X) (word : Text) → ((k j : ℕ) → option_and_then f (slice_get xs k) ≡ Some word → option_and_then f (slice_get xs j) ≡ Some word → k ≡ j) → times word (filter_map f xs) ≤ 1
@@ -142,7 +137,7 @@ module _ {X : Type 0} (f : X → Option Text) where
   cons_where (Some x) names word h = by (bytes_eq x word) refl h
     where
       by : (b : Bool) → bytes_eq x word ≡ b → 1 ≤ one_if b + times word names → (Some x ≡ Some word) ⊎ (1 ≤ times word names)
-      by true is some = inl (ap Some (same_of x word is))
+      by true is some = inl (ap Some (same_text x word is))
       by false is some = inr (omega arith)
 
   pub shown-where : (xs : List X) (word : Text) → 1 ≤ times word (filter_map f xs) → (k : ℕ) × (option_and_then f (slice_get xs k) ≡ Some word)

@@ -12,11 +12,14 @@ use Rattle.std.specs.Str.Parse.{digits_value}
 use Rattle.std.proofs.lemmas.Fmt.{decimal_is_IsNumeral, length-decimal-le, decimal_nonempty, digits_decimal}
 use Rattle.std.proofs.lemmas.Str.Parse.{numerals_by_value, tells_by_index}
 use Rattle.std.proofs.lemmas.List.Elements.{All-from_get_or}
+use Rattle.std.proofs.lemmas.Bool.{and_parts}
 use Rattle.dft_netlist_text.specs.Expressions.{small_number}
 use Rattle.dft_base.specs.Lexing.{Text, Blank, Cut, tokens_from}
 use Rattle.dft_base.specs.Name.{IsName}
 use Rattle.dft_base.specs.Words.{begins_word, continues_word, is_reserved, is_word, is_later_reserved, needs_escape, reserved_words}
 use Rattle.dft_base.proofs.LexingLemmas.{tokens_from-cut}
+use Rattle.dft_base.proofs.NumberLemmas.{minus_zero}
+use Rattle.dft_base.proofs.TextLemmas.{prefix_len-run, begins_goes_on}
 use Rattle.dft_netlist_text.specs.declared.text.TokenKind.{TokenKind}
 use Rattle.dft_netlist_text.specs.declared.text.TokenKind.TheVariants as kind
 use Rattle.dft_netlist_text.specs.Lexemes.{Token, Lexeme, tokens, front, lexeme, token_of, blank_len, is_base_kind, word_kind, mark_kind, escaped, quote, is_space, is_printed, word_len}
@@ -32,9 +35,6 @@ cut_up-is text = refl
 
 abbrev pub token : TokenKind → Text → ℕ → Token
 token k bytes left = record { kind = k; bytes = bytes; left = left }
-
-pub minus_zero : (n : ℕ) → n - 0 ≡ n
-minus_zero n = omega arith
 
 -- ---- blanks, keywords and marks
 
@@ -188,24 +188,6 @@ cut_front text l e cut full moves =
     front_token false text e ∙ ap (λ (m : Lexeme). Cut (token_of m text) m.len (is_base_kind m.kind)) cut in
     tokens_from-cut front false text (token_of l text) l.len (is_base_kind l.kind) full moves token
 
-and_parts : (a b : Bool) → (a && b) ≡ true → (a ≡ true) × (b ≡ true)
-and_parts true b h = (refl, h)
-and_parts false b h = absurd (cc)
-
-is_false : (a : Bool) → not a ≡ true → a ≡ false
-is_false true h = absurd (cc)
-is_false false h = refl
-
-begins_continues : (b : ℕ) → begins_word b ≡ true → continues_word b ≡ true
-begins_continues b e = grind (arith, nat_tests)
-
--- how far a test passes, over a text all of whose bytes pass, and one that does not
-pub prefix_len-run : (p : ℕ → Bool) (xs : Text) (b : ℕ) (rest : Text) → list_all p xs ≡ true → p b ≡ false → prefix_len p (xs ++ b ∷ rest) ≡ length xs
-prefix_len-run p [] b rest all stops = ap (λ t. cond t (1 + prefix_len p rest) 0) stops
-prefix_len-run p (x ∷ xs) b rest all stops =
-    let parts = and_parts (p x) (list_all p xs) all in
-    ap (λ t. cond t (1 + prefix_len p (xs ++ b ∷ rest)) 0) parts.0 ∙ (let ih = prefix_len-run p xs b rest parts.1 stops in omega arith)
-
 no_blank : (c : ℕ) (text : Text) → begins_word c ≡ true → blank_len (c ∷ text) ≡ 0
 unfolding blank_len
 no_blank c text begins = grind (arith, nat_tests)
@@ -251,7 +233,7 @@ token-front l text bytes e p a = rw (e, p, a, minus_zero) refl
 all_continue : (c : ℕ) (cs : Text) → is_word (c ∷ cs) ≡ true → (begins_word c ≡ true) × (list_all continues_word (c ∷ cs) ≡ true)
 all_continue c cs h =
     let parts = and_parts (begins_word c) (list_all continues_word cs) h in
-    (parts.0, rw (begins_continues c parts.0) parts.1)
+    (parts.0, rw (begins_goes_on c parts.0) parts.1)
 
 pub cut_up-word : (name : Text) (b : ℕ) (rest : Text) → is_word name ≡ true → is_reserved name ≡ false → continues_word b ≡ false
     → cut_up (name ++ b ∷ rest) ≡ token kind.Name name (length (name ++ b ∷ rest)) ∷ cut_up (b ∷ rest)

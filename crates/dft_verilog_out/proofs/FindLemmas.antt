@@ -9,10 +9,12 @@ use Rattle.std.proofs.lemmas.Bool.{and_parts}
 use Rattle.std.proofs.lemmas.Bool.Decides.{nat_tests}
 use Rattle.std.proofs.lemmas.Cmp.{nat_list_cmp_total}
 use Rattle.std.proofs.lemmas.Map.Text.{is_eq-slice_cmp}
+use Rattle.dft_base.proofs.TextLemmas.{bytes_eq-self}
 use Rattle.dft_cells.specs.declared.cell.Pin.{Pin}
 use Rattle.dft_cells.specs.declared.cell.Cell.{Cell}
 use Rattle.dft_cells.specs.Cells.{find_from, find_cell}
 use Rattle.dft_cells.specs.WellFormed.{ascend, comes_before, cell_name, pin_name, has_name, all_differ}
+use Rattle.dft_cells.proofs.Halving.{order_of, less_from, differ_less}
 use Rattle.dft_netlist_text.specs.Items.{pin_place}
 
 -- the place of the first that passes, one more in front
@@ -27,14 +29,6 @@ cons_by false n len = inner (ltb n len) refl
 pub position-cons : {X : Type 0} (p : X → Bool) (x : X) (xs : List X) → position p (x ∷ xs) ≡ cond (p x) (Some 0) (option_map suc (position p xs))
 position-cons p x xs = cons_by (p x) (position_or_len p xs) (length xs)
 
-abbrev order_of : List ℕ → List ℕ → Ordering
-order_of a b = slice_cmp nat_cmp a b
-
-less_from : (o : Ordering) → is_lt o ≡ true → o ≡ Less
-less_from Less e = refl
-less_from Equal e = cc
-less_from Greater e = cc
-
 before_each : (name : List ℕ) (cells : List Cell) → comes_before name (map cell_name cells) ≡ true → ascend (map cell_name cells) ≡ true
     → (k : ℕ) (cell : Cell) → slice_get cells k ≡ Some cell → order_of name cell.name ≡ Less
 before_each name [] first rest k cell at = absurd (cc)
@@ -43,18 +37,12 @@ before_each name (x ∷ xs) first rest (suc k) cell at =
     let (next, more) = and_parts (comes_before x.name (map cell_name xs)) (ascend (map cell_name xs)) rest in
     nat_list_cmp_total.trans name x.name cell.name (less_from _ first) (before_each x.name xs next more k cell at)
 
-differ_less : (a b : List ℕ) → order_of a b ≡ Less → bytes_eq a b ≡ false
-differ_less a b e = sym (is_eq-slice_cmp a b) ∙ ap is_eq e
-
-bytes_eq-same : (x : List ℕ) → bytes_eq x x ≡ true
-bytes_eq-same x = (bytes_eq-Decides x x).1 refl
-
 found_from : (from : ℕ) (cells : List Cell) (k : ℕ) (cell : Cell) → ascend (map cell_name cells) ≡ true → slice_get cells k ≡ Some cell → find_from from cells cell.name ≡ Some (record { 0 = from + k })
 found_from from [] k cell up at = absurd (cc)
 found_from from (x ∷ xs) zero cell up at =
     let e : x ≡ cell = cc in
     let number : from ≡ from + 0 = omega arith in
-    ap (λ (c : Cell). cond (bytes_eq c.name cell.name) (Some (record { 0 = from })) (find_from (from + 1) xs cell.name)) e ∙ rw (bytes_eq-same cell.name) (ap (λ n. Some (record { 0 = n })) number)
+    ap (λ (c : Cell). cond (bytes_eq c.name cell.name) (Some (record { 0 = from })) (find_from (from + 1) xs cell.name)) e ∙ rw (bytes_eq-self cell.name) (ap (λ n. Some (record { 0 = n })) number)
 found_from from (x ∷ xs) (suc k) cell up at =
     let (first, rest) = and_parts (comes_before x.name (map cell_name xs)) (ascend (map cell_name xs)) up in
     let number : from + 1 + k ≡ from + suc k = omega arith in
@@ -82,7 +70,7 @@ place_from [] k pin differ at = absurd (cc)
 place_from (p ∷ pins) zero pin differ at =
     let e : p ≡ pin = cc in
     position-cons (λ (p : Pin). bytes_eq p.name pin.name) p pins
-    ∙ ap (λ (x : Pin). cond (bytes_eq x.name pin.name) (Some 0) (option_map suc (position (λ (p : Pin). bytes_eq p.name pin.name) pins))) e ∙ rw (bytes_eq-same pin.name) refl
+    ∙ ap (λ (x : Pin). cond (bytes_eq x.name pin.name) (Some 0) (option_map suc (position (λ (p : Pin). bytes_eq p.name pin.name) pins))) e ∙ rw (bytes_eq-self pin.name) refl
 place_from (p ∷ pins) (suc k) pin differ at =
     let (first, rest) = and_parts (not (has_name (map pin_name pins) p.name)) (all_differ (map pin_name pins)) differ in
     let other : bytes_eq p.name pin.name ≡ false = turned (bytes_eq p.name pin.name) pin.name p.name refl (none_at pins p.name k pin first at) in

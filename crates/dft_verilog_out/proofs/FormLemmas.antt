@@ -16,7 +16,6 @@ use Rattle.dft_netlist.specs.declared.instance.Join.{Join}
 use Rattle.dft_netlist.specs.Netlist.{Netlist}
 use Rattle.dft_netlist.specs.Sound.{bit_names_of, IsNetlist, IsAJoin, IsInstance}
 use Rattle.dft_base.specs.Name.{IsName}
-use Rattle.dft_verilog_out.specs.Named.{IsNamedPort, IsNamedInstance, IsNamedNetlist}
 use Rattle.dft_verilog_out.specs.Written.{name_text, bit_select_text, bit_texts, port_texts, list_text_behind, connection_text, is_joined, connection_texts, wire_names, net_texts, module_line, port_line, wire_line, join_line, instance_line, body, written}
 
 -- ---- the connections from a place on
@@ -108,9 +107,6 @@ texts-are n first all f e =
 pub wires-are : (n : Netlist) (first all : List Text) (from : ℕ) → first ≡ flat_map port_texts n.ports → from ≡ length first → all ≡ net_texts n → drop from all ≡ map name_text (wire_names n)
 wires-are n first all from f k e = ap (drop from) e ∙ ap (λ j. drop j (net_texts n)) (k ∙ ap length f) ∙ drop-append_seam (flat_map port_texts n.ports) (map name_text (wire_names n))
 
-pub rest-is : {X : Type 0} (xs : List X) (k : ℕ) → take (length xs - k) (drop k xs) ≡ drop k xs
-rest-is xs k = take_all (length xs - k) (drop k xs) (omega (arith, length-drop k xs))
-
 pub module_line-is : (n : Netlist) (old new name : Text) (ports : List Port) → old ≡ [] → name ≡ n.name → ports ≡ n.ports → new ≡ old ++ module_line name ports → new ≡ module_line n.name n.ports
 module_line-is n old new name ports o m p e = e ∙ rw (o, m, p) refl
 
@@ -151,22 +147,6 @@ line_more f xs k x old new whole at n e =
 
 -- ---- what holds of each of those that were passed
 
--- what holds of those before a place, and there, holds of those before the next
-pub each_more : {X : Type 0} (P : ℕ → X → Type 0) (xs : List X) (index : ℕ) (here : X) → ((k : ℕ) (x : X) → k < index → slice_get xs k ≡ Some x → P k x) → slice_get xs index ≡ Some here → P index here
-    → (k : ℕ) (x : X) → k < index + 1 → slice_get xs k ≡ Some x → P k x
-each_more P xs index here before at is k x lt same = elim (cases_lt k index) [
-  | inl less ↦ before k x less same
-  | inr least ↦ (
-      let e : index ≡ k = omega arith in
-      let s : Some here ≡ Some x = sym at ∙ ap (slice_get xs) e ∙ same in
-      let t : here ≡ x = cc in
-      subst (λ j. P j x) e (subst (P index) t is))
-]
-
--- behind all, it holds of each
-pub each_all : {X : Type 0} (P : ℕ → X → Type 0) (xs : List X) (index : ℕ) → length xs ≤ index → ((k : ℕ) (x : X) → k < index → slice_get xs k ≡ Some x → P k x) → (k : ℕ) (x : X) → slice_get xs k ≡ Some x → P k x
-each_all P xs index all before k x at = before k x (let lt = slice_get_within xs k x at in omega arith) at
-
 -- a pin that is not joined needs no name
 pub not_joined : (pins : List Pin) (signals : List Signal) (place : ℕ) (d : Signal) → is_joined (get_or signals place d) ≡ false → place < length pins
     → ((k : ℕ) (pin : Pin) → k < place → slice_get pins k ≡ Some pin → (to : Signal) → slice_get signals k ≡ Some to → is_joined to ≡ true → IsName pin.name)
@@ -188,16 +168,6 @@ get_drop [] (suc from) k = nothing (suc from + k)
     nothing j = refl
 get_drop (x ∷ xs) (suc from) k = let e : suc (from + k) ≡ suc from + k = omega arith in get_drop xs from k ∙ ap (slice_get (x ∷ xs)) e
 
--- all that is written has names
-pub all_named : (n : Netlist) (ports : List Port) (cells : List Cell) (instances : List Instance) (first : List Text) → IsName n.name → ports ≡ n.ports → cells ≡ n.library → instances ≡ n.instances → first ≡ flat_map port_texts n.ports
-    → ((place : ℕ) (p : Port) → slice_get ports place ≡ Some p → IsNamedPort p)
-    → ((place : ℕ) (name : Text) → length first ≤ place → slice_get n.nets place ≡ Some name → IsName name)
-    → ((place : ℕ) (i : Instance) → slice_get instances place ≡ Some i → IsNamedInstance cells i) → IsNamedNetlist n
-all_named n ports cells instances first own p c i f of_ports of_others of_instances = record {
-  own = own;
-  ports = λ place port at. of_ports place port (ap (λ (ps : List Port). slice_get ps place) p ∙ at);
-  others = λ place name at.
-      let bits : ℕ = length (bit_names_of n.ports) in
-      of_others (bits + place) name (omega (arith, ap length f, length-port_texts n.ports)) (sym (get_drop n.nets bits place) ∙ at);
-  instances = λ place x at. subst (λ (cs : List Cell). IsNamedInstance cs x) c (of_instances place x (ap (λ (is : List Instance). slice_get is place) i ∙ at));
-}
+-- the nets behind those of the ports have names
+pub wires-named : (n : Netlist) → IsNetlist n → (place : ℕ) (name : Text) → slice_get (wire_names n) place ≡ Some name → IsName name
+wires-named n sound place name at = let bits : ℕ = length (bit_names_of n.ports) in sound.named.nets (bits + place) name (sym (get_drop n.nets bits place) ∙ at)

@@ -45,7 +45,7 @@ names_read : (m : ℕ) (n : Netlist) (p : Port) (ps : List Port) (names : List T
 names_read zero n p ps names done others rest good few once room = absurd (omega arith)
 names_read (suc m) n p [] names done others rest good few once room =
     let d = stage n names done [] [] [] in
-    let w = name_at p.name 41 rest good.0.name refl in
+    let w = name_at p.name 41 rest good.0.0 refl in
     let new = stage n (names ++ entry p.name (meaning.Port (length done)) ∷ []) (done ++ record { name = p.name; declared = None } ∷ []) [] [] [] in
     ap (announced_names_from (suc m) d) (w.at ∙ ap (λ ts. token kind.Name p.name (suc w.left) ∷ ts) (cut_up-close rest))
     ∙ names_from-end m d new p.name (suc w.left) (suc (length rest)) (cut_up rest) (announce-is (suc w.left) p.name d (free_at names p.name others once) (omega arith))
@@ -53,7 +53,7 @@ names_read (suc m) n p [] names done others rest good few once room =
 names_read (suc m) n p (q ∷ qs) names done others rest good few once room =
     let d = stage n names done [] [] [] in
     let later : Text = name_text q.name ++ (list_text_behind (codes ", ") (header_texts qs) ++ 41 ∷ rest) in
-    let w = name_at p.name 44 (32 ∷ later) good.0.name refl in
+    let w = name_at p.name 44 (32 ∷ later) good.0.0 refl in
     let x : HeaderPort = record { name = p.name; declared = None } in
     let e : TakenName = entry p.name (meaning.Port (length done)) in
     let new = stage n (names ++ e ∷ []) (done ++ x ∷ []) [] [] [] in
@@ -75,7 +75,7 @@ header_read n (p ∷ ps) others rest good once room =
     let d = stage n [] [] [] [] [] in
     let behind : Text = list_text_behind (codes ", ") (header_texts ps) ++ 41 ∷ rest in
     let is : list_text (header_texts (p ∷ ps)) ++ 41 ∷ rest ≡ name_text p.name ++ behind = append_assoc (name_text p.name) (list_text_behind (codes ", ") (header_texts ps)) (41 ∷ rest) in
-    first_token d p ps behind refl good.0.name (λ l ts at size.
+    first_token d p ps behind refl good.0.0 (λ l ts at size.
     ap (λ t. header_names d (cut_up t)) is ∙ ap (header_names d) at ∙ header_names-some d p.name (suc l) ts ∙ ap (announced_names_from (suc l) d) (sym at)
     ∙ names_read (suc l) n p ps [] [] others rest good (omega (arith, size, listed_long (header_texts ps) rest, length-map ps (λ (q : Port). name_text q.name), length-append (name_text p.name) behind)) once (omega arith))
   where

@@ -25,7 +25,7 @@ use Rattle.dft_netlist_text.specs.Items.{item, input_terminals_from, input_termi
 use Rattle.dft_verilog_out.specs.Written.{name_text, signal_text, list_text, list_text_behind, connection_text, is_joined, connection_texts, gate_text, own_name_text}
 use Rattle.dft_verilog_out.proofs.CutLemmas.{cut_up, token, cut_up-buf, cut_up-not, cut_up-and, cut_up-nand, cut_up-or, cut_up-nor, cut_up-xor, cut_up-xnor, cut_up-point, cut_up-comma, cut_up-close, cut_up-semicolon, cut_up-space, cut_up-line, cut_up-opened, name_at, Opens}
 use Rattle.dft_verilog_out.proofs.ItemLemmas.{gate_token, gate-named, gate-unnamed, terminal-at, input_terminals_from-more, input_terminals_from-end, terminals-at, named_connection-at, cell-at, connections-none, connections-some, named_connections_from-more, named_connections_from-end}
-use Rattle.dft_verilog_out.proofs.OperandLemmas.{Follower, AClose, AComma, follow, follow_kind, Operand}
+use Rattle.dft_verilog_out.proofs.OperandLemmas.{Follower, AClose, AComma, follow, follow_kind, Operand, left_of}
 use Rattle.dft_verilog_out.proofs.LineLemmas.{Line}
 
 -- ---- lists
@@ -48,10 +48,6 @@ listed_long (t ∷ texts) rest =
     let more = listed_long texts rest in
     let e : (t ++ list_text_behind (codes ", ") texts) ++ 41 ∷ rest ≡ t ++ (list_text_behind (codes ", ") texts ++ 41 ∷ rest) = append_assoc t (list_text_behind (codes ", ") texts) (41 ∷ rest) in
     omega (arith, ap length e, length-append t (list_text_behind (codes ", ") texts ++ 41 ∷ rest))
-
-left_of : (k : TokenKind) (word : Text) (l : ℕ) (ts : List Token) → left (token k word l ∷ ts) ≡ l
-unfolding left
-left_of k word l ts = refl
 
 left_behind : (texts : List Text) (rest : Text) → left (cut_up (list_text_behind (codes ", ") texts ++ 41 ∷ rest)) ≡ length (list_text_behind (codes ", ") texts ++ 41 ∷ rest)
 left_behind [] rest = ap left (cut_up-close rest) ∙ left_of kind.CloseParen (41 ∷ []) (suc (length rest)) (cut_up rest)

@@ -2,6 +2,7 @@
 use Rattle.std.proofs.Common.{◌≡◌, ℕ, zero, suc, ◌+◌, ◌-◌, Bool, true, false, not, ◌&&◌, cond, nat_le, nat_lt, List, [], ◌∷◌, ◌++◌, length, map, is_some, Option, Some, None, Ok, Err, refl, ◌∙◌}
 use Rattle.std.specs.List.{list_all}
 use Rattle.std.proofs.lemmas.List.Folds.{list_all-append}
+use Rattle.std.proofs.lemmas.Bool.{and_from}
 use Rattle.dft_base.specs.declared.place.Range.{Range}
 use Rattle.dft_base.specs.Lexing.{Text}
 use Rattle.dft_base.specs.Parser as parser
@@ -89,16 +90,8 @@ IsJoinedOperand library o = IsJoinedDraft library o.0 × AreBits o.1
 abbrev pub AreJoinedConcatenations : List Cell → Draft × OpenConcatenations → Type 0
 AreJoinedConcatenations library p = IsJoinedDraft library p.0 × AreBits p.1.bits
 
-pub both : (a b : Bool) → a ≡ true → b ≡ true → (a && b) ≡ true
-both true b h k = k
-both false b h k = absurd (cc)
-
-pub first_of : (b more : Bool) → (b && more) ≡ true → b ≡ true
-first_of true more h = refl
-first_of false more h = absurd (cc)
-
 pub all_behind : {X : Type 0} (p : X → Bool) (xs ys : List X) → list_all p xs ≡ true → list_all p ys ≡ true → list_all p (xs ++ ys) ≡ true
-all_behind p xs ys h k = list_all-append p xs ys ∙ both (list_all p xs) (list_all p ys) h k
+all_behind p xs ys h k = list_all-append p xs ys ∙ and_from (list_all p xs) (list_all p ys) h k
 
 -- ---- declarations
 

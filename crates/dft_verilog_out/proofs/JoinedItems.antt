@@ -1,5 +1,6 @@
 -- Whatever a module says, the gates that it has said are joined at every pin.
 use Rattle.std.proofs.Common.{◌≡◌, ℕ, zero, suc, Bool, true, false, ◌==◌, if◌then◌else◌, List, [], ◌∷◌, ◌++◌, length, slice_get, Option, Some, None, refl}
+use Rattle.std.proofs.lemmas.Bool.{and_from}
 use Rattle.dft_base.specs.declared.place.Range.{Range}
 use Rattle.dft_base.specs.Lexing.{Text}
 use Rattle.dft_base.specs.Parser.{pure, ◌>>=◌, ◌>>◌}
@@ -10,6 +11,7 @@ use Rattle.dft_cells.specs.Cells.{find_cell}
 use Rattle.dft_cells.specs.Pins.{takes_inputs}
 use Rattle.dft_base.specs.declared.dir.Dir.{Dir}
 use Rattle.dft_base.specs.declared.dir.Dir.TheVariants as dir
+use Rattle.dft_base.proofs.BitLemmas.{and_first}
 use Rattle.dft_netlist.specs.declared.instance.Signal.{Signal}
 use Rattle.dft_netlist.specs.declared.instance.Instance.{Instance}
 use Rattle.dft_netlist_text.specs.declared.text.TokenKind.{TokenKind}
@@ -23,7 +25,7 @@ use Rattle.dft_netlist_text.specs.Items.{Declaring, Ports, Wires, declare, decla
 use Rattle.dft_netlist_text.specs.NetlistText.{announced_name, announced_names_from, announced_names, declared_port, PortDeclaration, port_declaration, declared_ports_from, declared_ports, sees_direction, header_names, header, heading, first_undeclared, all_declared, module_end, end_of_text, module_text}
 use Rattle.dft_verilog_out.specs.Written.{is_joined}
 use Rattle.dft_verilog_out.specs.Named.{is_joined_gate}
-use Rattle.dft_verilog_out.proofs.JoinedDrafts.{Yields, behind, passed, either, of_check, of_need, turns, IsJoinedDraft, AreBits, IsJoinedOperand, both, first_of, all_behind, announce_joined, new_port_joined, port_joined, wire_joined, name_joined, room_joined, expression_joined}
+use Rattle.dft_verilog_out.proofs.JoinedDrafts.{Yields, behind, passed, either, of_check, of_need, turns, IsJoinedDraft, AreBits, IsJoinedOperand, all_behind, announce_joined, new_port_joined, port_joined, wire_joined, name_joined, room_joined, expression_joined}
 
 -- what one rule does to drafts whose gates are joined
 abbrev Keeps : List Cell → (Draft → Rule Draft) → Type 0
@@ -147,7 +149,7 @@ abbrev IsJoinedBit : List Cell → One → Type 0
 IsJoinedBit library o = IsJoinedDraft library o.0 × (is_joined o.1 ≡ true)
 
 one_joined : (library : List Cell) (place : ℕ) (d : Draft) (bits : List Signal) → IsJoinedDraft library d → AreBits bits → (ts : List Token) → Yields (IsJoinedBit library) (one_bit place d bits ts)
-one_joined library place d (bit ∷ []) h k ts = (h, first_of (is_joined bit) true k)
+one_joined library place d (bit ∷ []) h k ts = (h, and_first (is_joined bit) true k)
 one_joined library place d [] h k ts = tt
 one_joined library place d (bit ∷ next ∷ bits) h k ts = tt
 
@@ -163,17 +165,17 @@ inputs_of library (suc n) d ins h ts =
     passed (IsJoinedOperand library) (eat kind.Comma ts) _ (λ comma us.
     turns (IsJoinedOperand library) comma (d, ins) _ h (λ vs.
     behind (IsJoinedBit library) (IsJoinedOperand library) (terminal false d vs) _ (terminal_joined library false d h.0 vs) (λ o m ws.
-    inputs_of library n o.0 (ins ++ o.1 ∷ []) (m.0, all_behind is_joined ins (o.1 ∷ []) h.1 (both (is_joined o.1) true m.1 refl)) ws)) us)
+    inputs_of library n o.0 (ins ++ o.1 ∷ []) (m.0, all_behind is_joined ins (o.1 ∷ []) h.1 (and_from (is_joined o.1) true m.1 refl)) ws)) us)
 
 inputs_all : (library : List Cell) (d : Draft) → IsJoinedDraft library d → (ts : List Token) → Yields (IsJoinedOperand library) (input_terminals d ts)
 unfolding input_terminals
 inputs_all library d h ts = inputs_of library (left ts) d [] (h, refl) ts
 
 gate_is_joined : (k : Kind) (word : Option Text) (output : Signal) (ins : List Signal) → is_joined output ≡ true → AreBits ins → is_joined_gate (gate_instance k word output ins) ≡ true
-gate_is_joined k word output ins h j = all_behind is_joined ins (output ∷ []) j (both (is_joined output) true h refl)
+gate_is_joined k word output ins h j = all_behind is_joined ins (output ∷ []) j (and_from (is_joined output) true h refl)
 
 instance_joined : (library : List Cell) (i : Instance) (d : Draft) → is_joined_gate i ≡ true → IsJoinedDraft library d → IsJoinedDraft library (with_instance i d)
-instance_joined library i d h j = (all_behind is_joined_gate d.instances (i ∷ []) j.0 (both (is_joined_gate i) true h refl), j.1)
+instance_joined library i d h j = (all_behind is_joined_gate d.instances (i ∷ []) j.0 (and_from (is_joined_gate i) true h refl), j.1)
 
 terminals_joined : (library : List Cell) (k : Kind) (word : Option Text) (place : ℕ) → Keeps library (terminals k word place)
 unfolding terminals

@@ -1,8 +1,10 @@
 -- A netlist that a text stands for has its gates joined at every pin, and is over the cells that the text was read with.
 use Rattle.std.proofs.Common.{◌≡◌, ℕ, Bool, true, false, ◌&&◌, List, [], ◌∷◌, map, Option, Some, None, Ok, Err, refl, sym, ◌∙◌, subst}
 use Rattle.std.specs.List.{list_all}
+use Rattle.std.proofs.lemmas.Bool.{and_from}
 use Rattle.dft_base.specs.Lexing.{Text}
 use Rattle.dft_base.specs.Parser as parser
+use Rattle.dft_base.proofs.BitLemmas.{and_first, and_second}
 use Rattle.dft_cells.specs.declared.cell.Cell.{Cell}
 use Rattle.dft_netlist.specs.declared.instance.Signal.{Signal}
 use Rattle.dft_netlist.specs.declared.instance.Signal.TheVariants as signal
@@ -21,7 +23,7 @@ use Rattle.dft_verilog_out.specs.Written.{is_joined}
 use Rattle.dft_verilog_out.specs.Named.{joins_its_pins, is_joined_gate}
 use Rattle.dft_verilog_out.specs.Laws.{TextsAreJoined, LibraryIsKept}
 use Rattle.dft_verilog_out.proofs.JoinedLemmas.{gates_joined}
-use Rattle.dft_verilog_out.proofs.JoinedDrafts.{Yields, AreJoined, IsJoinedDraft, both, first_of, all_behind}
+use Rattle.dft_verilog_out.proofs.JoinedDrafts.{Yields, AreJoined, IsJoinedDraft, all_behind}
 use Rattle.dft_verilog_out.proofs.JoinedItems.{module_joined}
 
 -- the gates of a netlist are joined, and it is over these cells
@@ -67,18 +69,14 @@ gate-joined : (order : List ℕ) (cell : CellRef) (pins : List Signal) → joins
 gate-joined order (cell_ref.Library id) pins = refl
 gate-joined order (cell_ref.Gate kind inputs) pins = finals-joined order pins
 
-rest_of : (b more : Bool) → (b && more) ≡ true → more ≡ true
-rest_of true more h = h
-rest_of false more h = absurd (cc)
-
 instances_joined : (library : List Cell) (order : List ℕ) (is : List Instance) (n : Netlist) → AreJoined is → IsJoinedNetlist library n → IsJoinedGrown library (add_instances order is n)
 instances_joined library order [] n h k = k
 instances_joined library order (i ∷ is) n h k =
     let more : Instance = record i { pins = map (final_signal order) i.pins } in
-    let one : is_joined_gate more ≡ true = gate-joined order i.cell i.pins ∙ first_of (is_joined_gate i) (list_all is_joined_gate is) h in
+    let one : is_joined_gate more ≡ true = gate-joined order i.cell i.pins ∙ and_first (is_joined_gate i) (list_all is_joined_gate is) h in
     and_joined library (add_instance order n i) (add_instances order is)
-    (unless_joined library (instance_refusal n i.name) _ (all_behind is_joined_gate n.instances (more ∷ []) k.0 (both (is_joined_gate more) true one refl), k.1))
-    (λ m j. instances_joined library order is m (rest_of (is_joined_gate i) (list_all is_joined_gate is) h) j)
+    (unless_joined library (instance_refusal n i.name) _ (all_behind is_joined_gate n.instances (more ∷ []) k.0 (and_from (is_joined_gate more) true one refl), k.1))
+    (λ m j. instances_joined library order is m (and_second (is_joined_gate i) (list_all is_joined_gate is) h) j)
 
 built_joined : (library : List Cell) (d : Draft) → IsJoinedDraft library d → IsJoinedGrown library (built d)
 unfolding built

@@ -13,11 +13,10 @@ use Rattle.dft_netlist.specs.declared.port.Port.{Port}
 use Rattle.dft_netlist_text.specs.declared.text.Meaning.TheVariants as meaning
 use Rattle.dft_netlist_text.specs.declared.text.Declared.{Declared}
 use Rattle.dft_netlist.specs.Netlist.{Netlist}
-use Rattle.dft_netlist.specs.Names.{bit_names, indices_of, going_up, going_down, names_taken, vector_name, vector_name_in, instance_name}
+use Rattle.dft_netlist.specs.Names.{IsShortRange, bit_names, indices_of, going_up, going_down, names_taken, vector_name, vector_name_in, instance_name}
 use Rattle.dft_netlist.specs.Sound.{bit_names_of}
 use Rattle.dft_netlist_text.specs.Modules.{HeaderPort, TakenName, names_of_bits}
 use Rattle.dft_netlist.proofs.BitLemmas.{rising, falling}
-use Rattle.dft_verilog_out.specs.Named.{IsSmallRange}
 use Rattle.dft_verilog_out.specs.Written.{name_text, bit_select_text, bit_texts, port_texts}
 use Rattle.dft_verilog_out.proofs.FormLemmas.{length-bit_texts}
 use Rattle.dft_verilog_out.proofs.CutLemmas.{IsSmall}
@@ -63,7 +62,7 @@ index_down r j lt le =
     let b : nat_le (r.left - j) r.left ≡ true = grind (arith, nat_tests) in
     (rw (is, a, b) refl, rw is (omega arith))
 
-module _ (names : List TakenName) (ports : List HeaderPort) (word : Text) (r : Range) (first : ℕ) (name : IsName word) (small : IsSmallRange (Some r)) (known : Known names ports word (record { range = Some r; first = record { 0 = first } })) where
+module _ (names : List TakenName) (ports : List HeaderPort) (word : Text) (r : Range) (first : ℕ) (name : IsName word) (small : IsShortRange (Some r)) (known : Known names ports word (record { range = Some r; first = record { 0 = first } })) where
   bit_at : (index j net : ℕ) → IsSmall index → has_index r index ≡ true → place_in r index ≡ j → net ≡ first + j → NetAt names ports (bit_select_text word index) net
   bit_at index j net fits inside place e = BitOf word index r (record { 0 = first }) refl name fits known inside (let f : first + place_in r index ≡ net = omega arith in f)
 
@@ -100,7 +99,7 @@ module _ (names : List TakenName) (ports : List HeaderPort) (word : Text) (r : R
   pub vector_at : TextsAt names ports first (map (bit_select_text word) (indices_of r))
   vector_at = vector_by (nat_le r.left r.right) refl
 
-port_texts_at : (names : List TakenName) (ports : List HeaderPort) (word : Text) (range : Option Range) (first : ℕ) → IsName word → IsSmallRange range → Known names ports word (record { range = range; first = record { 0 = first } })
+port_texts_at : (names : List TakenName) (ports : List HeaderPort) (word : Text) (range : Option Range) (first : ℕ) → IsName word → IsShortRange range → Known names ports word (record { range = range; first = record { 0 = first } })
     → TextsAt names ports first (bit_texts word range)
 port_texts_at names ports word None first name small known = (Whole word refl name known, tt)
 port_texts_at names ports word (Some r) first name small known = vector_at names ports word r first name small known
@@ -126,7 +125,7 @@ ports_at names ports (p ∷ ps) place first good known there =
     let size = length-bit_texts p.name p.range in
     let d : Declared = record { dir = p.dir; shape = record { range = p.range; first = record { 0 = first } }; repeated = false } in
     texts_append names ports first (port_texts p) (flat_map port_texts ps)
-    (port_texts_at names ports p.name p.range first good.0.name good.0.range (AsPort known.0.name place d known.0.at there.0 refl))
+    (port_texts_at names ports p.name p.range first good.0.0 good.0.1 (AsPort known.0.name place d known.0.at there.0 refl))
     (subst (λ k. TextsAt names ports (first + k) (flat_map port_texts ps)) (sym size) (ports_at names ports ps (suc place) (first + length (bit_names p.name p.range)) good.1 known.1 there.1))
 
 -- ---- names

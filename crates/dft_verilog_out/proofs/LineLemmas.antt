@@ -3,6 +3,7 @@ use Rattle.std.proofs.Common.{◌≡◌, ℕ, zero, suc, ◌+◌, ◌<◌, ◌�
 use Rattle.dft_base.specs.declared.place.Range.{Range}
 use Rattle.dft_base.specs.Lexing.{Text}
 use Rattle.dft_base.specs.Name.{IsName}
+use Rattle.dft_netlist.specs.Names.{IsShortRange}
 use Rattle.dft_base.specs.declared.dir.Dir.{Dir}
 use Rattle.dft_base.specs.declared.dir.Dir.TheVariants as dir
 use Rattle.dft_netlist.specs.declared.port.Port.{Port}
@@ -16,7 +17,6 @@ use Rattle.dft_netlist_text.specs.Steps.{kind_of, left, same_kind, sees}
 use Rattle.dft_netlist_text.specs.Modules.{Draft, declare_port, declare_wire, with_join}
 use Rattle.dft_netlist_text.specs.Expressions.{range_if_any}
 use Rattle.dft_netlist_text.specs.Items.{item, items_from}
-use Rattle.dft_verilog_out.specs.Named.{IsSmallRange}
 use Rattle.dft_verilog_out.specs.Written.{name_text, signal_text, dir_text, range_text, port_line, wire_line, join_line}
 use Rattle.dft_verilog_out.proofs.CutLemmas.{cut_up, token, cut_up-input, cut_up-output, cut_up-wire, cut_up-assign, cut_up-open_bracket, cut_up-close_bracket, cut_up-colon, cut_up-space, name_at, number_at}
 use Rattle.dft_verilog_out.proofs.RuleLemmas.{range_tokens, range-at}
@@ -146,7 +146,7 @@ range_parts : (r : Range) (text : Text) → range_text (Some r) ++ text ≡ 91 �
 range_parts r text =
     ap (λ t. 91 ∷ t) (append_assoc (decimal r.left) (58 ∷ (decimal r.right ++ codes "] ")) text ∙ ap (λ t. decimal r.left ++ 58 ∷ t) (append_assoc (decimal r.right) (codes "] ") text))
 
-range_at : (range : Option Range) (word : Text) (l : ℕ) (text : Text) (ts : List Token) → IsSmallRange range → cut_up text ≡ token kind.Name word l ∷ ts → RangeAt range word l text ts
+range_at : (range : Option Range) (word : Text) (l : ℕ) (text : Text) (ts : List Token) → IsShortRange range → cut_up text ≡ token kind.Name word l ∷ ts → RangeAt range word l text ts
 range_at None word l text ts small at = record { reads = ap range_if_any at ∙ no_range-at word l ts; no_wire = ap (sees kind.Wire) at ∙ no_wire_name word l ts }
 range_at (Some r) word l text ts small at =
     let a = number_at r.left 58 (decimal r.right ++ 93 ∷ 32 ∷ text) small.0 refl in
@@ -177,7 +177,7 @@ port_some : (port : Port) → 0 < length (port_line port)
 unfolding port_line
 port_some port = let s = dir_some port.dir in omega (arith, length-append (dir_text port.dir) (range_text port.range ++ (name_text port.name ++ codes ";\n")))
 
-pub port_read : (port : Port) (d new : Draft) → IsName port.name → IsSmallRange port.range → ((place : ℕ) → declare_port place port.name port.dir port.range d ≡ Ok new) → Line (port_line port) d new
+pub port_read : (port : Port) (d new : Draft) → IsName port.name → IsShortRange port.range → ((place : ℕ) → declare_port place port.name port.dir port.range d ≡ Ok new) → Line (port_line port) d new
 port_read port d new name small says = record {
   reads = λ rest.
       let n = name_at port.name 59 (10 ∷ rest) name refl in

@@ -167,7 +167,7 @@ no_close : (word : Text) (l : ℕ) (ts : List Token) → sees kind.CloseParen (t
 unfolding sees kind_of same_kind
 no_close word l ts = refl
 
-left_of : (k : TokenKind) (word : Text) (l : ℕ) (ts : List Token) → left (token k word l ∷ ts) ≡ l
+pub left_of : (k : TokenKind) (word : Text) (l : ℕ) (ts : List Token) → left (token k word l ∷ ts) ≡ l
 unfolding left
 left_of k word l ts = refl
 

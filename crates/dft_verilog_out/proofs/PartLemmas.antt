@@ -4,7 +4,9 @@ use Rattle.std.specs.List.{filter_map, cons_option}
 use Rattle.std.proofs.lemmas.Bool.Decides.{nat_tests}
 use Rattle.std.proofs.lemmas.List.{length-map}
 use Rattle.std.proofs.Math.Seq.{take-append_seam, drop-append_seam}
+use Rattle.std.proofs.lemmas.Bool.{false_from_ne_true}
 use Rattle.dft_base.specs.Lexing.{Text}
+use Rattle.dft_base.proofs.ListLemmas.{get_there}
 use Rattle.dft_cells.specs.declared.kind.Kind.{Kind}
 use Rattle.dft_cells.specs.declared.kind.Kind.TheVariants as primitive
 use Rattle.dft_cells.specs.declared.kind.Role.{Role}
@@ -24,13 +26,13 @@ use Rattle.dft_netlist_text.specs.declared.text.Meaning.TheVariants as meaning
 use Rattle.dft_netlist_text.specs.declared.text.Site.{Site}
 use Rattle.dft_netlist_text.specs.declared.text.Site.TheVariants as site
 use Rattle.dft_netlist.specs.Netlist.{Netlist}
-use Rattle.dft_netlist.specs.Names.{instance_name}
+use Rattle.dft_netlist.specs.Names.{IsNameIfAny, instance_name}
 use Rattle.dft_netlist.specs.Drivers.{shape_of, shape_of_cell, gate_roles}
 use Rattle.dft_netlist.specs.Sound.{is_primitive, IsLive, AreLive, IsInstance, IsConnected, IsAJoin, is_output}
 use Rattle.dft_netlist_text.specs.Modules.{HeaderPort, TakenName, Draft}
 use Rattle.dft_netlist_text.specs.Expressions.{drives}
 use Rattle.dft_netlist_text.specs.Items.{gate_instance, cell_instance}
-use Rattle.dft_verilog_out.specs.Named.{IsNamedCell, IsNamedInstance, IsJoinedGate}
+use Rattle.dft_verilog_out.specs.Named.{HasNamedCell, IsNamedCell, IsJoinedGate}
 use Rattle.dft_verilog_out.specs.Written.{join_line, is_joined, output_first, gate_line, cell_line, found_cell_line, instance_line}
 use Rattle.dft_verilog_out.proofs.CountLemmas.{Once, look, words}
 use Rattle.dft_verilog_out.proofs.DraftLemmas.{entry, free_at, words-append, name_instance-is, room_for_instance-is}
@@ -39,6 +41,7 @@ use Rattle.dft_verilog_out.proofs.LineLemmas.{Line, Lines, no_lines, lines_cons,
 use Rattle.dft_verilog_out.proofs.InstanceLemmas.{Operands, IsGate, gate_form, named_gate_read, unnamed_gate_read, as_joined, IsPin, ArePins, signals-back, cell_form, cell_read}
 use Rattle.dft_verilog_out.proofs.OperandLemmas.{net_at-kept, NetsAt, target_operand, signal_operand}
 use Rattle.dft_verilog_out.proofs.PhaseLemmas.{stage}
+use Rattle.dft_verilog_out.proofs.JoinedLemmas.{is_joined-connected}
 
 -- ---- joins
 
@@ -152,15 +155,6 @@ gate_line-is texts k i ins output e = rw (e, first_is ins output) refl
 
 -- ---- cells
 
-false_by : (t : Bool) → (t ≡ true → ⊥) → t ≡ false
-false_by true h = absurd (h refl)
-false_by false h = refl
-
-joined_is : (s : Signal) → is_joined s ≡ true → IsConnected s
-joined_is (signal.Net net) h = tt
-joined_is (signal.Constant bit) h = tt
-joined_is signal.Unconnected h = absurd (cc)
-
 -- what is known of the pins of a cell
 record OfCell (d : Draft) (texts : List Text) (cell : Cell) (signals : List Signal) : Type 0 where
   nets : NetsAt d.names d.ports texts
@@ -174,7 +168,7 @@ pin_of d texts cell signals place pin to c at is = record {
   found = pin_place-at cell place pin c.differ at;
   at = at;
   name = λ joined. c.named.pins place pin to at is joined;
-  reads = λ joined. signal_operand d (site.Pin (is_output pin.role)) texts to c.nets (c.live place to is) (joined_is to joined) (λ bit e. c.outputs place pin bit at (is ∙ ap Some e));
+  reads = λ joined. signal_operand d (site.Pin (is_output pin.role)) texts to c.nets (c.live place to is) (is_joined-connected to joined) (λ bit e. c.outputs place pin bit at (is ∙ ap Some e));
 }
 
 pins_of : (d : Draft) (texts : List Text) (cell : Cell) (all : List Signal) (place : ℕ) (pins : List Pin) (signals : List Signal) → OfCell d texts cell all → length signals ≡ length pins
@@ -198,11 +192,6 @@ cell_line-is : (texts : List Text) (cell : Cell) (w : Text) (ref : CellRef) (pin
 unfolding cell_line
 cell_line-is texts cell w ref pins = refl
 
-pub some_at : {X : Type 0} (xs : List X) (k : ℕ) → k < length xs → (x : X) × (slice_get xs k ≡ Some x)
-some_at [] k lt = absurd (omega arith)
-some_at (x ∷ xs) zero lt = (x, refl)
-some_at (x ∷ xs) (suc k) lt = some_at xs k (omega arith)
-
 role_at : (pins : List Pin) (k : ℕ) (pin : Pin) → slice_get pins k ≡ Some pin → slice_get (map (λ (p : Pin). p.role) pins) k ≡ Some pin.role
 role_at [] k pin at = absurd (cc)
 role_at (p ∷ pins) zero pin at = let e : p ≡ pin = cc in ap (λ (x : Pin). Some x.role) e
@@ -223,7 +212,8 @@ nets_kept names more ports texts known k lt = net_at-kept names more ports (get_
 -- an instance, and what it needs to be written and read
 pub record IsReadable (library : List Cell) (count : ℕ) (i : Instance) : Type 0 where
   pub stands : IsInstance library count i.name i.cell i.pins
-  pub named : IsNamedInstance library i
+  pub own : IsNameIfAny i.name
+  pub cell : HasNamedCell library i
   pub joined : IsJoinedGate i
 
 made_gate : (k : Kind) (name : Option Text) (inputs : ℕ) (pins ins : List Signal) (output : Signal) → length ins ≡ inputs → pins ≡ ins ++ output ∷ [] → gate_instance k name output ins ≡ inst name (cell_ref.Gate k inputs) pins
@@ -237,7 +227,7 @@ instance_step n (Some w) (cell_ref.Gate k inputs) pins names ports nets done joi
     let named = stage n (names ++ entry w meaning.Instance ∷ []) ports nets done joins in
     let p = split pins inputs (r.stands.width ∙ length-gate_roles inputs) in
     let g = gate_of named n.library texts (Some w) k inputs pins p (nets_kept names (entry w meaning.Instance ∷ []) ports texts known) r.stands r.joined in
-    let line = named_gate_read k start named w texts p.output p.ins g r.named.own (λ place. name_instance-is place w start (free w refl) room) in
+    let line = named_gate_read k start named w texts p.output p.ins g r.own (λ place. name_instance-is place w start (free w refl) room) in
     let made = made_gate k (Some w) inputs pins p.ins p.output p.size p.is in
     subst (λ (text : Text). Line text start (stage n (names ++ entry w meaning.Instance ∷ []) ports nets (done ++ inst (Some w) (cell_ref.Gate k inputs) pins ∷ []) joins)) (sym (gate_line-is texts k (inst (Some w) (cell_ref.Gate k inputs) pins) p.ins p.output p.is))
     (subst (λ (i : Instance). Line (gate_form texts k (Some w) p.output p.ins) start (stage n (names ++ entry w meaning.Instance ∷ []) ports nets (done ++ i ∷ []) joins)) made line)
@@ -254,10 +244,10 @@ instance_step n None (cell_ref.Library id) pins names ports nets done joins text
 instance_step n (Some w) (cell_ref.Library id) pins names ports nets done joins texts well r known free room =
     let start = stage n names ports nets done joins in
     let named = stage n (names ++ entry w meaning.Instance ∷ []) ports nets done joins in
-    let at = some_at n.library id.0 r.stands.fits.0 in
+    let at = get_there n.library id.0 r.stands.fits.0 in
     let cell = at.0 in
     let is_cell = well.each id.0 cell at.1 in
-    let is_named = r.named.cell cell at.1 in
+    let is_named = r.cell cell at.1 in
     let roles : (shape_of n.library (cell_ref.Library id)).roles ≡ map (λ (p : Pin). p.role) cell.pins = ap (λ (o : Option Cell). (shape_of_cell o).roles) at.1 in
     let width : length pins ≡ length cell.pins = r.stands.width ∙ ap length roles ∙ length-map cell.pins (λ (p : Pin). p.role) in
     let c : OfCell named texts cell pins = record {
@@ -266,9 +256,9 @@ instance_step n (Some w) (cell_ref.Library id) pins names ports nets done joins 
       differ = is_cell.differ;
       live = r.stands.live;
       outputs = λ place pin bit here to.
-          false_by (is_output pin.role) (λ out. r.stands.outputs place pin.role bit (ap (λ (rs : List Role). slice_get rs place) roles ∙ role_at cell.pins place pin here) out to);
+          false_from_ne_true (is_output pin.role) (λ out. r.stands.outputs place pin.role bit (ap (λ (rs : List Role). slice_get rs place) roles ∙ role_at cell.pins place pin here) out to);
     } in
-    let line = cell_read start named texts id cell w pins (find_cell-at n.library id.0 cell well.names at.1) at.1 is_named.name r.named.own (λ place. name_instance-is place w start (free w refl) room)
+    let line = cell_read start named texts id cell w pins (find_cell-at n.library id.0 cell well.names at.1) at.1 is_named.name r.own (λ place. name_instance-is place w start (free w refl) room)
     (pins_of named texts cell pins 0 cell.pins pins c width (from_zero cell.pins) (from_zero pins)) width in
     let made : cell_instance id w (map as_joined pins) ≡ inst (Some w) (cell_ref.Library id) pins = ap (λ (ss : List Signal). inst (Some w) (cell_ref.Library id) ss) (signals-back pins) in
     let text : instance_line n.library texts (inst (Some w) (cell_ref.Library id) pins) ≡ cell_form texts cell w pins =

@@ -13,11 +13,10 @@ use Rattle.dft_netlist.specs.declared.instance.Join.{Join}
 use Rattle.dft_netlist.specs.declared.limits.TheConstants.{MAX_NETS}
 use Rattle.dft_netlist_text.specs.declared.text.Meaning.TheVariants as meaning
 use Rattle.dft_netlist.specs.Netlist.{Netlist}
-use Rattle.dft_netlist.specs.Names.{bit_name, bit_names, indices_of}
+use Rattle.dft_netlist.specs.Names.{IsShortRange, bit_name, bit_names, indices_of}
 use Rattle.dft_netlist.specs.Sound.{bit_names_of}
 use Rattle.dft_netlist_text.specs.Modules.{HeaderPort, TakenName, Draft, net_count, names_of_bits, declare_port}
 use Rattle.dft_netlist.proofs.BitLemmas.{indices_length}
-use Rattle.dft_verilog_out.specs.Named.{IsNamedPort}
 use Rattle.dft_verilog_out.specs.Written.{name_text, port_line, wire_line}
 use Rattle.dft_verilog_out.proofs.CountLemmas.{Once, look, look-kept, words}
 use Rattle.dft_verilog_out.proofs.DraftLemmas.{entry, fresh_of, free_at, bit_entries, words-bits, words-append, declare_port-is, declare_wire-is}
@@ -67,9 +66,9 @@ net_count-is word (Some r) = width_by (nat_le r.right r.left) r.left r.right (le
 
 abbrev pub GoodPorts : List Port → Type 0
 GoodPorts [] = Unit {0}
-GoodPorts (p ∷ ps) = IsNamedPort p × GoodPorts ps
+GoodPorts (p ∷ ps) = (IsName p.name × IsShortRange p.range) × GoodPorts ps
 
-pub good_ports : (ps : List Port) → ((k : ℕ) (p : Port) → slice_get ps k ≡ Some p → IsNamedPort p) → GoodPorts ps
+pub good_ports : (ps : List Port) → ((k : ℕ) (p : Port) → slice_get ps k ≡ Some p → IsName p.name × IsShortRange p.range) → GoodPorts ps
 good_ports [] h = tt
 good_ports (p ∷ ps) h = (h 0 p refl, good_ports ps (λ k q at. h (suc k) q at))
 
@@ -99,11 +98,11 @@ get_at [] rest x (suc place) e = absurd (omega arith)
 get_at (z ∷ done) rest x zero e = absurd (omega arith)
 get_at (z ∷ done) rest x (suc place) e = get_at done rest x place (omega arith)
 
-port_step : (n : Netlist) (p : Port) (todo : List Port) (names : List TakenName) (done : List HeaderPort) (nets rest : List Text) → IsNamedPort p → IsAnnounced names (length done) p
+port_step : (n : Netlist) (p : Port) (todo : List Port) (names : List TakenName) (done : List HeaderPort) (nets rest : List Text) → IsAnnounced names (length done) p
     → Once (words names ++ (names_of_bits p.name p.range ++ rest)) → length nets + length (bit_names p.name p.range) ≤ MAX_NETS → (place : ℕ)
     → declare_port place p.name p.dir p.range (stage n names (done ++ undeclared (p ∷ todo)) nets [] [])
     ≡ Ok (stage n (names ++ bit_entries (names_of_bits p.name p.range)) ((done ++ declared_port (length nets) p ∷ []) ++ undeclared todo) (nets ++ bit_names p.name p.range) [] [])
-port_step n p todo names done nets rest good known once room place =
+port_step n p todo names done nets rest known once room place =
     let d = stage n names (done ++ undeclared (p ∷ todo)) nets [] [] in
     let x : HeaderPort = record { name = p.name; declared = None } in
     declare_port-is place (length done) p.name p.dir p.range d (entry known.name (meaning.Port (length done))) known.at refl
@@ -129,8 +128,8 @@ ports_read n (p ∷ todo) names done nets rest good known once room =
     subst (λ ws. Once (words names ++ ws)) (append_assoc (names_of_bits p.name p.range) (bit_words todo) rest) once in
     let once_later : Once (words (names ++ bits) ++ (bit_words todo ++ rest)) =
     subst Once (sym (append_assoc (words names) (names_of_bits p.name p.range) (bit_words todo ++ rest)) ∙ ap (λ ws. ws ++ (bit_words todo ++ rest)) (sym taken)) once_here in
-    let first = port_read p (stage n names (done ++ undeclared (p ∷ todo)) nets [] []) mid good.0.name good.0.range
-    (port_step n p todo names done nets (bit_words todo ++ rest) good.0 known.0 once_here (omega arith)) in
+    let first = port_read p (stage n names (done ++ undeclared (p ∷ todo)) nets [] []) mid good.0.0 good.0.1
+    (port_step n p todo names done nets (bit_words todo ++ rest) known.0 once_here (omega arith)) in
     let more = ports_read n todo (names ++ bits) here (nets ++ bit_names p.name p.range) rest good.1
     (subst (λ k. AreAnnounced (names ++ bits) k todo) (sym place) (announced-kept names bits (suc (length done)) todo known.1)) once_later (omega arith) in
     let ends : stage n ((names ++ bits) ++ bits_entries todo) (here ++ declared_ports (length (nets ++ bit_names p.name p.range)) todo) ((nets ++ bit_names p.name p.range) ++ bit_names_of todo) [] []

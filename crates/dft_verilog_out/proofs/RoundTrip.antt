@@ -15,9 +15,9 @@ use Rattle.dft_netlist_text.specs.Steps.{left}
 use Rattle.dft_netlist_text.specs.Modules.{HeaderPort, TakenName, Draft, names_of_bits}
 use Rattle.dft_netlist_text.specs.Items.{items_from}
 use Rattle.dft_netlist_text.specs.NetlistText.{first_undeclared, module_text, module_of, StandsFor}
-use Rattle.dft_verilog_out.specs.Named.{IsNamedNetlist, GatesAreJoined}
+use Rattle.dft_verilog_out.specs.Named.{AreCellsNamed, GatesAreJoined}
 use Rattle.dft_verilog_out.specs.Written.{name_text, wire_names, net_texts, port_line, wire_line, join_line, instance_line, module_line, body, written}
-use Rattle.dft_verilog_out.proofs.FormLemmas.{length-port_texts, others-are, joins-stand, instances-stand}
+use Rattle.dft_verilog_out.proofs.FormLemmas.{length-port_texts, others-are, joins-stand, instances-stand, wires-named}
 use Rattle.dft_verilog_out.proofs.CutLemmas.{cut_up, cut_up-is, cut_up-endmodule, token}
 use Rattle.dft_verilog_out.proofs.ItemLemmas.{items_from-end, module-at}
 use Rattle.dft_verilog_out.proofs.CountLemmas.{Once, words, names_once}
@@ -101,7 +101,7 @@ whole n = stage n (net_names_taken n ++ instance_entries n.instances) (declared_
 pub record IsWritten (n : Netlist) : Type 0 where
   pub sound : IsNetlist n
   pub well : IsWellFormed n.library
-  pub named : IsNamedNetlist n
+  pub named : AreCellsNamed n
   pub gates : GatesAreJoined n
 
 names_differ : (n : Netlist) → IsWritten n → Once (header_words n.ports ++ (bit_words n.ports ++ (wire_names n ++ filter_map instance_name n.instances)))
@@ -124,7 +124,7 @@ room_for_nets n h =
 nets_known : (n : Netlist) → IsWritten n → NetsAt (net_names_taken n) (declared_ports 0 n.ports) (net_texts n)
 nets_known n h =
     let bits : ℕ = length (bit_names_of n.ports) in
-    all_nets_at (port_names_taken n) (declared_ports 0 n.ports) n.ports (wire_names n) (filter_map instance_name n.instances) bits (sym (length-port_texts n.ports)) (good_ports n.ports h.named.ports) (all_names (wire_names n) h.named.others)
+    all_nets_at (port_names_taken n) (declared_ports 0 n.ports) n.ports (wire_names n) (filter_map instance_name n.instances) bits (sym (length-port_texts n.ports)) (good_ports n.ports h.sound.named.ports) (all_names (wire_names n) (wires-named n h.sound))
     (announced-kept (port_names_taken n) (wire_entries bits (wire_names n)) 0 n.ports (announced-kept (header_entries 0 n.ports) (bits_entries n.ports) 0 n.ports (announced_at [] 0 n.ports _ (names_differ n h))))
     refl (once_wires n h)
 
@@ -139,11 +139,11 @@ all_lines n h =
     let second = stage n (net_names_taken n) declared nets [] [] in
     let third = stage n (net_names_taken n) declared nets [] n.joins in
     let room = room_for_nets n h in
-    let ports = ports_read n n.ports (header_entries 0 n.ports) [] [] (wire_names n ++ filter_map instance_name n.instances) (good_ports n.ports h.named.ports) (announced_at [] 0 n.ports _ (names_differ n h)) (once_ports n h) (omega arith) in
-    let wires = wires_read n (wire_names n) (port_names_taken n) declared bits (filter_map instance_name n.instances) (all_names (wire_names n) h.named.others) (once_wires n h) room in
+    let ports = ports_read n n.ports (header_entries 0 n.ports) [] [] (wire_names n ++ filter_map instance_name n.instances) (good_ports n.ports h.sound.named.ports) (announced_at [] 0 n.ports _ (names_differ n h)) (once_ports n h) (omega arith) in
+    let wires = wires_read n (wire_names n) (port_names_taken n) declared bits (filter_map instance_name n.instances) (all_names (wire_names n) (wires-named n h.sound)) (once_wires n h) room in
     let joins = joins_read n n.joins (net_names_taken n) declared nets [] texts (nets_known n h) (joins-stand n texts n.joins h.sound refl refl) in
     let instances = instances_read n n.instances (net_names_taken n) declared nets [] n.joins texts h.well
-    (λ place i at. record { stands = instances-stand n n.library texts n.instances h.sound refl refl refl place i at; named = h.named.instances place i at; joined = h.gates place i at }) (nets_known n h) (once_instances n h) (let few = h.sound.few_instances in omega arith) in
+    (λ place i at. record { stands = instances-stand n n.library texts n.instances h.sound refl refl refl place i at; own = h.sound.named.instances place i at; cell = h.named place i at; joined = h.gates place i at }) (nets_known n h) (once_instances n h) (let few = h.sound.few_instances in omega arith) in
     lines_more (length n.ports) (length (wire_names n) + (length n.joins + length n.instances)) (flat_map port_line n.ports) _ start first (whole n) ports
     (lines_more (length (wire_names n)) (length n.joins + length n.instances) (flat_map wire_line (map name_text (wire_names n))) _ first second (whole n) wires
     (lines_more (length n.joins) (length n.instances) (flat_map (join_line texts) n.joins) (flat_map (instance_line n.library texts) n.instances) second third (whole n) joins instances))
@@ -153,7 +153,7 @@ unfolding written
 module_read n h =
     let start = stage n (header_entries 0 n.ports) (undeclared n.ports) [] [] [] in
     module-at n.library start (whole n) (codes "endmodule") 10 (cut_up (module_line n.name n.ports ++ body n)) (cut_up (body n))
-    (heading_read n (bit_words n.ports ++ (wire_names n ++ filter_map instance_name n.instances)) (body n) h.named.own (good_ports n.ports h.named.ports) (names_differ n h) h.sound.few_ports)
+    (heading_read n (bit_words n.ports ++ (wire_names n ++ filter_map instance_name n.instances)) (body n) h.sound.named.own (good_ports n.ports h.sound.named.ports) (names_differ n h) h.sound.few_ports)
     (ap (λ t. items_from (left (cut_up t)) start (cut_up t)) (body-is n) ∙ items_read _ (item_text n) start (whole n) (all_lines n h))
     (all_declared 0 n.ports)
 

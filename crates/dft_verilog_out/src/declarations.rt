@@ -1,9 +1,7 @@
 //! The heading and the declarations.
 
-ghost use Rattle.std.specs.Prelude.{ℕ, ◌≡◌, ◌++◌, OnOk, Some, flat_map, map, slice_get};
-ghost use Rattle.dft_base.specs.Name.{IsName};
+ghost use Rattle.std.specs.Prelude.{◌≡◌, ◌++◌, OnOk, flat_map, map};
 ghost use Rattle.dft_netlist.specs.declared.port.Port.{Port as APort};
-ghost use Rattle.dft_verilog_out.specs.Named.{IsNamedPort, IsSmallRange};
 ghost use Rattle.dft_verilog_out.specs.Written as form;
 
 use crate::names::{add_name, add_number};
@@ -28,8 +26,7 @@ fn add_port_names(out: &mut Vec<u8>, ports: &[Port]) -> Result<(), AllocError>
 /// Adds the heading of the module.
 #[tactic(auto, unfolding(crate::specs::Written::module_line))]
 pub(crate) fn add_heading(out: &mut Vec<u8>, name: &Name, ports: &[Port]) -> Result<(), AllocError>
-    ensures text { OnOk result (out.new.items ≡ out.old.items ++ form.module_line name.now ports.now) }
-    ensures named { OnOk result (IsName name.now) }
+    ensures { OnOk result (out.new.items ≡ out.old.items ++ form.module_line name.now ports.now) }
 {
     out.extend_from_slice(b"module ")?;
     add_name(out, name)?;
@@ -49,8 +46,7 @@ fn dir_text(dir: Dir) -> &'static [u8]
 
 /// Adds a range, if there is one.
 fn add_range(out: &mut Vec<u8>, range: Option<Range>) -> Result<(), AllocError>
-    ensures text { OnOk result (out.new.items ≡ out.old.items ++ form.range_text range) }
-    ensures small { OnOk result (IsSmallRange range) }
+    ensures { OnOk result (out.new.items ≡ out.old.items ++ form.range_text range) }
 {
     let Some(range) = range else {
         return Ok(());
@@ -65,8 +61,7 @@ fn add_range(out: &mut Vec<u8>, range: Option<Range>) -> Result<(), AllocError>
 /// Adds the line of a port.
 #[tactic(auto, unfolding(crate::specs::Written::port_line))]
 fn add_port(out: &mut Vec<u8>, port: &Port) -> Result<(), AllocError>
-    ensures text { OnOk result (out.new.items ≡ out.old.items ++ form.port_line port.now) }
-    ensures named { OnOk result (IsNamedPort port.now) }
+    ensures { OnOk result (out.new.items ≡ out.old.items ++ form.port_line port.now) }
 {
     out.extend_from_slice(dir_text(port.dir))?;
     add_range(out, port.range)?;
@@ -76,8 +71,7 @@ fn add_port(out: &mut Vec<u8>, port: &Port) -> Result<(), AllocError>
 
 /// Adds the lines of ports.
 pub(crate) fn add_ports(out: &mut Vec<u8>, ports: &[Port]) -> Result<(), AllocError>
-    ensures text { OnOk result (out.new.items ≡ out.old.items ++ flat_map form.port_line ports.now) }
-    ensures named { OnOk result ((place : ℕ) (port : APort) → slice_get ports.now place ≡ Some port → IsNamedPort port) }
+    ensures { OnOk result (out.new.items ≡ out.old.items ++ flat_map form.port_line ports.now) }
 {
     for port in ports {
         add_port(out, port)?;

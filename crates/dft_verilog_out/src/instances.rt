@@ -7,7 +7,7 @@ ghost use Rattle.dft_netlist.specs.Sound.{AreLive, IsAJoin, IsInstance, IsLive};
 ghost use Rattle.dft_netlist.specs.declared.instance.Instance.{Instance as AnInstance};
 ghost use Rattle.dft_netlist.specs.declared.instance.Join.{Join as AJoin};
 ghost use Rattle.dft_netlist.specs.declared.instance.Signal.{Signal as ASignal};
-ghost use Rattle.dft_verilog_out.specs.Named.{IsNamedCell, IsNamedInstance, IsOwnName};
+ghost use Rattle.dft_verilog_out.specs.Named.{HasNamedCell, IsNamedCell};
 ghost use Rattle.dft_verilog_out.specs.Written as form;
 
 use crate::names::add_name;
@@ -135,8 +135,7 @@ fn add_terminals(out: &mut Vec<u8>, nets: &[NetText], pins: &[Signal]) -> Result
 
 /// Adds a name, if there is one.
 fn add_own_name(out: &mut Vec<u8>, name: &Option<Name>) -> Result<(), AllocError>
-    ensures text { OnOk result (out.new.items ≡ out.old.items ++ form.own_name_text name.now) }
-    ensures named { OnOk result (IsOwnName name.now) }
+    ensures { OnOk result (out.new.items ≡ out.old.items ++ form.own_name_text name.now) }
 {
     match name {
         Some(name) => {
@@ -156,8 +155,7 @@ fn add_gate(
     instance: &Instance,
 ) -> Result<(), AllocError>
     requires { AreLive (length nets.now) instance.now.pins }
-    ensures text { OnOk result (out.new.items ≡ out.old.items ++ form.gate_line nets.now kind instance.now) }
-    ensures own { OnOk result (IsOwnName instance.now.name) }
+    ensures { OnOk result (out.new.items ≡ out.old.items ++ form.gate_line nets.now kind instance.now) }
 {
     out.extend_from_slice(gate_text(kind))?;
     add_own_name(out, &instance.name)?;
@@ -177,7 +175,6 @@ fn add_cell(
     requires live { AreLive (length nets.now) instance.now.pins }
     requires width { length instance.now.pins ≡ length cell.now.pins }
     ensures text { OnOk result (out.new.items ≡ out.old.items ++ form.cell_line nets.now cell.now instance.now) }
-    ensures own { OnOk result (IsOwnName instance.now.name) }
     ensures named { OnOk result (IsNamedCell cell.now instance.now.pins) }
 {
     add_name(out, &cell.name)?;
@@ -196,7 +193,7 @@ fn add_instance(
 ) -> Result<(), AllocError>
     requires { IsInstance cells.now (length nets.now) instance.now.name instance.now.cell instance.now.pins }
     ensures text { OnOk result (out.new.items ≡ out.old.items ++ form.instance_line cells.now nets.now instance.now) }
-    ensures named { OnOk result (IsNamedInstance cells.now instance.now) }
+    ensures named { OnOk result (HasNamedCell cells.now instance.now) }
 {
     match instance.cell {
         CellRef::Library(id) => add_cell(out, nets, &cells[id.0 as usize], instance),
@@ -213,7 +210,7 @@ pub(crate) fn add_instances(
 ) -> Result<(), AllocError>
     requires { (place : ℕ) (i : AnInstance) → slice_get instances.now place ≡ Some i → IsInstance cells.now (length nets.now) i.name i.cell i.pins }
     ensures text { OnOk result (out.new.items ≡ out.old.items ++ flat_map (form.instance_line cells.now nets.now) instances.now) }
-    ensures named { OnOk result ((place : ℕ) (i : AnInstance) → slice_get instances.now place ≡ Some i → IsNamedInstance cells.now i) }
+    ensures named { OnOk result ((place : ℕ) (i : AnInstance) → slice_get instances.now place ≡ Some i → HasNamedCell cells.now i) }
 {
     for instance in instances {
         add_instance(out, cells, nets, instance)?;

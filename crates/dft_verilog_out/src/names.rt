@@ -1,6 +1,6 @@
 //! Names and numbers as they are written.
 
-ghost use Rattle.std.specs.Prelude.{◌≡◌, ◌<◌, ◌^◌, ◌++◌, OnOk, decimal};
+ghost use Rattle.std.specs.Prelude.{◌≡◌, ◌++◌, OnOk, decimal};
 ghost use Rattle.dft_base.specs.Name.{IsName};
 ghost use Rattle.dft_verilog_out.specs.Written as form;
 
@@ -24,8 +24,7 @@ pub(crate) fn add_name(out: &mut Vec<u8>, name: &Name) -> Result<(), AllocError>
 
 /// Adds a number in decimal.
 pub(crate) fn add_number(out: &mut Vec<u8>, number: u16) -> Result<(), AllocError>
-    ensures text { OnOk result (out.new.items ≡ out.old.items ++ decimal number) }
-    ensures small { number < 2 ^ 16 }
+    ensures { OnOk result (out.new.items ≡ out.old.items ++ decimal number) }
 {
     let mut buffer = Buffer::new();
     out.extend_from_slice(buffer.format(number).as_bytes())

@@ -1,8 +1,6 @@
 //! Nets and constants as they are written.
 
-ghost use Rattle.std.specs.Prelude.{ℕ, ◌≡◌, ◌≤◌, ◌++◌, IfOk, OnOk, Some, drop, flat_map, length, map, slice_get};
-ghost use Rattle.dft_base.specs.Lexing.{Text};
-ghost use Rattle.dft_base.specs.Name.{IsName};
+ghost use Rattle.std.specs.Prelude.{◌≡◌, ◌≤◌, ◌++◌, IfOk, OnOk, drop, flat_map, length, map};
 ghost use Rattle.dft_netlist.specs.Names.{indices_of};
 ghost use Rattle.dft_netlist.specs.Sound.{IsLive};
 ghost use Rattle.dft_verilog_out.specs.Written as form;
@@ -38,8 +36,7 @@ impl NetText {
 
 /// A net by its own name.
 fn whole(alloc: Global, name: &Name) -> Result<NetText, AllocError>
-    ensures text { IfOk result (λ text. text ≡ form.name_text name.now) }
-    ensures name { IsName name.now }
+    ensures { IfOk result (λ text. text ≡ form.name_text name.now) }
 {
     let mut bytes = Vec::new(alloc);
     add_name(&mut bytes, name)?;
@@ -105,8 +102,7 @@ pub(crate) fn add_other_texts(
     design: &Design,
 ) -> Result<(), AllocError>
     requires { length texts.old.items ≤ length design.now.nets }
-    ensures texts { OnOk result (texts.new.items ≡ texts.old.items ++ map form.name_text (drop (length texts.old.items) design.now.nets)) }
-    ensures named { OnOk result ((place : ℕ) (name : Text) → length texts.old.items ≤ place → slice_get design.now.nets place ≡ Some name → IsName name) }
+    ensures { OnOk result (texts.new.items ≡ texts.old.items ++ map form.name_text (drop (length texts.old.items) design.now.nets)) }
 {
     let count = design.net_count();
     for net in texts.len() as u32..count {

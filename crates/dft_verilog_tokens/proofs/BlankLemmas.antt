@@ -4,6 +4,7 @@ use Rattle.std.proofs.lemmas.Bool.Decides.{nat_tests}
 use Rattle.dft_base.specs.Lexing.{Text}
 use Rattle.std.specs.Prelude.{codes, take, drop}
 use Rattle.std.specs.List.{prefix_len}
+use Rattle.std.proofs.lemmas.Bool.{and_left}
 use Rattle.dft_netlist_text.specs.Lexemes.{is_space, begins_with, comment_rest, attribute_rest, closed_len, word_len, is_passed_over, blank_len, begins_blank, is_passed_directive, directive_len, to_blank}
 use Rattle.dft_verilog_tokens.specs.Classes.{is_plain, is_lone_paren}
 
@@ -50,12 +51,8 @@ in_none false false false true p x y z w e f g h i = absurd (cc)
 in_none false false false false true x y z w e f g h i = absurd (cc)
 in_none false false false false false x y z w e f g h i = refl
 
-nor : (a b : Bool) → a ≡ false → (a && b) ≡ false
-nor true b e = absurd (cc)
-nor false b e = refl
-
 nor_second : (a b c : Bool) → b ≡ false → (a && (b && c)) ≡ false
-nor_second true b c e = nor b c e
+nor_second true b c e = and_left b c e
 nor_second false b c e = refl
 
 plain_in : (b : ℕ) (text : Text) → is_plain b ≡ true → 0 ≡ blank_len (b ∷ text)
@@ -66,10 +63,10 @@ plain_in b text e =
     let slash : (47 == b) ≡ false = grind (arith, nat_tests) in
     let paren : (40 == b) ≡ false = grind (arith, nat_tests) in
     let accent : (b == 96) ≡ false = grind (arith, nat_tests) in
-    let line : begins_with (codes "//") whole ≡ false = nor (47 == b) (begins_with (codes "/") text) slash in
-    let comment : begins_with (codes "/*") whole ≡ false = nor (47 == b) (begins_with (codes "*") text) slash in
-    let attribute : begins_with (codes "(*") whole ≡ false = nor (40 == b) (begins_with (codes "*") text) paren in
-    let directive : is_passed_directive whole ≡ false = nor (b == 96) (is_passed_over (take (word_len text) text)) accent in
+    let line : begins_with (codes "//") whole ≡ false = and_left (47 == b) (begins_with (codes "/") text) slash in
+    let comment : begins_with (codes "/*") whole ≡ false = and_left (47 == b) (begins_with (codes "*") text) slash in
+    let attribute : begins_with (codes "(*") whole ≡ false = and_left (40 == b) (begins_with (codes "*") text) paren in
+    let directive : is_passed_directive whole ≡ false = and_left (b == 96) (is_passed_over (take (word_len text) text)) accent in
     in_none (is_space b) (begins_with (codes "//") whole) (begins_with (codes "/*") whole) (begins_with (codes "(*") whole) (is_passed_directive whole)
     (prefix_len (λ c. not (c == 10)) whole) (closed_len (comment_rest (drop 1 text))) (closed_len (attribute_rest false (drop 1 text))) (directive_len whole)
     space line comment attribute directive
@@ -82,10 +79,10 @@ paren_in b d text e =
     let star : (42 == d) ≡ false = grind (arith, nat_tests) in
     let slash : (47 == b) ≡ false = grind (arith, nat_tests) in
     let accent : (b == 96) ≡ false = grind (arith, nat_tests) in
-    let line : begins_with (codes "//") whole ≡ false = nor (47 == b) (begins_with (codes "/") (d ∷ text)) slash in
-    let comment : begins_with (codes "/*") whole ≡ false = nor (47 == b) (begins_with (codes "*") (d ∷ text)) slash in
+    let line : begins_with (codes "//") whole ≡ false = and_left (47 == b) (begins_with (codes "/") (d ∷ text)) slash in
+    let comment : begins_with (codes "/*") whole ≡ false = and_left (47 == b) (begins_with (codes "*") (d ∷ text)) slash in
     let attribute : begins_with (codes "(*") whole ≡ false = nor_second (40 == b) (42 == d) (begins_with [] text) star in
-    let directive : is_passed_directive whole ≡ false = nor (b == 96) (is_passed_over (take (word_len (d ∷ text)) (d ∷ text))) accent in
+    let directive : is_passed_directive whole ≡ false = and_left (b == 96) (is_passed_over (take (word_len (d ∷ text)) (d ∷ text))) accent in
     in_none (is_space b) (begins_with (codes "//") whole) (begins_with (codes "/*") whole) (begins_with (codes "(*") whole) (is_passed_directive whole)
     (prefix_len (λ c. not (c == 10)) whole) (closed_len (comment_rest text)) (closed_len (attribute_rest false text)) (directive_len whole)
     space line comment attribute directive

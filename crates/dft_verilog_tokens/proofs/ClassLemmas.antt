@@ -2,6 +2,7 @@
 use Rattle.std.proofs.Common.{◌≡◌, ℕ, zero, suc, ◌+◌, ◌-◌, ◌<◌, ◌≤◌, Bool, true, false, not, ◌&&◌, ◌||◌, cond, eqb, nat_le, nat_lt, List, [], ◌∷◌, length, get_or, refl, ap, ◌∙◌, sym, subst, arith}
 use Rattle.std.specs.List.{list_any}
 use Rattle.std.proofs.lemmas.Bool.Decides.{nat_tests}
+use Rattle.std.proofs.lemmas.Bool.{and_parts, and_left}
 use Rattle.dft_base.specs.Lexing.{Text}
 use Rattle.dft_base.specs.Words.{begins_word, continues_word}
 use Rattle.dft_netlist_text.specs.declared.text.TokenKind.{TokenKind}
@@ -9,11 +10,6 @@ use Rattle.dft_netlist_text.specs.declared.text.TokenKind.TheVariants as kind
 use Rattle.dft_netlist_text.specs.Lexemes.{mark_kind, lexeme, plain, begins_with}
 use Rattle.dft_verilog_tokens.specs.Classes.{marks, is_mark, is_plain, is_lone_paren}
 use Rattle.dft_verilog_tokens.specs.Cut.{carries_name}
-
-both : (a b : Bool) → (a && b) ≡ true → (a ≡ true) × (b ≡ true)
-both true true e = (refl, refl)
-both true false e = absurd (cc)
-both false b e = absurd (cc)
 
 abbrev is_same : Bool → Bool → Bool
 is_same true b = b
@@ -34,10 +30,10 @@ agrees_at : (shown meant : ℕ → Bool) (from : ℕ) (xs : List ℕ) (k : ℕ) 
 agrees_at shown meant from [] k all lt = absurd (omega arith)
 agrees_at shown meant from (x ∷ xs) zero all lt =
     let here : from ≡ from + 0 = omega arith in
-    same (shown x) (meant from) ((both (is_same (shown x) (meant from)) (agree_from shown meant (suc from) xs) all).0) ∙ ap meant here
+    same (shown x) (meant from) ((and_parts (is_same (shown x) (meant from)) (agree_from shown meant (suc from) xs) all).0) ∙ ap meant here
 agrees_at shown meant from (x ∷ xs) (suc k) all lt =
     let there : suc from + k ≡ from + suc k = omega arith in
-    agrees_at shown meant (suc from) xs k ((both (is_same (shown x) (meant from)) (agree_from shown meant (suc from) xs) all).1) (omega arith) ∙ ap meant there
+    agrees_at shown meant (suc from) xs k ((and_parts (is_same (shown x) (meant from)) (agree_from shown meant (suc from) xs) all).1) (omega arith) ∙ ap meant there
 
 -- the class of each byte
 abbrev pub byte_classes : List ℕ
@@ -114,18 +110,14 @@ opens : (t : Bool) (len : ℕ) → t ≡ false → cond t (record { kind = kind.
 opens true len e = absurd (cc)
 opens false len e = refl
 
-no_star : (t rest : Bool) → t ≡ false → (t && rest) ≡ false
-no_star true rest e = absurd (cc)
-no_star false rest e = refl
-
 paren_lexeme : (behind : Bool) (c : ℕ) (text : Text) → eqb 42 c ≡ false → lexeme behind (40 ∷ c ∷ text) ≡ plain kind.OpenParen 1
 unfolding lexeme mark_kind
-paren_lexeme true c text e = opens (eqb 42 c && begins_with [] text) _ (no_star (eqb 42 c) (begins_with [] text) e)
-paren_lexeme false c text e = opens (eqb 42 c && begins_with [] text) _ (no_star (eqb 42 c) (begins_with [] text) e)
+paren_lexeme true c text e = opens (eqb 42 c && begins_with [] text) _ (and_left (eqb 42 c) (begins_with [] text) e)
+paren_lexeme false c text e = opens (eqb 42 c && begins_with [] text) _ (and_left (eqb 42 c) (begins_with [] text) e)
 
 paren_at : (behind : Bool) (b c : ℕ) (text : Text) → is_lone_paren b c ≡ true → plain kind.OpenParen 1 ≡ lexeme behind (b ∷ c ∷ text)
 paren_at behind b c text h =
-    let parts = both (eqb b 40) (not (eqb c 42)) h in
+    let parts = and_parts (eqb b 40) (not (eqb c 42)) h in
     let is : b ≡ 40 = grind (arith, nat_tests) in
     let other : eqb 42 c ≡ false = grind (arith, nat_tests) in
     sym (ap (λ n. lexeme behind (n ∷ c ∷ text)) is ∙ paren_lexeme behind c text other)

@@ -7,14 +7,12 @@ use Rattle.std.proofs.lemmas.List.Sums.{prefix_len_passes, prefix_len-le-length}
 use Rattle.dft_base.specs.Lexing.{Text}
 use Rattle.dft_base.specs.Name.{IsName}
 use Rattle.dft_base.specs.Words.{begins_word, continues_word}
-use Rattle.dft_lexing.proofs.PrintedLemmas.{IsPrinted, printed, run_each, runs_on}
+use Rattle.dft_base.proofs.TextLemmas.{begins_goes_on, IsPrinted, printed}
+use Rattle.dft_lexing.proofs.PrintedLemmas.{run_each, runs_on}
 use Rattle.dft_netlist_text.specs.Lexemes.{is_printed, is_in_digits, word_len}
 
 continues_printed : (b : ℕ) → continues_word b ≡ true → IsPrinted b
 continues_printed b e = grind (arith, nat_tests)
-
-begins_continues : (b : ℕ) → begins_word b ≡ true → continues_word b ≡ true
-begins_continues b e = grind (arith, nat_tests)
 
 -- bytes that are all printed
 pub all_printed : (bytes : Text) → length bytes ≤ prefix_len is_printed bytes → All (λ b. (33 ≤ b) × (b ≤ 126)) bytes
@@ -23,7 +21,7 @@ all_printed bytes full = λ k d below. printed _ (prefix_len_passes is_printed b
 -- a text that begins a word has a word in front
 pub word_len_moves : (text : Text) → 0 < length text → begins_word (slice_index text 0) ≡ true → 0 < word_len text
 word_len_moves [] some begins = absurd (omega arith)
-word_len_moves (b ∷ text) some begins = runs_on (continues_word b) (word_len text) (begins_continues b begins)
+word_len_moves (b ∷ text) some begins = runs_on (continues_word b) (word_len text) (begins_goes_on b begins)
 
 pub word_is_name : (text : Text) → 0 < length text → begins_word (slice_index text 0) ≡ true → IsName (take (word_len text) text)
 word_is_name text some begins =

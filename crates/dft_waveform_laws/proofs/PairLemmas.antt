@@ -4,6 +4,7 @@ use Rattle.std.specs.List.{list_all}
 use Rattle.std.proofs.lemmas.Bool.Decides.{nat_tests}
 use Rattle.dft_base.specs.declared.dir.Dir.{Dir}
 use Rattle.dft_base.specs.declared.dir.Dir.TheVariants.{Input, Output}
+use Rattle.dft_base.proofs.BitLemmas.{and_first, and_second}
 use Rattle.dft_patterns.specs.declared.act.Act.{Act}
 use Rattle.dft_patterns.specs.declared.act.Act.TheVariants.{Low, High, ExpectLow, ExpectHigh, Ignore}
 use Rattle.dft_patterns.specs.declared.shapes.Event.{Event}
@@ -219,14 +220,6 @@ three_keeps a b c t ss qs rs fs ts k less more =
     earlier_keeps a b (with_last c (with_pulse b c (with_setting a t))) (a ∷ ss) qs (b ∷ rs) (c ∷ fs) (c ∷ ts) less
     (earlier_keeps b c (with_last c (with_pulse b c (with_setting a t))) (a ∷ ss) qs (b ∷ rs) (c ∷ fs) ts more all)
 
-left : (a b : Bool) → (a && b) ≡ true → a ≡ true
-left true b e = refl
-left false b e = absurd (true≢false (sym e))
-
-right : (a b : Bool) → (a && b) ≡ true → b ≡ true
-right true b e = e
-right false b e = absurd (true≢false (sym e))
-
 -- an X is no strobe
 apart : (a : Event) → is 88 a ≡ true → (is 76 a || is 72 a) ≡ false
 apart a e = grind (arith, nat_tests)
@@ -239,12 +232,12 @@ more_kept : (dir : Dir) (d : Drawing) (t : Times) (ss qs rs fs ts : List ℕ) �
 more_kept dir Begun t ss qs rs fs ts k e some = absurd (true≢false (sym some))
 more_kept dir (One a) t ss qs rs fs ts k e some = one_keeps (is 68 a) (is 85 a) (is 88 a) (is 76 a) (is 72 a) a.time t ss qs rs fs ts k (apart a) some
 more_kept Input (Two a b) t ss qs rs fs ts k e some =
-    two_keeps (is 76 b) (is 72 b) a.time b.time t ss qs rs fs ts k (right (is 68 a && is 85 b) (before a b) e) some
+    two_keeps (is 76 b) (is 72 b) a.time b.time t ss qs rs fs ts k (and_second (is 68 a && is 85 b) (before a b) e) some
 more_kept Output (Two a b) t ss qs rs fs ts k e some =
-    two_keeps (is 76 b) (is 72 b) a.time b.time t ss qs rs fs ts k (right (is 88 a && (is 76 b || is 72 b)) (before a b) e) some
+    two_keeps (is 76 b) (is 72 b) a.time b.time t ss qs rs fs ts k (and_second (is 88 a && (is 76 b || is 72 b)) (before a b) e) some
 more_kept Input (Three a b c) t ss qs rs fs ts k e some =
     let start : Bool = is 68 a && is 85 b && is 68 c in
-    three_keeps a.time b.time c.time t ss qs rs fs ts k (right start (before a b) (left (start && before a b) (before b c) e)) (right (start && before a b) (before b c) e)
+    three_keeps a.time b.time c.time t ss qs rs fs ts k (and_second start (before a b) (and_first (start && before a b) (before b c) e)) (and_second (start && before a b) (before b c) e)
 more_kept Output (Three a b c) t ss qs rs fs ts k e some = absurd (true≢false (sym e))
 more_kept dir Many t ss qs rs fs ts k e some = absurd (true≢false (sym some))
 

@@ -2,6 +2,7 @@
 use Rattle.std.proofs.Common.{◌≡◌, Bool, true, false, cond, true≢false, ◌&&◌, ◌||◌, [], ◌∷◌, Option, Some, None, refl, sym, ap, ◌∙◌, arith}
 use Rattle.std.proofs.lemmas.Bool.Decides.{nat_tests}
 use Rattle.dft_base.specs.declared.dir.Dir.TheVariants.{Input, Output}
+use Rattle.dft_base.proofs.BitLemmas.{and_first, and_second}
 use Rattle.dft_patterns.specs.declared.act.Act.{Act}
 use Rattle.dft_patterns.specs.declared.act.Act.TheVariants.{Low, High, Pulse, ExpectLow, ExpectHigh, Ignore}
 use Rattle.dft_patterns.specs.declared.shapes.Event.{Event}
@@ -301,7 +302,7 @@ past_two : (c e : Bool) (o p : Option Act) → cond (c && (e && false)) o p ≡ 
 past_two true e o p = past e o p
 past_two false e o p = refl
 
--- what two events do whose first has these letters
+-- what two events do whose and_first has these letters
 abbrev of_two : (x m k : Bool) → Option Act
 of_two x m k = cond (x && (m && true)) (Some ExpectLow) (cond (x && (k && true)) (Some ExpectHigh) None)
 
@@ -326,14 +327,6 @@ two_of false false x l h = not_compared x
 two_of true k x l h = absurd (true≢false l)
 two_of false true x l h = absurd (true≢false h)
 
-first : (a b : Bool) → (a && b) ≡ true → a ≡ true
-first true b e = refl
-first false b e = absurd (true≢false (sym e))
-
-second : (a b : Bool) → (a && b) ≡ true → b ≡ true
-second true b e = e
-second false b e = absurd (true≢false (sym e))
-
 -- what a pulse does
 three_act : (d u s f : Bool) (more : Option Act) → d ≡ true → s ≡ true → f ≡ true → Some Pulse ≡ cond (d && false) (Some Low) (cond (u && false) (Some High) (cond (d && (s && (f && true))) (Some Pulse) more))
 three_act true u true true more d s f = sym (past u (Some High) (Some Pulse))
@@ -345,17 +338,17 @@ pub acted : ActsByTable
 acted Input Begun e = absurd (true≢false (sym e))
 acted Input (One a) e = one_act (is 68 a) (is 85 a) (is 88 a) (is 76 a) (is 72 a)
 acted Input (Two a b) e =
-    let u : is 85 b ≡ true = second (is 68 a) (is 85 b) (first (is 68 a && is 85 b) (before a b) e) in
+    let u : is 85 b ≡ true = and_second (is 68 a) (is 85 b) (and_first (is 68 a && is 85 b) (before a b) e) in
     let l : is 76 b ≡ false = grind (arith, nat_tests) in
     let h : is 72 b ≡ false = grind (arith, nat_tests) in
     two_of (is 76 b) (is 72 b) (is 88 a) l h ∙ sym (two_act a b)
 acted Input (Three a b c) e =
     let start : Bool = is 68 a && is 85 b in
-    let letters : (start && is 68 c) ≡ true = first (start && is 68 c) (before a b) (first (start && is 68 c && before a b) (before b c) e) in
-    three_act (is 68 a) (is 85 a) (is 85 b) (is 68 c) _ (first (is 68 a) (is 85 b) (first start (is 68 c) letters)) (second (is 68 a) (is 85 b) (first start (is 68 c) letters)) (second start (is 68 c) letters)
+    let letters : (start && is 68 c) ≡ true = and_first (start && is 68 c) (before a b) (and_first (start && is 68 c && before a b) (before b c) e) in
+    three_act (is 68 a) (is 85 a) (is 85 b) (is 68 c) _ (and_first (is 68 a) (is 85 b) (and_first start (is 68 c) letters)) (and_second (is 68 a) (is 85 b) (and_first start (is 68 c) letters)) (and_second start (is 68 c) letters)
 acted Input Many e = absurd (true≢false (sym e))
 acted Output Begun e = absurd (true≢false (sym e))
 acted Output (One a) e = one_act (is 68 a) (is 85 a) (is 88 a) (is 76 a) (is 72 a)
-acted Output (Two a b) e = compared (is 76 b) (is 72 b) ∙ ap (λ x. of_two x (is 76 b) (is 72 b)) (sym (first (is 88 a) (is 76 b || is 72 b) (first (is 88 a && (is 76 b || is 72 b)) (before a b) e))) ∙ sym (two_act a b)
+acted Output (Two a b) e = compared (is 76 b) (is 72 b) ∙ ap (λ x. of_two x (is 76 b) (is 72 b)) (sym (and_first (is 88 a) (is 76 b || is 72 b) (and_first (is 88 a && (is 76 b || is 72 b)) (before a b) e))) ∙ sym (two_act a b)
 acted Output (Three a b c) e = absurd (true≢false (sym e))
 acted Output Many e = absurd (true≢false (sym e))

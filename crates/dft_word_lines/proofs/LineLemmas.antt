@@ -12,9 +12,6 @@ use Rattle.dft_word_lines.specs.Lines.{onto_first, lines_of, is_gap, words_from,
 abbrev pub is_inner : ℕ → Bool
 is_inner b = not (is_gap b)
 
-pub apart : (a b : ℕ) → (a ≡ b → ⊥) → (a == b) ≡ false
-apart = grind arith
-
 less_by : (a b : ℕ) → a ≤ b → (a ≡ b → ⊥) → a < b
 less_by = grind arith
 

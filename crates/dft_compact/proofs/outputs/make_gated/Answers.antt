@@ -2,9 +2,10 @@ use Rattle.std.proofs.Common.{◌+◌, ◌-◌, ◌∙◌, ℕ, length}
 use Rattle.std.specs.List.{range_with_len}
 use Rattle.std.proofs.lemmas.Result.{err_from_is_err_and}
 use Rattle.std.proofs.lemmas.List.FromFn.{length-range_with_len}
+use Rattle.dft_base.proofs.ListLemmas.{range_over}
 use Rattle.dft_netlist.specs.declared.ids.NetId.{NetId}
 use Rattle.dft_parts.specs.Recipes.{Recipe, net_at}
-use Rattle.dft_parts.proofs.Runs.{range_on, range_over, range_start, collect_starts, collect_goes, collect_stops, collect_ends, collect_count}
+use Rattle.dft_parts.proofs.Runs.{range_on, range_start, collect_starts, collect_goes, collect_stops, collect_ends, collect_count}
 use Rattle.dft_compact.specs.CompactorRecipe.{a_gated, masks_at}
 use Rattle.dft_compact.proofs.outputs.make_gated.Goals as goal
 

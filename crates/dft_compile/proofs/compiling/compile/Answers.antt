@@ -36,7 +36,7 @@ pub returns-clause-compile : goal.returns-clause-compile
 returns-clause-compile c =
     let n = c.args.design.now in
     let config = c.args.config.now in
-    let told = told_of n config c.args.cubes.now c.requires.range c.requires.prepared.fits (c.plans_stand_apart.ensures n config c.requires.range) c.can_be_told.ensures c.requires.cubes c.requires.cells in
+    let told = told_of n config c.args.cubes.now c.requires.range c.soundness.ensures.netlist c.requires.prepared.passed c.requires.prepared.fits (c.plans_stand_apart.ensures n config c.requires.range) c.cubes_are_named.ensures c.requires.cubes c.requires.cells in
     let p = placed_by c.args.design.now c.args.config.now c.args.cubes.now c.args.prepared.now.chains c.in_ok-equations.equations c.in_ok-merger.merger c.in_ok-placed.placed.items c.deref.result.now c.place_all.new.merger.patterns c.requires.prepared.chains
     c.in_ok-equations.ensures c.in_ok-merger.ensures c.deref.ensures.value c.in_ok-placed.ensures.placed in
     IfOk-weaker c.texts.result (AreTextsOf n config c.args.cubes.now c.in_ok-equations.equations c.deref.result.now c.place_all.new.merger.patterns) (IsCompileOf n config c.args.cubes.now)

@@ -4,7 +4,8 @@ use Rattle.std.specs.Ordering.{eq_by_cmp}
 use Rattle.std.specs.BTreeSet.{contains}
 use Rattle.std.specs.BTreeMap.{is_at}
 use Rattle.std.proofs.lemmas.Cmp.{eq_by_cmp_equiv}
-use Rattle.dft_config.proofs.DistinctLemmas.{differ_start, differ_more, not_true}
+use Rattle.std.proofs.lemmas.Bool.{not-true}
+use Rattle.dft_config.proofs.DistinctLemmas.{differ_start, differ_more}
 use Rattle.dft_config.proofs.distinct.items_differ.Goals as goal
 
 pub loop-item-init : goal.loop-item-init
@@ -17,7 +18,7 @@ loop-item-preserved g c =
     let cmp = g.T.Ord.cmp in
     let x = c.item-item.result in
     let at = c.item-item.is in
-    let new = not_true (contains cmp c.loop-item.seen x) (sym c.in_ok-insert.ensures.added ∙ c.if-not-branch.false) in
+    let new = not-true (contains cmp c.loop-item.seen x) (sym c.in_ok-insert.ensures.added ∙ c.if-not-branch.false) in
     c.loop-item.invariant
     ∙ differ_more (eq_by_cmp cmp) (eq_by_cmp_equiv g.met.T.Ord.total).symm (contains cmp c.loop-item.seen) (contains cmp c.insert.new.self) c.args.items.now c.loop-item.item-index x c.loop-item-test.true
     (ap (contains cmp c.loop-item.seen) (sym at) ∙ new)

@@ -2,7 +2,8 @@ use Rattle.std.proofs.Common.{◌+◌, ◌-◌, ◌∙◌}
 use Rattle.std.specs.List.{range_with_len}
 use Rattle.std.proofs.lemmas.Result.{err_from_is_err_and}
 use Rattle.std.proofs.lemmas.List.FromFn.{length-range_with_len}
-use Rattle.dft_parts.proofs.Runs.{range_on, range_over, range_start, collect_starts, collect_goes, collect_stops, collect_ends, collect_count}
+use Rattle.dft_base.proofs.ListLemmas.{range_over}
+use Rattle.dft_parts.proofs.Runs.{range_on, range_start, collect_starts, collect_goes, collect_stops, collect_ends, collect_count}
 use Rattle.dft_ring.specs.RingRecipe.{a_phase}
 use Rattle.dft_ring.proofs.phases.make_phases.Goals as goal
 

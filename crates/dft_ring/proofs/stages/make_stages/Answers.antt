@@ -1,7 +1,8 @@
 use Rattle.std.proofs.Common.{◌+◌, ◌-◌}
 use Rattle.std.specs.List.{range_with_len}
 use Rattle.std.proofs.lemmas.Result.{err_from_is_err_and}
-use Rattle.dft_parts.proofs.Runs.{range_on, range_over, each_goes, each_stops, each_ends}
+use Rattle.dft_base.proofs.ListLemmas.{range_over}
+use Rattle.dft_parts.proofs.Runs.{range_on, each_goes, each_stops, each_ends}
 use Rattle.dft_ring.specs.RingRecipe.{a_stage}
 use Rattle.dft_ring.proofs.stages.make_stages.Goals as goal
 

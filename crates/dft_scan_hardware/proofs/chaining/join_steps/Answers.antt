@@ -1,7 +1,8 @@
 use Rattle.std.proofs.Common.{◌≡◌, ◌+◌, ◌-◌, Ok, length, arith, ◌∙◌}
 use Rattle.std.specs.List.{range_with_len}
+use Rattle.dft_base.proofs.ListLemmas.{range_over}
 use Rattle.dft_parts.specs.Recipes.{outcome}
-use Rattle.dft_parts.proofs.Runs.{range_on, range_over, each_goes, each_ends}
+use Rattle.dft_parts.proofs.Runs.{range_on, each_goes, each_ends}
 use Rattle.dft_scan_hardware.specs.Chained.{a_step}
 use Rattle.dft_scan_hardware.proofs.chaining.join_steps.Goals as goal
 

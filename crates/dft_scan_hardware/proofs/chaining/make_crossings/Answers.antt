@@ -1,9 +1,9 @@
 use Rattle.std.proofs.Common.{◌+◌, drop}
 use Rattle.std.proofs.lemmas.List.{drop_more}
 use Rattle.std.proofs.lemmas.Result.{err_from_is_err_and}
+use Rattle.dft_base.proofs.ListLemmas.{drop_over}
 use Rattle.dft_parts.proofs.Runs.{each_goes, each_stops, each_ends}
 use Rattle.dft_scan_hardware.specs.Chained.{crossing_in}
-use Rattle.dft_scan_hardware.proofs.MadeParts.{none_left}
 use Rattle.dft_scan_hardware.proofs.chaining.make_crossings.Goals as goal
 
 pub returns-in_err-make_crossing_in-clause-makes : goal.returns-in_err-make_crossing_in-clause-makes
@@ -27,4 +27,4 @@ returns-clause-makes c =
     let f = crossing_in c.args.design.now c.args.config.now c.args.gap.now c.args.chain c.args.cells.now c.args.row.now in
     let k = c.loop-lockup.lockup-index in
     let xs = c.args.lockups.now in
-    each_ends f xs (drop k xs) c.args.parts.now c.loop-lockup.parts c.loop-lockup.invariant (none_left xs k c.loop-lockup-test.false)
+    each_ends f xs (drop k xs) c.args.parts.now c.loop-lockup.parts c.loop-lockup.invariant (drop_over xs k c.loop-lockup-test.false)

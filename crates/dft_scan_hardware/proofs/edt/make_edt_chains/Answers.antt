@@ -1,8 +1,9 @@
 use Rattle.std.proofs.Common.{◌≡◌, ◌+◌, ◌-◌, ℕ, Ok, subst}
 use Rattle.std.specs.List.{range_with_len}
 use Rattle.std.proofs.lemmas.Result.{err_from_is_err_and}
+use Rattle.dft_base.proofs.ListLemmas.{range_over}
 use Rattle.dft_parts.specs.Recipes.{each, outcome, IsRefusal}
-use Rattle.dft_parts.proofs.Runs.{range_on, range_over, each_goes, each_stops, each_ends}
+use Rattle.dft_parts.proofs.Runs.{range_on, each_goes, each_stops, each_ends}
 use Rattle.dft_scan_hardware.specs.Scanned.{an_edt_chain}
 use Rattle.dft_scan_hardware.proofs.edt.make_edt_chains.Goals as goal
 

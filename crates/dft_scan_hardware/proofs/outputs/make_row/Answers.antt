@@ -1,9 +1,9 @@
 use Rattle.std.proofs.Common.{◌+◌, drop, refl}
 use Rattle.std.proofs.lemmas.List.{drop_more}
 use Rattle.std.proofs.lemmas.Result.{err_from_is_err_and}
+use Rattle.dft_base.proofs.ListLemmas.{drop_over}
 use Rattle.dft_parts.proofs.Runs.{collect_starts, collect_goes, collect_stops, collect_ends}
 use Rattle.dft_scan_hardware.specs.Chained.{an_output}
-use Rattle.dft_scan_hardware.proofs.MadeParts.{none_left}
 use Rattle.dft_scan_hardware.proofs.outputs.make_row.Goals as goal
 
 pub loop-cell-init : goal.loop-cell-init
@@ -29,4 +29,4 @@ pub returns-clause-makes : goal.returns-clause-makes
 returns-clause-makes c =
     let k = c.loop-cell.cell-index in
     let xs = c.args.cells.now in
-    collect_ends (an_output c.args.design.now c.args.gap.now) xs (drop k xs) c.args.parts.now c.loop-cell.parts c.loop-cell.nets.items c.loop-cell.invariant (none_left xs k c.loop-cell-test.false)
+    collect_ends (an_output c.args.design.now c.args.gap.now) xs (drop k xs) c.args.parts.now c.loop-cell.parts c.loop-cell.nets.items c.loop-cell.invariant (drop_over xs k c.loop-cell-test.false)

@@ -1,8 +1,9 @@
 use Rattle.std.proofs.Common.{◌+◌, [], drop, refl, arith, sym}
 use Rattle.std.proofs.lemmas.Option.{get_or_from_slice_get, slice_get_within}
 use Rattle.std.proofs.lemmas.Result.{err_from_is_err_and}
+use Rattle.dft_base.proofs.ListLemmas.{drop_over}
 use Rattle.dft_scan_hardware.specs.Chained.{a_row}
-use Rattle.dft_scan_hardware.proofs.MadeParts.{rows_start, rows_on, rows_stop, rows_end, none_left, next_item}
+use Rattle.dft_scan_hardware.proofs.MadeParts.{rows_start, rows_on, rows_stop, rows_end, next_item}
 use Rattle.dft_scan_hardware.proofs.outputs.make_rows.Goals as goal
 
 pub loop-chain-init : goal.loop-chain-init
@@ -30,4 +31,4 @@ pub returns-clause-makes : goal.returns-clause-makes
 returns-clause-makes c =
     let k = c.loop-chain.chain in
     let xs = c.args.chains.now.chains in
-    rows_end (a_row c.args.design.now c.args.gap.now) xs (drop k xs) c.args.parts.now c.loop-chain.parts c.loop-chain.rows.items c.loop-chain.invariant (none_left xs k (omega (arith, c.loop-chain-test.false, c.count-count.ensures)))
+    rows_end (a_row c.args.design.now c.args.gap.now) xs (drop k xs) c.args.parts.now c.loop-chain.parts c.loop-chain.rows.items c.loop-chain.invariant (drop_over xs k (omega (arith, c.loop-chain-test.false, c.count-count.ensures)))

@@ -10,7 +10,6 @@ returns-in-Ok c =
     let made = c.soundness.ensures in record {
       is = given.prepared;
       ready = given.ready;
-      named = given.named;
       accepted = given.accepted;
       sound = subst IsNetlist given.prepared.scanned made.netlist;
       order = made.ordered.order;

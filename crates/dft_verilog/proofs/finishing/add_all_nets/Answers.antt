@@ -4,11 +4,11 @@ use Rattle.std.proofs.lemmas.Result.{IfOk-weaker}
 use Rattle.dft_base.specs.Lexing.{Text}
 use Rattle.dft_base.specs.Ranges.{going_up}
 use Rattle.dft_netlist.specs.Netlist.{Netlist}
+use Rattle.dft_netlist.proofs.BitLemmas.{up_length}
 use Rattle.dft_netlist_text.specs.Modules.{Draft, HeaderPort}
 use Rattle.dft_netlist_text.specs.NetlistText.{Grown, and_grown, nets_of_ports, names_of_others, add_ports, add_nets}
 use Rattle.dft_verilog.specs.FinalNets.{number_among, numbers_among, without_number}
 use Rattle.dft_verilog.specs.Built.{Grows}
-use Rattle.dft_verilog_draft.proofs.DeclareLemmas.{length-going_up}
 use Rattle.dft_verilog.proofs.BuiltLemmas.{all_nets, all_nets-by, finals-by, HasNetsOf-all, OnOk-grown}
 use Rattle.dft_verilog.proofs.GrowLemmas.{IsGrown-same}
 use Rattle.dft_verilog.proofs.finishing.add_all_nets.Goals as goal
@@ -19,7 +19,7 @@ add_others-requires-clause-count c =
     let bits = nets_of_ports d.ports in
     let numbers : c.deref.result.now ≡ numbers_among bits (length d.nets) =
     c.deref.ensures.value ∙ c.in_ok-numbers.ensures ∙ ap₂ (λ (ps : List HeaderPort) n. numbers_among (nets_of_ports ps) n) c.ports.ensures.ports c.net_count.ensures.count in
-    ap length c.nets.ensures.nets ∙ sym (ap length numbers ∙ length-map (going_up 0 (length d.nets)) (number_among bits) ∙ length-going_up 0 (length d.nets))
+    ap length c.nets.ensures.nets ∙ sym (ap length numbers ∙ length-map (going_up 0 (length d.nets)) (number_among bits) ∙ up_length 0 (length d.nets))
 
 pub add_others-requires-clause-grown : goal.add_others-requires-clause-grown
 add_others-requires-clause-grown c =

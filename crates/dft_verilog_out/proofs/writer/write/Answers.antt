@@ -1,9 +1,12 @@
-use Rattle.std.proofs.Common.{◌∙◌, ◌++◌, ap, sym, refl, subst, arith, length, flat_map, drop}
+use Rattle.std.proofs.Common.{◌∙◌, ◌++◌, List, ap, sym, refl, subst, arith, length, flat_map, drop, slice_get}
+use Rattle.std.proofs.lemmas.List.{take_rest}
 use Rattle.dft_netlist_text.specs.NetlistText.{StandsFor}
 use Rattle.dft_base.specs.Lexing.{Text}
-use Rattle.dft_base.specs.Name.{IsName}
+use Rattle.dft_cells.specs.declared.cell.Cell.{Cell}
+use Rattle.dft_netlist.specs.declared.instance.Instance.{Instance}
+use Rattle.dft_verilog_out.specs.Named.{AreCellsNamed, HasNamedCell}
 use Rattle.dft_verilog_out.specs.Written.{port_texts, port_line, wire_line}
-use Rattle.dft_verilog_out.proofs.FormLemmas.{ports-fit, texts-are, module_line-is, wires-are, rest-is, assembled, joins-stand, instances-stand, all_named}
+use Rattle.dft_verilog_out.proofs.FormLemmas.{ports-fit, texts-are, module_line-is, wires-are, assembled, joins-stand, instances-stand}
 use Rattle.dft_verilog_out.proofs.RoundTrip.{written_stands}
 use Rattle.dft_verilog_out.proofs.writer.write.Goals as goal
 
@@ -15,26 +18,27 @@ add_other_texts-requires c =
 pub add_joins-requires : goal.add_joins-requires
 add_joins-requires c =
     joins-stand c.args.design.now _ _ c.joins.ensures.sound
-    (c.deref-2.ensures.value ∙ texts-are c.args.design.now _ _ (c.in_ok-nets.ensures ∙ ap (flat_map port_texts) c.ports.ensures.ports) c.in_ok-add_other_texts.ensures.texts) c.joins.ensures.joins
+    (c.deref-2.ensures.value ∙ texts-are c.args.design.now _ _ (c.in_ok-nets.ensures ∙ ap (flat_map port_texts) c.ports.ensures.ports) c.in_ok-add_other_texts.ensures) c.joins.ensures.joins
 
 pub add_instances-requires : goal.add_instances-requires
 add_instances-requires c =
     instances-stand c.args.design.now _ _ _ c.joins.ensures.sound (c.cells.ensures.cells ∙ c.library.ensures.library)
-    (c.deref-3.ensures.value ∙ texts-are c.args.design.now _ _ (c.in_ok-nets.ensures ∙ ap (flat_map port_texts) c.ports.ensures.ports) c.in_ok-add_other_texts.ensures.texts) c.instances.ensures.instances
+    (c.deref-3.ensures.value ∙ texts-are c.args.design.now _ _ (c.in_ok-nets.ensures ∙ ap (flat_map port_texts) c.ports.ensures.ports) c.in_ok-add_other_texts.ensures) c.instances.ensures.instances
 
 pub returns : goal.returns
 returns c =
     let n = c.args.design.now in
     let first = c.in_ok-nets.ensures ∙ ap (flat_map port_texts) c.ports.ensures.ports in
-    let all = texts-are n _ _ first c.in_ok-add_other_texts.ensures.texts in
-    let heading_is = module_line-is n _ _ _ _ c.new-out.ensures.items c.module.ensures.name c.ports-2.ensures.ports c.in_ok-add_heading.ensures.text in
+    let all = texts-are n _ _ first c.in_ok-add_other_texts.ensures in
+    let heading_is = module_line-is n _ _ _ _ c.new-out.ensures.items c.module.ensures.name c.ports-2.ensures.ports c.in_ok-add_heading.ensures in
     let cells = c.cells.ensures.cells ∙ c.library.ensures.library in
     let form = assembled n _ _ _ _ _ _ _ _ all (wires-are n _ _ c.len-first.result first (omega arith) all) heading_is
-    (c.in_ok-add_ports.ensures.text ∙ ap (λ ports. c.add_heading.new.out.items ++ flat_map port_line ports) c.ports-3.ensures.ports)
-    (c.in_ok-add_wires.ensures ∙ ap (λ texts. c.add_ports.new.out.items ++ flat_map wire_line texts) (rest-is c.deref.result.now c.len-first.result ∙ ap (drop c.len-first.result) c.deref.ensures.value))
+    (c.in_ok-add_ports.ensures ∙ ap (λ ports. c.add_heading.new.out.items ++ flat_map port_line ports) c.ports-3.ensures.ports)
+    (c.in_ok-add_wires.ensures ∙ ap (λ texts. c.add_ports.new.out.items ++ flat_map wire_line texts) (take_rest c.deref.result.now c.len-first.result ∙ ap (drop c.len-first.result) c.deref.ensures.value))
     (c.in_ok-add_joins.ensures ∙ rw (c.deref-2.ensures.value, c.joins.ensures.joins) refl)
     (c.in_ok-add_instances.ensures.text ∙ rw (cells, c.deref-3.ensures.value, c.instances.ensures.instances) refl)
     c.in_ok-extend_from_slice.ensures.items in
-    let named = all_named n _ _ _ _ (subst IsName c.module.ensures.name c.in_ok-add_heading.ensures.named) c.ports-3.ensures.ports cells c.instances.ensures.instances first c.in_ok-add_ports.ensures.named c.in_ok-add_other_texts.ensures.named c.in_ok-add_instances.ensures.named in
+    let named : AreCellsNamed n =
+    λ place i at. subst (λ (all : List Cell). HasNamedCell all i) cells (c.in_ok-add_instances.ensures.named place i (ap (λ (is : List Instance). slice_get is place) c.instances.ensures.instances ∙ at)) in
     let stands = written_stands n (record { sound = c.soundness.ensures.netlist; well = c.soundness.ensures.library; named = named; gates = c.requires }) c.soundness.ensures.single c.soundness.ensures.finished.orderable in
     record { form = form; reads = subst (λ (text : Text). StandsFor n.library text n) (sym form) stands }

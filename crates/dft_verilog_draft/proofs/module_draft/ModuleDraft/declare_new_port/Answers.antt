@@ -1,11 +1,12 @@
 use Rattle.std.proofs.Common.{◌≡◌, ◌∙◌, ◌++◌, ◌∷◌, [], ap, ap₂, sym, subst, length, List, ℕ, true, false, Ok, rules, None, Some}
 use Rattle.dft_base.specs.declared.dir.Dir.{Dir}
+use Rattle.dft_base.proofs.OptionLemmas.{none_of}
 use Rattle.dft_netlist_text.specs.declared.text.Shape.{Shape}
 use Rattle.dft_netlist_text.specs.declared.text.Meaning.TheVariants as meaning
 use Rattle.dft_netlist_text.specs.Modules.{Draft, HeaderPort, with_name, next_shape, meaning_of}
 use Rattle.dft_verilog_draft.specs.Drafts.{IsShapeWithin}
 use Rattle.dft_verilog_draft.specs.Free.{AreBitsApart, AreFreeBits}
-use Rattle.dft_verilog_draft.proofs.ApartLemmas.{AreFreeBits-named, is_none}
+use Rattle.dft_verilog_draft.proofs.ApartLemmas.{AreFreeBits-named}
 use Rattle.dft_verilog_draft.proofs.DeclareLemmas.{new_bits-ok, name_by, port-tests, shape-within, free-at, with_nets-made}
 use Rattle.dft_verilog_draft.proofs.module_draft.ModuleDraft.declare_new_port.Goals as goal
 
@@ -20,7 +21,7 @@ returns-then-not-has_room_for_nets c =
     let d : Draft = c.args.self.now in
     let names : List (List ℕ) = c.in_ok-names.names.items in
     let count : c.len.result ≡ length names = search rules in
-    let free : meaning_of d c.args.word.now ≡ None = sym c.meaning.ensures.meaning ∙ is_none c.meaning.result (sym c.is_some.ensures ∙ c.if-is_some.false) in
+    let free : meaning_of d c.args.word.now ≡ None = sym c.meaning.ensures.meaning ∙ none_of c.meaning.result (sym c.is_some.ensures ∙ c.if-is_some.false) in
     rw c.full-then-not-has_room_for_nets.ensures
     (name_by (meaning_of d c.args.word.now) _ _ free
     ∙ port-tests c.args.place c.args.word.now c.args.range d names c.len.result c.port_count-port.result c.has_room_for_nets.result true _ _ c.in_ok-names.ensures.names count c.has_room_for_nets.ensures c.if-not-has_room_for_nets.true c.port_count-port.ensures.count c.if-port-ge-MAX_PORTS.false)
@@ -58,7 +59,7 @@ returns c =
     let bits = new_bits-ok c.args.place word c.args.range d names c.in_ok-names.ensures.names in
     let x : Draft = said d word c.args.dir (next_shape d c.args.range) in
     let count : c.len.result ≡ length names = search rules in
-    let free : meaning_of d c.args.word.now ≡ None = sym c.meaning.ensures.meaning ∙ is_none c.meaning.result (sym c.is_some.ensures ∙ c.if-is_some.false) in
+    let free : meaning_of d c.args.word.now ≡ None = sym c.meaning.ensures.meaning ∙ none_of c.meaning.result (sym c.is_some.ensures ∙ c.if-is_some.false) in
     let grown : c.add_port.new.self ≡ record x { nets = d.nets ++ names } =
     c.in_ok-add_port.ensures ∙ ap₂ (λ (p : HeaderPort) (e : Draft). record e { ports = e.ports ++ p ∷ [] })
     (c.new.ensures ∙ ap₂ (λ (n : List ℕ) (s : Shape). port_of n c.args.dir s) c.in_ok-name.ensures c.next_shape.ensures)

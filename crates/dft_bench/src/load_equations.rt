@@ -11,7 +11,7 @@ use std::rt::Clock;
 use std::time::Instant;
 
 // Sixteen chains of three stages each.
-const CONFIGURATION: &str = "version = 1
+static CONFIGURATION: &str = "version = 1
 domains = ['clk']
 chains = 16
 warm = 0
@@ -30,17 +30,36 @@ mask_inputs = 1
 
 /// Reads the configuration and times the equations of chains of so many cells, at most 4,096.
 pub fn time_equations(rt: &(impl Clock + Eprint), alloc: Global, cells: u32) -> io::Result<()> {
-    let cells = cells.min(4096) as u16;
-    match Config::read(alloc, CONFIGURATION.as_bytes()) {
-        Ok(config) if config.chains == 16 && config.ring.channels == 4 => {
-            time(rt, alloc, &config, cells)
-        }
-        _ => eprintln!(rt; "the configuration is not read"),
+    match Config::read(alloc, CONFIGURATION.as_bytes()).ok() {
+        Some(config) => time_read(rt, alloc, &config, cells.min(4096) as u16),
+        None => eprintln!(rt; "the configuration is not read"),
+    }
+}
+
+// The same, where the configuration is the one above.
+fn time_read(
+    rt: &(impl Clock + Eprint),
+    alloc: Global,
+    config: &Config,
+    cells: u16,
+) -> io::Result<()>
+    requires config { IsInRange config.now }
+    requires cells { cells ≤ 4096 }
+{
+    if config.chains == 16 && config.ring.channels == 4 {
+        time_chains(rt, alloc, config, cells)
+    } else {
+        eprintln!(rt; "the configuration is not the one that is timed")
     }
 }
 
 // Times the equations of chains of so many cells.
-fn time(rt: &(impl Clock + Eprint), alloc: Global, config: &Config, cells: u16) -> io::Result<()>
+fn time_chains(
+    rt: &(impl Clock + Eprint),
+    alloc: Global,
+    config: &Config,
+    cells: u16,
+) -> io::Result<()>
     requires config { IsInRange config.now }
     requires chains { config.now.chains ≡ 16 }
     requires channels { config.now.ring.channels ≡ 4 }
@@ -48,8 +67,7 @@ fn time(rt: &(impl Clock + Eprint), alloc: Global, config: &Config, cells: u16) 
 {
     let lengths = [cells; 16];
     let start = Instant::now(rt)?;
-    let equations = equations(alloc, config, &lengths, 4096)?;
+    let columns = equations(alloc, config, &lengths, 4096)?.columns();
     let took = start.elapsed(rt)?.as_micros();
-    let columns = equations.columns();
     eprintln!(rt; "16 chains of {cells} cells, {columns} columns: {took} us")
 }

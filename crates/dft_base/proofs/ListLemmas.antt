@@ -1,0 +1,85 @@
+-- Lists: elements by their place, ranges, and what is past the end.
+use Rattle.std.proofs.Common.{◌≡◌, ℕ, zero, suc, List, ◌∷◌, ◌++◌, Some, slice_get, ◌+◌, length, ap, arith, ◌∙◌, ◌<◌, refl, map, drop, ◌≤◌, inl, inr, sym, subst, false, replicate, get_or, ◌-◌}
+use Rattle.std.proofs.lemmas.List.{drop_more}
+use Rattle.std.proofs.lemmas.Option.{slice_get_within, get_or_from_slice_get}
+use Rattle.std.specs.List.{AllByRecursion, range_with_len}
+use Rattle.std.proofs.lemmas.Bool.{cases_lt}
+use Rattle.dft_base.specs.Ranges.{going_up}
+
+pub get_left : {X : Type 0} (xs ys : List X) (k : ℕ) (x : X) → slice_get xs k ≡ Some x → slice_get (xs ++ ys) k ≡ Some x
+get_left [] ys k x h = absurd (cc)
+get_left (y ∷ xs) ys zero x h = h
+get_left (y ∷ xs) ys (suc k) x h = get_left xs ys k x h
+
+pub get_right : {X : Type 0} (xs ys : List X) (k : ℕ) (y : X) → slice_get ys k ≡ Some y → slice_get (xs ++ ys) (length xs + k) ≡ Some y
+get_right [] ys k y h = ap (slice_get ys) (let e : 0 + k ≡ k = omega arith in e) ∙ h
+get_right (x ∷ xs) ys k y h = ap (slice_get (x ∷ (xs ++ ys))) (let e : suc (length xs) + k ≡ suc (length xs + k) = omega arith in e) ∙ get_right xs ys k y h
+
+pub get_there : {X : Type 0} (xs : List X) (k : ℕ) → k < length xs → (x : X) × (slice_get xs k ≡ Some x)
+get_there [] k less = absurd (omega (arith, less))
+get_there (x ∷ xs) zero less = (x, refl)
+get_there (x ∷ xs) (suc k) less = get_there xs k (omega (arith, less))
+
+pub at_of_map : {X Y : Type 0} (f : X → Y) (xs : List X) (k : ℕ) (y : Y) → slice_get (map f xs) k ≡ Some y → (x : X) × (slice_get xs k ≡ Some x) × (f x ≡ y)
+at_of_map f [] k y at = absurd (let g : ⊥ = cc in g)
+at_of_map f (x ∷ xs) zero y at = (x, refl, cc)
+at_of_map f (x ∷ xs) (suc k) y at = at_of_map f xs k y at
+
+pub length_push : {X : Type 0} (xs : List X) (x : X) → length (xs ++ x ∷ []) ≡ suc (length xs)
+length_push [] x = refl
+length_push (y ∷ xs) x = ap suc (length_push xs x)
+
+-- the list from an item on
+pub drop_at : {T : Type 0} (xs : List T) (k : ℕ) (x : T) → slice_get xs k ≡ Some x → drop k xs ≡ x ∷ drop (k + 1) xs
+drop_at {T = T} xs k x at = drop_more xs k x (slice_get_within xs k x at) ∙ ap (λ (y : T). y ∷ drop (k + 1) xs) (get_or_from_slice_get xs k x x at)
+
+pub drop_over : {T : Type 0} (xs : List T) (i : ℕ) → length xs ≤ i → drop i xs ≡ []
+drop_over [] zero h = refl
+drop_over [] (suc i) h = refl
+drop_over (x ∷ xs) zero h = absurd (omega (arith, h))
+drop_over (x ∷ xs) (suc i) h = drop_over xs i (omega (arith, h))
+
+pub all_append : {A : Type 0} (P : A → Type 0) (xs ys : List A) → AllByRecursion P xs → AllByRecursion P ys → AllByRecursion P (xs ++ ys)
+all_append P [] ys h k = k
+all_append P (x ∷ xs) ys h k = (h.0, all_append P xs ys h.1 k)
+
+pub each_more : {X : Type 0} (P : ℕ → X → Type 0) (xs : List X) (index : ℕ) (here : X) → ((k : ℕ) (x : X) → k < index → slice_get xs k ≡ Some x → P k x) → slice_get xs index ≡ Some here → P index here →
+    (k : ℕ) (x : X) → k < index + 1 → slice_get xs k ≡ Some x → P k x
+each_more P xs index here before at is k x lt same = elim (cases_lt k index) [
+  | inl less ↦ before k x less same
+  | inr least ↦ (
+      let e : index ≡ k = omega arith in
+      let s : Some here ≡ Some x = sym at ∙ ap (slice_get xs) e ∙ same in
+      let t : here ≡ x = cc in
+      subst (λ j. P j x) e (subst (P index) t is))
+]
+
+pub each_all : {X : Type 0} (P : ℕ → X → Type 0) (xs : List X) (index : ℕ) → length xs ≤ index → ((k : ℕ) (x : X) → k < index → slice_get xs k ≡ Some x → P k x) → (k : ℕ) (x : X) → slice_get xs k ≡ Some x → P k x
+each_all P xs index all before k x at = before k x (let lt = slice_get_within xs k x at in omega arith) at
+
+pub none_marked : (n k : ℕ) → get_or (replicate n false) k false ≡ false
+none_marked zero k = refl
+none_marked (suc n) zero = refl
+none_marked (suc n) (suc k) = none_marked n k
+
+pub range_over : (k n : ℕ) → n ≤ k → range_with_len k (n - k) ≡ []
+range_over k n past = let e : n - k ≡ 0 = omega (arith, past) in ap (range_with_len k) e
+
+pub get_range : (from count k : ℕ) → k < count → slice_get (range_with_len from count) k ≡ Some (from + k)
+get_range from zero k h = absurd (omega (arith, h))
+get_range from (suc count) zero h = ap Some (omega arith)
+get_range from (suc count) (suc k) h = get_range (from + 1) count k (omega (arith, h)) ∙ ap Some (omega arith)
+
+pub range_split : (from k m : ℕ) → range_with_len from (k + m) ≡ range_with_len from k ++ range_with_len (from + k) m
+range_split from zero m = let e : 0 + m ≡ m = omega arith in let same : from ≡ from + 0 = omega arith in ap (range_with_len from) e ∙ ap (λ (a : ℕ). range_with_len a m) same
+range_split from (suc k) m =
+    let e : suc k + m ≡ suc (k + m) = omega arith in
+    let same : from + 1 + k ≡ from + suc k = omega arith in
+    ap (range_with_len from) e ∙ ap (λ (xs : List ℕ). from ∷ xs) (range_split (from + 1) k m ∙ ap (λ (a : ℕ). range_with_len (from + 1) k ++ range_with_len a m) same)
+
+pub range_last : (k : ℕ) → range_with_len 0 (k + 1) ≡ range_with_len 0 k ++ k ∷ []
+range_last k = let at : 0 + k ≡ k = omega arith in range_split 0 k 1 ∙ ap (λ (a : ℕ). range_with_len 0 k ++ a ∷ []) at
+
+pub going_up-append : (from m n : ℕ) → going_up from (m + n) ≡ going_up from m ++ going_up (from + m) n
+going_up-append from zero n = let e : from ≡ from + 0 = omega arith in let m : 0 + n ≡ n = omega arith in ap (going_up from) m ∙ ap (λ k. going_up k n) e
+going_up-append from (suc m) n = let e : suc from + m ≡ from + suc m = omega arith in let more : suc m + n ≡ suc (m + n) = omega arith in ap (going_up from) more ∙ ap (λ xs. from ∷ xs) (going_up-append (suc from) m n ∙ ap (λ k. going_up (suc from) m ++ going_up k n) e)

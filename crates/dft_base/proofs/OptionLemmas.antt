@@ -1,0 +1,10 @@
+-- Values that may be absent.
+use Rattle.std.proofs.Common.{◌≡◌, true, Option, None, Some, is_some, refl, false}
+
+pub some_of : {A : Type 0} (o : Option A) → is_some o ≡ true → (x : A) × (o ≡ Some x)
+some_of None e = absurd cc
+some_of (Some x) e = (x, refl)
+
+pub none_of : {A : Type 0} (o : Option A) → is_some o ≡ false → o ≡ None
+none_of None h = refl
+none_of (Some a) h = absurd (cc)

@@ -1,0 +1,284 @@
+-- The words of a line are those that are written for what it says.
+use Rattle.std.proofs.Common.{ℕ, ◌≡◌, ◌==◌, ◌&&◌, ◌⊎◌, inl, inr, Bool, true, false, List, [], ◌∷◌, ◌++◌, map, codes, Option, None, Some, option_map, refl, sym, ap, ap₂, subst, ◌∙◌}
+use Rattle.std.specs.Prelude.{if◌then◌else◌}
+use Rattle.std.specs.Fmt.{decimal}
+use Rattle.std.specs.List.{join_with_byte, slice_split}
+use Rattle.std.specs.Str.{bytes_eq}
+use Rattle.std.proofs.lemmas.List.Splits.{join_with_byte-slice_split}
+use Rattle.std.proofs.lemmas.Option.{same_Some}
+use Rattle.std.proofs.lemmas.Slice.Eq.{bytes_eq-Decides}
+use Rattle.std.proofs.lemmas.Bool.{and_parts}
+use Rattle.dft_base.specs.Lexing.{Text}
+use Rattle.dft_base.specs.declared.rule.Rule.{Rule}
+use Rattle.dft_base.specs.declared.rule.Rule.TheVariants.{S1, S2, S3, S4}
+use Rattle.dft_base.proofs.TextLemmas.{same_text}
+use Rattle.dft_report.specs.declared.report.Load.{Load}
+use Rattle.dft_report.specs.declared.report.Variable.{Variable}
+use Rattle.dft_report.specs.Written.{rule_text}
+use Rattle.dft_report_reader.specs.Words.{is_name, number_of}
+use Rattle.dft_report_reader.specs.Saying.{Said, Title, Counts, Chain, Scanned, Unscanned, Encoded, Unsolvable, Skipped, Sum, all_variables, and_variable, at_place, bit_of, chain_of, counts_of, counts_with, cube_of, in_chain, load_by, load_of, outcome_of, plain_counts, rule_of, said_of, scanned_of, sum_of, sum_with, title_of, unscanned_of, variable_by, variable_of, variable_with, variables_by, variables_of, with_two}
+use Rattle.dft_report_reader.proofs.CanonicalNumbers.{behind_test, number_word}
+use Rattle.dft_report_reader.proofs.Saying.{bit_word, variable_word, variable_words}
+
+-- ---- the words that are written
+
+-- the first word of such a line, and those behind it
+abbrev pub word_said : Said → Text
+word_said Title = codes "edt"
+word_said (Counts header) = codes "cells"
+word_said (Chain chain size) = codes "chain"
+word_said (Scanned name domain chain place) = codes "scanned"
+word_said (Unscanned name rule) = codes "unscanned"
+word_said (Encoded name pattern) = codes "cube"
+word_said (Unsolvable name sums) = codes "cube"
+word_said (Skipped name cell) = codes "cube"
+word_said (Sum name bit variables) = codes "sum"
+
+abbrev pub counts_said : (cells chains : ℕ) → Option Load → List Text
+counts_said cells chains None = decimal cells ∷ codes "chains" ∷ decimal chains ∷ []
+counts_said cells chains (Some load) = decimal cells ∷ codes "chains" ∷ decimal chains ∷ codes "cycles" ∷ decimal load.cycles ∷ codes "variables" ∷ decimal load.variables ∷ []
+
+abbrev pub words_said : Said → List Text
+words_said Title = codes "report" ∷ codes "1" ∷ []
+words_said (Counts header) = counts_said header.cells header.chains header.load
+words_said (Chain chain size) = decimal chain ∷ codes "length" ∷ decimal size ∷ []
+words_said (Scanned name domain chain place) = name ∷ domain ∷ codes "chain" ∷ decimal chain ∷ codes "place" ∷ decimal place ∷ []
+words_said (Unscanned name rule) = name ∷ rule_text rule ∷ []
+words_said (Encoded name pattern) = name ∷ codes "encoded" ∷ decimal pattern ∷ []
+words_said (Unsolvable name sums) = name ∷ codes "unsolvable" ∷ decimal sums ∷ []
+words_said (Skipped name cell) = name ∷ codes "skipped" ∷ cell ∷ []
+words_said (Sum name bit variables) = name ∷ bit_word bit ∷ variables
+
+-- words that are those of what they say
+abbrev Told : (word : Text) (words : List Text) → Said → Type 0
+Told word words s = (word ≡ word_said s) × (words ≡ words_said s)
+
+-- ---- steps back
+
+-- one of two choices
+either : {A : Type 0} (t : Bool) (o p : Option A) (x : A) → (if t then o else p) ≡ Some x → ((t ≡ true) × (o ≡ Some x)) ⊎ (p ≡ Some x)
+either true o p x e = inl (refl, e)
+either false o p x e = inr e
+
+two_numbers : (say : ℕ → ℕ → Said) (oa ob : Option ℕ) (s : Said) → with_two say oa ob ≡ Some s → (a : ℕ) × (b : ℕ) × (oa ≡ Some a) × (ob ≡ Some b) × (say a b ≡ s)
+two_numbers say None ob s e = absurd cc
+two_numbers say (Some a) None s e = absurd cc
+two_numbers say (Some a) (Some b) s e = (a, b, refl, refl, same_Some (say a b) s e)
+
+mapped : {A : Type 0} (say : A → Said) (o : Option A) (s : Said) → option_map say o ≡ Some s → (a : A) × (o ≡ Some a) × (say a ≡ s)
+mapped say None s e = absurd cc
+mapped say (Some a) s e = (a, refl, same_Some (say a) s e)
+
+-- ---- what each kind of line says
+
+title_told : (words : List Text) (s : Said) → title_of words ≡ Some s → Told (codes "edt") words s
+title_told [] s e = absurd cc
+title_told (a ∷ []) s e = absurd cc
+title_told (a ∷ b ∷ c ∷ words) s e = absurd cc
+title_told (a ∷ b ∷ []) s e =
+    let r = behind_test (bytes_eq a (codes "report") && bytes_eq b (codes "1")) (Some Title) s e in
+    let t = and_parts (bytes_eq a (codes "report")) (bytes_eq b (codes "1")) r.0 in
+    subst (Told (codes "edt") (a ∷ b ∷ [])) (same_Some Title s r.1) (refl, ap₂ (λ (x y : Text). x ∷ y ∷ []) (same_text a _ t.0) (same_text b _ t.1))
+
+load_told : (oc ov : Option ℕ) (cells chains : Option ℕ) (s : Said) → counts_with cells chains (load_of oc ov) ≡ Some s →
+    (n : ℕ) × (c : ℕ) × (l : ℕ) × (v : ℕ) × (cells ≡ Some n) × (chains ≡ Some c) × (oc ≡ Some l) × (ov ≡ Some v) × (Counts (record { cells = n; chains = c; load = Some (record { cycles = l; variables = v }) }) ≡ s)
+load_told oc ov None chains s e = absurd cc
+load_told oc ov (Some n) None s e = absurd cc
+load_told None ov (Some n) (Some c) s e = absurd cc
+load_told (Some l) None (Some n) (Some c) s e = absurd cc
+load_told (Some l) (Some v) (Some n) (Some c) s e = (n, c, l, v, refl, refl, refl, refl, same_Some (Counts (record { cells = n; chains = c; load = Some (record { cycles = l; variables = v }) })) s e)
+
+variables_told : (cells word chains cycles_word cycles : Text) (rest : List Text) (s : Said) → word ≡ codes "chains" → cycles_word ≡ codes "cycles" → variables_by cells chains cycles rest ≡ Some s →
+    Told (codes "cells") (cells ∷ word ∷ chains ∷ cycles_word ∷ cycles ∷ rest) s
+variables_told cells word chains cw cycles [] s f g e = absurd cc
+variables_told cells word chains cw cycles (a ∷ []) s f g e = absurd cc
+variables_told cells word chains cw cycles (a ∷ b ∷ c ∷ rest) s f g e = absurd cc
+variables_told cells word chains cw cycles (a ∷ b ∷ []) s f g e =
+    let r = behind_test (bytes_eq a (codes "variables")) (counts_with (number_of cells) (number_of chains) (load_of (number_of cycles) (number_of b))) s e in
+    let t = load_told (number_of cycles) (number_of b) (number_of cells) (number_of chains) s r.1 in
+    let of_cells = (number_word cells t.0 t.4).0 in
+    let of_chains = (number_word chains t.1 t.5).0 in
+    let of_cycles = (number_word cycles t.2 t.6).0 in
+    let of_variables = (number_word b t.3 t.7).0 in
+    subst (Told (codes "cells") (cells ∷ word ∷ chains ∷ cw ∷ cycles ∷ a ∷ b ∷ [])) t.8 (
+      refl,
+      ap₂ (λ (x y : Text). x ∷ y ∷ chains ∷ cw ∷ cycles ∷ a ∷ b ∷ []) of_cells f ∙ ap₂ (λ (x y : Text). decimal t.0 ∷ codes "chains" ∷ x ∷ y ∷ cycles ∷ a ∷ b ∷ []) of_chains g
+          ∙ ap₂ (λ (x y : Text). decimal t.0 ∷ codes "chains" ∷ decimal t.1 ∷ codes "cycles" ∷ x ∷ y ∷ b ∷ []) of_cycles (same_text a _ r.0)
+          ∙ ap (λ (x : Text). decimal t.0 ∷ codes "chains" ∷ decimal t.1 ∷ codes "cycles" ∷ decimal t.2 ∷ codes "variables" ∷ x ∷ []) of_variables,
+    )
+
+counts_rest : (cells word chains : Text) (rest : List Text) (s : Said) → word ≡ codes "chains" → load_by cells chains rest ≡ Some s → Told (codes "cells") (cells ∷ word ∷ chains ∷ rest) s
+counts_rest cells word chains [] s f e =
+    let t = two_numbers plain_counts (number_of cells) (number_of chains) s e in
+    subst (Told (codes "cells") (cells ∷ word ∷ chains ∷ [])) t.4
+    (refl, ap₂ (λ (x y : Text). x ∷ y ∷ chains ∷ []) (number_word cells t.0 t.2).0 f ∙ ap (λ (x : Text). decimal t.0 ∷ codes "chains" ∷ x ∷ []) (number_word chains t.1 t.3).0)
+counts_rest cells word chains (a ∷ []) s f e = absurd cc
+counts_rest cells word chains (a ∷ b ∷ rest) s f e =
+    let r = behind_test (bytes_eq a (codes "cycles")) (variables_by cells chains b rest) s e in
+    variables_told cells word chains a b rest s f (same_text a _ r.0) r.1
+
+counts_told : (words : List Text) (s : Said) → counts_of words ≡ Some s → Told (codes "cells") words s
+counts_told [] s e = absurd cc
+counts_told (a ∷ []) s e = absurd cc
+counts_told (a ∷ b ∷ []) s e = absurd cc
+counts_told (a ∷ b ∷ c ∷ rest) s e = let r = behind_test (bytes_eq b (codes "chains")) (load_by a c rest) s e in counts_rest a b c rest s (same_text b _ r.0) r.1
+
+chain_told : (words : List Text) (s : Said) → chain_of words ≡ Some s → Told (codes "chain") words s
+chain_told [] s e = absurd cc
+chain_told (a ∷ []) s e = absurd cc
+chain_told (a ∷ b ∷ []) s e = absurd cc
+chain_told (a ∷ b ∷ c ∷ d ∷ words) s e = absurd cc
+chain_told (a ∷ b ∷ c ∷ []) s e =
+    let r = behind_test (bytes_eq b (codes "length")) (with_two Chain (number_of a) (number_of c)) s e in
+    let t = two_numbers Chain (number_of a) (number_of c) s r.1 in
+    subst (Told (codes "chain") (a ∷ b ∷ c ∷ [])) t.4
+    (refl, ap₂ (λ (x y : Text). x ∷ y ∷ c ∷ []) (number_word a t.0 t.2).0 (same_text b _ r.0) ∙ ap (λ (x : Text). decimal t.0 ∷ codes "length" ∷ x ∷ []) (number_word c t.1 t.3).0)
+
+place_told : (name domain word chain : Text) (rest : List Text) (s : Said) → word ≡ codes "chain" → at_place name domain chain rest ≡ Some s → Told (codes "scanned") (name ∷ domain ∷ word ∷ chain ∷ rest) s
+place_told name domain word chain [] s f e = absurd cc
+place_told name domain word chain (a ∷ []) s f e = absurd cc
+place_told name domain word chain (a ∷ b ∷ c ∷ rest) s f e = absurd cc
+place_told name domain word chain (a ∷ b ∷ []) s f e =
+    let r = behind_test (bytes_eq a (codes "place")) (with_two (Scanned name domain) (number_of chain) (number_of b)) s e in
+    let t = two_numbers (Scanned name domain) (number_of chain) (number_of b) s r.1 in
+    subst (Told (codes "scanned") (name ∷ domain ∷ word ∷ chain ∷ a ∷ b ∷ [])) t.4 (
+      refl,
+      ap₂ (λ (x y : Text). name ∷ domain ∷ x ∷ y ∷ a ∷ b ∷ []) f (number_word chain t.0 t.2).0
+          ∙ ap₂ (λ (x y : Text). name ∷ domain ∷ codes "chain" ∷ decimal t.0 ∷ x ∷ y ∷ []) (same_text a _ r.0) (number_word b t.1 t.3).0,
+    )
+
+scanned_rest : (name domain : Text) (rest : List Text) (s : Said) → in_chain name domain rest ≡ Some s → Told (codes "scanned") (name ∷ domain ∷ rest) s
+scanned_rest name domain [] s e = absurd cc
+scanned_rest name domain (a ∷ []) s e = absurd cc
+scanned_rest name domain (a ∷ b ∷ rest) s e =
+    let r = behind_test (bytes_eq a (codes "chain")) (at_place name domain b rest) s e in place_told name domain a b rest s (same_text a _ r.0) r.1
+
+scanned_told : (words : List Text) (s : Said) → scanned_of words ≡ Some s → Told (codes "scanned") words s
+scanned_told [] s e = absurd cc
+scanned_told (a ∷ []) s e = absurd cc
+scanned_told (a ∷ b ∷ rest) s e = scanned_rest a b rest s (behind_test (is_name a && is_name b) (in_chain a b rest) s e).1
+
+rule_word : (word : Text) (rule : Rule) → rule_of word ≡ Some rule → word ≡ rule_text rule
+rule_word word rule e = elim (either (bytes_eq word (codes "S1")) (Some S1) _ rule e) [
+  | inl first ↦ same_text word _ first.0 ∙ ap rule_text (same_Some S1 rule first.1)
+  | inr more ↦ elim (either (bytes_eq word (codes "S2")) (Some S2) _ rule more) [
+    | inl second ↦ same_text word _ second.0 ∙ ap rule_text (same_Some S2 rule second.1)
+    | inr most ↦ elim (either (bytes_eq word (codes "S3")) (Some S3) _ rule most) [
+      | inl third ↦ same_text word _ third.0 ∙ ap rule_text (same_Some S3 rule third.1)
+      | inr last ↦ (let r = behind_test (bytes_eq word (codes "S4")) (Some S4) rule last in same_text word _ r.0 ∙ ap rule_text (same_Some S4 rule r.1))
+    ]
+  ]
+]
+
+unscanned_told : (words : List Text) (s : Said) → unscanned_of words ≡ Some s → Told (codes "unscanned") words s
+unscanned_told [] s e = absurd cc
+unscanned_told (a ∷ []) s e = absurd cc
+unscanned_told (a ∷ b ∷ c ∷ words) s e = absurd cc
+unscanned_told (a ∷ b ∷ []) s e =
+    let r = behind_test (is_name a) (option_map (Unscanned a) (rule_of b)) s e in
+    let t = mapped (Unscanned a) (rule_of b) s r.1 in
+    subst (Told (codes "unscanned") (a ∷ b ∷ [])) t.2 (refl, ap (λ (x : Text). a ∷ x ∷ []) (rule_word b t.0 t.1))
+
+outcome_told : (name word last : Text) (s : Said) → outcome_of name word last ≡ Some s → Told (codes "cube") (name ∷ word ∷ last ∷ []) s
+outcome_told name word last s e = elim (either (bytes_eq word (codes "encoded")) (option_map (Encoded name) (number_of last)) _ s e) [
+  | inl first ↦ (let t = mapped (Encoded name) (number_of last) s first.1 in
+      subst (Told (codes "cube") (name ∷ word ∷ last ∷ [])) t.2 (refl, ap₂ (λ (x y : Text). name ∷ x ∷ y ∷ []) (same_text word _ first.0) (number_word last t.0 t.1).0))
+  | inr more ↦ elim (either (bytes_eq word (codes "unsolvable")) (option_map (Unsolvable name) (number_of last)) _ s more) [
+    | inl second ↦ (let t = mapped (Unsolvable name) (number_of last) s second.1 in
+        subst (Told (codes "cube") (name ∷ word ∷ last ∷ [])) t.2 (refl, ap₂ (λ (x y : Text). name ∷ x ∷ y ∷ []) (same_text word _ second.0) (number_word last t.0 t.1).0))
+    | inr rest ↦ (let r = behind_test (bytes_eq word (codes "skipped") && is_name last) (Some (Skipped name last)) s rest in
+        subst (Told (codes "cube") (name ∷ word ∷ last ∷ [])) (same_Some (Skipped name last) s r.1)
+        (refl, ap (λ (x : Text). name ∷ x ∷ last ∷ []) (same_text word _ (and_parts (bytes_eq word (codes "skipped")) (is_name last) r.0).0)))
+  ]
+]
+
+cube_told : (words : List Text) (s : Said) → cube_of words ≡ Some s → Told (codes "cube") words s
+cube_told [] s e = absurd cc
+cube_told (a ∷ []) s e = absurd cc
+cube_told (a ∷ b ∷ []) s e = absurd cc
+cube_told (a ∷ b ∷ c ∷ d ∷ words) s e = absurd cc
+cube_told (a ∷ b ∷ c ∷ []) s e = outcome_told a b c s (behind_test (is_name a) (outcome_of a b c) s e).1
+
+bit_is : (word : Text) (bit : Bool) → bit_of word ≡ Some bit → word ≡ bit_word bit
+bit_is word bit e = elim (either (bytes_eq word (codes "0")) (Some false) _ bit e) [
+  | inl first ↦ same_text word _ first.0 ∙ ap bit_word (same_Some false bit first.1)
+  | inr more ↦ (let r = behind_test (bytes_eq word (codes "1")) (Some true) bit more in same_text word _ r.0 ∙ ap bit_word (same_Some true bit r.1))
+]
+
+bit_told : (name word : Text) (words : List Text) (o : Option Bool) (s : Said) → bit_of word ≡ o → sum_with name words o ≡ Some s → Told (codes "sum") (name ∷ word ∷ words) s
+bit_told name word words None s f e = absurd cc
+bit_told name word words (Some bit) s f e =
+    subst (Told (codes "sum") (name ∷ word ∷ words)) (same_Some (Sum name bit words) s e) (refl, ap (λ (x : Text). name ∷ x ∷ words) (bit_is word bit f))
+
+sum_told : (words : List Text) (s : Said) → sum_of words ≡ Some s → Told (codes "sum") words s
+sum_told [] s e = absurd cc
+sum_told (a ∷ []) s e = absurd cc
+sum_told (a ∷ b ∷ words) s e = bit_told a b words (bit_of b) s refl (behind_test (is_name a) (sum_with a words (bit_of b)) s e).1
+
+-- the same, by the line's first word
+told_by : (word first : Text) (words : List Text) (s : Said) → bytes_eq word first ≡ true → Told first words s → Told word words s
+told_by word first words s e h = (same_text word first e ∙ h.0, h.1)
+
+-- The words of a line are those of what it says.
+pub said_told : (word : Text) (words : List Text) (s : Said) → said_of (word ∷ words) ≡ Some s → (word ≡ word_said s) × (words ≡ words_said s)
+said_told word words s e = elim (either (bytes_eq word (codes "edt")) (title_of words) _ s e) [
+  | inl a ↦ told_by word _ words s a.0 (title_told words s a.1)
+  | inr more ↦ elim (either (bytes_eq word (codes "cells")) (counts_of words) _ s more) [
+    | inl b ↦ told_by word _ words s b.0 (counts_told words s b.1)
+    | inr more2 ↦ elim (either (bytes_eq word (codes "chain")) (chain_of words) _ s more2) [
+      | inl c ↦ told_by word _ words s c.0 (chain_told words s c.1)
+      | inr more3 ↦ elim (either (bytes_eq word (codes "scanned")) (scanned_of words) _ s more3) [
+        | inl d ↦ told_by word _ words s d.0 (scanned_told words s d.1)
+        | inr more4 ↦ elim (either (bytes_eq word (codes "unscanned")) (unscanned_of words) _ s more4) [
+          | inl f ↦ told_by word _ words s f.0 (unscanned_told words s f.1)
+          | inr more5 ↦ elim (either (bytes_eq word (codes "cube")) (cube_of words) _ s more5) [
+            | inl g ↦ told_by word _ words s g.0 (cube_told words s g.1)
+            | inr last ↦ (let r = behind_test (bytes_eq word (codes "sum")) (sum_of words) s last in told_by word _ words s r.0 (sum_told words s r.1))
+          ]
+        ]
+      ]
+    ]
+  ]
+]
+
+-- ---- variables
+
+variable_two : (oa ob : Option ℕ) (v : Variable) → variable_with oa ob ≡ Some v → (oa ≡ Some v.channel) × (ob ≡ Some v.cycle)
+variable_two None ob v e = absurd cc
+variable_two (Some a) None v e = absurd cc
+variable_two (Some a) (Some b) v e = let same = same_Some (record { channel = a; cycle = b }) v e in (ap (λ (x : Variable). Some x.channel) same, ap (λ (x : Variable). Some x.cycle) same)
+
+variable_parts : (parts : List Text) (v : Variable) → variable_by parts ≡ Some v → join_with_byte 46 parts ≡ variable_word v
+variable_parts [] v e = absurd cc
+variable_parts (a ∷ []) v e = absurd cc
+variable_parts (a ∷ b ∷ c ∷ parts) v e = absurd cc
+variable_parts (a ∷ b ∷ []) v e = let t = variable_two (number_of a) (number_of b) v e in ap₂ (λ (x y : Text). x ++ (46 ∷ y)) (number_word a v.channel t.0).0 (number_word b v.cycle t.1).0
+
+variable_is : (word : Text) (v : Variable) → variable_of word ≡ Some v → word ≡ variable_word v
+variable_is word v e = sym (join_with_byte-slice_split 46 word) ∙ variable_parts (slice_split (λ b. b == 46) word) v e
+
+one_more : (word : Text) (words : List Text) (o : Option Variable) (rest : Option (List Variable)) (us : List Variable) → variable_of word ≡ o →
+    ((ws : List Variable) → rest ≡ Some ws → words ≡ map (λ v. variable_word v) ws) → and_variable o rest ≡ Some us → word ∷ words ≡ map (λ v. variable_word v) us
+one_more word words None rest us f are e = absurd cc
+one_more word words (Some v) None us f are e = absurd cc
+one_more word words (Some v) (Some ws) us f are e =
+    ap₂ (λ (x : Text) (xs : List Text). x ∷ xs) (variable_is word v f) (are ws refl) ∙ ap (λ (zs : List Variable). map (λ v. variable_word v) zs) (same_Some (v ∷ ws) us e)
+
+all_are : (words : List Text) (vs : List Variable) → all_variables words ≡ Some vs → words ≡ map (λ v. variable_word v) vs
+all_are [] vs e = ap (λ (us : List Variable). map (λ v. variable_word v) us) (same_Some [] vs e)
+all_are (word ∷ words) vs e = one_more word words (variable_of word) (all_variables words) vs refl (λ ws. all_are words ws) e
+
+some_words : (word : Text) (words : List Text) (vs : List Variable) → all_variables (word ∷ words) ≡ Some vs → word ∷ words ≡ variable_words vs
+some_words word words [] e = absurd (no (all_are (word ∷ words) [] e))
+  where
+    no : word ∷ words ≡ [] → ⊥
+    no e = absurd cc
+some_words word words (v ∷ vs) e = all_are (word ∷ words) (v ∷ vs) e
+
+pub variables_are : (words : List Text) (vs : List Variable) → variables_of words ≡ Some vs → words ≡ variable_words vs
+variables_are [] vs e = absurd cc
+variables_are (word ∷ next ∷ words) vs e = some_words word (next ∷ words) vs e
+variables_are (word ∷ []) vs e = elim (either (bytes_eq word (codes "-")) (Some []) _ vs e) [
+  | inl stroke ↦ ap (λ (x : Text). x ∷ []) (same_text word _ stroke.0) ∙ ap variable_words (same_Some [] vs stroke.1)
+  | inr all ↦ some_words word [] vs all
+]
