@@ -30,7 +30,7 @@ made_done : (numbers : JobNumbers) (counts : Counts) (netlist patterns report : 
 made_done numbers counts netlist patterns report replay accepts m x =
     let n = m.netlist in
     let c = m.config in
-    let list = m.is.list in
+    let list = m.list in
     let text : netlist_text n c ≡ netlist = (let e = m.is.is in cc) in
     let played : pattern_text n c list ≡ patterns = (let e = m.is.is in cc) in
     let stands : StandsFor standard_cells netlist (scanned Edt n c) =

@@ -1,21 +1,19 @@
 -- Texts of a compilation that no check refuses are within their limits.
-use Rattle.std.proofs.Common.{ℕ, ◌≡◌, ◌≤◌, ◌∙◌, Bool, true, false, nat_lt, List, [], ◌∷◌, length, Option, None, Some, option_map, refl, sym, subst, arith}
+use Rattle.std.proofs.Common.{ℕ, ◌≡◌, ◌≤◌, Bool, true, false, nat_lt, List, [], ◌∷◌, length, Option, None, Some, option_map, refl, arith}
 use Rattle.std.specs.Prelude.{if◌then◌else◌}
 use Rattle.std.proofs.lemmas.Bool.Decides.{nat_tests}
 use Rattle.dft_netlist.specs.Netlist.{Netlist}
 use Rattle.dft_config.specs.declared.config.Config.{Config}
-use Rattle.dft_config.specs.Range.{IsInRange}
 use Rattle.dft_stitch.specs.Chains.{plan_of}
 use Rattle.dft_cubes.specs.declared.cube.Cube.{Cube}
 use Rattle.dft_stil_text.specs.declared.error.StilError.{StilError}
 use Rattle.dft_report.specs.declared.error.ReportError.{ReportError}
 use Rattle.dft_vectors.specs.PatternData.{PatternData}
-use Rattle.dft_encode.specs.Compiled.{ArePatterns, Placing}
+use Rattle.dft_encode.specs.Compiled.{Placing}
 use Rattle.dft_compile.specs.declared.error.CompileError.{CompileError}
 use Rattle.dft_compile.specs.declared.error.CompileError.TheVariants.{Patterns, Report}
-use Rattle.dft_compile.specs.Refusals.{first_failing, of_length, pattern_bytes, too_long, too_many}
+use Rattle.dft_compile.specs.Refusals.{first_failing, too_long, too_many}
 use Rattle.dft_compile.specs.Texts.{pattern_text, report_text}
-use Rattle.dft_compile.proofs.BytesLemmas.{bytes_told}
 use Rattle.dft_top.specs.declared.limits.TheConstants.{MAX_PATTERN_BYTES, MAX_REPORT_BYTES}
 use Rattle.dft_top.specs.Outcomes.{refusal_of}
 
@@ -32,16 +30,13 @@ neither None None none = (refl, refl)
 neither None (Some error) none = absurd cc
 neither (Some error) b none = absurd cc
 
-pub late_short : (n : Netlist) (config : Config) (cubes : List Cube) (placing : Placing config (plan_of n config) cubes) (list : List PatternData) → IsInRange config → refusal_of n config cubes placing ≡ None →
-    ArePatterns n config (plan_of n config) placing.rows placing.merged list →
+pub late_short : (n : Netlist) (config : Config) (cubes : List Cube) (placing : Placing config (plan_of n config) cubes) (list : List PatternData) → refusal_of n config cubes placing list ≡ None →
     (length (pattern_text n config list) ≤ MAX_PATTERN_BYTES) × (length (report_text n config placing.rows cubes placing.placed) ≤ MAX_REPORT_BYTES)
-late_short n config cubes placing list range none are =
-    let bytes : ℕ = pattern_bytes n config (length placing.merged) in
-    let text = report_text n config placing.rows cubes placing.placed in
-    let both = neither (too_many bytes) (too_long text) none in (
-      subst (λ (k : ℕ). k ≤ MAX_PATTERN_BYTES) (sym (bytes_told n config placing.rows placing.merged list range are)) (within MAX_PATTERN_BYTES bytes _ (nat_lt MAX_PATTERN_BYTES bytes) refl both.0),
-      within MAX_REPORT_BYTES (length text) _ (nat_lt MAX_REPORT_BYTES (length text)) refl both.1,
-    )
+late_short n config cubes placing list none =
+    let text = pattern_text n config list in
+    let report = report_text n config placing.rows cubes placing.placed in
+    let both = neither (too_many (length text)) (too_long report) none in
+    (within MAX_PATTERN_BYTES (length text) _ (nat_lt MAX_PATTERN_BYTES (length text)) refl both.0, within MAX_REPORT_BYTES (length report) _ (nat_lt MAX_REPORT_BYTES (length report)) refl both.1)
 
 -- ---- the first checks
 

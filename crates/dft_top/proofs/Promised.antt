@@ -41,7 +41,7 @@ use Rattle.dft_cubes.proofs.SoundLemmas.{cubes_sound}
 use Rattle.dft_compile_laws.specs.Holding.{CompilationsHold, HoldsOf}
 use Rattle.dft_compile_laws.proofs.Running.{sets_run}
 use Rattle.dft_vectors.specs.PatternData.{PatternData}
-use Rattle.dft_encode.specs.Compiled.{Placing}
+use Rattle.dft_encode.specs.Compiled.{ArePatterns, Placing}
 use Rattle.dft_compile.specs.declared.error.CompileError.{CompileError}
 use Rattle.dft_compile.specs.Refusals.{first_refusal}
 use Rattle.dft_compile.specs.Texts as compiled
@@ -163,10 +163,10 @@ scans files old new o done h saved =
 pub are_cubes : (n : Netlist) (c : Config) (name : List ℕ) (held : Held) (cubes : List Cube) → CubesGive n c name held (Ok cubes) → AreCubes n c cubes
 are_cubes n c name held cubes given = let text = text_of MAX_CUBE_BYTES (codes "cubes") (CubeText n c) (file_at name held) cubes given in cubes_sound n c text.0 cubes text.1
 
-placed_done : (n : Netlist) (c : Config) (cubes : List Cube) (placing : Placing c (plan_of n c) cubes) (refused : Option CompileError) (o : Outcome) → status_of o ≡ Done → IsOutcomeOfPlacing n c cubes placing refused o →
-    (refused ≡ None) × IsCompiled n c cubes placing o
-placed_done n c cubes placing (Some error) o done h = absurd (refusal_not_done (compile_refusal error) o h done)
-placed_done n c cubes placing None o done h = (refl, h)
+placed_done : (n : Netlist) (c : Config) (cubes : List Cube) (placing : Placing c (plan_of n c) cubes) (list : List PatternData) (refused : Option CompileError) (o : Outcome) → status_of o ≡ Done → IsOutcomeOfPlacing n c cubes placing list refused o →
+    (refused ≡ None) × IsCompiled n c cubes placing list o
+placed_done n c cubes placing list (Some error) o done h = absurd (refusal_not_done (compile_refusal error) o h done)
+placed_done n c cubes placing list None o done h = (refl, h)
 
 -- what is saved of a compilation
 abbrev three_savings : (files : CompileFiles) (n : Netlist) (c : Config) (cubes : List Cube) → Placing c (plan_of n c) cubes → List PatternData → List Saving
@@ -192,10 +192,12 @@ pub record IsMade (files : CompileFiles) (held : Held) (o : Outcome) : Type 0 wh
   pub cubes : List Cube
   pub given : CubesGive netlist config files.cubes held (Ok cubes)
   pub placing : Placing config (plan_of netlist config) cubes
-  pub late : refusal_of netlist config cubes placing ≡ None
-  pub is : IsCompiled netlist config cubes placing o
+  pub list : List PatternData
+  pub are : ArePatterns netlist config (plan_of netlist config) placing.rows placing.merged list
+  pub late : refusal_of netlist config cubes placing list ≡ None
+  pub is : IsCompiled netlist config cubes placing list o
   pub reads : StandsFor cells (compiled.netlist_text netlist config) (scanned Edt netlist config)
-  pub holds : HoldsOf netlist config cubes placing is.list
+  pub holds : HoldsOf netlist config cubes placing list
 
 pub made : CompilationsHold → (files : CompileFiles) (held : Held) (o : Outcome) → status_of o ≡ Done → Reaches (course_of_compile files) held o → IsMade files held o
 made hold files old o done h =
@@ -207,8 +209,9 @@ made hold files old o done h =
     let p = then_done (DesignGives n c) (CompileWith n c files.cubes old) o done z.1.1 in
     let u = then_done (CubesGive n c files.cubes old) (λ cubes. IsOutcomeOfCubes n c cubes) o done p.1.1 in
     let cubes = u.0 in
-    let placing = u.1.1.0 in
-    let placed = placed_done n c cubes placing (refusal_of n c cubes placing) o done u.1.1.1 in
+    let placing = u.1.1.placing in
+    let list = u.1.1.list in
+    let placed = placed_done n c cubes placing list (refusal_of n c cubes placing list) o done u.1.1.outcome in
     let is = placed.1 in
     let design = design_of x.0 files.netlist old n z.1.0 in record {
       cells = x.0;
@@ -225,10 +228,12 @@ made hold files old o done h =
       cubes = cubes;
       given = u.1.0;
       placing = placing;
+      list = list;
+      are = u.1.1.are;
       late = placed.0;
       is = is;
       reads = subst (λ (cells : List Cell). StandsFor cells (compiled.netlist_text n c) (scanned Edt n c)) (library_kept x.0 design.0 n design.1.stands) is.reads;
-      holds = hold n c p.1.0.order cubes placing is.list p.1.0.ready p.1.0.sound p.1.0.ordered (are_cubes n c files.cubes old cubes u.1.0) is.are;
+      holds = hold n c p.1.0.order cubes placing list p.1.0.ready p.1.0.sound p.1.0.ordered (are_cubes n c files.cubes old cubes u.1.0) u.1.1.are;
     }
 
 compiles : CompilationsHold → (files : CompileFiles) (old new : Held) (o : Outcome) → status_of o ≡ Done → Reaches (course_of_compile files) old o → HaveSaved (compile_savings files o) (Some old) (Some new) → Compiles files old new
@@ -236,8 +241,8 @@ compiles hold files old new o done h saved =
     let m = made hold files old o done h in
     let n = m.netlist in
     let c = m.config in
-    let short = late_short n c m.cubes m.placing m.is.list m.ready.range m.late m.is.are in
-    let left : AreSaved (three_savings files n c m.cubes m.placing m.is.list) old new = subst (λ (end : Outcome). HaveSaved (compile_savings files end) (Some old) (Some new)) m.is.is saved in record {
+    let short = late_short n c m.cubes m.placing m.list m.late in
+    let left : AreSaved (three_savings files n c m.cubes m.placing m.list) old new = subst (λ (end : Outcome). HaveSaved (compile_savings files end) (Some old) (Some new)) m.is.is saved in record {
       cells = m.cells;
       library = m.library;
       config = c;
@@ -252,8 +257,8 @@ compiles hold files old new o done h saved =
       order = m.order;
       ordered = m.ordered;
       placing = m.placing;
-      list = m.is.list;
-      are = m.is.are;
+      list = m.list;
+      are = m.are;
       few = m.is.few;
       patterns_short = short.0;
       report_short = short.1;

@@ -18,12 +18,19 @@ with_bit x c bit d = if d == c then bit else x d
 with_here : (x : ℕ → Bool) (c : ℕ) (bit : Bool) → with_bit x c bit c ≡ bit
 with_here x c bit = ap (λ (t : Bool). if t then bit else x c) (eq-eqb c c refl)
 
+here_or_later : (c d : ℕ) → c ≤ d → (c ≡ d) ⊎ (suc c ≤ d)
+here_or_later zero zero less = inl refl
+here_or_later zero (suc d) less = inr (omega arith)
+here_or_later (suc c) zero less = absurd (omega arith)
+here_or_later (suc c) (suc d) less = elim (here_or_later c d (omega arith)) [ inl same ↦ inl (ap suc same) | inr past ↦ inr (omega arith) ]
+
+below : (d c : ℕ) → (d == c) ≡ false → d < suc c → (d ≡ c) ⊎ (suc d ≤ c) → d < c
+below d c apart less (inl same) = absurd (let e : (d == c) ≡ true = eq-eqb d c same in let f : ⊥ = cc in f)
+below d c apart less (inr past) = omega arith
+
 with_case : (x y : ℕ → Bool) (c d : ℕ) (bit : Bool) (t : Bool) → (d == c) ≡ t → Agree c y x → y c ≡ bit → d < suc c → y d ≡ (if t then bit else x d)
 with_case x y c d bit true is agree here less = ap y (eqb-true d c is) ∙ here
-with_case x y c d bit false is agree here less = agree d (apart d c is less)
-  where
-    apart : (d c : ℕ) → (d == c) ≡ false → d < suc c → d < c
-    apart = grind arith
+with_case x y c d bit false is agree here less = agree d (below d c is less (here_or_later d c (omega arith)))
 
 -- a table that agrees before a column and has the bit there agrees with the table with this bit
 agree_more : (x y : ℕ → Bool) (c : ℕ) (bit : Bool) → Agree c y x → y c ≡ bit → Agree (suc c) y (with_bit x c bit)
@@ -104,9 +111,6 @@ record Choice (n : ℕ) (es : List Equation) (fill : List Bool) (c : ℕ) (x : �
   solves : Solves n table es
   met : (d : ℕ) → c ≤ d → d < n → Can n es table d (bit_at fill d) → table d ≡ bit_at fill d
   turned : (d : ℕ) → c ≤ d → d < n → (Can n es table d (bit_at fill d) → ⊥) → table d ≡ not (bit_at fill d)
-
-here_or_later : (c d : ℕ) → c ≤ d → (c ≡ d) ⊎ (suc c ≤ d)
-here_or_later = grind arith
 
 met_from : (n : ℕ) (es : List Equation) (fill : List Bool) (c : ℕ) (t : ℕ → Bool) → (Can n es t c (bit_at fill c) → t c ≡ bit_at fill c) →
     ((d : ℕ) → suc c ≤ d → d < n → Can n es t d (bit_at fill d) → t d ≡ bit_at fill d) → (d : ℕ) → (c ≡ d) ⊎ (suc c ≤ d) → d < n → Can n es t d (bit_at fill d) → t d ≡ bit_at fill d

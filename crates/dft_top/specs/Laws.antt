@@ -47,12 +47,13 @@ PassingIsScanned =
     LibraryGives files.library held (Ok cells) → ConfigGives files.config held (Ok config) → NetlistGives cells files.netlist held (Ok n) → refusal n config ≡ None →
     IsOutcome words held o → o ≡ Scanned (counts_of n config) (netlist_text n config) (report_text n config)
 
--- where each file of a compilation passes its checks, and no check of the design and of its placed cubes fails, the cubes are compiled
+-- where each file of a compilation passes its checks, and no check of the design, of its placed cubes and of their patterns fails, the cubes are compiled
 abbrev pub PassingIsCompiled : Type 0
 PassingIsCompiled =
-    (words : List (List ℕ)) (files : CompileFiles) (held : Held) (cells : List Cell) (config : Config) (n : Netlist) (cubes : List Cube) (placing : Placing config (plan_of n config) cubes) (o : Outcome) → IsCompile words files →
+    (words : List (List ℕ)) (files : CompileFiles) (held : Held) (cells : List Cell) (config : Config) (n : Netlist) (cubes : List Cube) (placing : Placing config (plan_of n config) cubes) (list : List PatternData) (o : Outcome) → IsCompile words files →
     LibraryGives files.library held (Ok cells) → ConfigGives files.config held (Ok config) → NetlistGives cells files.netlist held (Ok n) → first_refusal n config ≡ None →
-    CubesGive n config files.cubes held (Ok cubes) → refusal_of n config cubes placing ≡ None → IsOutcome words held o → IsCompiled n config cubes placing o
+    CubesGive n config files.cubes held (Ok cubes) → ArePatterns n config (plan_of n config) placing.rows placing.merged list → refusal_of n config cubes placing list ≡ None → IsOutcome words held o →
+    IsCompiled n config cubes placing list o
 
 -- where each file of a test of certificates passes its checks, and no check of the design and of the report's sums fails, the cubes that are reported
 -- unsolvable are certified
