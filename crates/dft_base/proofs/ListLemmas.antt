@@ -1,10 +1,12 @@
 -- Lists: elements by their place, ranges, and what is past the end.
-use Rattle.std.proofs.Common.{◌≡◌, ℕ, zero, suc, List, ◌∷◌, ◌++◌, Some, slice_get, ◌+◌, length, ap, arith, ◌∙◌, ◌<◌, refl, map, drop, ◌≤◌, inl, inr, sym, subst, false, replicate, get_or, ◌-◌}
-use Rattle.std.proofs.lemmas.List.{drop_more}
+use Rattle.std.proofs.Common.{◌≡◌, ℕ, zero, suc, List, [], ◌∷◌, ◌++◌, Some, slice_get, ◌+◌, length, ap, arith, ◌∙◌, ◌<◌, refl, map, drop, ◌≤◌, inl, inr, sym, subst, false, replicate, get_or, ◌-◌, Bool, ◌⊎◌, true, not, cond, ltb, None, option_map}
+use Rattle.std.proofs.lemmas.List.{drop_more, get_or_past, get_or-replicate, length-replicate}
 use Rattle.std.proofs.lemmas.Option.{slice_get_within, get_or_from_slice_get}
 use Rattle.std.specs.List.{AllByRecursion, range_with_len}
 use Rattle.std.proofs.lemmas.Bool.{cases_lt}
+use Rattle.std.proofs.lemmas.Bool.Decides.{nat_tests}
 use Rattle.dft_base.specs.Ranges.{going_up}
+use Rattle.dft_base.specs.Solutions.{bit_at}
 
 pub get_left : {X : Type 0} (xs ys : List X) (k : ℕ) (x : X) → slice_get xs k ≡ Some x → slice_get (xs ++ ys) k ≡ Some x
 get_left [] ys k x h = absurd (cc)
@@ -83,3 +85,16 @@ range_last k = let at : 0 + k ≡ k = omega arith in range_split 0 k 1 ∙ ap (�
 pub going_up-append : (from m n : ℕ) → going_up from (m + n) ≡ going_up from m ++ going_up (from + m) n
 going_up-append from zero n = let e : from ≡ from + 0 = omega arith in let m : 0 + n ≡ n = omega arith in ap (going_up from) m ∙ ap (λ k. going_up k n) e
 going_up-append from (suc m) n = let e : suc from + m ≡ from + suc m = omega arith in let more : suc m + n ≡ suc (m + n) = omega arith in ap (going_up from) more ∙ ap (λ xs. from ∷ xs) (going_up-append (suc from) m n ∙ ap (λ k. going_up (suc from) m ++ going_up k n) e)
+
+pub zero_bit : (n c : ℕ) → (c < n) ⊎ (n ≤ c) → bit_at (replicate n false) c ≡ false
+zero_bit n c (inl less) = get_or-replicate n c false false less
+zero_bit n c (inr past) = let size = length-replicate {A = Bool} n false in get_or_past (replicate n false) c false (omega arith)
+
+-- the place of the first that passes, one more in front
+pub cons_by : (t : Bool) (n len : ℕ) → cond (ltb (cond (not t) (1 + n) 0) (suc len)) (Some (cond (not t) (1 + n) 0)) None ≡ cond t (Some 0) (option_map suc (cond (ltb n len) (Some n) None))
+cons_by true n len = let e : ltb 0 (suc len) ≡ true = grind (arith, nat_tests) in rw e refl
+cons_by false n len = inner (ltb n len) refl
+  where
+    inner : (s : Bool) → ltb n len ≡ s → cond (ltb (1 + n) (suc len)) (Some (1 + n)) None ≡ option_map suc (cond s (Some n) None)
+    inner true is = let e : ltb (1 + n) (suc len) ≡ true = grind (arith, nat_tests) in let m : 1 + n ≡ suc n = omega arith in rw (e, m) refl
+    inner false is = let e : ltb (1 + n) (suc len) ≡ false = grind (arith, nat_tests) in rw e refl

@@ -64,3 +64,7 @@ sum_one (suc n) q f less zeros = one_of n q f (at_or_before q n less) zeros (λ 
 
 pub xor_comm : (a b : Bool) → xor a b ≡ xor b a
 xor_comm = grind arith
+
+pub plus_false : (old : Bool) → old ≡ xor old false
+plus_false true = refl
+plus_false false = refl

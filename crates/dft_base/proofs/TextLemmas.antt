@@ -1,5 +1,5 @@
 -- Texts that are equal, and printed bytes.
-use Rattle.std.proofs.Common.{◌≡◌, sym, true, refl, ◌≢◌, ℕ, false, List, ◌+◌, Bool, cond, ◌∷◌, ◌++◌, length, ap, ◌∙◌, arith, ◌≤◌, ◌<◌, ◌^◌}
+use Rattle.std.proofs.Common.{◌≡◌, sym, true, refl, ◌≢◌, ℕ, false, List, [], ◌+◌, Bool, cond, ◌∷◌, ◌++◌, length, ap, ◌∙◌, arith, ◌≤◌, ◌<◌, ◌^◌}
 use Rattle.std.specs.Str.{bytes_eq}
 use Rattle.std.proofs.lemmas.Slice.Eq.{bytes_eq-Decides}
 use Rattle.std.proofs.lemmas.Bool.Decides.{same_from_decides, Decides-like, nat_tests}

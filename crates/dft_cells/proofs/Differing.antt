@@ -1,5 +1,5 @@
 -- Names are looked for among those that were seen before.
-use Rattle.std.proofs.Common.{ℕ, ◌≡◌, ◌+◌, ◌<◌, Bool, true, false, not, ◌&&◌, ◌||◌, List, [], ◌∷◌, ◌++◌, map, length, take, drop, get_or, Ordering, Less, Equal, Greater, nat_cmp, is_eq, Vec, Global, subst, refl, sym, ap, ◌∙◌}
+use Rattle.std.proofs.Common.{ℕ, ◌≡◌, ◌+◌, ◌<◌, Bool, true, false, not, ◌||◌, List, [], ◌∷◌, ◌++◌, map, length, take, drop, get_or, Ordering, Less, Equal, Greater, nat_cmp, is_eq, Vec, Global, subst, refl, sym, ap, ◌∙◌}
 use Rattle.std.specs.List.{list_any}
 use Rattle.std.specs.Str.{bytes_eq}
 use Rattle.std.specs.Ordering.{match_ordering}
@@ -29,12 +29,6 @@ seen keys name = list_any (λ (key : Key). bytes_eq key.items name) keys
 -- the keys are those of the names
 abbrev pub AreSeen : List Key → List (List ℕ) → Type 0
 AreSeen keys names = (name : List ℕ) → seen keys name ≡ has_name names name
-
-same_both : (x y : Bool) (a b : List ℕ) → bytes_eq a b ≡ x → bytes_eq b a ≡ y → x ≡ y
-same_both true true a b e f = refl
-same_both false false a b e f = refl
-same_both true false a b e f = let same = (bytes_eq-Decides a b).0 e in absurd (let back = (bytes_eq-Decides b a).1 (sym same) in cc)
-same_both false true a b e f = let same = (bytes_eq-Decides b a).0 f in absurd (let back = (bytes_eq-Decides a b).1 (sym same) in cc)
 
 or_twice : (a b : Bool) → (a || b) ≡ (a || (a || b))
 or_twice true b = refl

@@ -15,3 +15,4 @@ pub mod PinNames
 pub mod CellNames
 pub mod Halving
 pub mod ReadingLemmas
+pub mod TriLemmas

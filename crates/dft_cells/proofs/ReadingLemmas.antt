@@ -1,5 +1,5 @@
 -- Steps of a reading: a key more, a cell more, a pin of a scan cell more.
-use Rattle.std.proofs.Common.{ℕ, ◌≡◌, ◌≤◌, ◌<◌, ◌-◌, ◌==◌, suc, nat_le, Bool, true, false, cond, List, [], ◌∷◌, ◌++◌, map, drop, length, Some, None, Result, Ok, Err, String, Global, string_bytes, refl, sym, ap, ◌∙◌, append_assoc, arith}
+use Rattle.std.proofs.Common.{ℕ, ◌≡◌, ◌≤◌, ◌<◌, ◌-◌, ◌==◌, nat_le, Bool, true, false, cond, List, [], ◌∷◌, ◌++◌, map, drop, length, Some, None, Result, Ok, Err, String, Global, string_bytes, refl, sym, ap, ◌∙◌, append_assoc, arith}
 use Rattle.std.proofs.Math.ListN.{drop_of_length-le}
 use Rattle.std.proofs.lemmas.List.{length-map, length-drop}
 use Rattle.std.proofs.lemmas.Bool.Decides.{nat_tests}

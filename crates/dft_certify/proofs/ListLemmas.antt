@@ -1,5 +1,5 @@
 -- Variables, entries and lines, one by one.
-use Rattle.std.proofs.Common.{suc, ◌≡◌, Bool, true, false, List, [], ◌∷◌, length, refl, sym, ap, ◌∙◌}
+use Rattle.std.proofs.Common.{suc, ◌≡◌, Bool, false, List, [], ◌∷◌, length, refl, sym, ap, ◌∙◌}
 use Rattle.std.specs.Prelude.{◌&&◌}
 use Rattle.dft_base.proofs.SumLemmas.{and_false}
 use Rattle.dft_report.specs.declared.report.Variable.{Variable}

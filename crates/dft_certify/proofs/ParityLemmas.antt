@@ -6,7 +6,7 @@ use Rattle.std.proofs.lemmas.Bool.{cases_lt}
 use Rattle.std.proofs.lemmas.List.{length-replicate}
 use Rattle.dft_base.specs.Packed.{packed_bit}
 use Rattle.dft_base.specs.Solutions.{bit_at, xor}
-use Rattle.dft_base.proofs.SumLemmas.{xor_false, and_false}
+use Rattle.dft_base.proofs.SumLemmas.{xor_false, and_false, plus_false}
 use Rattle.dft_lanes.specs.Rows.{bits_of, words_for, IsPacked}
 use Rattle.dft_lanes.proofs.RowLemmas.{bits-at}
 use Rattle.dft_gf2.proofs.BitsLemmas.{zero_at}
@@ -36,13 +36,9 @@ added_packed columns old new words one other size bits = record {
   clear = λ column past. bits column ∙ (λ i. xor (one.clear column past i) (other.clear column past i));
 }
 
-no_row : (old : Bool) → old ≡ xor old false
-no_row true = refl
-no_row false = refl
-
 -- no row is added
 pub none_added : (words : List ℕ) (row : Option (List Bool)) (column : ℕ) → row ≡ None → packed_bit words column ≡ xor (packed_bit words column) (bit_at (unwrap_or row []) column)
-none_added words row column none = no_row (packed_bit words column) ∙ ap (λ (r : Option (List Bool)). xor (packed_bit words column) (bit_at (unwrap_or r []) column)) (sym none)
+none_added words row column none = plus_false (packed_bit words column) ∙ ap (λ (r : Option (List Bool)). xor (packed_bit words column) (bit_at (unwrap_or r []) column)) (sym none)
 
 -- ---- all columns
 

@@ -1,5 +1,5 @@
 -- Lines that pass are sums of care bits.
-use Rattle.std.proofs.Common.{ℕ, zero, suc, ◌+◌, ◌≡◌, ◌==◌, ◌||◌, Bool, true, false, List, [], ◌∷◌, ◌++◌, Option, None, Some, unwrap_or, slice_get, refl, sym, ap, ap₂, arith, ◌∙◌}
+use Rattle.std.proofs.Common.{ℕ, zero, suc, ◌+◌, ◌≡◌, ◌==◌, ◌||◌, Bool, true, false, List, [], ◌∷◌, ◌++◌, Option, None, Some, unwrap_or, slice_get, refl, sym, ap, arith, ◌∙◌}
 use Rattle.std.specs.Prelude.{◌&&◌, not, if◌then◌else◌}
 use Rattle.std.proofs.lemmas.Bool.{eq-eqb, eqb-true, or_parts, not-true, and_parts, and_from, not_from_false, or_from, or_left, or_right}
 use Rattle.std.proofs.lemmas.Option.{none-some, same_Some}

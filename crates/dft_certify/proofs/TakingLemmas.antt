@@ -1,5 +1,5 @@
 -- The cells of lines, and the bits that a cube gives.
-use Rattle.std.proofs.Common.{ℕ, ◌≡◌, ◌==◌, ◌||◌, Bool, List, [], ◌∷◌, map, refl, ap₂, arith}
+use Rattle.std.proofs.Common.{ℕ, ◌≡◌, ◌==◌, ◌||◌, Bool, List, [], ◌∷◌, map, refl, ap₂}
 use Rattle.std.specs.List.{list_any}
 use Rattle.dft_base.proofs.NumberLemmas.{eqb_turned}
 use Rattle.dft_netlist.specs.declared.ids.InstanceId.{InstanceId}

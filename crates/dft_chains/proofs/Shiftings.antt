@@ -7,11 +7,13 @@ use Rattle.dft_base.specs.declared.tri.Tri.{Tri}
 use Rattle.dft_base.specs.declared.tri.Tri.TheVariants.{Zero, One, Unknown}
 use Rattle.dft_base.specs.Tri.{known, Above}
 use Rattle.dft_cells.specs.FlipFlops.{tri_forced, tri_chosen}
+use Rattle.dft_cells.proofs.TriLemmas.{forced_one, chosen_one}
 use Rattle.dft_netlist.specs.declared.ids.InstanceId.{InstanceId}
 use Rattle.dft_netlist.specs.Drivers.{Source, Net}
-use Rattle.dft_netlist.specs.Logic.{Logic, Ports, Meaning, Force, Scan, Input, Flop, Lockup, IsRanked}
-use Rattle.dft_netlist.specs.Settled.{TriSources, value_from, value_given, IsTriSettled, bit_given}
+use Rattle.dft_netlist.specs.Logic.{Logic, Ports, Force, Scan, Input, Flop, Lockup, IsRanked}
+use Rattle.dft_netlist.specs.Settled.{value_from, bit_given}
 use Rattle.dft_netlist.specs.Runs.{Now, Moment, State, next_now, set_step, sources_of, port_bits, forced_by, Vector, Turn, after_turn, AreTurns, AreLow}
+use Rattle.dft_netlist.proofs.SettledLemmas.{value_at}
 use Rattle.dft_abstract.specs.Cycle.{Pulse, tri_forced_by, tri_taken_by, view_sources, AreViews, next_value, after_pulse, pulse_of}
 use Rattle.dft_abstract.specs.Laws.{bits}
 use Rattle.dft_abstract.proofs.Lifts.{known_after_turn, low_after_turn}
@@ -21,10 +23,6 @@ use Rattle.dft_chains.specs.Hardware.{ChainNets, ScanNets, ActsByPort, IsScanCel
 use Rattle.dft_chains.specs.Shifts.{IsShift, LinkLaw, EntryLaw, IsShifted, ShiftInRuns, AreShifts, AreShifted, ShiftExperiment, at_strobe, EndsShow, EndsShowBefore}
 
 -- ---- values
-
--- a net has the value that its meaning gives it
-pub value_at : (l : Logic) (s : TriSources) (w : ℕ → Tri) (net : ℕ) (m : Meaning) → IsTriSettled l s w → l.net net ≡ m → w net ≡ value_given s w net m
-value_at l s w net m settled is = settled net ∙ ap (value_given s w net) is
 
 pub own_choice : (a b : Bool) (x y : Tri) → b ≡ true → (if a then (if b then x else y) else x) ≡ x
 own_choice true true x y h = refl
@@ -51,30 +49,14 @@ port_value l p poss view d net views is = value_at l (view_sources l p poss view
 
 -- ---- a scan cell in a shift vector
 
-pub forced_at_one : (value : Bool) (v : Tri) → tri_forced value One v ≡ v
-forced_at_one value Zero = refl
-forced_at_one value One = refl
-forced_at_one value Unknown = refl
-
-chosen_in : (s d : Tri) → tri_chosen One s d ≡ s
-chosen_in Zero Zero = refl
-chosen_in Zero One = refl
-chosen_in Zero Unknown = refl
-chosen_in One Zero = refl
-chosen_in One One = refl
-chosen_in One Unknown = refl
-chosen_in Unknown Zero = refl
-chosen_in Unknown One = refl
-chosen_in Unknown Unknown = refl
-
 -- resets are 1, so they leave the value
 pub not_forced : (ports : Ports) (e : ℕ) (x : Vector) (f : Option Force) (v : Tri) → ActsByPort ports f → IsShift ports e x → tri_forced_by f x.ports v ≡ v
 not_forced ports e x None v acts shift = refl
-not_forced ports e x (Some force) v acts shift = ap (λ p. tri_forced force.value p v) (shift.resets force.port acts) ∙ forced_at_one force.value v
+not_forced ports e x (Some force) v acts shift = ap (λ p. tri_forced force.value p v) (shift.resets force.port acts) ∙ forced_one force.value v
 
 -- the scan input is taken
 taken_in : (scan : Option Scan) (enable : ℕ) (source : Source) (at : Source → Tri) (d : Tri) → scan ≡ Some (record { enable = Net enable; input = source }) → at (Net enable) ≡ One → tri_taken_by scan at d ≡ at source
-taken_in scan enable source at d is one = ap (λ (s : Option Scan). tri_taken_by s at d) is ∙ ap (λ e. tri_chosen e (at source) d) one ∙ chosen_in (at source) d
+taken_in scan enable source at d is one = ap (λ (s : Option Scan). tri_taken_by s at d) is ∙ ap (λ e. tri_chosen e (at source) d) one ∙ chosen_one (at source) d
 
 pick_true : (b : Bool) (x y : Tri) → b ≡ true → (if b then x else y) ≡ x
 pick_true true x y h = refl

@@ -1,11 +1,10 @@
 -- The bytes of the patterns' text are those that are told before any pattern is made.
-use Rattle.std.proofs.Common.{◌≡◌, ℕ, zero, suc, ◌+◌, ◌*◌, ◌/◌, ◌^◌, ◌<◌, ◌≤◌, None, List, [], ◌∷◌, ◌++◌, length, map, refl, sym, subst, ap, ◌∙◌, length-append, arith}
+use Rattle.std.proofs.Common.{◌≡◌, ℕ, zero, suc, ◌+◌, ◌*◌, ◌^◌, ◌<◌, ◌≤◌, None, List, [], ◌∷◌, ◌++◌, length, map, refl, sym, subst, ap, ◌∙◌, length-append, arith}
 use Rattle.std.specs.List.{All, range_with_len}
 use Rattle.std.proofs.lemmas.Grind.{flat_map-append}
 use Rattle.std.proofs.lemmas.List.{length-map}
 use Rattle.std.proofs.lemmas.List.Elements.{All-nil, All-cons, All-append}
 use Rattle.std.proofs.Math.Nat.{mul-le-mul_right}
-use Rattle.std.proofs.lemmas.Nat.{le-div}
 use Rattle.std.proofs.lemmas.Option.{slice_get-get_or}
 use Rattle.dft_base.specs.Lexing.{Text}
 use Rattle.dft_base.specs.declared.dir.Dir.{Dir}
@@ -14,8 +13,6 @@ use Rattle.dft_netlist.specs.declared.ids.NetId.{NetId}
 use Rattle.dft_netlist.specs.declared.port.Port.{Port}
 use Rattle.dft_netlist.specs.Netlist.{Netlist}
 use Rattle.dft_config.specs.declared.config.Config.{Config}
-use Rattle.dft_config.specs.Cycles.{longest_segment}
-use Rattle.dft_config.specs.Range.{IsInRange}
 use Rattle.dft_equations.specs.LoadRows.{LoadRows}
 use Rattle.dft_stitch.specs.Chains.{plan_of}
 use Rattle.dft_stitch.specs.Limits.{refusal}
@@ -37,6 +34,7 @@ use Rattle.dft_vectors.specs.VectorList.{first_vector, notes_of, pattern_note, v
 use Rattle.dft_encode.specs.Compiled.{ArePatterns, merged_of}
 use Rattle.dft_encode.specs.Laws.{vectors_in, width}
 use Rattle.dft_stitch.proofs.ChainLimits.{limits}
+use Rattle.dft_stitch.proofs.LengthLemmas.{some_cycle}
 use Rattle.dft_encode.proofs.WidthLemmas.{vectors_wide}
 use Rattle.dft_compile.specs.Laws.{BytesAreTold}
 use Rattle.dft_compile.specs.Refusals.{pattern_bytes}
@@ -142,15 +140,6 @@ signal_count n config =
     omega (arith, all_ins n config, all_outs n config, length-append inputs outputs, length-map (input_bits w.ports) (signal_of w Input), length-map (output_bits w.ports) (signal_of w Output))
 
 -- ---- notes
-
-some_cycle : (n : Netlist) (config : Config) → IsInRange config → 1 ≤ (plan_of n config).cycles
-some_cycle n config range =
-    let masks : ℕ = config.compactor.mask_inputs in
-    let some : 0 < masks = (let least = range.compactor.mask_inputs.0 in omega (arith, least)) in
-    let fits : 1 * masks ≤ config.chains = (let most = range.compactor.mask_inputs.2 in omega (arith, most)) in
-    let one : 1 ≤ config.chains / masks = le-div 1 config.chains masks some fits in
-    let longest : 1 ≤ longest_segment config = omega (arith, one) in
-    omega (arith, longest)
 
 abbrev Before : ℕ → Note → Type 0
 Before vectors note = note.before < vectors

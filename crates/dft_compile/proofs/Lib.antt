@@ -3,5 +3,4 @@ pub mod BytesLemmas
 pub mod ReportLemmas
 pub mod LateLemmas
 pub mod WorkLemmas
-pub mod EachLemmas
 pub mod TellingLemmas

@@ -1,5 +1,5 @@
 -- What a compilation reports can be read: its names are names, its numbers are below 2^32, and there is a load.
-use Rattle.std.proofs.Common.{◌≡◌, ℕ, zero, suc, ◌+◌, ◌%◌, ◌<◌, ◌≤◌, ◌^◌, inl, inr, Bool, true, false, cond, List, [], ◌∷◌, ◌++◌, length, map, Option, None, Some, option_and_then, slice_get, unwrap_or, Ok, refl, ap, subst, arith, ◌∙◌, div-le_self, length-append, length-set}
+use Rattle.std.proofs.Common.{◌≡◌, ℕ, zero, suc, ◌+◌, ◌%◌, ◌<◌, ◌≤◌, ◌^◌, inl, inr, Bool, true, false, cond, List, [], ◌∷◌, ◌++◌, length, map, Option, None, Some, option_and_then, slice_get, unwrap_or, Ok, refl, ap, subst, arith, ◌∙◌, div-le_self, length-append}
 use Rattle.std.specs.Prelude.{flat_map, option_map, slice_index_or}
 use Rattle.std.specs.List.{All, cons_option, enumerate_from, filter_map}
 use Rattle.std.proofs.lemmas.List.{length-map}
@@ -27,7 +27,7 @@ use Rattle.dft_cubes.specs.declared.cube.Cube.{Cube}
 use Rattle.dft_cubes.specs.declared.cube.Merged.{Merged}
 use Rattle.dft_merge.specs.declared.placed.Placed.{Placed}
 use Rattle.dft_merge.specs.declared.placed.Placed.TheVariants as word
-use Rattle.dft_merge.specs.Placement.{Places, PlacesAll, begun, equations_from, equations_of, joined}
+use Rattle.dft_merge.specs.Placement.{Places, PlacesAll, equations_from, equations_of}
 use Rattle.dft_merge.specs.Rows.{CellRows, StandApart, cell_row}
 use Rattle.dft_merge.proofs.MergerLemmas.{rows_are}
 use Rattle.dft_merge.proofs.PlaceLemmas.{row_wide}

@@ -1,5 +1,5 @@
 -- Each signal of a netlist's ports fits it.
-use Rattle.std.proofs.Common.{ℕ, zero, suc, ◌+◌, ◌<◌, ◌≡◌, true, List, [], ◌∷◌, ◌++◌, length, map, Option, None, Some, slice_get, refl, ap, arith, ◌∙◌}
+use Rattle.std.proofs.Common.{ℕ, zero, suc, ◌+◌, ◌<◌, ◌≡◌, List, [], ◌∷◌, ◌++◌, length, map, Option, None, Some, slice_get, refl, ap, arith, ◌∙◌}
 use Rattle.std.specs.Prelude.{if◌then◌else◌, slice_index_or}
 use Rattle.std.proofs.lemmas.Option.{slice_get-get_or}
 use Rattle.dft_base.specs.Lexing.{Text}
@@ -15,7 +15,7 @@ use Rattle.dft_netlist.specs.Sound.{IsNetlist, bits_of}
 use Rattle.dft_netlist.proofs.FindLemmas.{not_found}
 use Rattle.dft_expect.specs.Captures.{bits_out, output_bits}
 use Rattle.dft_patterns.specs.declared.signal.StilSignal.{StilSignal}
-use Rattle.dft_replay.specs.Fits.{first_misfit, same_dir}
+use Rattle.dft_replay.specs.Fits.{first_misfit}
 use Rattle.dft_replay.specs.Vectors.{dirs_of}
 use Rattle.dft_replay.proofs.FitLemmas.{found_named, net_fits, dir_same}
 use Rattle.dft_vectors.proofs.OwnLemmas.{inputs_live, outputs_live}

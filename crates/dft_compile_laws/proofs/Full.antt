@@ -3,7 +3,7 @@ use Rattle.std.proofs.Common.{ℕ, zero, suc, ◌+◌, ◌≡◌, Bool, true, fa
 use Rattle.std.specs.List.{All, AllZip, range_with_len}
 use Rattle.std.proofs.lemmas.List.{map-append}
 use Rattle.std.proofs.lemmas.List.Elements.{All-cons, All-nil}
-use Rattle.dft_merge.proofs.EquationLemmas.{Each}
+use Rattle.dft_merge.proofs.EquationLemmas.{Each, each_join}
 use Rattle.dft_base.specs.declared.dir.Dir.TheVariants as dir
 use Rattle.dft_base.specs.declared.tri.Tri.{Tri}
 use Rattle.dft_base.specs.declared.tri.Tri.TheVariants.{Zero, One, Unknown}
@@ -43,10 +43,6 @@ pub each_all : {X : Type 0} (P : X → Type 0) (xs : List X) → Each P xs → A
 each_all P [] h = All-nil P
 each_all P (x ∷ xs) h = All-cons P x xs h.0 (each_all P xs h.1)
 
-each_append : {X : Type 0} (P : X → Type 0) (xs ys : List X) → Each P xs → Each P ys → Each P (xs ++ ys)
-each_append P [] ys h k = k
-each_append P (x ∷ xs) ys h k = (h.0, each_append P xs ys h.1 k)
-
 each_from : (P : List Act → Type 0) (f : ℕ → List Act) (from count : ℕ) → ((t : ℕ) → P (f t)) → Each P (map f (range_with_len from count))
 each_from P f from zero h = tt
 each_from P f from (suc count) h = (h from, each_from P f (from + 1) count h)
@@ -59,13 +55,13 @@ module _ (n : Netlist) (config : Config) (P : List Act → Type 0) (Given : Patt
   each_pattern : (before : Option PatternData) (ps : List PatternData) → Each Given ps → Each P (pattern_vectors n config (plan_of n config) before ps)
   each_pattern before [] h = tt
   each_pattern before (p ∷ ps) h =
-      each_append P (load_vectors n config (plan_of n config) (load_of config p) p.masks before) (capture_acts n config p ∷ pattern_vectors n config (plan_of n config) (Some p) ps) (each_load (load_of config p) p.masks before)
+      each_join P (load_vectors n config (plan_of n config) (load_of config p) p.masks before) (capture_acts n config p ∷ pattern_vectors n config (plan_of n config) (Some p) ps) (each_load (load_of config p) p.masks before)
       (capture p h.0, each_pattern (Some p) ps h.1)
 
   pub each_listed : (ps : List PatternData) → Each Given ps → Each P (vectors_of n config (plan_of n config) ps)
   each_listed [] h = tt
   each_listed (p ∷ ps) h =
-      each_append P (set_up_acts n config ∷ pattern_vectors n config (plan_of n config) None (p ∷ ps)) (load_vectors n config (plan_of n config) no_table [] (last_of None (p ∷ ps))) (set_up, each_pattern None (p ∷ ps) h)
+      each_join P (set_up_acts n config ∷ pattern_vectors n config (plan_of n config) None (p ∷ ps)) (load_vectors n config (plan_of n config) no_table [] (last_of None (p ∷ ps))) (set_up, each_pattern None (p ∷ ps) h)
       (each_load no_table [] (last_of None (p ∷ ps)))
 
 -- ---- acts of signals

@@ -16,6 +16,7 @@ use Rattle.dft_netlist.specs.declared.port.Port as design_port
 use Rattle.dft_netlist.specs.Names.{bit_names}
 use Rattle.dft_netlist.specs.Netlist.{Netlist}
 use Rattle.dft_netlist.specs.Sound.{IsNetlist, bit_names_of, bits_of}
+use Rattle.dft_netlist.proofs.LiveDriven.{AreBefore, before_front, before_back, nets_before}
 use Rattle.dft_config.specs.declared.config.Config.{Config}
 use Rattle.dft_expect.specs.Captures.{bits_out, output_bits}
 use Rattle.dft_patterns.specs.Patterns.{inputs, is_input, outputs}
@@ -23,7 +24,6 @@ use Rattle.dft_patterns.specs.declared.signal.StilSignal.{StilSignal}
 use Rattle.dft_scan_hardware.specs.declared.style.Style.TheVariants.{Edt}
 use Rattle.dft_scan_hardware.specs.Ports.{gap_in}
 use Rattle.dft_scan_hardware.specs.Statements.{scanned}
-use Rattle.dft_scan_frame.proofs.Whole.{AreBefore, before_back, before_front, nets_before}
 use Rattle.dft_replay.specs.Vectors.{dirs_of}
 use Rattle.dft_stil_out.specs.Writable.{IsQuotable}
 use Rattle.dft_vectors.proofs.OwnLemmas.{inputs_live, outputs_live}

@@ -10,12 +10,13 @@ use Rattle.dft_netlist.specs.declared.port.Port as design_port
 use Rattle.dft_netlist.specs.NetNumbers.{nets_from}
 use Rattle.dft_netlist.specs.Netlist.{Netlist}
 use Rattle.dft_netlist.specs.Sound.{bits_of}
+use Rattle.dft_netlist.proofs.LiveDriven.{AreBefore, before_front, before_back}
 use Rattle.dft_config.specs.declared.config.Config.{Config}
 use Rattle.dft_expect.specs.Captures.{bits_out, output_bits}
 use Rattle.dft_scan_frame.specs.AddedPorts.{NewPort, new_port, numbered, ports_from}
 use Rattle.dft_scan_frame.specs.Moves.{moved}
 use Rattle.dft_scan_frame.specs.Statements.{IsReady}
-use Rattle.dft_scan_frame.proofs.Whole.{AreBefore, before_back, before_front, moved_front}
+use Rattle.dft_scan_frame.proofs.Whole.{moved_front}
 use Rattle.dft_scan_hardware.specs.declared.style.Style.TheVariants.{Edt}
 use Rattle.dft_scan_hardware.specs.Ports.{added_ports, compression_ports, gap_in}
 use Rattle.dft_scan_hardware.specs.Statements.{scanned}

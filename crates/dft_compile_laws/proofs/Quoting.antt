@@ -1,6 +1,6 @@
 -- The names of the bits of a scanned netlist's ports can be quoted.
 use Rattle.std.proofs.Common.{ℕ, zero, suc, ◌+◌, ◌-◌, ◌<◌, ◌≤◌, ◌^◌, ◌≡◌, ◌==◌, ◌&&◌, ◌||◌, Bool, true, false, cond, not, List, [], ◌∷◌, ◌++◌, length, map, get_or, Option, None, Some, slice_get, refl, sym, subst, arith, ◌∙◌}
-use Rattle.std.specs.Prelude.{IsTrue, ◌≢◌, option_map}
+use Rattle.std.specs.Prelude.{IsTrue, ◌≢◌, option_map, nat_le}
 use Rattle.std.specs.Fmt.{decimal}
 use Rattle.std.specs.List.{All, find, list_all, range_with_len}
 use Rattle.std.proofs.lemmas.Bool.{eq-eqb, or_parts, and_parts}
@@ -9,8 +9,7 @@ use Rattle.std.proofs.lemmas.Fmt.{digits_decimal}
 use Rattle.std.proofs.lemmas.List.Elements.{All-append, All-cons, All-from_get_or, All-nil}
 use Rattle.std.proofs.lemmas.Option.{none-some, same_Some}
 use Rattle.std.proofs.lemmas.Str.Parse.{numerals_by_value, tells_by_index}
-use Rattle.dft_expect.proofs.ScannedCells.{none_first}
-use Rattle.dft_merge.proofs.EquationLemmas.{Each}
+use Rattle.dft_merge.proofs.EquationLemmas.{Each, each_join}
 use Rattle.dft_base.specs.Lexing.{Text}
 use Rattle.dft_base.specs.Name.{IsName}
 use Rattle.dft_base.specs.Words.{begins_word, continues_word, is_later_reserved, is_reserved, is_simple_name, is_word}
@@ -28,7 +27,7 @@ use Rattle.dft_config.specs.declared.config.Config.{Config}
 use Rattle.dft_config.specs.Range.{IsInRange, names_of}
 use Rattle.dft_rules.specs.declared.error.RuleError.TheVariants.{PortName}
 use Rattle.dft_rules.specs.Refusals.{clock_as_data, first_present, has_quote, quoted_port, refusal, unknown_cell, unknown_port}
-use Rattle.dft_rules.proofs.CheckLemmas.{from_clocks, from_count, from_keep, from_ports, from_present, from_resets}
+use Rattle.dft_rules.proofs.CheckLemmas.{from_clocks, from_count, from_keep, from_ports, from_present, from_resets, none_first}
 use Rattle.dft_rules.proofs.Passed.{first_passes}
 use Rattle.dft_scan_frame.specs.AddedPorts.{NewPort, new_port, numbered, ports_from}
 use Rattle.dft_scan_frame.specs.Statements.{IsReady}
@@ -36,12 +35,7 @@ use Rattle.dft_scan_hardware.specs.declared.style.Style.TheVariants.{Edt}
 use Rattle.dft_scan_hardware.specs.Ports.{added_ports, gap_in}
 use Rattle.dft_scan_hardware.specs.Statements.{scanned}
 use Rattle.dft_scan_hardware.proofs.Keeping.{adds_in_order}
-use Rattle.dft_stil_out.specs.Writable.{IsQuotable}
 use Rattle.dft_compile_laws.specs.Formed.{HasQuotableBits}
-
-each_both : {X : Type 0} (P : X → Type 0) (xs ys : List X) → Each P xs → Each P ys → Each P (xs ++ ys)
-each_both P [] ys h k = k
-each_both P (x ∷ xs) ys h k = (h.0, each_both P xs ys h.1 k)
 
 each_at : {X : Type 0} (P : X → Type 0) (xs : List X) (k : ℕ) (x : X) → Each P xs → slice_get xs k ≡ Some x → P x
 each_at P [] k x h at = absurd (none-some x at)
@@ -82,7 +76,7 @@ IsPlainPort port = IsPlain port.name × IsShortRange port.range
 
 ports_plain : (ports : List design_port.Port) → Each IsPlainPort ports → Each IsPlain (bit_names_of ports)
 ports_plain [] h = tt
-ports_plain (port ∷ ports) h = each_both IsPlain (bit_names port.name port.range) (bit_names_of ports) (bits_plain port.name port.range h.0.1 h.0.0) (ports_plain ports h.1)
+ports_plain (port ∷ ports) h = each_join IsPlain (bit_names port.name port.range) (bit_names_of ports) (bits_plain port.name port.range h.0.1 h.0.0) (ports_plain ports h.1)
 
 -- the design's
 
@@ -162,8 +156,8 @@ added_plain config range =
         named 1 (omega arith),
         (
           named 2 (omega arith),
-          each_both IsPlainNew _ _ (numbered_plain Input config.names.channel 0 config.ring.channels (omega (arith, channels)) (named 3 (omega arith)))
-              (each_both IsPlainNew _ _ (numbered_plain Input config.names.mask 0 config.compactor.mask_inputs (omega (arith, masks)) (named 4 (omega arith)))
+          each_join IsPlainNew _ _ (numbered_plain Input config.names.channel 0 config.ring.channels (omega (arith, channels)) (named 3 (omega arith)))
+              (each_join IsPlainNew _ _ (numbered_plain Input config.names.mask 0 config.compactor.mask_inputs (omega (arith, masks)) (named 4 (omega arith)))
               (numbered_plain Output config.names.output 0 (length config.compactor.groups) (omega (arith, outputs)) (named 5 (omega arith)))),
         ),
       ),
@@ -175,7 +169,7 @@ quotable_bits n config ready sound =
     let w = scanned Edt n config in
     let before : ℕ = (gap_in Edt n config).before in
     let own : Each IsPlainPort n.ports = own_ports n.ports ready.netlist.named.ports (found_none n.ports (no_quoted_port n config ready.passed)) in
-    let all : Each IsPlainPort (n.ports ++ ports_from before (added_ports Edt config)) = each_both IsPlainPort n.ports (ports_from before (added_ports Edt config)) own (new_ports before (added_ports Edt config) (added_plain config ready.range)) in
+    let all : Each IsPlainPort (n.ports ++ ports_from before (added_ports Edt config)) = each_join IsPlainPort n.ports (ports_from before (added_ports Edt config)) own (new_ports before (added_ports Edt config) (added_plain config ready.range)) in
     let each : Each IsPlain (bit_names_of w.ports) = ports_plain w.ports (subst (λ (ps : List design_port.Port). Each IsPlainPort ps) (sym (adds_in_order Edt n config).ports) all) in
     λ k name at. record {
       name = sound.named.nets k name (subst (λ (names : List Text). slice_get names k ≡ Some name) (sym sound.bits.same) (get_left (bit_names_of w.ports) sound.bits.rest k name at));

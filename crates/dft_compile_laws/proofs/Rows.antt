@@ -2,18 +2,16 @@
 use Rattle.std.proofs.Common.{ℕ, zero, suc, ◌<◌, ◌≤◌, ◌≡◌, ◌==◌, ◌||◌, Bool, true, false, List, [], ◌∷◌, ◌++◌, length, map, Option, None, Some, slice_get, refl, sym, ap, subst, arith, ◌∙◌, true≢false}
 use Rattle.std.specs.Prelude.{if◌then◌else◌, slice_index_or}
 use Rattle.std.specs.List.{All}
-use Rattle.std.specs.Str.{bytes_eq}
 use Rattle.std.proofs.lemmas.Bool.{eqb-true, eq-eqb, false_from_ne_true}
-use Rattle.std.proofs.lemmas.Option.{none-some, same_Some, slice_get-get_or}
+use Rattle.std.proofs.lemmas.Option.{slice_get-get_or}
 use Rattle.dft_base.specs.Lexing.{Text}
 use Rattle.dft_base.specs.declared.dir.Dir.{Dir}
 use Rattle.dft_base.specs.declared.dir.Dir.TheVariants as dir
 use Rattle.dft_base.specs.declared.tri.Tri.{Tri}
-use Rattle.dft_base.proofs.TextLemmas.{bytes_eq-self}
 use Rattle.dft_netlist.specs.declared.ids.NetId.{NetId}
 use Rattle.dft_netlist.specs.declared.named.Named.TheVariants.{Net}
 use Rattle.dft_netlist.specs.declared.port.Port as design_port
-use Rattle.dft_netlist.specs.Names.{find_net, find_net_from}
+use Rattle.dft_netlist.specs.Names.{find_net}
 use Rattle.dft_netlist.specs.NetNumbers.{nets_from}
 use Rattle.dft_netlist.specs.Netlist.{Netlist}
 use Rattle.dft_netlist.specs.Runs.{Vector}
@@ -23,10 +21,10 @@ use Rattle.dft_patterns.specs.declared.act.Act.{Act}
 use Rattle.dft_patterns.specs.declared.act.Act.TheVariants.{Unset, Low, High, Pulse, ExpectLow, ExpectHigh, Ignore}
 use Rattle.dft_patterns.specs.Steadiness as steady
 use Rattle.dft_replay.specs.Rows.{act_on, is_pulse, net_named, nets_of, or_past, rows_from, set_by}
-use Rattle.dft_replay.proofs.FitLemmas.{found_named, not_first}
+use Rattle.dft_replay.proofs.FitLemmas.{found_named}
 use Rattle.dft_vectors.specs.Signals.{bits_in, input_bits, signal_of}
 use Rattle.dft_pattern_behavior.specs.Doing as doing
-use Rattle.dft_pattern_behavior.specs.Doing.{DoesAt, Does, AllDo}
+use Rattle.dft_pattern_behavior.specs.Doing.{DoesAt, AllDo}
 use Rattle.dft_pattern_behavior.proofs.Listed.{AllNets, is_in}
 use Rattle.dft_pattern_behavior.proofs.Places.{not_in}
 

@@ -1,8 +1,6 @@
 -- What holds of a listed vector, by induction over the inputs that it sets.
 use Rattle.std.proofs.Common.{ℕ, zero, suc, ◌+◌, Bool, true, false, List, [], ◌∷◌, ◌++◌, length, map, Option, sym, subst}
 use Rattle.std.proofs.lemmas.List.{append_assoc}
-use Rattle.dft_base.specs.declared.tri.Tri.{Tri}
-use Rattle.dft_base.specs.declared.tri.Tri.TheVariants.{Zero, One, Unknown}
 use Rattle.dft_base.specs.Solutions.{bit_at}
 use Rattle.dft_netlist.specs.declared.ids.NetId.{NetId}
 use Rattle.dft_netlist.specs.NetNumbers.{nets_from}
@@ -19,7 +17,7 @@ use Rattle.dft_scan_hardware.specs.declared.style.Style.TheVariants.{Edt}
 use Rattle.dft_scan_hardware.specs.Ports.{gap_in}
 use Rattle.dft_scan_hardware.specs.Statements.{scanned}
 use Rattle.dft_vectors.specs.AddedPorts.{added_inputs, no_bits, set_all, shifting}
-use Rattle.dft_vectors.specs.OwnPorts.{compare, driven, ignored, inputs_by, outputs_ignored, pulsing_vector, quiet_vector, set_to}
+use Rattle.dft_vectors.specs.OwnPorts.{compare, ignored, inputs_by, outputs_ignored, pulsing_vector, quiet_vector, set_to}
 use Rattle.dft_vectors.specs.PatternData.{PatternData}
 use Rattle.dft_vectors.specs.Signals.{input_bits}
 use Rattle.dft_vectors.specs.VectorList.{capture_acts, set_up_acts, shift_acts, unloaded}

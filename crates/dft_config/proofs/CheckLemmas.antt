@@ -1,5 +1,5 @@
 -- The first number that fails a test.
-use Rattle.std.proofs.Common.{ℕ, zero, suc, ◌≡◌, ◌+◌, ◌-◌, ◌<◌, ◌≤◌, Bool, true, false, ◌||◌, List, length, drop, Option, Some, if◌then◌else◌, refl, ap, ◌∙◌, arith}
+use Rattle.std.proofs.Common.{ℕ, zero, suc, ◌≡◌, ◌+◌, ◌-◌, ◌<◌, ◌≤◌, Bool, true, ◌||◌, List, length, drop, Option, Some, if◌then◌else◌, refl, ap, ◌∙◌, arith}
 use Rattle.std.proofs.Math.ListN.{drop_of_length-le}
 use Rattle.dft_base.proofs.BitLemmas.{or_false}
 use Rattle.dft_config.specs.Checks.{first_not, is_reached}

@@ -1,16 +1,14 @@
 -- A flip-flop that a name stands for has this name.
-use Rattle.std.proofs.Common.{◌≡◌, ℕ, zero, suc, ◌+◌, Bool, true, false, cond, List, [], ◌∷◌, Option, None, Some, refl, sym, ◌∙◌, ap, subst, arith, slice_get}
+use Rattle.std.proofs.Common.{◌≡◌, ℕ, Option, None, Some, refl, sym, ◌∙◌, ap, subst, arith, slice_get}
 use Rattle.std.specs.Option.{option_and_then}
 use Rattle.std.specs.Prelude.{IsSome, if◌then◌else◌}
-use Rattle.std.proofs.lemmas.Option.{none-some, same_Some}
+use Rattle.std.proofs.lemmas.Option.{none-some}
 use Rattle.dft_base.specs.Lexing.{Text}
-use Rattle.dft_base.proofs.TextLemmas.{same_text}
 use Rattle.dft_netlist.specs.declared.ids.InstanceId.{InstanceId}
-use Rattle.dft_netlist.specs.declared.instance.Instance.{Instance}
 use Rattle.dft_netlist.specs.Drivers.{kind_at}
 use Rattle.dft_netlist.specs.Netlist.{Netlist}
-use Rattle.dft_netlist.specs.Names.{find_instance, find_instance_from, has_this_name, instance_name}
-use Rattle.dft_netlist.proofs.FindLemmas.{IsInstanceAt, this_name, first_instance_or, instance_at}
+use Rattle.dft_netlist.specs.Names.{find_instance, instance_name}
+use Rattle.dft_netlist.proofs.FindLemmas.{instance_at}
 use Rattle.dft_rules.specs.Rules.{flip_flop_named, may_be_scanned}
 use Rattle.dft_rules.proofs.NameLemmas.{if_there}
 

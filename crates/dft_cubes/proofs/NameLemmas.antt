@@ -1,15 +1,12 @@
 -- Names of words, and sets of names.
-use Rattle.std.proofs.Common.{ℕ, zero, suc, ◌-◌, ◌≡◌, ◌<◌, ◌≤◌, ◌||◌, true, List, [], ◌∷◌, length, drop, get_or, map, refl, sym, ap, arith, ◌∙◌}
+use Rattle.std.proofs.Common.{ℕ, zero, suc, ◌-◌, ◌≡◌, ◌<◌, ◌≤◌, ◌||◌, true, List, [], ◌∷◌, length, drop, get_or, map, refl, ap, arith, ◌∙◌}
 use Rattle.std.specs.List.{list_all, list_any}
 use Rattle.std.proofs.lemmas.Bool.{and_parts}
-use Rattle.std.proofs.lemmas.Bool.Decides.{nat_tests}
 use Rattle.std.proofs.lemmas.List.{length-drop, length-take-le}
 use Rattle.dft_base.specs.Name.{IsName}
 use Rattle.dft_word_lines.specs.declared.words.Span.{Span}
 use Rattle.dft_word_lines.specs.Lines.{AreWithin, are_printed, cut, is_printed_word, is_printed}
 use Rattle.std.specs.Str.{bytes_eq}
-use Rattle.std.proofs.lemmas.Slice.Eq.{bytes_eq-Decides}
-use Rattle.std.proofs.lemmas.Bool.Decides.{same_from_decides, Decides-like}
 use Rattle.dft_base.specs.Lexing.{Text}
 use Rattle.dft_base.proofs.TextLemmas.{bytes_eq-comm, IsPrinted, printed as printed_range}
 use Rattle.dft_cells.specs.WellFormed.{has_name}

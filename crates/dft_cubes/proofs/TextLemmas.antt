@@ -1,6 +1,6 @@
 -- The lines that are left of a text, and what they give.
-use Rattle.std.proofs.Common.{ℕ, suc, ◌+◌, ◌-◌, ◌==◌, ◌≡◌, ◌≤◌, Bool, true, false, List, [], ◌∷◌, length, take, drop, subst, Option, None, Result, sym, ap, arith, ◌∙◌}
-use Rattle.std.proofs.lemmas.List.{length-drop, drop-drop, take_all}
+use Rattle.std.proofs.Common.{ℕ, suc, ◌+◌, ◌-◌, ◌==◌, ◌≡◌, ◌≤◌, Bool, false, List, [], ◌∷◌, length, take, drop, subst, Option, None, Result, sym, ap, arith, ◌∙◌}
+use Rattle.std.proofs.lemmas.List.{length-drop, drop-drop, take_rest}
 use Rattle.std.specs.Prelude.{if◌then◌else◌}
 use Rattle.std.specs.List.{prefix_len}
 use Rattle.std.proofs.lemmas.Bool.{eq-eqb}
@@ -59,14 +59,11 @@ pub record IsLine (text : Text) (at len : ℕ) (line : Text) : Type 0 where
   pub size : len ≡ prefix_len is_on_line (take (length text - at) (drop at text))
   pub same : line ≡ take (at + len - at) (drop at text)
 
-rest_is : (text : Text) (at : ℕ) → take (length text - at) (drop at text) ≡ drop at text
-rest_is text at = ap (λ (n : ℕ). take n (drop at text)) (sym (length-drop at text)) ∙ take_all (length (drop at text)) (drop at text) (omega arith)
-
 -- the lines that are left begin with the one at hand
 pub lines_begin : (text : Text) (at len : ℕ) (line : Text) → IsLine text at len line → lines_at at text ≡ line ∷ lines_at (at + (len + 1)) text
 lines_begin text at len line is =
     let p : ℕ = prefix_len is_on_line (drop at text) in
-    let size : len ≡ p = is.size ∙ ap (prefix_len is_on_line) (rest_is text at) in
+    let size : len ≡ p = is.size ∙ ap (prefix_len is_on_line) (take_rest text at) in
     let count : at + len - at ≡ len = omega arith in
     let front : line ≡ take p (drop at text) = is.same ∙ ap (λ (k : ℕ). take k (drop at text)) (count ∙ size) in
     line_at at text is.begun ∙ (λ i. sym front i ∷ lines_at (at + (sym size i + 1)) text)

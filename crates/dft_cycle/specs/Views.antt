@@ -8,7 +8,7 @@ use Rattle.dft_netlist.specs.Drivers.{Source}
 use Rattle.dft_netlist.specs.Logic.{Logic, Lockup, Cell}
 use Rattle.dft_netlist.specs.Settled.{value_from}
 use Rattle.dft_logic.specs.declared.circuit.Circuit.{Circuit}
-use Rattle.dft_abstract.specs.Cycle.{tri_forced_by, tri_taken_by, next_value, IsClosed}
+use Rattle.dft_abstract.specs.Cycle.{next_value, IsClosed}
 use Rattle.dft_abstract.specs.Cycle as Cycle
 use Rattle.dft_logic.specs.Values.{value_at}
 pub use Rattle.dft_logic.specs.Ranks.{rank_from, rank_of}

@@ -3,37 +3,26 @@ use Rattle.std.proofs.Common.{ℕ, zero, suc, Bool, true, false, List, [], ◌�
 use Rattle.std.specs.Prelude.{if◌then◌else◌}
 use Rattle.std.proofs.lemmas.Bool.{eq-eqb, eqb-false}
 use Rattle.dft_base.specs.declared.tri.Tri.{Tri}
-use Rattle.dft_base.specs.declared.tri.Tri.TheVariants.{Zero, One, Unknown}
+use Rattle.dft_base.specs.declared.tri.Tri.TheVariants.{Zero, Unknown}
 use Rattle.dft_base.specs.Tri.{known, AboveTri}
 use Rattle.dft_cells.specs.Gates.{bit_of}
 use Rattle.dft_cells.specs.FlipFlops.{tri_chosen}
 use Rattle.dft_cells.proofs.Completions.{above_self, AllOver, shared_monotone, forced_monotone}
+use Rattle.dft_cells.proofs.TriLemmas.{chosen_zero}
 use Rattle.dft_netlist.specs.Drivers.{Source, Net, Tied, Loose, nets_of, AreBelow}
 use Rattle.dft_netlist.specs.Logic.{Logic, Meaning, Input, Clock, Gate, Joined, Flop, Lockup, Free, Force, Scan, reads, IsRanked}
-use Rattle.dft_netlist.specs.Settled.{TriSources, value_from, value_given, IsTriSettled, inverse}
+use Rattle.dft_netlist.specs.Settled.{TriSources, value_from, value_given, IsTriSettled}
 use Rattle.dft_netlist.specs.Runs.{Vector}
+use Rattle.dft_netlist.proofs.SettledLemmas.{value_at}
+use Rattle.dft_netlist.proofs.Meanings.{pin_monotone}
 use Rattle.dft_abstract.specs.Cycle.{Pulse, tri_forced_by, tri_taken_by, view_sources, AreViews, next_value, after_pulse, pulse_of, strobe_sources}
 use Rattle.dft_abstract.specs.Laws.{next_from}
 use Rattle.dft_abstract.proofs.OneDomain.{flop_old}
 use Rattle.dft_chains.specs.ScanOff.{moved_source, moved_force, moved_meaning, Places, IsWithin, IsForceWithin, IsEnabledBy, KeepsFlop}
 use Rattle.dft_edt.specs.Captures.{Covers, ContainingCovers, WideningCovers, StandsOver, StrobeLaw, IsCapture, CaptureLaw}
-use Rattle.dft_chains.proofs.Shiftings.{value_at}
 use Rattle.dft_chains.proofs.Staying.{net_stays}
 
 -- ---- settled values
-
-inverse_over : (t u : Tri) → AboveTri t u → AboveTri (inverse t) (inverse u)
-inverse_over Unknown u h = tt
-inverse_over Zero Zero h = tt
-inverse_over Zero One h = absurd h
-inverse_over Zero Unknown h = absurd h
-inverse_over One One h = tt
-inverse_over One Zero h = absurd h
-inverse_over One Unknown h = absurd h
-
-pin_over : (inverted : Bool) (t u : Tri) → AboveTri t u → AboveTri (if inverted then inverse t else t) (if inverted then inverse u else u)
-pin_over true t u h = inverse_over t u h
-pin_over false t u h = h
 
 source_over : (rank : ℕ → ℕ) (r : ℕ) (p : Places) (a b : ℕ → Tri) → ((net : ℕ) → net < p.size → rank net < r → AboveTri (a net) (b (p.moved net))) →
     (source : Source) → AreBelow (λ k. k) p.size (nets_of (source ∷ [])) → AreBelow rank r (nets_of (source ∷ [])) → AboveTri (value_from a source) (value_from b (moved_source p.moved source))
@@ -62,7 +51,7 @@ given_over rank p s t a b net here over ih Clock inside below shown no_lockup = 
 given_over rank p s t a b net here over ih (Gate kind inputs) inside below shown no_lockup =
     shared_monotone (bit_of kind) (map (value_from a) inputs) (map (value_from b) (map (moved_source p.moved) inputs)) (inputs_over rank (rank net) p a b ih inputs inside below)
 given_over rank p s t a b net here over ih (Joined source) inside below shown no_lockup = source_over rank (rank net) p a b ih source inside below
-given_over rank p s t a b net here over ih (Flop cell inverted) inside below shown no_lockup = pin_over inverted (s.flops cell) (t.flops cell) (over.flops cell (shown cell inverted refl))
+given_over rank p s t a b net here over ih (Flop cell inverted) inside below shown no_lockup = pin_monotone inverted (s.flops cell) (t.flops cell) (over.flops cell (shown cell inverted refl))
 given_over rank p s t a b net here over ih (Lockup cell domain source) inside below shown no_lockup = absurd (no_lockup cell domain source refl)
 given_over rank p s t a b net here over ih Free inside below shown no_lockup = tt
 
@@ -115,21 +104,10 @@ view_clock true true h = tt
 view_clock true false h = absurd (let q : false ≡ true = h refl in cc)
 view_clock false is h = tt
 
-chosen_off : (s d : Tri) → tri_chosen Zero s d ≡ d
-chosen_off Zero Zero = refl
-chosen_off Zero One = refl
-chosen_off Zero Unknown = refl
-chosen_off One Zero = refl
-chosen_off One One = refl
-chosen_off One Unknown = refl
-chosen_off Unknown Zero = refl
-chosen_off Unknown One = refl
-chosen_off Unknown Unknown = refl
-
 -- a scan enable that is 0 leaves D
 taken_off : (port : ℕ) (scan : Option Scan) (at : Source → Tri) (t : Tri) → IsEnabledBy port scan → at (Net port) ≡ Zero → tri_taken_by scan at t ≡ t
 taken_off port None at t enabled off = refl
-taken_off port (Some scan) at t enabled off = ap (λ e. tri_chosen (at e) (at scan.input) t) enabled ∙ ap (λ e. tri_chosen e (at scan.input) t) off ∙ chosen_off (at scan.input) t
+taken_off port (Some scan) at t enabled off = ap (λ e. tri_chosen (at e) (at scan.input) t) enabled ∙ ap (λ e. tri_chosen e (at scan.input) t) off ∙ chosen_zero (at scan.input) t
 
 -- a flip-flop after a pulse of its domain
 cell_after : (l : Logic) (q : Pulse) (view : ℕ → ℕ → Tri) (c d : ℕ) → (l.cell c).domain ≡ d → q.pulsed d ≡ true →

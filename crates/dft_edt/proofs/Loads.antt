@@ -15,6 +15,7 @@ use Rattle.dft_config.specs.Ring.{Table, step, state_after, phase_of, phase_sum}
 use Rattle.dft_config.specs.Loads.{moment_of_place}
 use Rattle.dft_config.proofs.Linearity.{loads_sum}
 use Rattle.dft_stitch.specs.Plans.{cell_at}
+use Rattle.dft_stitch.proofs.CellPlaces.{chain_within}
 use Rattle.dft_chains.specs.Hardware.{ChainNets}
 use Rattle.dft_runs.specs.Passes.{Pass, Passes, ArePasses, end_of, pass_of_round, passes_of_rounds, pass_of_turn, passes_of_turns, after_turns}
 use Rattle.dft_runs.proofs.Passing.{round_passes, rounds_pass, turn_passes, turns_pass}
@@ -143,13 +144,6 @@ loaded_all l ports config chains w hw table t total (x ∷ xs) old (p ∷ ps) ha
     (loaded_step l ports config chains w hw table t x old p has range carry.0.0 carry.0.1 are.0 loaded)
 
 -- ---- the sums at its end
-
-chain_within_in : (chains : List (List InstanceId)) (chain place : ℕ) (o : Option (List InstanceId)) (cell : InstanceId) → slice_get chains chain ≡ o → option_and_then (λ cells. slice_get cells place) o ≡ Some cell → chain < length chains
-chain_within_in chains chain place None cell is stands = absurd (none-some cell stands)
-chain_within_in chains chain place (Some cells) cell is stands = slice_get_within chains chain cells is
-
-pub chain_within : (chains : List (List InstanceId)) (chain place : ℕ) (cell : InstanceId) → cell_at chains chain place ≡ Some cell → chain < length chains
-chain_within chains chain place cell stands = chain_within_in chains chain place (slice_get chains chain) cell refl stands
 
 sum_at_end : (config : Config) (chains : List (List InstanceId)) (hw : EdtNets) (table : Table) (cycles : ℕ) (values : ℕ → Tri) → IsInRange config → length chains ≡ config.chains → Loaded config chains hw table cycles values →
     (chain place : ℕ) (cell : InstanceId) → cell_at chains chain place ≡ Some cell → place < cycles → values cell.0 ≡ known (load_sum config table cycles chain place)

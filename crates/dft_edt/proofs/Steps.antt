@@ -11,6 +11,7 @@ use Rattle.dft_netlist.specs.Drivers.{Net}
 use Rattle.dft_netlist.specs.Logic.{Logic, Ports, Cell, Flop, Lockup}
 use Rattle.dft_netlist.specs.Settled.{Sources, TriSources, value_from, IsTriSettled}
 use Rattle.dft_netlist.specs.Runs.{Now, Vector, next_now, set_step, set_ports, sources_of, port_bits, forced_by}
+use Rattle.dft_netlist.proofs.SettledLemmas.{value_at}
 use Rattle.dft_abstract.specs.Cycle.{Pulse, tri_forced_by, tri_taken_by, view_sources, AreViews, after_pulse, pulse_of, strobe_sources}
 use Rattle.dft_config.specs.declared.config.Tap.{Tap}
 use Rattle.dft_config.specs.declared.config.Injector.{Injector}
@@ -20,7 +21,7 @@ use Rattle.dft_config.specs.Range.{IsInRange}
 use Rattle.dft_config.specs.Ring.{sum_of, phase_of}
 use Rattle.dft_stitch.specs.Plans.{cell_at}
 use Rattle.dft_chains.specs.Hardware.{ChainNets}
-use Rattle.dft_chains.proofs.Shiftings.{value_at, own_choice, port_value, not_forced, takes_source, link_law}
+use Rattle.dft_chains.proofs.Shiftings.{own_choice, port_value, not_forced, takes_source, link_law}
 use Rattle.dft_edt.specs.Feeds.{Feed, Stage, Channel, at_feed, tap_feeds, injector_feeds, feeds}
 use Rattle.dft_parts.specs.SumTrees.{tri_sum}
 use Rattle.dft_edt.specs.Hardware.{EdtNets, HasStage, HasRing, HasHold, HasEnd, HasCompactor, before_in, group_of}

@@ -3,11 +3,12 @@ use Rattle.std.proofs.Common.{ℕ, zero, suc, Bool, true, false, ◌≡◌, ◌<
 use Rattle.std.specs.Prelude.{◌&&◌, ◌==◌, nat_lt}
 use Rattle.std.proofs.lemmas.Bool.{cases_lt}
 use Rattle.std.proofs.lemmas.Bool.Decides.{nat_tests}
-use Rattle.std.proofs.lemmas.List.{get_or_past, get_or_append_left, length-append, get_or-replicate, length-replicate}
+use Rattle.std.proofs.lemmas.List.{get_or_past, get_or_append_left, length-append}
 use Rattle.std.proofs.Math.Seq.{get_or-append_seam, take-append_seam}
 use Rattle.std.proofs.lemmas.Nat.{div-mul-add, mod-mul-add, div-add-mod', mod_below}
 use Rattle.dft_base.specs.Solutions.{xor, bit_at}
 use Rattle.dft_base.proofs.SumLemmas.{and_false, xor_assoc}
+use Rattle.dft_base.proofs.ListLemmas.{zero_bit}
 use Rattle.dft_config.specs.declared.config.Tap.{Tap}
 use Rattle.dft_config.specs.declared.config.Injector.{Injector}
 use Rattle.dft_config.specs.declared.config.RingConfig.{RingConfig}
@@ -137,9 +138,5 @@ impulse_more ring channel t states state so_far size bits = record {
 pub take_seam : (n : ℕ) (xs ys : List Bool) → n ≡ length xs → take n (xs ++ ys) ≡ xs
 take_seam n xs ys size = ap (λ (m : ℕ). take m (xs ++ ys)) size ∙ take-append_seam xs ys
 
-zeros_case : (n k : ℕ) → (k < n) ⊎ (n ≤ k) → bit_at (replicate n false) k ≡ false
-zeros_case n k (inl less) = get_or-replicate n k false false less
-zeros_case n k (inr past) = let size = length-replicate {A = Bool} n false in get_or_past (replicate n false) k false (omega arith)
-
 pub bit_at-zeros : (n k : ℕ) → bit_at (replicate n false) k ≡ false
-bit_at-zeros n k = zeros_case n k (cases_lt k n)
+bit_at-zeros n k = zero_bit n k (cases_lt k n)

@@ -2,9 +2,9 @@
 use Rattle.std.proofs.Common.{ℕ, Bool, true, false, List, [], ◌∷◌, ◌≡◌, ◌<◌, ◌≤◌, ◌+◌, ◌-◌, ◌*◌, ◌^◌, sym, ap, subst, ◌∙◌, take, drop, length, get_or, arith}
 use Rattle.std.specs.Prelude.{if◌then◌else◌}
 use Rattle.std.proofs.Math.Seq.{take-length}
-use Rattle.std.proofs.Math.Nat.{pow-suc, one-le-pow, mul-le-mul_left}
+use Rattle.std.proofs.Math.Nat.{pow-suc, one-le-pow}
 use Rattle.dft_base.specs.declared.tri.Tri.{Tri}
-use Rattle.dft_cells.specs.Gates.{shared, bit_of_number, number_of}
+use Rattle.dft_cells.specs.Gates.{shared, bit_of_number}
 use Rattle.dft_cells.proofs.Pairs.{shared_equal, TableAt, narrow}
 use Rattle.dft_lanes.specs.declared.wide.Wide.{Wide}
 use Rattle.dft_lanes.specs.Choices.{can, some_choice_of_three}

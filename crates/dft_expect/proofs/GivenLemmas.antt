@@ -5,12 +5,13 @@ use Rattle.std.proofs.lemmas.Bool.{cases_lt}
 use Rattle.std.proofs.lemmas.List.{get_or_past}
 use Rattle.std.proofs.lemmas.Option.{none-some}
 use Rattle.dft_base.specs.declared.tri.Tri.{Tri}
-use Rattle.dft_base.specs.declared.tri.Tri.TheVariants.{Zero, One, Unknown}
+use Rattle.dft_base.specs.declared.tri.Tri.TheVariants.{One, Unknown}
 use Rattle.dft_base.specs.Solutions.{bit_at}
 use Rattle.dft_cells.specs.declared.kind.Kind.{Kind}
 use Rattle.dft_cells.specs.declared.kind.Kind.TheVariants as kind
 use Rattle.dft_cells.specs.declared.kind.Role.TheVariants as role
 use Rattle.dft_cells.specs.FlipFlops.{is_flip_flop, tri_forced}
+use Rattle.dft_cells.proofs.TriLemmas.{forced_one}
 use Rattle.dft_netlist.specs.declared.instance.Join.{Join}
 use Rattle.dft_netlist.specs.declared.net_driver.NetDriver.{NetDriver}
 use Rattle.dft_netlist.specs.declared.net_driver.NetDriver.TheVariants as by
@@ -71,11 +72,6 @@ modelled_forces is_reset i (Some d) (Some f) input scan may = may
 flop_forces : (n : Netlist) (ports : Ports) (i : ℕ) (b : Bool) → ByReset ports.is_reset (cell_or_none i (if b then modelled_of n ports i (pins_of n i) else None)).force
 flop_forces n ports i true = modelled_forces ports.is_reset i _ _ _ _ (pins_force n ports (pin_of role.Reset i (pins_of n i)) (pin_of role.Preset i (pins_of n i)))
 flop_forces n ports i false = tt
-
-forced_one : (value : Bool) (t : Tri) → tri_forced value One t ≡ t
-forced_one value Zero = refl
-forced_one value One = refl
-forced_one value Unknown = refl
 
 not_forced : (is_reset : ℕ → Bool) (x : ℕ → Tri) (force : Option Force) (t : Tri) → ((net : ℕ) → is_reset net ≡ true → x net ≡ One) → ByReset is_reset force → tri_forced_by force x t ≡ t
 not_forced is_reset x None t one may = refl

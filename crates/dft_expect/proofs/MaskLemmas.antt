@@ -1,8 +1,8 @@
 -- Masks by chain.
-use Rattle.std.proofs.Common.{ℕ, Bool, true, false, List, [], ◌∷◌, ◌++◌, ◌≡◌, ◌<◌, ◌≤◌, ◌+◌, ◌-◌, refl, sym, ap, arith, map, take, drop, length, length-append, drop-drop, append_assoc, append-nil, Some, ◌∙◌}
+use Rattle.std.proofs.Common.{ℕ, Bool, false, List, [], ◌∷◌, ◌++◌, ◌≡◌, ◌<◌, ◌≤◌, ◌+◌, ◌-◌, refl, sym, ap, arith, map, take, drop, length, length-append, drop-drop, append_assoc, append-nil, Some, ◌∙◌}
 use Rattle.std.specs.Prelude.{◌||◌, slice_get}
 use Rattle.std.specs.List.{list_any, enumerate_from}
-use Rattle.std.proofs.lemmas.List.{get_or-map, drop_more, drop_all}
+use Rattle.std.proofs.lemmas.List.{get_or-map, drop_all}
 use Rattle.std.proofs.lemmas.List.FromFn.{get_or-enumerate_from, length-enumerate_from}
 use Rattle.std.proofs.lemmas.Option.{get_or_from_slice_get, slice_get_within}
 use Rattle.dft_base.specs.declared.tri.Tri.{Tri}

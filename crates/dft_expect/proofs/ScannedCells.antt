@@ -1,10 +1,9 @@
 -- A cell of the chains is modelled: on the port of its domain, with its data input and no scan pins. And no instance is a lock-up.
-use Rattle.std.proofs.Common.{ℕ, zero, suc, ◌+◌, ◌≡◌, Bool, true, false, ◌||◌, List, [], ◌∷◌, cond, map, position, inl, inr, Option, None, Some, is_some, option_and_then, slice_get, refl, sym, subst, ap, ◌∙◌}
+use Rattle.std.proofs.Common.{ℕ, zero, suc, ◌+◌, ◌≡◌, Bool, true, false, List, [], ◌∷◌, cond, map, position, inl, inr, Option, None, Some, is_some, option_and_then, slice_get, refl, sym, subst, ap, ◌∙◌}
 use Rattle.std.specs.Prelude.{if◌then◌else◌, IsTrue}
-use Rattle.std.specs.List.{list_any, position_from, AllByRecursion}
+use Rattle.std.specs.List.{position_from, AllByRecursion}
 use Rattle.std.proofs.lemmas.Iterator.Adapters.{position_from-zero}
 use Rattle.std.proofs.lemmas.Option.{none-some, same_Some}
-use Rattle.std.proofs.lemmas.Bool.{or_right}
 use Rattle.std.proofs.lemmas.Map.Keys.{any_passes_from_place}
 use Rattle.dft_base.specs.Lexing.{Text}
 use Rattle.dft_base.proofs.OptionLemmas.{some_of}
@@ -13,7 +12,6 @@ use Rattle.dft_cells.specs.declared.kind.Kind.TheVariants as kind
 use Rattle.dft_cells.specs.declared.kind.Role.{Role}
 use Rattle.dft_cells.specs.declared.kind.Role.TheVariants as role
 use Rattle.dft_cells.specs.declared.cell.Cell as declared
-use Rattle.dft_cells.specs.FlipFlops.{is_flip_flop}
 use Rattle.dft_cells.specs.WellFormed.{HasRoles, FlipFlopRoles, IsWellFormed}
 use Rattle.dft_netlist.specs.declared.ids.InstanceId.{InstanceId}
 use Rattle.dft_netlist.specs.declared.instance.CellRef.{CellRef}
@@ -32,10 +30,10 @@ use Rattle.dft_netlist.specs.Connections.{input_net}
 use Rattle.dft_rules.specs.Rules.{is_net, place_of_root, place_of_source, domain_of, is_held, are_held, are_held_at, scan_cell_of, is_kept, may_be_scanned, judged_by}
 use Rattle.dft_expect.specs.Captures.{config_ports}
 use Rattle.dft_rules.specs.declared.judged.Judged.TheVariants.{Scanned}
-use Rattle.dft_rules.specs.declared.error.RuleError.{RuleError}
 use Rattle.dft_rules.specs.declared.error.RuleError.TheVariants.{LockupPresent}
-use Rattle.dft_rules.specs.Refusals.{first_failing, first_present, present, present_as, refusal, unknown_cell, unknown_port}
-use Rattle.dft_rules.proofs.CheckLemmas.{from_clocks, from_keep, from_present, from_resets}
+use Rattle.dft_rules.specs.Refusals.{first_present, present, present_as}
+use Rattle.dft_rules.proofs.CheckLemmas.{none_first, none_present}
+use Rattle.dft_rules.proofs.Scannable.{scannable_flop}
 use Rattle.dft_stitch.specs.Chains.{plan_of}
 use Rattle.dft_stitch.specs.Plans.{cell_at}
 use Rattle.dft_stitch.specs.Laws.{IsScanned}
@@ -193,28 +191,6 @@ pins_none library i (Some x) well may = no_pin i 0 (shape_of library x.cell).rol
 
 -- ---- the flip-flop
 
-scannable_flop : (k : Kind) → may_be_scanned k ≡ true → is_flip_flop k ≡ true
-scannable_flop kind.Dff e = refl
-scannable_flop kind.Dffr e = refl
-scannable_flop kind.Dffs e = refl
-scannable_flop kind.Sdff e = refl
-scannable_flop kind.Sdffr e = refl
-scannable_flop kind.Sdffs e = refl
-scannable_flop kind.Lockup e = absurd cc
-scannable_flop kind.Opaque e = absurd cc
-scannable_flop kind.Buf e = absurd cc
-scannable_flop kind.Inv e = absurd cc
-scannable_flop kind.And e = absurd cc
-scannable_flop kind.Nand e = absurd cc
-scannable_flop kind.Or e = absurd cc
-scannable_flop kind.Nor e = absurd cc
-scannable_flop kind.Xor e = absurd cc
-scannable_flop kind.Xnor e = absurd cc
-scannable_flop kind.Mux2 e = absurd cc
-scannable_flop (kind.Table number) e = absurd cc
-scannable_flop kind.Tie0 e = absurd cc
-scannable_flop kind.Tie1 e = absurd cc
-
 -- a cell of the chains: a flip-flop on a clock's port, with its data input, no scan pins, and perhaps a reset or set
 pub record IsModelled (n : Netlist) (config : Config) (i : ℕ) : Type 0 where
   pub kind : may_be_scanned (kind_at n i) ≡ true
@@ -249,18 +225,6 @@ cell_modelled n config chain place cell can stands =
     }
 
 -- ---- no lock-up
-
-pub none_first : (check : Option RuleError) (checks : List (Option RuleError)) → first_failing (check ∷ checks) ≡ None → (check ≡ None) × (first_failing checks ≡ None)
-none_first None checks e = (refl, e)
-none_first (Some error) checks e = absurd (none-some error (sym e))
-
-none_present : (n : Netlist) (config : Config) → refusal n config ≡ None → first_present n.library n.instances ≡ None
-unfolding refusal
-none_present n config e =
-    let resets = (none_first (unknown_port n config.domains) (from_resets n config) e).1 in
-    let keep = (none_first (unknown_port n config.resets) (from_keep n config) resets).1 in
-    let there = (none_first (unknown_cell n config.keep) (from_present n config) keep).1 in
-    (none_first (first_present n.library n.instances) (from_clocks n config) there).0
 
 present_at : (library : List declared.Cell) (instances : List Instance) (i : ℕ) (x : Instance) → first_present library instances ≡ None → slice_get instances i ≡ Some x → present library x ≡ None
 present_at library [] i x e at = absurd (none-some x at)

@@ -1,11 +1,10 @@
 -- The settings of nets: cells by their places, and ports by their names.
 use Rattle.std.proofs.Common.{ℕ, ◌+◌, ◌<◌, ◌≤◌, ◌≡◌, ◌≢◌, ◌⊎◌, inl, inr, Bool, true, false, ◌||◌, List, drop, length, get_or, set, slice_get, Option, None, Some, refl, sym, subst, ap, arith, ◌∙◌}
-use Rattle.std.specs.Prelude.{◌==◌, option_and_then}
+use Rattle.std.specs.Prelude.{◌==◌}
 use Rattle.std.specs.List.{list_any}
 use Rattle.std.proofs.lemmas.Bool.{cases_eq}
 use Rattle.std.proofs.lemmas.Bool.Decides.{nat_tests}
 use Rattle.std.proofs.lemmas.List.{drop_all, length-set, get_or-set_same, get_or-set_other}
-use Rattle.std.proofs.lemmas.Option.{none-some, slice_get_within}
 use Rattle.dft_base.specs.Lexing.{Text}
 use Rattle.dft_base.specs.Solutions.{bit_at}
 use Rattle.dft_base.proofs.BitLemmas.{or_false}
@@ -16,6 +15,7 @@ use Rattle.dft_netlist.specs.Netlist.{Netlist}
 use Rattle.dft_netlist.specs.Connections.{input_net}
 use Rattle.dft_rules.specs.Rules.{is_net}
 use Rattle.dft_stitch.specs.Plans.{cell_at}
+use Rattle.dft_stitch.proofs.CellPlaces.{chain_within}
 use Rattle.dft_expect.specs.Loaded.{all_cells}
 use Rattle.dft_expect.specs.Unloads.{AreStarts}
 use Rattle.dft_expect.proofs.CellNumbers.{number_of}
@@ -23,17 +23,10 @@ use Rattle.dft_expect.proofs.UnloadLemmas.{before}
 
 -- ---- a cell by its place
 
-live_by : (chains : List (List InstanceId)) (chain place : ℕ) (cell : InstanceId) (o : Option (List InstanceId)) → slice_get chains chain ≡ o → option_and_then (λ (cells : List InstanceId). slice_get cells place) o ≡ Some cell → chain < length chains
-live_by chains chain place cell None at stands = absurd (none-some cell stands)
-live_by chains chain place cell (Some cells) at stands = slice_get_within chains chain cells at
-
-pub chain_live : (chains : List (List InstanceId)) (chain place : ℕ) (cell : InstanceId) → cell_at chains chain place ≡ Some cell → chain < length chains
-chain_live chains chain place cell stands = live_by chains chain place cell (slice_get chains chain) refl stands
-
 -- a cell stands at the number that the start of its chain and its place give
 pub numbered : (chains : List (List InstanceId)) (starts : List ℕ) (chain place number : ℕ) (cell : InstanceId) → AreStarts chains starts → cell_at chains chain place ≡ Some cell → number ≡ get_or starts chain 0 + place → slice_get (all_cells chains) number ≡ Some cell
 numbered chains starts chain place number cell are stands is =
-    let far : before chains chain + place ≡ number = omega (arith, is, are.each chain (chain_live chains chain place cell stands)) in
+    let far : before chains chain + place ≡ number = omega (arith, is, are.each chain (chain_within chains chain place cell stands)) in
     subst (λ (k : ℕ). slice_get (all_cells chains) k ≡ Some cell) far (number_of chains chain place cell stands)
 
 -- ---- ports by their names

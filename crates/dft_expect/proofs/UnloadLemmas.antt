@@ -13,7 +13,7 @@ use Rattle.dft_netlist.specs.declared.ids.InstanceId.{InstanceId}
 use Rattle.dft_expect.specs.Loaded.{all_cells}
 use Rattle.dft_expect.specs.Masks.{by_chain}
 use Rattle.dft_base.specs.Solutions.{bit_at, xor}
-use Rattle.dft_base.proofs.SumLemmas.{xor_assoc}
+use Rattle.dft_base.proofs.SumLemmas.{xor_assoc, plus_false}
 use Rattle.dft_config.specs.declared.config.RingConfig.{RingConfig}
 use Rattle.dft_config.specs.Ring.{Table, sum_of, state_after, phase_of, phase_sum}
 use Rattle.dft_expect.specs.States.{state_at, AreStates}
@@ -88,12 +88,8 @@ sum_goes_on f group i d sum next bit less is read before =
     let rest = sum_of f (drop (i + 1) group) in
     ap (λ (b : Bool). xor b rest) is ∙ xor_assoc sum bit rest ∙ ap (λ (b : Bool). xor sum (xor b rest)) read ∙ ap (λ (l : List ℕ). xor sum (sum_of f l)) (sym (drop_more group i d less)) ∙ before
 
-xor_none : (a : Bool) → a ≡ xor a false
-xor_none true = refl
-xor_none false = refl
-
 pub sum_ends : (f : ℕ → Bool) (group : List ℕ) (i : ℕ) (sum : Bool) → length group ≤ i → xor sum (sum_of f (drop i group)) ≡ sum_of f group → sum ≡ sum_of f group
-sum_ends f group i sum past before = xor_none sum ∙ ap (λ (l : List ℕ). xor sum (sum_of f l)) (sym (drop_all i group past)) ∙ before
+sum_ends f group i sum past before = plus_false sum ∙ ap (λ (l : List ℕ). xor sum (sum_of f l)) (sym (drop_all i group past)) ∙ before
 
 pub list_goes_on : (f : List ℕ → Bool) (groups : List (List ℕ)) (i : ℕ) (group d : List ℕ) (old start new : List Bool) (bit : Bool) → i < length groups → group ≡ get_or groups i d → new ≡ old ++ bit ∷ [] → bit ≡ f group
     → old ++ map f (drop i groups) ≡ start ++ map f groups → new ++ map f (drop (i + 1) groups) ≡ start ++ map f groups

@@ -2,9 +2,10 @@
 use Rattle.std.proofs.Common.{ℕ, Bool, true, false, List, ◌≡◌, ◌≢◌, ◌+◌, ◌<◌, ◌≤◌, length, get_or, refl, sym, ap, arith, ◌∙◌, ◌⊎◌, inl, inr, Option, Some, None, replicate, length-set, get_or-set_same, get_or-set_other}
 use Rattle.std.specs.Prelude.{not, ◌&&◌, if◌then◌else◌, slice_set}
 use Rattle.std.proofs.lemmas.Bool.{cases_lt}
-use Rattle.std.proofs.lemmas.List.{get_or_past, get_or-replicate, length-replicate, get_or_read}
+use Rattle.std.proofs.lemmas.List.{length-replicate, get_or_read}
 use Rattle.dft_base.specs.Solutions.{xor, bit_at, sum_over, Solves, IsChosen}
 use Rattle.dft_base.proofs.SumLemmas.{and_false}
+use Rattle.dft_base.proofs.ListLemmas.{zero_bit}
 use Rattle.dft_gf2.specs.Rows.{row_at, place_at, IsLedBy, kept_to, IsEchelon}
 use Rattle.dft_gf2.specs.declared.row.Row.{Row}
 use Rattle.dft_lanes.proofs.RowLemmas.{sum_short}
@@ -39,10 +40,6 @@ with_here bits k false less none = none
 length-with : (bits : List Bool) (k : ℕ) (bit : Bool) → length (with_bit bits k bit) ≡ length bits
 length-with bits k true = length-set bits k true
 length-with bits k false = refl
-
-zero_bit : (n c : ℕ) → (c < n) ⊎ (n ≤ c) → bit_at (replicate n false) c ≡ false
-zero_bit n c (inl less) = get_or-replicate n c false false less
-zero_bit n c (inr past) = let size = length-replicate {A = Bool} n false in get_or_past (replicate n false) c false (omega arith)
 
 pub fills_start : (n : ℕ) (rows : List Row) (places : List (Option ℕ)) (fill bits : List Bool) → bits ≡ replicate n false → Fills n rows places fill bits 0
 fills_start n rows places fill bits zeros = record {

@@ -3,7 +3,7 @@ use Rattle.std.proofs.Common.{ℕ, zero, suc, Bool, true, false, ◌≡◌, ◌<
 use Rattle.std.proofs.lemmas.Bool.{cases_lt}
 use Rattle.std.specs.Prelude.{◌&&◌}
 use Rattle.dft_base.specs.Solutions.{xor, sum_to}
-use Rattle.dft_base.proofs.SumLemmas.{xor_swap, and_over_xor, sum_same, sum_zero, sum_add}
+use Rattle.dft_base.proofs.SumLemmas.{and_over_xor, sum_same, sum_zero, sum_add}
 
 pub xor_self : (a : Bool) → xor a a ≡ false
 xor_self true = refl

@@ -18,7 +18,7 @@ use Rattle.dft_config.specs.declared.config.Config.{Config}
 use Rattle.dft_rules.specs.declared.judged.Judged.{Judged}
 use Rattle.dft_rules.specs.Rules.{judgements}
 use Rattle.dft_stitch.specs.declared.places.LockupPlace.{LockupPlace}
-use Rattle.dft_stitch.specs.Chains.{domain_at, lockup_between, lockup_after, lockups_of, plan_of}
+use Rattle.dft_stitch.specs.Chains.{domain_at, lockup_between, lockup_after, plan_of}
 use Rattle.dft_stitch.specs.Chains as stitch
 use Rattle.dft_config.specs.Segments.{segment_length, segment_start}
 use Rattle.dft_edt.proofs.Steps.{all_segments}

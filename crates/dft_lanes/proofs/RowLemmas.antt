@@ -3,7 +3,7 @@ use Rattle.std.proofs.Common.{ℕ, Bool, true, false, ◌≡◌, ◌≢◌, ◌<
 use Rattle.std.specs.Prelude.{◌&&◌, ◌||◌, ◌==◌, slice_set, bit_and, bit_or, bit_xor}
 use Rattle.std.specs.Int.{bit_at as bit_of_word, w64}
 use Rattle.std.specs.Simd.Lanes.{zip2}
-use Rattle.std.proofs.lemmas.Bool.{cases_lt, cases_eq}
+use Rattle.std.proofs.lemmas.Bool.{cases_lt, cases_eq, and_left}
 use Rattle.std.proofs.lemmas.Bool.Decides.{nat_tests}
 use Rattle.std.proofs.lemmas.Nat.Bits.{bit_at-zero, bit_at_set_same, bit_at_set_other, shr_and_one}
 use Rattle.std.proofs.lemmas.List.{get_or_past}
@@ -113,13 +113,10 @@ sum_short n m f fits clear =
     let parts : m ≡ n + (m - n) = omega arith in
     ap (λ (k : ℕ). sum_to k f) parts ∙ sum_split n (m - n) f ∙ ap (λ (b : Bool). xor b (sum_to n f)) (sum_zero (m - n) (λ i. f (n + i)) (λ i less. clear (n + i) (omega arith)))
 
-and_zero : (a b : Bool) → a ≡ false → a && b ≡ false
-and_zero a b none = ap (λ (x : Bool). x && b) none
-
 pub parity_sum : (n : ℕ) (a b : List ℕ) → IsPacked n a → IsPacked n b → odd_common a b ≡ sum_over n (bits_of n a) (bit_at (bits_of n b))
 unfolding odd_common
 parity_sum n a b left right =
-    sum_short n (64 * length a) (λ c. packed_bit a c && packed_bit b c) (omega (arith, left.size)) (λ c past. and_zero (packed_bit a c) (packed_bit b c) (left.clear c past))
+    sum_short n (64 * length a) (λ c. packed_bit a c && packed_bit b c) (omega (arith, left.size)) (λ c past. and_left (packed_bit a c) (packed_bit b c) (left.clear c past))
     ∙ sum_same n (λ c. packed_bit a c && packed_bit b c) (λ c. bit_at (bits_of n a) c && bit_at (bits_of n b) c)
     (λ c less t. sym (bits-at a n c left.clear) t && sym (bits-at b n c right.clear) t)
 

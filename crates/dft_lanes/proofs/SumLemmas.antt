@@ -1,7 +1,6 @@
 -- Sums of bits.
-use Rattle.std.proofs.Common.{ℕ, zero, suc, Bool, true, false, ◌≡◌, ◌<◌, ◌+◌, refl, ap, arith, ◌∙◌}
+use Rattle.std.proofs.Common.{ℕ, zero, suc, Bool, ◌≡◌, ◌+◌, ap, arith, ◌∙◌}
 use Rattle.dft_base.specs.Solutions.{xor, sum_to}
-use Rattle.dft_base.proofs.SumLemmas.{xor_swap}
 
 xor_assoc : (a b c : Bool) → xor a (xor b c) ≡ xor (xor a b) c
 xor_assoc = grind arith

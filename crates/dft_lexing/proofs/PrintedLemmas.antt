@@ -1,12 +1,10 @@
 -- Runs of bytes of which names are made.
 use Rattle.std.proofs.Common.{◌≡◌, ℕ, ◌+◌, ◌<◌, ◌≤◌, take, Bool, true, false, cond, length-take, sym, subst, arith}
 use Rattle.std.specs.List.{All, prefix_len}
-use Rattle.std.proofs.lemmas.Bool.Decides.{nat_tests}
 use Rattle.std.proofs.lemmas.List.{get_or-take}
 use Rattle.std.proofs.lemmas.List.Sums.{prefix_len_passes}
 use Rattle.dft_base.specs.Lexing.{Text}
 use Rattle.dft_base.proofs.TextLemmas.{IsPrinted}
-use Rattle.dft_lexing.specs.Blanks.{is_printed}
 
 -- each byte of such a run passes
 pub run_each : (p : ℕ → Bool) → ((b : ℕ) → p b ≡ true → IsPrinted b) → (text : Text) (n : ℕ) → n ≤ prefix_len p text → All (λ b. (33 ≤ b) × (b ≤ 126)) (take n text)

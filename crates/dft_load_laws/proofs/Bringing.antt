@@ -1,5 +1,5 @@
 -- Which cubes loads bring.
-use Rattle.std.proofs.Common.{ℕ, zero, suc, ◌*◌, ◌≡◌, ◌==◌, ◌⊎◌, inl, inr, Bool, true, false, List, [], ◌∷◌, Option, None, Some, is_none, option_and_then, slice_get, unwrap_or, refl, sym, ap, ap₂, subst, arith, ◌∙◌}
+use Rattle.std.proofs.Common.{ℕ, zero, suc, ◌*◌, ◌≡◌, ◌==◌, ◌⊎◌, inl, inr, Bool, true, false, List, [], ◌∷◌, Option, None, Some, is_none, slice_get, unwrap_or, refl, sym, ap, ap₂, subst, arith, ◌∙◌}
 use Rattle.std.specs.Prelude.{◌&&◌, if◌then◌else◌}
 use Rattle.std.proofs.lemmas.Bool.{eqb-true}
 use Rattle.std.proofs.lemmas.Nat.{div-add-mod'}
@@ -34,6 +34,7 @@ use Rattle.dft_scan_behavior.proofs.Outputs.{one_place}
 use Rattle.dft_scan_behavior.proofs.Reaching.{loads_reach}
 use Rattle.dft_load_laws.specs.Loading.{LoadRun, after_load, LoadsAlways, LoadsOnce, AreRows, rows_of, BitsLoad, IsInto, LoadsSolve, PatternsLoad, PlacedInRuns, UnsolvableInRuns}
 use Rattle.dft_stitch.proofs.LengthLemmas.{chains_fit}
+use Rattle.dft_stitch.proofs.CellPlaces.{chain_of}
 use Rattle.dft_load_laws.proofs.Running.{loads_run}
 use Rattle.dft_load_laws.proofs.Sums.{row_bit, row_is}
 
@@ -105,11 +106,6 @@ scanned_each : (row : InstanceId → Option (List Bool)) (cells : List (Instance
 scanned_each row [] none k given at = absurd (none-some given at)
 scanned_each row (x ∷ cells) none zero given at = ap (λ (g : InstanceId × Bool). is_none (row g.0)) (sym (same_Some x given at)) ∙ (scanned_by row x (first_unscanned row cells) (is_none (row x.0)) none).0
 scanned_each row (x ∷ cells) none (suc k) given at = scanned_each row cells (scanned_by row x (first_unscanned row cells) (is_none (row x.0)) none).1 k given at
-
-chain_of : (chains : List (List InstanceId)) (chain place : ℕ) (cell : InstanceId) (o : Option (List InstanceId)) → slice_get chains chain ≡ o → option_and_then (λ cells. slice_get cells place) o ≡ Some cell →
-    (cells : List InstanceId) × (slice_get chains chain ≡ Some cells) × (slice_get cells place ≡ Some cell)
-chain_of chains chain place cell None at is = absurd (none-some cell is)
-chain_of chains chain place cell (Some cells) at is = (cells, at, is)
 
 -- ---- sums
 

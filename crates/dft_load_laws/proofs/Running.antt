@@ -1,19 +1,16 @@
 -- Each table is carried by some run.
-use Rattle.std.proofs.Common.{ℕ, zero, suc, ◌+◌, ◌-◌, ◌<◌, ◌≤◌, ◌≡◌, ◌==◌, ◌||◌, inl, inr, Bool, true, false, nat_lt, List, [], ◌∷◌, length, Option, None, Some, option_and_then, refl, ap, arith, ◌∙◌}
+use Rattle.std.proofs.Common.{ℕ, zero, suc, ◌+◌, ◌-◌, ◌<◌, ◌≡◌, ◌==◌, ◌||◌, inl, inr, Bool, true, false, nat_lt, List, [], ◌∷◌, length, refl, ap, arith, ◌∙◌}
 use Rattle.std.specs.Prelude.{if◌then◌else◌}
 use Rattle.std.specs.List.{list_any}
-use Rattle.std.proofs.lemmas.Bool.{eqb-true, eq-eqb, cases_lt, or_from}
+use Rattle.std.proofs.lemmas.Bool.{eqb-true, eq-eqb, cases_lt}
 use Rattle.std.proofs.lemmas.Bool.Decides.{nat_tests}
 use Rattle.dft_base.specs.Lexing.{Text}
 use Rattle.dft_base.specs.declared.tri.Tri.{Tri}
 use Rattle.dft_base.specs.declared.tri.Tri.TheVariants.{Zero, One, Unknown}
 use Rattle.dft_base.specs.Tri.{known}
 use Rattle.dft_base.proofs.BitLemmas.{true_false}
-use Rattle.dft_netlist.specs.declared.ids.NetId.{NetId}
-use Rattle.dft_netlist.specs.Connections.{is_input, input_net}
-use Rattle.dft_netlist.specs.Drivers.{driver}
+use Rattle.dft_netlist.specs.Connections.{input_net}
 use Rattle.dft_netlist.specs.Logic.{Ports}
-use Rattle.dft_netlist.specs.Names.{find_net}
 use Rattle.dft_netlist.specs.Netlist.{Netlist}
 use Rattle.dft_netlist.specs.Runs.{Now, Vector, Turn, IsRun}
 use Rattle.dft_netlist.specs.Sound.{bits_of}
@@ -28,8 +25,6 @@ use Rattle.dft_edt.specs.Loads.{CarryTable}
 use Rattle.dft_edt.specs.Vectors.{IsEdtShift, IsClearing, Carries}
 use Rattle.dft_scan_frame.specs.ConfigPorts.{config_ports}
 use Rattle.dft_scan_frame.specs.Statements.{IsReady}
-use Rattle.dft_scan_frame.proofs.Containing.{input_less}
-use Rattle.dft_scan_frame.proofs.Fine.{driver_fine}
 use Rattle.dft_scan_hardware.specs.declared.style.Style.TheVariants.{Edt}
 use Rattle.dft_scan_hardware.specs.Ports.{gap_in}
 use Rattle.dft_scan_equivalence.specs.Agreeing.{ports_in}
@@ -37,7 +32,7 @@ use Rattle.dft_scan_equivalence.proofs.MadeGood.{from_at}
 use Rattle.dft_scan_behavior.specs.EdtVectors.{edt_logic}
 use Rattle.dft_scan_behavior.specs.Facts.{chain_nets, edt_hardware}
 use Rattle.dft_scan_behavior.proofs.EdtUnder.{edt_rank}
-use Rattle.dft_scan_behavior.proofs.PortsDriven.{not_this, not_found, no_clock}
+use Rattle.dft_scan_behavior.proofs.PortsDriven.{no_clock}
 use Rattle.dft_load_laws.specs.Loading.{LoadRun, LoadsRun}
 
 -- ---- names of ports are names of the design's ports

@@ -1,11 +1,11 @@
 -- The sums of placement are what loads bring.
-use Rattle.std.proofs.Common.{ℕ, zero, suc, ◌<◌, ◌≡◌, ◌*◌, ◌∙◌, Bool, false, List, [], ◌∷◌, length, map, refl, sym, ap, ap₂, option_and_then, slice_get, Option, None, Some, unwrap_or, arith}
+use Rattle.std.proofs.Common.{ℕ, zero, suc, ◌<◌, ◌≡◌, ◌*◌, ◌∙◌, Bool, false, List, [], ◌∷◌, length, map, refl, sym, ap, ap₂, slice_get, Some, unwrap_or, arith}
 use Rattle.std.specs.Prelude.{◌&&◌, slice_index}
 use Rattle.std.proofs.lemmas.List.{length-map}
 use Rattle.std.proofs.lemmas.Nat.{div-add-mod'}
 use Rattle.std.proofs.lemmas.List.FromFn.{get_or-map-range_with_len}
 use Rattle.std.proofs.lemmas.Option.{none-some, same_Some, slice_get_within}
-use Rattle.dft_scan_behavior.proofs.Outputs.{HasChain}
+use Rattle.dft_scan_behavior.proofs.Outputs.{HasChain, chain_by}
 use Rattle.dft_base.specs.Solutions.{bit_at, sum_over}
 use Rattle.dft_base.proofs.SumLemmas.{sum_same}
 use Rattle.dft_netlist.specs.declared.ids.InstanceId.{InstanceId}
@@ -35,10 +35,6 @@ row_brings config cycles chain place bits range chain_less place_less =
     ∙ sym (loads_sum config (table_of ring bits) cycles chain place range chain_less place_less)
 
 -- ---- where a cell stands there is a row
-
-chain_by : (chains : List (List InstanceId)) (chain place : ℕ) (cell : InstanceId) (o : Option (List InstanceId)) → slice_get chains chain ≡ o → option_and_then (λ cells. slice_get cells place) o ≡ Some cell → HasChain chains chain place cell
-chain_by chains chain place cell None at is = absurd (none-some cell is)
-chain_by chains chain place cell (Some cells) at is = record { cells = cells; at = at; here = is }
 
 length_at : (chains : List (List InstanceId)) (chain : ℕ) (cells : List InstanceId) → slice_get chains chain ≡ Some cells → slice_index (map length chains) chain ≡ length cells
 length_at [] chain cells at = absurd (none-some cells at)

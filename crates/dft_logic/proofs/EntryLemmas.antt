@@ -6,6 +6,7 @@ use Rattle.dft_base.specs.declared.tri.Tri.{Tri}
 use Rattle.dft_base.specs.declared.tri.Tri.TheVariants.{Zero, One, Unknown}
 use Rattle.dft_base.specs.Tri.{known}
 use Rattle.dft_cells.specs.FlipFlops.{tri_forced, tri_chosen}
+use Rattle.dft_cells.proofs.TriLemmas.{forced_one, chosen_one, chosen_zero}
 use Rattle.dft_netlist.specs.Drivers.{Source, Net, Tied, Loose, nets_of}
 use Rattle.dft_netlist.specs.Logic.{Logic, Force, Scan, reads}
 use Rattle.dft_netlist.specs.Settled.{value_from}
@@ -14,9 +15,9 @@ use Rattle.dft_logic.specs.Needs.{HasAll, chosen_reads, taken_reads, reads_at, f
 use Rattle.dft_logic.specs.Shows.{Shown, still_needs, HasStillReads}
 use Rattle.dft_logic.specs.Entries.{Entry, Keeps, Takes, Follows, Reads, Computes, entry_value, net_entry, source_entry, is_still_source, entry_if, chosen_entry, taken_entry, computed, entry_at, forced_entry, entry_given}
 use Rattle.dft_logic.specs.Laws.{EntryIsNext, PassOfEntries, PassOfNeeded, EntryStays}
-use Rattle.dft_logic.proofs.ReadLemmas.{chosen_low, chosen_high, source_agrees, set_agrees}
+use Rattle.dft_logic.proofs.ReadLemmas.{source_agrees, set_agrees}
 use Rattle.dft_logic.proofs.NeededLemmas.{needed_is_strobe}
-use Rattle.dft_logic.proofs.TakeLemmas.{forced_high, forced_known, origin_is_shown, next_of_strobe}
+use Rattle.dft_logic.proofs.TakeLemmas.{forced_known, origin_is_shown, next_of_strobe}
 use Rattle.dft_logic.proofs.ShownLemmas.{strobe_there, pass_of_shown}
 
 -- ---- an entry that is there
@@ -50,8 +51,8 @@ one_value origin old settled next c still source entry same is =
 chosen_value : (still : Source → Bool) (origin : ℕ → Option ℕ) (old settled : ℕ → Tri) (c : ℕ) (enable : Tri) (scan_in data_in : Source) (entry : Entry) → ((net k : ℕ) → origin net ≡ Some k → settled net ≡ old k) →
     chosen_entry still origin enable scan_in data_in ≡ Some entry →
     entry_value old settled (tri_chosen enable (value_from settled scan_in) (value_from settled data_in)) c entry ≡ tri_chosen enable (value_from settled scan_in) (value_from settled data_in)
-chosen_value still origin old settled c Zero si d entry same is = one_value origin old settled _ c (still d) d entry same is ∙ sym (chosen_low (value_from settled si) (value_from settled d))
-chosen_value still origin old settled c One si d entry same is = one_value origin old settled _ c (still si) si entry same is ∙ sym (chosen_high (value_from settled si) (value_from settled d))
+chosen_value still origin old settled c Zero si d entry same is = one_value origin old settled _ c (still d) d entry same is ∙ sym (chosen_zero (value_from settled si) (value_from settled d))
+chosen_value still origin old settled c One si d entry same is = one_value origin old settled _ c (still si) si entry same is ∙ sym (chosen_one (value_from settled si) (value_from settled d))
 chosen_value still origin old settled c Unknown si d entry same is =
     let next : Tri = tri_chosen Unknown (value_from settled si) (value_from settled d) in
     ap (entry_value old settled next c) (sym (same_entry Computes entry (if_there (still si && still d) (Some Computes) entry is).1))
@@ -72,7 +73,7 @@ pressed_value : (old settled : ℕ → Tri) (c : ℕ) (value : Bool) (port t : T
     entry_value old settled (tri_forced value port t) c entry ≡ tri_forced value port t
 pressed_value old settled c value Zero t found entry is taken =
     ap (entry_value old settled (tri_forced value Zero t) c) (sym (same_entry (Takes (known value)) entry is)) ∙ sym (forced_known value t)
-pressed_value old settled c value One t found entry is taken = subst (λ (n : Tri). entry_value old settled n c entry ≡ n) (sym (forced_high value t)) (taken is)
+pressed_value old settled c value One t found entry is taken = subst (λ (n : Tri). entry_value old settled n c entry ≡ n) (sym (forced_one value t)) (taken is)
 pressed_value old settled c value Unknown t found entry is taken = ap (entry_value old settled (tri_forced value Unknown t) c) (sym (computes found entry is))
 
 forced_value : (old settled : ℕ → Tri) (c : ℕ) (force : Option Force) (ports : ℕ → Tri) (t : Tri) (found : Option Entry) (entry : Entry) → forced_entry force ports found ≡ Some entry →

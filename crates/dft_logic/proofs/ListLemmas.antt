@@ -1,6 +1,5 @@
 -- Lists settle in their order.
 use Rattle.std.proofs.Common.{ℕ, Bool, true, false, List, [], ◌∷◌, ◌≡◌, ◌==◌, ◌⊎◌, inl, inr, refl, sym, ap, subst, ◌∙◌}
-use Rattle.std.specs.Prelude.{◌||◌}
 use Rattle.std.proofs.lemmas.Bool.{eqb-true, cases_Bool, or_left, or_right, or_cases}
 use Rattle.dft_base.specs.declared.tri.Tri.{Tri}
 use Rattle.dft_netlist.specs.Logic.{Logic, Meaning, reads}

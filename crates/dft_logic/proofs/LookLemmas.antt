@@ -1,11 +1,11 @@
 -- The values of nets at a strobe, from all nets or from those that they are settled from.
-use Rattle.std.proofs.Common.{ℕ, Bool, true, List, [], ◌∷◌, ◌≡◌, ◌<◌, length, map, refl}
+use Rattle.std.proofs.Common.{ℕ, Bool, true, List, ◌≡◌, ◌<◌, length, map}
 use Rattle.dft_base.specs.declared.tri.Tri.{Tri}
 use Rattle.dft_netlist.specs.declared.ids.NetId.{NetId}
 use Rattle.dft_netlist.specs.Logic.{reads}
 use Rattle.dft_netlist.specs.Orders.{Has, numbers_of}
 use Rattle.dft_logic.specs.declared.circuit.Circuit.{Circuit}
-use Rattle.dft_logic.specs.Needs.{HasAll, IsStrobeClosed, IsStrobeOn, IsStrobe, AreSeen}
+use Rattle.dft_logic.specs.Needs.{IsStrobeClosed, IsStrobeOn, IsStrobe, AreSeen}
 use Rattle.dft_logic.specs.Values.{value_at}
 use Rattle.dft_logic.specs.Circuit.{logic_at, flag_at, IsCircuit}
 use Rattle.dft_logic.specs.Ranks.{rank_of}

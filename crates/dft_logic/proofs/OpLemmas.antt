@@ -19,6 +19,7 @@ use Rattle.dft_netlist.specs.Sound.{IsNetlist, IsCellOf, is_primitive}
 use Rattle.dft_netlist.specs.Netlist.{Netlist}
 use Rattle.dft_netlist.specs.Drivers.{Source, Connection, source_of, is_input, inputs_of, gate_roles, shape_of_cell, shape_of, connections_from, driver_of_kind, driver, kind_of, kind_at, pins_at, pins_of}
 use Rattle.dft_netlist.specs.Logic.{Ports, Cell, Meaning, Gate, Lockup, Free, Input, Clock, Joined, Flop, same_role, pin_of, or_loose, domain_at, forcing, scan_of, modelled, modelled_of, flip_flop, lockup_meaning, flop_meaning, meaning_of}
+use Rattle.dft_netlist.proofs.SettledLemmas.{no_flop}
 use Rattle.dft_logic.specs.declared.circuit.Op.{Op}
 use Rattle.dft_logic.specs.declared.circuit.Op.TheVariants as op
 use Rattle.dft_logic.specs.Circuit.{source_at, meaning, Fits}
@@ -89,10 +90,6 @@ meaning_same n ports net i inverted kind.Tie1 e = gate_same kind.Tie1 i (pins_of
 lockup_is : (i : ℕ) (domain : Option ℕ) (src : Source) (c e : ℕ) (source : Source) → lockup_meaning i domain src ≡ Lockup c e source → (i ≡ c) × (with_source src domain ≡ Some (e, source))
 lockup_is i None src c e source h = absurd cc
 lockup_is i (Some d) src c e source h = (let a : i ≡ c = cc in a, let b : d ≡ e = cc in let s : src ≡ source = cc in λ t. Some (b t, s t))
-
-no_flop : (i : ℕ) (inverted : Bool) (cell : Option Cell) (c e : ℕ) (source : Source) → flop_meaning i inverted cell ≡ Lockup c e source → ⊥
-no_flop i inverted None c e source h = cc
-no_flop i inverted (Some cell) c e source h = cc
 
 no_gate : (k : Kind) (inputs : List Source) (c e : ℕ) (source : Source) → Gate k inputs ≡ Lockup c e source → ⊥
 no_gate k inputs c e source h = cc

@@ -3,12 +3,12 @@ use Rattle.std.proofs.Common.{ℕ, Bool, true, false, List, [], ◌∷◌, ◌�
 use Rattle.std.specs.Prelude.{◌||◌, if◌then◌else◌}
 use Rattle.std.proofs.Math.Dec.{leb}
 use Rattle.std.proofs.lemmas.Bool.Decides.{leb_tells}
-use Rattle.std.proofs.lemmas.List.{get_or_past, length-map}
+use Rattle.std.proofs.lemmas.List.{get_or_past}
 use Rattle.std.proofs.lemmas.Bool.{or_left, or_right}
 use Rattle.dft_base.specs.declared.tri.Tri.{Tri}
 use Rattle.dft_base.specs.declared.tri.Tri.TheVariants.{Zero, One, Unknown}
 use Rattle.dft_netlist.specs.Drivers.{Source, Net, Tied, Loose, nets_of}
-use Rattle.dft_netlist.specs.Logic.{Cell, Force, Scan, reads, no_cell}
+use Rattle.dft_netlist.specs.Logic.{Cell, Force, Scan, reads}
 use Rattle.dft_netlist.specs.Settled.{value_from, value_given}
 use Rattle.dft_netlist.specs.Orders.{Has}
 use Rattle.dft_abstract.specs.Cycle.{Pulse, IsLeast, after_pulse}
@@ -19,7 +19,6 @@ use Rattle.dft_logic.specs.Entries.{Entry, Keeps, Takes, Follows, Reads, Compute
 use Rattle.dft_logic.specs.declared.circuit.Op.{Op}
 use Rattle.dft_logic.specs.declared.circuit.Op.TheVariants.{Free}
 use Rattle.dft_logic.specs.declared.circuit.Circuit.{Circuit}
-use Rattle.dft_logic.specs.declared.circuit.FlipFlop.{FlipFlop}
 use Rattle.dft_logic.specs.Values.{value_at}
 use Rattle.dft_logic.specs.Circuit.{meaning, op_at, logic_at, cell_of, cell_at, flag_at, IsCircuit}
 use Rattle.dft_logic.specs.Circuit.{next_at}

@@ -6,6 +6,7 @@ use Rattle.dft_base.specs.declared.tri.Tri.TheVariants.{Zero, One, Unknown}
 use Rattle.dft_base.specs.Tri.{known}
 use Rattle.dft_cells.specs.Gates.{tri_of}
 use Rattle.dft_cells.specs.FlipFlops.{tri_forced, tri_chosen}
+use Rattle.dft_cells.proofs.TriLemmas.{chosen_one, chosen_zero}
 use Rattle.dft_netlist.specs.Drivers.{Source, Net, Tied, Loose, nets_of, AreBelow}
 use Rattle.dft_netlist.specs.Logic.{Logic, Cell, Force, Scan, Meaning, Input, Clock, Gate, Joined, Flop, Lockup, Free, reads, IsRanked}
 use Rattle.dft_netlist.specs.Settled.{TriSources, value_from, value_given}
@@ -83,29 +84,6 @@ needed_agrees l rank t s needs v w ranked closed tv sw ports clocks flops lockup
 
 -- ---- next values
 
--- where the scan enable is 0 a scan cell takes D, and where it is 1 SI
-pub chosen_low : (s d : Tri) → tri_chosen Zero s d ≡ d
-chosen_low Zero Zero = refl
-chosen_low Zero One = refl
-chosen_low Zero Unknown = refl
-chosen_low One Zero = refl
-chosen_low One One = refl
-chosen_low One Unknown = refl
-chosen_low Unknown Zero = refl
-chosen_low Unknown One = refl
-chosen_low Unknown Unknown = refl
-
-pub chosen_high : (s d : Tri) → tri_chosen One s d ≡ s
-chosen_high Zero Zero = refl
-chosen_high Zero One = refl
-chosen_high Zero Unknown = refl
-chosen_high One Zero = refl
-chosen_high One One = refl
-chosen_high One Unknown = refl
-chosen_high Unknown Zero = refl
-chosen_high Unknown One = refl
-chosen_high Unknown Unknown = refl
-
 -- a reset or set whose port is 0 leaves its value
 forced_low : (value : Bool) (t u : Tri) → tri_forced value Zero t ≡ tri_forced value Zero u
 forced_low false Zero Zero = refl
@@ -129,8 +107,8 @@ forced_low true Unknown Unknown = refl
 
 chosen_agrees : (enable : Tri) (v w : ℕ → Tri) (scan_in data_in : Source) → Agree v w (nets_of (chosen_reads enable scan_in data_in)) →
     tri_chosen enable (value_from v scan_in) (value_from v data_in) ≡ tri_chosen enable (value_from w scan_in) (value_from w data_in)
-chosen_agrees Zero v w si d same = chosen_low (value_from v si) (value_from v d) ∙ source_agrees v w d same ∙ sym (chosen_low (value_from w si) (value_from w d))
-chosen_agrees One v w si d same = chosen_high (value_from v si) (value_from v d) ∙ source_agrees v w si same ∙ sym (chosen_high (value_from w si) (value_from w d))
+chosen_agrees Zero v w si d same = chosen_zero (value_from v si) (value_from v d) ∙ source_agrees v w d same ∙ sym (chosen_zero (value_from w si) (value_from w d))
+chosen_agrees One v w si d same = chosen_one (value_from v si) (value_from v d) ∙ source_agrees v w si same ∙ sym (chosen_one (value_from w si) (value_from w d))
 chosen_agrees Unknown v w si d same =
     let s : value_from v si ≡ value_from w si = source_agrees v w si (first_agrees v w si (d ∷ []) same) in
     let t : value_from v d ≡ value_from w d = source_agrees v w d (rest_agree v w si (d ∷ []) same) in

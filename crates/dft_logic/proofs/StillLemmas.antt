@@ -3,8 +3,8 @@ use Rattle.std.proofs.Common.{ℕ, Bool, true, false, ◌≡◌, ◌==◌, refl,
 use Rattle.std.specs.Prelude.{if◌then◌else◌}
 use Rattle.dft_base.specs.declared.tri.Tri.{Tri}
 use Rattle.dft_base.specs.declared.tri.Tri.TheVariants.{Zero, Unknown}
-use Rattle.dft_base.specs.Tri.{AboveTri, join}
-use Rattle.dft_cells.proofs.Completions.{above_self, join_least, join_over_left, join_over_right}
+use Rattle.dft_base.specs.Tri.{AboveTri}
+use Rattle.dft_cells.proofs.Completions.{above_self, join_least, join_over_right}
 use Rattle.dft_netlist.specs.Drivers.{nets_of}
 use Rattle.dft_netlist.specs.Logic.{Logic, Meaning, Clock, Flop}
 use Rattle.dft_netlist.specs.Settled.{value_from}

@@ -1,23 +1,15 @@
 -- Tables of lists grow by one number at a time.
-use Rattle.std.proofs.Common.{ℕ, zero, suc, List, [], ◌∷◌, ◌++◌, ◌≡◌, ◌≢◌, ◌<◌, ◌≤◌, ◌+◌, ◌⊎◌, inl, inr, length, map, drop, drop-cons, add-one, length-set, refl, sym, ap, ◌∙◌, subst, get_or, slice_set, get_or-set_same, get_or-set_other, replicate, arith}
+use Rattle.std.proofs.Common.{ℕ, zero, suc, List, [], ◌∷◌, ◌++◌, ◌≡◌, ◌≢◌, ◌<◌, ◌≤◌, ◌+◌, inl, inr, length, map, drop, drop-cons, add-one, length-set, refl, sym, ap, ◌∙◌, subst, get_or, slice_set, get_or-set_same, get_or-set_other, replicate, arith}
 use Rattle.std.proofs.lemmas.Bool.Decides.{eqb_tells}
 use Rattle.std.proofs.lemmas.List.{drop_all, length-replicate}
 use Rattle.dft_netlist.specs.Drivers.{Source, Net, Tied, Loose, nets_of}
 use Rattle.dft_netlist.specs.Orders.{Has}
-use Rattle.dft_netlist.proofs.StandLemmas.{has_left}
+use Rattle.dft_netlist.proofs.StandLemmas.{has_left, has_right, has_either}
 use Rattle.dft_logic.specs.declared.circuit.Operand.{Operand}
 use Rattle.dft_logic.specs.Circuit.{source_at}
 use Rattle.dft_logic.specs.Tables.{list_at, IsAdded, IsTable}
 
 -- ---- the numbers of two lists
-
-pub has_right : (xs ys : List ℕ) (k : ℕ) → Has ys k → Has (xs ++ ys) k
-has_right [] ys k h = h
-has_right (x ∷ xs) ys k h = inr (has_right xs ys k h)
-
-pub has_either : (xs ys : List ℕ) (k : ℕ) → Has (xs ++ ys) k → Has xs k ⊎ Has ys k
-has_either [] ys k h = inr h
-has_either (x ∷ xs) ys k h = elim h [ inl e ↦ inl (inl e) | inr more ↦ elim (has_either xs ys k more) [ inl left ↦ inl (inr left) | inr right ↦ inr right ] ]
 
 -- ---- a number more
 

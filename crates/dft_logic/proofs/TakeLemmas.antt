@@ -4,6 +4,7 @@ use Rattle.dft_base.specs.declared.tri.Tri.{Tri}
 use Rattle.dft_base.specs.declared.tri.Tri.TheVariants.{Zero, One, Unknown}
 use Rattle.dft_base.specs.Tri.{known}
 use Rattle.dft_cells.specs.FlipFlops.{tri_forced, tri_chosen}
+use Rattle.dft_cells.proofs.TriLemmas.{forced_one, chosen_one, chosen_zero}
 use Rattle.dft_netlist.specs.Drivers.{Source, Net, Tied, Loose, nets_of, AreBelow}
 use Rattle.dft_netlist.specs.Logic.{Logic, Force, Scan, Meaning, Input, Clock, Gate, Joined, Flop, Lockup, Free, reads, IsRanked}
 use Rattle.dft_netlist.specs.Settled.{value_from, value_given}
@@ -11,7 +12,7 @@ use Rattle.dft_abstract.specs.Cycle.{tri_forced_by, tri_taken_by}
 use Rattle.dft_logic.specs.Needs.{strobe_from, IsStrobe, next_reads}
 use Rattle.dft_logic.specs.Takes.{chosen_source, taken_source, source_at, forced_source, origin_of, origin_given, AreOrigins}
 use Rattle.dft_logic.specs.Laws.{NextOfStrobe, NextOfSource, NextOfForce, OriginIsShown}
-use Rattle.dft_logic.proofs.ReadLemmas.{chosen_low, chosen_high, next_agrees, set_agrees}
+use Rattle.dft_logic.proofs.ReadLemmas.{next_agrees, set_agrees}
 use Rattle.dft_logic.proofs.NeededLemmas.{needed_is_strobe}
 
 pub next_of_strobe : NextOfStrobe
@@ -25,19 +26,13 @@ same_source : (v : ℕ → Tri) (found source : Source) → Some found ≡ Some 
 same_source v found source is = let e : found ≡ source = cc in ap (value_from v) e
 
 chosen_is : (enable : Tri) (v : ℕ → Tri) (scan_in data_in source : Source) → chosen_source enable scan_in data_in ≡ Some source → tri_chosen enable (value_from v scan_in) (value_from v data_in) ≡ value_from v source
-chosen_is Zero v si d source is = chosen_low (value_from v si) (value_from v d) ∙ same_source v d source is
-chosen_is One v si d source is = chosen_high (value_from v si) (value_from v d) ∙ same_source v si source is
+chosen_is Zero v si d source is = chosen_zero (value_from v si) (value_from v d) ∙ same_source v d source is
+chosen_is One v si d source is = chosen_one (value_from v si) (value_from v d) ∙ same_source v si source is
 chosen_is Unknown v si d source is = absurd cc
 
 taken_is : (scan : Option Scan) (v : ℕ → Tri) (data_in source : Source) → taken_source scan (value_from v) data_in ≡ Some source → tri_taken_by scan (value_from v) (value_from v data_in) ≡ value_from v source
 taken_is None v d source is = same_source v d source is
 taken_is (Some scan) v d source is = chosen_is (value_from v scan.enable) v scan.input d source is
-
--- a reset or set whose port is 1 lets all through, and one whose port is 0 leaves its value
-pub forced_high : (value : Bool) (t : Tri) → tri_forced value One t ≡ t
-forced_high value Zero = refl
-forced_high value One = refl
-forced_high value Unknown = refl
 
 pub forced_known : (value : Bool) (t : Tri) → tri_forced value Zero t ≡ known value
 forced_known false Zero = refl
@@ -49,7 +44,7 @@ forced_known true Unknown = refl
 
 pressed_is : (value : Bool) (port t u : Tri) (found : Option Source) (source : Source) → source_at port found ≡ Some source → (found ≡ Some source → t ≡ u) → tri_forced value port t ≡ u
 pressed_is value Zero t u found source is taken = absurd cc
-pressed_is value One t u found source is taken = forced_high value t ∙ taken is
+pressed_is value One t u found source is taken = forced_one value t ∙ taken is
 pressed_is value Unknown t u found source is taken = absurd cc
 
 forced_is : (force : Option Force) (ports : ℕ → Tri) (t u : Tri) (found : Option Source) (source : Source) → forced_source force ports found ≡ Some source → (found ≡ Some source → t ≡ u) → tri_forced_by force ports t ≡ u

@@ -1,5 +1,5 @@
 -- The pins of an instance, one after another.
-use Rattle.std.proofs.Common.{ℕ, zero, suc, Bool, false, List, [], ◌∷◌, ◌≡◌, ◌<◌, ◌≤◌, ◌+◌, ◌++◌, None, Some, length, map, drop, drop-cons, add-one, refl, sym, ap, ◌∙◌, subst, get_or, slice_get, append_assoc, arith}
+use Rattle.std.proofs.Common.{ℕ, zero, suc, Bool, false, List, [], ◌∷◌, ◌≡◌, ◌<◌, ◌≤◌, ◌+◌, ◌++◌, None, Some, length, map, drop, add-one, refl, sym, ap, ◌∙◌, subst, get_or, slice_get, append_assoc, arith}
 use Rattle.std.specs.Prelude.{if◌then◌else◌}
 use Rattle.std.proofs.lemmas.List.{get_or_default, drop_all, drop_more}
 use Rattle.std.proofs.lemmas.Option.{get_or_from_slice_get, slice_get-get_or}

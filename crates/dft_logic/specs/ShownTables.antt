@@ -1,6 +1,6 @@
 -- What nets show, as a table.
 use Rattle.std.specs.Prelude.{ℕ, Bool, List, slice_index_or}
-use Rattle.dft_netlist.specs.Logic.{Logic, Cell, Meaning}
+use Rattle.dft_netlist.specs.Logic.{Cell, Meaning}
 use Rattle.dft_netlist.specs.Logic as meanings
 use Rattle.dft_logic.specs.Shows.{shown_given}
 use Rattle.dft_logic.specs.Shows as shows

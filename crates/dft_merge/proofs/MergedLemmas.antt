@@ -50,10 +50,6 @@ differ_of number (x ∷ xs) once = (
   differ_of number xs (λ j k a b at_j at_k same. (let e = once (suc j) (suc k) a b at_j at_k same in omega (arith, e))),
 )
 
-some_bit : {A : Type 0} (t : Bool) (b : A) (o : Option A) → t ≡ true → cond t (Some b) o ≡ Some b
-some_bit true b o is = refl
-some_bit false b o is = absurd cc
-
 rest_none : {A : Type 0} (t : Bool) (b : A) (o : Option A) → cond t (Some b) o ≡ None → o ≡ None
 rest_none true b o h = absurd (none-some b (sym h))
 rest_none false b o h = h

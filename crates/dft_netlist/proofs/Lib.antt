@@ -29,3 +29,5 @@ pub mod NewNames
 pub mod FirstTaken
 pub mod PortNames
 pub mod PortLemmas
+pub mod SettledLemmas
+pub mod LiveDriven

@@ -91,3 +91,7 @@ signal_there n i x r sound at (Some s) is = signal_live (length n.nets) 0 r (sha
 
 pub no_signal : (n : Netlist) (i : ℕ) (r : Role) → length n.instances ≤ i → None ≡ signal_of r (pins_of n i)
 no_signal n i r past = ap (λ (o : Option Instance). signal_of r (pins_at n.library o)) (sym (slice_get_past n.instances i past))
+
+pub length-gate_roles : (n : ℕ) → length (gate_roles n) ≡ suc n
+length-gate_roles zero = refl
+length-gate_roles (suc n) = ap suc (length-gate_roles n)

@@ -1,5 +1,5 @@
 -- A netlist with one port more stays sound.
-use Rattle.std.proofs.Common.{◌≡◌, ℕ, zero, suc, ◌+◌, ◌<◌, ◌≤◌, List, [], ◌∷◌, ◌++◌, length, Option, None, Some, refl, sym, ◌∙◌, ap, subst, arith, ◌⊎◌, inl, inr, slice_get, append_assoc, append-nil, length-append}
+use Rattle.std.proofs.Common.{◌≡◌, ℕ, zero, suc, ◌+◌, ◌<◌, ◌≤◌, List, [], ◌∷◌, ◌++◌, length, Option, None, Some, refl, sym, ◌∙◌, ap, subst, arith, ◌⊎◌, inl, inr, append_assoc, append-nil, length-append}
 use Rattle.dft_netlist.specs.declared.ids.NetId.{NetId}
 use Rattle.dft_netlist.specs.declared.named.Named.{Named}
 use Rattle.dft_netlist.specs.declared.named.Named.TheVariants.{Net as ANet, Vector, Instance as AnInstance}
@@ -150,3 +150,7 @@ port_sound es n port s is short only k few room numbers =
       instances = λ i x at. instance_more n.library (length n.nets) _ more x.name x.cell x.pins (s.instances i x at);
       joins = λ j x at. join_more (length n.nets) _ more x.target x.source (s.joins j x at);
     }
+
+pub bits_behind : (ports : List Port) (port : Port) → length (bits_of (ports ++ port ∷ [])) ≡ length (bits_of ports) + length port.bits
+bits_behind [] port = omega (arith, length-append port.bits [])
+bits_behind (p ∷ ports) port = omega (arith, length-append p.bits (bits_of (ports ++ port ∷ [])), length-append p.bits (bits_of ports), bits_behind ports port)

@@ -4,9 +4,9 @@ use Rattle.std.specs.Prelude.{if◌then◌else◌}
 use Rattle.dft_cells.specs.declared.kind.Role.{Role}
 use Rattle.dft_cells.specs.declared.kind.Role.TheVariants.{Input, Clock, Din, Reset, Preset, ScanIn, ScanEnable, Output, Inverted}
 use Rattle.dft_netlist.specs.Netlist.{Netlist}
-use Rattle.dft_netlist.specs.Drivers.{Source, Net, Tied, Loose, Driver, Connection, source_of, pins_of, driver, nets_of, nets_read, is_lockup_input, lockup_inputs, AreBelow, IsOrdered}
+use Rattle.dft_netlist.specs.Drivers.{Source, Net, Tied, Loose, Driver, Connection, source_of, pins_of, driver, nets_of, nets_read, is_lockup_input, lockup_inputs, AreBelow}
 use Rattle.dft_netlist.specs.Drivers as drivers
-use Rattle.dft_netlist.specs.Logic.{Ports, Cell, Meaning, same_role, pin_of, or_loose, domain_at, flip_flop, flop_meaning, lockup_meaning, meaning_of, logic_of, reads}
+use Rattle.dft_netlist.specs.Logic.{Ports, Cell, same_role, pin_of, or_loose, domain_at, flip_flop, flop_meaning, lockup_meaning, meaning_of, reads}
 use Rattle.dft_netlist.specs.Logic as meanings
 use Rattle.dft_netlist.specs.Laws.{OrderIsRank}
 

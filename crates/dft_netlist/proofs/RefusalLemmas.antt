@@ -1,7 +1,6 @@
 -- Why a builder's call is refused.
 use Rattle.std.proofs.Common.{◌≡◌, Err, ℕ, ◌+◌, ◌<◌, ◌≤◌, Bool, true, false, cond, length, Option, None, Some, refl, arith, pos}
 use Rattle.std.specs.Prelude.{nat_le}
-use Rattle.std.proofs.lemmas.Bool.Decides.{nat_tests}
 use Rattle.std.proofs.lemmas.Bool.{le-leb, lt-leb, leb-true}
 use Rattle.dft_netlist.specs.declared.error.Counted.TheVariants.{Nets, Instances}
 use Rattle.dft_netlist.specs.declared.error.NetlistError.{NetlistError}
@@ -94,3 +93,13 @@ own_taken n q h = rw h refl
 
 pub own_free : (n : Netlist) (q : Text) → is_taken n q ≡ false → taken_or (first_taken n (own_names (Some q))) None ≡ None
 own_free n q h = rw h refl
+
+pub room_by : (taken room : Bool) (x y : NetlistError) → taken ≡ false → room ≡ true → cond taken (Some x) (cond room None (Some y)) ≡ None
+room_by true room x y p q = absurd (cc)
+room_by false true x y p q = refl
+room_by false false x y p q = absurd (cc)
+
+pub limit_by : (a b : Bool) (x y : NetlistError) → a ≡ true → b ≡ true → cond a (cond b None (Some x)) (Some y) ≡ None
+limit_by true true x y p q = refl
+limit_by true false x y p q = absurd (cc)
+limit_by false b x y p q = absurd (cc)

@@ -1,6 +1,7 @@
 -- A netlist that grows stays sound.
-use Rattle.std.proofs.Common.{◌≡◌, ℕ, ◌<◌, ◌≤◌, List, [], ◌∷◌, ◌++◌, length, Option, None, Some, refl, sym, ◌∙◌, ap, subst, arith, ◌⊎◌, inl, inr, slice_get, slice_set, append_assoc, length-append, length-set}
+use Rattle.std.proofs.Common.{◌≡◌, ℕ, ◌<◌, ◌≤◌, List, [], ◌∷◌, ◌++◌, length, Option, None, Some, refl, sym, ◌∙◌, ap, subst, arith, ◌⊎◌, inl, inr, slice_get, slice_set, append_assoc, length-append, length-set, zero, suc}
 use Rattle.std.specs.Option.{option_and_then}
+use Rattle.std.proofs.lemmas.Option.{same_Some}
 use Rattle.dft_cells.specs.declared.cell.Cell.{Cell}
 use Rattle.dft_netlist.specs.declared.ids.NetId.{NetId}
 use Rattle.dft_netlist.specs.declared.named.Named.{Named}
@@ -16,7 +17,7 @@ use Rattle.dft_netlist.specs.Building.{empty_netlist, with_pin}
 use Rattle.dft_base.specs.Name.{IsName}
 use Rattle.dft_netlist.specs.Names.{HasNames, IsNameIfAny, Names, instance_name}
 use Rattle.dft_netlist.specs.NameTables.{Entry, look_up, Knows, own_entries, IsFree}
-use Rattle.dft_netlist.specs.Sound.{IsLive, IsInstance, IsInstanceOf, IsAJoin, IsJoinOf, IsNetlist, Begins}
+use Rattle.dft_netlist.specs.Sound.{IsLive, IsInstance, IsInstanceOf, IsAJoin, IsJoinOf, IsNetlist, Begins, AreLive}
 use Rattle.dft_base.specs.Lexing.{Text}
 use Rattle.dft_base.proofs.ListLemmas.{get_left}
 use Rattle.dft_netlist.proofs.Places.{get_push, push_cases, shown_left, shown_push, shown_cases, set_cases, shown_set}
@@ -287,3 +288,10 @@ pin_sound es n id pin instance net at live s k = record {
   ];
   joins = s.joins;
 }
+
+pub live_none : (count : ℕ) → AreLive count []
+live_none count place s at = absurd (cc)
+
+pub live_cons : (all : ℕ) (x : Signal) (xs : List Signal) → IsLive all x → AreLive all xs → AreLive all (x ∷ xs)
+live_cons all x xs here more zero s at = subst (IsLive all) (same_Some x s at) here
+live_cons all x xs here more (suc place) s at = more place s at

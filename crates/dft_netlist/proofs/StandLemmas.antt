@@ -1,8 +1,8 @@
 -- An order that is being made: a net is met, a net is placed, a net is met again.
-use Rattle.std.proofs.Common.{◌≡◌, ℕ, zero, suc, ◌+◌, ◌-◌, ◌<◌, Bool, true, false, cond, List, [], ◌∷◌, ◌++◌, length, take, Option, None, Some, refl, sym, ◌∙◌, ap, subst, arith, slice_get, slice_set, ◌⊎◌, inl, inr, length-set, length-append, true≢false, ◌==◌, replicate}
+use Rattle.std.proofs.Common.{◌≡◌, ℕ, zero, suc, ◌+◌, ◌-◌, ◌<◌, Bool, true, false, cond, List, [], ◌∷◌, ◌++◌, length, take, Option, None, Some, refl, sym, ◌∙◌, ap, subst, arith, slice_get, slice_set, ◌⊎◌, inl, inr, length-set, length-append, true≢false, replicate}
 use Rattle.std.specs.List.{AllByRecursion}
 use Rattle.std.proofs.lemmas.Option.{slice_get_within}
-use Rattle.std.proofs.lemmas.Bool.{eqb-true, eqb-false, cases_eq}
+use Rattle.std.proofs.lemmas.Bool.{cases_eq}
 use Rattle.dft_netlist.specs.declared.ids.NetId.{NetId}
 use Rattle.dft_netlist.specs.declared.progress.State.{State}
 use Rattle.dft_netlist.specs.declared.progress.State.TheVariants.{New, Walked, Placed}
@@ -162,10 +162,6 @@ chain_tail n start s net (b ∷ w) h = h.1
 -- the walk without its last net
 pub record Popped (walk : List NetId) (net : NetId) : Type 0 where
   pub same : back_of walk ≡ net.0 ∷ back_of (take (length walk - 1) walk)
-
-take_all : (walk : List NetId) (net : NetId) → take (length walk) (walk ++ net ∷ []) ≡ walk
-take_all [] net = refl
-take_all (x ∷ walk) net = ap (λ xs. x ∷ xs) (take_all walk net)
 
 last_split : (walk : List NetId) (net : NetId) → slice_get walk (length walk - 1) ≡ Some net → walk ≡ take (length walk - 1) walk ++ net ∷ []
 last_split [] net h = absurd (let f : ⊥ = cc in f)
@@ -428,3 +424,11 @@ whole n count s is b =
 
 pub order_orderable : (n : Netlist) (order : List ℕ) → IsOrder n order → (net : ℕ) → net < length n.nets → IsOrderable n net
 order_orderable n order o net lt = orderable_from n [] order (λ j never. absurd never) o.after net (o.whole net lt)
+
+pub has_right : (xs ys : List ℕ) (k : ℕ) → Has ys k → Has (xs ++ ys) k
+has_right [] ys k h = h
+has_right (x ∷ xs) ys k h = inr (has_right xs ys k h)
+
+pub has_either : (xs ys : List ℕ) (k : ℕ) → Has (xs ++ ys) k → Has xs k ⊎ Has ys k
+has_either [] ys k h = inr h
+has_either (x ∷ xs) ys k h = elim h [ inl e ↦ inl (inl e) | inr more ↦ elim (has_either xs ys k more) [ inl left ↦ inl (inr left) | inr right ↦ inr right ] ]

@@ -5,7 +5,7 @@ use Rattle.dft_cells.specs.declared.kind.Role.{Role}
 use Rattle.dft_cells.specs.declared.kind.Role.TheVariants as role
 use Rattle.dft_cells.specs.FlipFlops.{is_flip_flop}
 use Rattle.dft_netlist.specs.Netlist.{Netlist}
-use Rattle.dft_netlist.specs.Drivers.{Source, Net, Tied, Loose, Driver, Connection, source_of, pins_of, kind_at, driver, nets_of, AreBelow}
+use Rattle.dft_netlist.specs.Drivers.{Source, Loose, Driver, Connection, source_of, pins_of, kind_at, driver, nets_of, AreBelow}
 use Rattle.dft_netlist.specs.Drivers as drivers
 use Rattle.dft_netlist.specs.Traces.{Root, Port, Constant, Other, root_of}
 

@@ -10,7 +10,7 @@ use Rattle.dft_netlist.specs.declared.instance.Signal.TheVariants.{Net}
 use Rattle.dft_netlist.specs.declared.net_driver.NetDriver.{NetDriver}
 use Rattle.dft_netlist.specs.declared.net_driver.NetDriver.TheVariants.{Input, Pin, Join as AJoin, Nothing}
 use Rattle.dft_netlist.specs.Netlist.{Netlist}
-use Rattle.dft_netlist.specs.Drivers.{Driver, Connection, Joined, Free, driver_of_kind, inputs_of, shape_of, source_of, kind_at, pins_of, all_driven}
+use Rattle.dft_netlist.specs.Drivers.{Driver, Joined, Free, driver_of_kind, inputs_of, shape_of, source_of, kind_at, pins_of, all_driven}
 use Rattle.dft_netlist.specs.Drivers as drivers
 use Rattle.dft_netlist.specs.Sound.{is_output}
 

@@ -1,5 +1,5 @@
 -- Concatenations by both rules.
-use Rattle.std.proofs.Common.{◌≡◌, ◌⊎◌, inl, inr, ℕ, zero, suc, ◌+◌, ◌-◌, ◌≤◌, Bool, true, false, cond, List, [], length, drop, Ok, Err, refl, sym, ap, subst, ◌∙◌, arith}
+use Rattle.std.proofs.Common.{◌≡◌, ◌⊎◌, inl, inr, ℕ, zero, suc, ◌+◌, ◌-◌, ◌≤◌, Bool, true, false, List, [], length, drop, Ok, Err, refl, sym, ap, subst, ◌∙◌, arith}
 use Rattle.dft_base.specs.Parser.{and_then}
 use Rattle.dft_netlist_text.specs.declared.text.Fault.{Fault}
 use Rattle.dft_netlist_text.specs.declared.text.Site.{Site}
@@ -8,6 +8,7 @@ use Rattle.dft_netlist_text.specs.Lexemes.{Token, tokens}
 use Rattle.dft_netlist_text.specs.Modules.{Draft}
 use Rattle.dft_netlist_text.specs.Steps.{Outcome, kind_of, left, refusal}
 use Rattle.dft_netlist_text.specs.Expressions.{Operand, OpenConcatenations, unread, concatenations_from, may_follow, followed, expression}
+use Rattle.dft_netlist_text.proofs.ParserLemmas.{may, may_not}
 use Rattle.dft_netlist_laws.specs.Concatenations.{IsExpression, Single, Concatenation, ConcatenationsNest}
 use Rattle.dft_netlist_laws.proofs.NextTokens.{Fronts, operand_fronts}
 use Rattle.dft_netlist_laws.proofs.Steps.{awaiting, held, never, stops, reads, same_value}
@@ -23,14 +24,6 @@ behind at o = and_then o (λ p us. and_then (followed at 0 us) (λ _ vs. Ok ((p.
 expression_is : (at : Site) (d : Draft) (ts : List Token) → expression at d ts ≡ behind at (concatenations_from (suc (left ts)) at d unread ts)
 unfolding expression behind
 expression_is at d ts = refl
-
-may : (at : Site) (vs : List Token) → may_follow at 0 (kind_of vs) ≡ true → followed at 0 vs ≡ Ok (tt, vs)
-unfolding followed
-may at vs e = ap (λ (t : Bool). cond t (Ok (tt, vs)) (Err (refusal vs))) e
-
-may_not : (at : Site) (vs : List Token) → may_follow at 0 (kind_of vs) ≡ false → followed at 0 vs ≡ Err (refusal vs)
-unfolding followed
-may_not at vs e = ap (λ (t : Bool). cond t (Ok (tt, vs)) (Err (refusal vs))) e
 
 passes : (at : Site) (p : Draft × OpenConcatenations) (vs : List Token) → may_follow at 0 (kind_of vs) ≡ true → behind at (Ok (p, vs)) ≡ Ok ((p.0, p.1.bits), vs)
 unfolding behind

@@ -12,3 +12,5 @@ mod EndExamples
 mod NetlistExamples
 mod ModuleExamples
 mod LimitExamples
+pub mod ParserLemmas
+pub mod WordKinds

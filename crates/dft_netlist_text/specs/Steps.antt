@@ -1,5 +1,5 @@
 -- The steps of the rules of netlist texts. A rule looks at the next token; the first token that no rule takes is refused.
-use Rattle.std.specs.Prelude.{ℕ, Bool, List, [], ◌∷◌, if◌then◌else◌, Ok, Err}
+use Rattle.std.specs.Prelude.{ℕ, Bool, List, Ok, Err}
 use denote.Enum.Bare.{sameb}
 use Rattle.dft_base.specs.Lexing.{Text}
 use Rattle.dft_base.specs.Parser as parser

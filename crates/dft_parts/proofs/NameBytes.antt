@@ -1,10 +1,7 @@
 -- A name with a number behind it is a name.
-use Rattle.std.proofs.Common.{ℕ, ◌<◌, ◌≤◌, ◌^◌, List, length-append, arith}
-use Rattle.std.specs.List.{All}
+use Rattle.std.proofs.Common.{ℕ, ◌<◌, ◌^◌, List, length-append, arith}
 use Rattle.std.specs.Fmt.{decimal}
-use Rattle.std.proofs.lemmas.List.Elements.{All-append, All-from_get_or}
-use Rattle.std.proofs.lemmas.Fmt.{digits_decimal}
-use Rattle.std.proofs.lemmas.Str.Parse.{numerals_by_value, tells_by_index}
+use Rattle.std.proofs.lemmas.List.Elements.{All-append}
 use Rattle.dft_base.specs.Name.{IsName}
 use Rattle.dft_base.proofs.TextLemmas.{IsPrinted, digits_printed}
 use Rattle.dft_parts.specs.MadeNames.{numbered}

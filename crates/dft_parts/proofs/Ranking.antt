@@ -21,22 +21,13 @@ use Rattle.dft_netlist.specs.NetDrivers.{IsSingle}
 use Rattle.dft_netlist.specs.Orders.{Has, IsOrderable, Follows, reads_of}
 use Rattle.dft_netlist.specs.Drivers.{Source, Driver, Driven, Connection, Joined, driver_of_kind, at_role, inputs_of, lockup_inputs, connections_from, connections_of, driven_by_pins, driven_by, driven_by_instances, driven_by_bits, driven_by_ports, driven_by_joins, driver_in, driver, nets_read, nets_of, pins_at, pins_of, shape_of, source_of, AreBelow, IsOrdered}
 use Rattle.dft_netlist.proofs.DriverLaws.{listed_drives}
-use Rattle.dft_netlist.proofs.StandLemmas.{has_left}
+use Rattle.dft_netlist.proofs.StandLemmas.{has_left, has_right, has_either}
 use Rattle.dft_parts.specs.Parts.{Part, ANet, AnInstance, APin, Making, next_instance, pin_joined, instance_joined, with_part}
 use Rattle.dft_parts.specs.Single.{net_driven, nets_driven}
 use Rattle.dft_parts.specs.Ranks.{reads_by, read_by, IsRanked, IsJoinRanked, AreRanked, RanksOrder, OrderRanks, IsPinRanked, IsPartRanked, PartsRank}
 use Rattle.dft_parts.proofs.Standing.{instance_drives}
 
 -- ---- lists of nets
-
-pub has_right : (xs ys : List ℕ) (k : ℕ) → Has ys k → Has (xs ++ ys) k
-has_right [] ys k h = h
-has_right (x ∷ xs) ys k h = inr (has_right xs ys k h)
-
-pub has_either : (xs ys : List ℕ) (k : ℕ) → Has (xs ++ ys) k → Has xs k ⊎ Has ys k
-has_either [] ys k h = inr h
-has_either (x ∷ xs) ys k (inl e) = inl (inl e)
-has_either (x ∷ xs) ys k (inr h) = elim (has_either xs ys k h) [ inl a ↦ inl (inr a) | inr b ↦ inr b ]
 
 -- ---- what a driver reads
 

@@ -18,7 +18,7 @@ use Rattle.dft_netlist.specs.declared.instance.CellRef.TheVariants.{Library}
 use Rattle.dft_netlist.specs.declared.instance.Instance.{Instance}
 use Rattle.dft_netlist.specs.Netlist.{Netlist}
 use Rattle.dft_netlist.specs.NetDrivers.{IsSingle}
-use Rattle.dft_netlist.specs.Drivers.{Shape, Net, Connection, Driven, Input, Flop, Lockup, connections_from, pins_at, kind_of, inputs_of, driven_by_pins, driver, shape_of, shape_of_cell}
+use Rattle.dft_netlist.specs.Drivers.{Shape, Net, Connection, Input, Flop, Lockup, connections_from, pins_at, kind_of, driver, shape_of, shape_of_cell}
 use Rattle.dft_netlist.specs.Traces.{Port, root_of, root_within, root_of_driver}
 use Rattle.dft_netlist.specs.Logic as logic
 use Rattle.dft_netlist.specs.Logic.{Ports, domain_of, domain_at, modelled, modelled_of, flip_flop, cell_or_none, flop_meaning, lockup_meaning, logic_of, meaning_of, or_loose, pin_of}
@@ -54,11 +54,11 @@ pub record IsFound (test : Kind → Bool) (cells : List Cell) (id : CellId) : Ty
   pub at : slice_get cells id.0 ≡ Some cell
   pub passes : test cell.kind ≡ true
 
-found_in : (test : Kind → Bool) (cells : List Cell) (o : Option ℕ) → IsAt test cells zero o → IsFound test cells (numbered_cell o)
+pub found_in : (test : Kind → Bool) (cells : List Cell) (o : Option ℕ) → IsAt test cells zero o → IsFound test cells (numbered_cell o)
 found_in test cells None h = absurd h
 found_in test cells (Some k) h = let e : k ≡ h.0 = omega (arith, h.2) in record { cell = h.1; at = ap (slice_get cells) e ∙ h.3; passes = h.4 }
 
-found : (test : Kind → Bool) (cells : List Cell) (place : ℕ) (cell : Cell) → slice_get cells place ≡ Some cell → test cell.kind ≡ true → IsFound test cells (first_cell test cells)
+pub found : (test : Kind → Bool) (cells : List Cell) (place : ℕ) (cell : Cell) → slice_get cells place ≡ Some cell → test cell.kind ≡ true → IsFound test cells (first_cell test cells)
 found test cells place cell at is = found_in test cells (first_from test zero cells) (found_at test cells zero place cell at is)
 
 pub dff_is : (k : Kind) → is_dff k ≡ true → k ≡ kind.Dff

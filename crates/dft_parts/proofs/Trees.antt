@@ -14,7 +14,8 @@ use Rattle.dft_netlist.specs.Logic.{Logic, Ports, Meaning, Gate, logic_of}
 use Rattle.dft_netlist.specs.Netlist.{Netlist}
 use Rattle.dft_netlist.specs.NetDrivers.{IsSingle}
 use Rattle.dft_netlist.specs.Orders.{numbers_of}
-use Rattle.dft_netlist.specs.Settled.{Sources, bit_given, IsSettled, TriSources, value_given, IsTriSettled}
+use Rattle.dft_netlist.specs.Settled.{Sources, bit_given, IsSettled}
+use Rattle.dft_netlist.proofs.SettledLemmas.{value_at}
 use Rattle.dft_parts.specs.Growth.{HasParts, instances_in}
 use Rattle.dft_parts.specs.Parts.{Part, ANet, AnInstance, APin}
 use Rattle.dft_parts.specs.Recipes.{Start, behind}
@@ -122,10 +123,6 @@ sum_stands n ports at i terms single some has =
     subst (λ (k : NetId). IsSum l k.0 (numbers_of terms)) (sym net) (sum_one l one.0.0 (numbers_of terms) (subst (λ (ks : List NetId). AreSums l (numbers_of ks) (numbers_of terms)) one.1 sums))
 
 -- ---- settled assignments
-
--- a net has what its meaning gives it
-pub value_at : (l : Logic) (s : TriSources) (w : ℕ → Tri) (net : ℕ) (m : Meaning) → IsTriSettled l s w → l.net net ≡ m → w net ≡ value_given s w net m
-value_at l s w net m settled is = settled net ∙ ap (value_given s w net) is
 
 pub bit_at : (l : Logic) (s : Sources) (w : ℕ → Bool) (net : ℕ) (m : Meaning) → IsSettled l s w → l.net net ≡ m → w net ≡ bit_given s w net m
 bit_at l s w net m settled is = settled net ∙ ap (bit_given s w net) is

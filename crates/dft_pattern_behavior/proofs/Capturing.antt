@@ -1,5 +1,5 @@
 -- A capture leaves what the pattern says that it captures.
-use Rattle.std.proofs.Common.{ℕ, zero, suc, ◌<◌, ◌≤◌, ◌≡◌, ◌==◌, Bool, true, false, List, [], ◌∷◌, ◌++◌, length, Option, None, Some, is_some, option_map, option_and_then, slice_get, refl, sym, ap, subst, arith, ◌∙◌}
+use Rattle.std.proofs.Common.{ℕ, zero, suc, ◌<◌, ◌≤◌, ◌≡◌, ◌==◌, Bool, true, false, List, [], ◌∷◌, ◌++◌, length, Option, None, Some, is_some, option_map, slice_get, refl, sym, ap, subst, arith, ◌∙◌}
 use Rattle.std.specs.Prelude.{if◌then◌else◌}
 use Rattle.std.proofs.lemmas.Bool.{eqb-true, eq-eqb}
 use Rattle.std.proofs.lemmas.Option.{none-some, same_Some, slice_get-map, slice_get_within}
@@ -7,10 +7,12 @@ use Rattle.dft_base.specs.Solutions.{bit_at}
 use Rattle.dft_base.specs.declared.dir.Dir.{Dir}
 use Rattle.dft_base.specs.declared.dir.Dir.TheVariants as dir
 use Rattle.dft_base.specs.declared.tri.Tri.{Tri}
-use Rattle.dft_base.specs.declared.tri.Tri.TheVariants.{Zero, One, Unknown}
+use Rattle.dft_base.specs.declared.tri.Tri.TheVariants.{One}
 use Rattle.dft_base.specs.Tri.{known, AboveTri}
 use Rattle.dft_cells.specs.declared.kind.Role.TheVariants as role
 use Rattle.dft_cells.specs.FlipFlops.{is_flip_flop, tri_forced}
+use Rattle.dft_cells.proofs.TriLemmas.{forced_one}
+use Rattle.dft_cells.proofs.Completions.{above_self}
 use Rattle.dft_netlist.specs.declared.ids.NetId.{NetId}
 use Rattle.dft_netlist.specs.declared.ids.InstanceId.{InstanceId}
 use Rattle.dft_netlist.specs.declared.port.Port as design_port
@@ -23,6 +25,7 @@ use Rattle.dft_netlist.specs.Runs.{Vector}
 use Rattle.dft_netlist.specs.Settled.{IsTriSettled, inverse, value_given}
 use Rattle.dft_netlist.specs.Sound.{bits_of}
 use Rattle.dft_netlist.specs.Traces.{Root, Port, Constant, Other, root_of}
+use Rattle.dft_netlist.proofs.LiveDriven.{AreBefore, before_front, before_back}
 use Rattle.dft_abstract.specs.Cycle.{Round, IsRound, after_round, pulse_of, strobe_sources, tri_forced_by}
 use Rattle.dft_abstract.specs.Laws.{next_from}
 use Rattle.dft_config.specs.declared.config.Config.{Config}
@@ -44,7 +47,6 @@ use Rattle.dft_scan_frame.specs.ConfigPorts.{config_ports}
 use Rattle.dft_scan_frame.specs.Statements.{IsReady}
 use Rattle.dft_scan_frame.proofs.Contained.{AreMatched}
 use Rattle.dft_scan_frame.proofs.Kept.{design_ports_few}
-use Rattle.dft_scan_frame.proofs.Whole.{AreBefore, before_back, before_front}
 use Rattle.dft_scan_hardware.specs.declared.style.Style.TheVariants.{Edt}
 use Rattle.dft_scan_hardware.specs.Statements.{scanned}
 use Rattle.dft_scan_equivalence.specs.Agreeing.{places_in, ports_in}
@@ -58,6 +60,7 @@ use Rattle.dft_scan_behavior.proofs.Captured.{captures_follow, strobes_follow}
 use Rattle.dft_scan_behavior.proofs.Planned.{planned}
 use Rattle.dft_scan_behavior.proofs.Reaching.{loads_reach, unloads_show}
 use Rattle.dft_stitch.proofs.LengthLemmas.{chains_fit}
+use Rattle.dft_stitch.proofs.CellPlaces.{chain_of}
 use Rattle.dft_pattern_behavior.specs.Given.{Pattern, IsPattern, IsLoadOf, IsCaptureOf}
 use Rattle.dft_pattern_behavior.specs.Rounds.{ShowsCapture}
 use Rattle.dft_pattern_behavior.proofs.Clocks.{named_input, pulsed_rests, reset_rests}
@@ -141,23 +144,10 @@ flop_reset n p i true f e =
     (scan_of (pin_of role.ScanEnable i (pins_of n i)) (pin_of role.ScanIn i (pins_of n i))) i f e)
 flop_reset n p i false f e = absurd (none-some f e)
 
-tri_forced_one : (value : Bool) (t : Tri) → tri_forced value One t ≡ t
-tri_forced_one true Zero = refl
-tri_forced_one true One = refl
-tri_forced_one true Unknown = refl
-tri_forced_one false Zero = refl
-tri_forced_one false One = refl
-tri_forced_one false Unknown = refl
-
 -- where the port of a reset or set is 1 it does not act
 not_forced : (force : Option Force) (x : ℕ → Tri) (t : Tri) → ((f : Force) → force ≡ Some f → x f.port ≡ One) → tri_forced_by force x t ≡ t
 not_forced None x t one = refl
-not_forced (Some f) x t one = ap (λ (p : Tri). tri_forced f.value p t) (one f refl) ∙ tri_forced_one f.value t
-
-above_self : (t : Tri) → AboveTri t t
-above_self Zero = tt
-above_self One = tt
-above_self Unknown = tt
+not_forced (Some f) x t one = ap (λ (p : Tri). tri_forced f.value p t) (one f refl) ∙ forced_one f.value t
 
 -- ---- clocks
 
@@ -170,11 +160,6 @@ modelled_old : (p : Places) (old new : Option Cell) (c : Cell) → new ≡ Some 
 modelled_old p None None c e h = absurd (none-some c e)
 modelled_old p None (Some b) c e h = absurd h
 modelled_old p (Some a) new c e h = refl
-
-chain_by : (chains : List (List InstanceId)) (chain place : ℕ) (cell : InstanceId) (o : Option (List InstanceId)) → slice_get chains chain ≡ o → option_and_then (λ cells. slice_get cells place) o ≡ Some cell →
-    (cells : List InstanceId) × (slice_get chains chain ≡ Some cells) × (slice_get cells place ≡ Some cell)
-chain_by chains chain place cell None at is = absurd (none-some cell is)
-chain_by chains chain place cell (Some cells) at is = (cells, at, is)
 
 -- ---- outputs
 
@@ -253,7 +238,7 @@ module _ (n : Netlist) (config : Config) (ports : Ports) (p : Pattern) (clear : 
   -- each cell has what the load brings to it
   brought : (chain place : ℕ) (cell : InstanceId) → cell_at chains chain place ≡ Some cell → loaded cell.0 ≡ known (loaded_bit config.ring p.table cycles chain place)
   brought chain place cell stands =
-      let there = chain_by chains chain place cell (slice_get chains chain) refl stands in
+      let there = chain_of chains chain place cell (slice_get chains chain) refl stands in
       let chain_less : chain < config.chains = (let inside = slice_get_within chains chain there.0 there.1 in let count = chain_count (cells_of n config) config.chains in omega (arith, inside, count)) in
       let place_less : place < cycles = (let inside = slice_get_within there.0 place cell there.2 in let fits = chains_fit n config chain there.0 ready.range there.1 in omega (arith, inside, fits)) in
       let within : place < length load = (let long = loads.count in omega (arith, place_less, long)) in

@@ -1,9 +1,8 @@
 -- The ports of listed vectors suit those of the configuration: its clocks and edt_clock pulse, and nothing else does.
-use Rattle.std.proofs.Common.{ℕ, zero, suc, ◌+◌, ◌*◌, ◌/◌, ◌<◌, ◌≤◌, ◌≡◌, ◌==◌, ◌||◌, Bool, true, false, not, List, [], ◌∷◌, ◌++◌, map, Option, None, Some, refl, sym, ap, subst, arith, ◌∙◌}
+use Rattle.std.proofs.Common.{ℕ, zero, suc, ◌+◌, ◌≤◌, ◌≡◌, ◌==◌, ◌||◌, Bool, true, false, not, List, [], ◌∷◌, ◌++◌, map, Option, None, Some, refl, sym, ap, subst, arith, ◌∙◌}
 use Rattle.std.specs.List.{list_any, range_with_len}
 use Rattle.std.proofs.lemmas.Bool.{eqb-true, or_left, or_right, false_from_ne_true}
 use Rattle.std.proofs.lemmas.List.{append_assoc}
-use Rattle.std.proofs.lemmas.Nat.{le-div}
 use Rattle.dft_base.specs.Solutions.{bit_at}
 use Rattle.dft_base.proofs.BitLemmas.{or_later, same_tests, true_false}
 use Rattle.dft_base.proofs.NumberLemmas.{eqb_turned}
@@ -12,10 +11,9 @@ use Rattle.dft_netlist.specs.NetNumbers.{nets_from}
 use Rattle.dft_netlist.specs.Netlist.{Netlist}
 use Rattle.dft_netlist.specs.Runs.{Vector}
 use Rattle.dft_config.specs.declared.config.Config.{Config}
-use Rattle.dft_config.specs.Cycles.{longest_segment}
-use Rattle.dft_config.specs.Range.{IsInRange}
 use Rattle.dft_config.specs.Ring.{Table}
 use Rattle.dft_stitch.specs.Chains.{plan_of}
+use Rattle.dft_stitch.proofs.LengthLemmas.{some_cycle}
 use Rattle.dft_config.specs.Segments.{sent_mask}
 use Rattle.dft_expect.specs.Captures.{capture_vector}
 use Rattle.dft_patterns.specs.declared.act.Act.{Act}
@@ -162,15 +160,6 @@ tame_set n config p ps =
     (tame_loads n config no_table [] (last_of None (p ∷ ps)) 0 (plan_of n config).cycles)
 
 -- ---- each clock pulses in the first shift vector
-
-some_cycle : (n : Netlist) (config : Config) → IsInRange config → 1 ≤ (plan_of n config).cycles
-some_cycle n config range =
-    let masks : ℕ = config.compactor.mask_inputs in
-    let some : 0 < masks = (let least = range.compactor.mask_inputs.0 in omega (arith, least)) in
-    let fits : 1 * masks ≤ config.chains = (let most = range.compactor.mask_inputs.2 in omega (arith, most)) in
-    let one : 1 ≤ config.chains / masks = le-div 1 config.chains masks some fits in
-    let longest : 1 ≤ longest_segment config = omega (arith, one) in
-    omega (arith, longest)
 
 shift_in : (n : Netlist) (config : Config) (table : Table) (masks : List Bool) (shown : Option PatternData) (size : ℕ) (a b : List (List Act)) (xs : List Vector) → IsReady n config → 1 ≤ size →
     AllDo (scanned Edt n config) ((map (shift_acts n config (plan_of n config) table masks shown) (range_with_len 0 size) ++ a) ++ b) xs → (net : ℕ) → (ports_in Edt n config).is_clock net ≡ true → list_any (λ x. x.pulsed net) xs ≡ true

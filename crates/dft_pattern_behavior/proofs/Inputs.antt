@@ -1,22 +1,17 @@
 -- What the strobe of a capture settles reads no port but inputs that are no clocks.
-use Rattle.std.proofs.Common.{ℕ, ◌≡◌, Bool, true, false, Option, None, Some, refl, sym, ap, ◌∙◌}
-use Rattle.std.specs.Prelude.{if◌then◌else◌}
-use Rattle.std.proofs.lemmas.Option.{none-some, same_Some}
-use Rattle.dft_pattern_behavior.proofs.Capturing.{IsData, SameAt, input_by, forced_same, given_same, forced_reset, forcing_reset, modelled_force, flop_reset}
+use Rattle.std.proofs.Common.{ℕ, ◌≡◌, Bool, true, false, Some, refl, sym, ◌∙◌}
+use Rattle.dft_pattern_behavior.proofs.Capturing.{IsData, SameAt, input_by, forced_same, given_same, flop_reset}
 use Rattle.dft_base.specs.declared.tri.Tri.{Tri}
 use Rattle.dft_base.specs.declared.tri.Tri.TheVariants.{Unknown}
 use Rattle.dft_base.specs.Tri.{AboveTri}
-use Rattle.dft_cells.specs.declared.kind.Role.TheVariants as role
 use Rattle.dft_cells.specs.FlipFlops.{is_flip_flop}
 use Rattle.dft_netlist.specs.Connections.{is_input}
-use Rattle.dft_netlist.specs.Drivers.{Source, Driver, driver, kind_at, pins_of}
-use Rattle.dft_netlist.specs.Drivers as drivers
-use Rattle.dft_netlist.specs.Logic.{Logic, Ports, Meaning, Input, Clock, Gate, Joined, Flop, Lockup, Free, Cell, Force, Scan, cell_or_none, domain_at, flip_flop, flop_meaning, force_of, forcing, lockup_meaning, meaning_of, modelled, modelled_of, or_loose, pin_of, scan_of}
+use Rattle.dft_netlist.specs.Drivers.{driver, kind_at}
+use Rattle.dft_netlist.specs.Logic.{Force}
 use Rattle.dft_netlist.specs.Netlist.{Netlist}
 use Rattle.dft_netlist.specs.Runs.{Vector}
-use Rattle.dft_netlist.specs.Settled.{IsTriSettled, inverse, value_given}
-use Rattle.dft_netlist.specs.Traces.{Root, Port, Constant, Other, root_of}
-use Rattle.dft_abstract.specs.Cycle.{pulse_of, strobe_sources, tri_forced_by}
+use Rattle.dft_netlist.specs.Settled.{IsTriSettled}
+use Rattle.dft_abstract.specs.Cycle.{strobe_sources, tri_forced_by}
 use Rattle.dft_abstract.specs.Laws.{next_from}
 use Rattle.dft_config.specs.declared.config.Config.{Config}
 use Rattle.dft_config.specs.Range.{IsInRange}

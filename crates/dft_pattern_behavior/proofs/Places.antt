@@ -1,5 +1,5 @@
 -- Where the bits of the input ports of a scanned netlist of style Edt stand.
-use Rattle.std.proofs.Common.{ℕ, zero, suc, ◌+◌, ◌<◌, ◌≤◌, ◌≡◌, ◌==◌, ◌||◌, Bool, true, false, List, [], ◌∷◌, ◌++◌, length, map, refl, ap, subst, arith, ◌∙◌}
+use Rattle.std.proofs.Common.{ℕ, zero, suc, ◌+◌, ◌<◌, ◌≤◌, ◌≡◌, ◌==◌, false, List, [], ◌∷◌, ◌++◌, length, map, refl, ap, subst, arith, ◌∙◌}
 use Rattle.std.specs.List.{range_with_len}
 use Rattle.std.proofs.lemmas.Bool.{eqb-true, or_parts, or_from, false_from_ne_true}
 use Rattle.std.proofs.lemmas.Grind.{flat_map-append}
@@ -13,10 +13,10 @@ use Rattle.dft_netlist.specs.declared.port.Port as design_port
 use Rattle.dft_netlist.specs.NetNumbers.{nets_from}
 use Rattle.dft_netlist.specs.Netlist.{Netlist}
 use Rattle.dft_netlist.specs.Sound.{bits_of}
+use Rattle.dft_netlist.proofs.LiveDriven.{AreBefore, before_front, before_back}
 use Rattle.dft_config.specs.declared.config.Config.{Config}
 use Rattle.dft_scan_frame.specs.AddedPorts.{NewPort, new_port, numbered, ports_from}
 use Rattle.dft_scan_frame.specs.Statements.{IsReady}
-use Rattle.dft_scan_frame.proofs.Whole.{AreBefore, before_back, before_front}
 use Rattle.dft_scan_hardware.specs.declared.style.Style.TheVariants.{Edt}
 use Rattle.dft_scan_hardware.specs.Ports.{added_ports, compression_ports, gap_in}
 use Rattle.dft_scan_hardware.specs.Statements.{scanned}

@@ -1,1 +1,2 @@
 pub mod SteadyLemmas
+pub mod VectorLemmas

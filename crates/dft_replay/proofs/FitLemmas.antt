@@ -18,7 +18,7 @@ use Rattle.dft_netlist.specs.Names.{bit_names, find_net, find_net_from}
 use Rattle.dft_netlist.specs.Sound.{IsNetlist, bit_names_of}
 use Rattle.dft_base.specs.Lexing.{Text}
 use Rattle.dft_base.proofs.ListLemmas.{get_left, get_right, get_there}
-use Rattle.dft_base.proofs.TextLemmas.{same_text, bytes_eq-self}
+use Rattle.dft_base.proofs.TextLemmas.{same_text}
 use Rattle.dft_netlist.proofs.NamesLemmas.{has_here, has_where}
 use Rattle.dft_netlist.proofs.LiveLemmas.{AreWide}
 use Rattle.dft_netlist.proofs.FindLemmas.{not_found}

@@ -2,7 +2,6 @@ pub mod Soundness
 pub mod Uniqueness
 pub mod PlainLemmas
 pub mod ExampleLemmas
-pub mod TestLemmas
 pub mod FitLemmas
 pub mod LookLemmas
 pub mod PlayedLemmas

@@ -1,12 +1,10 @@
 -- The plain replay gives the verdict: its levels are settled, and its rounds reach the least map.
-use Rattle.std.proofs.Common.{ℕ, zero, suc, ◌+◌, ◌<◌, ◌≤◌, Bool, true, false, ◌&&◌, List, [], ◌∷◌, ◌≡◌, ◌⊎◌, inl, inr, refl, ap, sym, length, Option, None, Some, subst, arith}
+use Rattle.std.proofs.Common.{ℕ, zero, suc, ◌+◌, ◌<◌, ◌≤◌, Bool, true, false, ◌&&◌, List, [], ◌∷◌, ◌≡◌, inl, inr, refl, ap, sym, length, Option, None, Some, subst, arith}
 use Rattle.std.specs.Prelude.{if◌then◌else◌}
-use Rattle.std.proofs.lemmas.Option.{slice_get_past}
 use Rattle.dft_base.specs.declared.tri.Tri.{Tri}
 use Rattle.dft_base.specs.declared.tri.Tri.TheVariants.{Zero, One, Unknown}
-use Rattle.dft_base.specs.Tri.{AboveTri, join}
-use Rattle.dft_netlist.specs.Netlist.{Netlist}
-use Rattle.dft_netlist.specs.Logic.{Logic, Ports, no_cell, IsRanked, logic_of}
+use Rattle.dft_base.specs.Tri.{AboveTri}
+use Rattle.dft_netlist.specs.Logic.{Logic, no_cell, IsRanked, logic_of}
 use Rattle.dft_netlist.specs.Settled.{IsTriSettled}
 use Rattle.dft_netlist.specs.Runs.{Vector}
 use Rattle.dft_netlist.proofs.Meanings.{source_same}

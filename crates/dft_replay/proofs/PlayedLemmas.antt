@@ -1,20 +1,19 @@
 -- The calls for a vector come to its round: inputs are set, nets are looked at, clocks pulse.
-use Rattle.std.proofs.Common.{ℕ, Bool, true, false, List, ◌≡◌, Option, None, Some, length, map, refl, sym, ap, ◌∙◌, subst}
-use Rattle.std.specs.Prelude.{if◌then◌else◌}
+use Rattle.std.proofs.Common.{ℕ, Bool, List, ◌≡◌, Option, length, map, refl, sym, ap, ◌∙◌, subst}
 use Rattle.dft_base.specs.declared.tri.Tri.{Tri}
 use Rattle.dft_base.specs.declared.tri.Tri.TheVariants.{Zero, Unknown}
 use Rattle.dft_netlist.specs.declared.ids.NetId.{NetId}
-use Rattle.dft_netlist.specs.Logic.{Logic, Force}
+use Rattle.dft_netlist.specs.Logic.{Logic}
 use Rattle.dft_netlist.specs.Orders.{numbers_of}
 use Rattle.dft_netlist.specs.Runs.{Vector}
 use Rattle.dft_netlist.specs.Settled.{TriSources, value_from, IsTriSettled}
 use Rattle.dft_netlist.proofs.Ranks.{order_is_rank}
-use Rattle.dft_abstract.specs.Cycle.{Pulse, tri_forced_by, tri_taken_by, next_value, after_pulse, IsLeast, pulse_of, strobe_sources, Round, IsRound, after_round}
+use Rattle.dft_abstract.specs.Cycle.{Pulse, tri_forced_by, after_pulse, IsLeast, pulse_of, strobe_sources, Round, IsRound, after_round}
 use Rattle.dft_abstract.proofs.Views.{family}
 use Rattle.dft_logic.specs.Needs.{IsStrobe, strobe_from}
 use Rattle.dft_cycle.specs.Machine.{Machine, value_at, logic, pulses, pulse_from, ports_of, IsPulsed}
 use Rattle.dft_cycle.specs.MachineLaws.{IsForced, StandsSince}
-use Rattle.dft_cycle.proofs.MachineRounds.{forced_twice, same_logic, by_twice, after_forced}
+use Rattle.dft_cycle.proofs.MachineRounds.{same_logic, by_twice, after_forced}
 use Rattle.dft_patterns.specs.declared.act.Act.{Act}
 use Rattle.dft_replay.specs.declared.comparing.Asked.{Asked}
 use Rattle.dft_replay.specs.declared.verdict.Verdict.{Verdict}

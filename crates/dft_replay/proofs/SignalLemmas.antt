@@ -16,6 +16,7 @@ use Rattle.dft_cycle.specs.Machine.{AreNets}
 use Rattle.dft_patterns.specs.declared.act.Act.{Act}
 use Rattle.dft_patterns.specs.declared.signal.StilSignal.{StilSignal}
 use Rattle.dft_patterns.specs.Patterns.{Patterns, IsVector}
+use Rattle.dft_patterns.proofs.VectorLemmas.{vector_length}
 use Rattle.dft_netlist.specs.Logic.{logic_of}
 use Rattle.dft_abstract.specs.Cycle.{all_unknown}
 use Rattle.dft_replay.specs.declared.verdict.Verdict.{Verdict}
@@ -107,18 +108,12 @@ few_signals n nets sound differ live =
 
 -- ---- the lengths of vectors
 
-zip_long : (signals : List StilSignal) (acts : List Act) → IsVector signals acts → length acts ≡ length signals
-zip_long [] [] fits = refl
-zip_long [] (act ∷ acts) fits = absurd fits
-zip_long (s ∷ signals) [] fits = absurd fits
-zip_long (s ∷ signals) (act ∷ acts) fits = ap suc (zip_long signals acts fits.1)
-
 pub vectors_long : (n : Netlist) (signals : List StilSignal) (vectors : List (List Act)) (nets : List NetId) → All (λ acts. IsVector signals acts) vectors → numbers_of nets ≡ nets_of n signals → All (λ acts. length acts ≡ length nets) vectors
 vectors_long n signals vectors nets fits are = λ k d within.
     (let size = ap length are in
     let long = length-map nets (λ (net : NetId). net.0) in
     let many = length-map signals (λ (s : StilSignal). net_named n s.name) in
-    let here = zip_long signals (get_or vectors k d) (fits k d within) in
+    let here = vector_length signals (get_or vectors k d) (fits k d within) in
     omega arith)
 
 -- ---- patterns

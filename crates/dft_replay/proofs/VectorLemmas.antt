@@ -19,7 +19,7 @@ use Rattle.dft_cycle.specs.MachineLaws.{IsForced, StandsSince}
 use Rattle.dft_cycle.proofs.MachineRounds.{set_stands}
 use Rattle.dft_patterns.specs.declared.act.Act.{Act}
 use Rattle.dft_patterns.specs.declared.act.Act.TheVariants.{Unset, Low, High, Pulse, ExpectLow, ExpectHigh, Ignore}
-use Rattle.dft_replay.specs.Rows.{Compared, Row, act_on, set_by, is_pulse, compared_at, compared_from, row_of}
+use Rattle.dft_replay.specs.Rows.{Compared, act_on, set_by, is_pulse, compared_at, compared_from}
 use Rattle.dft_replay.specs.Rows as rows
 use Rattle.dft_replay.specs.Vectors.{act_at, net_at, is_compared, pulses_at, clocks_of, AreClocks}
 
@@ -238,10 +238,6 @@ below_range a (suc n) s low high = elim (eqb_tells s a) [
   | inl is ↦ inl is.1
   | inr other ↦ (let ne = other.1 in inr (below_range (a + 1) n s (omega arith) (omega arith)))
 ]
-
-range_grows : (a n : ℕ) → range_with_len a (suc n) ≡ range_with_len a n ++ (a + n) ∷ []
-range_grows a zero = (let e : a ≡ a + 0 = omega arith in ap (λ (k : ℕ). k ∷ []) e)
-range_grows a (suc n) = (let e : (a + 1) + n ≡ a + suc n = omega arith in ap (λ (xs : List ℕ). a ∷ xs) (range_grows (a + 1) n ∙ ap (λ (k : ℕ). range_with_len (a + 1) n ++ k ∷ []) e))
 
 -- the clocks of one signal more
 clocks_step : (vectors : List (List Act)) (count : ℕ) → clocks_of (count + 1) vectors ≡ clocks_of count vectors ++ (if pulses_at vectors count then count ∷ [] else [])

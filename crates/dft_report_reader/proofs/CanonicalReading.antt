@@ -19,7 +19,7 @@ use Rattle.dft_report.specs.declared.report.CubeLine.{CubeLine}
 use Rattle.dft_report.specs.declared.report.CubeLine.TheVariants as outcome
 use Rattle.dft_report.specs.declared.report.CubeReport.{CubeReport}
 use Rattle.dft_report.specs.declared.report.Report.{Report}
-use Rattle.dft_report.specs.Written.{bit_text, chain_line, chain_lines, counts_text, cube_lines, header_line, lines_before_cubes, place_text, scanned_line, sum_line, unscanned_line, unsolvable_text, variables_text, written}
+use Rattle.dft_report.specs.Written.{chain_line, chain_lines, counts_text, cube_lines, header_line, lines_before_cubes, place_text, scanned_line, sum_line, unscanned_line, unsolvable_text, written}
 use Rattle.dft_report_reader.specs.declared.error.ReadError.{ReadError}
 use Rattle.dft_report_reader.specs.declared.error.ReadError.TheVariants.{K1}
 use Rattle.dft_report_reader.specs.Words.{words_of}
@@ -27,10 +27,10 @@ use Rattle.dft_report_reader.specs.Saying.{Said, Title, Counts, Chain, Scanned, 
 use Rattle.dft_report_reader.specs.Reading.{Owing, Reading, may_be_cube, nothing_read, place_of_line, read_lines, report_by, report_in, summed, then_ended, then_lines, with_chain, with_counts, with_cube, with_owing, with_said, with_scanned, with_sum, with_title, with_unscanned}
 use Rattle.dft_report_reader.specs.WrittenRead.{ReadIsWritten}
 use Rattle.dft_report_reader.proofs.Lines.{behind, by_lines, front, last, lines_some, read_on}
-use Rattle.dft_report_reader.proofs.Saying.{bit_word, variable_words, variables_behind}
+use Rattle.dft_report_reader.proofs.Saying.{bit_word}
 use Rattle.dft_report_reader.proofs.CanonicalNumbers.{behind_test}
 use Rattle.dft_report_reader.proofs.CanonicalWords.{said_told, variables_are, word_said, words_said}
-use Rattle.dft_report_reader.proofs.Bringing.{bit_texts, sum_words}
+use Rattle.dft_report_reader.proofs.Bringing.{sum_words}
 
 -- ---- the text that has been read
 

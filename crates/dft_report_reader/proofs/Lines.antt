@@ -1,5 +1,5 @@
 -- Lines of words between blanks, cut as they were written.
-use Rattle.std.proofs.Common.{ℕ, suc, ◌-◌, ◌<◌, ◌≡◌, ◌==◌, ◌&&◌, Bool, true, false, cond, List, [], ◌∷◌, ◌++◌, length, take, get_or, Option, Some, Ok, Result, refl, sym, ap, ap₂, arith, ◌∙◌}
+use Rattle.std.proofs.Common.{ℕ, suc, ◌-◌, ◌<◌, ◌≡◌, ◌==◌, Bool, true, false, cond, List, [], ◌∷◌, ◌++◌, length, take, get_or, Option, Some, Ok, Result, refl, sym, ap, ap₂, arith, ◌∙◌}
 use Rattle.std.specs.Prelude.{nat_le}
 use Rattle.std.specs.List.{list_all, onto_first, slice_split}
 use Rattle.std.proofs.lemmas.Bool.Decides.{nat_tests}

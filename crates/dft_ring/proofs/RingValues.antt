@@ -1,17 +1,16 @@
 -- The ring in every settled assignment.
-use Rattle.std.proofs.Common.{Bool, true, false, [], ◌∷◌, ◌≡◌, refl, ap, map, ◌∙◌}
+use Rattle.std.proofs.Common.{Bool, [], ◌∷◌, ap, map, ◌∙◌}
 use Rattle.std.specs.Prelude.{◌&&◌}
-use Rattle.dft_base.specs.declared.tri.Tri.{Tri}
-use Rattle.dft_base.specs.declared.tri.Tri.TheVariants.{Zero, One, Unknown}
 use Rattle.dft_cells.specs.declared.kind.Kind.TheVariants.{Inv, And}
-use Rattle.dft_cells.specs.Gates.{bit_of, tri_of}
+use Rattle.dft_cells.specs.Gates.{tri_of}
 use Rattle.dft_netlist.specs.Drivers.{Net}
 use Rattle.dft_netlist.specs.Logic.{Cell, Gate}
 use Rattle.dft_netlist.specs.Settled.{bit_from, value_from}
+use Rattle.dft_netlist.proofs.SettledLemmas.{value_at}
 use Rattle.dft_config.specs.Ring.{phase_of}
 use Rattle.dft_parts.specs.Recipes.{net_at}
 use Rattle.dft_parts.specs.SumTrees.{sum_bits, tri_sum}
-use Rattle.dft_parts.proofs.Trees.{value_at, bit_at, sum_value, sum_bit}
+use Rattle.dft_parts.proofs.Trees.{bit_at, sum_value, sum_bit}
 use Rattle.dft_edt.specs.Feeds.{at_feed, feeds}
 use Rattle.dft_edt.specs.Hardware.{HasStage}
 use Rattle.dft_edt.proofs.Sums.{at_feeds, at_nets, sum_of_bits, feeds_step}

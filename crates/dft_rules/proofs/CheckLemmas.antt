@@ -1,6 +1,7 @@
 -- Checks one after another: the first that fails.
-use Rattle.std.proofs.Common.{◌≡◌, ℕ, ◌+◌, ◌<◌, List, [], ◌∷◌, length, get_or, drop, Option, None, sym, ◌∙◌, ap, subst}
+use Rattle.std.proofs.Common.{◌≡◌, ℕ, ◌+◌, ◌<◌, List, [], ◌∷◌, length, get_or, drop, Option, None, sym, ◌∙◌, ap, subst, Some, refl}
 use Rattle.std.proofs.lemmas.List.{at_drop_more}
+use Rattle.std.proofs.lemmas.Option.{none-some}
 use Rattle.dft_cells.specs.declared.cell.Cell.{Cell}
 use Rattle.dft_netlist.specs.declared.instance.Instance.{Instance}
 use Rattle.dft_rules.specs.declared.error.RuleError.{RuleError}
@@ -89,3 +90,15 @@ refused_first n config error h = refused (unknown_port n config.domains) (from_r
 
 pub refused_by : (n : Netlist) (config : Config) (check : Option RuleError) (rest : List (Option RuleError)) (error : RuleError) → Begins n config (check ∷ rest) → IsRefusal check error → IsRefusal (refusal n config) error
 refused_by n config check rest error b h = same_refusal (refusal n config) (first_failing (check ∷ rest)) error b (refused check rest error h)
+
+pub none_first : (check : Option RuleError) (checks : List (Option RuleError)) → first_failing (check ∷ checks) ≡ None → (check ≡ None) × (first_failing checks ≡ None)
+none_first None checks e = (refl, e)
+none_first (Some error) checks e = absurd (none-some error (sym e))
+
+pub none_present : (n : Netlist) (config : Config) → refusal n config ≡ None → first_present n.library n.instances ≡ None
+unfolding refusal
+none_present n config e =
+    let resets = (none_first (unknown_port n config.domains) (from_resets n config) e).1 in
+    let keep = (none_first (unknown_port n config.resets) (from_keep n config) resets).1 in
+    let there = (none_first (unknown_cell n config.keep) (from_present n config) keep).1 in
+    (none_first (first_present n.library n.instances) (from_clocks n config) there).0

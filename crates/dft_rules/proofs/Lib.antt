@@ -9,3 +9,4 @@ pub mod Passed
 pub mod MarkLemmas
 pub mod PlaceLemmas
 pub mod WorkedRules
+pub mod Scannable

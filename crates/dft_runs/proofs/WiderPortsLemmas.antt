@@ -5,7 +5,7 @@ use Rattle.std.proofs.lemmas.Option.{none-some}
 use Rattle.dft_cells.specs.declared.kind.Role.TheVariants as role
 use Rattle.dft_cells.specs.FlipFlops.{is_flip_flop}
 use Rattle.dft_netlist.specs.Netlist.{Netlist}
-use Rattle.dft_netlist.specs.Drivers.{Source, Connection, Driver, pins_of, kind_at, driver}
+use Rattle.dft_netlist.specs.Drivers.{Source, Driver, pins_of, kind_at, driver}
 use Rattle.dft_netlist.specs.Drivers as drivers
 use Rattle.dft_netlist.specs.Traces.{Root, Port, Constant, Other, root_of}
 use Rattle.dft_netlist.specs.Logic.{Ports, Cell, Scan, Force, Free, Clock, Input, domain_of, domain_at, force_of, forcing, modelled, modelled_of, flip_flop, flop_meaning, lockup_meaning, meaning_of, pin_of, or_loose, scan_of, no_cell, cell_or_none}

@@ -1,33 +1,27 @@
 -- A flip-flop that is judged has a name, and one that is scanned has a domain with a name.
 use Rattle.std.proofs.Common.{◌≡◌, ℕ, ◌<◌, Bool, true, false, cond, List, [], length, get_or, Option, None, Some, option_and_then, slice_get, refl, ◌∙◌, ap, arith, inl, inr}
-use Rattle.std.specs.Prelude.{IsTrue, IsSome, is_some, nat_lt}
-use Rattle.std.specs.List.{position_or_len}
-use Rattle.std.proofs.lemmas.Bool.Decides.{nat_tests}
+use Rattle.std.specs.Prelude.{IsTrue, IsSome, is_some}
 use Rattle.std.proofs.lemmas.Option.{slice_get_past, slice_get-get_or}
 use Rattle.std.proofs.lemmas.List.FromFn.{get_or-map-range_with_len}
 use Rattle.dft_base.specs.Lexing.{Text}
 use Rattle.dft_cells.specs.declared.kind.Kind.{Kind}
 use Rattle.dft_cells.specs.declared.kind.Kind.TheVariants as kind
-use Rattle.dft_cells.specs.declared.kind.Role.TheVariants.{Clock}
 use Rattle.dft_cells.specs.declared.cell.Cell.{Cell}
 use Rattle.dft_netlist.specs.declared.instance.CellRef.{CellRef}
 use Rattle.dft_netlist.specs.declared.instance.CellRef.TheVariants.{Library, Gate}
 use Rattle.dft_netlist.specs.declared.instance.Instance.{Instance}
 use Rattle.dft_netlist.specs.Netlist.{Netlist}
 use Rattle.dft_netlist.specs.Names.{instance_name}
-use Rattle.dft_netlist.specs.Drivers.{Source, kind_at, kind_of, pins_of, shape_of}
-use Rattle.dft_netlist.specs.Logic.{pin_of}
+use Rattle.dft_netlist.specs.Drivers.{kind_at, kind_of, shape_of}
 use Rattle.dft_netlist.specs.Sound.{IsCellOf, IsNetlist, is_primitive}
-use Rattle.dft_netlist.specs.Traces.{Root, Port, Constant, Other, root_of}
 use Rattle.dft_netlist.proofs.LiveLemmas.{le_or_lt}
 use Rattle.dft_config.specs.declared.config.Config.{Config}
 use Rattle.dft_rules.specs.declared.judged.Judged.{Judged}
 use Rattle.dft_rules.specs.declared.judged.Judged.TheVariants.{Scanned, Unscanned}
 use Rattle.dft_base.specs.declared.rule.Rule.{Rule}
-use Rattle.dft_netlist.specs.Connections.{input_net}
-use Rattle.dft_rules.specs.Rules.{judged, judged_by, judgements, place_of_root, place_of_source, may_be_scanned, is_net, domain_of as clock_domain, are_held_at, scan_cell_of, is_kept}
+use Rattle.dft_rules.specs.Rules.{judged, judged_by, judgements, may_be_scanned, domain_of as clock_domain, are_held_at, scan_cell_of, is_kept}
 use Rattle.dft_stitch.specs.Chains.{domain_in}
-use Rattle.dft_stitch.proofs.OnceLemmas.{scanned_in, within_names, root_within_names, source_within_names, domain_within}
+use Rattle.dft_stitch.proofs.OnceLemmas.{domain_within}
 use Rattle.dft_scan_frame.specs.Statements.{IsReady}
 use Rattle.dft_scan.specs.Reports.{domain_name, name_of, scanned_as, unscanned_as}
 use Rattle.dft_scan.specs.Laws.{FlipFlopsHaveLines, HasLine}

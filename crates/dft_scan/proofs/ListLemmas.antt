@@ -1,8 +1,6 @@
 -- What the items of a list give, one after another, and how long that is.
-use Rattle.std.proofs.Common.{◌≡◌, ℕ, zero, suc, ◌+◌, ◌≤◌, ◌*◌, List, [], ◌∷◌, ◌++◌, length, drop, map, flat_map, Option, None, Some, slice_get, ◌∙◌, ap, arith, length-append}
+use Rattle.std.proofs.Common.{◌≡◌, ℕ, zero, suc, ◌+◌, ◌≤◌, ◌*◌, List, [], ◌∷◌, ◌++◌, length, drop, map, flat_map, Option, None, Some, slice_get, ap, arith, length-append}
 use Rattle.std.specs.List.{filter_map, cons_option, enumerate_from, range_with_len}
-use Rattle.std.proofs.lemmas.List.{drop_more}
-use Rattle.std.proofs.lemmas.Option.{slice_get_within, get_or_from_slice_get}
 use Rattle.dft_base.proofs.ListLemmas.{drop_at}
 
 -- what is left to give begins with what the next item gives

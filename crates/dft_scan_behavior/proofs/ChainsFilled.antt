@@ -17,7 +17,7 @@ use Rattle.dft_rules.specs.declared.judged.Judged.{Judged}
 use Rattle.dft_rules.specs.declared.judged.Judged.TheVariants.{Scanned, Unscanned}
 use Rattle.dft_rules.specs.Refusals.{unknown_port, unknown_cell, first_present, clock_as_data, quoted_port, too_few, first_failing, is_scanned, refusal}
 use Rattle.dft_rules.specs.Rules.{judged, judgements}
-use Rattle.dft_stitch.specs.Chains.{domain_in, if_domain, cell_in, cells_in, chain_lengths, cells_of, plan_of}
+use Rattle.dft_stitch.specs.Chains.{domain_in, if_domain, cell_in, chain_lengths, cells_of, plan_of}
 use Rattle.dft_stitch.specs.Chains as chains
 use Rattle.dft_stitch.proofs.EvenLemmas.{at_block, lengths_total}
 use Rattle.dft_stitch.proofs.OnceLemmas.{domain_within}

@@ -1,17 +1,14 @@
 -- The clock port and the reset of a scanned flip-flop of a design, by its domain.
-use Rattle.std.proofs.Common.{ℕ, zero, suc, ◌+◌, ◌≡◌, Bool, true, false, ◌||◌, List, [], ◌∷◌, cond, position, Option, None, Some, is_some, option_and_then, slice_get, refl, sym, ap, arith, ◌∙◌}
+use Rattle.std.proofs.Common.{ℕ, zero, suc, ◌+◌, ◌≡◌, Bool, true, false, List, [], ◌∷◌, cond, position, Option, None, Some, option_and_then, slice_get, refl, sym, ap, arith, ◌∙◌}
 use Rattle.std.specs.Prelude.{if◌then◌else◌}
-use Rattle.std.specs.List.{list_any, position_from}
-use Rattle.std.proofs.lemmas.Bool.{eqb-true, or_right}
+use Rattle.std.specs.List.{position_from}
+use Rattle.std.proofs.lemmas.Bool.{eqb-true}
 use Rattle.std.proofs.lemmas.Iterator.Adapters.{position_from-zero}
 use Rattle.std.proofs.lemmas.Option.{none-some, same_Some}
 use Rattle.std.proofs.lemmas.Map.Keys.{any_passes_from_place}
 use Rattle.dft_base.specs.Lexing.{Text}
 use Rattle.dft_base.proofs.OptionLemmas.{some_of}
-use Rattle.dft_cells.specs.declared.kind.Kind.{Kind}
-use Rattle.dft_cells.specs.declared.kind.Kind.TheVariants as kind
 use Rattle.dft_cells.specs.declared.kind.Role.TheVariants as role
-use Rattle.dft_cells.specs.FlipFlops.{is_flip_flop}
 use Rattle.dft_netlist.specs.declared.ids.NetId.{NetId}
 use Rattle.dft_netlist.specs.Netlist.{Netlist}
 use Rattle.dft_netlist.specs.Connections.{input_net}
@@ -21,7 +18,7 @@ use Rattle.dft_netlist.specs.Logic.{Force, pin_of, domain_at, force_of, forcing}
 use Rattle.dft_netlist.specs.Logic as logic
 use Rattle.dft_config.specs.declared.config.Config.{Config}
 use Rattle.dft_scan_frame.specs.ConfigPorts.{config_ports}
-use Rattle.dft_rules.specs.Rules.{is_net, place_of_root, place_of_source, domain_of, is_held, are_held, may_be_scanned}
+use Rattle.dft_rules.specs.Rules.{is_net, place_of_root, place_of_source, domain_of, is_held, are_held}
 use Rattle.dft_chains.specs.ScanOff.{moved_force}
 use Rattle.dft_chains.specs.Hardware.{ActsByPort}
 use Rattle.dft_scan_frame.specs.Moves.{moved}
@@ -125,25 +122,3 @@ pub acts_pins : (style : Style) (n : Netlist) (config : Config) (reset preset : 
 acts_pins style n config (Some reset) preset ready e = acts_root style n config false reset (root_of n reset) ready refl e
 acts_pins style n config None (Some preset) ready e = acts_root style n config true preset (root_of n preset) ready refl e
 acts_pins style n config None None ready e = record { force = None; is = refl; acts = tt }
-
-pub scannable_flop : (k : Kind) → may_be_scanned k ≡ true → is_flip_flop k ≡ true
-scannable_flop kind.Dff e = refl
-scannable_flop kind.Dffr e = refl
-scannable_flop kind.Dffs e = refl
-scannable_flop kind.Sdff e = refl
-scannable_flop kind.Sdffr e = refl
-scannable_flop kind.Sdffs e = refl
-scannable_flop kind.Lockup e = absurd cc
-scannable_flop kind.Opaque e = absurd cc
-scannable_flop kind.Buf e = absurd cc
-scannable_flop kind.Inv e = absurd cc
-scannable_flop kind.And e = absurd cc
-scannable_flop kind.Nand e = absurd cc
-scannable_flop kind.Or e = absurd cc
-scannable_flop kind.Nor e = absurd cc
-scannable_flop kind.Xor e = absurd cc
-scannable_flop kind.Xnor e = absurd cc
-scannable_flop kind.Mux2 e = absurd cc
-scannable_flop (kind.Table number) e = absurd cc
-scannable_flop kind.Tie0 e = absurd cc
-scannable_flop kind.Tie1 e = absurd cc

@@ -1,5 +1,5 @@
 -- What one vector does to a scanned netlist of style Edt.
-use Rattle.std.proofs.Common.{ℕ, zero, suc, ◌-◌, ◌<◌, ◌≡◌, Bool, true, false, List, [], length, map, None, Some, get_or, option_and_then, slice_get, refl, sym, ap, arith, ◌∙◌}
+use Rattle.std.proofs.Common.{ℕ, zero, suc, ◌-◌, ◌<◌, ◌≡◌, Bool, false, List, [], length, map, None, Some, get_or, option_and_then, slice_get, refl, sym, ap, arith, ◌∙◌}
 use Rattle.std.proofs.lemmas.Option.{slice_get_within, get_or_from_slice_get}
 use Rattle.dft_base.specs.Tri.{known}
 use Rattle.dft_netlist.specs.declared.ids.InstanceId.{InstanceId}

@@ -1,15 +1,10 @@
 -- Where every net can be ordered, the height of a net over those that it is settled from is a rank.
-use Rattle.std.proofs.Common.{ℕ, suc, ◌≡◌, ◌≤◌, inl, inr, Bool, true, false, List, [], ◌∷◌, Option, None, Some, max, refl, ap, arith, ◌∙◌}
-use Rattle.std.specs.Prelude.{if◌then◌else◌}
-use Rattle.dft_cells.specs.declared.kind.Role.{Role}
-use Rattle.dft_cells.specs.declared.kind.Role.TheVariants.{Input, Clock, Din, Reset, Preset, ScanIn, ScanEnable, Output, Inverted}
+use Rattle.std.proofs.Common.{ℕ, suc, ◌≡◌, ◌≤◌, inl, inr, List, [], ◌∷◌, max, refl, ap, arith, ◌∙◌}
 use Rattle.dft_netlist.specs.Netlist.{Netlist}
-use Rattle.dft_netlist.specs.Drivers.{Source, Net, Tied, Loose, Driver, Connection, source_of, pins_of, driver, nets_of, nets_read, is_lockup_input, lockup_inputs, AreBelow}
-use Rattle.dft_netlist.specs.Drivers as drivers
-use Rattle.dft_netlist.specs.Logic.{Ports, Cell, Meaning, same_role, pin_of, or_loose, domain_at, flip_flop, flop_meaning, lockup_meaning, meaning_of, logic_of, reads, IsRanked}
-use Rattle.dft_netlist.specs.Logic as meanings
+use Rattle.dft_netlist.specs.Drivers.{driver, AreBelow}
+use Rattle.dft_netlist.specs.Logic.{Ports, logic_of, IsRanked}
 use Rattle.dft_netlist.specs.Orders.{Has, reads_of, IsOrderable, Follows}
-use Rattle.dft_netlist.proofs.Ranks.{first_below, rest_below, data_step, data_below, lockup_below, flop_below, input_below, meaning_below}
+use Rattle.dft_netlist.proofs.Ranks.{meaning_below}
 
 -- ---- heights
 

@@ -45,7 +45,7 @@ pub record HasChain (chains : List (List InstanceId)) (chain place : ℕ) (cell 
   pub at : slice_get chains chain ≡ Some cells
   pub here : slice_get cells place ≡ Some cell
 
-chain_by : (chains : List (List InstanceId)) (chain place : ℕ) (cell : InstanceId) (o : Option (List InstanceId)) → slice_get chains chain ≡ o → option_and_then (λ cells. slice_get cells place) o ≡ Some cell → HasChain chains chain place cell
+pub chain_by : (chains : List (List InstanceId)) (chain place : ℕ) (cell : InstanceId) (o : Option (List InstanceId)) → slice_get chains chain ≡ o → option_and_then (λ cells. slice_get cells place) o ≡ Some cell → HasChain chains chain place cell
 chain_by chains chain place cell None at is = absurd (none-some cell is)
 chain_by chains chain place cell (Some cells) at is = record { cells = cells; at = at; here = is }
 

@@ -12,6 +12,7 @@ use Rattle.dft_config.specs.declared.config.Config.{Config}
 use Rattle.dft_stitch.specs.Chains.{cells_of, plan_of}
 use Rattle.dft_stitch.specs.Plans.{cell_at}
 use Rattle.dft_stitch.proofs.BlockLemmas.{chain_count}
+use Rattle.dft_stitch.proofs.CellPlaces.{chain_within}
 use Rattle.dft_chains.specs.Hardware.{Enters, Shows}
 use Rattle.dft_parts.specs.Growth.{HasParts, instances_in}
 use Rattle.dft_parts.specs.Recipes.{each, net_at}
@@ -33,7 +34,7 @@ use Rattle.dft_scan_behavior.proofs.Lockups.{out_net, row_is}
 use Rattle.dft_scan_behavior.proofs.Outputs.{IsShown, shown, means}
 use Rattle.dft_scan_behavior.proofs.Planned.{IsPlanned, planned}
 use Rattle.dft_scan_behavior.proofs.PortsDriven.{plain_means}
-use Rattle.dft_scan_behavior.proofs.ScanInputs.{entry_joined, chain_there}
+use Rattle.dft_scan_behavior.proofs.ScanInputs.{entry_joined}
 
 pub none_past : {X : Type 0} (xs : List X) (k : ℕ) → slice_get xs k ≡ None → length xs ≤ k
 none_past [] k e = omega arith
@@ -41,7 +42,7 @@ none_past (x ∷ xs) zero e = absurd (none-some x (sym e))
 none_past (x ∷ xs) (suc k) e = omega (arith, none_past xs k e)
 
 pub chain_less : (n : Netlist) (config : Config) (chain place : ℕ) (cell : InstanceId) → cell_at (plan_of n config).chains chain place ≡ Some cell → chain < config.chains
-chain_less n config chain place cell stands = omega (arith, chain_there (plan_of n config).chains chain place cell stands, chain_count (cells_of n config) config.chains)
+chain_less n config chain place cell stands = omega (arith, chain_within (plan_of n config).chains chain place cell stands, chain_count (cells_of n config) config.chains)
 
 -- the last net of a row is that of the last cell
 pub last_place : (chain place : ℕ) (cells : List InstanceId) (row : List NetId) (cell : InstanceId) → slice_get cells place ≡ Some cell → slice_get cells (suc place) ≡ None → length row ≡ length cells → length row - 1 ≡ place
@@ -85,7 +86,7 @@ end_has n config chain place cell ready stands last =
     let at : length (row_at (rows_in Plain n config).value chain) - 1 ≡ place = ap (λ (r : List NetId). length r - 1) row ∙ last_place chain place out.cells out.row cell out.stands past out.wide in
     record {
       output = out.net.0;
-      buffer = end_means n config chain ready (chain_there (plan_of n config).chains chain place cell stands)
+      buffer = end_means n config chain ready (chain_within (plan_of n config).chains chain place cell stands)
           ∙ ap (λ (net : NetId). Gate Buf (Net net.0 ∷ [])) (ap (net_at (row_at (rows_in Plain n config).value chain)) at ∙ out_net Plain n config ready chain place cell cell.0 s out);
       flop = means Plain n config cell s ready out.net out.joined;
     }

@@ -20,6 +20,7 @@ use Rattle.dft_rules.specs.declared.judged.Judged.TheVariants.{Scanned}
 use Rattle.dft_scan_frame.specs.ConfigPorts.{config_ports}
 use Rattle.dft_rules.specs.Refusals.{is_scanned}
 use Rattle.dft_rules.specs.Rules.{judged, may_be_scanned, scan_cell_in}
+use Rattle.dft_rules.proofs.Scannable.{scannable_flop}
 use Rattle.dft_stitch.specs.Chains.{plan_of}
 use Rattle.dft_stitch.specs.Plans.{cell_at}
 use Rattle.dft_chains.specs.ScanOff.{Places, KeepsFlop}
@@ -46,7 +47,7 @@ use Rattle.dft_scan_equivalence.proofs.Sparing.{spared}
 use Rattle.dft_scan_equivalence.proofs.Matching.{ports_alike, now_there, instance_matched}
 use Rattle.dft_scan_equivalence.proofs.Merging.{joined_at}
 use Rattle.dft_scan_behavior.specs.Facts.{taken_by}
-use Rattle.dft_scan_behavior.proofs.Clocks.{IsClocked, clocked, clock_is, domain_is, ActsBy, acts_pins, root_stays, scannable_flop}
+use Rattle.dft_scan_behavior.proofs.Clocks.{IsClocked, clocked, clock_is, domain_is, ActsBy, acts_pins, root_stays}
 use Rattle.dft_scan_behavior.proofs.ScanShapes.{IsScanShape, scan_shape, pin_number, output_lists}
 
 -- the pins of a scan cell in the frame, and when all parts are made

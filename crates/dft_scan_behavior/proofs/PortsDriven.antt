@@ -1,5 +1,5 @@
 -- The added input ports of style Edt drive their nets in the scanned netlist, and edt_clock is a clock.
-use Rattle.std.proofs.Common.{ℕ, zero, suc, ◌+◌, ◌≡◌, ◌<◌, ◌≤◌, ◌==◌, Bool, true, false, ◌||◌, List, [], ◌∷◌, ◌++◌, length, map, Option, None, Some, option_and_then, refl, sym, ap, arith, ◌∙◌, append_assoc}
+use Rattle.std.proofs.Common.{ℕ, zero, suc, ◌+◌, ◌≡◌, ◌<◌, ◌≤◌, ◌==◌, Bool, true, false, List, [], ◌∷◌, ◌++◌, length, map, Option, None, Some, option_and_then, refl, sym, ap, arith, ◌∙◌, append_assoc}
 use Rattle.std.specs.Prelude.{if◌then◌else◌}
 use Rattle.std.specs.List.{AllByRecursion, list_any, range_with_len}
 use Rattle.std.proofs.lemmas.Bool.{eq-eqb, eqb-true, or_from, or_right}
@@ -10,13 +10,14 @@ use Rattle.dft_base.specs.declared.dir.Dir.TheVariants as dir
 use Rattle.dft_base.proofs.NumberLemmas.{less_apart}
 use Rattle.dft_netlist.specs.declared.ids.NetId.{NetId}
 use Rattle.dft_netlist.specs.Drivers as drivers
-use Rattle.dft_netlist.specs.Drivers.{Driver, Driven, driven_by_bits, driven_by_ports, driven_by_instances, driven_by_joins, driver_in, driver}
+use Rattle.dft_netlist.specs.Drivers.{Driven, driven_by_bits, driven_by_ports, driven_by_instances, driven_by_joins, driver_in, driver}
 use Rattle.dft_netlist.specs.Connections.{is_input, input_net}
 use Rattle.dft_netlist.specs.Logic as logic
 use Rattle.dft_netlist.specs.Logic.{meaning_of, logic_of}
 use Rattle.dft_netlist.specs.Names.{find_net}
 use Rattle.dft_netlist.specs.Netlist.{Netlist}
 use Rattle.dft_netlist.specs.Sound.{bits_of}
+use Rattle.dft_netlist.proofs.LiveDriven.{AreBefore}
 use Rattle.dft_config.specs.declared.config.Config.{Config}
 use Rattle.dft_rules.specs.Rules.{is_net}
 use Rattle.dft_parts.specs.Standing.{IsClockNet}
@@ -26,7 +27,6 @@ use Rattle.dft_scan_frame.specs.Statements.{IsReady}
 use Rattle.dft_scan_frame.specs.ConfigPorts.{config_ports}
 use Rattle.dft_scan_frame.specs.Moves.{map_from}
 use Rattle.dft_scan_frame.proofs.Kept.{numbered_count}
-use Rattle.dft_scan_frame.proofs.Whole.{AreBefore}
 use Rattle.dft_scan_frame.proofs.Containing.{input_less}
 use Rattle.dft_scan_frame.proofs.Fine.{driver_fine}
 use Rattle.dft_scan_hardware.specs.declared.style.Style.TheVariants.{Plain, Edt}

@@ -15,6 +15,7 @@ use Rattle.dft_config.specs.declared.config.Config.{Config}
 use Rattle.dft_rules.specs.Rules.{judgements}
 use Rattle.dft_stitch.specs.Chains.{plan_of}
 use Rattle.dft_stitch.specs.Plans.{cell_at}
+use Rattle.dft_stitch.proofs.CellPlaces.{chain_within}
 use Rattle.dft_chains.specs.Hardware.{Leads}
 use Rattle.dft_parts.specs.Parts.{Part}
 use Rattle.dft_parts.specs.Recipes.{Recipe, net_at}
@@ -51,9 +52,6 @@ pub cell_index : (xs : List (List InstanceId)) (chain k : ℕ) (c : InstanceId) 
 cell_index xs chain k c h =
     let has = has_chain xs chain k c h in
     ap (λ (cells : List InstanceId). slice_get cells k) (get_or_from_slice_get xs chain has.cells [] has.at) ∙ has.here
-
-pub chain_there : (xs : List (List InstanceId)) (chain k : ℕ) (c : InstanceId) → cell_at xs chain k ≡ Some c → chain < length xs
-chain_there xs chain k c h = let has = has_chain xs chain k c h in slice_get_within xs chain has.cells has.at
 
 -- ---- the recipe of a chain, in all that is made
 
@@ -114,7 +112,7 @@ input_number style n config cell s = ap (number_of (same_role ScanIn) 0) (sym s.
 joined_by : (style : Style) (n : Netlist) (config : Config) (chain place : ℕ) (cell : InstanceId) (s : IsPlanned style n config cell.0) (P : NetId → Type 0) → IsReady n config → cell_at (plan_of n config).chains chain place ≡ Some cell →
     FoundIn (scanned style n config) cell.0 s.shape.input P (chain_recipe style n config chain) → IsJoined style n config cell s P
 joined_by style n config chain place cell s P ready stands found =
-    let first = made_first n config cell.0 s.shape.input P style chain (input_free style n config cell s ready chain place stands) (chain_there (plan_of n config).chains chain place cell stands)
+    let first = made_first n config cell.0 s.shape.input P style chain (input_free style n config cell s ready chain place stands) (chain_within (plan_of n config).chains chain place cell stands)
     (λ other k c is same. (one_place n config chain place other k cell c ready stands (index_cell (plan_of n config).chains other k c is) same).0) found in (
       first.0,
       joined_first (made_in style n config) cell.0 s.shape.input (cell_pins style n config s.instance s.id) first.0 (s.shape.opened (at_net (gap_in style n config).before) (map (moved_signal (gap_in style n config)) s.instance.pins)) first.1,

@@ -1,7 +1,6 @@
 -- What parts drive at most, and that they are ranked, told by the netlist that they are added to.
-use Rattle.std.proofs.Common.{ℕ, zero, suc, ◌+◌, ◌≡◌, ◌≤◌, inl, inr, Bool, true, List, [], ◌∷◌, ◌++◌, length, Option, None, Some, slice_get, cond, refl, sym, subst, ap, arith, ◌∙◌, ◌==◌}
+use Rattle.std.proofs.Common.{ℕ, zero, suc, ◌+◌, ◌≡◌, ◌≤◌, inl, inr, true, List, [], ◌∷◌, ◌++◌, length, Option, None, Some, slice_get, refl, sym, subst, ap, arith, ◌∙◌, ◌==◌}
 use Rattle.std.specs.Prelude.{IsTrue}
-use Rattle.std.proofs.lemmas.List.Sums.{sum_by-cons}
 use Rattle.std.proofs.lemmas.Bool.{eq-eqb}
 use Rattle.dft_cells.specs.declared.kind.Role.{Role}
 use Rattle.dft_cells.specs.declared.cell.Cell.{Cell}

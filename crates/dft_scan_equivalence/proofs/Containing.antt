@@ -1,12 +1,12 @@
 -- A scanned netlist of either style contains its design, where the parts that are made leave the design's nets alone.
-use Rattle.std.proofs.Common.{ℕ, suc, ◌+◌, ◌≡◌, ◌==◌, ◌<◌, Bool, true, false, ◌||◌, List, ◌∷◌, ◌++◌, drop, length, map, slice_get, refl, ap, arith, ◌∙◌, append_assoc}
+use Rattle.std.proofs.Common.{ℕ, suc, ◌+◌, ◌≡◌, ◌==◌, ◌<◌, true, false, List, ◌∷◌, ◌++◌, drop, length, map, slice_get, refl, ap, arith, ◌∙◌, append_assoc}
 use Rattle.std.specs.Prelude.{if◌then◌else◌}
 use Rattle.std.proofs.lemmas.Bool.{eq-eqb, or_from}
 use Rattle.dft_netlist.specs.Netlist.{Netlist}
 use Rattle.dft_netlist.specs.Sound.{bits_of}
-use Rattle.dft_netlist.specs.Drivers.{Source, Driver, Driven, driven_by_instances, driven_by_ports, driven_by_joins, driver, driver_in}
+use Rattle.dft_netlist.specs.Drivers.{Driver, Driven, driven_by_instances, driven_by_ports, driven_by_joins, driver, driver_in}
 use Rattle.dft_netlist.specs.Drivers as drivers
-use Rattle.dft_netlist.specs.Logic.{Ports, Meaning, flip_flop, meaning_of, logic_of}
+use Rattle.dft_netlist.specs.Logic.{flip_flop, meaning_of, logic_of}
 use Rattle.dft_netlist.specs.Logic as logic
 use Rattle.dft_netlist.proofs.RankLemmas.{order_ranks}
 use Rattle.dft_netlist.proofs.Ranks.{order_is_rank}

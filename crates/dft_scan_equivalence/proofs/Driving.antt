@@ -22,6 +22,7 @@ use Rattle.dft_netlist.specs.Drivers.{Input, Driven, Shape, connections_from, in
 use Rattle.dft_netlist.specs.NetDrivers.{roles_at, roles_in}
 use Rattle.dft_netlist.specs.Netlist.{Netlist}
 use Rattle.dft_netlist.specs.Sound.{bits_of}
+use Rattle.dft_netlist.proofs.LiveDriven.{AreBefore, before_front, before_back, nets_before}
 use Rattle.dft_config.specs.declared.config.Config.{Config}
 use Rattle.dft_rules.specs.Refusals.{is_scanned}
 use Rattle.dft_rules.specs.Rules.{judged, scan_cell_in}
@@ -33,7 +34,7 @@ use Rattle.dft_scan_frame.specs.Moves.{Gap, moved, moved_signal, moved_instance,
 use Rattle.dft_scan_frame.specs.Statements.{IsReady}
 use Rattle.dft_scan_frame.proofs.Mergings.{moved_driver, moved_driven, NoneAt, old_driver, moved_instance_drives, moved_joins_drive, ports_append}
 use Rattle.dft_scan_frame.proofs.ScanPairs.{ScanPair, Plain, PlainBoth, Resets, ResetsBoth, Sets, SetsBoth, ListOf3, ListOf4, ListOf5, three, four, five}
-use Rattle.dft_scan_frame.proofs.Whole.{moved_front, moved_apart, AreBefore, nets_before, before_front, before_back, instances_append, length_map_from}
+use Rattle.dft_scan_frame.proofs.Whole.{moved_front, moved_apart, instances_append, length_map_from}
 use Rattle.dft_scan_hardware.specs.declared.style.Style.{Style}
 use Rattle.dft_scan_hardware.specs.Frame.{framed_pins, as_scan_cell, framed_instance, framed_at, frame}
 use Rattle.dft_scan_hardware.specs.Ports.{added_ports, gap_in}

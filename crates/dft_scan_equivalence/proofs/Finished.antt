@@ -1,13 +1,11 @@
 -- Scanned netlists can be finished.
-use Rattle.std.proofs.Common.{ℕ, zero, suc, ◌+◌, ◌≡◌, ◌<◌, ◌≤◌, ◌⊎◌, inl, inr, List, [], ◌∷◌, length, refl, arith}
-use Rattle.dft_netlist.specs.declared.instance.Signal.{Signal}
-use Rattle.dft_netlist.specs.declared.instance.Signal.TheVariants.{Net, Constant, Unconnected}
+use Rattle.std.proofs.Common.{ℕ, ◌+◌, ◌≡◌, ◌≤◌, inl, inr, List, length, refl, arith}
+use Rattle.std.proofs.lemmas.Bool.{cases_lt}
 use Rattle.dft_netlist.specs.Netlist.{Netlist}
 use Rattle.dft_netlist.specs.NetDrivers.{IsSingle, times_driven}
 use Rattle.dft_netlist.specs.Orders.{Has, AreOnce, IsOrderable}
 use Rattle.dft_netlist.proofs.RankLemmas as orders
 use Rattle.dft_config.specs.declared.config.Config.{Config}
-use Rattle.dft_parts.specs.Growth.{AreKept}
 use Rattle.dft_parts.specs.Parts.{Part}
 use Rattle.dft_parts.specs.Ranks.{AreRanked}
 use Rattle.dft_parts.specs.Single.{driven_by_parts, times_in}
@@ -33,11 +31,6 @@ use Rattle.dft_scan_equivalence.proofs.MadeGood.{top_of, rank_of, made_good, cla
 keeps_own : (n : Netlist) → Keeps n n
 keeps_own n i x at = record { instance = x; at = at; cell_is = refl; kept = kept_refl x.pins }
 
-less_or_past : (a b : ℕ) → (b < a) ⊎ (a ≤ b)
-less_or_past zero b = inr (omega arith)
-less_or_past (suc a) zero = inl (omega arith)
-less_or_past (suc a) (suc b) = elim (less_or_past a b) [ inl h ↦ inl (omega (arith, h)) | inr h ↦ inr (omega (arith, h)) ]
-
 -- ---- drivers
 
 module _ (style : Style) (n : Netlist) (config : Config) (ready : IsReady n config) where
@@ -62,11 +55,11 @@ module _ (style : Style) (n : Netlist) (config : Config) (ready : IsReady n conf
       let claimed = few net in
       let lies = laid style n config ready in
       let size = frame_nets style n config in
-      elim (less_or_past (length (frame style n config).nets) net) [
+      elim (cases_lt net (length (frame style n config).nets)) [
         | inr past ↦ frame_free style n config net ready (omega (arith, past, size, lies.before, lies.end)) (inr (omega (arith, past, size)))
-        | inl less ↦ elim (less_or_past (outs_start style n config) net) [
+        | inl less ↦ elim (cases_lt net (outs_start style n config)) [
           | inl front ↦ (let zeroth = claims_none style n config net ready less (inl front) in absurd (omega (arith, some, claimed, zeroth)))
-          | inr from ↦ elim (less_or_past (gap.before + gap.width) net) [
+          | inr from ↦ elim (cases_lt net (gap.before + gap.width)) [
             | inl inside ↦ frame_free style n config net ready from (inl inside)
             | inr back ↦ (let zeroth = claims_none style n config net ready less (inr back) in absurd (omega (arith, some, claimed, zeroth)))
           ]

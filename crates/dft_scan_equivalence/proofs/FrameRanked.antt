@@ -1,5 +1,5 @@
 -- All of a frame is ranked, where an order ranks the design.
-use Rattle.std.proofs.Common.{ℕ, zero, suc, ◌+◌, ◌≡◌, ◌<◌, ◌≤◌, ◌⊎◌, inl, inr, Bool, true, false, List, [], ◌∷◌, ◌++◌, length, map, Option, None, Some, slice_get, refl, sym, subst, ap, arith, ◌∙◌}
+use Rattle.std.proofs.Common.{ℕ, zero, suc, ◌+◌, ◌≡◌, ◌<◌, ◌≤◌, inl, inr, Bool, true, false, List, [], ◌∷◌, length, map, Option, None, Some, slice_get, refl, sym, subst, ap, arith, ◌∙◌}
 use Rattle.std.specs.Prelude.{if◌then◌else◌}
 use Rattle.std.proofs.lemmas.Option.{none-some, same_Some}
 use Rattle.dft_cells.specs.declared.kind.Kind.{Kind}
@@ -17,7 +17,7 @@ use Rattle.dft_netlist.specs.Drivers.{Source, Net, Tied, Loose, Shape, connectio
 use Rattle.dft_netlist.specs.Netlist.{Netlist}
 use Rattle.dft_netlist.specs.Orders.{Has}
 use Rattle.dft_netlist.specs.Sound.{IsLive, AreLive, is_output}
-use Rattle.dft_netlist.proofs.StandLemmas.{has_left}
+use Rattle.dft_netlist.proofs.StandLemmas.{has_left, has_right, has_either}
 use Rattle.dft_config.specs.declared.config.Config.{Config}
 use Rattle.dft_chains.specs.ScanOff.{moved_source}
 use Rattle.dft_parts.specs.Ranks.{reads_by, IsRanked, IsJoinRanked, AreRanked}
@@ -95,15 +95,6 @@ inputs_live count i pin (r ∷ roles) [] own live h = absurd h
 inputs_live count i pin (r ∷ roles) (s ∷ signals) own live h =
     first_live count i pin s (inputs_of i (connections_from (suc pin) roles signals)) own (is_input r) (live zero s refl) (inputs_live count i (suc pin) roles signals own (λ k z at. live (suc k) z at)) h
 
-has_split : (xs ys : List ℕ) (k : ℕ) → Has (xs ++ ys) k → Has xs k ⊎ Has ys k
-has_split [] ys k h = inr h
-has_split (x ∷ xs) ys k (inl e) = inl (inl e)
-has_split (x ∷ xs) ys k (inr h) = elim (has_split xs ys k h) [ inl a ↦ inl (inr a) | inr b ↦ inr b ]
-
-has_back : (xs ys : List ℕ) (k : ℕ) → Has ys k → Has (xs ++ ys) k
-has_back [] ys k h = h
-has_back (x ∷ xs) ys k h = inr (has_back xs ys k h)
-
 one_driven : (f : ℕ → ℕ) (count own net : ℕ) (b : Bool) → own < count → Has (if b then f own ∷ [] else []) net → IsFrom f count (if b then own ∷ [] else []) net
 one_driven f count own net true live (inl e) = record { own = own; has = inl refl; live = live; is = e }
 one_driven f count own net true live (inr h) = absurd h
@@ -117,9 +108,9 @@ pin_driven gap count r signal.Unconnected net live h = absurd h
 moved_driven : (gap : Gap) (count : ℕ) (roles : List Role) (signals : List Signal) (net : ℕ) → AreLive count signals → Has (nets_driven roles (map (moved_signal gap) signals)) net → IsFrom (moved gap) count (nets_driven roles signals) net
 moved_driven gap count [] signals net live h = absurd h
 moved_driven gap count (r ∷ roles) [] net live h = absurd h
-moved_driven gap count (r ∷ roles) (s ∷ signals) net live h = elim (has_split (net_driven r (moved_signal gap s)) (nets_driven roles (map (moved_signal gap) signals)) net h) [
+moved_driven gap count (r ∷ roles) (s ∷ signals) net live h = elim (has_either (net_driven r (moved_signal gap s)) (nets_driven roles (map (moved_signal gap) signals)) net h) [
   | inl here ↦ (let it = pin_driven gap count r s net (live zero s refl) here in record { own = it.own; has = has_left (net_driven r s) (nets_driven roles signals) it.own it.has; live = it.live; is = it.is })
-  | inr there ↦ (let it = moved_driven gap count roles signals net (λ k z at. live (suc k) z at) there in record { own = it.own; has = has_back (net_driven r s) (nets_driven roles signals) it.own it.has; live = it.live; is = it.is })
+  | inr there ↦ (let it = moved_driven gap count roles signals net (λ k z at. live (suc k) z at) there in record { own = it.own; has = has_right (net_driven r s) (nets_driven roles signals) it.own it.has; live = it.live; is = it.is })
 ]
 
 -- ---- instances

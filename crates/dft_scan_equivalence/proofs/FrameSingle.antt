@@ -1,6 +1,7 @@
 -- No net of a frame has two drivers, and its added outputs have none.
 use Rattle.std.proofs.Common.{ℕ, zero, suc, ◌+◌, ◌≡◌, ◌<◌, ◌≤◌, ◌==◌, ◌⊎◌, inl, inr, Bool, true, false, List, [], ◌∷◌, ◌++◌, length, map, Option, None, Some, slice_get, refl, sym, subst, ap, arith, ◌∙◌, append_assoc}
 use Rattle.std.proofs.lemmas.List.{append-nil, length-append}
+use Rattle.std.proofs.lemmas.Bool.{cases_lt}
 use Rattle.dft_base.specs.declared.dir.Dir.{Dir}
 use Rattle.dft_base.specs.declared.dir.Dir.TheVariants as dir
 use Rattle.dft_base.proofs.NumberLemmas.{less_apart}
@@ -19,6 +20,7 @@ use Rattle.dft_netlist.specs.Drivers.{Source, Input, Flop, Driven, at_signal, Sh
 use Rattle.dft_netlist.specs.Netlist.{Netlist}
 use Rattle.dft_netlist.specs.NetDrivers.{IsSingle, times_driven}
 use Rattle.dft_netlist.specs.Sound.{bits_of}
+use Rattle.dft_netlist.proofs.LiveDriven.{DriveBelow, AreBefore, before_front, before_back, nets_before, drives_below}
 use Rattle.dft_config.specs.declared.config.Config.{Config}
 use Rattle.dft_rules.specs.Refusals.{is_scanned}
 use Rattle.dft_rules.specs.Rules.{judged, scan_cell_in}
@@ -27,12 +29,11 @@ use Rattle.dft_scan_frame.specs.Moves.{Gap, moved, moved_signal, map_from, at_ne
 use Rattle.dft_scan_frame.specs.Statements.{IsReady}
 use Rattle.dft_scan_frame.proofs.AddedOnce.{ports_rise, outputs_none, ports_below}
 use Rattle.dft_scan_frame.proofs.Kept.{numbered_count}
-use Rattle.dft_scan_frame.proofs.LiveDriven.{DriveBelow, drives_below}
 use Rattle.dft_scan_frame.proofs.Mergings.{moved_driven, Merges, Nothing, append_merges, all_kept, all_added, NoneAt, times, old_times, moved_instance_drives, moved_joins_drive, ports_append}
 use Rattle.dft_scan_frame.proofs.ScanPairs.{ScanPair, Plain as PlainPair, PlainBoth, Resets, ResetsBoth, Sets, SetsBoth, three, four, five}
 use Rattle.dft_scan_frame.proofs.Single.{IsMovedOrNew, IsMoved, IsNone, moved_or_new}
 use Rattle.dft_scan_frame.proofs.Times.{Rises, rises_once, past_none, added_times_live}
-use Rattle.dft_scan_frame.proofs.Whole.{moved_front, moved_back, moved_apart, AreBefore, nets_before, before_front, before_back}
+use Rattle.dft_scan_frame.proofs.Whole.{moved_front, moved_back, moved_apart}
 use Rattle.dft_scan_hardware.specs.declared.style.Style.{Style}
 use Rattle.dft_scan_hardware.specs.declared.style.Style.TheVariants.{Plain, Edt}
 use Rattle.dft_scan_hardware.specs.Frame.{framed_pins, as_scan_cell, framed_instance, framed_at, frame}
@@ -168,11 +169,6 @@ none_moved style n config own ready (inr back) =
     let gap = gap_in style n config in
     subst (NoneAt (added_drives style n config)) (sym (moved_back gap own back)) (none_behind (outs_start style n config) (own + gap.width) (added_drives style n config) (added_below style n config) (omega (arith, back, (laid style n config ready).end)))
 
-le_or_less : (a b : ℕ) → (b < a) ⊎ (a ≤ b)
-le_or_less zero b = inr (omega arith)
-le_or_less (suc a) zero = inl (omega arith)
-le_or_less (suc a) (suc b) = elim (le_or_less a b) [ inl h ↦ inl (omega (arith, h)) | inr h ↦ inr (omega (arith, h)) ]
-
 -- the drivers of the frame that are not the design's
 padded : (style : Style) (n : Netlist) (config : Config) → (added_drives style n config ++ []) ++ [] ≡ added_drives style n config
 padded style n config = append-nil (added_drives style n config ++ []) ∙ append-nil (added_drives style n config)
@@ -190,7 +186,7 @@ frame_by style n config net ready (IsMoved {own = own} less is) =
     let gap = gap_in style n config in
     let w : Netlist = frame style n config in
     subst (λ (k : ℕ). times_driven w k ≤ 1) is
-    (subst (λ (m : ℕ). m ≤ 1) (sym (old_times (moved gap) own (all_driven n) (added_drives style n config) (all_driven w) (moved_apart gap) (merges style n config ready) (none_moved style n config own ready (le_or_less gap.before own)))) (ready.single own))
+    (subst (λ (m : ℕ). m ≤ 1) (sym (old_times (moved gap) own (all_driven n) (added_drives style n config) (all_driven w) (moved_apart gap) (merges style n config ready) (none_moved style n config own ready (cases_lt own gap.before)))) (ready.single own))
 frame_by style n config net ready (IsNone apart) =
     subst (λ (m : ℕ). m ≤ 1) (sym (other_times style n config net ready apart)) (rises_once net (gap_in style n config).before (added_drives style n config) (ports_rise (gap_in style n config).before (added_ports style config)))
 
@@ -209,5 +205,5 @@ pub frame_free : (style : Style) (n : Netlist) (config : Config) (net : ℕ) →
     times_driven (frame style n config) net ≡ 0
 frame_free style n config net ready from where_it =
     let gap = gap_in style n config in
-    other_times style n config net ready (λ k less. moved_not gap (length n.nets) k net (le_or_less gap.before k) less (omega (arith, from, (laid style n config ready).start)) where_it)
+    other_times style n config net ready (λ k less. moved_not gap (length n.nets) k net (cases_lt k gap.before) less (omega (arith, from, (laid style n config ready).start)) where_it)
     ∙ past_none net (outs_start style n config) (added_drives style n config) (added_below style n config) from

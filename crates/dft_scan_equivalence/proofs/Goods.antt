@@ -15,11 +15,11 @@ use Rattle.dft_netlist.specs.declared.ids.NetId.{NetId}
 use Rattle.dft_netlist.specs.declared.ids.InstanceId.{InstanceId}
 use Rattle.dft_netlist.specs.declared.instance.CellRef.TheVariants as cell_ref
 use Rattle.dft_netlist.specs.declared.instance.Signal.TheVariants.{Net}
-use Rattle.dft_netlist.specs.Drivers.{Shape, gate_roles, shape_of}
+use Rattle.dft_netlist.specs.Drivers.{Shape, shape_of}
 use Rattle.dft_netlist.specs.Netlist.{Netlist}
 use Rattle.dft_netlist.specs.NetDrivers.{roles_at}
 use Rattle.dft_parts.specs.Cells.{is_dff, is_lockup, first_cell, pin_between, pins_between}
-use Rattle.dft_parts.specs.Parts.{Part, ANet, AnInstance, APin}
+use Rattle.dft_parts.specs.Parts.{Part, AnInstance}
 use Rattle.dft_parts.specs.Recipes.{Start, nets_in, behind, net_at, a_net, a_gate, a_flop, a_lockup, a_pin, at_nets}
 use Rattle.dft_parts.specs.Single.{nets_driven, times_in}
 use Rattle.dft_parts.proofs.RankedParts.{flip_flop_ranked, gate_ranked, lockup_ranked, gate_drives}

@@ -1,5 +1,4 @@
 pub mod Claims
-pub mod FirstFlops
 pub mod Goods
 pub mod GoodSums
 pub mod GoodRing

@@ -10,8 +10,7 @@ use Rattle.dft_parts.specs.declared.edt_ports.EdtPorts.{EdtPorts}
 use Rattle.dft_parts.specs.Recipes.{nets_in, net_at, start_of}
 use Rattle.dft_parts.specs.Single.{times_in}
 use Rattle.dft_parts.proofs.Singles.{counted_first}
-use Rattle.dft_stitch.specs.Chains.{cells_of, plan_of}
-use Rattle.dft_stitch.proofs.BlockLemmas.{chain_count}
+use Rattle.dft_stitch.specs.Chains.{plan_of}
 use Rattle.dft_scan_frame.specs.Statements.{IsReady}
 use Rattle.dft_scan_hardware.specs.declared.style.Style.{Style}
 use Rattle.dft_scan_hardware.specs.declared.style.Style.TheVariants.{Plain, Edt}

@@ -1,13 +1,11 @@
 -- Each flip-flop of a design is kept in its scanned netlist.
 use Rattle.std.proofs.Common.{ℕ, zero, suc, ◌+◌, ◌≡◌, inl, inr, Bool, true, false, List, [], ◌∷◌, length, map, Option, None, Some, slice_get, refl, sym, subst, ap, arith, ◌∙◌}
-use Rattle.std.specs.Prelude.{slice_index_or}
 use Rattle.std.proofs.lemmas.Option.{none-some}
 use Rattle.dft_base.proofs.BitLemmas.{true_false}
 use Rattle.dft_cells.specs.declared.kind.Kind.{Kind}
 use Rattle.dft_cells.specs.declared.kind.Role.{Role}
 use Rattle.dft_cells.specs.declared.kind.Role.TheVariants.{Input, Clock, Din, Reset, Preset, ScanIn, ScanEnable, Output, Inverted}
 use Rattle.dft_netlist.specs.declared.instance.Signal.{Signal}
-use Rattle.dft_netlist.specs.declared.instance.Signal.TheVariants.{Unconnected}
 use Rattle.dft_netlist.specs.Drivers.{Source, Connection, connections_from, source_of}
 use Rattle.dft_netlist.specs.Logic.{same_role, pin_of, scan_of}
 use Rattle.dft_chains.specs.ScanOff.{moved_source, IsEnabledBy}

@@ -5,8 +5,8 @@ use Rattle.dft_base.specs.Lexing.{Text}
 use Rattle.dft_base.specs.declared.dir.Dir.{Dir}
 use Rattle.dft_base.specs.declared.dir.Dir.TheVariants as dir
 use Rattle.dft_netlist.specs.Drivers.{Driven, driven_by_bits, driven_by_ports}
+use Rattle.dft_netlist.proofs.LiveDriven.{DriveBelow}
 use Rattle.dft_scan_frame.specs.AddedPorts.{NewPort, new_port, numbered, ports_from}
-use Rattle.dft_scan_frame.proofs.LiveDriven.{DriveBelow}
 use Rattle.dft_scan_frame.proofs.Times.{Rises}
 
 -- ---- ports

@@ -1,5 +1,5 @@
 -- A scanned netlist contains its design.
-use Rattle.std.proofs.Common.{ℕ, zero, suc, ◌≡◌, ◌==◌, ◌<◌, inl, inr, Bool, true, false, ◌||◌, option_and_then, List, ◌∷◌, length, map, Option, None, Some, is_some, slice_get, refl, sym, subst, ap, arith, ◌∙◌, []}
+use Rattle.std.proofs.Common.{ℕ, zero, suc, ◌≡◌, ◌<◌, inl, inr, Bool, true, false, option_and_then, List, ◌∷◌, length, map, Option, None, Some, is_some, slice_get, refl, sym, subst, ap, ◌∙◌, []}
 use Rattle.std.specs.Prelude.{if◌then◌else◌}
 use Rattle.std.specs.List.{list_any}
 use Rattle.std.proofs.lemmas.Bool.{or_from}
@@ -19,13 +19,14 @@ use Rattle.dft_netlist.specs.declared.instance.CellRef.TheVariants as cell_ref
 use Rattle.dft_netlist.specs.declared.instance.Instance.{Instance}
 use Rattle.dft_netlist.specs.Netlist.{Netlist}
 use Rattle.dft_netlist.specs.Sound.{bits_of}
-use Rattle.dft_netlist.specs.Drivers.{Source, Net, Connection, connections_from, shape_of, shape_of_cell, gate_roles, kind_of, pins_at, AreBelow, driver}
+use Rattle.dft_netlist.specs.Drivers.{Source, Connection, connections_from, shape_of, shape_of_cell, gate_roles, kind_of, pins_at, AreBelow, driver}
 use Rattle.dft_netlist.specs.Drivers as drivers
-use Rattle.dft_netlist.specs.Logic.{Ports, Meaning, Cell, Scan, same_role, pin_of, modelled_of, flip_flop, cell_or_none, flop_meaning, meaning_of, reads}
+use Rattle.dft_netlist.specs.Logic.{Ports, Meaning, Cell, same_role, pin_of, modelled_of, flip_flop, cell_or_none, flop_meaning, meaning_of, reads}
 use Rattle.dft_netlist.specs.Logic as logic
 use Rattle.dft_netlist.specs.Names.{find_net}
 use Rattle.dft_config.specs.declared.config.Config.{Config}
 use Rattle.dft_netlist.specs.Connections.{is_input, input_net}
+use Rattle.dft_netlist.proofs.SettledLemmas.{no_flop}
 use Rattle.dft_rules.specs.Rules.{is_net}
 use Rattle.dft_chains.specs.ScanOff.{moved_meaning, Places, KeepsFlop}
 use Rattle.dft_scan_frame.specs.ConfigPorts.{config_ports}
@@ -176,15 +177,11 @@ clock_no_lockup : (b : Bool) (cell domain : ℕ) (source : Source) → (if b the
 clock_no_lockup true cell domain source e = cc
 clock_no_lockup false cell domain source e = cc
 
-flop_no_lockup : (i : ℕ) (inverted : Bool) (o : Option Cell) (cell domain : ℕ) (source : Source) → flop_meaning i inverted o ≡ logic.Lockup cell domain source → ⊥
-flop_no_lockup i inverted None cell domain source e = cc
-flop_no_lockup i inverted (Some c) cell domain source e = cc
-
 pub lockup_by : (n : Netlist) (ports : Ports) (net cell domain : ℕ) (source : Source) (d : drivers.Driver) → FineBy n net d → meaning_of n ports net d ≡ logic.Lockup cell domain source → ⊥
 lockup_by n ports net cell domain source drivers.Input fine e = clock_no_lockup (ports.is_clock net) cell domain source e
 lockup_by n ports net cell domain source (drivers.Gate k inputs) fine e = cc
 lockup_by n ports net cell domain source (drivers.Joined from) fine e = cc
-lockup_by n ports net cell domain source (drivers.Flop i other) fine e = flop_no_lockup i other (flip_flop n ports i) cell domain source e
+lockup_by n ports net cell domain source (drivers.Flop i other) fine e = no_flop i other (flip_flop n ports i) cell domain source e
 lockup_by n ports net cell domain source (drivers.Lockup i) fine e = absurd fine
 lockup_by n ports net cell domain source drivers.Free fine e = cc
 

@@ -22,12 +22,12 @@ use Rattle.dft_netlist.specs.declared.instance.Join.{Join}
 use Rattle.dft_netlist.specs.Netlist.{Netlist}
 use Rattle.dft_netlist.specs.Sound.{bits_of, IsCellOf, is_primitive}
 use Rattle.dft_netlist.specs.Drivers.{Source, Driver, Input, Gate, Joined, Flop, Lockup, Free, Driven, Connection, driver_of_kind, at_signal, at_role, driven_by_pins, driven_by, driven_by_instances, driven_by_bits, driven_by_ports, driven_by_joins, all_driven, driver_in, driver, inputs_of, connections_of, shape_of}
+use Rattle.dft_netlist.proofs.LiveDriven.{AreBefore, before_front, before_back, nets_before}
 use Rattle.dft_config.specs.declared.config.Config.{Config}
 use Rattle.dft_rules.specs.declared.error.RuleError.{RuleError}
-use Rattle.dft_rules.specs.Refusals.{present_as, present, first_present, first_failing, refusal, unknown_port, unknown_cell, clock_as_data, quoted_port, too_few}
-use Rattle.dft_rules.specs.Rules.{judgements}
+use Rattle.dft_rules.specs.Refusals.{present_as, present, first_failing}
+use Rattle.dft_rules.proofs.CheckLemmas.{none_present}
 use Rattle.dft_scan_frame.specs.Statements.{IsReady}
-use Rattle.dft_scan_frame.proofs.Whole.{AreBefore, nets_before, before_front, before_back}
 
 -- ---- no scan cell and no lock-up
 
@@ -101,14 +101,6 @@ each_passes : (library : List Cell) (xs : List Instance) (k : ℕ) (x : Instance
 each_passes library [] k x e at = absurd (none-some x at)
 each_passes library (y ∷ xs) zero x e at = subst (λ (z : Instance). present library z ≡ None) (same_Some y x at) (none_fails (present library y) (map (present library) xs) e).first
 each_passes library (y ∷ xs) (suc k) x e at = each_passes library xs k x (none_fails (present library y) (map (present library) xs) e).rest at
-
-none_present : (n : Netlist) (config : Config) → refusal n config ≡ None → first_present n.library n.instances ≡ None
-unfolding refusal
-none_present n config e =
-    let domains = none_fails (unknown_port n config.domains) (unknown_port n config.resets ∷ unknown_cell n config.keep ∷ first_present n.library n.instances ∷ clock_as_data n config.domains ∷ quoted_port n.ports ∷ too_few (judgements n config) config.chains ∷ []) e in
-    let resets = none_fails (unknown_port n config.resets) (unknown_cell n config.keep ∷ first_present n.library n.instances ∷ clock_as_data n config.domains ∷ quoted_port n.ports ∷ too_few (judgements n config) config.chains ∷ []) domains.rest in
-    let kept = none_fails (unknown_cell n config.keep) (first_present n.library n.instances ∷ clock_as_data n config.domains ∷ quoted_port n.ports ∷ too_few (judgements n config) config.chains ∷ []) resets.rest in
-    (none_fails (first_present n.library n.instances) (clock_as_data n config.domains ∷ quoted_port n.ports ∷ too_few (judgements n config) config.chains ∷ []) kept.rest).first
 
 -- each instance is of such a kind
 pub instance_plain : (n : Netlist) (config : Config) (i : ℕ) (instance : Instance) → IsReady n config → slice_get n.instances i ≡ Some instance → is_plain (shape_of n.library instance.cell).kind ≡ true

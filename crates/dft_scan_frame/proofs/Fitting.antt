@@ -1,5 +1,5 @@
 -- What comes next in a whole netlist can be added to a front of it.
-use Rattle.std.proofs.Common.{ℕ, zero, suc, ◌+◌, ◌≡◌, ◌≤◌, false, List, ◌∷◌, ◌++◌, length, Option, None, Some, slice_get, refl, sym, subst, ap, arith, ◌∙◌, append_assoc, append-nil, length-append, []}
+use Rattle.std.proofs.Common.{ℕ, suc, ◌+◌, ◌≡◌, ◌≤◌, false, List, ◌∷◌, ◌++◌, length, Option, None, Some, slice_get, refl, sym, subst, ap, arith, ◌∙◌, append_assoc, append-nil, length-append, []}
 use Rattle.std.specs.List.{filter_map, cons_option}
 use Rattle.std.specs.Prelude.{if◌then◌else◌}
 use Rattle.std.proofs.lemmas.Bool.{le-leb}
@@ -13,9 +13,9 @@ use Rattle.dft_netlist.specs.Netlist.{Netlist}
 use Rattle.dft_netlist.specs.Names.{names_taken, is_taken, first_taken, bit_names, port_names, vector_name, vector_name_in, instance_name}
 use Rattle.dft_netlist.specs.NetNumbers.{nets_from}
 use Rattle.dft_netlist.specs.Building.{port_of, port_limit, room_limit, taken_or, own_names}
-use Rattle.dft_netlist.specs.Sound.{bits_of, bit_names_of, HasOnlyPorts, IsInstance, IsAJoin}
+use Rattle.dft_netlist.specs.Sound.{bit_names_of, HasOnlyPorts, IsInstance, IsAJoin}
 use Rattle.dft_netlist.proofs.RefusalLemmas.{net_open, instance_open}
-use Rattle.dft_netlist.proofs.PortLemmas.{nets_from-length}
+use Rattle.dft_netlist.proofs.PortLemmas.{nets_from-length, bits_behind}
 use Rattle.dft_scan_frame.specs.Growing.{APort, ANet, AnInstance, AJoin, with_thing, with_things, AllFit, port_things, net_things, instance_things, join_things}
 use Rattle.dft_scan_frame.proofs.NamesOnce.{times_named, named-append, never_has, named_here, taken_times, shown_append}
 
@@ -110,10 +110,6 @@ own_and_bits q port (Some range) rest is = subst (λ (o : Option Text). times_na
 
 room : (n : Netlist) (width : ℕ) → length n.ports + 1 ≤ MAX_PORTS → length n.nets + width ≤ MAX_NETS → room_limit n width ≡ None
 room n width ports nets = rw (le-leb (length n.ports + 1) MAX_PORTS ports, le-leb (length n.nets + width) MAX_NETS nets) refl
-
-bits_behind : (ports : List Port) (port : Port) → length (bits_of (ports ++ port ∷ [])) ≡ length (bits_of ports) + length port.bits
-bits_behind [] port = omega (arith, length-append port.bits [])
-bits_behind (p ∷ ports) port = omega (arith, length-append p.bits (bits_of (ports ++ port ∷ [])), length-append p.bits (bits_of ports), bits_behind ports port)
 
 pub ports_fit : (w n : Netlist) (ports more : List Port) (rest : List Text) (instances : List Instance) → IsWhole w → IsFront w n (ports ++ more) (bit_names_of ports ++ rest) instances → HasOnlyPorts n → AreNumbered (length n.nets) ports → AllFit n (port_things ports)
 ports_fit w n [] more rest instances whole front only numbers = tt

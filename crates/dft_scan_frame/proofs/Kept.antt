@@ -1,5 +1,5 @@
 -- How many ports are added, and the nets of a design that are read and that are roots.
-use Rattle.std.proofs.Common.{ℕ, zero, suc, ◌+◌, ◌≡◌, ◌<◌, ◌≤◌, inl, inr, List, ◌∷◌, length, refl, sym, subst, ap, arith, ◌∙◌, []}
+use Rattle.std.proofs.Common.{ℕ, ◌+◌, ◌≡◌, ◌<◌, inl, inr, List, ◌∷◌, length, refl, sym, subst, ap, arith, ◌∙◌, []}
 use Rattle.std.specs.List.{AllByRecursion, range_with_len}
 use Rattle.std.proofs.lemmas.List.{length-append, length-map}
 use Rattle.std.proofs.lemmas.List.FromFn.{length-range_with_len}
@@ -7,12 +7,12 @@ use Rattle.dft_base.specs.Lexing.{Text}
 use Rattle.dft_base.specs.declared.dir.Dir.{Dir}
 use Rattle.dft_base.specs.declared.dir.Dir.TheVariants as dir
 use Rattle.dft_netlist.specs.Netlist.{Netlist}
-use Rattle.dft_netlist.specs.Sound.{bits_of, bit_names_of, IsNetlist}
-use Rattle.dft_netlist.proofs.LiveLemmas.{length-bits}
+use Rattle.dft_netlist.specs.Sound.{bits_of}
 use Rattle.dft_netlist.specs.Drivers.{Source, Driver, Input, driver, nets_read, AreBelow}
 use Rattle.dft_netlist.specs.Orders.{Has, reads_of, IsOrderFrom}
 use Rattle.dft_netlist.specs.Traces.{Root, Port, Traces, AtPort, AtConstant, AtTie, ThroughBuffer, ThroughJoin, root_of}
 use Rattle.dft_netlist.proofs.Walks.{port_found}
+use Rattle.dft_netlist.proofs.LiveDriven.{ports_fit}
 use Rattle.dft_config.specs.declared.config.Config.{Config}
 use Rattle.dft_scan_frame.specs.AddedPorts.{new_port, numbered, numbered_ports, plain_ports}
 use Rattle.dft_scan_frame.specs.Statements.{IsReady}
@@ -45,11 +45,6 @@ reads_before n before (x ∷ xs) order less net (inr h) = reads_before n (x ∷ 
 
 pub reads_inside : (n : Netlist) (config : Config) (net : ℕ) → IsReady n config → net < length n.nets → AreBelow (λ k. k) (length n.nets) (nets_read n (driver n net))
 reads_inside n config net ready less = reads_before n [] ready.order ready.ordered.after (λ r h. absurd h) net (ready.ordered.whole net less)
-
--- the ports' nets are among all nets
-pub ports_fit : (n : Netlist) → IsNetlist n → length (bits_of n.ports) ≤ length n.nets
-ports_fit n sound =
-    omega (arith, ap length sound.bits.same, length-append (bit_names_of n.ports) sound.bits.rest, length-bits n.ports sound.widths)
 
 -- ---- roots
 

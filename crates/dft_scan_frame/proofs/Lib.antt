@@ -9,7 +9,6 @@ pub mod Fine
 pub mod Kept
 pub mod Contained
 pub mod Containing
-pub mod LiveDriven
 pub mod Times
 pub mod AddedOnce
 pub mod Single

@@ -1,8 +1,8 @@
 -- Each instance of the scanned netlist can stand in it.
-use Rattle.std.proofs.Common.{ℕ, zero, suc, ◌+◌, ◌≡◌, ◌≤◌, ◌<◌, Bool, true, List, ◌∷◌, length, map, drop, Option, None, Some, is_some, option_map, slice_get, refl, sym, subst, ap, arith, ◌∙◌, []}
+use Rattle.std.proofs.Common.{ℕ, zero, suc, ◌+◌, ◌≡◌, ◌≤◌, ◌<◌, Bool, true, List, ◌∷◌, length, map, drop, Option, None, Some, is_some, slice_get, refl, subst, ap, arith, ◌∙◌, []}
 use Rattle.std.specs.Prelude.{slice_index_or}
 use Rattle.std.proofs.lemmas.List.{length-map}
-use Rattle.std.proofs.lemmas.Option.{none-some, same_Some, slice_get-map, slice_get_within}
+use Rattle.std.proofs.lemmas.Option.{none-some, same_Some, slice_get_within}
 use Rattle.dft_base.specs.Lexing.{Text}
 use Rattle.dft_base.proofs.ListLemmas.{at_of_map}
 use Rattle.dft_cells.specs.declared.kind.Kind.{Kind}
@@ -24,11 +24,6 @@ use Rattle.dft_scan_frame.proofs.ScanPairs.{ScanPair, Plain, PlainBoth, Resets, 
 use Rattle.dft_scan_frame.proofs.LiveNets.{moved_less}
 
 -- ---- moved instances
-
--- an item of a list that was mapped
-map_by : {A B : Type 0} (f : A → B) (o : Option A) (y : B) → option_map f o ≡ Some y → (x : A) × (o ≡ Some x) × (f x ≡ y)
-map_by f None y e = absurd (none-some y e)
-map_by f (Some x) y e = (x, refl, same_Some (f x) y e)
 
 pub signal_live : (gap : Gap) (count all : ℕ) (s : Signal) → count + gap.width ≤ all → IsLive count s → IsLive all (moved_signal gap s)
 signal_live gap count all (Net net) le live = omega (arith, le, moved_less gap net.0 count live)
@@ -57,13 +52,6 @@ moved_sound library gap count all x le sound = record {
 }
 
 -- ---- scan cells
-
-pub live_none : (all : ℕ) → AreLive all []
-live_none all place s at = absurd (none-some s at)
-
-pub live_cons : (all : ℕ) (x : Signal) (xs : List Signal) → IsLive all x → AreLive all xs → AreLive all (x ∷ xs)
-live_cons all x xs here more zero s at = subst (IsLive all) (same_Some x s at) here
-live_cons all x xs here more (suc place) s at = more place s at
 
 pub live_drop : (all : ℕ) (pins : List Signal) → AreLive all pins → AreLive all (drop 1 pins)
 live_drop all [] live = live

@@ -3,8 +3,8 @@ use Rattle.std.proofs.Common.{ℕ, suc, ◌+◌, ◌≡◌, ◌==◌, ◌<◌, �
 use Rattle.std.proofs.lemmas.Bool.{eqb-true}
 use Rattle.dft_base.proofs.NumberLemmas.{less_apart, more_apart}
 use Rattle.dft_netlist.specs.Drivers.{Driven}
+use Rattle.dft_netlist.proofs.LiveDriven.{DriveBelow}
 use Rattle.dft_scan_frame.proofs.Mergings.{times, times-cons, none_more, moved_driven, Merges, Nothing, Kept, Added}
-use Rattle.dft_scan_frame.proofs.LiveDriven.{DriveBelow}
 
 one_at_most : (b : Bool) (rest : ℕ) → (b ≡ true → rest ≡ 0) → rest ≤ 1 → cond b 1 0 + rest ≤ 1
 one_at_most true rest h k = omega (arith, h refl)

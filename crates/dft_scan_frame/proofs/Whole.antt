@@ -1,12 +1,10 @@
 -- Moved nets, and lists of nets and of instances in two parts.
-use Rattle.std.proofs.Common.{ℕ, zero, suc, ◌+◌, ◌≡◌, ◌==◌, ◌<◌, ◌≤◌, true, false, nat_lt, List, ◌∷◌, ◌++◌, length, refl, sym, ap, arith, ◌∙◌, []}
+use Rattle.std.proofs.Common.{ℕ, suc, ◌+◌, ◌≡◌, ◌==◌, ◌<◌, ◌≤◌, nat_lt, List, ◌∷◌, ◌++◌, length, refl, sym, ap, arith, ◌∙◌, []}
 use Rattle.std.specs.Prelude.{if◌then◌else◌}
 use Rattle.std.proofs.lemmas.List.{append_assoc}
 use Rattle.std.proofs.lemmas.Bool.{lt-ltb, le-ltb}
 use Rattle.dft_cells.specs.declared.cell.Cell.{Cell}
-use Rattle.dft_netlist.specs.declared.ids.NetId.{NetId}
 use Rattle.dft_netlist.specs.declared.instance.Instance.{Instance}
-use Rattle.dft_netlist.specs.NetNumbers.{nets_from}
 use Rattle.dft_netlist.specs.Drivers.{driven_by, driven_by_instances}
 use Rattle.dft_scan_frame.specs.Moves.{Gap, moved, map_from}
 
@@ -27,22 +25,6 @@ pub moved_apart : (gap : Gap) (a b : ℕ) → (moved gap a == moved gap b) ≡ (
 moved_apart gap a b = apart_by gap.before gap.width a b
 
 -- ---- ports
-
-abbrev pub AreBefore : (count : ℕ) → List NetId → Type 0
-AreBefore count [] = Unit {0}
-AreBefore count (net ∷ nets) = (net.0 < count) × AreBefore count nets
-
-pub nets_before : (from count all : ℕ) → from + count ≤ all → AreBefore all (nets_from from count)
-nets_before from zero all h = tt
-nets_before from (suc count) all h = (omega (arith, h), nets_before (suc from) count all (omega (arith, h)))
-
-pub before_front : (count : ℕ) (xs ys : List NetId) → AreBefore count (xs ++ ys) → AreBefore count xs
-before_front count [] ys h = tt
-before_front count (x ∷ xs) ys h = (h.0, before_front count xs ys h.1)
-
-pub before_back : (count : ℕ) (xs ys : List NetId) → AreBefore count (xs ++ ys) → AreBefore count ys
-before_back count [] ys h = h
-before_back count (x ∷ xs) ys h = before_back count xs ys h.1
 
 -- ---- instances
 

@@ -16,7 +16,8 @@ use Rattle.dft_netlist.specs.declared.port.Port.{Port}
 use Rattle.dft_netlist.specs.Building.{port_refusal, room_limit, taken_or}
 use Rattle.dft_netlist.specs.Names.{is_taken, names_taken, vector_name}
 use Rattle.dft_netlist.specs.Netlist.{Netlist}
-use Rattle.dft_netlist.specs.Sound.{HasOnlyPorts, bits_of}
+use Rattle.dft_netlist.specs.Sound.{HasOnlyPorts}
+use Rattle.dft_netlist.proofs.PortLemmas.{bits_behind}
 use Rattle.dft_scan_frame.specs.declared.error.InsertError.{InsertError}
 use Rattle.dft_scan_frame.specs.declared.error.InsertError.TheVariants.{NameClash, TooMany, Memory}
 use Rattle.dft_scan_frame.specs.AddedPorts.{NewPort, port_name, ports_from}
@@ -134,10 +135,6 @@ with_ports_is s (port ∷ ports) =
     ∙ ap (λ k. record s { ports = (s.ports ++ first ∷ []) ++ ports_from k ports; nets = (s.nets ++ port.name ∷ []) ++ map port_name ports }) next
     ∙ ap (λ (ps : List Port). record s { ports = ps; nets = (s.nets ++ port.name ∷ []) ++ map port_name ports }) (append_assoc s.ports (first ∷ []) (ports_from (suc (length s.nets)) ports))
     ∙ ap (λ xs. record s { ports = s.ports ++ first ∷ ports_from (suc (length s.nets)) ports; nets = xs }) (append_assoc s.nets (port.name ∷ []) (map port_name ports))
-
-bits_behind : (ports : List Port) (port : Port) → length (bits_of (ports ++ port ∷ [])) ≡ length (bits_of ports) + length port.bits
-bits_behind [] port = omega (arith, length-append port.bits [])
-bits_behind (p ∷ ports) port = omega (arith, length-append p.bits (bits_of (ports ++ port ∷ [])), length-append p.bits (bits_of ports), bits_behind ports port)
 
 only_on : (s : Netlist) (port : NewPort) → HasOnlyPorts s → HasOnlyPorts (with_port s port)
 only_on s port only = omega (arith, only, length-append s.nets (port.name ∷ []), bits_behind s.ports (next_port s port.name port.dir None))

@@ -7,6 +7,7 @@ use Rattle.dft_netlist.specs.declared.limits.TheConstants.{MAX_PORTS, MAX_NETS}
 use Rattle.dft_netlist.specs.Netlist.{Netlist}
 use Rattle.dft_netlist.specs.Sound.{IsNetlist}
 use Rattle.dft_netlist.proofs.PortLemmas.{nets_from-length}
+use Rattle.dft_netlist.proofs.LiveDriven.{ports_fit}
 use Rattle.dft_config.specs.declared.config.Config.{Config}
 use Rattle.dft_config.specs.Range.{IsInRange}
 use Rattle.dft_stitch.specs.Chains.{plan_of, cells_of}
@@ -16,7 +17,6 @@ use Rattle.dft_parts.specs.Parts.{Making, parts_refusal}
 use Rattle.dft_parts.specs.Recipes.{Recipe, start_of, unless_refused, outcome}
 use Rattle.dft_parts.specs.Recipes as recipes
 use Rattle.dft_scan_frame.specs.Refusals.{IsRefusal}
-use Rattle.dft_scan_frame.proofs.Kept.{ports_fit}
 use Rattle.dft_scan_hardware.specs.declared.style.Style.{Style}
 use Rattle.dft_scan_hardware.specs.declared.style.Style.TheVariants.{Plain, Edt}
 use Rattle.dft_scan_hardware.specs.Bounds.{EdtThere}

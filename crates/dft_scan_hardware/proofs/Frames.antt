@@ -23,6 +23,8 @@ use Rattle.dft_netlist.specs.Drivers.{Shape, shape_of}
 use Rattle.dft_netlist.specs.Names.{is_taken, names_taken, instance_name}
 use Rattle.dft_netlist.specs.Netlist.{Netlist}
 use Rattle.dft_netlist.specs.Sound.{IsNetlist, IsLive, AreLive, IsInstance, IsAJoin, NoConstantOutput, HasOnlyPorts}
+use Rattle.dft_netlist.proofs.SoundLemmas.{live_none, live_cons}
+use Rattle.dft_netlist.proofs.LiveDriven.{ports_fit as ports_among}
 use Rattle.dft_config.specs.declared.config.Config.{Config}
 use Rattle.dft_rules.specs.Refusals.{is_scanned}
 use Rattle.dft_rules.specs.Rules.{judged, scan_cell_in}
@@ -37,11 +39,11 @@ use Rattle.dft_scan_frame.proofs.Additions.{both_none}
 use Rattle.dft_scan_frame.proofs.Carried.{HasPair, has_pair}
 use Rattle.dft_scan_frame.proofs.Fitting.{IsWhole, ports_fit, nets_fit, instances_fit, joins_fit, with_all_nets, with_all_instances, with_all_joins}
 use Rattle.dft_scan_frame.proofs.Joined.{join_sound}
-use Rattle.dft_scan_frame.proofs.Kept.{numbered_count, ports_count, ports_fit as ports_among}
+use Rattle.dft_scan_frame.proofs.Kept.{numbered_count, ports_count}
 use Rattle.dft_scan_frame.proofs.NamesOnce.{times_named, named-append, has_never, taken_times, stands_once}
 use Rattle.dft_scan_frame.proofs.Pairs.{shared_roles}
 use Rattle.dft_scan_frame.proofs.ScanPairs.{ScanPair}
-use Rattle.dft_scan_frame.proofs.SoundParts.{moved_live, moved_outputs, moved_sound, live_none, live_cons, live_drop, live_first, none_none, none_cons, none_drop, none_first, pair_shared, pair_modelled, there, named_by}
+use Rattle.dft_scan_frame.proofs.SoundParts.{moved_live, moved_outputs, moved_sound, live_drop, live_first, none_none, none_cons, none_drop, none_first, pair_shared, pair_modelled, there, named_by}
 use Rattle.dft_scan_frame.proofs.Stages.{before_of, numbered_from, front_count, ports_stand}
 use Rattle.dft_scan_frame.proofs.Tabled.{from_at}
 use Rattle.dft_scan_frame.proofs.Whole.{length_map_from}

@@ -1,11 +1,10 @@
 -- What a text stands for, and why it is refused.
-use Rattle.std.proofs.Common.{◌≡◌, ℕ, suc, ◌<◌, ◌≤◌, ◌+◌, ◌-◌, ◌&&◌, Bool, true, false, cond, true≢false, List, [], ◌∷◌, length, take, min, get_or, Option, Some, None, is_some, Result, Ok, Err, IfOk, refl, sym, ap, ◌∙◌, arith}
-use Rattle.dft_base.specs.Lexing.{Text, place_of, place_after}
+use Rattle.std.proofs.Common.{◌≡◌, ℕ, suc, ◌<◌, ◌≤◌, ◌+◌, ◌&&◌, Bool, true, false, cond, true≢false, List, [], ◌∷◌, length, get_or, Option, Some, None, is_some, Result, Ok, Err, IfOk, refl, sym, ap, ◌∙◌, arith}
+use Rattle.dft_base.specs.Lexing.{Text, place_of}
 use Rattle.dft_base.specs.Parser.{value_of}
 use Rattle.dft_base.specs.declared.place.Place.{Place}
 use Rattle.dft_base.proofs.PlaceLemmas.{placed}
 use Rattle.dft_patterns.specs.declared.act.Act.{Act}
-use Rattle.dft_patterns.specs.declared.signal.StilSignal.{StilSignal}
 use Rattle.dft_stil_tokens.specs.declared.text.Cause.{Cause}
 use Rattle.dft_stil_tokens.specs.declared.text.Cause.TheVariants as cause
 use Rattle.dft_stil_tokens.specs.declared.text.Fault.{Fault}
@@ -16,10 +15,11 @@ use Rattle.dft_stil_text.specs.declared.limits.TheConstants.{MAX_VECTORS}
 use Rattle.dft_stil_tokens.specs.Reading.{ReadError}
 use Rattle.dft_stil_tokens.specs.Reading.{Reads}
 use Rattle.dft_stil_tokens.specs.Lexemes.{Token, tokens}
-use Rattle.dft_patterns.specs.Patterns.{Patterns, IsVector, IsWellFormed}
+use Rattle.dft_patterns.specs.Patterns.{Patterns, IsWellFormed}
 use Rattle.dft_stil_text.specs.PatternText.{stil_text, patterns_in, tested, steady_or, StandsFor, At, Unsteadily, name_of_signal}
 use Rattle.dft_stil.specs.Refusals.{IsFirstRefusal, IsRefused, IsFirstUnsteady, IsUnsteadyAs, told_at}
 use Rattle.dft_patterns.specs.Steadiness.{HaveLength, is_not_low, first_not_low, first_unsteady, first_unsteady_from, found_or, pulses}
+use Rattle.dft_patterns.proofs.VectorLemmas.{vector_length}
 use Rattle.dft_stil_text.proofs.WellFormed.{fitting, well_formed}
 use Rattle.dft_stil_text.proofs.LimitLemmas.{stands_within}
 
@@ -28,12 +28,6 @@ use Rattle.dft_stil_text.proofs.LimitLemmas.{stands_within}
 pub ruleset places = (placed)
 
 -- ---- acts
-
-vector_length : (signals : List StilSignal) (acts : List Act) → IsVector signals acts → length acts ≡ length signals
-vector_length [] [] v = refl
-vector_length [] (a ∷ acts) v = absurd v
-vector_length (s ∷ signals) [] v = absurd v
-vector_length (s ∷ signals) (a ∷ acts) v = ap suc (vector_length signals acts v.1)
 
 -- each vector of a text has one act a signal
 pub have_length : (most : ℕ) (text : Text) (p : Patterns) → value_of (stil_text most (tokens text)) ≡ Ok p → HaveLength (length p.signals) p.vectors

@@ -1,6 +1,5 @@
 -- The written pieces are cut into their tokens.
-use Rattle.std.proofs.Common.{◌≡◌, ℕ, zero, suc, ◌+◌, ◌-◌, ◌<◌, ◌≤◌, Bool, true, false, not, cond, eqb, ltb, List, [], ◌∷◌, ◌++◌, length, map, drop, codes, refl, ap, ◌∙◌, arith, get_or, inl, inr, ◌⊎◌, ◌/◌, ◌%◌, length-append, append_assoc, Some}
-use Rattle.std.specs.Prelude.{◌&&◌, ◌||◌}
+use Rattle.std.proofs.Common.{◌≡◌, ℕ, zero, suc, ◌+◌, ◌<◌, ◌≤◌, Bool, true, false, not, cond, eqb, ltb, List, [], ◌∷◌, ◌++◌, length, map, drop, codes, refl, ap, ◌∙◌, arith, get_or, ◌/◌, ◌%◌, length-append, append_assoc, Some}
 use Rattle.std.specs.List.{prefix_len, list_all}
 use Rattle.std.specs.Char.{is_ascii_alphanumeric}
 use Rattle.std.specs.Fmt.{digits_onto, digits, digit_glyph}
@@ -256,11 +255,6 @@ run_no_blank Pulse text h = refl
 run_no_blank ExpectLow text h = refl
 run_no_blank ExpectHigh text h = refl
 run_no_blank Ignore text h = refl
-
-lexeme-number : (c : ℕ) (text : Text) → ((c ≡ 48) ⊎ (c ≡ 49)) → lexeme false (c ∷ text) ≡ plain kind.Number (prefix_len (is_in_number false) (c ∷ text))
-unfolding lexeme
-lexeme-number c text (inl e) = rw e refl
-lexeme-number c text (inr e) = rw e refl
 
 run_lexeme : (a : Act) (acts : List Act) (rest : Text) → AllTold (a ∷ acts) → lexeme false (run_text a acts rest) ≡ plain (run_kind a) (suc (length (map letter acts)))
 unfolding lexeme word_or_note

@@ -1,13 +1,14 @@
 -- No planned chain is longer than a load.
-use Rattle.std.proofs.Common.{ℕ, zero, suc, ◌+◌, ◌/◌, ◌%◌, ◌<◌, ◌≤◌, ◌≡◌, Bool, true, false, cond, List, [], ◌∷◌, length, take, drop, Some, option_map, slice_get, refl, ap, arith, ◌∙◌}
+use Rattle.std.proofs.Common.{ℕ, zero, suc, ◌+◌, ◌/◌, ◌%◌, ◌<◌, ◌≤◌, ◌≡◌, Bool, true, false, cond, List, [], ◌∷◌, length, take, drop, Some, option_map, slice_get, refl, ap, arith, ◌∙◌, ◌*◌}
 use Rattle.std.specs.Prelude.{nat_lt}
 use Rattle.std.specs.List.{range_with_len}
 use Rattle.std.proofs.lemmas.Bool.Decides.{nat_tests}
 use Rattle.std.proofs.lemmas.List.{length-take}
 use Rattle.std.proofs.lemmas.Option.{none-some, same_Some, slice_get-map, slice_get_within}
+use Rattle.std.proofs.lemmas.Nat.{le-div}
 use Rattle.dft_base.proofs.ListLemmas.{get_range}
 use Rattle.dft_netlist.specs.declared.ids.InstanceId.{InstanceId}
-use Rattle.dft_config.specs.Cycles.{part_length}
+use Rattle.dft_config.specs.Cycles.{part_length, longest_segment}
 use Rattle.dft_stitch.specs.Chains.{blocks, chain_lengths, cells_of, plan_of}
 use Rattle.dft_stitch.proofs.BlockLemmas.{chain_count}
 use Rattle.dft_netlist.specs.Netlist.{Netlist}
@@ -41,3 +42,12 @@ chains_fit n config chain cells range at =
     let most = block_most (chain_lengths all config.chains) (cells_of n config) chain (part_length all config.chains chain) cells at its in
     let longest = longest_by (all / config.chains) (all % config.chains) chain (nat_lt chain (all % config.chains)) (nat_lt 0 (all % config.chains)) refl refl in
     omega (arith, most, longest)
+
+pub some_cycle : (n : Netlist) (config : Config) → IsInRange config → 1 ≤ (plan_of n config).cycles
+some_cycle n config range =
+    let masks : ℕ = config.compactor.mask_inputs in
+    let some : 0 < masks = (let least = range.compactor.mask_inputs.0 in omega (arith, least)) in
+    let fits : 1 * masks ≤ config.chains = (let most = range.compactor.mask_inputs.2 in omega (arith, most)) in
+    let one : 1 ≤ config.chains / masks = le-div 1 config.chains masks some fits in
+    let longest : 1 ≤ longest_segment config = omega (arith, one) in
+    omega (arith, longest)

@@ -7,3 +7,4 @@ pub mod EvenLemmas
 pub mod LengthLemmas
 pub mod OnceLemmas
 mod WorkedPlan
+pub mod CellPlaces

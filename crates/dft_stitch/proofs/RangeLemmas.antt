@@ -1,5 +1,5 @@
 -- What numbers up to a bound give, one after another.
-use Rattle.std.proofs.Common.{◌≡◌, ℕ, suc, ◌+◌, ◌-◌, ◌<◌, ◌≤◌, List, [], ◌++◌, flat_map, Option, None, Some, refl, sym, ◌∙◌, ap, arith, append_assoc}
+use Rattle.std.proofs.Common.{◌≡◌, ℕ, ◌+◌, ◌-◌, ◌<◌, ◌≤◌, List, [], ◌++◌, flat_map, Option, None, Some, refl, sym, ◌∙◌, ap, arith, append_assoc}
 use Rattle.std.proofs.lemmas.List.{append-nil}
 use Rattle.std.specs.List.{filter_map, cons_option, range_with_len}
 use Rattle.dft_base.proofs.NumberLemmas.{one_left}

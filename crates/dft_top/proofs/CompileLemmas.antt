@@ -29,7 +29,6 @@ use Rattle.dft_answers.specs.declared.outcome.Outcome.{Outcome}
 use Rattle.dft_answers.specs.declared.outcome.Outcome.TheVariants.{Compiled, Refused}
 use Rattle.dft_answers.specs.Refusals.{compile_refusal}
 use Rattle.dft_top.specs.Outcomes.{IsCompiled, IsOutcomeOfCubes, IsOutcomeOfPlacing, refusal_of}
-use Rattle.dft_top.specs.Outcomes as outcomes
 use Rattle.dft_top.proofs.CompiledOnce.{SamePlacing, patterns_one, placing_one}
 use Rattle.dft_top.proofs.SomePatterns.{some_patterns}
 use Rattle.dft_top.proofs.CertifyLemmas.{refusal_is, refusal_one}

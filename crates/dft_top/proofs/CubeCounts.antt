@@ -1,5 +1,5 @@
 -- A cube file has no more cubes than there may be, and each of them gives no more cells than the file has lines.
-use Rattle.std.proofs.Common.{ℕ, suc, ◌≡◌, ◌≤◌, ◌<◌, ◌+◌, Bool, true, false, if◌then◌else◌, List, [], ◌∷◌, ◌++◌, length, length-append, Option, None, Some, Result, Ok, arith, subst, refl, ◌==◌, ◌^◌}
+use Rattle.std.proofs.Common.{ℕ, suc, ◌≡◌, ◌≤◌, ◌<◌, ◌+◌, Bool, true, false, if◌then◌else◌, List, [], ◌∷◌, ◌++◌, length, length-append, Option, None, Some, Ok, arith, subst, refl, ◌==◌, ◌^◌}
 use Rattle.std.specs.Prelude.{is_none, nat_le}
 use Rattle.std.specs.List.{AllByRecursion}
 use Rattle.std.proofs.lemmas.Bool.{leb-false}
@@ -18,7 +18,7 @@ use Rattle.dft_cubes.specs.declared.cube.Cube.{Cube}
 use Rattle.dft_cubes.specs.declared.error.CubeError.{CubeError}
 use Rattle.dft_cubes.specs.declared.error.CubeError.TheVariants.{Q4, Q5, Q9}
 use Rattle.dft_cubes.specs.declared.limits.TheConstants.{MAX_CUBES}
-use Rattle.dft_cubes.specs.Cubes.{Line, Begin, SetCell, SetPort, End, Reading, cubes_from, cubes_of, domain_named, ended, line_of, line_refusal, names_of, or_refused, place_of_line, said_refusal, with_cell, with_line, with_port, with_said}
+use Rattle.dft_cubes.specs.Cubes.{Line, Begin, SetCell, SetPort, End, Reading, cubes_from, cubes_of, domain_named, ended, line_of, line_refusal, names_of, place_of_line, said_refusal, with_cell, with_line, with_port, with_said}
 use Rattle.dft_cubes.proofs.SoundLemmas.{printed_passes, ok_is, both_pass}
 use Rattle.dft_top.specs.declared.limits.TheConstants.{MAX_CUBE_BYTES}
 use Rattle.dft_top.specs.Checks.{AreFew}

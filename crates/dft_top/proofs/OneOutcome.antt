@@ -20,7 +20,7 @@ use Rattle.dft_answers.specs.declared.outcome.Outcome.TheVariants as outcome
 use Rattle.dft_top.specs.declared.limits.TheConstants.{MAX_CONFIG_BYTES, MAX_CUBE_BYTES, MAX_NETLIST_BYTES, MAX_PATTERN_BYTES, MAX_REPORT_BYTES}
 use Rattle.dft_answers.specs.Refusals.{scan_refusal}
 use Rattle.dft_top.specs.Checks.{ConfigGives, ConfigText, CubeText, CubesGive, NetlistGives, NetlistText, PatternText, ReportText}
-use Rattle.dft_top.specs.Outcomes.{IsOutcomeFor, IsOutcomeOfJob, IsOutcomeOfScanOf, IsOutcomeOn, IsRefusal, IsReplayedOf, course_of, course_of_certify, course_of_compile, course_of_replay, course_of_scan, generated, job_files, job_held, made_files, made_held, outcome_of}
+use Rattle.dft_top.specs.Outcomes.{IsOutcomeFor, IsOutcomeOfJob, IsOutcomeOfScanOf, IsOutcomeOn, IsReplayedOf, course_of, course_of_certify, course_of_compile, course_of_replay, course_of_scan, generated, job_files, job_held, made_files, made_held, outcome_of}
 use Rattle.dft_top.specs.Laws.{OutcomeIsOne}
 use Rattle.dft_top.proofs.CompileLemmas.{cubes_one}
 use Rattle.dft_top.proofs.Readings.{config_text_one, cube_text_one, design_gives_one, file_one, library_gives_one, netlist_text_one, pattern_text_one, plan_gives_one, report_text_one, text_of}

@@ -1,5 +1,5 @@
 -- Files that pass all checks are never refused.
-use Rattle.std.proofs.Common.{◌≡◌, ◌∙◌, inl, inr, sym, List, codes, Option, None, Some, Ok, subst}
+use Rattle.std.proofs.Common.{◌≡◌, inl, inr, List, codes, Option, None, Some, Ok, subst}
 use Rattle.dft_files.specs.Outside.{Held, file_at}
 use Rattle.dft_cells.specs.declared.cell.Cell.{Cell}
 use Rattle.dft_config.specs.declared.config.Config.{Config}
@@ -20,7 +20,6 @@ use Rattle.dft_certify.specs.Certifying.{certify_refusal}
 use Rattle.dft_cubes.specs.declared.cube.Cube.{Cube}
 use Rattle.dft_vectors.specs.PatternData.{PatternData}
 use Rattle.dft_encode.specs.Compiled.{ArePatterns, Placing}
-use Rattle.dft_compile.specs.declared.error.CompileError.{CompileError}
 use Rattle.dft_compile.specs.declared.prepared.Prepared.{Prepared}
 use Rattle.dft_compile.specs.Refusals.{first_refusal}
 use Rattle.dft_command_line.specs.Words.{Command, Replay, Scan, Compile, Certify, ReplayFiles, ScanFiles, CompileFiles, CertifyFiles}

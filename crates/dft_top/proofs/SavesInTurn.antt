@@ -1,9 +1,8 @@
 -- What saves leave, one after another.
-use Rattle.std.proofs.Common.{ℕ, ◌≡◌, ◌≤◌, ◌<◌, ◌+◌, length, map, drop, false, true, List, [], ◌∷◌, ◌++◌, Option, None, Some, refl, sym, ap, ◌∙◌, arith, subst, bytes_eq, Bool, Decides, Result, Ok, Err, OnErr}
+use Rattle.std.proofs.Common.{ℕ, ◌≡◌, ◌≤◌, ◌<◌, ◌+◌, length, map, drop, false, List, [], ◌∷◌, ◌++◌, Option, None, Some, refl, sym, ap, ◌∙◌, arith, subst, bytes_eq, Result, Ok, Err, OnErr}
 use Rattle.std.specs.Prelude.{slice_index_or}
 use Rattle.std.specs.List.{AllByRecursion}
 use Rattle.std.proofs.lemmas.List.{append-nil, drop_more}
-use Rattle.std.proofs.lemmas.Slice.Eq.{bytes_eq-Decides}
 use Rattle.dft_base.proofs.TextLemmas.{differ}
 use Rattle.dft_files.specs.Outside.{Held, LeavesPart, Rose, Told, ToldChange, file_at}
 use Rattle.dft_files.specs.Outside as base
@@ -24,10 +23,6 @@ all_at P [] ys y all = all.0
 all_at P (x ∷ xs) ys y all = all_at P xs ys y all.1
 
 -- ---- names
-
-no_of : (t : Bool) (P : Type 0) → Decides t P → (P → ⊥) → t ≡ false
-no_of true P decides not = absurd (not (decides.0 refl))
-no_of false P decides not = refl
 
 -- a name differs from each of these
 abbrev DiffersFrom : List Saving → List ℕ → Type 0

@@ -1,5 +1,5 @@
 -- A draft whose printed names differ and that keeps the limits is built.
-use Rattle.std.proofs.Common.{◌≡◌, ℕ, ◌+◌, ◌≤◌, pos, map, get_or, Bool, true, false, ◌||◌, cond, leb, List, [], ◌∷◌, ◌++◌, length, Option, Some, None, Ok, refl, sym, ap, ◌∙◌, subst, arith, length-append}
+use Rattle.std.proofs.Common.{◌≡◌, ℕ, ◌+◌, ◌≤◌, pos, map, get_or, Bool, true, false, cond, leb, List, [], ◌∷◌, ◌++◌, length, Option, Some, None, Ok, refl, sym, ap, ◌∙◌, subst, arith, length-append}
 use Rattle.std.specs.List.{cons_option, filter_map}
 use Rattle.std.proofs.lemmas.Bool.{le-leb, or_parts, or_from}
 use Rattle.std.proofs.lemmas.List.{append_assoc, append-nil, length_push, length-map}
@@ -23,6 +23,7 @@ use Rattle.dft_netlist.specs.Building.{taken_or, port_limit, port_of, own_names,
 use Rattle.dft_netlist.proofs.SoundLemmas.{with_net}
 use Rattle.dft_netlist.proofs.BitLemmas.{up_length}
 use Rattle.dft_netlist.proofs.NamesLemmas.{has-append}
+use Rattle.dft_netlist.proofs.RefusalLemmas.{room_by, limit_by}
 use Rattle.dft_netlist_text.specs.Modules.{HeaderPort, net_count}
 use Rattle.dft_netlist_text.specs.NetlistText.{Grown, final_signal, unless_refused, and_grown, add_declared, add_ports, add_net, add_nets, add_instance, add_instances, add_joins, built, nets_of_port, nets_of_ports, net_order, other_nets, names_of_others}
 use Rattle.dft_verilog_draft.specs.Free.{IsApart, AreApart}
@@ -117,11 +118,6 @@ first_free n before (word ∷ words) free none = ap (λ b. cond b (Some word) (f
 
 -- ---- nets
 
-room_by : (taken room : Bool) (a b : NetlistError) → taken ≡ false → room ≡ true → cond taken (Some a) (cond room None (Some b)) ≡ None
-room_by true room a b free h = absurd (cc)
-room_by false true a b free h = refl
-room_by false false a b free h = absurd (cc)
-
 net_free : (n : Netlist) (word : Text) → is_taken n word ≡ false → length n.nets + 1 ≤ MAX_NETS → net_refusal n word ≡ None
 net_free n word free room = room_by (is_taken n word) (leb (length n.nets + 1) MAX_NETS) (error.DuplicateName word) (error.TooMany counted.Nets (pos MAX_NETS)) free (le-leb (length n.nets + 1) MAX_NETS room)
 
@@ -158,11 +154,6 @@ nets-built (word ∷ words) n before free new room =
     }
 
 -- ---- ports
-
-limit_by : (a b : Bool) (x y : NetlistError) → a ≡ true → b ≡ true → cond a (cond b None (Some x)) (Some y) ≡ None
-limit_by true true x y p q = refl
-limit_by true false x y p q = absurd (cc)
-limit_by false b x y p q = absurd (cc)
 
 port_free : (n : Netlist) (before : List Text) (word : Text) (range : Option Range) → Frees n before → AreNone before (port_names word range) → length n.ports + 1 ≤ MAX_PORTS → length n.nets + length (bit_names word range) ≤ MAX_NETS
     → port_refusal n word range ≡ None

@@ -6,6 +6,7 @@ use Rattle.dft_base.specs.Lexing.{Text}
 use Rattle.dft_base.proofs.TextLemmas.{same_text, bytes_eq-self}
 use Rattle.dft_netlist_text.specs.Modules.{Draft, TakenName, first_taken, is_taken}
 use Rattle.dft_verilog_draft.specs.Free.{IsApart, AreApart}
+use Rattle.dft_verilog_draft.proofs.ApartLemmas.{find_by}
 
 -- one, or none
 abbrev pub once : Bool → ℕ
@@ -72,10 +73,6 @@ shown_none (Some e) h = h
 -- a name that is free is none of those that are taken
 pub free_none : (d : Draft) (word : Text) → is_taken d word ≡ false → count word (names_of d.names) ≡ 0
 free_none d word h = find_none d.names word (shown_none (find (λ (e : TakenName). bytes_eq e.name word) d.names) h)
-
-find_by : (b : Bool) (w : Text) (rest : Option Text) → cond b (Some w) rest ≡ None → (b ≡ false) × (rest ≡ None)
-find_by true w rest h = absurd (cc)
-find_by false w rest h = (refl, h)
 
 -- none of these words is taken
 abbrev pub AreFreeIn : Draft → List Text → Type 0

@@ -17,6 +17,8 @@ use Rattle.dft_netlist.specs.declared.error.Counted.TheVariants as counted
 use Rattle.dft_netlist.specs.declared.limits.TheConstants.{MAX_INSTANCES}
 use Rattle.dft_netlist.specs.Drivers.{gate_roles}
 use Rattle.dft_netlist.specs.Sound.{IsLive, AreLive, is_primitive, is_output, NoConstantOutput, IsInstanceOf}
+use Rattle.dft_netlist.proofs.SoundLemmas.{live_none, live_cons}
+use Rattle.dft_netlist.proofs.PinLemmas.{length-gate_roles}
 use Rattle.dft_netlist_text.specs.Steps.{fault}
 use Rattle.dft_netlist_text.specs.Modules.{Draft, name_instance, room_for_instance, is_taken, with_name}
 use Rattle.dft_netlist_text.specs.Items.{gate_instance}
@@ -35,19 +37,8 @@ takes primitive.Xor n p h = grind (arith, nat_tests)
 takes primitive.Xnor n p h = grind (arith, nat_tests)
 takes k n p h = absurd (search rules)
 
-roles_len : (n : ℕ) → length (gate_roles n) ≡ suc n
-roles_len zero = refl
-roles_len (suc n) = ap suc (roles_len n)
-
 widths : (inputs : List Signal) (output : Signal) → length (inputs ++ output ∷ []) ≡ length (gate_roles (length inputs))
-widths inputs output = length-append inputs (output ∷ []) ∙ omega (arith, roles_len (length inputs))
-
-live_cons : (count : ℕ) (i : Signal) (rest : List Signal) → IsLive count i → AreLive count rest → AreLive count (i ∷ rest)
-live_cons count i rest h k zero s at = let e : i ≡ s = cc in subst (λ (x : Signal). IsLive count x) e h
-live_cons count i rest h k (suc place) s at = k place s at
-
-live_none : (count : ℕ) → AreLive count []
-live_none count place s at = absurd (cc)
+widths inputs output = length-append inputs (output ∷ []) ∙ omega (arith, length-gate_roles (length inputs))
 
 live_pins : (count : ℕ) (inputs : List Signal) (output : Signal) → AreBits count false inputs → IsLive count output → AreLive count (inputs ++ output ∷ [])
 live_pins count [] output h k = live_cons count output [] k (live_none count)

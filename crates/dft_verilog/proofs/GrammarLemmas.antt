@@ -16,7 +16,6 @@ use Rattle.dft_base.specs.declared.dir.Dir.TheVariants as dir
 use Rattle.dft_netlist.specs.declared.instance.Signal.{Signal}
 use Rattle.dft_netlist_text.specs.declared.text.TokenKind.{TokenKind}
 use Rattle.dft_netlist_text.specs.declared.text.TokenKind.TheVariants as kind
-use Rattle.dft_netlist_text.specs.declared.text.Cause.{Cause}
 use Rattle.dft_netlist_text.specs.declared.text.Fault.{Fault}
 use Rattle.dft_netlist_text.specs.declared.text.Meaning.{Meaning}
 use Rattle.dft_netlist_text.specs.declared.text.Meaning.TheVariants as meaning
@@ -25,49 +24,16 @@ use Rattle.dft_netlist_text.specs.declared.text.Site.{Site}
 use Rattle.dft_netlist_text.specs.declared.text.Site.TheVariants as site
 use Rattle.dft_netlist.specs.Building.{own_names}
 use Rattle.dft_netlist_text.specs.Lexemes.{Token, tokens}
-use Rattle.dft_netlist_text.specs.Steps.{Rule, Outcome, kind_of, left, next, sees, expect, eat, needed, checked}
+use Rattle.dft_netlist_text.specs.Steps.{Outcome, kind_of, left, next, sees, expect, eat, checked}
 use Rattle.dft_netlist_text.specs.Modules.{Draft, empty_draft, announce, declare_nets, declare_new_port, declare_port, declare_wire, declared_at, meaning_of, name_instance, room_for_instance}
 use Rattle.dft_netlist_text.specs.Expressions.{unless_too_large, number, rest_of_range, range, range_if_any, SelectedName, fitting, implied_net, bits_of_port, bits_of_meaning, bits_of_name, implies, is_whole, selected, named_operand, constant_operand, constant, selection, followed, drives, operand, OpenConcatenations, unread, is_read, opening, closing, turn, concatenations_from, expression}
 use Rattle.dft_netlist_text.specs.Items.{Declaring, Ports, Wires, declare, declared_name, declared_names_from, declared_names, declaration, port_item, wire_item, with_joins, right_side, net_assignment, net_assignments_from, net_assignments, assign_item, one_bit, gate_kind, terminal, input_terminals_from, input_terminals, gate_instance, terminals, named_gate, unnamed_gate, one_gate, gates_from, gates, gate_item, unjoined, connected_pin, Connected, pin_signal, pin_content, named_connection, named_connections_from, named_connections, connections, cell_instance, instance, instances_from, instances, instances_of, instances_named, cell_item, gate_or_cell, item_of, item, items_from, items}
 use Rattle.dft_netlist_text.specs.NetlistText.{announced_name, announced_names_from, announced_names, declared_port, PortDeclaration, port_declaration_of, port_declaration, declared_ports_from, declared_ports, sees_direction, header_names, header, heading, first_undeclared, all_declared, module_end, end_of_text, module_text, module_of}
+use Rattle.dft_netlist_text.proofs.ParserLemmas.{Yields, Gives, behind, passed, either, of_check, of_need, turns}
 use Rattle.dft_verilog.specs.Buildable.{IsBuildable, ModulesAreBuildable}
-use Rattle.dft_verilog.proofs.SaidLemmas.{IsSaid, Gives, IsShort, said_is_buildable, nets_said, announce_said, new_port_said, port_said, wire_said, name_said, room_said, instance_said}
+use Rattle.dft_verilog.proofs.SaidLemmas.{IsSaid, IsShort, said_is_buildable, nets_said, announce_said, new_port_said, port_said, wire_said, name_said, room_said, instance_said}
 
 -- ---- outcomes
-
--- a value with this property, or a fault
-abbrev Yields : {A : Type 0} → (A → Type 0) → Outcome A → Type 0
-Yields P (Ok p) = P p.0
-Yields P (Err f) = Unit {0}
-
--- any value
-abbrev Any : {A : Type 0} → A → Type 0
-Any a = Unit {0}
-
-any : {A : Type 0} (o : Outcome A) → Yields Any o
-any (Ok p) = tt
-any (Err f) = tt
-
-behind : {A B : Type 0} (P : A → Type 0) (Q : B → Type 0) (o : Outcome A) (f : A → Rule B) → Yields P o → ((a : A) → P a → (ts : List Token) → Yields Q (f a ts)) → Yields Q (parser.and_then o f)
-behind P Q (Ok p) f h k = k p.0 h p.1
-behind P Q (Err e) f h k = tt
-
--- behind a value of which nothing is said
-passed : {A B : Type 0} (Q : B → Type 0) (o : Outcome A) (f : A → Rule B) → ((a : A) → (ts : List Token) → Yields Q (f a ts)) → Yields Q (parser.and_then o f)
-passed Q (Ok p) f k = k p.0 p.1
-passed Q (Err e) f k = tt
-
-either : {A : Type 0} (P : A → Type 0) (b : Bool) (x y : Outcome A) → Yields P x → Yields P y → Yields P (cond b x y)
-either P true x y hx hy = hx
-either P false x y hx hy = hy
-
-of_check : {A : Type 0} (P : A → Type 0) (c : Checked Fault A) (ts : List Token) → Gives P c → Yields P (checked c ts)
-of_check P (Ok a) ts h = h
-of_check P (Err f) ts h = tt
-
-of_need : {A : Type 0} (P : A → Type 0) (why : Cause) (place : ℕ) (b : Bool) (rule : Rule A) (ts : List Token) → Yields P (rule ts) → Yields P (needed why place b rule ts)
-of_need P why place true rule ts h = h
-of_need P why place false rule ts h = tt
 
 -- ---- ranges
 
@@ -106,11 +72,6 @@ range_if_short ts = either IsShort (sees kind.OpenBracket ts) _ _ (behind IsRang
 announced_said : (d : Draft) → IsSaid 0 [] d → (ts : List Token) → Yields (IsSaid 0 []) (announced_name d ts)
 unfolding announced_name
 announced_said d h ts = passed (IsSaid 0 []) (expect kind.Name ts) _ (λ word us. of_check (IsSaid 0 []) (announce (left ts) word d) us (announce_said 0 [] (left ts) word d h))
-
--- a list goes on behind a comma
-turns : {A : Type 0} (P : A → Type 0) (comma : Bool) (more : A) (rule : Rule A) → P more → ((ts : List Token) → Yields P (rule ts)) → (ts : List Token) → Yields P ((cond comma rule (parser.pure more)) ts)
-turns P true more rule h k ts = k ts
-turns P false more rule h k ts = h
 
 announced_from : (n : ℕ) (d : Draft) → IsSaid 0 [] d → (ts : List Token) → Yields (IsSaid 0 []) (announced_names_from n d ts)
 unfolding announced_names_from

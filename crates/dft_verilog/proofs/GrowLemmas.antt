@@ -1,12 +1,11 @@
 -- How a netlist grows, step by step.
-use Rattle.std.proofs.Common.{◌≡◌, ℕ, zero, suc, ◌+◌, List, [], ◌∷◌, ◌++◌, length, map, Option, Some, None, Ok, Err, refl, sym, ap, ap₂, ◌∙◌, subst, arith, add-zero, add-one, length-append, unwrap_or}
+use Rattle.std.proofs.Common.{◌≡◌, ℕ, suc, ◌+◌, List, [], ◌∷◌, ◌++◌, length, map, Option, Some, None, Ok, Err, refl, sym, ap, ap₂, ◌∙◌, subst, arith, add-zero, add-one, length-append, unwrap_or}
 use Rattle.std.proofs.lemmas.List.{append_assoc, append-nil, length_push}
 use Rattle.dft_base.specs.declared.place.Range.{Range}
 use Rattle.dft_base.specs.Lexing.{Text}
 use Rattle.dft_netlist.specs.declared.ids.NetId.{NetId}
 use Rattle.dft_netlist.specs.declared.ids.PortId.{PortId}
 use Rattle.dft_base.specs.declared.dir.Dir.{Dir}
-use Rattle.dft_netlist.specs.declared.port.Port.{Port}
 use Rattle.dft_netlist.specs.declared.instance.Instance.{Instance}
 use Rattle.dft_netlist.specs.declared.instance.Join.{Join}
 use Rattle.dft_netlist.specs.declared.instance.Signal.{Signal}
@@ -20,7 +19,7 @@ use Rattle.dft_netlist.specs.Building.{WithPort, port_of, port_refusal, net_refu
 use Rattle.dft_netlist.specs.NetNumbers.{nets_from}
 use Rattle.dft_netlist.specs.Sound.{HasOnlyPorts, bits_of}
 use Rattle.dft_netlist.proofs.BitLemmas.{up_length}
-use Rattle.dft_netlist.proofs.PortLemmas.{nets_from-length}
+use Rattle.dft_netlist.proofs.PortLemmas.{nets_from-length, bits_behind}
 use Rattle.dft_netlist_text.specs.Modules.{HeaderPort, Draft, net_count}
 use Rattle.dft_netlist_text.specs.NetlistText.{Grown, add_port, nets_of_port, nets_of_ports, net_order, unless_refused, and_grown, add_declared, add_ports, add_net, add_nets, add_instance, add_instances, add_joins, final_join, final_signal}
 use Rattle.dft_verilog.specs.FinalNets.{name_unless, without_number, all_numbered}
@@ -70,10 +69,6 @@ IsRefusal-same a b why e h = subst (λ g. IsRefusal g why) (sym e) h
 
 -- ---- ports
 
-bits_of-push : (ports : List Port) (port : Port) → length (bits_of (ports ++ port ∷ [])) ≡ length (bits_of ports) + length port.bits
-bits_of-push [] port = ap length (append-nil port.bits) ∙ omega arith
-bits_of-push (first ∷ ports) port = omega (arith, length-append first.bits (bits_of (ports ++ port ∷ [])), length-append first.bits (bits_of ports), bits_of-push ports port)
-
 -- one port more, and all nets are still bits of ports
 pub HasOnlyPorts-port : (old new : Netlist) (name : Text) (dir : Dir) (range : Option Range) (port : PortId) → WithPort old name dir range port new → HasOnlyPorts old → HasOnlyPorts new
 HasOnlyPorts-port old new name dir range port h only =
@@ -81,7 +76,7 @@ HasOnlyPorts-port old new name dir range port h only =
     let bits = nets_from (length old.nets) (length names) in
     let nets : length new.nets ≡ length (old.nets ++ names) = ap (λ (n : Netlist). length n.nets) h.grown in
     let ports : length (bits_of new.ports) ≡ length (bits_of (old.ports ++ port_of name dir range bits ∷ [])) = ap (λ (n : Netlist). length (bits_of n.ports)) h.grown in
-    omega (arith, length-append old.nets names, bits_of-push old.ports (port_of name dir range bits), nets_from-length (length old.nets) (length names))
+    omega (arith, length-append old.nets names, bits_behind old.ports (port_of name dir range bits), nets_from-length (length old.nets) (length names))
 
 -- the ports ahead are to be added
 pub record PortsAhead (all ahead : List HeaderPort) (start now : Netlist) : Type 0 where

@@ -10,9 +10,10 @@ use Rattle.dft_netlist_text.specs.declared.text.TokenKind.{TokenKind}
 use Rattle.dft_netlist_text.specs.declared.text.TokenKind.TheVariants as kind
 use Rattle.dft_netlist_text.specs.Lexemes.{Token}
 use Rattle.dft_netlist_text.specs.Modules.{Draft}
-use Rattle.dft_netlist_text.specs.Steps.{Outcome, Rule, kind_of, left, sees, same_kind, expect, checked, refusal}
+use Rattle.dft_netlist_text.specs.Steps.{Outcome, Rule, kind_of, left, sees, same_kind, expect, checked}
 use Rattle.dft_netlist_text.specs.Expressions.{Operand, bits_of_name, may_follow, followed, selection, constant_operand, named_operand, operand, expression}
 use Rattle.dft_netlist_text.specs.Items.{One, one_bit}
+use Rattle.dft_netlist_text.proofs.ParserLemmas.{may, may_not}
 use Rattle.dft_verilog_draft.specs.Selects.{lone, lone_of}
 use Rattle.dft_verilog_draft.specs.Operands.{operand_behind}
 use Rattle.dft_verilog.specs.LoneNames.{lone_name}
@@ -37,14 +38,6 @@ one_behind at place o = λ us. and_then (followed at 0 us) (λ _ vs. one_bit pla
 at_true : (at : Site) (place : ℕ) (r : Checked Fault Operand) (vs : List Token) → followed at 0 vs ≡ Ok (tt, vs) → and_then (checked r vs) (one_behind at place) ≡ checked (lone place r) vs
 at_true at place (Ok o) vs e = ap (λ (x : Outcome (Unit {0})). and_then x (λ _ ws. one_bit place o.0 o.1 ws)) e ∙ one_by place o.0 o.1 vs
 at_true at place (Err f) vs e = refl
-
-may : (at : Site) (vs : List Token) → may_follow at 0 (kind_of vs) ≡ true → followed at 0 vs ≡ Ok (tt, vs)
-unfolding followed
-may at vs e = ap (λ (t : Bool). cond t (Ok (tt, vs)) (Err (refusal vs))) e
-
-may_not : (at : Site) (vs : List Token) → may_follow at 0 (kind_of vs) ≡ false → followed at 0 vs ≡ Err (refusal vs)
-unfolding followed
-may_not at vs e = ap (λ (t : Bool). cond t (Ok (tt, vs)) (Err (refusal vs))) e
 
 -- what follows is tested once
 once_by : (at : Site) (place : ℕ) (r : Checked Fault Operand) (vs : List Token) (t : Bool) → may_follow at 0 (kind_of vs) ≡ t →

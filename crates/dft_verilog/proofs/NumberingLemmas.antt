@@ -1,11 +1,11 @@
 -- Places of nets in an order, as they are noted one after another.
-use Rattle.std.proofs.Common.{◌≡◌, ◌≢◌, ℕ, zero, suc, ◌+◌, ◌-◌, ◌*◌, ◌<◌, ◌≤◌, Bool, true, false, not, cond, eqb, ltb, List, [], ◌∷◌, ◌++◌, length, map, set, get_or, replicate, Option, Some, None, option_map, is_some, refl, sym, ap, ap₂, ◌∙◌, subst, arith, add-zero, add-one}
+use Rattle.std.proofs.Common.{◌≡◌, ◌≢◌, ℕ, zero, suc, ◌+◌, ◌-◌, ◌*◌, ◌<◌, ◌≤◌, Bool, true, false, cond, eqb, List, [], ◌∷◌, ◌++◌, length, map, set, get_or, replicate, Option, Some, None, option_map, is_some, refl, sym, ap, ap₂, ◌∙◌, subst, arith, add-zero, add-one}
 use Rattle.std.specs.List.{All, position, position_or_len}
 use Rattle.std.proofs.lemmas.List.Elements.{All-head, All-tail}
-use Rattle.std.proofs.lemmas.Bool.{lt-ltb, eqb-true, eq-eqb, ne_eqb}
-use Rattle.std.proofs.lemmas.Bool.Decides.{nat_tests}
+use Rattle.std.proofs.lemmas.Bool.{eqb-true, eq-eqb, ne_eqb}
 use Rattle.std.proofs.lemmas.List.{length_push, length-set, append_assoc}
 use Rattle.dft_base.specs.Ranges.{going_up}
+use Rattle.dft_base.proofs.ListLemmas.{cons_by}
 use Rattle.dft_netlist.specs.declared.ids.NetId.{NetId}
 use Rattle.dft_netlist.proofs.NumberLemmas.{net_of}
 use Rattle.dft_netlist.proofs.BitLemmas.{up_length}
@@ -16,19 +16,6 @@ use Rattle.dft_verilog_draft.specs.Drafts.{IsDeclaredWithin}
 use Rattle.dft_verilog.specs.FinalNets.{number_among, numbers_among, with_number, with_numbers}
 
 -- ---- the first place
-
-cons_less : (t u : Bool) (n : ℕ) → t ≡ u → cond t (Some (1 + n)) None ≡ option_map suc (cond u (Some n) None)
-cons_less true true n e = let s : 1 + n ≡ suc n = omega arith in ap Some s
-cons_less false false n e = refl
-cons_less true false n e = absurd (cc)
-cons_less false true n e = absurd (cc)
-
-same_test : (n len : ℕ) → ltb (1 + n) (suc len) ≡ ltb n len
-same_test n len = grind (arith, nat_tests)
-
-cons_by : (b : Bool) (n len : ℕ) → cond (ltb (cond (not b) (1 + n) 0) (suc len)) (Some (cond (not b) (1 + n) 0)) None ≡ cond b (Some 0) (option_map suc (cond (ltb n len) (Some n) None))
-cons_by true n len = let some : ltb 0 (suc len) ≡ true = lt-ltb 0 (suc len) (omega arith) in ap (λ t. cond t (Some 0) None) some
-cons_by false n len = cons_less (ltb (1 + n) (suc len)) (ltb n len) n (same_test n len)
 
 pub position-cons : (p : ℕ → Bool) (x : ℕ) (xs : List ℕ) → position p (x ∷ xs) ≡ cond (p x) (Some 0) (option_map suc (position p xs))
 position-cons p x xs = cons_by (p x) (position_or_len p xs) (length xs)

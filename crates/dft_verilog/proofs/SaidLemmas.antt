@@ -8,7 +8,6 @@ use Rattle.std.proofs.lemmas.Bool.Decides.{nat_tests}
 use Rattle.std.proofs.Math.Bool.{or_comm}
 use Rattle.dft_base.specs.declared.place.Range.{Range}
 use Rattle.dft_base.specs.Lexing.{Text}
-use Rattle.dft_base.specs.Parser.{Checked}
 use Rattle.dft_base.specs.declared.dir.Dir.{Dir}
 use Rattle.dft_base.specs.Ranges.{going_up}
 use Rattle.dft_base.proofs.BitLemmas.{assoc_or}
@@ -27,6 +26,7 @@ use Rattle.dft_netlist.proofs.BitLemmas.{up_length}
 use Rattle.dft_netlist_text.specs.Steps.{fault}
 use Rattle.dft_netlist_text.specs.Modules.{Draft, HeaderPort, TakenName, meaning_of, is_taken, with_name, net_count, names_of_bits, first_taken, free_bits, with_bits, next_shape, with_nets, declare_nets, declared_at, port_place, announce, with_declared, declare_found, declare_port, declare_new_port, same_range, repeat_port, declare_wire_as, declare_wire, room_for_instance, name_instance, with_instance}
 use Rattle.dft_netlist_text.specs.NetlistText.{nets_of_port, nets_of_ports, other_nets, names_of_others}
+use Rattle.dft_netlist_text.proofs.ParserLemmas.{Gives}
 use Rattle.dft_verilog_draft.specs.Free.{AreApart, taken_bit}
 use Rattle.dft_verilog.specs.Buildable.{names_of_port, names_of_header, names_of_instances, printed_names, IsBuildable}
 use Rattle.dft_verilog_draft.proofs.ApartLemmas.{bit_names-apart}
@@ -77,11 +77,6 @@ pub record IsSaid (room : ℕ) (more : List Text) (d : Draft) : Type 0 where
   pub few_ports : length d.ports ≤ MAX_PORTS
   pub few_nets : length d.nets ≤ MAX_NETS
   pub few_instances : length d.instances + room ≤ MAX_INSTANCES
-
--- a check that gives such a draft, or a fault
-abbrev pub Gives : {A : Type 0} → (A → Type 0) → Checked Fault A → Type 0
-Gives P (Ok a) = P a
-Gives P (Err f) = Unit {0}
 
 -- ---- drafts that are buildable
 

@@ -1,13 +1,9 @@
 -- Names that differ, and names that are free.
 use Rattle.std.proofs.Common.{◌≡◌, ◌≢◌, ℕ, zero, suc, ◌+◌, ◌-◌, ◌<◌, ◌≤◌, ◌^◌, Bool, true, false, cond, leb, nat_le, List, [], ◌∷◌, ◌++◌, length, map, find, is_some, Option, Some, None, option_map, refl, ap, arith, length-append, decimal}
-use Rattle.std.specs.Bool.{Decides}
 use Rattle.std.specs.Str.{bytes_eq}
-use Rattle.std.proofs.lemmas.List.{append_cancel_left, append_cancel_right}
-use Rattle.std.proofs.lemmas.Fmt.{decimal_injective}
-use Rattle.std.proofs.lemmas.Slice.Eq.{bytes_eq-Decides}
-use Rattle.std.proofs.lemmas.Bool.Decides.{same_from_decides, nat_tests}
+use Rattle.std.proofs.lemmas.Bool.Decides.{nat_tests}
 use Rattle.dft_base.specs.declared.place.Range.{Range}
-use Rattle.dft_base.proofs.OptionLemmas.{none_of}
+use Rattle.dft_base.proofs.OptionLemmas.{none_of, none_by as find_free}
 use Rattle.dft_base.proofs.TextLemmas.{differ}
 use Rattle.dft_netlist.specs.Names.{bit_name, bit_names, going_up, going_down}
 use Rattle.dft_netlist.proofs.PortNames.{bit_name_injective}
@@ -17,9 +13,6 @@ use Rattle.dft_verilog_draft.specs.Free.{AreFree, AreFreeBits, taken_bit, IsApar
 use Rattle.dft_verilog_draft.specs.TakenNames.{meaning_in}
 
 -- ---- the names of bits differ
-
-tail_same : (x : ℕ) (xs ys : List ℕ) → x ∷ xs ≡ x ∷ ys → xs ≡ ys
-tail_same x xs ys e = cc
 
 bits_differ : (word : List ℕ) (i j : ℕ) → i < 2 ^ 64 → j < 2 ^ 64 → i ≢ j → bytes_eq (bit_name word i) (bit_name word j) ≡ false
 bits_differ word i j hi hj ne = differ _ _ (λ e. ne (bit_name_injective word i j hi hj e))
@@ -58,7 +51,7 @@ bit_names-apart word r left right = (own_apart word _, all_by (nat_le r.left r.r
 
 -- ---- names that are free
 
-find_by : (b : Bool) (w : List ℕ) (rest : Option (List ℕ)) → cond b (Some w) rest ≡ None → (b ≡ false) × (rest ≡ None)
+pub find_by : (b : Bool) (w : List ℕ) (rest : Option (List ℕ)) → cond b (Some w) rest ≡ None → (b ≡ false) × (rest ≡ None)
 find_by true w rest h = absurd (cc)
 find_by false w rest h = (refl, h)
 
@@ -79,10 +72,6 @@ meaning_in-push (x ∷ xs) e w free ne = push_by (bytes_eq x.name w) x _ _ (λ h
 
 abbrev taken_in : List TakenName → List ℕ → Bool
 taken_in names w = is_some (meaning_in names w)
-
-find_free : (b : Bool) (w : List ℕ) (rest : Option (List ℕ)) → b ≡ false → rest ≡ None → cond b (Some w) rest ≡ None
-find_free true w rest h r = absurd (cc)
-find_free false w rest h r = r
 
 find_push : (names : List TakenName) (e : TakenName) (ws : List (List ℕ)) → find (λ w. taken_in names w) ws ≡ None → IsApart e.name ws → find (λ w. taken_in (names ++ e ∷ []) w) ws ≡ None
 find_push names e [] none apart = refl

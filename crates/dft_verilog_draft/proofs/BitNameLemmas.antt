@@ -1,14 +1,9 @@
 -- The printed names of a vector's bits.
-use Rattle.std.proofs.Common.{◌≡◌, ℕ, zero, suc, ◌+◌, ◌-◌, ◌<◌, ◌≤◌, ◌^◌, Bool, true, false, cond, leb, List, [], ◌∷◌, ◌++◌, map, refl, sym, ap, ◌∙◌, arith, add-zero, add-one, ◌%◌, append_assoc, length-append, decimal, nat_le, if◌then◌else◌}
-use Rattle.std.specs.List.{All}
-use Rattle.std.proofs.lemmas.List.Elements.{All-append, All-push, All-cons, All-nil}
+use Rattle.std.proofs.Common.{◌≡◌, ℕ, zero, suc, ◌+◌, ◌-◌, Bool, true, false, cond, leb, List, [], ◌∷◌, ◌++◌, map, refl, sym, ap, ◌∙◌, arith, add-zero, add-one, append_assoc, nat_le, if◌then◌else◌}
 use Rattle.std.proofs.lemmas.List.{map-append}
-use Rattle.std.proofs.lemmas.Fmt.{decimal_by_steps}
 use Rattle.std.proofs.lemmas.Bool.Decides.{nat_tests}
 use Rattle.dft_base.specs.declared.place.Range.{Range}
-use Rattle.dft_base.specs.Name.{IsName}
 use Rattle.dft_base.specs.Ranges.{width}
-use Rattle.dft_base.proofs.TextLemmas.{IsPrinted}
 use Rattle.dft_netlist.specs.Names.{bit_name, going_up, going_down, indices_of}
 use Rattle.dft_verilog_draft.specs.BitNames.{index_at}
 

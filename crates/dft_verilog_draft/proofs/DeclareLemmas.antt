@@ -1,5 +1,5 @@
 -- Declarations: what each gives where its tests pass or fail.
-use Rattle.std.proofs.Common.{◌≡◌, ℕ, ◌+◌, ◌<◌, Bool, true, false, cond, List, ◌++◌, length, drop, is_some, nat_lt, nat_le, Option, Some, None, Ok, Err, refl, sym, ap, ◌∙◌, arith, length-append, zero, suc, ◌-◌, not, subst}
+use Rattle.std.proofs.Common.{◌≡◌, ℕ, ◌+◌, ◌<◌, Bool, true, false, cond, List, ◌++◌, length, drop, is_some, nat_lt, nat_le, Option, Some, None, Ok, Err, refl, sym, ap, ◌∙◌, arith, length-append, not, subst}
 use Rattle.std.proofs.lemmas.List.{length-map}
 use Rattle.std.proofs.Math.Seq.{drop-append_seam}
 use Rattle.std.proofs.lemmas.Bool.Decides.{nat_tests}
@@ -25,10 +25,6 @@ use Rattle.dft_netlist_text.specs.declared.text.Shape.{Shape}
 unless_ok : (t : Option (List ℕ)) (place : ℕ) (names got : List (List ℕ)) → unless_taken place t names ≡ Ok got → (t ≡ None) × (got ≡ names)
 unless_ok None place names got e = let same : got ≡ names = cc in (refl, same)
 unless_ok (Some w) place names got e = absurd (cc)
-
-unless_err : (t : Option (List ℕ)) (place : ℕ) (names : List (List ℕ)) (f : Fault) (next : Checked Fault Draft) → unless_taken place t names ≡ Err f → free_bits place t next ≡ Err f
-unless_err None place names f next e = absurd (cc)
-unless_err (Some w) place names f next e = cc
 
 pub new_bits-ok : (place : ℕ) (word : List ℕ) (range : Option Range) (d : Draft) (got : List (List ℕ)) → new_bits place word range d ≡ Ok got → (first_taken d (names_of_bits word range) ≡ None) × (got ≡ bit_names word range)
 new_bits-ok place word range d got e = unless_ok _ place _ got e

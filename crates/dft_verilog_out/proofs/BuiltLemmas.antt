@@ -16,7 +16,6 @@ use Rattle.dft_netlist.specs.declared.instance.Signal.TheVariants as signal
 use Rattle.dft_netlist.specs.declared.instance.Instance.{Instance}
 use Rattle.dft_netlist.specs.declared.instance.Join.{Join}
 use Rattle.dft_netlist.specs.declared.error.Counted.TheVariants as counted
-use Rattle.dft_netlist.specs.declared.error.NetlistError.{NetlistError}
 use Rattle.dft_netlist.specs.declared.error.NetlistError.TheVariants as error
 use Rattle.dft_netlist.specs.declared.limits.TheConstants.{MAX_PORTS, MAX_NETS, MAX_INSTANCES}
 use Rattle.dft_netlist.specs.Netlist.{Netlist}
@@ -24,6 +23,7 @@ use Rattle.dft_netlist.specs.Names.{bit_names, port_names, names_taken, is_taken
 use Rattle.dft_netlist.specs.NetNumbers.{nets_from}
 use Rattle.dft_netlist.specs.Sound.{IsLive, AreLive, bits_of, bit_names_of, IsAJoin, IsNetlist}
 use Rattle.dft_netlist.specs.Building.{empty_netlist, port_of, taken_or, port_limit, own_names, port_refusal, instance_refusal}
+use Rattle.dft_netlist.proofs.RefusalLemmas.{room_by, limit_by}
 use Rattle.dft_netlist_text.specs.Modules.{TakenName, Draft}
 use Rattle.dft_netlist_text.specs.NetlistText.{nets_of_ports, other_nets, net_order, final_net, final_signal, Grown, unless_refused, and_grown, add_port, add_ports, add_net, add_nets, add_instance, add_instances, final_join, add_joins, names_of_others, built}
 use Rattle.dft_verilog_out.proofs.CountLemmas.{Once, times, times-append, times-head, one_if, has_name-none}
@@ -158,11 +158,6 @@ none_taken m (x ∷ xs) h = rw (free_by m x (h x (omega (arith, times-head x xs)
 room_none : (m : Netlist) (xs rest : List Text) → Room m (xs ++ rest) → first_taken m xs ≡ None
 room_none m xs rest room = none_taken m xs (λ word some. let r = room word in omega (arith, times-append word xs rest))
 
-limit_by : (a b : Bool) (x y : NetlistError) → a ≡ true → b ≡ true → cond a (cond b None (Some x)) (Some y) ≡ None
-limit_by true true x y p q = refl
-limit_by true false x y p q = absurd (cc)
-limit_by false b x y p q = absurd (cc)
-
 port_taken : (m : Netlist) (word : Text) (range : Option Range) (rest : List Text) → Room m (port_names word range ++ rest) → length m.ports + 1 ≤ MAX_PORTS → length m.nets + length (bit_names word range) ≤ MAX_NETS → port_refusal m word range ≡ None
 port_taken m word range rest room ports nets =
     let a : leb (length m.ports + 1) MAX_PORTS ≡ true = grind (arith, nat_tests) in
@@ -176,9 +171,6 @@ port_taken m word range rest room ports nets =
 abbrev pub all_port_names : List Port → List Text
 all_port_names [] = []
 all_port_names (p ∷ ps) = port_names p.name p.range ++ all_port_names ps
-
-net_id : ℕ → NetId
-net_id k = record { 0 = k }
 
 -- numbers in two parts
 numbers_split : (xs ys : List NetId) (from n : ℕ) → xs ++ ys ≡ nets_from from n → (xs ≡ nets_from from (length xs)) × (ys ≡ nets_from (from + length xs) (n - length xs))
@@ -274,11 +266,6 @@ net_room m w rest room word =
     let others : List Text = filter_map vector_name m.ports ++ filter_map instance_name m.instances in
     omega (arith, times-append word m.nets others, times-append word (m.nets ++ w ∷ []) others, times-append word m.nets (w ∷ []))
 
-net_by : (taken room : Bool) (x y : NetlistError) → taken ≡ false → room ≡ true → cond taken (Some x) (cond room None (Some y)) ≡ None
-net_by true room x y p q = absurd (cc)
-net_by false true x y p q = refl
-net_by false false x y p q = absurd (cc)
-
 nets_added : (ws : List Text) (m : Netlist) (rest : List Text) → Room m (ws ++ rest) → length m.nets + length ws ≤ MAX_NETS → Added (add_nets ws m) (with_more_nets m (m.nets ++ ws)) rest
 nets_added [] m rest room nets =
     let same : with_more_nets m (m.nets ++ []) ≡ m = rw (append-nil m.nets) refl in
@@ -287,7 +274,7 @@ nets_added (w ∷ ws) m rest room nets =
     let next = with_more_nets m (m.nets ++ w ∷ []) in
     let free : is_taken m w ≡ false = free_by m w (let r = room w in omega (arith, times-head w (ws ++ rest))) in
     let fits : leb (length m.nets + 1) MAX_NETS ≡ true = grind (arith, nat_tests) in
-    let here : add_net m w ≡ Ok next = ap (λ o. unless_refused o next) (net_by (is_taken m w) (leb (length m.nets + 1) MAX_NETS) (error.DuplicateName w) (error.TooMany counted.Nets (pos MAX_NETS)) free fits) in
+    let here : add_net m w ≡ Ok next = ap (λ o. unless_refused o next) (room_by (is_taken m w) (leb (length m.nets + 1) MAX_NETS) (error.DuplicateName w) (error.TooMany counted.Nets (pos MAX_NETS)) free fits) in
     let later = nets_added ws next rest (net_room m w (ws ++ rest) room) (omega (arith, length-append m.nets (w ∷ []))) in
     let ends : with_more_nets next (next.nets ++ ws) ≡ with_more_nets m (m.nets ++ w ∷ ws) = rw (append_assoc m.nets (w ∷ []) ws) refl in
     record { is = ap (λ g. and_grown g (add_nets ws)) here ∙ later.is ∙ ap (λ (x : Netlist). Ok x) ends; room = subst (λ (x : Netlist). Room x rest) ends later.room }

@@ -4,7 +4,6 @@ use Rattle.std.specs.Prelude.{◌||◌}
 use Rattle.std.specs.List.{filter_map, cons_option}
 use Rattle.std.specs.Option.{option_and_then}
 use Rattle.std.specs.Str.{bytes_eq}
-use Rattle.std.proofs.lemmas.Slice.Eq.{bytes_eq-Decides}
 use Rattle.dft_base.specs.Lexing.{Text}
 use Rattle.dft_base.proofs.TextLemmas.{same_text, bytes_eq-self}
 use Rattle.dft_cells.specs.WellFormed.{has_name}

@@ -1,11 +1,9 @@
 -- The written pieces are cut into their tokens.
-use Rattle.std.proofs.Common.{◌≡◌, ℕ, suc, ◌+◌, ◌-◌, ◌<◌, ◌≤◌, Bool, true, false, not, cond, eqb, ltb, List, [], ◌∷◌, ◌++◌, length, take, drop, codes, decimal, refl, sym, ap, ◌∙◌, arith, get_or, length-append, append_assoc, leb, Some, None}
+use Rattle.std.proofs.Common.{◌≡◌, ℕ, suc, ◌+◌, ◌-◌, ◌<◌, ◌≤◌, Bool, true, false, not, cond, eqb, ltb, List, [], ◌∷◌, ◌++◌, length, take, drop, codes, decimal, refl, ap, ◌∙◌, arith, get_or, length-append, append_assoc, leb, Some, None}
 use Rattle.std.specs.Prelude.{◌&&◌, ◌||◌}
 use Rattle.std.specs.List.{prefix_len, list_all}
-use Rattle.std.specs.Str.{bytes_eq}
 use Rattle.std.specs.Char.{is_ascii_digit}
 use Rattle.std.proofs.lemmas.Bool.Decides.{nat_tests}
-use Rattle.std.proofs.lemmas.Slice.Eq.{bytes_eq-Decides}
 use Rattle.std.proofs.lemmas.List.Sums.{list_all-from_AllPass}
 use Rattle.std.proofs.Math.Seq.{take-append_seam, drop-append_seam}
 use Rattle.std.specs.Str.Parse.{digits_value}
@@ -16,13 +14,14 @@ use Rattle.std.proofs.lemmas.Bool.{and_parts}
 use Rattle.dft_netlist_text.specs.Expressions.{small_number}
 use Rattle.dft_base.specs.Lexing.{Text, Blank, Cut, tokens_from}
 use Rattle.dft_base.specs.Name.{IsName}
-use Rattle.dft_base.specs.Words.{begins_word, continues_word, is_reserved, is_word, is_later_reserved, needs_escape, reserved_words}
+use Rattle.dft_base.specs.Words.{begins_word, continues_word, is_reserved, is_word, is_later_reserved, needs_escape}
 use Rattle.dft_base.proofs.LexingLemmas.{tokens_from-cut}
 use Rattle.dft_base.proofs.NumberLemmas.{minus_zero}
 use Rattle.dft_base.proofs.TextLemmas.{prefix_len-run, begins_goes_on}
 use Rattle.dft_netlist_text.specs.declared.text.TokenKind.{TokenKind}
 use Rattle.dft_netlist_text.specs.declared.text.TokenKind.TheVariants as kind
 use Rattle.dft_netlist_text.specs.Lexemes.{Token, Lexeme, tokens, front, lexeme, token_of, blank_len, is_base_kind, word_kind, mark_kind, escaped, quote, is_space, is_printed, word_len}
+use Rattle.dft_netlist_text.proofs.WordKinds.{word_kind-free}
 use Rattle.dft_verilog_out.specs.Written.{name_text}
 
 -- the tokens of a text, as a word that does not compute
@@ -195,40 +194,6 @@ no_blank c text begins = grind (arith, nat_tests)
 word_lexeme : (c : ℕ) (text : Text) → begins_word c ≡ true → lexeme false (c ∷ text) ≡ record { kind = word_kind (take (word_len (c ∷ text)) (c ∷ text)); len = word_len (c ∷ text); prefix = 0; at = 0 }
 unfolding lexeme
 word_lexeme c text begins = rw begins refl
-
--- a word that is not reserved is no keyword
-is_other : (t : Bool) (word known : List ℕ) → bytes_eq word known ≡ t → is_reserved known ≡ true → is_reserved word ≡ false → t ≡ false
-is_other true word known same reserved free = sym reserved ∙ ap is_reserved (sym ((bytes_eq-Decides word known).0 same)) ∙ free
-is_other false word known same reserved free = refl
-
-differs : (word known : List ℕ) → is_reserved known ≡ true → is_reserved word ≡ false → bytes_eq word known ≡ false
-differs word known reserved free = is_other (bytes_eq word known) word known refl reserved free
-
-word_kind-free : (word : List ℕ) → is_reserved word ≡ false → word_kind word ≡ kind.Name
-unfolding word_kind reserved_words
-word_kind-free word free =
-    rw (
-      differs word (codes "module") refl free,
-      differs word (codes "endmodule") refl free,
-      differs word (codes "input") refl free,
-      differs word (codes "output") refl free,
-      differs word (codes "inout") refl free,
-      differs word (codes "wire") refl free,
-      differs word (codes "assign") refl free,
-      differs word (codes "and") refl free,
-      differs word (codes "nand") refl free,
-      differs word (codes "or") refl free,
-      differs word (codes "nor") refl free,
-      differs word (codes "xor") refl free,
-      differs word (codes "xnor") refl free,
-      differs word (codes "buf") refl free,
-      differs word (codes "not") refl free,
-      free,
-    ) refl
-
--- a lexeme of a whole word in front
-token-front : (l : Lexeme) (text bytes : Text) → take l.len text ≡ bytes → l.prefix ≡ 0 → l.at ≡ 0 → token_of l text ≡ token l.kind bytes (length text)
-token-front l text bytes e p a = rw (e, p, a, minus_zero) refl
 
 all_continue : (c : ℕ) (cs : Text) → is_word (c ∷ cs) ≡ true → (begins_word c ≡ true) × (list_all continues_word (c ∷ cs) ≡ true)
 all_continue c cs h =

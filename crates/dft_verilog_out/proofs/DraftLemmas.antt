@@ -5,6 +5,7 @@ use Rattle.std.proofs.lemmas.Bool.Decides.{nat_tests}
 use Rattle.dft_base.specs.declared.place.Range.{Range}
 use Rattle.dft_base.specs.Lexing.{Text}
 use Rattle.dft_base.specs.declared.dir.Dir.{Dir}
+use Rattle.dft_base.proofs.OptionLemmas.{none_by}
 use Rattle.dft_netlist.specs.declared.limits.TheConstants.{MAX_PORTS, MAX_NETS, MAX_INSTANCES}
 use Rattle.dft_netlist_text.specs.declared.text.Meaning.{Meaning}
 use Rattle.dft_netlist_text.specs.declared.text.Meaning.TheVariants as meaning
@@ -39,10 +40,6 @@ meaning_none d word h = ap (λ o. option_map (λ (e : TakenName). e.meaning) o) 
 pub meaning_some : (d : Draft) (word : Text) (e : TakenName) → look d.names word ≡ Some e → meaning_of d word ≡ Some e.meaning
 meaning_some d word e h = ap (λ o. option_map (λ (e : TakenName). e.meaning) o) h
 
-first_by : (b : Bool) (x : Text) (r : Option Text) → b ≡ false → r ≡ None → cond b (Some x) r ≡ None
-first_by true x r h e = absurd (cc)
-first_by false x r h e = e
-
 later_some : (b : Bool) (n : ℕ) → 1 ≤ n → 1 ≤ cond b 1 0 + n
 later_some true n h = omega arith
 later_some false n h = omega arith
@@ -51,7 +48,7 @@ pub first_taken-none : (d : Draft) (xs : List Text) → Fresh d.names xs → fir
 first_taken-none d [] fresh = refl
 first_taken-none d (x ∷ xs) fresh =
     let here : times x (words d.names) ≡ 0 = fresh x (omega (arith, times-head x xs)) in
-    first_by (is_taken d x) x (first_taken d xs) (ap is_some (meaning_none d x (look-none d.names x here)))
+    none_by (is_taken d x) x (first_taken d xs) (ap is_some (meaning_none d x (look-none d.names x here)))
     (first_taken-none d xs (λ word some. fresh word (later_some (bytes_eq x word) (times word xs) some)))
 
 -- ---- names of bits

@@ -1,30 +1,19 @@
 -- Cells and pins are found by their names.
-use Rattle.std.proofs.Common.{ℕ, zero, suc, ◌≡◌, ◌+◌, Bool, true, false, not, cond, ltb, List, [], ◌∷◌, map, length, Some, None, option_map, Ordering, Less, Equal, Greater, nat_cmp, is_eq, is_lt, position, slice_get, refl, sym, ap, ◌∙◌, zero-add, arith}
+use Rattle.std.proofs.Common.{ℕ, zero, suc, ◌≡◌, ◌+◌, Bool, true, false, not, cond, List, [], ◌∷◌, map, length, Some, option_map, Less, position, slice_get, refl, sym, ap, ◌∙◌, zero-add, arith}
 use Rattle.std.specs.Prelude.{◌||◌}
 use Rattle.std.specs.Str.{bytes_eq}
-use Rattle.std.specs.Cmp.Lexicographic.{slice_cmp}
 use Rattle.std.proofs.lemmas.Slice.Eq.{bytes_eq-Decides}
 use Rattle.std.specs.List.{position_or_len}
 use Rattle.std.proofs.lemmas.Bool.{and_parts}
-use Rattle.std.proofs.lemmas.Bool.Decides.{nat_tests}
 use Rattle.std.proofs.lemmas.Cmp.{nat_list_cmp_total}
-use Rattle.std.proofs.lemmas.Map.Text.{is_eq-slice_cmp}
 use Rattle.dft_base.proofs.TextLemmas.{bytes_eq-self}
+use Rattle.dft_base.proofs.ListLemmas.{cons_by}
 use Rattle.dft_cells.specs.declared.cell.Pin.{Pin}
 use Rattle.dft_cells.specs.declared.cell.Cell.{Cell}
 use Rattle.dft_cells.specs.Cells.{find_from, find_cell}
 use Rattle.dft_cells.specs.WellFormed.{ascend, comes_before, cell_name, pin_name, has_name, all_differ}
 use Rattle.dft_cells.proofs.Halving.{order_of, less_from, differ_less}
 use Rattle.dft_netlist_text.specs.Items.{pin_place}
-
--- the place of the first that passes, one more in front
-cons_by : (t : Bool) (n len : ℕ) → cond (ltb (cond (not t) (1 + n) 0) (suc len)) (Some (cond (not t) (1 + n) 0)) None ≡ cond t (Some 0) (option_map suc (cond (ltb n len) (Some n) None))
-cons_by true n len = let e : ltb 0 (suc len) ≡ true = grind (arith, nat_tests) in rw e refl
-cons_by false n len = inner (ltb n len) refl
-  where
-    inner : (s : Bool) → ltb n len ≡ s → cond (ltb (1 + n) (suc len)) (Some (1 + n)) None ≡ option_map suc (cond s (Some n) None)
-    inner true is = let e : ltb (1 + n) (suc len) ≡ true = grind (arith, nat_tests) in let m : 1 + n ≡ suc n = omega arith in rw (e, m) refl
-    inner false is = let e : ltb (1 + n) (suc len) ≡ false = grind (arith, nat_tests) in rw e refl
 
 pub position-cons : {X : Type 0} (p : X → Bool) (x : X) (xs : List X) → position p (x ∷ xs) ≡ cond (p x) (Some 0) (option_map suc (position p xs))
 position-cons p x xs = cons_by (p x) (position_or_len p xs) (length xs)

@@ -1,5 +1,5 @@
 -- The written form, one part more.
-use Rattle.std.proofs.Common.{◌≡◌, ℕ, zero, suc, ◌+◌, ◌-◌, ◌<◌, ◌≤◌, true, false, List, [], ◌∷◌, ◌++◌, length, map, flat_map, drop, take, get_or, codes, Option, Some, None, refl, sym, ap, ◌∙◌, arith, append_assoc, add-one, slice_get, length-append, subst, inl, inr}
+use Rattle.std.proofs.Common.{◌≡◌, ℕ, zero, suc, ◌+◌, ◌<◌, ◌≤◌, true, false, List, [], ◌∷◌, ◌++◌, length, map, flat_map, drop, get_or, codes, Option, Some, None, refl, sym, ap, ◌∙◌, arith, append_assoc, add-one, slice_get, length-append, subst, inl, inr, ◌-◌, take}
 use Rattle.std.proofs.lemmas.List.{length-map, length-drop, take_all}
 use Rattle.dft_base.specs.declared.place.Range.{Range}
 use Rattle.dft_base.specs.Lexing.{Text}
@@ -8,7 +8,7 @@ use Rattle.dft_netlist.specs.declared.port.Port.{Port}
 use Rattle.dft_netlist.specs.declared.instance.Signal.{Signal}
 use Rattle.dft_netlist.specs.Names.{bit_name, bit_names, indices_of}
 use Rattle.std.proofs.lemmas.Bool.{cases_lt}
-use Rattle.std.proofs.lemmas.Option.{slice_get_within, get_or_from_slice_get}
+use Rattle.std.proofs.lemmas.Option.{get_or_from_slice_get}
 use Rattle.std.proofs.Math.Seq.{drop-append_seam}
 use Rattle.dft_cells.specs.declared.cell.Cell.{Cell}
 use Rattle.dft_netlist.specs.declared.instance.Instance.{Instance}
@@ -145,20 +145,7 @@ pub line_more : {X : Type 0} (f : X → Text) (xs : List X) (k : ℕ) (x : X) (o
 line_more f xs k x old new whole at n e =
     rw (add-one, n) (append_assoc old (f x) (flat_map f (drop (suc k) xs)) ∙ ap (λ t. old ++ t) (sym (flat_next f xs k x at)) ∙ e)
 
--- ---- what holds of each of those that were passed
-
--- a pin that is not joined needs no name
-pub not_joined : (pins : List Pin) (signals : List Signal) (place : ℕ) (d : Signal) → is_joined (get_or signals place d) ≡ false → place < length pins
-    → ((k : ℕ) (pin : Pin) → k < place → slice_get pins k ≡ Some pin → (to : Signal) → slice_get signals k ≡ Some to → is_joined to ≡ true → IsName pin.name)
-    → (k : ℕ) (pin : Pin) → k < place + 1 → slice_get pins k ≡ Some pin → (to : Signal) → slice_get signals k ≡ Some to → is_joined to ≡ true → IsName pin.name
-not_joined pins signals place d other lt before k pin less at to here joined = elim (cases_lt k place) [
-  | inl low ↦ before k pin low at to here joined
-  | inr least ↦ (
-      let e : k ≡ place = omega arith in
-      let is : get_or signals place d ≡ to = get_or_from_slice_get signals place to d (ap (slice_get signals) (sym e) ∙ here) in
-      let t : true ≡ false = sym joined ∙ ap is_joined (sym is) ∙ other in
-      absurd (let f : ⊥ = cc in f))
-]
+-- ---- names
 
 get_drop : (xs : List Text) (from k : ℕ) → slice_get (drop from xs) k ≡ slice_get xs (from + k)
 get_drop xs zero k = let e : k ≡ 0 + k = omega arith in ap (slice_get xs) e

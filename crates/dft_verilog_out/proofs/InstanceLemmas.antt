@@ -12,7 +12,6 @@ use Rattle.dft_cells.specs.Cells.{find_cell}
 use Rattle.dft_cells.specs.Pins.{takes_inputs, is_output}
 use Rattle.dft_netlist.specs.declared.instance.Signal.{Signal}
 use Rattle.dft_netlist.specs.declared.instance.Signal.TheVariants as signal
-use Rattle.dft_netlist_text.specs.declared.text.TokenKind.{TokenKind}
 use Rattle.dft_netlist_text.specs.declared.text.TokenKind.TheVariants as kind
 use Rattle.dft_netlist_text.specs.declared.text.Site.{Site}
 use Rattle.dft_netlist_text.specs.declared.text.Site.TheVariants as site
@@ -169,9 +168,6 @@ semicolon_line rest = cut_up-semicolon (10 ∷ rest) ∙ ap (λ ts. token kind.S
 
 open_at : (inside rest : Text) → Opens (bracketed inside rest) → cut_up (32 ∷ 40 ∷ bracketed inside rest) ≡ token kind.OpenParen (40 ∷ []) (suc (length (bracketed inside rest))) ∷ cut_up (bracketed inside rest)
 open_at inside rest o = cut_up-space (40 ∷ bracketed inside rest) ∙ cut_up-opened (bracketed inside rest) o
-
-gate_inside : (nets : List Text) → Signal → List Signal → Text
-gate_inside nets output ins = list_text (map (signal_text nets) (output ∷ ins))
 
 abbrev pub gate_form : (nets : List Text) → Kind → Option Text → Signal → List Signal → Text
 gate_form nets k own output ins = form (gate_text k) own (list_text (map (signal_text nets) (output ∷ ins)))

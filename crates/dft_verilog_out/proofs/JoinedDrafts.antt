@@ -5,7 +5,6 @@ use Rattle.std.proofs.lemmas.List.Folds.{list_all-append}
 use Rattle.std.proofs.lemmas.Bool.{and_from}
 use Rattle.dft_base.specs.declared.place.Range.{Range}
 use Rattle.dft_base.specs.Lexing.{Text}
-use Rattle.dft_base.specs.Parser as parser
 use Rattle.dft_base.specs.Parser.{Checked}
 use Rattle.dft_cells.specs.declared.cell.Cell.{Cell}
 use Rattle.dft_base.specs.declared.dir.Dir.{Dir}
@@ -14,7 +13,6 @@ use Rattle.dft_netlist.specs.declared.instance.Signal.{Signal}
 use Rattle.dft_netlist.specs.declared.instance.Signal.TheVariants as signal
 use Rattle.dft_netlist.specs.declared.instance.Instance.{Instance}
 use Rattle.dft_netlist_text.specs.declared.text.TokenKind.TheVariants as kind
-use Rattle.dft_netlist_text.specs.declared.text.Cause.{Cause}
 use Rattle.dft_netlist_text.specs.declared.text.Fault.{Fault}
 use Rattle.dft_netlist_text.specs.declared.text.Shape.{Shape}
 use Rattle.dft_netlist_text.specs.declared.text.Select.{Select}
@@ -25,49 +23,14 @@ use Rattle.dft_netlist_text.specs.declared.text.Declared.{Declared}
 use Rattle.dft_netlist_text.specs.declared.text.Site.{Site}
 use Rattle.dft_netlist.specs.declared.limits.TheConstants.{MAX_PORTS, MAX_NETS, MAX_INSTANCES}
 use Rattle.dft_netlist_text.specs.Lexemes.{Token}
-use Rattle.dft_netlist_text.specs.Steps.{Rule, Outcome, left, sees, expect, needed, checked}
+use Rattle.dft_netlist_text.specs.Steps.{left, sees, expect}
 use Rattle.dft_netlist_text.specs.Modules.{Draft, meaning_of, is_taken, net_count, names_of_bits, first_taken, free_bits, with_bits, declare_nets, declared_at, port_place, announce, declare_found, declare_port, declare_new_port, same_range, repeat_port, declare_wire_as, declare_wire, room_for_instance, name_instance}
 use Rattle.dft_netlist_text.specs.Expressions.{nets_of_shape, selected_in, selected, implies, is_whole, drives, SelectedName, Operand, fitting, implied_net, bits_of_port, bits_of_meaning, bits_of_name, selection, followed, constant, named_operand, constant_operand, operand, OpenConcatenations, unread, is_read, opening, closing, turn, concatenations_from, expression}
+use Rattle.dft_netlist_text.proofs.ParserLemmas.{Yields, Gives, behind, passed, either, of_check, of_need}
 use Rattle.dft_verilog_out.specs.Written.{is_joined}
 use Rattle.dft_verilog_out.specs.Named.{is_joined_gate}
 
 -- ---- outcomes
-
--- a value with this property, or a fault
-abbrev pub Yields : {A : Type 0} → (A → Type 0) → Outcome A → Type 0
-Yields P (Ok p) = P p.0
-Yields P (Err f) = Unit {0}
-
--- the same of a check
-abbrev pub Gives : {A : Type 0} → (A → Type 0) → Checked Fault A → Type 0
-Gives P (Ok a) = P a
-Gives P (Err f) = Unit {0}
-
-pub behind : {A B : Type 0} (P : A → Type 0) (Q : B → Type 0) (o : Outcome A) (f : A → Rule B) → Yields P o → ((a : A) → P a → (ts : List Token) → Yields Q (f a ts)) → Yields Q (parser.and_then o f)
-behind P Q (Ok p) f h k = k p.0 h p.1
-behind P Q (Err e) f h k = tt
-
--- behind a value of which nothing is said
-pub passed : {A B : Type 0} (Q : B → Type 0) (o : Outcome A) (f : A → Rule B) → ((a : A) → (ts : List Token) → Yields Q (f a ts)) → Yields Q (parser.and_then o f)
-passed Q (Ok p) f k = k p.0 p.1
-passed Q (Err e) f k = tt
-
-pub either : {A : Type 0} (P : A → Type 0) (b : Bool) (x y : Outcome A) → Yields P x → Yields P y → Yields P (cond b x y)
-either P true x y hx hy = hx
-either P false x y hx hy = hy
-
-pub of_check : {A : Type 0} (P : A → Type 0) (c : Checked Fault A) (ts : List Token) → Gives P c → Yields P (checked c ts)
-of_check P (Ok a) ts h = h
-of_check P (Err f) ts h = tt
-
-pub of_need : {A : Type 0} (P : A → Type 0) (why : Cause) (place : ℕ) (b : Bool) (rule : Rule A) (ts : List Token) → Yields P (rule ts) → Yields P (needed why place b rule ts)
-of_need P why place true rule ts h = h
-of_need P why place false rule ts h = tt
-
--- a list goes on behind a comma
-pub turns : {A : Type 0} (P : A → Type 0) (comma : Bool) (more : A) (rule : Rule A) → P more → ((ts : List Token) → Yields P (rule ts)) → (ts : List Token) → Yields P ((cond comma rule (parser.pure more)) ts)
-turns P true more rule h k ts = k ts
-turns P false more rule h k ts = h
 
 -- ---- what is joined
 

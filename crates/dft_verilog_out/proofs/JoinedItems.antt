@@ -23,9 +23,10 @@ use Rattle.dft_netlist_text.specs.Modules.{Draft, empty_draft, announce, declare
 use Rattle.dft_netlist_text.specs.Expressions.{range_if_any, expression}
 use Rattle.dft_netlist_text.specs.Items.{Declaring, Ports, Wires, declare, declared_name, declared_names_from, declared_names, declaration, port_item, wire_item, with_joins, right_side, net_assignment, net_assignments_from, net_assignments, assign_item, One, one_bit, gate_kind, terminal, input_terminals_from, input_terminals, gate_instance, terminals, named_gate, unnamed_gate, one_gate, gates_from, gates, gate_item, unjoined, connected_pin, Connected, pin_signal, pin_content, named_connection, named_connections_from, named_connections, connections, cell_instance, instance, instances_from, instances, instances_of, instances_named, cell_item, gate_or_cell, item_of, item, items_from, items}
 use Rattle.dft_netlist_text.specs.NetlistText.{announced_name, announced_names_from, announced_names, declared_port, PortDeclaration, port_declaration, declared_ports_from, declared_ports, sees_direction, header_names, header, heading, first_undeclared, all_declared, module_end, end_of_text, module_text}
+use Rattle.dft_netlist_text.proofs.ParserLemmas.{Yields, behind, passed, either, of_check, of_need, turns}
 use Rattle.dft_verilog_out.specs.Written.{is_joined}
 use Rattle.dft_verilog_out.specs.Named.{is_joined_gate}
-use Rattle.dft_verilog_out.proofs.JoinedDrafts.{Yields, behind, passed, either, of_check, of_need, turns, IsJoinedDraft, AreBits, IsJoinedOperand, all_behind, announce_joined, new_port_joined, port_joined, wire_joined, name_joined, room_joined, expression_joined}
+use Rattle.dft_verilog_out.proofs.JoinedDrafts.{IsJoinedDraft, AreBits, IsJoinedOperand, all_behind, announce_joined, new_port_joined, port_joined, wire_joined, name_joined, room_joined, expression_joined}
 
 -- what one rule does to drafts whose gates are joined
 abbrev Keeps : List Cell → (Draft → Rule Draft) → Type 0

@@ -1,5 +1,5 @@
 -- A netlist that a text stands for has its gates joined at every pin, and is over the cells that the text was read with.
-use Rattle.std.proofs.Common.{◌≡◌, ℕ, Bool, true, false, ◌&&◌, List, [], ◌∷◌, map, Option, Some, None, Ok, Err, refl, sym, ◌∙◌, subst}
+use Rattle.std.proofs.Common.{◌≡◌, ℕ, true, List, [], ◌∷◌, map, Option, Some, None, Ok, Err, refl, sym, ◌∙◌, subst}
 use Rattle.std.specs.List.{list_all}
 use Rattle.std.proofs.lemmas.Bool.{and_from}
 use Rattle.dft_base.specs.Lexing.{Text}
@@ -19,11 +19,12 @@ use Rattle.dft_netlist_text.specs.Lexemes.{tokens}
 use Rattle.dft_netlist_text.specs.Steps.{Outcome}
 use Rattle.dft_netlist_text.specs.Modules.{Draft, HeaderPort}
 use Rattle.dft_netlist_text.specs.NetlistText.{module_text, module_of, net_order, names_of_others, final_signal, Grown, unless_refused, and_grown, add_declared, add_ports, add_net, add_nets, add_instance, add_instances, add_joins, built, StandsFor}
+use Rattle.dft_netlist_text.proofs.ParserLemmas.{Yields}
 use Rattle.dft_verilog_out.specs.Written.{is_joined}
 use Rattle.dft_verilog_out.specs.Named.{joins_its_pins, is_joined_gate}
 use Rattle.dft_verilog_out.specs.Laws.{TextsAreJoined, LibraryIsKept}
 use Rattle.dft_verilog_out.proofs.JoinedLemmas.{gates_joined}
-use Rattle.dft_verilog_out.proofs.JoinedDrafts.{Yields, AreJoined, IsJoinedDraft, all_behind}
+use Rattle.dft_verilog_out.proofs.JoinedDrafts.{AreJoined, IsJoinedDraft, all_behind}
 use Rattle.dft_verilog_out.proofs.JoinedItems.{module_joined}
 
 -- the gates of a netlist are joined, and it is over these cells

@@ -29,10 +29,13 @@ use Rattle.dft_netlist.specs.Netlist.{Netlist}
 use Rattle.dft_netlist.specs.Names.{IsNameIfAny, instance_name}
 use Rattle.dft_netlist.specs.Drivers.{shape_of, shape_of_cell, gate_roles}
 use Rattle.dft_netlist.specs.Sound.{is_primitive, IsLive, AreLive, IsInstance, IsConnected, IsAJoin, is_output}
+use Rattle.dft_netlist.proofs.PinLemmas.{length-gate_roles}
 use Rattle.dft_netlist_text.specs.Modules.{HeaderPort, TakenName, Draft}
 use Rattle.dft_netlist_text.specs.Expressions.{drives}
 use Rattle.dft_netlist_text.specs.Items.{gate_instance, cell_instance}
-use Rattle.dft_verilog_out.specs.Named.{HasNamedCell, IsNamedCell, IsJoinedGate}
+use Rattle.dft_cells.proofs.CellNames.{cell_is_named, pin_is_named}
+use Rattle.dft_base.specs.Name.{IsName}
+use Rattle.dft_verilog_out.specs.Named.{IsJoinedGate}
 use Rattle.dft_verilog_out.specs.Written.{join_line, is_joined, output_first, gate_line, cell_line, found_cell_line, instance_line}
 use Rattle.dft_verilog_out.proofs.CountLemmas.{Once, look, words}
 use Rattle.dft_verilog_out.proofs.DraftLemmas.{entry, free_at, words-append, name_instance-is, room_for_instance-is}
@@ -79,10 +82,6 @@ split (s ∷ t ∷ pins) zero e = absurd (omega arith)
 split (s ∷ t ∷ pins) (suc count) e =
     let r = split (t ∷ pins) count (omega arith) in
     record { ins = s ∷ r.ins; output = r.output; is = ap (λ ss. s ∷ ss) r.is; size = ap suc r.size }
-
-length-gate_roles : (inputs : ℕ) → length (gate_roles inputs) ≡ suc inputs
-length-gate_roles zero = refl
-length-gate_roles (suc inputs) = ap suc (length-gate_roles inputs)
 
 last_role : (inputs : ℕ) → slice_get (gate_roles inputs) inputs ≡ Some role.Output
 last_role zero = refl
@@ -158,7 +157,7 @@ gate_line-is texts k i ins output e = rw (e, first_is ins output) refl
 -- what is known of the pins of a cell
 record OfCell (d : Draft) (texts : List Text) (cell : Cell) (signals : List Signal) : Type 0 where
   nets : NetsAt d.names d.ports texts
-  named : IsNamedCell cell signals
+  names : (place : ℕ) (pin : Pin) → slice_get cell.pins place ≡ Some pin → IsName pin.name
   differ : all_differ (map pin_name cell.pins) ≡ true
   live : AreLive (length texts) signals
   outputs : (place : ℕ) (pin : Pin) (bit : Bool) → slice_get cell.pins place ≡ Some pin → slice_get signals place ≡ Some (signal.Constant bit) → is_output pin.role ≡ false
@@ -167,7 +166,7 @@ pin_of : (d : Draft) (texts : List Text) (cell : Cell) (signals : List Signal) (
 pin_of d texts cell signals place pin to c at is = record {
   found = pin_place-at cell place pin c.differ at;
   at = at;
-  name = λ joined. c.named.pins place pin to at is joined;
+  name = λ joined. c.names place pin at;
   reads = λ joined. signal_operand d (site.Pin (is_output pin.role)) texts to c.nets (c.live place to is) (is_joined-connected to joined) (λ bit e. c.outputs place pin bit at (is ∙ ap Some e));
 }
 
@@ -213,7 +212,6 @@ nets_kept names more ports texts known k lt = net_at-kept names more ports (get_
 pub record IsReadable (library : List Cell) (count : ℕ) (i : Instance) : Type 0 where
   pub stands : IsInstance library count i.name i.cell i.pins
   pub own : IsNameIfAny i.name
-  pub cell : HasNamedCell library i
   pub joined : IsJoinedGate i
 
 made_gate : (k : Kind) (name : Option Text) (inputs : ℕ) (pins ins : List Signal) (output : Signal) → length ins ≡ inputs → pins ≡ ins ++ output ∷ [] → gate_instance k name output ins ≡ inst name (cell_ref.Gate k inputs) pins
@@ -247,18 +245,17 @@ instance_step n (Some w) (cell_ref.Library id) pins names ports nets done joins 
     let at = get_there n.library id.0 r.stands.fits.0 in
     let cell = at.0 in
     let is_cell = well.each id.0 cell at.1 in
-    let is_named = r.cell cell at.1 in
     let roles : (shape_of n.library (cell_ref.Library id)).roles ≡ map (λ (p : Pin). p.role) cell.pins = ap (λ (o : Option Cell). (shape_of_cell o).roles) at.1 in
     let width : length pins ≡ length cell.pins = r.stands.width ∙ ap length roles ∙ length-map cell.pins (λ (p : Pin). p.role) in
     let c : OfCell named texts cell pins = record {
       nets = nets_kept names (entry w meaning.Instance ∷ []) ports texts known;
-      named = is_named;
+      names = λ place pin there. pin_is_named cell place pin is_cell there;
       differ = is_cell.differ;
       live = r.stands.live;
       outputs = λ place pin bit here to.
           false_from_ne_true (is_output pin.role) (λ out. r.stands.outputs place pin.role bit (ap (λ (rs : List Role). slice_get rs place) roles ∙ role_at cell.pins place pin here) out to);
     } in
-    let line = cell_read start named texts id cell w pins (find_cell-at n.library id.0 cell well.names at.1) at.1 is_named.name r.own (λ place. name_instance-is place w start (free w refl) room)
+    let line = cell_read start named texts id cell w pins (find_cell-at n.library id.0 cell well.names at.1) at.1 (cell_is_named cell is_cell) r.own (λ place. name_instance-is place w start (free w refl) room)
     (pins_of named texts cell pins 0 cell.pins pins c width (from_zero cell.pins) (from_zero pins)) width in
     let made : cell_instance id w (map as_joined pins) ≡ inst (Some w) (cell_ref.Library id) pins = ap (λ (ss : List Signal). inst (Some w) (cell_ref.Library id) ss) (signals-back pins) in
     let text : instance_line n.library texts (inst (Some w) (cell_ref.Library id) pins) ≡ cell_form texts cell w pins =

@@ -15,7 +15,7 @@ use Rattle.dft_netlist_text.specs.Steps.{left}
 use Rattle.dft_netlist_text.specs.Modules.{HeaderPort, TakenName, Draft, names_of_bits}
 use Rattle.dft_netlist_text.specs.Items.{items_from}
 use Rattle.dft_netlist_text.specs.NetlistText.{first_undeclared, module_text, module_of, StandsFor}
-use Rattle.dft_verilog_out.specs.Named.{AreCellsNamed, GatesAreJoined}
+use Rattle.dft_verilog_out.specs.Named.{GatesAreJoined}
 use Rattle.dft_verilog_out.specs.Written.{name_text, wire_names, net_texts, port_line, wire_line, join_line, instance_line, module_line, body, written}
 use Rattle.dft_verilog_out.proofs.FormLemmas.{length-port_texts, others-are, joins-stand, instances-stand, wires-named}
 use Rattle.dft_verilog_out.proofs.CutLemmas.{cut_up, cut_up-is, cut_up-endmodule, token}
@@ -101,7 +101,6 @@ whole n = stage n (net_names_taken n ++ instance_entries n.instances) (declared_
 pub record IsWritten (n : Netlist) : Type 0 where
   pub sound : IsNetlist n
   pub well : IsWellFormed n.library
-  pub named : AreCellsNamed n
   pub gates : GatesAreJoined n
 
 names_differ : (n : Netlist) → IsWritten n → Once (header_words n.ports ++ (bit_words n.ports ++ (wire_names n ++ filter_map instance_name n.instances)))
@@ -143,7 +142,7 @@ all_lines n h =
     let wires = wires_read n (wire_names n) (port_names_taken n) declared bits (filter_map instance_name n.instances) (all_names (wire_names n) (wires-named n h.sound)) (once_wires n h) room in
     let joins = joins_read n n.joins (net_names_taken n) declared nets [] texts (nets_known n h) (joins-stand n texts n.joins h.sound refl refl) in
     let instances = instances_read n n.instances (net_names_taken n) declared nets [] n.joins texts h.well
-    (λ place i at. record { stands = instances-stand n n.library texts n.instances h.sound refl refl refl place i at; own = h.sound.named.instances place i at; cell = h.named place i at; joined = h.gates place i at }) (nets_known n h) (once_instances n h) (let few = h.sound.few_instances in omega arith) in
+    (λ place i at. record { stands = instances-stand n n.library texts n.instances h.sound refl refl refl place i at; own = h.sound.named.instances place i at; joined = h.gates place i at }) (nets_known n h) (once_instances n h) (let few = h.sound.few_instances in omega arith) in
     lines_more (length n.ports) (length (wire_names n) + (length n.joins + length n.instances)) (flat_map port_line n.ports) _ start first (whole n) ports
     (lines_more (length (wire_names n)) (length n.joins + length n.instances) (flat_map wire_line (map name_text (wire_names n))) _ first second (whole n) wires
     (lines_more (length n.joins) (length n.instances) (flat_map (join_line texts) n.joins) (flat_map (instance_line n.library texts) n.instances) second third (whole n) joins instances))

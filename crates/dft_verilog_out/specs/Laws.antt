@@ -9,7 +9,7 @@ use Rattle.dft_netlist.specs.Orders.{IsOrderable}
 use Rattle.dft_netlist.specs.Sound.{IsNetlist}
 use Rattle.dft_netlist_text.specs.NetlistText.{StandsFor}
 use Rattle.dft_verilog_out.specs.Written.{written}
-use Rattle.dft_verilog_out.specs.Named.{AreCellsNamed, GatesAreJoined}
+use Rattle.dft_verilog_out.specs.Named.{GatesAreJoined}
 
 -- a netlist that a text stands for has its gates joined at every pin, so it can be written
 abbrev pub TextsAreJoined : Type 0
@@ -19,11 +19,10 @@ TextsAreJoined = (library : List Cell) (text : Text) (n : Netlist) → StandsFor
 abbrev pub LibraryIsKept : Type 0
 LibraryIsKept = (library : List Cell) (text : Text) (n : Netlist) → StandsFor library text n → n.library ≡ library
 
--- a netlist that can be written: it is sound, its cells have names, its gates are joined, and it could be finished
+-- a netlist that can be written: it is sound, its gates are joined, and it could be finished
 pub record CanBeWritten (n : Netlist) : Type 0 where
   pub sound : IsNetlist n
   pub library : IsWellFormed n.library
-  pub named : AreCellsNamed n
   pub gates : GatesAreJoined n
   pub single : IsSingle n
   pub orderable : (net : ℕ) → net < length n.nets → IsOrderable n net

@@ -1,9 +1,6 @@
--- What the types keep of the names of cells, and what a gate must have.
+-- What a gate must have to be written.
 use Rattle.std.specs.Prelude.{ℕ, ◌≡◌, Bool, true, List, Some, slice_get}
 use Rattle.std.specs.List.{list_all}
-use Rattle.dft_base.specs.Name.{IsName}
-use Rattle.dft_cells.specs.declared.cell.Pin.{Pin}
-use Rattle.dft_cells.specs.declared.cell.Cell.{Cell}
 use Rattle.dft_netlist.specs.declared.instance.Signal.{Signal}
 use Rattle.dft_netlist.specs.declared.instance.CellRef.{CellRef}
 use Rattle.dft_netlist.specs.declared.instance.CellRef.TheVariants.{Library, Gate}
@@ -11,19 +8,6 @@ use Rattle.dft_netlist.specs.declared.instance.Instance.{Instance}
 use Rattle.dft_netlist.specs.Netlist.{Netlist}
 use Rattle.dft_netlist.specs.Sound.{IsConnected}
 use Rattle.dft_verilog_out.specs.Written.{is_joined}
-
--- a cell has a name, and so has each of its pins that is joined
-pub record IsNamedCell (cell : Cell) (signals : List Signal) : Type 0 where
-  pub name : IsName cell.name
-  pub pins : (place : ℕ) (pin : Pin) (to : Signal) → slice_get cell.pins place ≡ Some pin → slice_get signals place ≡ Some to → is_joined to ≡ true → IsName pin.name
-
--- the cell of an instance, if it is of a cell of the library, has names
-abbrev pub HasNamedCell : List Cell → Instance → Type 0
-HasNamedCell library i = elim i.cell [ Library id ↦ (cell : Cell) → slice_get library id.0 ≡ Some cell → IsNamedCell cell i.pins | Gate kind inputs ↦ Unit {0} ]
-
--- the cells of all instances do
-abbrev pub AreCellsNamed : Netlist → Type 0
-AreCellsNamed n = (place : ℕ) (i : Instance) → slice_get n.instances place ≡ Some i → HasNamedCell n.library i
 
 -- every pin of a gate is joined
 abbrev pub IsJoinedGate : Instance → Type 0

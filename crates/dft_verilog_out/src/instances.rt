@@ -1,13 +1,9 @@
 //! Joins and instances.
 
-ghost use Rattle.std.specs.Prelude.{ℕ, ◌≡◌, ◌++◌, OnOk, Some, codes, flat_map, length, map, slice_get, true};
-ghost use Rattle.dft_base.specs.Name.{IsName};
-ghost use Rattle.dft_cells.specs.declared.cell.Pin.{Pin as APin};
+ghost use Rattle.std.specs.Prelude.{ℕ, ◌≡◌, ◌++◌, OnOk, Some, codes, flat_map, length, map, slice_get};
 ghost use Rattle.dft_netlist.specs.Sound.{AreLive, IsAJoin, IsInstance, IsLive};
 ghost use Rattle.dft_netlist.specs.declared.instance.Instance.{Instance as AnInstance};
 ghost use Rattle.dft_netlist.specs.declared.instance.Join.{Join as AJoin};
-ghost use Rattle.dft_netlist.specs.declared.instance.Signal.{Signal as ASignal};
-ghost use Rattle.dft_verilog_out.specs.Named.{HasNamedCell, IsNamedCell};
 ghost use Rattle.dft_verilog_out.specs.Written as form;
 
 use crate::names::add_name;
@@ -48,8 +44,7 @@ pub(crate) fn add_joins(
 /// Adds a pin and what it is joined to.
 fn add_joined(out: &mut Vec<u8>, nets: &[NetText], pin: &Name, to: Signal) -> Result<(), AllocError>
     requires { IsLive (length nets.now) to }
-    ensures text { OnOk result (out.new.items ≡ out.old.items ++ form.connection_text nets.now pin.now to) }
-    ensures named { OnOk result (IsName pin.now) }
+    ensures { OnOk result (out.new.items ≡ out.old.items ++ form.connection_text nets.now pin.now to) }
 {
     out.push(b'.')?;
     add_name(out, pin)?;
@@ -78,8 +73,7 @@ fn add_connections(
 ) -> Result<(), AllocError>
     requires live { AreLive (length nets.now) signals.now }
     requires width { length signals.now ≡ length pins.now }
-    ensures text { OnOk result (out.new.items ≡ out.old.items ++ form.list_text (form.connection_texts nets.now pins.now signals.now)) }
-    ensures named { OnOk result ((place : ℕ) (pin : APin) (to : ASignal) → slice_get pins.now place ≡ Some pin → slice_get signals.now place ≡ Some to → form.is_joined to ≡ true → IsName pin.name) }
+    ensures { OnOk result (out.new.items ≡ out.old.items ++ form.list_text (form.connection_texts nets.now pins.now signals.now)) }
 {
     let mut before: &[u8] = b"";
     for place in 0..pins.len() {
@@ -174,8 +168,7 @@ fn add_cell(
 ) -> Result<(), AllocError>
     requires live { AreLive (length nets.now) instance.now.pins }
     requires width { length instance.now.pins ≡ length cell.now.pins }
-    ensures text { OnOk result (out.new.items ≡ out.old.items ++ form.cell_line nets.now cell.now instance.now) }
-    ensures named { OnOk result (IsNamedCell cell.now instance.now.pins) }
+    ensures { OnOk result (out.new.items ≡ out.old.items ++ form.cell_line nets.now cell.now instance.now) }
 {
     add_name(out, &cell.name)?;
     add_own_name(out, &instance.name)?;
@@ -192,8 +185,7 @@ fn add_instance(
     instance: &Instance,
 ) -> Result<(), AllocError>
     requires { IsInstance cells.now (length nets.now) instance.now.name instance.now.cell instance.now.pins }
-    ensures text { OnOk result (out.new.items ≡ out.old.items ++ form.instance_line cells.now nets.now instance.now) }
-    ensures named { OnOk result (HasNamedCell cells.now instance.now) }
+    ensures { OnOk result (out.new.items ≡ out.old.items ++ form.instance_line cells.now nets.now instance.now) }
 {
     match instance.cell {
         CellRef::Library(id) => add_cell(out, nets, &cells[id.0 as usize], instance),
@@ -209,8 +201,7 @@ pub(crate) fn add_instances(
     instances: &[Instance],
 ) -> Result<(), AllocError>
     requires { (place : ℕ) (i : AnInstance) → slice_get instances.now place ≡ Some i → IsInstance cells.now (length nets.now) i.name i.cell i.pins }
-    ensures text { OnOk result (out.new.items ≡ out.old.items ++ flat_map (form.instance_line cells.now nets.now) instances.now) }
-    ensures named { OnOk result ((place : ℕ) (i : AnInstance) → slice_get instances.now place ≡ Some i → HasNamedCell cells.now i) }
+    ensures { OnOk result (out.new.items ≡ out.old.items ++ flat_map (form.instance_line cells.now nets.now) instances.now) }
 {
     for instance in instances {
         add_instance(out, cells, nets, instance)?;

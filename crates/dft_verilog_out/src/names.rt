@@ -1,7 +1,6 @@
 //! Names and numbers as they are written.
 
 ghost use Rattle.std.specs.Prelude.{◌≡◌, ◌++◌, OnOk, decimal};
-ghost use Rattle.dft_base.specs.Name.{IsName};
 ghost use Rattle.dft_verilog_out.specs.Written as form;
 
 use dft_base::{Name, needs_escape};
@@ -10,8 +9,7 @@ use std::alloc::AllocError;
 
 /// Adds a name, behind a backslash where it needs one.
 pub(crate) fn add_name(out: &mut Vec<u8>, name: &Name) -> Result<(), AllocError>
-    ensures text { OnOk result (out.new.items ≡ out.old.items ++ form.name_text name.now) }
-    ensures name { IsName name.now }
+    ensures { OnOk result (out.new.items ≡ out.old.items ++ form.name_text name.now) }
 {
     if !needs_escape(name.as_slice()) {
         return out.extend_from_slice(name.as_slice());

@@ -1,6 +1,6 @@
 -- Words at the front of what is left of a line, and the first line of a text.
 use Rattle.std.proofs.Common.{ℕ, suc, ◌+◌, ◌-◌, ◌==◌, ◌≡◌, ◌<◌, ◌≤◌, Bool, true, false, not, List, [], ◌∷◌, length, take, drop, drop-cons, get_or, map, ◌++◌, None, Some, refl, sym, subst, ap, arith, ◌∙◌}
-use Rattle.std.proofs.lemmas.List.{append_assoc, append-nil, map-append, length-drop, take_all, drop_all, drop-drop, get_or-drop}
+use Rattle.std.proofs.lemmas.List.{append_assoc, append-nil, map-append, length-drop, drop_all, drop-drop, get_or-drop, take_rest}
 use Rattle.std.proofs.lemmas.List.Elements.{All-push}
 use Rattle.std.proofs.lemmas.List.Sums.{prefix_len_stops, prefix_len-le-length}
 use Rattle.std.specs.Prelude.{if◌then◌else◌}
@@ -62,18 +62,14 @@ comment_begins b t gap hash =
 
 -- ---- the next word by where it stands
 
--- what is left from a place on
-rest_is : (line : Text) (at : ℕ) → take (length line - at) (drop at line) ≡ drop at line
-rest_is line at = ap (λ (n : ℕ). take n (drop at line)) (sym (length-drop at line)) ∙ take_all (length (drop at line)) (drop at line) (omega arith)
-
 -- the place behind the gaps
 gaps_end : (line : Text) (at n : ℕ) → n ≡ prefix_len is_gap (take (length line - at) (drop at line)) → words_from false (drop at line) ≡ words_from false (drop (at + n) line)
 gaps_end line at n is =
-    gaps_pass (drop at line) ∙ ap (λ (k : ℕ). words_from false (drop k (drop at line))) (sym (is ∙ ap (prefix_len is_gap) (rest_is line at))) ∙ ap (words_from false) (drop-drop n at line)
+    gaps_pass (drop at line) ∙ ap (λ (k : ℕ). words_from false (drop k (drop at line))) (sym (is ∙ ap (prefix_len is_gap) (take_rest line at))) ∙ ap (words_from false) (drop-drop n at line)
 
 no_gap : (line : Text) (at n : ℕ) → n ≡ prefix_len is_gap (take (length line - at) (drop at line)) → at + n < length line → is_gap (get_or line (at + n) 0) ≡ false
 no_gap line at n is less =
-    let same : n ≡ prefix_len is_gap (drop at line) = is ∙ ap (prefix_len is_gap) (rest_is line at) in
+    let same : n ≡ prefix_len is_gap (drop at line) = is ∙ ap (prefix_len is_gap) (take_rest line at) in
     let long : length (drop at line) ≡ length line - at = length-drop at line in
     ap is_gap (sym (get_or-drop at line n 0)) ∙ ap (λ (k : ℕ). is_gap (get_or (drop at line) k 0)) same ∙ prefix_len_stops is_gap (drop at line) 0 (omega (arith, same, long, less))
 
@@ -95,7 +91,7 @@ word_there line at n m is less hash size =
     let b : ℕ = get_or line s 0 in
     let here : drop s line ≡ b ∷ drop (suc s) line = drop-cons line s 0 less in
     let gap : is_gap b ≡ false = no_gap line at n is less in
-    let same : m ≡ prefix_len is_inner (drop s line) = size ∙ ap (prefix_len is_inner) (rest_is line s) in
+    let same : m ≡ prefix_len is_inner (drop s line) = size ∙ ap (prefix_len is_inner) (take_rest line s) in
     let long : length (drop s line) ≡ length line - s = length-drop s line in
     let some : 0 < prefix_len is_inner (drop s line) = subst (λ (t : Text). 0 < prefix_len is_inner t) (sym here) (inner_some b (drop (suc s) line) gap) in
     let fits : prefix_len is_inner (drop s line) ≤ length (drop s line) = prefix_len-le-length is_inner (drop s line) in
@@ -110,7 +106,7 @@ word_there line at n m is less hash size =
 
 pub front_less : (line : Text) (at n : ℕ) → at ≤ length line → n ≤ length (take (length line - at) (drop at line)) → (at + n ≡ length line → ⊥) → at + n < length line
 front_less line at n begun within other =
-    let long : length (take (length line - at) (drop at line)) ≡ length line - at = ap length (rest_is line at) ∙ length-drop at line in
+    let long : length (take (length line - at) (drop at line)) ≡ length line - at = ap length (take_rest line at) ∙ length-drop at line in
     less_by (at + n) (length line) (omega (arith, begun, within, long)) other
 
 -- ---- all words

@@ -1,6 +1,6 @@
 use Rattle.std.proofs.Common.{◌≡◌, length, arith}
 use Rattle.dft_netlist.specs.Sound.{bits_of}
-use Rattle.dft_scan_frame.proofs.Kept.{ports_fit}
+use Rattle.dft_netlist.proofs.LiveDriven.{ports_fit}
 use Rattle.dft_scan_frame.proofs.counting.count_port_nets.Goals as goal
 
 pub count_bits-requires : goal.count_bits-requires

@@ -2,9 +2,9 @@ use Rattle.std.proofs.Common.{◌≡◌, List, drop, map, sym, subst, ap, arith,
 use Rattle.std.specs.Result.{OnOk}
 use Rattle.dft_netlist.specs.declared.instance.Join.{Join}
 use Rattle.dft_netlist.specs.Netlist.{Netlist}
+use Rattle.dft_netlist.proofs.LiveDriven.{ports_fit}
 use Rattle.dft_scan_frame.specs.Growing.{AllFit, net_things, join_things, instance_things, with_things}
 use Rattle.dft_scan_frame.specs.Moves.{Gap, moved_join, map_from}
-use Rattle.dft_scan_frame.proofs.Kept.{ports_fit}
 use Rattle.dft_scan_frame.proofs.Stages.{before_of}
 use Rattle.dft_scan_hardware.specs.Frame.{framed_at, frame}
 use Rattle.dft_scan_hardware.proofs.Frames.{frame_whole, frame_ports, some_ports, with_added, with_others, with_joins, added_stand, others_pass, others_done, joins_pass, joins_done, instances_pass, instances_done}

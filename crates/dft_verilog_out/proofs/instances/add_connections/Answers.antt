@@ -1,31 +1,21 @@
 use Rattle.std.proofs.Common.{◌≡◌, sym, refl, Some, true, ℕ, slice_get, arith}
 use Rattle.std.proofs.lemmas.Option.{slice_get-get_or}
 use Rattle.dft_base.specs.Name.{IsName}
-use Rattle.dft_base.proofs.ListLemmas.{each_more, each_all}
 use Rattle.dft_cells.specs.declared.cell.Pin.{Pin}
 use Rattle.dft_netlist.specs.declared.instance.Signal.{Signal}
 use Rattle.dft_netlist.specs.declared.instance.Signal.TheVariants.{Net}
 use Rattle.dft_verilog_out.specs.Written.{is_joined}
-use Rattle.dft_verilog_out.proofs.FormLemmas.{connections-joined, connections-unjoined, not_joined}
+use Rattle.dft_verilog_out.proofs.FormLemmas.{connections-joined, connections-unjoined}
 use Rattle.dft_verilog_out.proofs.instances.add_connections.Goals as goal
 use Rattle.dft_verilog_out.proofs.instances.add_connections.Goals.{then-is_joined+in_ok-extend_from_slice+in_ok-add_joined, else-is_joined}
 
 pub loop-place-preserved : goal.loop-place-preserved
 loop-place-preserved c = elim c.if-is_joined.branch [
-  | then-is_joined+in_ok-extend_from_slice+in_ok-add_joined w ↦ rw (w.out-is, w.before-is) (record {
-    text = connections-joined c.args.nets.now c.args.pins.now c.args.signals.now c.loop-place.place w.index-pins-place.result (Net (record { 0 = 0 })) _ _ _ _ _ _
-        refl (omega arith) (omega (arith, c.requires.width)) (sym w.if-is_joined.ensures) w.in_ok-extend_from_slice.ensures.items
-        w.in_ok-add_joined.ensures.text
-        c.loop-place.invariant.text;
-    named = each_more (λ (k : ℕ) (pin : Pin). (to : Signal) → slice_get c.args.signals.now k ≡ Some to → is_joined to ≡ true → IsName pin.name) c.args.pins.now c.loop-place.place _ c.loop-place.invariant.named
-        (slice_get-get_or c.args.pins.now c.loop-place.place w.index-pins-place.result (omega arith)) (λ to at joined. w.in_ok-add_joined.ensures.named);
-  })
-  | else-is_joined w ↦ rw (w.out-is, w.before-is) (record {
-    text = connections-unjoined c.args.nets.now c.args.pins.now c.args.signals.now c.loop-place.place (Net (record { 0 = 0 })) _ _ _ (omega arith) (omega (arith, c.requires.width)) (sym w.if-is_joined.ensures) c.loop-place.invariant.text;
-    named = not_joined c.args.pins.now c.args.signals.now c.loop-place.place (Net (record { 0 = 0 })) (sym w.if-is_joined.ensures) (omega arith) c.loop-place.invariant.named;
-  })
+  | then-is_joined+in_ok-extend_from_slice+in_ok-add_joined w ↦ rw (w.out-is, w.before-is)
+      (connections-joined c.args.nets.now c.args.pins.now c.args.signals.now c.loop-place.place w.index-pins-place.result (Net (record { 0 = 0 })) _ _ _ _ _ _
+      refl (omega arith) (omega (arith, c.requires.width)) (sym w.if-is_joined.ensures) w.in_ok-extend_from_slice.ensures.items w.in_ok-add_joined.ensures
+      c.loop-place.invariant)
+  | else-is_joined w ↦ rw (w.out-is, w.before-is)
+      (connections-unjoined c.args.nets.now c.args.pins.now c.args.signals.now c.loop-place.place (Net (record { 0 = 0 })) _ _ _ (omega arith) (omega (arith, c.requires.width)) (sym w.if-is_joined.ensures)
+      c.loop-place.invariant)
 ]
-
-pub returns-clause-named : goal.returns-clause-named
-returns-clause-named c = λ place pin to at here joined.
-    each_all (λ (k : ℕ) (pin : Pin). (to : Signal) → slice_get c.args.signals.now k ≡ Some to → is_joined to ≡ true → IsName pin.name) c.args.pins.now c.loop-place.place (omega arith) c.loop-place.invariant.named place pin at to here joined

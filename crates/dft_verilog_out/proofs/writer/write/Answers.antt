@@ -2,9 +2,6 @@ use Rattle.std.proofs.Common.{◌∙◌, ◌++◌, List, ap, sym, refl, subst, a
 use Rattle.std.proofs.lemmas.List.{take_rest}
 use Rattle.dft_netlist_text.specs.NetlistText.{StandsFor}
 use Rattle.dft_base.specs.Lexing.{Text}
-use Rattle.dft_cells.specs.declared.cell.Cell.{Cell}
-use Rattle.dft_netlist.specs.declared.instance.Instance.{Instance}
-use Rattle.dft_verilog_out.specs.Named.{AreCellsNamed, HasNamedCell}
 use Rattle.dft_verilog_out.specs.Written.{port_texts, port_line, wire_line}
 use Rattle.dft_verilog_out.proofs.FormLemmas.{ports-fit, texts-are, module_line-is, wires-are, assembled, joins-stand, instances-stand}
 use Rattle.dft_verilog_out.proofs.RoundTrip.{written_stands}
@@ -36,9 +33,7 @@ returns c =
     (c.in_ok-add_ports.ensures ∙ ap (λ ports. c.add_heading.new.out.items ++ flat_map port_line ports) c.ports-3.ensures.ports)
     (c.in_ok-add_wires.ensures ∙ ap (λ texts. c.add_ports.new.out.items ++ flat_map wire_line texts) (take_rest c.deref.result.now c.len-first.result ∙ ap (drop c.len-first.result) c.deref.ensures.value))
     (c.in_ok-add_joins.ensures ∙ rw (c.deref-2.ensures.value, c.joins.ensures.joins) refl)
-    (c.in_ok-add_instances.ensures.text ∙ rw (cells, c.deref-3.ensures.value, c.instances.ensures.instances) refl)
+    (c.in_ok-add_instances.ensures ∙ rw (cells, c.deref-3.ensures.value, c.instances.ensures.instances) refl)
     c.in_ok-extend_from_slice.ensures.items in
-    let named : AreCellsNamed n =
-    λ place i at. subst (λ (all : List Cell). HasNamedCell all i) cells (c.in_ok-add_instances.ensures.named place i (ap (λ (is : List Instance). slice_get is place) c.instances.ensures.instances ∙ at)) in
-    let stands = written_stands n (record { sound = c.soundness.ensures.netlist; well = c.soundness.ensures.library; named = named; gates = c.requires }) c.soundness.ensures.single c.soundness.ensures.finished.orderable in
+    let stands = written_stands n (record { sound = c.soundness.ensures.netlist; well = c.soundness.ensures.library; gates = c.requires }) c.soundness.ensures.single c.soundness.ensures.finished.orderable in
     record { form = form; reads = subst (λ (text : Text). StandsFor n.library text n) (sym form) stands }

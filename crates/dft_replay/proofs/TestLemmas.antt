@@ -1,2 +1,0 @@
--- What two tests together say.
-use Rattle.std.proofs.Common.{Bool, true, false, ◌&&◌, ◌||◌, ◌≡◌, ◌⊎◌, inl, inr, refl}
