@@ -63,8 +63,8 @@ solves_more n x e es here rest zero less = here
 solves_more n x e es here rest (suc j) less = rest j (omega arith)
 
 both_solved : (n : ℕ) (x : ℕ → Bool) (e : Equation) (es : List Equation) → Holds n x e ⊎ (Holds n x e → ⊥) → Solves n x es ⊎ (Solves n x es → ⊥) → Solves n x (e ∷ es) ⊎ (Solves n x (e ∷ es) → ⊥)
-both_solved n x e es (inr no) rest = inr (λ all. no (all zero (omega arith)))
-both_solved n x e es (inl here) (inr no) = inr (λ all. no (λ j less. all (suc j) (omega arith)))
+both_solved n x e es (inr never) rest = inr (λ all. never (all zero (omega arith)))
+both_solved n x e es (inl here) (inr never) = inr (λ all. never (λ j less. all (suc j) (omega arith)))
 both_solved n x e es (inl here) (inl rest) = inl (solves_more n x e es here rest)
 
 solved_or : (n : ℕ) (es : List Equation) (x : ℕ → Bool) → Solves n x es ⊎ (Solves n x es → ⊥)
@@ -73,7 +73,7 @@ solved_or n (e ∷ es) x = both_solved n x e es (same_bit (sum_over n e.row x) e
 
 at_end : (n : ℕ) (es : List Equation) (x : ℕ → Bool) → Solves n x es ⊎ (Solves n x es → ⊥) → Extends n es n x ⊎ (Extends n es n x → ⊥)
 at_end n es x (inl solves) = inl (x, (solves, λ d less. refl))
-at_end n es x (inr no) = inr (λ some. no (solves_along n es some.0 x some.1.1 some.1.0))
+at_end n es x (inr never) = inr (λ some. never (solves_along n es some.0 x some.1.1 some.1.0))
 
 less_extends : (n : ℕ) (es : List Equation) (c : ℕ) (x : ℕ → Bool) (bit : Bool) → Extends n es (suc c) (with_bit x c bit) → Extends n es c x
 less_extends n es c x bit some = (some.0, (some.1.0, agree_less x some.0 c bit some.1.1))
@@ -82,14 +82,14 @@ more_extends : (n : ℕ) (es : List Equation) (c : ℕ) (x y : ℕ → Bool) (bi
 more_extends n es c x y bit solves agree here = (y, (solves, agree_more x y c bit agree here))
 
 either_bit : (n : ℕ) (es : List Equation) (c : ℕ) (x y : ℕ → Bool) (b : Bool) → y c ≡ b → Solves n y es → Agree c y x → (Extends n es (suc c) (with_bit x c false) → ⊥) → (Extends n es (suc c) (with_bit x c true) → ⊥) → ⊥
-either_bit n es c x y false here solves agree no yes = no (more_extends n es c x y false solves agree here)
-either_bit n es c x y true here solves agree no yes = yes (more_extends n es c x y true solves agree here)
+either_bit n es c x y false here solves agree never neither = never (more_extends n es c x y false solves agree here)
+either_bit n es c x y true here solves agree never neither = neither (more_extends n es c x y true solves agree here)
 
 by_bits : (n : ℕ) (es : List Equation) (c : ℕ) (x : ℕ → Bool) → Extends n es (suc c) (with_bit x c false) ⊎ (Extends n es (suc c) (with_bit x c false) → ⊥) → Extends n es (suc c) (with_bit x c true) ⊎ (Extends n es (suc c) (with_bit x c true) → ⊥) →
     Extends n es c x ⊎ (Extends n es c x → ⊥)
 by_bits n es c x (inl some) other = inl (less_extends n es c x false some)
-by_bits n es c x (inr no) (inl some) = inl (less_extends n es c x true some)
-by_bits n es c x (inr no) (inr none) = inr (λ some. either_bit n es c x some.0 (some.0 c) refl some.1.0 some.1.1 no none)
+by_bits n es c x (inr never) (inl some) = inl (less_extends n es c x true some)
+by_bits n es c x (inr never) (inr none) = inr (λ some. either_bit n es c x some.0 (some.0 c) refl some.1.0 some.1.1 never none)
 
 -- whether some solution agrees is decided by trying all bits from the column on
 extends_or : (n : ℕ) (es : List Equation) (k c : ℕ) (x : ℕ → Bool) → c + k ≡ n → Extends n es c x ⊎ (Extends n es c x → ⊥)
@@ -130,26 +130,26 @@ taken n es fill c x r =
       agree = agree_less x r.table c (bit_at fill c) r.agree;
       solves = r.solves;
       met = λ d past less can. met_from n es fill c r.table (λ it. here) r.met d (here_or_later c d past) less can;
-      turned = λ d past less none. turned_from n es fill c r.table (λ no. absurd (no (r.table, (r.solves, (λ e before. refl), here)))) r.turned d (here_or_later c d past) less none;
+      turned = λ d past less none. turned_from n es fill c r.table (λ never. absurd (never (r.table, (r.solves, (λ e before. refl), here)))) r.turned d (here_or_later c d past) less none;
     }
 
 -- and it cannot
 left : (n : ℕ) (es : List Equation) (fill : List Bool) (c : ℕ) (x : ℕ → Bool) → (Extends n es (suc c) (with_bit x c (bit_at fill c)) → ⊥) → Choice n es fill (suc c) (with_bit x c (not (bit_at fill c))) → Choice n es fill c x
-left n es fill c x no r =
+left n es fill c x never r =
     let here : r.table c ≡ not (bit_at fill c) = r.agree c (omega arith) ∙ with_here x c (not (bit_at fill c)) in
     let agree : Agree c r.table x = agree_less x r.table c (not (bit_at fill c)) r.agree in record {
       table = r.table;
       agree = agree;
       solves = r.solves;
-      met = λ d past less can. met_from n es fill c r.table (λ it. absurd (no (more_extends n es c x it.0 (bit_at fill c) it.1.0 (λ e before. it.1.1 e before ∙ agree e before) it.1.2))) r.met d (here_or_later c d past) less can;
+      met = λ d past less can. met_from n es fill c r.table (λ it. absurd (never (more_extends n es c x it.0 (bit_at fill c) it.1.0 (λ e before. it.1.1 e before ∙ agree e before) it.1.2))) r.met d (here_or_later c d past) less can;
       turned = λ d past less none. turned_from n es fill c r.table (λ it. here) r.turned d (here_or_later c d past) less none;
     }
 
 other_bit : (a b : Bool) → (a ≡ b → ⊥) → a ≡ not b
-other_bit true true no = absurd (no refl)
-other_bit true false no = refl
-other_bit false true no = refl
-other_bit false false no = absurd (no refl)
+other_bit true true never = absurd (never refl)
+other_bit true false never = refl
+other_bit false true never = refl
+other_bit false false never = absurd (never refl)
 
 chosen_from : (n : ℕ) (es : List Equation) (fill : List Bool) (k c : ℕ) (x : ℕ → Bool) → c + k ≡ n → Extends n es c x → Choice n es fill c x
 chosen_from n es fill zero c x all some = record {
@@ -163,9 +163,9 @@ chosen_from n es fill (suc k) c x all some =
     let bit : Bool = bit_at fill c in
     elim (extends_or n es k (suc c) (with_bit x c bit) (omega arith)) [
       | inl can ↦ taken n es fill c x (chosen_from n es fill k (suc c) (with_bit x c bit) (omega arith) can)
-      | inr no ↦ (
-          let other : some.0 c ≡ not bit = other_bit (some.0 c) bit (λ same. no (more_extends n es c x some.0 bit some.1.0 some.1.1 same)) in
-          left n es fill c x no (chosen_from n es fill k (suc c) (with_bit x c (not bit)) (omega arith) (more_extends n es c x some.0 (not bit) some.1.0 some.1.1 other)))
+      | inr never ↦ (
+          let other : some.0 c ≡ not bit = other_bit (some.0 c) bit (λ same. never (more_extends n es c x some.0 bit some.1.0 some.1.1 same)) in
+          left n es fill c x never (chosen_from n es fill k (suc c) (with_bit x c (not bit)) (omega arith) (more_extends n es c x some.0 (not bit) some.1.0 some.1.1 other)))
     ]
 
 -- ---- as a list
