@@ -2,7 +2,7 @@
 use Rattle.std.proofs.Common.{ℕ, zero, suc, ◌+◌, ◌<◌, ◌≤◌, ◌≡◌, ◌∙◌, ◌⊎◌, ◌==◌, inl, inr, Bool, true, false, not, List, [], ◌∷◌, length, refl, sym, ap, subst, arith}
 use Rattle.std.specs.Prelude.{if◌then◌else◌}
 use Rattle.std.proofs.lemmas.Bool.{eqb-true, eq-eqb}
-use Rattle.dft_base.specs.Solutions.{CanTake, Equation, Holds, IsChosen, IsSolvable, Solves, bit_at, equation_at, sum_over}
+use Rattle.dft_base.specs.Solutions.{Equation, Holds, IsChosen, IsSolvable, Solves, bit_at, equation_at, sum_over}
 use Rattle.dft_gf2.proofs.Echelons.{sums_agree}
 
 -- ---- tables
