@@ -3,7 +3,7 @@ use Rattle.std.specs.Prelude.{ℕ, ◌≡◌, List}
 use Rattle.dft_answers.specs.declared.answer.Answer.{Answer}
 use Rattle.dft_answers.specs.declared.answer.Status.{Status}
 use Rattle.dft_answers.specs.declared.answer.Status.TheVariants.{Done, NotPassed, Usage, Refused, ReadFault, WriteFault, OutOfMemory}
-use Rattle.dft_top.specs.Run.{Ends, KeepsFiles, PassesTold, ScansTold, Seen}
+use Rattle.dft_top.specs.Run.{CertifiesTold, CompilesTold, CompletesTold, Ends, FailsTold, GeneratesJob, KeepsFiles, PassesTold, ScansTold, Seen}
 
 -- the exit status of each status
 abbrev pub status_number : Status → ℕ
@@ -22,4 +22,9 @@ pub record IsStatusOfRun (words : List (List ℕ)) (before after : Seen) (status
   pub ends : Ends words before after answer
   pub kept : KeepsFiles words before.held after.held before.write_faults after.write_faults answer
   pub passes : PassesTold words before.held answer
+  pub fails : FailsTold words before.held answer
   pub scans : ScansTold words before.held after.held answer
+  pub compiles : CompilesTold words before.held after.held answer
+  pub certifies : CertifiesTold words before.held answer
+  pub generates : GeneratesJob words before.put_faults after.put_faults answer
+  pub completes : CompletesTold words before after answer

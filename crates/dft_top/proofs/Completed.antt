@@ -1,6 +1,6 @@
 -- When a command is answered.
 use Rattle.std.proofs.Common.{ℕ, ◌≡◌, ◌⊎◌, inl, inr, List, refl, sym, ap, subst, Option, None, Some}
-use Rattle.dft_files.specs.Outside.{Held, Told}
+use Rattle.dft_files.specs.Outside.{Held}
 use Rattle.dft_command_line.specs.Words.{AreFor, Certify, Command, Compile, Generate, Replay, ReplayFiles, Scan}
 use Rattle.dft_command_line.proofs.Understood.{for_once}
 use Rattle.dft_answers.specs.declared.answer.Answer.{Answer}
@@ -10,11 +10,11 @@ use Rattle.dft_answers.specs.declared.outcome.Outcome.TheVariants as outcome
 use Rattle.dft_answers.specs.Answers.{status_of}
 use Rattle.dft_top.specs.Courses.{IsPassing, Reaches}
 use Rattle.dft_top.specs.Outcomes.{IsOutcomeFor, course_of, course_of_replay}
-use Rattle.dft_top.specs.Run.{CompletesTold, EndsFor, IsAnswered, IsDelivered, IsOfCertify, IsOfCompile, IsOfReplay, IsOfScan, IsPassed, NoneFailed, Seen, Suits}
+use Rattle.dft_top.specs.Run.{CompletesTold, EndsFor, IsAnswered, IsDelivered, IsOfCertify, IsOfCompile, IsOfReplay, IsOfScan, IsPassed, NoneFailed, Seen, Suits, ToldFor}
 use Rattle.dft_top.proofs.Determined.{passing_reaches, reaches_one}
 use Rattle.dft_top.proofs.OneOutcome.{determined}
-use Rattle.dft_top.specs.Saved.{IsAccepted}
 use Rattle.dft_top.proofs.JobReplays.{JobsPass}
+use Rattle.dft_top.proofs.Replays.{IsAccepted}
 
 -- ---- what an outcome that is no refusal is answered by
 
@@ -88,27 +88,36 @@ delivered pass command held o before after answer none suits accepts is (inr (in
 delivered pass command held o before after answer none suits accepts is (inr (inr (inl x))) = absurd (none.puts x.rose)
 delivered pass command held o before after answer none suits accepts is (inr (inr (inr x))) = inl (status_is answer _ x.answers)
 
-ends : JobsPass → (command : Command) (held : Held) (before after : Seen) (answer : Answer) → before.held ≡ Some held → NoneFailed before after → IsPassing (course_of (Some command)) held →
-    EndsFor (Some command) before after answer → Completes command held answer
-ends pass command held before after answer told none passing (inl x) =
-    let is : IsOutcomeFor (Some command) held x.o = subst (Told (λ files. IsOutcomeFor (Some command) files x.o)) told x.told.told in
-    delivered pass command held x.o before after answer none x.told.suits (λ refusal same. passing_reaches (course_of (Some command)) held x.o refusal (determined (Some command) held) passing is same) is x.delivered
-ends pass command held before after answer told none passing (inr (inl x)) = absurd (none.reads x.rose)
-ends pass command held before after answer told none passing (inr (inr x)) = inl (status_is answer _ x.1)
+-- the outcome that is told is that of these files
+abbrev Reached : Option Command → Option Held → Held → Type 0
+Reached command told held = (o : Outcome) → ToldFor command (λ files. IsOutcomeFor command files o) told → IsOutcomeFor command held o
 
-told_ends : JobsPass → (command : Command) (held : Option Held) (before after : Seen) (answer : Answer) → before.held ≡ held → NoneFailed before after → EndsFor (Some command) before after answer →
-    Told (λ h. IsPassing (course_of (Some command)) h → Completes command h answer) held
-told_ends pass command None before after answer same none ended = tt
-told_ends pass command (Some held) before after answer same none ended = λ passing. ends pass command held before after answer same none passing ended
+ends : JobsPass → (command : Command) (held : Held) (before after : Seen) (answer : Answer) → Reached (Some command) before.held held → NoneFailed before after → IsPassing (course_of (Some command)) held →
+    EndsFor (Some command) before after answer → Completes command held answer
+ends pass command held before after answer reached none passing (inl x) =
+    let is : IsOutcomeFor (Some command) held x.o = reached x.o x.told.told in
+    delivered pass command held x.o before after answer none x.told.suits (λ refusal same. passing_reaches (course_of (Some command)) held x.o refusal (determined (Some command) held) passing is same) is x.delivered
+ends pass command held before after answer reached none passing (inr (inl x)) = absurd (none.reads x.rose)
+ends pass command held before after answer reached none passing (inr (inr x)) = inl (status_is answer _ x.1)
+
+-- what follows from an outcome for all files whose outcome it is, is said for the command
+said_for : (command : Option Command) (told : Option Held) (Q : Held → Type 0) → ((held : Held) → Reached command told held → Q held) → ToldFor command Q told
+said_for None told Q follows = λ held. follows held (λ o is. is held)
+said_for (Some (Replay files)) None Q follows = tt
+said_for (Some (Replay files)) (Some held) Q follows = follows held (λ o is. is)
+said_for (Some (Scan files)) None Q follows = tt
+said_for (Some (Scan files)) (Some held) Q follows = follows held (λ o is. is)
+said_for (Some (Compile files)) None Q follows = tt
+said_for (Some (Compile files)) (Some held) Q follows = follows held (λ o is. is)
+said_for (Some (Certify files)) None Q follows = tt
+said_for (Some (Certify files)) (Some held) Q follows = follows held (λ o is. is)
+said_for (Some (Generate numbers)) told Q follows = λ held. follows held (λ o is. is held)
 
 pub completes_for : JobsPass → (words : List (List ℕ)) (command : Option Command) (before after : Seen) (answer : Answer) → AreFor words command → EndsFor command before after answer → CompletesTold words before after answer
 completes_for pass words command before after answer are ended other is none =
-    told_ends pass other before.held before after answer refl none (subst (λ (command : Option Command). EndsFor command before after answer) (for_once words command (Some other) are is) ended)
-
-memory_told : (command : Command) (held : Option Held) (answer : Answer) → answer.status ≡ OutOfMemory → Told (λ h. IsPassing (course_of (Some command)) h → Completes command h answer) held
-memory_told command None answer short = tt
-memory_told command (Some held) answer short = λ passing. inl short
+    let ended_so : EndsFor (Some other) before after answer = subst (λ (command : Option Command). EndsFor command before after answer) (for_once words command (Some other) are is) ended in
+    said_for (Some other) before.held (λ held. IsPassing (course_of (Some other)) held → Completes other held answer) (λ held reached passing. ends pass other held before after answer reached none passing ended_so)
 
 -- where memory runs out
 pub completes_short : (words : List (List ℕ)) (before after : Seen) (answer : Answer) → answer.status ≡ OutOfMemory → CompletesTold words before after answer
-completes_short words before after answer short command is none = memory_told command before.held answer short
+completes_short words before after answer short command is none = said_for (Some command) before.held (λ held. IsPassing (course_of (Some command)) held → Completes command held answer) (λ held reached passing. inl short)

@@ -17,9 +17,8 @@ use Rattle.dft_answers.specs.declared.outcome.Outcome.TheVariants as outcome
 use Rattle.dft_answers.specs.Answers.{status_of}
 use Rattle.dft_top.specs.Courses.{Reaches}
 use Rattle.dft_top.specs.Outcomes.{IsOutcomeOfJob, IsReplayedOf, course_of_compile, course_of_replay, generated, job_files, job_held, made_files, made_held}
-use Rattle.dft_top.specs.Saved.{IsAccepted}
 use Rattle.dft_top.proofs.Promised.{IsMade, made}
-use Rattle.dft_top.proofs.Replays.{replay_passes}
+use Rattle.dft_top.proofs.Replays.{IsAccepted, replay_passes}
 
 -- a job that is not refused is done
 abbrev pub JobsPass : Type 0
@@ -31,7 +30,7 @@ made_done : (numbers : JobNumbers) (counts : Counts) (netlist patterns report : 
 made_done numbers counts netlist patterns report replay accepts m x =
     let n = m.netlist in
     let c = m.config in
-    let list = m.is.list in
+    let list = m.list in
     let text : netlist_text n c ≡ netlist = (let e = m.is.is in cc) in
     let played : pattern_text n c list ≡ patterns = (let e = m.is.is in cc) in
     let stands : StandsFor standard_cells netlist (scanned Edt n c) =

@@ -11,7 +11,7 @@ use Rattle.dft_top.specs.Saves.{CountsSaves, HaveSaved, Saving, savings}
 
 -- ---- nothing to save
 
-no_failing : (saved rest : List Saving) (failing : Saving) → [] ≡ saved ++ failing ∷ rest → ⊥
+pub no_failing : (saved rest : List Saving) (failing : Saving) → [] ≡ saved ++ failing ∷ rest → ⊥
 no_failing [] rest failing e = cc
 no_failing (s ∷ saved) rest failing e = cc
 

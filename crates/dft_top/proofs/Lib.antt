@@ -15,4 +15,9 @@ pub mod Kept
 pub mod Replays
 pub mod JobReplays
 pub mod SavedFiles
+pub mod Lengths
+pub mod SomeChoice
+pub mod SomePatterns
 pub mod Completed
+pub mod Failing
+pub mod JobEnds

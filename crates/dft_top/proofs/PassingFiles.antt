@@ -4,6 +4,7 @@ use Rattle.dft_files.specs.Outside.{Held, file_at}
 use Rattle.dft_cells.specs.declared.cell.Cell.{Cell}
 use Rattle.dft_config.specs.declared.config.Config.{Config}
 use Rattle.dft_netlist.specs.Netlist.{Netlist}
+use Rattle.dft_netlist.proofs.RankLemmas.{order_ranks}
 use Rattle.dft_patterns.specs.Patterns.{Patterns}
 use Rattle.dft_replay.specs.Fits.{first_misfit}
 use Rattle.dft_scan.specs.declared.error.ScanError.{ScanError}
@@ -17,7 +18,8 @@ use Rattle.dft_report.specs.declared.report.Report.{Report}
 use Rattle.dft_certify.specs.declared.error.CertifyError.{CertifyError}
 use Rattle.dft_certify.specs.Certifying.{certify_refusal}
 use Rattle.dft_cubes.specs.declared.cube.Cube.{Cube}
-use Rattle.dft_encode.specs.Compiled.{Placing}
+use Rattle.dft_vectors.specs.PatternData.{PatternData}
+use Rattle.dft_encode.specs.Compiled.{ArePatterns, Placing}
 use Rattle.dft_compile.specs.declared.prepared.Prepared.{Prepared}
 use Rattle.dft_compile.specs.Refusals.{first_refusal}
 use Rattle.dft_command_line.specs.Words.{Command, Replay, Scan, Compile, Certify, ReplayFiles, ScanFiles, CompileFiles, CertifyFiles}
@@ -30,11 +32,12 @@ use Rattle.dft_top.specs.Courses.{Reaches}
 use Rattle.dft_top.specs.Outcomes.{IsCompiled, IsOutcomeFor, IsOutcomeOfReport, IsOutcomeOfTest, course_of_certify, course_of_compile, course_of_replay, course_of_scan, IsOutcomeOfCubes, IsOutcomeOfScanOf, refusal_of, IsOutcomeOn}
 use Rattle.dft_top.specs.Laws.{PassingIsCertified, PassingIsCompiled, PassingIsReplayed, PassingIsScanned}
 use Rattle.dft_top.proofs.CompileLemmas.{compiled_due}
+use Rattle.dft_top.proofs.Promised.{design_of}
 use Rattle.dft_top.proofs.CertifyLemmas.{report_over}
 use Rattle.dft_top.proofs.Readings.{config_text_one, cube_text_one, file_one, given_next, library_gives_one, netlist_text_one, pattern_text_one, report_text_one, accepted_or_refused}
 use Rattle.dft_top.proofs.Steps.{CertifyFor, CertifyOf, CertifyOn, CertifyOver, CertifyWith, CompileOf, CompileOn, CompileOver, CompileWith, ReplayOn, ReplayOver, ScanOn, ScanOver}
 
-replay_due : (files : ReplayFiles) (held : Held) (cells : List Cell) (n : Netlist) (p : Patterns) (o : Outcome) → LibraryGives files.library held (Ok cells) → NetlistGives cells files.netlist held (Ok n) →
+pub replay_due : (files : ReplayFiles) (held : Held) (cells : List Cell) (n : Netlist) (p : Patterns) (o : Outcome) → LibraryGives files.library held (Ok cells) → NetlistGives cells files.netlist held (Ok n) →
     PatternsGive files.patterns held (Ok p) → Reaches (course_of_replay files) held o → IsOutcomeOn n p (first_misfit n p.signals) o
 replay_due files held cells n p o library netlist patterns is =
     let over = given_next (LibraryGives files.library held) (ReplayOver files held) o cells (library_gives_one files.library held) library is in
@@ -54,22 +57,24 @@ design_next : (n : Netlist) (c : Config) (next : Prepared → Outcome → Type 0
 design_next n c next o none (inl x) = (x.0, x.1.1)
 design_next n c next o none (inr x) = absurd (accepted_or_refused (first_refusal n c) x.1.0.0 none x.1.0.1.0)
 
-compile_due : (files : CompileFiles) (held : Held) (cells : List Cell) (c : Config) (n : Netlist) (cubes : List Cube) (placing : Placing c (plan_of n c) cubes) (o : Outcome) → LibraryGives files.library held (Ok cells) →
-    ConfigGives files.config held (Ok c) → NetlistGives cells files.netlist held (Ok n) → first_refusal n c ≡ None → CubesGive n c files.cubes held (Ok cubes) → refusal_of n c cubes placing ≡ None →
-    Reaches (course_of_compile files) held o → IsCompiled n c cubes placing o
-compile_due files held cells c n cubes placing o library config netlist first given late is =
+compile_due : (files : CompileFiles) (held : Held) (cells : List Cell) (c : Config) (n : Netlist) (cubes : List Cube) (placing : Placing c (plan_of n c) cubes) (list : List PatternData) (o : Outcome) → LibraryGives files.library held (Ok cells) →
+    ConfigGives files.config held (Ok c) → NetlistGives cells files.netlist held (Ok n) → first_refusal n c ≡ None → CubesGive n c files.cubes held (Ok cubes) →
+    ArePatterns n c (plan_of n c) placing.rows placing.merged list → refusal_of n c cubes placing list ≡ None → Reaches (course_of_compile files) held o → IsCompiled n c cubes placing list o
+compile_due files held cells c n cubes placing list o library config netlist first given are late is =
+    let design = design_of cells files.netlist held n netlist in
+    let ranked = order_ranks n design.1.order design.1.sound design.1.ordered in
     let over = given_next (LibraryGives files.library held) (CompileOver files held) o cells (library_gives_one files.library held) library is in
     let on = given_next (ConfigGives files.config held) (CompileOn files cells held) o c (file_one MAX_CONFIG_BYTES (codes "config") ConfigText config_text_one (file_at files.config held)) config over in
     let of = given_next (NetlistGives cells files.netlist held) (CompileOf files c held) o n (file_one MAX_NETLIST_BYTES (codes "netlist") (NetlistText cells) (netlist_text_one cells) (file_at files.netlist held)) netlist on in
     let with = design_next n c (CompileWith n c files.cubes held) o first of in
-    compiled_due n c cubes placing o late
+    compiled_due n ranked.0 c cubes placing list o ranked.1 are late
     (given_next (CubesGive n c files.cubes held) (λ cubes. IsOutcomeOfCubes n c cubes) o cubes (file_one MAX_CUBE_BYTES (codes "cubes") (CubeText n c) (cube_text_one n c) (file_at files.cubes held)) given with.1)
 
 plan_next : (n : Netlist) (c : Config) (next : Plan → Outcome → Type 0) (o : Outcome) → plan_refusal n c ≡ None → Then (PlanGives n c) next o → (plan : Plan) × next plan o
 plan_next n c next o none (inl x) = (x.0, x.1.1)
 plan_next n c next o none (inr x) = absurd (accepted_or_refused (plan_refusal n c) x.1.0.0 none x.1.0.1.0)
 
-certify_due : (files : CertifyFiles) (held : Held) (cells : List Cell) (c : Config) (n : Netlist) (cubes : List Cube) (report : Report) (rows : LoadRows) (o : Outcome) → LibraryGives files.library held (Ok cells) →
+pub certify_due : (files : CertifyFiles) (held : Held) (cells : List Cell) (c : Config) (n : Netlist) (cubes : List Cube) (report : Report) (rows : LoadRows) (o : Outcome) → LibraryGives files.library held (Ok cells) →
     ConfigGives files.config held (Ok c) → NetlistGives cells files.netlist held (Ok n) → plan_refusal n c ≡ None → CubesGive n c files.cubes held (Ok cubes) → ReportGives files.report held (Ok report) →
     AreRows n c rows → Reaches (course_of_certify files) held o → IsOutcomeOfTest report (certify_refusal n c.ring (rows_of n c rows) rows.columns cubes report) o
 certify_due files held cells c n cubes report rows o library config netlist none given told are is =
@@ -90,8 +95,8 @@ passing_scanned words files held cells c n o is library config netlist none x =
     scan_due files held cells c n o library config netlist none (subst (λ (command : Option Command). IsOutcomeFor command held o) (for_once words x.0 (Some (Scan files)) x.1.0 is) x.1.1)
 
 pub passing_compiled : PassingIsCompiled
-passing_compiled words files held cells c n cubes placing o is library config netlist first given late x =
-    compile_due files held cells c n cubes placing o library config netlist first given late
+passing_compiled words files held cells c n cubes placing list o is library config netlist first given are late x =
+    compile_due files held cells c n cubes placing list o library config netlist first given are late
     (subst (λ (command : Option Command). IsOutcomeFor command held o) (for_once words x.0 (Some (Compile files)) x.1.0 is) x.1.1)
 
 pub passing_certified : PassingIsCertified

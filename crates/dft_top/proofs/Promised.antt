@@ -5,12 +5,15 @@ use Rattle.dft_files.specs.Outside.{Held, Told, ToldChange, file_at}
 use Rattle.dft_cells.specs.declared.cell.Cell.{Cell}
 use Rattle.dft_config.specs.declared.config.Config.{Config}
 use Rattle.dft_netlist.specs.Netlist.{Netlist}
+use Rattle.dft_netlist.specs.Orders.{IsOrder}
+use Rattle.dft_netlist.specs.Sound.{IsNetlist}
 use Rattle.dft_netlist_text.specs.NetlistText.{StandsFor}
 use Rattle.dft_netlist.proofs.RankLemmas.{order_ranks}
 use Rattle.dft_patterns.specs.Patterns.{Patterns}
 use Rattle.dft_replay.specs.declared.verdict.Verdict.{Verdict}
 use Rattle.dft_replay.specs.declared.verdict.Verdict.TheVariants as verdict
 use Rattle.dft_replay.specs.Fits.{first_misfit}
+use Rattle.dft_replay.specs.Rows.{ports_of}
 use Rattle.dft_replay.specs.Verdicts.{HasVerdict}
 use Rattle.dft_replay.proofs.Soundness.{pass_sound}
 use Rattle.dft_scan_behavior.proofs.PlainShifts.{scanned_shifts, scanned_shows}
@@ -26,6 +29,7 @@ use Rattle.dft_scan.specs.Scans.{netlist_text, report_text}
 use Rattle.dft_stitch.specs.Chains.{plan_of}
 use Rattle.dft_stitch.specs.Plans.{Plan}
 use Rattle.dft_load_laws.specs.Loading.{rows_of}
+use Rattle.dft_load_laws.proofs.Running.{loads_run}
 use Rattle.dft_report.specs.declared.report.Report.{Report}
 use Rattle.dft_certify.specs.declared.error.CertifyError.{CertifyError}
 use Rattle.dft_certify.specs.Certifying.{certify_refusal}
@@ -35,9 +39,11 @@ use Rattle.dft_cubes.specs.declared.cube.Cube.{Cube}
 use Rattle.dft_cubes.specs.Laws.{AreCubes}
 use Rattle.dft_cubes.proofs.SoundLemmas.{cubes_sound}
 use Rattle.dft_compile_laws.specs.Holding.{CompilationsHold, HoldsOf}
+use Rattle.dft_compile_laws.proofs.Running.{sets_run}
 use Rattle.dft_vectors.specs.PatternData.{PatternData}
-use Rattle.dft_encode.specs.Compiled.{Placing}
+use Rattle.dft_encode.specs.Compiled.{ArePatterns, Placing}
 use Rattle.dft_compile.specs.declared.error.CompileError.{CompileError}
+use Rattle.dft_compile.specs.Refusals.{first_refusal}
 use Rattle.dft_compile.specs.Texts as compiled
 use Rattle.dft_verilog_out.proofs.JoinedTexts.{library_kept}
 use Rattle.dft_command_line.specs.Words.{Command, Replay, Scan, Compile, Certify, ReplayFiles, ScanFiles, CompileFiles, CertifyFiles, AreFor}
@@ -57,6 +63,7 @@ use Rattle.dft_top.specs.Outcomes.{course_of_certify, course_of_compile, course_
 use Rattle.dft_top.specs.Promises.{Certifies, Compiles, EveryRunShows, Passes, Scans}
 use Rattle.dft_top.specs.Run.{CertifiesTold, CompilesTold, EndsFor, IsDelivered, IsOfCompile, IsOfScan, IsOutcomeTold, PassesTold, ScansTold, Seen}
 use Rattle.dft_top.specs.Saves.{AreSaved, HaveSaved, Saving, compile_savings, savings, scan_savings}
+use Rattle.dft_top.proofs.Lengths.{late_short}
 use Rattle.dft_top.proofs.Readings.{text_of}
 use Rattle.dft_top.proofs.Steps.{CertifyFor, CertifyOf, CertifyOn, CertifyOver, CertifyWith, CompileOf, CompileOn, CompileOver, CompileWith, ReplayOn, ReplayOver, ScanOn, ScanOver}
 
@@ -68,7 +75,7 @@ then_done : {A : Type 0} (gives : Result A Refusal → Type 0) (next : A → Out
 then_done gives next o done (inl x) = x
 then_done gives next o done (inr x) = absurd (not_done x.0 o x.1.1 done)
 
-design_of : (cells : List Cell) (name : List ℕ) (held : Held) (n : Netlist) → NetlistGives cells name held (Ok n) → (text : List ℕ) × IsDesignOf cells text n
+pub design_of : (cells : List Cell) (name : List ℕ) (held : Held) (n : Netlist) → NetlistGives cells name held (Ok n) → (text : List ℕ) × IsDesignOf cells text n
 design_of cells name held n given = text_of MAX_NETLIST_BYTES (codes "netlist") (NetlistText cells) (file_at name held) n given
 
 -- ---- a replay
@@ -104,6 +111,7 @@ passes files held o done h =
       fit = passed.0;
       passed = passed.1;
       shown = every_run x.0 design.0 n z.0 design.1 passed.1;
+      runs = λ start low. sets_run n design.1.order z.0 (ports_of n z.0) start design.1.sound design.1.ordered low;
     }
 
 -- ---- a scan
@@ -143,6 +151,7 @@ scans files old new o done h saved =
       others = λ name a b. left.others name (differ files.out name (λ e. a (sym e)), (differ files.report name (λ e. b (sym e)), tt));
       reads = subst (λ (cells : List Cell). StandsFor cells (netlist_text n c) (scanned Plain n c)) (library_kept x.0 design.0 n design.1.stands) done_scan.reads;
       keeps = keeps_design Plain n c ready;
+      adds = adds_in_order Plain n c;
       agrees = agrees_off Plain n c ready;
       shifts = scanned_shifts n c ready;
       shows = scanned_shows n c ready;
@@ -154,10 +163,10 @@ scans files old new o done h saved =
 pub are_cubes : (n : Netlist) (c : Config) (name : List ℕ) (held : Held) (cubes : List Cube) → CubesGive n c name held (Ok cubes) → AreCubes n c cubes
 are_cubes n c name held cubes given = let text = text_of MAX_CUBE_BYTES (codes "cubes") (CubeText n c) (file_at name held) cubes given in cubes_sound n c text.0 cubes text.1
 
-placed_done : (n : Netlist) (c : Config) (cubes : List Cube) (placing : Placing c (plan_of n c) cubes) (refused : Option CompileError) (o : Outcome) → status_of o ≡ Done → IsOutcomeOfPlacing n c cubes placing refused o →
-    IsCompiled n c cubes placing o
-placed_done n c cubes placing (Some error) o done h = absurd (refusal_not_done (compile_refusal error) o h done)
-placed_done n c cubes placing None o done h = h
+placed_done : (n : Netlist) (c : Config) (cubes : List Cube) (placing : Placing c (plan_of n c) cubes) (list : List PatternData) (refused : Option CompileError) (o : Outcome) → status_of o ≡ Done → IsOutcomeOfPlacing n c cubes placing list refused o →
+    (refused ≡ None) × IsCompiled n c cubes placing list o
+placed_done n c cubes placing list (Some error) o done h = absurd (refusal_not_done (compile_refusal error) o h done)
+placed_done n c cubes placing list None o done h = (refl, h)
 
 -- what is saved of a compilation
 abbrev three_savings : (files : CompileFiles) (n : Netlist) (c : Config) (cubes : List Cube) → Placing c (plan_of n c) cubes → List PatternData → List Saving
@@ -176,12 +185,19 @@ pub record IsMade (files : CompileFiles) (held : Held) (o : Outcome) : Type 0 wh
   pub netlist : Netlist
   pub design : NetlistGives cells files.netlist held (Ok netlist)
   pub ready : IsReady netlist config
+  pub accepted : first_refusal netlist config ≡ None
+  pub sound : IsNetlist (scanned Edt netlist config)
+  pub order : List ℕ
+  pub ordered : IsOrder (scanned Edt netlist config) order
   pub cubes : List Cube
   pub given : CubesGive netlist config files.cubes held (Ok cubes)
   pub placing : Placing config (plan_of netlist config) cubes
-  pub is : IsCompiled netlist config cubes placing o
+  pub list : List PatternData
+  pub are : ArePatterns netlist config (plan_of netlist config) placing.rows placing.merged list
+  pub late : refusal_of netlist config cubes placing list ≡ None
+  pub is : IsCompiled netlist config cubes placing list o
   pub reads : StandsFor cells (compiled.netlist_text netlist config) (scanned Edt netlist config)
-  pub holds : HoldsOf netlist config cubes placing is.list
+  pub holds : HoldsOf netlist config cubes placing list
 
 pub made : CompilationsHold → (files : CompileFiles) (held : Held) (o : Outcome) → status_of o ≡ Done → Reaches (course_of_compile files) held o → IsMade files held o
 made hold files old o done h =
@@ -193,8 +209,10 @@ made hold files old o done h =
     let p = then_done (DesignGives n c) (CompileWith n c files.cubes old) o done z.1.1 in
     let u = then_done (CubesGive n c files.cubes old) (λ cubes. IsOutcomeOfCubes n c cubes) o done p.1.1 in
     let cubes = u.0 in
-    let placing = u.1.1.0 in
-    let is = placed_done n c cubes placing (refusal_of n c cubes placing) o done u.1.1.1 in
+    let placing = u.1.1.placing in
+    let list = u.1.1.list in
+    let placed = placed_done n c cubes placing list (refusal_of n c cubes placing list) o done u.1.1.outcome in
+    let is = placed.1 in
     let design = design_of x.0 files.netlist old n z.1.0 in record {
       cells = x.0;
       library = x.1.0;
@@ -203,12 +221,19 @@ made hold files old o done h =
       netlist = n;
       design = z.1.0;
       ready = p.1.0.ready;
+      accepted = p.1.0.accepted;
+      sound = p.1.0.sound;
+      order = p.1.0.order;
+      ordered = p.1.0.ordered;
       cubes = cubes;
       given = u.1.0;
       placing = placing;
+      list = list;
+      are = u.1.1.are;
+      late = placed.0;
       is = is;
       reads = subst (λ (cells : List Cell). StandsFor cells (compiled.netlist_text n c) (scanned Edt n c)) (library_kept x.0 design.0 n design.1.stands) is.reads;
-      holds = hold n c p.1.0.order cubes placing is.list p.1.0.ready p.1.0.sound p.1.0.ordered (are_cubes n c files.cubes old cubes u.1.0) is.are;
+      holds = hold n c p.1.0.order cubes placing list p.1.0.ready p.1.0.sound p.1.0.ordered (are_cubes n c files.cubes old cubes u.1.0) u.1.1.are;
     }
 
 compiles : CompilationsHold → (files : CompileFiles) (old new : Held) (o : Outcome) → status_of o ≡ Done → Reaches (course_of_compile files) old o → HaveSaved (compile_savings files o) (Some old) (Some new) → Compiles files old new
@@ -216,7 +241,8 @@ compiles hold files old new o done h saved =
     let m = made hold files old o done h in
     let n = m.netlist in
     let c = m.config in
-    let left : AreSaved (three_savings files n c m.cubes m.placing m.is.list) old new = subst (λ (end : Outcome). HaveSaved (compile_savings files end) (Some old) (Some new)) m.is.is saved in record {
+    let short = late_short n c m.cubes m.placing m.list m.late in
+    let left : AreSaved (three_savings files n c m.cubes m.placing m.list) old new = subst (λ (end : Outcome). HaveSaved (compile_savings files end) (Some old) (Some new)) m.is.is saved in record {
       cells = m.cells;
       library = m.library;
       config = c;
@@ -224,11 +250,18 @@ compiles hold files old new o done h saved =
       netlist = n;
       design = m.design;
       ready = m.ready;
+      accepted = m.accepted;
       cubes = m.cubes;
       given = m.given;
+      sound = m.sound;
+      order = m.order;
+      ordered = m.ordered;
       placing = m.placing;
-      list = m.is.list;
-      are = m.is.are;
+      list = m.list;
+      are = m.are;
+      few = m.is.few;
+      patterns_short = short.0;
+      report_short = short.1;
       out_netlist = left.whole.0;
       out_patterns = left.whole.1.0;
       out_report = left.whole.1.1.0;
@@ -237,6 +270,7 @@ compiles hold files old new o done h saved =
       reads = m.reads;
       stands = m.holds.reads m.is.few;
       told = m.is.told;
+      entries = refl;
       keeps = keeps_design Edt n c m.ready;
       adds = adds_in_order Edt n c;
       agrees = agrees_off Edt n c m.ready;
@@ -285,6 +319,7 @@ certifies exact never files held o done h =
       equations = r.1.1.1.0;
       certified = (exact n c.ring (rows_of n c rows) rows.columns cubes report).0 passed;
       never = λ ports suits k entry lines cube at told named table loads. never n c ports rows cubes report p.1.0.ready suits r.1.1.1.0 passed k entry lines cube at told named table loads;
+      carried = λ ports suits table. loads_run n c ports table p.1.0.ready suits;
     }
 
 -- ---- of a run

@@ -16,14 +16,17 @@ use Rattle.dft_replay.proofs.Uniqueness.{verdict_one}
 use Rattle.dft_command_line.specs.Words.{ReplayFiles}
 use Rattle.dft_answers.specs.declared.answer.Refusal.{Refusal}
 use Rattle.dft_answers.specs.declared.outcome.Outcome.{Outcome}
-use Rattle.dft_answers.specs.declared.outcome.Outcome.TheVariants.{Passed}
+use Rattle.dft_answers.specs.declared.outcome.Outcome.TheVariants.{Passed, Refused}
 use Rattle.dft_top.specs.declared.limits.TheConstants.{MAX_NETLIST_BYTES, MAX_PATTERN_BYTES}
 use Rattle.dft_top.specs.Checks.{After, ArePatternsOf, FileGives, IsDesignOf, LibraryGives, NetlistGives, NetlistText, PatternText, PatternsGive, Then}
 use Rattle.dft_top.specs.Courses.{Reaches}
 use Rattle.dft_top.specs.Outcomes.{IsOutcomeOn, course_of_replay, outcome_of}
-use Rattle.dft_top.specs.Saved.{IsAccepted}
 use Rattle.dft_top.proofs.Readings.{given_next, library_gives_one, patterns_one, stands_one}
 use Rattle.dft_top.proofs.Steps.{ReplayOn, ReplayOver}
+
+-- no check fails
+abbrev pub IsAccepted : Outcome → Type 0
+IsAccepted o = (refusal : Refusal) → o ≡ Refused refusal → ⊥
 
 -- where no check fails, each step gave a value
 pub then_accepts : {A : Type 0} (gives : Result A Refusal → Type 0) (next : A → Outcome → Type 0) (o : Outcome) → IsAccepted o → Then gives next o → After gives (λ value. next value o)
@@ -34,12 +37,12 @@ then_accepts gives next o accepts (inr x) = absurd (accepts x.0 x.1.1)
 pub text_at : {A : Type 0} (limit : ℕ) (option : List ℕ) (text_gives : List ℕ → Result A Refusal → Type 0) (file : Option (List ℕ)) (text : List ℕ) (value : A) → file ≡ Some text → FileGives limit option text_gives file (Ok value) → text_gives text (Ok value)
 text_at limit option text_gives file text value at given = (subst (λ (f : Option (List ℕ)). FileGives limit option text_gives f (Ok value)) at given).1
 
-on_verdict : (n : Netlist) (p : Patterns) (misfit : Option (List ℕ)) (o : Outcome) → IsAccepted o → IsOutcomeOn n p misfit o → (v : Verdict) × (HasVerdict n p v × (o ≡ outcome_of p v))
+pub on_verdict : (n : Netlist) (p : Patterns) (misfit : Option (List ℕ)) (o : Outcome) → IsAccepted o → IsOutcomeOn n p misfit o → (v : Verdict) × (HasVerdict n p v × (o ≡ outcome_of p v))
 on_verdict n p (Some name) o accepts is = absurd (accepts _ is)
 on_verdict n p None o accepts is = is
 
 -- a verdict of Pass is the only one
-on_passes : (n m : Netlist) (p q : Patterns) (rank : ℕ → ℕ) (compared : ℕ) (o : Outcome) → IsOrdered m rank → m ≡ n → q ≡ p → HasVerdict n p (verdict.Pass compared) →
+pub on_passes : (n m : Netlist) (p q : Patterns) (rank : ℕ → ℕ) (compared : ℕ) (o : Outcome) → IsOrdered m rank → m ≡ n → q ≡ p → HasVerdict n p (verdict.Pass compared) →
     (v : Verdict) × (HasVerdict m q v × (o ≡ outcome_of q v)) → o ≡ Passed (length p.vectors) compared
 on_passes n m p q rank compared o ordered netlist patterns passes x =
     let has : HasVerdict m q (verdict.Pass compared) = subst (λ (l : Netlist). HasVerdict l q (verdict.Pass compared)) (sym netlist) (subst (λ (r : Patterns). HasVerdict n r (verdict.Pass compared)) (sym patterns) passes) in

@@ -3,6 +3,7 @@ use Rattle.std.specs.Prelude.{ℕ, ◌≡◌, List, None, Ok}
 use Rattle.dft_files.specs.Outside.{Held}
 use Rattle.dft_cells.specs.declared.cell.Cell.{Cell}
 use Rattle.dft_config.specs.declared.config.Config.{Config}
+use Rattle.dft_netlist.specs.Drivers.{IsOrdered}
 use Rattle.dft_netlist.specs.Netlist.{Netlist}
 use Rattle.dft_patterns.specs.Patterns.{Patterns}
 use Rattle.dft_replay.specs.Fits.{first_misfit}
@@ -10,7 +11,8 @@ use Rattle.dft_scan.specs.Refusals.{refusal}
 use Rattle.dft_scan.specs.Scans.{counts_of, netlist_text, report_text}
 use Rattle.dft_stitch.specs.Chains.{plan_of}
 use Rattle.dft_cubes.specs.declared.cube.Cube.{Cube}
-use Rattle.dft_encode.specs.Compiled.{Placing}
+use Rattle.dft_vectors.specs.PatternData.{PatternData}
+use Rattle.dft_encode.specs.Compiled.{ArePatterns, Placing}
 use Rattle.dft_compile.specs.Refusals.{first_refusal}
 use Rattle.dft_equations.specs.LoadRows.{LoadRows}
 use Rattle.dft_load_laws.specs.Loading.{AreRows, rows_of}
@@ -24,6 +26,12 @@ use Rattle.dft_top.specs.Outcomes.{IsCompiled, IsOutcome, IsOutcomeOn, refusal_o
 
 abbrev pub OutcomeIsOne : Type 0
 OutcomeIsOne = (words : List (List ℕ)) (held : Held) (a b : Outcome) → IsOutcome words held a → IsOutcome words held b → a ≡ b
+
+-- Where the nets of a design have an order, each placement of cubes has patterns.
+abbrev pub PlacementsHavePatterns : Type 0
+PlacementsHavePatterns =
+    (n : Netlist) (rank : ℕ → ℕ) (config : Config) (cubes : List Cube) (placing : Placing config (plan_of n config) cubes) → IsOrdered n rank →
+    (list : List PatternData) × ArePatterns n config (plan_of n config) placing.rows placing.merged list
 
 -- where each file of a replay passes its checks, the outcome is that of the patterns on the netlist
 abbrev pub PassingIsReplayed : Type 0
@@ -39,12 +47,13 @@ PassingIsScanned =
     LibraryGives files.library held (Ok cells) → ConfigGives files.config held (Ok config) → NetlistGives cells files.netlist held (Ok n) → refusal n config ≡ None →
     IsOutcome words held o → o ≡ Scanned (counts_of n config) (netlist_text n config) (report_text n config)
 
--- where each file of a compilation passes its checks, and no check of the design and of its placed cubes fails, the cubes are compiled
+-- where each file of a compilation passes its checks, and no check of the design, of its placed cubes and of their patterns fails, the cubes are compiled
 abbrev pub PassingIsCompiled : Type 0
 PassingIsCompiled =
-    (words : List (List ℕ)) (files : CompileFiles) (held : Held) (cells : List Cell) (config : Config) (n : Netlist) (cubes : List Cube) (placing : Placing config (plan_of n config) cubes) (o : Outcome) → IsCompile words files →
+    (words : List (List ℕ)) (files : CompileFiles) (held : Held) (cells : List Cell) (config : Config) (n : Netlist) (cubes : List Cube) (placing : Placing config (plan_of n config) cubes) (list : List PatternData) (o : Outcome) → IsCompile words files →
     LibraryGives files.library held (Ok cells) → ConfigGives files.config held (Ok config) → NetlistGives cells files.netlist held (Ok n) → first_refusal n config ≡ None →
-    CubesGive n config files.cubes held (Ok cubes) → refusal_of n config cubes placing ≡ None → IsOutcome words held o → IsCompiled n config cubes placing o
+    CubesGive n config files.cubes held (Ok cubes) → ArePatterns n config (plan_of n config) placing.rows placing.merged list → refusal_of n config cubes placing list ≡ None → IsOutcome words held o →
+    IsCompiled n config cubes placing list o
 
 -- where each file of a test of certificates passes its checks, and no check of the design and of the report's sums fails, the cubes that are reported
 -- unsolvable are certified

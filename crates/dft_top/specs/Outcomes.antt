@@ -1,5 +1,5 @@
 -- What a command comes to, from its words and the files that are held.
-use Rattle.std.specs.Prelude.{ℕ, ◌<◌, ◌^◌, ◌≡◌, List, [], ◌∷◌, codes, length, Option, None, Some, Ok, slice_get}
+use Rattle.std.specs.Prelude.{ℕ, ◌<◌, ◌^◌, ◌≡◌, List, [], ◌∷◌, codes, length, Option, None, Some, option_map, Ok, slice_get}
 use Rattle.dft_files.specs.Outside.{Held}
 use Rattle.dft_config.specs.declared.config.Config.{Config}
 use Rattle.dft_scan_frame.specs.Statements.{IsReady}
@@ -21,7 +21,8 @@ use Rattle.dft_cubes.specs.declared.cube.Cube.{Cube}
 use Rattle.dft_vectors.specs.PatternData.{PatternData}
 use Rattle.dft_encode.specs.Compiled.{Placing, ArePatterns}
 use Rattle.dft_compile.specs.declared.error.CompileError.{CompileError}
-use Rattle.dft_compile.specs.Refusals.{late_refusal}
+use Rattle.dft_compile.specs.declared.error.CompileError.TheVariants.{Patterns as TooManyPatterns, Report as TooLongReport}
+use Rattle.dft_compile.specs.Refusals.{first_failing, too_long, too_many}
 use Rattle.dft_compile.specs.Texts as compiled
 use Rattle.dft_compile.specs.Reports.{compile_report}
 use Rattle.dft_report_reader.specs.Reading.{report_of}
@@ -103,29 +104,34 @@ course_of_scan files =
 
 -- ---- a compilation
 
--- The cubes are compiled: the patterns are those of their placement, and the outcome has the written forms of the scanned netlist, of the
+-- The cubes are compiled, where they are placed so and these are the patterns: the outcome has the written forms of the scanned netlist, of the
 -- patterns and of the report. The netlist's text stands for it, the patterns' vectors can be counted, and the report's text is read as the report.
-pub record IsCompiled (n : Netlist) (config : Config) (cubes : List Cube) (placing : Placing config (plan_of n config) cubes) (o : Outcome) : Type 0 where
-  pub list : List PatternData
-  pub are : ArePatterns n config (plan_of n config) placing.rows placing.merged list
+pub record IsCompiled (n : Netlist) (config : Config) (cubes : List Cube) (placing : Placing config (plan_of n config) cubes) (list : List PatternData) (o : Outcome) : Type 0 where
   pub is : o ≡ Compiled (compiled.counts_of n config placing.placed list) (compiled.netlist_text n config) (compiled.pattern_text n config list)
       (compiled.report_text n config placing.rows cubes placing.placed)
   pub reads : StandsFor n.library (compiled.netlist_text n config) (scanned Edt n config)
   pub few : length (compiled.pattern_set n config list).vectors < 2 ^ 32
   pub told : report_of (compiled.report_text n config placing.rows cubes placing.placed) ≡ Ok (compile_report n config (rows_of n config placing.rows) cubes placing.placed)
 
--- the first check that fails on the placed cubes is refused: the length of the patterns, that of the report; and else they are compiled
-abbrev pub IsOutcomeOfPlacing : (n : Netlist) (config : Config) (cubes : List Cube) → Placing config (plan_of n config) cubes → Option CompileError → Outcome → Type 0
-IsOutcomeOfPlacing n config cubes placing (Some error) o = IsRefusal (compile_refusal error) o
-IsOutcomeOfPlacing n config cubes placing None o = IsCompiled n config cubes placing o
+-- the first check that fails on the texts of placed cubes is refused, and else they are compiled
+abbrev pub IsOutcomeOfPlacing : (n : Netlist) (config : Config) (cubes : List Cube) → Placing config (plan_of n config) cubes → List PatternData → Option CompileError → Outcome → Type 0
+IsOutcomeOfPlacing n config cubes placing list (Some error) o = IsRefusal (compile_refusal error) o
+IsOutcomeOfPlacing n config cubes placing list None o = IsCompiled n config cubes placing list o
 
--- the refusal of placed cubes, if there is one
-abbrev pub refusal_of : (n : Netlist) (config : Config) (cubes : List Cube) → Placing config (plan_of n config) cubes → Option CompileError
-refusal_of n config cubes placing = late_refusal n config cubes placing.rows placing.placed (length placing.merged)
+-- the refusal of placed cubes with these patterns, if there is one: the text of the patterns is too long, or that of the report
+abbrev pub refusal_of : (n : Netlist) (config : Config) (cubes : List Cube) → Placing config (plan_of n config) cubes → List PatternData → Option CompileError
+refusal_of n config cubes placing list =
+    first_failing
+    (option_map TooManyPatterns (too_many (length (compiled.pattern_text n config list)))
+    ∷ option_map TooLongReport (too_long (compiled.report_text n config placing.rows cubes placing.placed))
+    ∷ [])
 
--- the cubes are placed, and it is the outcome of that
-abbrev pub IsOutcomeOfCubes : Netlist → Config → List Cube → Outcome → Type 0
-IsOutcomeOfCubes n config cubes o = (placing : Placing config (plan_of n config) cubes) × IsOutcomeOfPlacing n config cubes placing (refusal_of n config cubes placing) o
+-- the cubes are placed, these are the patterns of that, and it is their outcome
+pub record IsOutcomeOfCubes (n : Netlist) (config : Config) (cubes : List Cube) (o : Outcome) : Type 0 where
+  pub placing : Placing config (plan_of n config) cubes
+  pub list : List PatternData
+  pub are : ArePatterns n config (plan_of n config) placing.rows placing.merged list
+  pub outcome : IsOutcomeOfPlacing n config cubes placing list (refusal_of n config cubes placing list) o
 
 -- the cubes, and then their placement
 abbrev pub course_of_cubes : Netlist → Config → (cubes : List ℕ) → Course

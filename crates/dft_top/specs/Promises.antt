@@ -1,18 +1,21 @@
 -- What Done promises of a command.
-use Rattle.std.specs.Prelude.{ℕ, ◌≡◌, List, None, Some, Ok, slice_get}
+use Rattle.std.specs.Prelude.{ℕ, ◌<◌, ◌≤◌, ◌^◌, ◌≡◌, List, length, None, Some, Ok, slice_get}
 use Rattle.dft_files.specs.Outside.{Held, file_at}
 use Rattle.dft_cells.specs.declared.cell.Cell.{Cell}
 use Rattle.dft_config.specs.declared.config.Config.{Config}
 use Rattle.dft_netlist.specs.Netlist.{Netlist}
 use Rattle.dft_netlist.specs.Logic.{Ports}
 use Rattle.dft_netlist_text.specs.NetlistText.{StandsFor}
-use Rattle.dft_netlist.specs.Runs.{Now, Turn}
+use Rattle.dft_netlist.specs.Orders.{IsOrder}
+use Rattle.dft_netlist.specs.Runs.{Now, Turn, AreLow}
+use Rattle.dft_netlist.specs.Sound.{IsNetlist}
 use Rattle.dft_patterns.specs.Patterns.{Patterns}
+use Rattle.dft_replay.specs.declared.verdict.Verdict.{Verdict}
 use Rattle.dft_replay.specs.declared.verdict.Verdict.TheVariants.{Pass}
 use Rattle.dft_replay.specs.Fits.{first_misfit}
 use Rattle.dft_replay.specs.Rows.{rows_of}
 use Rattle.dft_replay.specs.Verdicts.{HasVerdict}
-use Rattle.dft_replay.specs.Laws.{IsRunOf, AllShow}
+use Rattle.dft_replay.specs.Laws.{IsRunOf, AllShow, HoldsInRuns}
 use Rattle.dft_scan_behavior.specs.PlainLaws.{ChainsShift, ChainsShow}
 use Rattle.dft_scan_frame.specs.Statements.{IsReady}
 use Rattle.dft_scan_hardware.specs.declared.style.Style.TheVariants.{Plain, Edt}
@@ -25,15 +28,17 @@ use Rattle.dft_stitch.specs.Chains.{plan_of}
 use Rattle.dft_cubes.specs.declared.cube.Cube.{Cube}
 use Rattle.dft_vectors.specs.PatternData.{PatternData}
 use Rattle.dft_encode.specs.Compiled.{ArePatterns, Placing}
+use Rattle.dft_compile.specs.Refusals.{first_refusal}
 use Rattle.dft_compile.specs.Texts as compiled
 use Rattle.dft_compile.specs.Reports.{compile_report}
 use Rattle.dft_compile_laws.specs.Holding.{HoldsOf, without_notes}
 use Rattle.dft_compile_laws.specs.Passing.{set_of}
+use Rattle.dft_compile_laws.specs.Reporting.{entries_of}
 use Rattle.dft_report_reader.specs.Reading.{report_of}
 use Rattle.dft_stil_text.specs.PatternText as pattern
 use Rattle.dft_config.specs.Ring.{Table}
 use Rattle.dft_equations.specs.LoadRows.{LoadRows}
-use Rattle.dft_load_laws.specs.Loading.{AreRows, LoadsOnce, rows_of as load_rows}
+use Rattle.dft_load_laws.specs.Loading.{AreRows, LoadRun, LoadsOnce, rows_of as load_rows}
 use Rattle.dft_report.specs.declared.report.CubeLine.TheVariants.{Unsolvable}
 use Rattle.dft_report.specs.declared.report.CubeReport.{CubeReport}
 use Rattle.dft_report.specs.declared.report.Report.{Report}
@@ -41,11 +46,18 @@ use Rattle.dft_report.specs.declared.report.SumLine.{SumLine}
 use Rattle.dft_certify.specs.Certifying.{cube_named}
 use Rattle.dft_certify.specs.Laws.{AllCertified}
 use Rattle.dft_command_line.specs.Words.{ReplayFiles, ScanFiles, CompileFiles, CertifyFiles}
+use Rattle.dft_top.specs.declared.limits.TheConstants.{MAX_PATTERN_BYTES, MAX_REPORT_BYTES}
 use Rattle.dft_top.specs.Checks.{LibraryGives, ConfigGives, NetlistGives, PatternsGive, CubesGive, PlanGives, ReportGives}
+use Rattle.dft_top.specs.Courses.{Reaches}
+use Rattle.dft_top.specs.Outcomes.{course_of_replay, outcome_of}
 
 -- every run of the netlist over the patterns shows each compared bit as printed
 abbrev pub EveryRunShows : Netlist → Patterns → Type 0
 EveryRunShows n p = (start : Now) (turns : List Turn) → IsRunOf n p start turns → AllShow (rows_of n p) turns
+
+-- from every start with low clocks there is a run of the netlist over the patterns
+abbrev pub RunsFromEach : Netlist → Patterns → Type 0
+RunsFromEach n p = (start : Now) → AreLow start.state → (turns : List Turn) × IsRunOf n p start turns
 
 -- these are the netlist and the patterns of the held texts, over the cells of the library, with a verdict of Pass
 pub record Passes (files : ReplayFiles) (held : Held) : Type 0 where
@@ -58,10 +70,28 @@ pub record Passes (files : ReplayFiles) (held : Held) : Type 0 where
   pub fit : first_misfit netlist patterns.signals ≡ None
   pub passed : (compared : ℕ) × HasVerdict netlist patterns (Pass compared)
   pub shown : EveryRunShows netlist patterns
+  pub runs : RunsFromEach netlist patterns
+
+-- These are the netlist and the patterns of the held texts, over the cells of the library. Their verdict is no Pass, it is what the outcome tells,
+-- and what it says holds in every run: where it is a mismatch, the bit that it names shows the opposite of what is printed, and is the first that does.
+pub record Fails (files : ReplayFiles) (held : Held) : Type 0 where
+  pub cells : List Cell
+  pub library : LibraryGives files.library held (Ok cells)
+  pub netlist : Netlist
+  pub design : NetlistGives cells files.netlist held (Ok netlist)
+  pub patterns : Patterns
+  pub vectors : PatternsGive files.patterns held (Ok patterns)
+  pub fit : first_misfit netlist patterns.signals ≡ None
+  pub verdict : Verdict
+  pub has : HasVerdict netlist patterns verdict
+  pub failing : (compared : ℕ) → verdict ≡ Pass compared → ⊥
+  pub told : Reaches (course_of_replay files) held (outcome_of patterns verdict)
+  pub shown : HoldsInRuns netlist patterns verdict
+  pub runs : RunsFromEach netlist patterns
 
 -- The netlist and the configuration are those of the held texts, over the cells of the library, and the scan rules pass. Its scanned
 -- netlist and its report are saved, and no other file is changed. The text that is saved stands for the scanned netlist, which keeps
--- the design, behaves as it while scan is off, and whose chains shift.
+-- the design, adds what it should in order, behaves as the design while scan is off, and whose chains shift.
 pub record Scans (files : ScanFiles) (old new : Held) : Type 0 where
   pub cells : List Cell
   pub library : LibraryGives files.library old (Ok cells)
@@ -77,6 +107,7 @@ pub record Scans (files : ScanFiles) (old new : Held) : Type 0 where
   pub reads : StandsFor cells (netlist_text netlist config) (scanned Plain netlist config)
   -- what holds of it
   pub keeps : IsKept Plain netlist config
+  pub adds : IsAdded Plain netlist config
   pub agrees : IsSameWhileOff Plain netlist config
   pub shifts : ChainsShift netlist config
   pub shows : ChainsShow netlist config
@@ -85,9 +116,9 @@ pub record Scans (files : ScanFiles) (old new : Held) : Type 0 where
 
 -- The netlist, the configuration and the cubes are those of the held texts, over the cells of the library, and the checks pass. The cubes are
 -- placed, and the scanned netlist, the patterns of the placement and its report are saved; no other file is changed. The patterns' text that is saved
--- stands for them, and the report's is read as the report; the netlist's text stands for the scanned netlist, which keeps the design, behaves as it while scan is off, and loads and unloads every table in
--- every run. The patterns pass on it, and in every run each cube that is reported encoded is loaded; a cube is reported unsolvable exactly
--- where no table of channel bits loads it in any run.
+-- stands for them, and the report's is read as the report; the netlist's text stands for the scanned netlist, which is sound and in order. It keeps the
+-- design, behaves as it while scan is off, and loads and unloads every table in every run. The patterns pass on it, and in every run each cube
+-- that is reported encoded is loaded; a cube is reported unsolvable exactly where no table of channel bits loads it in any run.
 pub record Compiles (files : CompileFiles) (old new : Held) : Type 0 where
   pub cells : List Cell
   pub library : LibraryGives files.library old (Ok cells)
@@ -96,13 +127,20 @@ pub record Compiles (files : CompileFiles) (old new : Held) : Type 0 where
   pub netlist : Netlist
   pub design : NetlistGives cells files.netlist old (Ok netlist)
   pub ready : IsReady netlist config
+  pub accepted : first_refusal netlist config ≡ None
   pub cubes : List Cube
   pub given : CubesGive netlist config files.cubes old (Ok cubes)
   -- what is made of them
+  pub sound : IsNetlist (scanned Edt netlist config)
+  pub order : List ℕ
+  pub ordered : IsOrder (scanned Edt netlist config) order
   pub placing : Placing config (plan_of netlist config) cubes
   pub list : List PatternData
   pub are : ArePatterns netlist config (plan_of netlist config) placing.rows placing.merged list
-  -- what is saved
+  -- what is saved, the patterns and the report within their limits
+  pub few : length (set_of netlist config list).vectors < 2 ^ 32
+  pub patterns_short : length (compiled.pattern_text netlist config list) ≤ MAX_PATTERN_BYTES
+  pub report_short : length (compiled.report_text netlist config placing.rows cubes placing.placed) ≤ MAX_REPORT_BYTES
   pub out_netlist : file_at files.out_netlist new ≡ Some (compiled.netlist_text netlist config)
   pub out_patterns : file_at files.out_patterns new ≡ Some (compiled.pattern_text netlist config list)
   pub out_report : file_at files.out_report new ≡ Some (compiled.report_text netlist config placing.rows cubes placing.placed)
@@ -110,6 +148,8 @@ pub record Compiles (files : CompileFiles) (old new : Held) : Type 0 where
   pub reads : StandsFor cells (compiled.netlist_text netlist config) (scanned Edt netlist config)
   pub stands : pattern.StandsFor (compiled.pattern_text netlist config list) (without_notes (set_of netlist config list))
   pub told : report_of (compiled.report_text netlist config placing.rows cubes placing.placed) ≡ Ok (compile_report netlist config (load_rows netlist config placing.rows) cubes placing.placed)
+  -- the cubes of the report are the entries of which more is said
+  pub entries : (compile_report netlist config (load_rows netlist config placing.rows) cubes placing.placed).cubes ≡ entries_of netlist config placing.rows cubes placing.placed
   -- what holds of it
   pub keeps : IsKept Edt netlist config
   pub adds : IsAdded Edt netlist config
@@ -146,5 +186,6 @@ pub record Certifies (files : CertifyFiles) (held : Held) : Type 0 where
   pub rows : LoadRows
   pub equations : AreRows netlist config rows
   pub certified : AllCertified netlist config.ring (load_rows netlist config rows) rows.columns cubes report.cubes
-  -- what follows
+  -- what follows; each table is loaded in some run
   pub never : NeverLoads netlist config cubes report
+  pub carried : (ports : Ports) → SuitsEdt netlist config ports → (table : Table) → LoadRun netlist config ports table

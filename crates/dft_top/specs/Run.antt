@@ -5,14 +5,15 @@ use Rattle.dft_files.specs.Put.{Adds, AddsPrefix}
 use Rattle.dft_answers.specs.declared.answer.Status.{Status}
 use Rattle.dft_answers.specs.declared.answer.Status.TheVariants.{Done, NotPassed, Usage, Refused, ReadFault, WriteFault, OutOfMemory}
 use Rattle.dft_answers.specs.declared.answer.Answer.{Answer}
+use Rattle.dft_answers.specs.declared.answer.Refusal.{Refusal}
 use Rattle.dft_answers.specs.declared.outcome.Outcome.{Outcome}
 use Rattle.dft_answers.specs.declared.outcome.Outcome.TheVariants as outcome
-use Rattle.dft_command_line.specs.Words.{Command, Replay, Scan, Compile, Certify, Generate, ReplayFiles, ScanFiles, CompileFiles, CertifyFiles, AreFor, IsFor, IsReplay, IsScan, IsCompile, IsCertify}
+use Rattle.dft_command_line.specs.Words.{Command, Replay, Scan, Compile, Certify, Generate, ReplayFiles, ScanFiles, CompileFiles, CertifyFiles, JobNumbers, AreFor, IsFor, IsReplay, IsScan, IsCompile, IsCertify, IsGenerate}
 use Rattle.dft_answers.specs.Answers.{answer_of, stopped}
 use Rattle.dft_answers.specs.Lines.{line_of}
 use Rattle.dft_top.specs.Courses.{IsPassing}
-use Rattle.dft_top.specs.Outcomes.{IsOutcomeFor, IsLoaded, HasTurn, course_of}
-use Rattle.dft_top.specs.Promises.{Passes, Scans, Compiles, Certifies}
+use Rattle.dft_top.specs.Outcomes.{IsOutcomeFor, IsOutcomeOfJob, IsLoaded, HasTurn, course_of}
+use Rattle.dft_top.specs.Promises.{Passes, Fails, Scans, Compiles, Certifies}
 use Rattle.dft_top.specs.Saves.{savings, HaveSaved, HaveSavedSome, SaveFailed, CountsSaves}
 
 -- what is seen of the files and of the output: what files are held, the name in the last call that failed, how many loads and saves
@@ -103,10 +104,19 @@ Suits (Some (Compile files)) o = IsOfCompile o
 Suits (Some (Certify files)) o = IsOfCertify o
 Suits (Some (Generate numbers)) o = IsOfGenerate o
 
+-- What is said of held files holds of those that are told; of a command that loads none, and of no command, it holds whatever is held.
+abbrev pub ToldFor : Option Command → (Held → Type 0) → Option Held → Type 0
+ToldFor None P held = (h : Held) → P h
+ToldFor (Some (Replay files)) P held = Told P held
+ToldFor (Some (Scan files)) P held = Told P held
+ToldFor (Some (Compile files)) P held = Told P held
+ToldFor (Some (Certify files)) P held = Told P held
+ToldFor (Some (Generate numbers)) P held = (h : Held) → P h
+
 -- the outcome is one of the command, and that of the held files where they are told
 pub record IsOutcomeTold (command : Option Command) (held : Option Held) (o : Outcome) : Type 0 where
   pub suits : Suits command o
-  pub told : Told (λ files. IsOutcomeFor command files o) held
+  pub told : ToldFor command (λ files. IsOutcomeFor command files o) held
 
 -- ---- how a run ends
 
@@ -194,6 +204,10 @@ Ends words before after answer =
 abbrev pub PassesTold : List (List ℕ) → Option Held → Answer → Type 0
 PassesTold words held answer = (files : ReplayFiles) → IsReplay words files → answer.status ≡ Done → Told (Passes files) held
 
+-- where the words are a replay that does not pass, its patterns have a verdict that says why: a mismatch is one in every run
+abbrev pub FailsTold : List (List ℕ) → Option Held → Answer → Type 0
+FailsTold words held answer = (files : ReplayFiles) → IsReplay words files → answer.status ≡ NotPassed → Told (Fails files) held
+
 -- where the words are a scan, the scanned netlist and the report are saved: scan off it is the same design, and its chains shift
 abbrev pub ScansTold : List (List ℕ) → (held held' : Option Held) → Answer → Type 0
 ScansTold words held held' answer = (files : ScanFiles) → IsScan words files → answer.status ≡ Done → ToldChange (Scans files) held held'
@@ -206,6 +220,15 @@ CompilesTold words held held' answer = (files : CompileFiles) → IsCompile word
 -- where the words are a test of certificates, no channel bits load a cube that is reported unsolvable
 abbrev pub CertifiesTold : List (List ℕ) → Option Held → Answer → Type 0
 CertifiesTold words held answer = (files : CertifyFiles) → IsCertify words files → answer.status ≡ Done → Told (Certifies files) held
+
+-- where the words are a generated job, its run is done, or refused with the refusal of the job; or its lines could not be put, or memory ran out
+abbrev pub GeneratesJob : List (List ℕ) → (put_faults put_faults' : ℕ) → Answer → Type 0
+GeneratesJob words put_faults put_faults' answer =
+    (numbers : JobNumbers) → IsGenerate words numbers →
+    (answer.status ≡ Done)
+    ⊎ ((refusal : Refusal) × (IsOutcomeOfJob numbers (outcome.Refused refusal) × (answer ≡ answer_of (outcome.Refused refusal))))
+    ⊎ ((answer.status ≡ WriteFault) × Rose put_faults put_faults')
+    ⊎ (answer.status ≡ OutOfMemory)
 
 -- ---- when a command is answered
 
@@ -229,12 +252,12 @@ IsAnswered (Compile files) held status = status ≡ Done
 IsAnswered (Certify files) held status = status ≡ Done
 IsAnswered (Generate numbers) held status = status ≡ Done
 
--- Where the words are a command, whose checks the files that are told pass, and no call of the outside failed, the command is answered. Want of memory
+-- Where the words are a command, whose checks the files that are told pass (those of a generated job, whatever is told), and no call of the outside failed, the command is answered. Want of memory
 -- is the one exception.
 abbrev pub CompletesTold : List (List ℕ) → (before after : Seen) → Answer → Type 0
 CompletesTold words before after answer =
     (command : Command) → IsFor words command → NoneFailed before after →
-    Told (λ held. IsPassing (course_of (Some command)) held → (answer.status ≡ OutOfMemory) ⊎ IsAnswered command held answer.status) before.held
+    ToldFor (Some command) (λ held. IsPassing (course_of (Some command)) held → (answer.status ≡ OutOfMemory) ⊎ IsAnswered command held answer.status) before.held
 
 -- ---- what is not saved
 

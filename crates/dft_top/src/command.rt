@@ -5,7 +5,7 @@ ghost use Rattle.dft_files.specs.Outside.{Rose, Told};
 ghost use Rattle.dft_command_line.specs.Named.{command_of};
 ghost use Rattle.dft_answers.specs.Lines.{line_of};
 ghost use Rattle.dft_top.specs.Outcomes.{HasTurn, IsLoaded, IsSized};
-ghost use Rattle.dft_top.specs.Run.{Ends, EndsFor, IsDelivered, CertifiesTold, CompilesTold, CompletesTold, IsOutcomeTold, KeepsFiles, PassesTold, Prints, ScansTold, seen};
+ghost use Rattle.dft_top.specs.Run.{Ends, EndsFor, IsDelivered, CertifiesTold, CompilesTold, CompletesTold, FailsTold, GeneratesJob, IsOutcomeTold, KeepsFiles, PassesTold, Prints, ScansTold, seen};
 ghost use Rattle.dft_top.specs.Saves.{CountsSaves, SavesApart, savings};
 ghost use Rattle.dft_top.specs.Stops.{ComesTo};
 
@@ -40,14 +40,16 @@ use std::alloc::Global;
 /// out. Only a scan or a compilation that passes all checks changes files.
 ///
 /// Where a replay answers Done and the files are told, every run of the netlist over the patterns, whatever the starting
-/// bits, the order of clock edges and the free bits, shows each compared bit as printed. Where a scan does, the netlist
-/// that is saved keeps the design and behaves as it while scan is off, and its chains shift in every run. Where a compilation does, so
-/// does the netlist that is saved; the patterns that are saved pass on it, and every run over them loads each cube that is
-/// reported encoded; and a cube is reported unsolvable exactly where no channel bits load it in any run. Where a test of
-/// certificates does, no channel bits load a cube that the report calls unsolvable, in any run of the scanned netlist.
+/// bits, the order of clock edges and the free bits, shows each compared bit as printed; where it answers NotPassed and tells a
+/// bit that differs, every run shows the opposite there. Where a scan answers Done, the netlist that is saved keeps the design
+/// and behaves as it while scan is off, and its chains shift in every run. Where a compilation does, so does the netlist that is
+/// saved; the patterns that are saved pass on it, and every run over them loads each cube that is reported encoded; and a cube
+/// is reported unsolvable exactly where no channel bits load it in any run. Where a test of certificates does, no channel bits
+/// load a cube that the report calls unsolvable, in any run of the scanned netlist.
 ///
 /// Where files are told that pass all checks of a command, and no call of the outside fails, the command answers Done, and a
-/// replay Done exactly where the verdict is Pass. Want of memory is the one exception.
+/// replay Done exactly where the verdict is Pass. A generated job, which needs no files, is Done or refused where its lines can
+/// be put. Want of memory is the one exception.
 pub fn run<F: Files, O: Sink>(alloc: Global, words: &[String], files: &mut F, out: &mut O) -> Answer
     ensures ends { Ends (map string_bytes words.entry.now)
         (seen (F.held files.old) (F.failed files.old) (F.read_faults files.old) (F.write_faults files.old) (O.told out.old) (O.faults out.old))
@@ -56,9 +58,11 @@ pub fn run<F: Files, O: Sink>(alloc: Global, words: &[String], files: &mut F, ou
     ensures kept { KeepsFiles (map string_bytes words.entry.now) (F.held files.old) (F.held files.new) (F.write_faults files.old)
         (F.write_faults files.new) result }
     ensures passes { PassesTold (map string_bytes words.entry.now) (F.held files.old) result }
+    ensures fails { FailsTold (map string_bytes words.entry.now) (F.held files.old) result }
     ensures scans { ScansTold (map string_bytes words.entry.now) (F.held files.old) (F.held files.new) result }
     ensures compiles { CompilesTold (map string_bytes words.entry.now) (F.held files.old) (F.held files.new) result }
     ensures certifies { CertifiesTold (map string_bytes words.entry.now) (F.held files.old) result }
+    ensures generates { GeneratesJob (map string_bytes words.entry.now) (O.faults out.old) (O.faults out.new) result }
     ensures completes { CompletesTold (map string_bytes words.entry.now)
         (seen (F.held files.old) (F.failed files.old) (F.read_faults files.old) (F.write_faults files.old) (O.told out.old) (O.faults out.old))
         (seen (F.held files.new) (F.failed files.new) (F.read_faults files.new) (F.write_faults files.new) (O.told out.new) (O.faults out.new))

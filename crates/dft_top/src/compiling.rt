@@ -122,6 +122,7 @@ pub fn outcome_of_cubes(
     ensures suits { ComesTo IsOfCompile result }
     ensures quiet { result ≡ Err Stop.ReadFault → ⊥ }
 {
+    design.soundness();
     match compile(alloc, design, config, prepared, cubes) {
         Ok(texts) => Ok(outcome_of(texts)),
         Err(error) => Err(Stop::Refused(compile_refusal(alloc, error)?)),

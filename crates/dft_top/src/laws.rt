@@ -1,11 +1,17 @@
 //! Laws about outcomes, as contracts of functions that do nothing.
 
 ghost use Rattle.dft_top.specs.Saved.{SavedIsCertified, SavedIsReplayed};
-ghost use Rattle.dft_top.specs.Laws.{OutcomeIsOne, PassingIsCertified, PassingIsCompiled, PassingIsReplayed, PassingIsScanned};
+ghost use Rattle.dft_top.specs.Laws.{OutcomeIsOne, PassingIsCertified, PassingIsCompiled, PassingIsReplayed, PassingIsScanned, PlacementsHavePatterns};
 
 /// Words and held files have one outcome at most.
 pub fn outcome_is_one()
     ensures { OutcomeIsOne }
+{}
+
+/// Each placement of cubes has patterns, where the nets of the design have an order: some channel bits are those that the fill rule
+/// chooses, and from them the design captures something.
+pub fn placements_have_patterns()
+    ensures { PlacementsHavePatterns }
 {}
 
 /// Files that pass their own checks are not refused for themselves: a replay comes to its verdict, or to P7 where a signal is no bit
@@ -19,9 +25,9 @@ pub fn passing_files_are_answered()
     ensures certified { PassingIsCertified }
 {}
 
-/// What becomes of the files that a compilation saved: a replay of its netlist and its patterns over the same cells passes, if it is not
-/// refused; and a test of its report against the same netlist, configuration and cubes certifies the cubes that it calls
-/// unsolvable, if it is not refused.
+/// What becomes of the files that a compilation saved: a replay of its netlist and its patterns over the same cells passes, where the
+/// netlist's text and the number of vectors keep the limits of a replay; and a test of its report against the same netlist,
+/// configuration and cubes certifies the cubes that it calls unsolvable.
 pub fn saved_files_are_good()
     ensures replayed { SavedIsReplayed }
     ensures certified { SavedIsCertified }

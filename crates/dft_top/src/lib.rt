@@ -17,7 +17,9 @@ mod stop;
 
 pub use command::run;
 pub use dft_answers::Status;
-pub use laws::{outcome_is_one, passing_files_are_answered, saved_files_are_good};
+pub use laws::{
+    outcome_is_one, passing_files_are_answered, placements_have_patterns, saved_files_are_good,
+};
 pub use limits::{
     MAX_CONFIG_BYTES, MAX_CUBE_BYTES, MAX_LIBRARY_BYTES, MAX_NETLIST_BYTES, MAX_PATTERN_BYTES,
     MAX_REPORT_BYTES,

@@ -1,0 +1,58 @@
+-- How the run of a generated job ends.
+use Rattle.std.proofs.Common.{ℕ, ◌≡◌, ◌⊎◌, ◌∙◌, inl, inr, List, [], refl, sym, ap, subst, Option, Some}
+use Rattle.dft_files.specs.Outside.{Rose}
+use Rattle.dft_command_line.specs.Words.{AreFor, Command, Generate, JobNumbers}
+use Rattle.dft_command_line.proofs.Understood.{for_once}
+use Rattle.dft_answers.specs.declared.answer.Answer.{Answer}
+use Rattle.dft_answers.specs.declared.answer.Refusal.{Refusal}
+use Rattle.dft_answers.specs.declared.answer.Status.TheVariants.{Done, OutOfMemory, WriteFault}
+use Rattle.dft_answers.specs.declared.outcome.Outcome.{Outcome}
+use Rattle.dft_answers.specs.declared.outcome.Outcome.TheVariants as outcome
+use Rattle.dft_answers.specs.Answers.{answer_of, status_of}
+use Rattle.dft_top.specs.Outcomes.{IsOutcomeOfJob}
+use Rattle.dft_top.specs.Run.{EndsFor, GeneratesJob, IsDelivered, IsOfGenerate, Seen}
+use Rattle.dft_top.proofs.JobReplays.{JobsPass}
+use Rattle.dft_top.proofs.Kept.{no_failing}
+
+-- how it ends
+abbrev JobEnds : JobNumbers → (put_faults put_faults' : ℕ) → Answer → Type 0
+JobEnds numbers put_faults put_faults' answer =
+    (answer.status ≡ Done)
+    ⊎ ((refusal : Refusal) × (IsOutcomeOfJob numbers (outcome.Refused refusal) × (answer ≡ answer_of (outcome.Refused refusal))))
+    ⊎ ((answer.status ≡ WriteFault) × Rose put_faults put_faults')
+    ⊎ (answer.status ≡ OutOfMemory)
+
+status_is : (a b : Answer) → a ≡ b → a.status ≡ b.status
+status_is a b same = ap (λ (c : Answer). c.status) same
+
+-- where its outcome is answered
+answered : JobsPass → (numbers : JobNumbers) (o : Outcome) (put_faults put_faults' : ℕ) (answer : Answer) → IsOfGenerate o → IsOutcomeOfJob numbers o → answer ≡ answer_of o → JobEnds numbers put_faults put_faults' answer
+answered pass numbers outcome.Usage put_faults put_faults' answer suits is same = absurd suits
+answered pass numbers (outcome.Refused refusal) put_faults put_faults' answer suits is same = inr (inl (refusal, (is, same)))
+answered pass numbers (outcome.Passed vectors compared) put_faults put_faults' answer suits is same = absurd suits
+answered pass numbers (outcome.Mismatch vector signal) put_faults put_faults' answer suits is same = absurd suits
+answered pass numbers (outcome.Undetermined vector signal) put_faults put_faults' answer suits is same = absurd suits
+answered pass numbers (outcome.Scanned counts netlist report) put_faults put_faults' answer suits is same = absurd suits
+answered pass numbers (outcome.Compiled counts netlist patterns report) put_faults put_faults' answer suits is same = absurd suits
+answered pass numbers (outcome.Certified unsolvable) put_faults put_faults' answer suits is same = absurd suits
+answered pass numbers (outcome.Generated counts replay) put_faults put_faults' answer suits is same = inl (status_is answer _ same ∙ pass numbers (outcome.Generated counts replay) (λ refusal e. cc) is)
+
+delivered : JobsPass → (numbers : JobNumbers) (o : Outcome) (before after : Seen) (answer : Answer) → IsOfGenerate o → IsOutcomeOfJob numbers o → IsDelivered (Some (Generate numbers)) o before after answer →
+    JobEnds numbers before.put_faults after.put_faults answer
+delivered pass numbers o before after answer suits is (inl x) = answered pass numbers o before.put_faults after.put_faults answer suits is x.answers
+delivered pass numbers o before after answer suits is (inr (inl x)) = absurd (no_failing x.failed.saved x.failed.rest x.failed.failing x.failed.in_order)
+delivered pass numbers o before after answer suits is (inr (inr (inl x))) = inr (inr (inl (status_is answer _ x.answers, x.rose)))
+delivered pass numbers o before after answer suits is (inr (inr (inr x))) = inr (inr (inr (status_is answer _ x.answers)))
+
+ends : JobsPass → (numbers : JobNumbers) (before after : Seen) (answer : Answer) → EndsFor (Some (Generate numbers)) before after answer → JobEnds numbers before.put_faults after.put_faults answer
+ends pass numbers before after answer (inl x) = delivered pass numbers x.o before after answer x.told.suits (x.told.told []) x.delivered
+ends pass numbers before after answer (inr (inl x)) = absurd x.loaded
+ends pass numbers before after answer (inr (inr x)) = inr (inr (inr (status_is answer _ x.1)))
+
+pub generates_for : JobsPass → (words : List (List ℕ)) (command : Option Command) (before after : Seen) (answer : Answer) → AreFor words command → EndsFor command before after answer → GeneratesJob words before.put_faults after.put_faults answer
+generates_for pass words command before after answer are ended numbers is =
+    ends pass numbers before after answer (subst (λ (command : Option Command). EndsFor command before after answer) (for_once words command (Some (Generate numbers)) are is) ended)
+
+-- where memory runs out
+pub generates_short : (words : List (List ℕ)) (put_faults put_faults' : ℕ) (answer : Answer) → answer.status ≡ OutOfMemory → GeneratesJob words put_faults put_faults' answer
+generates_short words put_faults put_faults' answer short numbers is = inr (inr (inr short))
