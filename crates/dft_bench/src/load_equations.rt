@@ -30,9 +30,10 @@ mask_inputs = 1
 
 /// Reads the configuration and times the equations of chains of so many cells, at most 4,096.
 pub fn time_equations(rt: &(impl Clock + Eprint), alloc: Global, cells: u32) -> io::Result<()> {
-    match Config::read(alloc, CONFIGURATION.as_bytes()).ok() {
-        Some(config) => time_read(rt, alloc, &config, cells.min(4096) as u16),
-        None => eprintln!(rt; "the configuration is not read"),
+    let cells = cells.min(4096) as u16;
+    match Config::read(alloc, CONFIGURATION.as_bytes()) {
+        Ok(config) => time_read(rt, alloc, &config, cells),
+        Err(_) => eprintln!(rt; "the configuration is not read"),
     }
 }
 
