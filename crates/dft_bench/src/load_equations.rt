@@ -11,7 +11,7 @@ use std::rt::Clock;
 use std::time::Instant;
 
 // Sixteen chains of three stages each.
-static CONFIGURATION: &str = "version = 1
+const CONFIGURATION: &str = "version = 1
 domains = ['clk']
 chains = 16
 warm = 0
