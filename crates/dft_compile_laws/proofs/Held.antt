@@ -76,7 +76,7 @@ compilations_hold n config order cubes placing list ready netlist ordered sound 
       carried = λ ports suits table. loads_run n config ports table ready suits;
       runs = λ ports start low. sets_run (scanned Edt n config) order (set_of n config list) ports start netlist ordered low;
       passes = written_pass n config list order ready netlist ordered stands;
-      formed = λ few. written_formed n config list ready netlist named stands (gives n config cubes placing list ready sound are) few;
+      formed = λ few. written_formed n config list ready netlist stands (gives n config cubes placing list ready sound are) few;
       reads = (λ few.
           let formed = written_formed n config list ready netlist stands (gives n config cubes placing list ready sound are) few in
           stands_written (set_of n config list) formed.well formed.writable);
