@@ -207,7 +207,7 @@ impl Answer {
     }
 }
 
-/// A generated job is done where its patterns pass.
+// A generated job is done where its patterns pass.
 fn status_of(replay: &Replayed) -> Status
     ensures { result ≡ spec.replayed_status replay.now }
 {

@@ -217,7 +217,7 @@ fn certified_line(alloc: Global, unsolvable: u32) -> Result<Vec<u8>, AllocError>
     Ok(line.into_bytes())
 }
 
-/// The line of the compilation of a generated job, and that of its replay.
+// The line of the compilation of a generated job, and that of its replay.
 fn generated_lines(
     alloc: Global,
     counts: CompileCounts,

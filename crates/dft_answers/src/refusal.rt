@@ -7,7 +7,7 @@ use crate::answer::{Code, Refusal};
 use dft_base::{Name, Place};
 
 impl Refusal {
-    /// A refusal without parts.
+    // A refusal without parts.
     pub(crate) fn plain(code: Code) -> Refusal
         ensures { result ≡ spec.plain code }
     {
@@ -29,7 +29,7 @@ impl Refusal {
         refusal
     }
 
-    /// A refusal with a name and a number.
+    // A refusal with a name and a number.
     pub(crate) fn numbered(code: Code, name: Name, number: i64) -> Refusal
         ensures { result ≡ spec.numbered code name number }
     {
@@ -38,7 +38,7 @@ impl Refusal {
         refusal
     }
 
-    /// A refusal with a number.
+    // A refusal with a number.
     pub(crate) fn measured(code: Code, number: i64) -> Refusal
         ensures { result ≡ spec.measured code number }
     {
@@ -47,7 +47,7 @@ impl Refusal {
         refusal
     }
 
-    /// A refusal with two numbers.
+    // A refusal with two numbers.
     pub(crate) fn paired(code: Code, first: i64, second: i64) -> Refusal
         ensures { result ≡ spec.paired code first second }
     {
@@ -56,7 +56,7 @@ impl Refusal {
         refusal
     }
 
-    /// A refusal with a place.
+    // A refusal with a place.
     pub(crate) fn placed(code: Code, place: Place) -> Refusal
         ensures { result ≡ spec.placed code place }
     {
@@ -65,7 +65,7 @@ impl Refusal {
         refusal
     }
 
-    /// A refusal with a place and a word.
+    // A refusal with a place and a word.
     pub(crate) fn worded(code: Code, place: Place, word: Name) -> Refusal
         ensures { result ≡ spec.worded code place word }
     {

@@ -59,7 +59,7 @@ pub fn verilog_refusal(alloc: Global, error: VerilogError) -> Result<Refusal, Al
     })
 }
 
-/// The refusal of a netlist as a whole, or of a part of it.
+// The refusal of a netlist as a whole, or of a part of it.
 fn netlist_refusal(alloc: Global, error: NetlistError) -> Result<Refusal, AllocError>
     ensures { IfOk result (λ refusal. spec.netlist_refusal error ≡ Some refusal) }
 {
@@ -74,7 +74,7 @@ fn netlist_refusal(alloc: Global, error: NetlistError) -> Result<Refusal, AllocE
     })
 }
 
-/// What is counted, by its name.
+// What is counted, by its name.
 fn counted_name(alloc: Global, what: Counted) -> Result<Name, AllocError>
     ensures { IfOk result (λ name. name ≡ spec.counted_text what) }
 {
@@ -163,7 +163,7 @@ pub fn compile_refusal(alloc: Global, error: CompileError) -> Result<Refusal, Al
     }
 }
 
-/// The refusal of the scan rules.
+// The refusal of the scan rules.
 fn rule_refusal(error: RuleError) -> Result<Refusal, AllocError>
     ensures { IfOk result (λ refusal. spec.rule_refusal error ≡ Some refusal) }
 {
@@ -178,7 +178,7 @@ fn rule_refusal(error: RuleError) -> Result<Refusal, AllocError>
     })
 }
 
-/// The refusal of a plan.
+// The refusal of a plan.
 fn stitch_refusal(alloc: Global, error: StitchError) -> Result<Refusal, AllocError>
     ensures { IfOk result (λ refusal. spec.stitch_refusal error ≡ Some refusal) }
 {
@@ -192,7 +192,7 @@ fn stitch_refusal(alloc: Global, error: StitchError) -> Result<Refusal, AllocErr
     }
 }
 
-/// What a plan counts, by its name.
+// What a plan counts, by its name.
 fn planned_name(alloc: Global, what: Planned) -> Result<Name, AllocError>
     ensures { IfOk result (λ name. name ≡ spec.planned_text what) }
 {
@@ -203,7 +203,7 @@ fn planned_name(alloc: Global, what: Planned) -> Result<Name, AllocError>
     }
 }
 
-/// The refusal of an insertion.
+// The refusal of an insertion.
 fn insert_refusal(alloc: Global, error: InsertError) -> Result<Refusal, AllocError>
     ensures { IfOk result (λ refusal. spec.insert_refusal error ≡ Some refusal) }
 {
@@ -218,7 +218,7 @@ fn insert_refusal(alloc: Global, error: InsertError) -> Result<Refusal, AllocErr
     }
 }
 
-/// The refusal of a report.
+// The refusal of a report.
 fn report_refusal(error: ReportError) -> Result<Refusal, AllocError>
     ensures { IfOk result (λ refusal. spec.report_refusal error ≡ Some refusal) }
 {

@@ -72,7 +72,7 @@ fn draft_of_kind(alloc: Global, name: Name, kind: Kind, table: &Table) -> Result
     })
 }
 
-/// The pins that the keys of a table name, in the order of the keys.
+// The pins that the keys of a table name, in the order of the keys.
 fn pins_of(alloc: Global, keys: &[PinKey], table: &Table) -> Result<Option<Pins>, AllocError>
     ensures { IfOk result (λ pins. pins ≡ spec.pins_of keys.now (table_view table.now)) }
 {
@@ -96,7 +96,7 @@ fn add_pins(alloc: Global, pins: &mut Pins, role: Role, names: &[Name]) -> Resul
     Ok(())
 }
 
-/// The names that stand at a key.
+// The names that stand at a key.
 fn names_of_key(alloc: Global, key: PinKey, table: &Table) -> Result<Option<Names>, AllocError>
     ensures { IfOk result (λ names. names ≡ spec.names_of_key key (table_view table.now)) }
 {
@@ -128,7 +128,7 @@ fn one_name(alloc: Global, table: &Table, key: &str) -> Result<Option<Names>, Al
     Ok(Some(names))
 }
 
-/// The name of the scan cell, where the table has one.
+// The name of the scan cell, where the table has one.
 fn scan_name(alloc: Global, table: &Table) -> Result<Option<Name>, Flaw>
     ensures ok { IfOk result (λ scan. spec.scan_name (table_view table.now) ≡ Ok scan) }
     ensures flaw { IfErr result (λ flaw. IsFlaw flaw → spec.scan_name (table_view table.now) ≡ Err flaw) }
@@ -142,7 +142,7 @@ fn scan_name(alloc: Global, table: &Table) -> Result<Option<Name>, Flaw>
     }
 }
 
-/// The text of a table's output bits; a kind that is no table has none.
+// The text of a table's output bits; a kind that is no table has none.
 fn rows_of(kind: Kind, table: &Table) -> Result<&str, Flaw>
     ensures ok { IfOk result (λ rows. spec.rows_of kind (table_view table.now) ≡ Ok rows.now) }
     ensures flaw { IfErr result (λ flaw. spec.rows_of kind (table_view table.now) ≡ Err flaw) }
@@ -156,7 +156,7 @@ fn rows_of(kind: Kind, table: &Table) -> Result<&str, Flaw>
     }
 }
 
-/// The kind with its number, where the number of inputs, the names of the pins and the rows fit it.
+// The kind with its number, where the number of inputs, the names of the pins and the rows fit it.
 fn fitted(alloc: Global, kind: Kind, pins: &[Pin], rows: &str) -> Result<Kind, Flaw>
     ensures ok { IfOk result (λ fitting. spec.fitted kind pins.now rows.now ≡ Ok fitting) }
     ensures flaw { IfErr result (λ flaw. IsFlaw flaw → spec.fitted kind pins.now rows.now ≡ Err flaw) }
@@ -186,7 +186,7 @@ fn input_count(pins: &[Pin]) -> usize
     count
 }
 
-/// Whether no name stands twice among the pins.
+// Whether no name stands twice among the pins.
 fn all_differ(alloc: Global, pins: &[Pin]) -> Result<bool, AllocError>
     ensures { IfOk result (λ differ. differ ≡ all_differ (map pin_name pins.now)) }
 {
@@ -213,7 +213,7 @@ fn table_kind(inputs: usize, rows: &str) -> Result<Kind, Flaw>
     }
 }
 
-/// The number with these bits, the lowest first.
+// The number with these bits, the lowest first.
 fn number_of_rows(rows: &[u8]) -> Option<u64>
     requires { length rows.now ≤ 64 }
     ensures { result ≡ spec.number_of_rows rows.now }

@@ -205,7 +205,7 @@ fn xor_of(inputs: &[Tri]) -> Tri
     odd
 }
 
-/// What the table gives at the inputs, where those before them put it at this place and the next one weighs this.
+// What the table gives at the inputs, where those before them put it at this place and the next one weighs this.
 fn tri_of_table(table: u64, inputs: &[Tri], place: u32, weight: u32) -> Tri
     requires place { place + weight * 2 ^ length inputs.now < 64 + weight }
     requires weight { weight < 128 }

@@ -20,7 +20,7 @@ use dft_toml::{TableError, has_only, read_table, table_at};
 use std::alloc::{AllocError, Global};
 use toml::{Table, Value};
 
-/// The table of the cells.
+// The table of the cells.
 fn cells_table(table: &Table) -> Option<&Table>
     ensures { option_map (λ found. table_view found.now) result ≡ spec.cells_table (table_view table.now) }
 {
@@ -43,7 +43,7 @@ fn few(cells: &Table) -> Option<&Table>
     }
 }
 
-/// The drafts of all cells.
+// The drafts of all cells.
 fn drafts_of(alloc: Global, cells: &Table) -> Result<Vec<Draft>, LibraryError>
     ensures ok { IfOk result (λ drafts. spec.drafts_of (table_view cells.now) ≡ Ok drafts.items) }
     ensures refused { IfErr result (λ e. IsRefusal e → spec.drafts_of (table_view cells.now) ≡ Err e) }
@@ -87,7 +87,7 @@ pub fn cells(alloc: Global, table: &Table) -> Result<Vec<Cell>, LibraryError>
     Ok(cells)
 }
 
-/// Refuses cells among which no dff or no lockup stands.
+// Refuses cells among which no dff or no lockup stands.
 fn need_kinds(alloc: Global, cells: &[Cell]) -> Result<(), LibraryError>
     ensures ok { OnOk result (spec.with_needed_kinds cells.now ≡ Ok cells.now) }
     ensures refused { IfErr result (λ e. IsRefusal e → spec.with_needed_kinds cells.now ≡ Err e) }

@@ -59,7 +59,7 @@ fn cell_with(alloc: Global, scan: Option<CellId>, draft: &Draft) -> Result<Cell,
     })
 }
 
-/// The number of the cell with this name, where it can replace the draft's.
+// The number of the cell with this name, where it can replace the draft's.
 fn scan_cell(drafts: &[Draft], draft: &Draft, name: &[u8]) -> Option<CellId>
     requires count { length drafts.now ≤ MAX_CELLS }
     requires ascend { IsTrue (ascend (map cell_name (map (spec.cell_with None) drafts.now))) }
@@ -84,7 +84,7 @@ fn number_where(drafts: &[Draft], draft: &Draft, id: CellId) -> Option<CellId>
     }
 }
 
-/// Whether a cell can replace another in a scan chain.
+// Whether a cell can replace another in a scan chain.
 fn is_scan_cell(other: &Draft, draft: &Draft) -> bool
     ensures { result ≡ spec.is_scan_cell other.now draft.now }
 {
@@ -101,7 +101,7 @@ fn are_scan_kinds(kind: Kind, other: Kind) -> bool
     }
 }
 
-/// Whether the shared pins of a scan cell have the names of a flip-flop's pins.
+// Whether the shared pins of a scan cell have the names of a flip-flop's pins.
 fn share_names(others: &[Pin], pins: &[Pin]) -> bool
     ensures { result ≡ spec.same_names (map pin_name (shared_pins others.now)) (map pin_name pins.now) }
 {
@@ -128,7 +128,7 @@ fn is_scan_role(role: Role) -> bool
     role == Role::ScanIn || role == Role::ScanEnable
 }
 
-/// The number of the cell with this name, by halving.
+// The number of the cell with this name, by halving.
 fn find_draft(drafts: &[Draft], name: &[u8]) -> Option<CellId>
     requires count { length drafts.now ≤ MAX_CELLS }
     requires ascend { IsTrue (ascend (map cell_name (map (spec.cell_with None) drafts.now))) }

@@ -11,7 +11,7 @@ use crate::kind::{Kind, Role};
 use dft_base::Name;
 use std::alloc::{AllocError, Global};
 
-/// A cell as the table has it, with its pins in order.
+// A cell as the table has it, with its pins in order.
 struct Row {
     name: &'static str,
     kind: Kind,

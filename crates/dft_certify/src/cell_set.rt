@@ -6,7 +6,7 @@ use indexmap::IndexSet;
 use std::alloc::{AllocError, Global};
 use std::marker::Model;
 
-/// Cells, each once, found by their numbers. A clause sees them in the order in which they were added.
+// Cells, each once, found by their numbers. A clause sees them in the order in which they were added.
 #[derive(Debug, Drop)]
 pub(crate) struct CellSet {
     numbers: IndexSet<u32>,
@@ -23,7 +23,7 @@ impl Model for CellSet {
 }
 
 impl CellSet {
-    /// No cell yet.
+    // No cell yet.
     pub(crate) fn new(alloc: Global) -> CellSet
         ensures { result ≡ [] }
     {
@@ -32,14 +32,14 @@ impl CellSet {
         }
     }
 
-    /// Whether this cell was added.
+    // Whether this cell was added.
     pub(crate) fn has(&self, cell: InstanceId) -> bool
         ensures { result ≡ has_cell self.now cell }
     {
         self.numbers.contains(&cell.0)
     }
 
-    /// Adds a cell that is not there.
+    // Adds a cell that is not there.
     pub(crate) fn add(&mut self, cell: InstanceId) -> Result<(), AllocError>
         requires { has_cell self.old cell ≡ false }
         ensures { OnOk result (self.new ≡ self.old ++ cell ∷ []) }

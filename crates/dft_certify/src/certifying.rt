@@ -17,7 +17,7 @@ use dft_cubes::Cube;
 use dft_report::{CubeLine, CubeReport, Report, SumLine};
 use std::alloc::{AllocError, Global};
 
-/// The cube of this name.
+// The cube of this name.
 fn cube_named<'a>(cubes: &'a [Cube], names: &CubeNames, name: &[u8]) -> Option<&'a Cube>
     requires { Finds names.now cubes.now }
     ensures { option_copied result ≡ spec.cube_named cubes.now name.now }
@@ -25,7 +25,7 @@ fn cube_named<'a>(cubes: &'a [Cube], names: &CubeNames, name: &[u8]) -> Option<&
     cubes.get(names.get(name)?)
 }
 
-/// Tests the lines of an unsolvable cube, behind the one with this number.
+// Tests the lines of an unsolvable cube, behind the one with this number.
 fn certify_lines(
     alloc: Global,
     sums: &CellSums<'_>,
@@ -53,7 +53,7 @@ fn certify_lines(
     Ok(())
 }
 
-/// Tests an entry, whose line has this number.
+// Tests an entry, whose line has this number.
 fn certify_entry(
     alloc: Global,
     sums: &CellSums<'_>,
@@ -82,7 +82,7 @@ fn certify_entry(
     }
 }
 
-/// How many lines an entry has.
+// How many lines an entry has.
 fn lines_of(outcome: &CubeLine) -> Result<u64, AllocError>
     ensures { IfOk result (λ lines. lines ≡ spec.outcome_lines outcome.now) }
 {
@@ -96,7 +96,7 @@ fn lines_of(outcome: &CubeLine) -> Result<u64, AllocError>
     }
 }
 
-/// Tests entries, of which the first has its line at this number.
+// Tests entries, of which the first has its line at this number.
 fn certify_entries(
     alloc: Global,
     sums: &CellSums<'_>,
@@ -119,7 +119,7 @@ fn certify_entries(
     Ok(())
 }
 
-/// The line of the first cube in the written text.
+// The line of the first cube in the written text.
 fn first_line(report: &Report) -> Result<u64, AllocError>
     ensures { IfOk result (λ line. line ≡ spec.first_line report.now) }
 {
@@ -142,7 +142,7 @@ fn is_unsolvable(outcome: &CubeLine) -> bool
     }
 }
 
-/// How many cubes are reported unsolvable.
+// How many cubes are reported unsolvable.
 fn unsolvable_in(entries: &[CubeReport]) -> Result<u32, AllocError>
     ensures { IfOk result (λ count. count ≡ spec.unsolvable_in entries.now) }
 {

@@ -9,8 +9,8 @@ use indexmap::IndexMap;
 use std::alloc::{AllocError, Global};
 use std::marker::Model;
 
-/// The places of cubes by their names; of cubes of one name that of the first. A clause sees the names in the order in which they were
-/// added.
+// The places of cubes by their names; of cubes of one name that of the first. A clause sees the names in the order in which they were
+// added.
 #[derive(Debug, Drop)]
 pub(crate) struct CubeNames {
     places: IndexMap<Vec<u8>, usize>,
@@ -27,7 +27,7 @@ impl Model for CubeNames {
 }
 
 impl CubeNames {
-    /// No name yet.
+    // No name yet.
     fn new(alloc: Global) -> CubeNames
         ensures { result ≡ [] }
     {
@@ -36,14 +36,14 @@ impl CubeNames {
         }
     }
 
-    /// The place that stands at this name.
+    // The place that stands at this name.
     pub(crate) fn get(&self, name: &[u8]) -> Option<usize>
         ensures { result ≡ spec.look_up self.now name.now }
     {
         self.places.get(name).copied()
     }
 
-    /// Adds a name that is not there.
+    // Adds a name that is not there.
     fn add(&mut self, name: Vec<u8>, place: usize) -> Result<(), AllocError>
         requires { spec.look_up self.old name.items ≡ None }
         ensures { OnOk result (self.new ≡ self.old ++ (name.items, place) ∷ []) }
@@ -52,7 +52,7 @@ impl CubeNames {
         Ok(())
     }
 
-    /// Adds a name, if it is not there.
+    // Adds a name, if it is not there.
     fn note(&mut self, alloc: Global, name: &[u8], place: usize) -> Result<(), AllocError>
         ensures { OnOk result (self.new ≡ spec.noted self.old name.now place) }
     {
@@ -62,7 +62,7 @@ impl CubeNames {
         }
     }
 
-    /// The names of cubes, with their places.
+    // The names of cubes, with their places.
     pub(crate) fn of(alloc: Global, cubes: &[Cube]) -> Result<CubeNames, AllocError>
         ensures { IfOk result (λ names. Finds names cubes.now) }
     {

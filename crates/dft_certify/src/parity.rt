@@ -13,14 +13,14 @@ use dft_lanes::{highest, xor_into};
 use dft_report::SumLine;
 use std::alloc::{AllocError, Global};
 
-/// So many words that are 0.
+// So many words that are 0.
 fn zeros(alloc: Global, count: usize) -> Result<Vec<u64>, AllocError>
     ensures { IfOk result (λ words. words.items ≡ replicate count 0) }
 {
     vec![in alloc; 0; count]
 }
 
-/// Adds the load equation of the cell that a line names.
+// Adds the load equation of the cell that a line names.
 fn add_line(sums: &CellSums<'_>, parity: &mut [u64], line: &SumLine)
     requires sums { IsSums sums.now }
     requires packed { IsPacked (columns_in sums.now) parity.old }
@@ -33,7 +33,7 @@ fn add_line(sums: &CellSums<'_>, parity: &mut [u64], line: &SumLine)
     }
 }
 
-/// Whether no column is in an odd number of the lines, and their bits sum to 1.
+// Whether no column is in an odd number of the lines, and their bits sum to 1.
 pub(crate) fn is_certificate(
     alloc: Global,
     sums: &CellSums<'_>,

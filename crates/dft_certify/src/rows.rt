@@ -9,7 +9,7 @@ use dft_cube_reports::CellSums;
 use dft_netlist::InstanceId;
 use dft_report::Variable;
 
-/// The cell of this name, where it is scanned.
+// The cell of this name, where it is scanned.
 pub(crate) fn scanned_named(sums: &CellSums<'_>, name: &[u8]) -> Option<InstanceId>
     requires { IsSums sums.now }
     ensures { result ≡ spec.scanned_named sums.now.design.now (rows_in sums.now) name.now }
@@ -21,7 +21,7 @@ pub(crate) fn scanned_named(sums: &CellSums<'_>, name: &[u8]) -> Option<Instance
     }
 }
 
-/// The load equation of the scanned cell of this name.
+// The load equation of the scanned cell of this name.
 pub(crate) fn row_named<'a>(sums: &CellSums<'a>, name: &[u8]) -> Option<&'a [u64]>
     requires { IsSums sums.now }
     ensures { MatchOption result (option_and_then (rows_in sums.now) (spec.scanned_named sums.now.design.now (rows_in sums.now) name.now) ≡ None)
@@ -31,14 +31,14 @@ pub(crate) fn row_named<'a>(sums: &CellSums<'a>, name: &[u8]) -> Option<&'a [u64
     sums.row(cell)
 }
 
-/// Whether two variables are one.
+// Whether two variables are one.
 fn same_variable(a: &Variable, b: &Variable) -> bool
     ensures { result ≡ spec.same_variable a.now b.now }
 {
     a.channel == b.channel && a.cycle == b.cycle
 }
 
-/// Whether these are the same variables, in the same order.
+// Whether these are the same variables, in the same order.
 pub(crate) fn same_variables(a: &[Variable], b: &[Variable]) -> bool
     ensures { result ≡ spec.same_variables a.now b.now }
 {

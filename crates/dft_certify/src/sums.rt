@@ -14,7 +14,7 @@ use dft_netlist::InstanceId;
 use dft_report::SumLine;
 use std::alloc::{AllocError, Global};
 
-/// The first place, from one on, at which a cube gives a cell this bit.
+// The first place, from one on, at which a cube gives a cell this bit.
 fn care_from(
     cells: &[(InstanceId, bool)],
     from: usize,
@@ -32,8 +32,8 @@ fn care_from(
     None
 }
 
-/// A place at which a cube gives a cell this bit. It is looked for from one on first, since certificates that are written name cells in the
-/// cube's order.
+// A place at which a cube gives a cell this bit. It is looked for from one on first, since certificates that are written name cells in the
+// cube's order.
 fn care_place(
     cells: &[(InstanceId, bool)],
     next: usize,
@@ -49,7 +49,7 @@ fn care_place(
     }
 }
 
-/// Whether a line has the variables that this cell sums.
+// Whether a line has the variables that this cell sums.
 fn has_variables(
     alloc: Global,
     sums: &CellSums<'_>,
@@ -63,7 +63,7 @@ fn has_variables(
     Ok(same_variables(line.variables.as_slice(), &own))
 }
 
-/// Where a cube gives a cell the bit of a line, if the line is the sum that the cell takes, and the first of the cell.
+// Where a cube gives a cell the bit of a line, if the line is the sum that the cell takes, and the first of the cell.
 fn sum_place(
     alloc: Global,
     sums: &CellSums<'_>,
@@ -84,7 +84,7 @@ fn sum_place(
     Ok(place)
 }
 
-/// The place of the line with this number.
+// The place of the line with this number.
 fn place_of(number: u64) -> Result<Place, AllocError>
     ensures { IfOk result (λ place. place ≡ spec.place_of_line number) }
 {
@@ -94,7 +94,7 @@ fn place_of(number: u64) -> Result<Place, AllocError>
     }
 }
 
-/// What is told of a line: its place, and its cell's name.
+// What is told of a line: its place, and its cell's name.
 fn told(alloc: Global, number: u64, line: &SumLine) -> Result<(Place, Name), AllocError>
     ensures { IfOk result (λ told. (told.0 ≡ spec.place_of_line number) × (told.1 ≡ line.now.name)) }
 {
@@ -103,7 +103,7 @@ fn told(alloc: Global, number: u64, line: &SumLine) -> Result<(Place, Name), All
     Ok((place, name))
 }
 
-/// Tests a line, and notes its cell. The answer is the place in the cube from which the next is looked for.
+// Tests a line, and notes its cell. The answer is the place in the cube from which the next is looked for.
 fn take_sum(
     alloc: Global,
     sums: &CellSums<'_>,
@@ -130,7 +130,7 @@ fn take_sum(
     Ok(place + 1)
 }
 
-/// Tests the lines of a cube, of which the first has this number.
+// Tests the lines of a cube, of which the first has this number.
 pub(crate) fn take_sums(
     alloc: Global,
     sums: &CellSums<'_>,

@@ -13,7 +13,7 @@ use std::test::Fail;
 const COMPILE: &str =
     "compile --netlist n --config c --cubes p --out-netlist o --out-patterns v --out-report r";
 
-/// Tests the certificates of the report `r`.
+// Tests the certificates of the report `r`.
 pub(crate) const CERTIFY: &str = "certify --netlist n --config c --cubes p --report r";
 
 const WITH_LIBRARY: &str = "certify --report r --cubes p --library l --netlist n --config c";
@@ -29,7 +29,7 @@ const ONE_TOLD: &str =
 const PLAIN: &str =
     "edt report 1\ncells 5 chains 2\nchain 0 length 3\nchain 1 length 2\nscanned f0 clk chain 0 place 0\nscanned f1 clk chain 0 place 1\nscanned f2 clk chain 0 place 2\nscanned f3 clk chain 1 place 0\nscanned f4 clk chain 1 place 1\n";
 
-/// What is printed of two unsolvable cubes.
+// What is printed of two unsolvable cubes.
 pub(crate) const TWO: &str = "certified 2 cubes\n";
 
 // A configuration's first part, cubes, a report in two parts, and what is printed. The lines of cubes begin with line 10.

@@ -6,11 +6,11 @@ use dft_top::Status;
 use std::alloc::Global;
 use std::test::Fail;
 
-/// A job of 64 flip-flops: 16 cubes of up to four bits each, in loads of 20 cycles.
+// A job of 64 flip-flops: 16 cubes of up to four bits each, in loads of 20 cycles.
 pub(crate) const SEED_ONE: &str =
     "compiled cells 64 chains 16 cycles 20 patterns 4 encoded 15 unsolvable 1 skipped 0 masked 0 vectors 105\npass 105 vectors 164 compared\n";
 
-/// Of 16, the least: four cubes, in loads of 17 cycles.
+// Of 16, the least: four cubes, in loads of 17 cycles.
 pub(crate) const LEAST: &str =
     "compiled cells 16 chains 16 cycles 17 patterns 3 encoded 4 unsolvable 0 skipped 0 masked 0 vectors 72\npass 72 vectors 105 compared\n";
 

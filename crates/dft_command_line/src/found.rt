@@ -12,7 +12,7 @@ use crate::commands::{CertifyFiles, Command, CompileFiles, JobNumbers, ReplayFil
 use crate::numbers::decimal;
 use clap::ArgMatches;
 
-/// The command with its files or numbers, where no value is empty, the outputs differ and the numbers are in range.
+// The command with its files or numbers, where no value is empty, the outputs differ and the numbers are in range.
 pub(crate) fn command_found<'a>(found: &ArgMatches<'a>) -> Option<Command<'a>>
     ensures { option_map command_of result ≡ command_in (subcommand_rows_of found.now) }
 {
@@ -82,7 +82,7 @@ fn compile_found<'a>(found: &ArgMatches<'a>) -> Option<CompileFiles<'a>>
     }
 }
 
-/// The three files that are saved have different names.
+// The three files that are saved have different names.
 fn outputs_differ(files: &CompileFiles<'_>) -> bool
     ensures { result ≡ spec.outputs_differ (compile_files_of files.now) }
 {
@@ -119,14 +119,14 @@ fn generate_found(found: &ArgMatches<'_>) -> Option<JobNumbers>
     }
 }
 
-/// The number that an option gives in decimal, with at most so many digits.
+// The number that an option gives in decimal, with at most so many digits.
 fn number(found: &ArgMatches<'_>, name: &str, most: usize) -> Option<u64>
     ensures { result ≡ decimal_in most name.now (rows_of (found_of found.now)) }
 {
     decimal(value(found, name)?, most)
 }
 
-/// The value of an option, where it is given and not empty.
+// The value of an option, where it is given and not empty.
 fn value<'a>(found: &ArgMatches<'a>, name: &str) -> Option<&'a str>
     ensures { option_map (λ text. text.now) result ≡ value_in name.now (rows_of (found_of found.now)) }
 {
@@ -136,7 +136,7 @@ fn value<'a>(found: &ArgMatches<'a>, name: &str) -> Option<&'a str>
     }
 }
 
-/// The value of an option that may be left out, where it is not empty.
+// The value of an option that may be left out, where it is not empty.
 fn perhaps<'a>(found: &ArgMatches<'a>, name: &str) -> Option<Option<&'a str>>
     ensures { option_map (λ value. option_map (λ text. text.now) value) result ≡ perhaps_in name.now (rows_of (found_of found.now)) }
 {

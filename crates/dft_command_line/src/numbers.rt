@@ -5,7 +5,7 @@ ghost use Rattle.std.specs.Char.{is_ascii_digit};
 ghost use Rattle.std.specs.List.{list_all};
 ghost use Rattle.dft_command_line.specs.CommandLine.{decimal_of};
 
-/// The number that a text writes in decimal digits, at most so many, where it is below 2^64. Zeros may lead.
+// The number that a text writes in decimal digits, at most so many, where it is below 2^64. Zeros may lead.
 pub(crate) fn decimal(text: &str, most: usize) -> Option<u64>
     ensures { result ≡ decimal_of most text.now }
 {

@@ -8,7 +8,7 @@ ghost use Rattle.dft_command_line.specs.CommandLine.{dft_app, option_rule, plain
 use clap::{Arg, ArgMatches, Command, Error};
 use std::alloc::{AllocError, Global};
 
-/// The words as `clap` reads them.
+// The words as `clap` reads them.
 pub(crate) fn matches<'a>(alloc: Global, words: &'a [String]) -> Result<ArgMatches<'a>, Error>
     ensures kinds { FailsBy (fault_of dft_app (map string_bytes words.entry.now)) result }
     ensures found { IfOk result (λ m. subcommand_rows_of m ≡ subcommand_of dft_app (map string_bytes words.entry.now)) }
@@ -44,7 +44,7 @@ pub(crate) fn matches<'a>(alloc: Global, words: &'a [String]) -> Result<ArgMatch
     dft.try_get_matches_from(words)
 }
 
-/// The words are those behind the program's name, the first is a command, and there is no help.
+// The words are those behind the program's name, the first is a command, and there is no help.
 fn plain<'a>(alloc: Global) -> Command<'a>
     ensures { app_of result ≡ plain_app }
 {
@@ -55,7 +55,7 @@ fn plain<'a>(alloc: Global) -> Command<'a>
         .subcommand_required(true)
 }
 
-/// A command with options that are needed, and others that may be left out.
+// A command with options that are needed, and others that may be left out.
 fn form<'a>(
     alloc: Global,
     name: &'a str,
@@ -69,7 +69,7 @@ fn form<'a>(
     with_options(alloc, command, optional, false)
 }
 
-/// The command with options of these names, each of one value.
+// The command with options of these names, each of one value.
 fn with_options<'a>(
     alloc: Global,
     mut command: Command<'a>,
@@ -86,7 +86,7 @@ fn with_options<'a>(
     Ok(command)
 }
 
-/// An option that has one value.
+// An option that has one value.
 fn option_named<'a>(alloc: Global, name: &'a str, required: bool) -> Arg<'a>
     ensures rule { rule_of result ≡ option_rule (record { name = name.entry.now; required = required }) }
     ensures local { result.global ≡ false }

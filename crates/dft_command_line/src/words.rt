@@ -34,8 +34,8 @@ pub fn command<'a>(alloc: Global, words: &'a [String]) -> Result<Option<Command<
     }
 }
 
-/// Whether no word is `--` or begins with one `-` before other bytes. `clap` would take `--` before or behind the
-/// options.
+// Whether no word is `--` or begins with one `-` before other bytes. `clap` would take `--` before or behind the
+// options.
 fn may_stand(words: &[String]) -> bool
     ensures { result ≡ list_all (λ word. may_stand (string_bytes word)) words.now }
 {

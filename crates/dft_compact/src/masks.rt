@@ -15,7 +15,7 @@ use dft_config::Config;
 use dft_netlist::{NetId, NetlistError};
 use dft_parts::{EdtPorts, PartsBuilder};
 
-/// Makes the masks and the hold bits of all chains, segment by segment.
+// Makes the masks and the hold bits of all chains, segment by segment.
 pub(crate) fn make_masks(
     parts: &mut PartsBuilder,
     config: &Config,
@@ -40,7 +40,7 @@ pub(crate) fn make_masks(
     Ok(masks)
 }
 
-/// How many chains a segment has.
+// How many chains a segment has.
 fn segment_length(config: &Config, segment: u8) -> u16
     requires { IsInRange config.now }
     ensures { result ≡ segments.segment_length config.now segment }
@@ -54,7 +54,7 @@ fn segment_length(config: &Config, segment: u8) -> u16
     }
 }
 
-/// Makes the masks and the hold bits of a segment of so many chains, the first of which takes this net.
+// Makes the masks and the hold bits of a segment of so many chains, the first of which takes this net.
 fn make_segment(
     parts: &mut PartsBuilder,
     ports: &EdtPorts,
@@ -80,7 +80,7 @@ fn make_segment(
     Ok(masks)
 }
 
-/// Makes the mask flip-flop of a chain, which takes this net, and its hold flip-flop.
+// Makes the mask flip-flop of a chain, which takes this net, and its hold flip-flop.
 fn make_mask(
     parts: &mut PartsBuilder,
     ports: &EdtPorts,
@@ -101,7 +101,7 @@ fn make_mask(
     Ok(MaskNets { mask, hold })
 }
 
-/// Makes what the hold flip-flop takes: the mask bit where edt_update is 1, and else the hold bit.
+// Makes what the hold flip-flop takes: the mask bit where edt_update is 1, and else the hold bit.
 fn make_next(
     parts: &mut PartsBuilder,
     ports: &EdtPorts,

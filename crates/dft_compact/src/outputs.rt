@@ -16,7 +16,7 @@ use dft_netlist::{NetId, NetlistError};
 use dft_parts::{EdtPorts, PartsBuilder, push_net};
 use std::alloc::{AllocError, Global};
 
-/// Makes for each chain what the compactor takes of it.
+// Makes for each chain what the compactor takes of it.
 pub(crate) fn make_gated(
     parts: &mut PartsBuilder,
     masks: &[MaskNets],
@@ -38,7 +38,7 @@ pub(crate) fn make_gated(
     Ok(gated)
 }
 
-/// Makes what the compactor takes of a chain: its end, where the hold bit is 0.
+// Makes what the compactor takes of a chain: its end, where the hold bit is 0.
 fn gate_end(parts: &mut PartsBuilder, hold: NetId, end: NetId) -> Result<NetId, NetlistError>
     requires hold { hold.0 < length parts.old.netlist.nets }
     requires end { end.0 < length parts.old.netlist.nets }
@@ -50,7 +50,7 @@ fn gate_end(parts: &mut PartsBuilder, hold: NetId, end: NetId) -> Result<NetId, 
     parts.driving_gate(Kind::And, &[shown, end])
 }
 
-/// Makes the outputs.
+// Makes the outputs.
 pub(crate) fn make_outputs(
     parts: &mut PartsBuilder,
     config: &Config,
@@ -72,7 +72,7 @@ pub(crate) fn make_outputs(
     Ok(())
 }
 
-/// Makes an output: the sum of its group, and a buffer to its port.
+// Makes an output: the sum of its group, and a buffer to its port.
 fn make_output(
     parts: &mut PartsBuilder,
     config: &Config,
@@ -93,7 +93,7 @@ fn make_output(
     parts.gate(Kind::Buf, &[sum], ports.outputs.as_slice()[output])
 }
 
-/// Makes the sum of the group of an output.
+// Makes the sum of the group of an output.
 fn sum_group(
     parts: &mut PartsBuilder,
     config: &Config,
@@ -113,7 +113,7 @@ fn sum_group(
     parts.sum(&terms)
 }
 
-/// The nets of these chains.
+// The nets of these chains.
 fn group_terms(alloc: Global, gated: &[NetId], group: &[u16]) -> Result<Vec<NetId>, AllocError>
     requires { All (λ chain. chain < length gated.now) group.now }
     ensures nets { IfOk result (λ terms. terms.items ≡ map (net_at gated.now) group.now) }

@@ -6,7 +6,7 @@ ghost use Rattle.dft_compile.specs.Texts as spec;
 
 use dft_merge::Placed;
 
-/// How many cubes a pattern loads, no channel bits load, and are skipped.
+// How many cubes a pattern loads, no channel bits load, and are skipped.
 #[derive(Clone, Copy, Debug, PartialEq, Eq)]
 pub(crate) struct Fates {
     pub(crate) encoded: u32,
@@ -14,7 +14,7 @@ pub(crate) struct Fates {
     pub(crate) skipped: u32,
 }
 
-/// Counts what became of cubes.
+// Counts what became of cubes.
 pub(crate) fn fates_of(placed: &[Placed]) -> Fates
     requires { length placed.now ≤ 65536 }
     ensures encoded { result.encoded ≡ count_by spec.is_encoded placed.now }
@@ -36,7 +36,7 @@ pub(crate) fn fates_of(placed: &[Placed]) -> Fates
     fates
 }
 
-/// How many vectors so many patterns take.
+// How many vectors so many patterns take.
 pub(crate) fn vectors_in(cycles: u16, patterns: u32) -> u64
     requires { patterns ≤ 65536 }
     ensures { result ≡ laws.vectors_in cycles patterns }

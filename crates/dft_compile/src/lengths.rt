@@ -12,7 +12,7 @@ use dft_stil_tokens::MAX_TEXT;
 use dft_vectors::{notes_of, signals_of};
 use std::alloc::{AllocError, Global};
 
-/// How many bytes the text of so many patterns has. A text of 2^63 bytes or more is one that no memory holds.
+// How many bytes the text of so many patterns has. A text of 2^63 bytes or more is one that no memory holds.
 fn pattern_bytes(
     alloc: Global,
     scanned: &Design,
@@ -32,7 +32,7 @@ fn pattern_bytes(
     Ok(bytes as i64)
 }
 
-/// Refuses so many patterns where their text would be longer than its limit.
+// Refuses so many patterns where their text would be longer than its limit.
 pub(crate) fn check_length(
     alloc: Global,
     scanned: &Design,

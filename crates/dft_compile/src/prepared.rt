@@ -45,7 +45,7 @@ pub fn prepare(alloc: Global, design: &Design, config: &Config) -> Result<Prepar
     })
 }
 
-/// What a finished design is, beside what the scan rules ask.
+// What a finished design is, beside what the scan rules ask.
 fn ready(design: &Design)
     ensures { (config : Config) → IsInRange config → rules.refusal design.now config ≡ None → IsReady design.now config }
 {

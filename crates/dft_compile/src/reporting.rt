@@ -23,7 +23,7 @@ use dft_report::{Load, MAX_BYTES, Report, ReportError, length_before_cubes, writ
 use dft_scan::{counts_of, report_of};
 use std::alloc::{AllocError, Global};
 
-/// The report but for the cubes.
+// The report but for the cubes.
 fn base_report(
     alloc: Global,
     design: &Design,
@@ -45,7 +45,7 @@ fn base_report(
     Ok(report)
 }
 
-/// How many bytes the report has with its cubes. A text of 2^63 bytes or more is one that no memory holds.
+// How many bytes the report has with its cubes. A text of 2^63 bytes or more is one that no memory holds.
 fn report_bytes(
     alloc: Global,
     report: &Report,
@@ -67,7 +67,7 @@ fn report_bytes(
     Ok(bytes as i64)
 }
 
-/// Refuses a report that would be longer than its limit with the lines of its cubes, before these are kept.
+// Refuses a report that would be longer than its limit with the lines of its cubes, before these are kept.
 fn check_report(
     alloc: Global,
     report: &Report,
@@ -89,8 +89,8 @@ fn check_report(
     Ok(())
 }
 
-/// The text of the report, where this became of the cubes. It is refused where it is longer than its limit, which is told before the
-/// lines of cubes are kept.
+// The text of the report, where this became of the cubes. It is refused where it is longer than its limit, which is told before the
+// lines of cubes are kept.
 pub(crate) fn report_text(
     alloc: Global,
     prepared: &Prepared,

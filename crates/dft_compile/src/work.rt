@@ -34,7 +34,7 @@ use dft_scan::counts_of;
 use dft_stitch::Chains;
 use std::alloc::{AllocError, Global};
 
-/// The load equations of planned chains.
+// The load equations of planned chains.
 pub(crate) fn load_equations(
     alloc: Global,
     design: &Design,
@@ -50,7 +50,7 @@ pub(crate) fn load_equations(
     equations(alloc, config, &lengths, chains.cycles())
 }
 
-/// The cubes of a prepared design, with what became of them, and the merged cubes.
+// The cubes of a prepared design, with what became of them, and the merged cubes.
 #[derive(Clone, Copy)]
 pub(crate) struct Work<'a> {
     pub(crate) alloc: Global,
@@ -64,7 +64,7 @@ pub(crate) struct Work<'a> {
 }
 
 impl<'a> Work<'a> {
-    /// Refuses patterns whose text would be longer than its limit.
+    // Refuses patterns whose text would be longer than its limit.
     fn check_patterns(&self) -> Result<(), CompileError>
         requires { IsWork self.now }
         ensures accepted { OnOk result (pattern_bytes self.now.design.now self.now.config.now (length self.now.merger.now.patterns) ≤ MAX_TEXT) }
@@ -75,7 +75,7 @@ impl<'a> Work<'a> {
         check_length(self.alloc, &self.prepared.scanned, cycles, patterns)
     }
 
-    /// The text of the report.
+    // The text of the report.
     fn report(&self) -> Result<Vec<u8>, CompileError>
         requires { IsWork self.now }
         ensures text { IfOk result (λ text. text.items ≡ texts.report_text self.now.design.now self.now.config.now self.now.equations.now self.now.cubes.now self.now.placed.now) }
@@ -98,7 +98,7 @@ impl<'a> Work<'a> {
         )
     }
 
-    /// The text of the scanned netlist.
+    // The text of the scanned netlist.
     fn netlist(&self) -> Result<Vec<u8>, AllocError>
         requires { IsWork self.now }
         ensures text { IfOk result (λ text. text.items ≡ texts.netlist_text self.now.design.now self.now.config.now) }
@@ -107,7 +107,7 @@ impl<'a> Work<'a> {
         dft_verilog_out::write(self.alloc, &self.prepared.scanned)
     }
 
-    /// What is counted, where so many chains are masked.
+    // What is counted, where so many chains are masked.
     fn counts(&self, masked: u64) -> Counts
         requires { IsWork self.now }
         ensures { result ≡ counts_by self.now.design.now self.now.config.now self.now.placed.now (length self.now.merger.now.patterns) masked }
@@ -129,8 +129,8 @@ impl<'a> Work<'a> {
         }
     }
 
-    /// The texts, and what is counted. They are refused where the text of the patterns, and then where the report would be longer than its
-    /// limit.
+    // The texts, and what is counted. They are refused where the text of the patterns, and then where the report would be longer than its
+    // limit.
     pub(crate) fn texts(&self) -> Result<CompileTexts, CompileError>
         requires { IsWork self.now }
         ensures texts { IfOk result (AreTextsOf self.now.design.now self.now.config.now self.now.cubes.now self.now.equations.now self.now.placed.now self.now.merger.now.patterns) }

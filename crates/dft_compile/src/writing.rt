@@ -16,14 +16,14 @@ use dft_merge::Merger;
 use dft_netlist::Design;
 use std::alloc::Global;
 
-/// The text of patterns, and how many chains are masked in them.
+// The text of patterns, and how many chains are masked in them.
 #[derive(Drop)]
 pub(crate) struct PatternText {
     pub(crate) text: Vec<u8>,
     pub(crate) masked: u64,
 }
 
-/// The text of the patterns of all merged cubes, which is short enough.
+// The text of the patterns of all merged cubes, which is short enough.
 pub(crate) fn pattern_text(
     alloc: Global,
     design: &Design,

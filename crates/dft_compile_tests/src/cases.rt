@@ -5,26 +5,26 @@ use dft_test_support::{Unlike, holds, prints, shelf};
 use dft_top::Status;
 use std::alloc::Global;
 
-/// Compiles the cubes `p` for the netlist `n` under the configuration `c`.
+// Compiles the cubes `p` for the netlist `n` under the configuration `c`.
 pub(crate) const COMPILE: &str =
     "compile --netlist n --config c --cubes p --out-netlist o --out-patterns v --out-report r";
 
 // Replays what was saved.
 const SAVED: &str = "replay --netlist o --patterns v";
 
-/// A compilation. Configurations and reports are in two parts.
+// A compilation. Configurations and reports are in two parts.
 pub(crate) struct Case {
     pub(crate) netlist: &'static str,
     pub(crate) config: (&'static str, &'static str),
     pub(crate) cubes: &'static str,
-    /// What is printed.
+    // What is printed.
     pub(crate) line: &'static str,
     pub(crate) report: (&'static str, &'static str),
-    /// What a replay of the saved files prints.
+    // What a replay of the saved files prints.
     pub(crate) replay: &'static str,
 }
 
-/// Whether a case comes out so.
+// Whether a case comes out so.
 pub(crate) fn comes_out(alloc: Global, case: &Case) -> Result<(), Unlike> {
     let (head, rest) = case.config;
     let held = [
@@ -42,7 +42,7 @@ fn reports(alloc: Global, files: &mut MemoryFiles, case: &Case) -> Result<(), Un
     holds(alloc, files, "r", head, rest)
 }
 
-/// Whether a compilation prints this line, and a replay of what it saved passes with that one.
+// Whether a compilation prints this line, and a replay of what it saved passes with that one.
 pub(crate) fn passes(
     alloc: Global,
     files: &mut MemoryFiles,

@@ -16,7 +16,7 @@ struct Fault {
     put: Option<Failing>,
     status: Status,
     line: &'static str,
-    /// What is saved, each in two parts.
+    // What is saved, each in two parts.
     netlist: (&'static str, &'static str),
     patterns: (&'static str, &'static str),
     report: (&'static str, &'static str),

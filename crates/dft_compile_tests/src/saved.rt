@@ -7,18 +7,18 @@ use dft_top::Status;
 use std::alloc::Global;
 use std::test::Fail;
 
-/// Two cubes that are opposite on one cell.
+// Two cubes that are opposite on one cell.
 pub(crate) const OPPOSITE: &str =
     "cube k0 clk\ncell f2 1\ncell f3 0\nport a 1\nend\ncube k1 clk\ncell f2 0\ncell f3 1\ncell f4 1\nend\n";
 
-/// What is printed.
+// What is printed.
 pub(crate) const LINE: &str =
     "compiled cells 5 chains 2 cycles 5 patterns 2 encoded 2 unsolvable 0 skipped 0 masked 0 vectors 18\n";
 
-/// What is reported of them.
+// What is reported of them.
 pub(crate) const ENCODED: &str = "cube k0 encoded 0\ncube k1 encoded 1\n";
 
-/// The pattern file before its vectors (IEEE 1450-1999), and these.
+// The pattern file before its vectors (IEEE 1450-1999), and these.
 pub(crate) const SIGNALS: &str = "STIL 1.0;
 Signals {
 \"clk\" In;

@@ -48,7 +48,7 @@ pub fn first_repeated(alloc: Global, config: &Config) -> Result<Option<Key>, All
     Ok(None)
 }
 
-/// Whether no reset stands twice, and none is a domain.
+// Whether no reset stands twice, and none is a domain.
 fn resets_differ(alloc: Global, domains: &[Name], resets: &[Name]) -> Result<bool, AllocError>
     ensures { IfOk result (λ differ. differ ≡ spec.resets_differ domains.now resets.now) }
 {
@@ -99,7 +99,7 @@ fn groups_differ(alloc: Global, lists: &[Listed<u16>]) -> Result<bool, AllocErro
     Ok(true)
 }
 
-/// Whether no two of the eight names of ports are the same.
+// Whether no two of the eight names of ports are the same.
 fn ports_differ(alloc: Global, names: &PortNames) -> Result<bool, AllocError>
     ensures { IfOk result (λ differ. differ ≡ all_differ bytes_eq (names_of names.now)) }
 {
@@ -153,7 +153,7 @@ pub fn first_unreached(alloc: Global, config: &Config) -> Result<Option<u16>, Al
     Ok(first_unmarked(&reached, config.chains))
 }
 
-/// Marks the chains of a group.
+// Marks the chains of a group.
 fn mark(reached: &mut [bool], group: &[u16])
     ensures { (chain : ℕ) → chain < length reached.old → slice_index_or reached.new chain false ≡ (slice_index_or reached.old chain false || has same_number group.now chain) }
 {
@@ -165,7 +165,7 @@ fn mark(reached: &mut [bool], group: &[u16])
     }
 }
 
-/// The first chain that is not marked.
+// The first chain that is not marked.
 fn first_unmarked(reached: &[bool], chains: u16) -> Option<u16>
     requires { length reached.now ≡ chains }
     ensures { result ≡ spec.first_not (λ chain. slice_index_or reached.now chain false) 0 chains }

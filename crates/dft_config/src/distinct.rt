@@ -10,7 +10,7 @@ use dft_base::Name;
 use std::alloc::{AllocError, Global};
 use std::collections::BTreeSet;
 
-/// Whether none of the items stands twice.
+// Whether none of the items stands twice.
 fn items_differ<T: Ord + Copy>(alloc: Global, items: &[T]) -> Result<bool, AllocError>
     ensures { IfOk result (λ differ. differ ≡ all_differ (eq_by_cmp T.cmp) items.now) }
 {

@@ -18,7 +18,7 @@ use dft_toml::{Names, table_at, value_at, value_in};
 use std::alloc::Global;
 use toml::Table;
 
-/// The ring for so many chains.
+// The ring for so many chains.
 #[tactic(auto, unfolding(crate::specs::Reading::ring_of))]
 fn ring_of(alloc: Global, chains: u16, table: Option<&Table>) -> Result<RingConfig, Fault>
     ensures ok { IfOk result (λ ring. spec.ring_of chains (option_map (λ t. table_view t.now) table.entry) ≡ Ok ring) }
@@ -38,7 +38,7 @@ fn ring_of(alloc: Global, chains: u16, table: Option<&Table>) -> Result<RingConf
     })
 }
 
-/// The compactor for so many chains.
+// The compactor for so many chains.
 #[tactic(auto, unfolding(crate::specs::Reading::compactor_of))]
 fn compactor_of(alloc: Global, chains: u16, table: Option<&Table>) -> Result<CompactorConfig, Fault>
     ensures ok { IfOk result (λ compactor. spec.compactor_of chains (option_map (λ t. table_view t.now) table.entry) ≡ Ok compactor) }
@@ -53,7 +53,7 @@ fn compactor_of(alloc: Global, chains: u16, table: Option<&Table>) -> Result<Com
     })
 }
 
-/// The names of the ports that steer a load.
+// The names of the ports that steer a load.
 #[derive(Drop)]
 struct Steering {
     scan_enable: Name,
@@ -61,7 +61,7 @@ struct Steering {
     edt_update: Name,
 }
 
-/// The names of the ports that carry bits.
+// The names of the ports that carry bits.
 #[derive(Drop)]
 struct Carrying {
     channel: Name,
@@ -97,7 +97,7 @@ fn carrying_of(alloc: Global, table: Option<&Table>) -> Result<Carrying, Fault>
     })
 }
 
-/// The names of ports.
+// The names of ports.
 #[tactic(auto, unfolding(crate::specs::Reading::names_of_ports))]
 fn names_of_ports(alloc: Global, table: Option<&Table>) -> Result<PortNames, Fault>
     ensures ok { IfOk result (λ names. spec.names_of_ports (option_map (λ t. table_view t.now) table.entry) ≡ Ok names) }
@@ -117,7 +117,7 @@ fn names_of_ports(alloc: Global, table: Option<&Table>) -> Result<PortNames, Fau
     })
 }
 
-/// What is read first: the domains, the resets and the kept cells.
+// What is read first: the domains, the resets and the kept cells.
 #[derive(Drop)]
 struct Clocking {
     domains: Names,
@@ -125,7 +125,7 @@ struct Clocking {
     keep: Names,
 }
 
-/// What is read next: the chains, the loads, and the chains that are always masked.
+// What is read next: the chains, the loads, and the chains that are always masked.
 #[derive(Drop)]
 struct Loading {
     chains: u16,
@@ -135,7 +135,7 @@ struct Loading {
     always_masked: Listed<u16>,
 }
 
-/// The domains, the resets and the kept cells, behind the version.
+// The domains, the resets and the kept cells, behind the version.
 #[tactic(auto, unfolding(crate::specs::Reading::clocking_of))]
 fn clocking_of(alloc: Global, table: &Table) -> Result<Clocking, Fault>
     ensures ok { IfOk result (λ clocking. spec.clocking_of (table_view table.now) ≡ Ok clocking) }
@@ -152,7 +152,7 @@ fn clocking_of(alloc: Global, table: &Table) -> Result<Clocking, Fault>
     })
 }
 
-/// The chains, the loads, and the chains that are always masked.
+// The chains, the loads, and the chains that are always masked.
 #[tactic(auto, unfolding(crate::specs::Reading::loading_of))]
 fn loading_of(alloc: Global, table: &Table) -> Result<Loading, Fault>
     ensures ok { IfOk result (λ loading. spec.loading_of (table_view table.now) ≡ Ok loading) }
@@ -199,7 +199,7 @@ pub fn keys_of(alloc: Global, table: &Table) -> Result<Config, Fault>
     })
 }
 
-/// Refuses the first fault of a configuration whose keys were read.
+// Refuses the first fault of a configuration whose keys were read.
 #[tactic(auto, unfolding(crate::specs::Reading::checked))]
 fn check(alloc: Global, config: &Config, table: &Table) -> Result<(), Fault>
     ensures ok { OnOk result (spec.checked (table_view table.now) config.now ≡ Ok config.now) }

@@ -51,7 +51,7 @@ fn lesser<'a>(least: Option<&'a [u8]>, name: &'a [u8]) -> &'a [u8]
     }
 }
 
-/// The unknown keys, dotted.
+// The unknown keys, dotted.
 fn unknown_keys(alloc: Global, fill: FillRule, table: &Table) -> Result<Vec<Listed<u8>>, AllocError>
     ensures { IfOk result (λ keys. keys.items ≡ spec.unknown_keys fill (table_view table.now)) }
 {
@@ -79,7 +79,7 @@ fn add_on_top(
     Ok(())
 }
 
-/// Whether a key outside of the tables is known.
+// Whether a key outside of the tables is known.
 fn is_top_key(fill: FillRule, key: &str, value: &Value) -> bool
     ensures { result ≡ spec.is_top_key fill key.now (view value.now) }
 {
@@ -134,7 +134,7 @@ fn add_in(
     Ok(())
 }
 
-/// A key behind the key of its table and a point.
+// A key behind the key of its table and a point.
 fn dotted(alloc: Global, section: Section, key: &[u8]) -> Result<Listed<u8>, AllocError>
     ensures { IfOk result (λ name. name ≡ prefix_of section ++ key.now) }
 {

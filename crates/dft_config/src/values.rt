@@ -63,7 +63,7 @@ pub fn numbers(
     all_below(alloc, key, bound, numbers.as_slice())
 }
 
-/// The pairs of numbers at a key.
+// The pairs of numbers at a key.
 fn pairs(alloc: Global, key: Key, value: Option<&Value>) -> Result<Listed<Pair>, Fault>
     ensures ok { IfOk result (λ found. spec.pairs key (option_map (λ v. view v.now) value.entry) ≡ Ok found) }
     ensures refused { IfErr result (λ e. IsFault e → spec.pairs key (option_map (λ v. view v.now) value.entry) ≡ Err e) }

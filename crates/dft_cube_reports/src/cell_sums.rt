@@ -46,7 +46,7 @@ impl<'a> CellSums<'a> {
         }
     }
 
-    /// The name of a cell, if it has one.
+    // The name of a cell, if it has one.
     pub(crate) fn name(&self, alloc: Global, cell: InstanceId) -> Result<Option<Name>, AllocError>
         ensures { IfOk result (λ name. name ≡ spec.cell_name self.now.design.now cell) }
     {
@@ -56,7 +56,7 @@ impl<'a> CellSums<'a> {
         }
     }
 
-    /// The sum that a cell takes, with the bit that a cube gives it.
+    // The sum that a cell takes, with the bit that a cube gives it.
     pub(crate) fn sum(
         &self,
         alloc: Global,
@@ -87,7 +87,7 @@ fn copied(alloc: Global, name: &Option<Name>) -> Result<Option<Name>, AllocError
     }
 }
 
-/// Adds the variable of a column, where it is in a load equation.
+// Adds the variable of a column, where it is in a load equation.
 fn add_variable(
     variables: &mut Vec<Variable>,
     ring: &RingConfig,
@@ -107,7 +107,7 @@ fn add_variable(
     Ok(())
 }
 
-/// The variables of a row of so many columns.
+// The variables of a row of so many columns.
 fn variables(
     alloc: Global,
     ring: &RingConfig,

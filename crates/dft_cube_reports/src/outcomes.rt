@@ -13,7 +13,7 @@ use dft_netlist::InstanceId;
 use dft_report::{CubeLine, CubeReport, SumLine};
 use std::alloc::{AllocError, Global};
 
-/// The sum of the cell at a position of a cube.
+// The sum of the cell at a position of a cube.
 fn sum_at(
     alloc: Global,
     sums: &CellSums<'_>,
@@ -29,7 +29,7 @@ fn sum_at(
     }
 }
 
-/// The sums of the cells at these positions of a cube.
+// The sums of the cells at these positions of a cube.
 fn sums_of(
     alloc: Global,
     sums: &CellSums<'_>,
@@ -47,7 +47,7 @@ fn sums_of(
     Ok(lines)
 }
 
-/// Adds an item, if there is one.
+// Adds an item, if there is one.
 pub(crate) fn add<T: Drop>(items: &mut Vec<T>, item: Option<T>) -> Result<(), AllocError>
     ensures { OnOk result (items.new.items ≡ items.old.items ++ option_to_list item) }
 {
@@ -76,7 +76,7 @@ fn outcome(
     }
 }
 
-/// What became of a cube, under its name.
+// What became of a cube, under its name.
 pub(crate) fn cube_report(
     alloc: Global,
     sums: &CellSums<'_>,

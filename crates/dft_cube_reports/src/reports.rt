@@ -32,7 +32,7 @@ pub fn cube_reports(
     Ok(reports)
 }
 
-/// How many bytes the lines of a cube have.
+// How many bytes the lines of a cube have.
 fn length_of(
     alloc: Global,
     sums: &CellSums<'_>,

@@ -7,7 +7,7 @@ use dft_base::{Listed, Name};
 use dft_netlist::{InstanceId, NetId};
 use std::alloc::{AllocError, Global};
 
-/// A cube that has not ended.
+// A cube that has not ended.
 #[derive(Debug, Drop)]
 pub(crate) struct Draft {
     pub(crate) name: Name,
@@ -17,7 +17,7 @@ pub(crate) struct Draft {
 }
 
 impl Draft {
-    /// The cube that has given nothing yet.
+    // The cube that has given nothing yet.
     pub(crate) fn new(alloc: Global, name: &[u8], domain: u8) -> Result<Draft, AllocError>
         requires { IsName name.now }
         ensures { IfOk result (λ draft. cube_of draft ≡ bare name.now domain) }
@@ -30,7 +30,7 @@ impl Draft {
         })
     }
 
-    /// The cube, where it ends.
+    // The cube, where it ends.
     pub(crate) fn into_cube(self) -> Cube
         ensures { result ≡ cube_of self }
     {

@@ -15,7 +15,7 @@ use crate::looking::{flip_flop_named, is_among};
 use crate::stamps::Stamps;
 use dft_base::Name;
 
-/// Gives a cell its bit in the pending cube.
+// Gives a cell its bit in the pending cube.
 pub(crate) fn give_cell(
     draft: &mut Draft,
     stamps: &mut Stamps,
@@ -55,7 +55,7 @@ fn is_special(here: &Here<'_>, name: &[u8]) -> bool
     is_among(here.config.domains.as_slice(), name) || is_among(here.config.resets.as_slice(), name)
 }
 
-/// Gives a port its bit in the pending cube.
+// Gives a port its bit in the pending cube.
 pub(crate) fn give_port(
     draft: &mut Draft,
     stamps: &mut Stamps,

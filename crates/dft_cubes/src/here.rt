@@ -3,7 +3,7 @@ use dft_config::Config;
 use dft_netlist::Design;
 use std::alloc::Global;
 
-/// Where a line stands, and what its names are looked up in.
+// Where a line stands, and what its names are looked up in.
 #[derive(Clone, Copy)]
 pub(crate) struct Here<'a> {
     pub(crate) alloc: Global,

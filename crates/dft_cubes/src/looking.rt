@@ -17,7 +17,7 @@ fn may_be_scanned(kind: Kind) -> bool
 }
 
 #[tactic(auto, using(dft_netlist::proofs::LookUpLemmas::instance_there))]
-/// The flip-flop with this name that may be scanned.
+// The flip-flop with this name that may be scanned.
 pub(crate) fn flip_flop_named(design: &Design, name: &[u8]) -> Option<InstanceId>
     ensures found { result ≡ rules.flip_flop_named design.now name.now }
     ensures live { IfSome result (λ cell. cell.0 < length design.now.instances) }
@@ -30,7 +30,7 @@ pub(crate) fn flip_flop_named(design: &Design, name: &[u8]) -> Option<InstanceId
     }
 }
 
-/// The place of a clock among the domains.
+// The place of a clock among the domains.
 pub(crate) fn domain_named(config: &Config, clock: &[u8]) -> Option<usize>
     ensures place { result ≡ spec.domain_named config.now clock.now }
     ensures within { IfSome result (λ place. place < length config.now.domains) }
@@ -42,7 +42,7 @@ pub(crate) fn domain_named(config: &Config, clock: &[u8]) -> Option<usize>
         .position(|name| name.as_slice() == clock)
 }
 
-/// Whether one of these names has these bytes.
+// Whether one of these names has these bytes.
 pub(crate) fn is_among(names: &[Name], bytes: &[u8]) -> bool
     ensures { result ≡ spec.is_among names.now bytes.now }
 {

@@ -5,7 +5,7 @@ use indexmap::IndexSet;
 use std::alloc::{AllocError, Global};
 use std::marker::Model;
 
-/// Names, each once, found by their bytes. A clause sees them in the order in which they were added.
+// Names, each once, found by their bytes. A clause sees them in the order in which they were added.
 #[derive(Debug, Drop)]
 pub(crate) struct NameSet {
     names: IndexSet<Vec<u8>>,
@@ -21,7 +21,7 @@ impl Model for NameSet {
 }
 
 impl NameSet {
-    /// No name yet.
+    // No name yet.
     pub(crate) fn new(alloc: Global) -> NameSet
         ensures { result ≡ [] }
     {
@@ -30,14 +30,14 @@ impl NameSet {
         }
     }
 
-    /// Whether this name was added.
+    // Whether this name was added.
     pub(crate) fn has(&self, name: &[u8]) -> bool
         ensures { result ≡ has_name self.now name.now }
     {
         self.names.contains(name)
     }
 
-    /// Adds a name that is not there.
+    // Adds a name that is not there.
     pub(crate) fn add(&mut self, name: Vec<u8>) -> Result<(), AllocError>
         requires { has_name self.old name.items ≡ false }
         ensures { OnOk result (self.new ≡ self.old ++ name.items ∷ []) }

@@ -7,7 +7,7 @@ ghost use Rattle.dft_cubes.specs.Taking.{SaysNames, line_said};
 
 use dft_word_lines::Span;
 
-/// What a line says.
+// What a line says.
 #[derive(Clone, Copy, Debug)]
 pub(crate) enum Said<'a> {
     Begin { name: &'a [u8], clock: &'a [u8] },
@@ -59,7 +59,7 @@ fn said_by_one<'a>(word: &[u8]) -> Option<Said<'a>>
     }
 }
 
-/// What the words of a line say, if that is something.
+// What the words of a line say, if that is something.
 pub(crate) fn said_by<'a>(line: &'a [u8], words: &[Span]) -> Option<Said<'a>>
     requires within { AreWithin line.now words.now }
     requires names { All (λ span. IsName (cut line.now span)) words.now }

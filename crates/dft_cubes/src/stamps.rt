@@ -6,17 +6,17 @@ use crate::draft::Draft;
 use dft_netlist::{InstanceId, NetId};
 use std::alloc::{AllocError, Global};
 
-/// What the pending cube has given: each instance and each net bears the number of the last cube that named it.
+// What the pending cube has given: each instance and each net bears the number of the last cube that named it.
 #[derive(Debug, Drop)]
 pub(crate) struct Stamps {
     pub(crate) cells: Vec<u32>,
     pub(crate) ports: Vec<u32>,
-    /// The number of the pending cube, or of the next one.
+    // The number of the pending cube, or of the next one.
     pub(crate) number: u32,
 }
 
 impl Stamps {
-    /// No cube has named anything.
+    // No cube has named anything.
     pub(crate) fn new(alloc: Global, instances: usize, nets: usize) -> Result<Stamps, AllocError>
         ensures number { IfOk result (λ stamps. stamps.number ≡ 1) }
         ensures cells { IfOk result (λ stamps. (vec_len stamps.cells ≡ instances) × AreStamped 1 stamps.cells.items (cell_in [])) }
@@ -29,7 +29,7 @@ impl Stamps {
         })
     }
 
-    /// Whether the pending cube has given this cell.
+    // Whether the pending cube has given this cell.
     pub(crate) fn has_cell(&self, cell: InstanceId) -> bool
         requires { cell.0 < vec_len self.now.cells }
         ensures { (given : List (InstanceId × Bool)) → AreStamped self.now.number self.now.cells.items (cell_in given) → result ≡ cell_in given cell.0 }
@@ -37,7 +37,7 @@ impl Stamps {
         self.cells[cell.0 as usize] == self.number
     }
 
-    /// Whether the pending cube has given this port.
+    // Whether the pending cube has given this port.
     pub(crate) fn has_port(&self, port: NetId) -> bool
         requires { port.0 < vec_len self.now.ports }
         ensures { (given : List (NetId × Bool)) → AreStamped self.now.number self.now.ports.items (port_in given) → result ≡ port_in given port.0 }

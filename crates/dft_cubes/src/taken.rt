@@ -17,7 +17,7 @@ use dft_base::{Name, Place};
 use dft_netlist::Design;
 use std::alloc::{AllocError, Global};
 
-/// What was taken from the lines so far: the cubes that have ended, the names of all, and the cube that has not ended.
+// What was taken from the lines so far: the cubes that have ended, the names of all, and the cube that has not ended.
 #[derive(Debug, Drop)]
 pub(crate) struct Taken {
     cubes: Vec<Cube>,
@@ -27,7 +27,7 @@ pub(crate) struct Taken {
 }
 
 impl Taken {
-    /// No cube yet.
+    // No cube yet.
     pub(crate) fn new(alloc: Global, design: &Design) -> Result<Taken, AllocError>
         ensures reading { IfOk result (λ taken. reading_of taken ≡ record { cubes = []; pending = None }) }
         ensures taken { IfOk result (IsTaken design.now) }
@@ -69,7 +69,7 @@ impl Taken {
         Ok(domain as u8)
     }
 
-    /// A cube begins.
+    // A cube begins.
     pub(crate) fn begin(
         &mut self,
         here: &Here<'_>,
@@ -93,7 +93,7 @@ impl Taken {
         Ok(())
     }
 
-    /// The pending cube gives a cell its bit.
+    // The pending cube gives a cell its bit.
     pub(crate) fn cell(&mut self, here: &Here<'_>, name: &[u8], bit: bool) -> Result<(), CubeError>
         requires name { IsName name.now }
         requires taken { IsTaken here.now.design.now self.old }
@@ -106,7 +106,7 @@ impl Taken {
         }
     }
 
-    /// The pending cube gives a port its bit.
+    // The pending cube gives a port its bit.
     pub(crate) fn port(&mut self, here: &Here<'_>, name: &[u8], bit: bool) -> Result<(), CubeError>
         requires name { IsName name.now }
         requires taken { IsTaken here.now.design.now self.old }
@@ -119,7 +119,7 @@ impl Taken {
         }
     }
 
-    /// The pending cube ends.
+    // The pending cube ends.
     pub(crate) fn end(&mut self, here: &Here<'_>) -> Result<(), CubeError>
         requires { IsTaken here.now.design.now self.old }
         ensures ok { OnOk result (Passes here.now self.old End self.new) }
@@ -133,7 +133,7 @@ impl Taken {
         Ok(())
     }
 
-    /// The cubes, where the text ends behind this line.
+    // The cubes, where the text ends behind this line.
     pub(crate) fn finish(self, number: u32) -> Result<Vec<Cube>, CubeError>
         ensures cubes { IfOk result (λ cubes. spec.ended number self.cubes.items (pending_of self) ≡ Ok cubes.items) }
         ensures refused { IfErr result (IsRefused (spec.ended number self.cubes.items (pending_of self))) }

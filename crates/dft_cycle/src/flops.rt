@@ -14,7 +14,7 @@ use dft_base::Tri;
 use dft_logic::{Circuit, Latch, differ, list_of, value_at};
 use dft_netlist::NetId;
 
-/// Each flip-flop of a domain takes its next value in the domain's view.
+// Each flip-flop of a domain takes its next value in the domain's view.
 pub(crate) fn take_next(
     circuit: &Circuit,
     domain: NetId,
@@ -33,7 +33,7 @@ pub(crate) fn take_next(
     }
 }
 
-/// What a lock-up is held at after the view of a domain.
+// What a lock-up is held at after the view of a domain.
 fn held_value(latch: Option<Latch>, domain: NetId, values: &[Tri], old: Tri) -> Tri
     ensures { result ≡ held_by (circuits.latch_of latch) domain.0 (spec.value_at values.now) old }
 {
@@ -47,7 +47,7 @@ fn held_value(latch: Option<Latch>, domain: NetId, values: &[Tri], old: Tri) -> 
     }
 }
 
-/// Each lock-up of a domain is held at its input's value in the domain's view. Whether one changed.
+// Each lock-up of a domain is held at its input's value in the domain's view. Whether one changed.
 pub(crate) fn hold(circuit: &Circuit, domain: NetId, values: &[Tri], held: &mut [Tri]) -> bool
     requires circuit { IsCircuit circuit.now }
     requires live { domain.0 < length circuit.now.ops.items }

@@ -12,8 +12,8 @@ use dft_base::Tri;
 use dft_logic::Circuit;
 use dft_netlist::NetId;
 
-/// The looks at the last nets that were asked for. Then the places of the look that was noted last and of the one that
-/// was taken last.
+// The looks at the last nets that were asked for. Then the places of the look that was noted last and of the one that
+// was taken last.
 #[derive(Drop)]
 pub(crate) struct Looks {
     pub looks: Vec<Look>,
@@ -22,7 +22,7 @@ pub(crate) struct Looks {
 }
 
 impl Looks {
-    /// Notes a look at these nets, in place of another.
+    // Notes a look at these nets, in place of another.
     fn note(&mut self, circuit: &Circuit, nets: &[NetId])
         requires looks { AreLooks circuit.now self.old }
         ensures { AreLooks circuit.now self.new }
@@ -32,8 +32,8 @@ impl Looks {
         self.noted = place;
     }
 
-    /// Reads the values of nets at a strobe by a look at them, if there is one; it is made if the nets were asked for
-    /// before. Where there is none, one is noted. Whether they were read.
+    // Reads the values of nets at a strobe by a look at them, if there is one; it is made if the nets were asked for
+    // before. Where there is none, one is noted. Whether they were read.
     pub(crate) fn read(
         &mut self,
         circuit: &Circuit,

@@ -13,7 +13,7 @@ use dft_base::Tri;
 use dft_logic::{Circuit, list_marked, lower, mark_needed, mark_nets, read_list, settle_strobe};
 use dft_netlist::NetId;
 
-/// The nets that are asked for; and once they were asked for again, what they are settled from, at the front of a list.
+// The nets that are asked for; and once they were asked for again, what they are settled from, at the front of a list.
 #[derive(Drop)]
 pub(crate) struct Look {
     pub made: bool,
@@ -22,7 +22,7 @@ pub(crate) struct Look {
     pub count: usize,
 }
 
-/// Whether these are the same nets.
+// Whether these are the same nets.
 fn same_nets(one: &[NetId], other: &[NetId]) -> bool
     ensures { result ≡ true → one.now ≡ other.now }
 {
@@ -37,7 +37,7 @@ fn same_nets(one: &[NetId], other: &[NetId]) -> bool
     true
 }
 
-/// Copies nets into a list that has room for them.
+// Copies nets into a list that has room for them.
 fn copy_nets(nets: &[NetId], list: &mut Vec<NetId>)
     requires { length nets.now ≤ vec_capacity list.old }
     ensures copied { list.new.items ≡ nets.now }
@@ -49,7 +49,7 @@ fn copy_nets(nets: &[NetId], list: &mut Vec<NetId>)
     }
 }
 
-/// The place of the look at these nets.
+// The place of the look at these nets.
 pub(crate) fn find_look(looks: &[Look], nets: &[NetId]) -> Option<usize>
     ensures { IfSome result (λ place. IsAt looks.now place nets.now) }
 {
@@ -61,7 +61,7 @@ pub(crate) fn find_look(looks: &[Look], nets: &[NetId]) -> Option<usize>
     None
 }
 
-/// Lists what nets are settled from, at the front of a list: how many.
+// Lists what nets are settled from, at the front of a list: how many.
 fn list_sources(circuit: &Circuit, nets: &[NetId], marked: &mut [bool], list: &mut [NetId]) -> usize
     requires circuit { IsCircuit circuit.now }
     requires marked { length marked.old ≡ length circuit.now.ops.items }
@@ -76,7 +76,7 @@ fn list_sources(circuit: &Circuit, nets: &[NetId], marked: &mut [bool], list: &m
 }
 
 impl Look {
-    /// Notes the nets that are asked for, if there is room for so many.
+    // Notes the nets that are asked for, if there is room for so many.
     pub(crate) fn note(&mut self, circuit: &Circuit, nets: &[NetId])
         requires look { IsLook circuit.now self.old }
         ensures look { IsLook circuit.now self.new }
@@ -87,7 +87,7 @@ impl Look {
         }
     }
 
-    /// Lists what its nets are settled from.
+    // Lists what its nets are settled from.
     fn make(&mut self, circuit: &Circuit, marked: &mut [bool])
         requires circuit { IsCircuit circuit.now }
         requires marked { length marked.old ≡ length circuit.now.ops.items }
@@ -102,7 +102,7 @@ impl Look {
         lower(marked);
     }
 
-    /// Reads the values of its nets at a strobe.
+    // Reads the values of its nets at a strobe.
     fn read(
         &self,
         circuit: &Circuit,
@@ -122,7 +122,7 @@ impl Look {
         read_list(&self.nets, values, row);
     }
 
-    /// Reads the values of its nets at a strobe; what they are settled from is listed first, if it is not.
+    // Reads the values of its nets at a strobe; what they are settled from is listed first, if it is not.
     pub(crate) fn see(
         &mut self,
         circuit: &Circuit,

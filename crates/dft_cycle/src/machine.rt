@@ -167,7 +167,7 @@ impl<'a> AbstractMachine<'a> {
         }
     }
 
-    /// The same where all nets are settled.
+    // The same where all nets are settled.
     fn look_at_all(&mut self, nets: &[NetId], values: &mut [Tri])
         requires { length values.old ≡ length nets.now }
         ensures same { self.new ≡ self.old }
@@ -209,7 +209,7 @@ impl<'a> AbstractMachine<'a> {
         }
     }
 
-    /// The same by the views of all domains and the least map.
+    // The same by the views of all domains and the least map.
     fn pulse_by_views(&mut self, pulsed: &[bool])
         requires { length pulsed.now ≡ length self.old.clocks }
         ensures { IsPulsed (logic self.old) self.old pulsed.now self.new }
@@ -240,7 +240,7 @@ impl<'a> AbstractMachine<'a> {
     }
 }
 
-/// What an input that gets a value leaves in a flip-flop with this reset or set.
+// What an input that gets a value leaves in a flip-flop with this reset or set.
 fn acted_on(force: Option<Acting>, net: NetId, value: Tri, bit: Tri) -> Tri
     ensures { result ≡ acted (force_at force) net.0 value bit }
 {
@@ -254,7 +254,7 @@ fn acted_on(force: Option<Acting>, net: NetId, value: Tri, bit: Tri) -> Tri
     }
 }
 
-/// An input that gets a value acts on the flip-flops that have it as their reset or set.
+// An input that gets a value acts on the flip-flops that have it as their reset or set.
 fn act(circuit: &Circuit, net: NetId, value: Tri, cells: &mut [Tri])
     requires circuit { IsCircuit circuit.now }
     requires live { net.0 < length circuit.now.ops.items }
@@ -268,7 +268,7 @@ fn act(circuit: &Circuit, net: NetId, value: Tri, cells: &mut [Tri])
     }
 }
 
-/// Lowers the flags of these nets, where no others are up.
+// Lowers the flags of these nets, where no others are up.
 fn lower_flags(nets: &[NetId], flags: &mut [bool])
     requires live { (place : ℕ) (net : NetId) → slice_get nets.now place ≡ Some net → net.0 < length flags.old }
     requires others { (e : ℕ) → is_up flags.old e ≡ true → is_one_of nets.now e ≡ true }
@@ -279,7 +279,7 @@ fn lower_flags(nets: &[NetId], flags: &mut [bool])
     }
 }
 
-/// Flags the clocks that pulse, where no net but clocks was flagged.
+// Flags the clocks that pulse, where no net but clocks was flagged.
 fn mark(clocks: &[NetId], pulsed: &[bool], flags: &mut [bool])
     requires live { (place : ℕ) (clock : NetId) → slice_get clocks.now place ≡ Some clock → clock.0 < length flags.old }
     requires entries { length pulsed.now ≡ length clocks.now }
@@ -294,7 +294,7 @@ fn mark(clocks: &[NetId], pulsed: &[bool], flags: &mut [bool])
     }
 }
 
-/// The flip-flops of the domains that pulse take their next values.
+// The flip-flops of the domains that pulse take their next values.
 fn take(flops: &[FlipFlop], pulsed: &[bool], next: &[Tri], cells: &mut [Tri])
     requires cells { length cells.old ≡ length flops.now }
     requires next { length next.now ≡ length flops.now }
@@ -305,28 +305,28 @@ fn take(flops: &[FlipFlop], pulsed: &[bool], next: &[Tri], cells: &mut [Tri])
     }
 }
 
-/// The next value where the domain pulses.
+// The next value where the domain pulses.
 fn taken(up: bool, next: Tri, old: Tri) -> Tri
     ensures { result ≡ (if up then next else old) }
 {
     if up { next } else { old }
 }
 
-/// So many values that nobody knows.
+// So many values that nobody knows.
 fn unknown(alloc: Global, count: usize) -> Result<Vec<Tri>, AllocError>
     ensures { IfOk result (λ values. values.items ≡ replicate count Tri.Unknown) }
 {
     vec![in alloc; Tri::Unknown; count]
 }
 
-/// So many flags that are down.
+// So many flags that are down.
 fn lowered(alloc: Global, count: usize) -> Result<Vec<bool>, AllocError>
     ensures { IfOk result (λ flags. flags.items ≡ replicate count false) }
 {
     vec![in alloc; false; count]
 }
 
-/// Flags the clocks.
+// Flags the clocks.
 fn flag_clocks(clocks: &[NetId], flags: &mut [bool])
     requires live { AreNets (length flags.old) clocks.now }
     requires clear { flags.old ≡ replicate (length flags.old) false }

@@ -11,9 +11,9 @@ use dft_base::Tri;
 use dft_logic::{Circuit, Entry, Pulse, Shown, settle_strobe};
 use dft_netlist::{InstanceId, NetId};
 
-/// The plans of the last pulses that came again, and what they are made from: the pins, the flip-flop that each net
-/// shows, and room for what nets show and for entries. Then the places of the plan that was noted last and of the one
-/// that was taken last.
+// The plans of the last pulses that came again, and what they are made from: the pins, the flip-flop that each net
+// shows, and room for what nets show and for entries. Then the places of the plan that was noted last and of the one
+// that was taken last.
 #[derive(Drop)]
 pub(crate) struct Plans {
     pub pins: Pins,
@@ -25,7 +25,7 @@ pub(crate) struct Plans {
     pub taken: usize,
 }
 
-/// The place of the plan for a pulse, where nets have these values.
+// The place of the plan for a pulse, where nets have these values.
 fn find_plan(
     plans: &[Plan],
     clocks: &[NetId],
@@ -43,7 +43,7 @@ fn find_plan(
     None
 }
 
-/// The place that is noted next: the one after the last, but not the one that was taken last.
+// The place that is noted next: the one after the last, but not the one that was taken last.
 pub(crate) fn next_place(noted: usize, taken: usize, count: usize) -> usize
     requires { 0 < count }
     ensures { result < count }
@@ -56,7 +56,7 @@ pub(crate) fn next_place(noted: usize, taken: usize, count: usize) -> usize
     }
 }
 
-/// The place after one, round about.
+// The place after one, round about.
 fn place_after(place: usize, count: usize) -> usize
     requires { 0 < count }
     ensures { result < count }
@@ -65,7 +65,7 @@ fn place_after(place: usize, count: usize) -> usize
 }
 
 impl Plans {
-    /// Notes a plan for a pulse, in place of another.
+    // Notes a plan for a pulse, in place of another.
     fn note(&mut self, circuit: &Circuit, clocks: &[NetId], pulse: Pulse<'_>, values: &[Tri])
         requires plans { ArePlans circuit.now clocks.now self.old }
         ensures { ArePlans circuit.now clocks.now self.new }
@@ -75,7 +75,7 @@ impl Plans {
         self.noted = place;
     }
 
-    /// Makes the plan at a place for a pulse.
+    // Makes the plan at a place for a pulse.
     fn make(
         &mut self,
         circuit: &Circuit,
@@ -110,7 +110,7 @@ impl Plans {
         );
     }
 
-    /// The place of the plan for a pulse, which is made if the pulse came before. Where there is none, one is noted.
+    // The place of the plan for a pulse, which is made if the pulse came before. Where there is none, one is noted.
     fn choose(
         &mut self,
         circuit: &Circuit,
@@ -147,7 +147,7 @@ impl Plans {
         }
     }
 
-    /// Takes a pulse by a plan, if there is one for it. Whether it was taken.
+    // Takes a pulse by a plan, if there is one for it. Whether it was taken.
     pub(crate) fn take(
         &mut self,
         circuit: &Circuit,

@@ -21,18 +21,18 @@ use dft_logic::{
 };
 use dft_netlist::{InstanceId, NetId};
 
-/// How far a plan got.
+// How far a plan got.
 #[derive(Clone, Copy)]
 pub(crate) enum Stage {
-    /// It has a key, and is made when its pulse comes again.
+    // It has a key, and is made when its pulse comes again.
     Noted,
     Made,
-    /// There is none for its pulse: something that a flip-flop needs may move.
+    // There is none for its pulse: something that a flip-flop needs may move.
     Barred,
 }
 
-/// What plans are told apart by, beside the clocks that pulse: the ports of resets and sets and the nets of scan
-/// enables. Then the nets that scan enables are settled from, at the front of a list.
+// What plans are told apart by, beside the clocks that pulse: the ports of resets and sets and the nets of scan
+// enables. Then the nets that scan enables are settled from, at the front of a list.
 #[derive(Drop)]
 pub(crate) struct Pins {
     pub ports: Vec<NetId>,
@@ -41,8 +41,8 @@ pub(crate) struct Pins {
     pub count: usize,
 }
 
-/// A pulse that is found in one pass: the clocks that pulse, and the values of ports and of scan enables, in the order
-/// of the pins; then the nets to settle, at the front of a list, and what flip-flops take.
+// A pulse that is found in one pass: the clocks that pulse, and the values of ports and of scan enables, in the order
+// of the pins; then the nets to settle, at the front of a list, and what flip-flops take.
 #[derive(Drop)]
 pub(crate) struct Plan {
     pub stage: Stage,
@@ -54,7 +54,7 @@ pub(crate) struct Plan {
     pub takings: Vec<Taking>,
 }
 
-/// Whether nets have the flags of a row, in their order, and it has no more.
+// Whether nets have the flags of a row, in their order, and it has no more.
 fn has_flags(nets: &[NetId], row: &[bool], flags: &[bool]) -> bool
     ensures { result ≡ true → row.now ≡ flags_of (is_up flags.now) nets.now }
 {
@@ -69,7 +69,7 @@ fn has_flags(nets: &[NetId], row: &[bool], flags: &[bool]) -> bool
     true
 }
 
-/// Reads the flags of nets, in their order.
+// Reads the flags of nets, in their order.
 fn read_flags(nets: &[NetId], flags: &[bool], row: &mut [bool])
     requires { length row.old ≡ length nets.now }
     ensures { row.new ≡ flags_of (is_up flags.now) nets.now }
@@ -80,7 +80,7 @@ fn read_flags(nets: &[NetId], flags: &[bool], row: &mut [bool])
 }
 
 impl Plan {
-    /// Whether it is for this pulse, where nets have these values.
+    // Whether it is for this pulse, where nets have these values.
     pub(crate) fn fits(
         &self,
         clocks: &[NetId],
@@ -101,7 +101,7 @@ impl Plan {
         has_row(&pins.enables, &self.enables, values)
     }
 
-    /// Whether it is made.
+    // Whether it is made.
     fn is_made(&self) -> bool
         ensures { result ≡ true → self.now.stage ≡ Made }
     {
@@ -111,7 +111,7 @@ impl Plan {
         }
     }
 
-    /// Whether it has a key and no more.
+    // Whether it has a key and no more.
     pub(crate) fn is_noted(&self) -> bool
         ensures { result ≡ true → self.now.stage ≡ Noted }
     {
@@ -122,7 +122,7 @@ impl Plan {
     }
 }
 
-/// Settles all nets for the strobe of a pulse, and finds what flip-flops take. Whether all take what is still.
+// Settles all nets for the strobe of a pulse, and finds what flip-flops take. Whether all take what is still.
 fn draw(
     circuit: &Circuit,
     pulse: Pulse<'_>,
@@ -144,7 +144,7 @@ fn draw(
     find_entries(&circuit.flops, pulse, &sights, values, entries)
 }
 
-/// Lists the nets that are settled for flip-flops to take what they take, at the front of a list: how many.
+// Lists the nets that are settled for flip-flops to take what they take, at the front of a list: how many.
 fn list_needs(
     circuit: &Circuit,
     entries: &[Entry],
@@ -165,7 +165,7 @@ fn list_needs(
 }
 
 impl Plan {
-    /// Notes for which pulse it is.
+    // Notes for which pulse it is.
     pub(crate) fn note(
         &mut self,
         clocks: &[NetId],
@@ -185,7 +185,7 @@ impl Plan {
         read_list(&pins.enables, values, &mut self.enables);
     }
 
-    /// Lists what is settled and taken where flip-flops have these entries. All marks are lowered after it.
+    // Lists what is settled and taken where flip-flops have these entries. All marks are lowered after it.
     fn fill(&mut self, circuit: &Circuit, entries: &[Entry], marked: &mut [bool])
         requires circuit { IsCircuit circuit.now }
         requires entries { length entries.now ≡ length circuit.now.flops.items }
@@ -200,7 +200,7 @@ impl Plan {
         lower(marked);
     }
 
-    /// Makes it for a pulse, if all flip-flops take what is still.
+    // Makes it for a pulse, if all flip-flops take what is still.
     pub(crate) fn make(
         &mut self,
         circuit: &Circuit,
@@ -234,7 +234,7 @@ impl Plan {
         }
     }
 
-    /// Takes a pulse by it, if it is made and the pulse is the one that it is for. Whether it was taken.
+    // Takes a pulse by it, if it is made and the pulse is the one that it is for. Whether it was taken.
     pub(crate) fn take(
         &self,
         circuit: &Circuit,

@@ -19,13 +19,13 @@ use dft_logic::{
 use dft_netlist::NetId;
 use std::alloc::{AllocError, Global};
 
-/// How many plans are kept: each has room for every net and every instance.
+// How many plans are kept: each has room for every net and every instance.
 const PLANS: usize = 8;
 
-/// How many looks are kept: each has room for every net twice.
+// How many looks are kept: each has room for every net twice.
 const LOOKS: usize = 4;
 
-/// Lists the ports of resets and sets, at the front of a list: how many. All marks are lowered after it.
+// Lists the ports of resets and sets, at the front of a list: how many. All marks are lowered after it.
 fn list_forces(circuit: &Circuit, marked: &mut [bool], list: &mut [NetId]) -> usize
     requires circuit { IsCircuit circuit.now }
     requires marked { length marked.old ≡ length circuit.now.ops.items }
@@ -40,7 +40,7 @@ fn list_forces(circuit: &Circuit, marked: &mut [bool], list: &mut [NetId]) -> us
     count
 }
 
-/// Lists the nets of scan enables, at the front of a list: how many. They stay marked.
+// Lists the nets of scan enables, at the front of a list: how many. They stay marked.
 fn list_enables(
     circuit: &Circuit,
     entries: &[Entry],
@@ -59,7 +59,7 @@ fn list_enables(
     list_marked(circuit, marked, list)
 }
 
-/// The pins that plans are told apart by, where all entries keep. All marks are lowered after it.
+// The pins that plans are told apart by, where all entries keep. All marks are lowered after it.
 fn pins(
     alloc: Global,
     circuit: &Circuit,
@@ -89,7 +89,7 @@ fn pins(
     })
 }
 
-/// A plan for no clock.
+// A plan for no clock.
 fn plan(alloc: Global, circuit: &Circuit, clocks: &[NetId], pins: &Pins) -> Result<Plan, AllocError>
     ensures { IfOk result (IsPlan circuit.now clocks.now pins.now) }
 {
@@ -109,7 +109,7 @@ fn plan(alloc: Global, circuit: &Circuit, clocks: &[NetId], pins: &Pins) -> Resu
     })
 }
 
-/// So many plans for no clock.
+// So many plans for no clock.
 fn plans(
     alloc: Global,
     circuit: &Circuit,
@@ -128,7 +128,7 @@ fn plans(
 }
 
 impl Plans {
-    /// Room for plans, and what they are made from. All marks are lowered after it.
+    // Room for plans, and what they are made from. All marks are lowered after it.
     pub(crate) fn prepare(
         alloc: Global,
         circuit: &Circuit,
@@ -158,7 +158,7 @@ impl Plans {
     }
 }
 
-/// A look at no net.
+// A look at no net.
 fn look(alloc: Global, circuit: &Circuit) -> Result<Look, AllocError>
     ensures { IfOk result (IsLook circuit.now) }
 {
@@ -173,7 +173,7 @@ fn look(alloc: Global, circuit: &Circuit) -> Result<Look, AllocError>
 }
 
 impl Looks {
-    /// Room for looks.
+    // Room for looks.
     pub(crate) fn prepare(alloc: Global, circuit: &Circuit) -> Result<Looks, AllocError>
         ensures { IfOk result (AreLooks circuit.now) }
     {

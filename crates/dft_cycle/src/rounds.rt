@@ -15,7 +15,7 @@ use dft_base::Tri;
 use dft_logic::{Circuit, FlipFlop, Latch, Pulse, View, differ, flag_at};
 use dft_netlist::NetId;
 
-/// The first clock.
+// The first clock.
 fn first(clocks: &[NetId]) -> NetId
     ensures { (count : ℕ) → AreNets count clocks.now → 0 < count → result.0 < count }
 {
@@ -25,7 +25,7 @@ fn first(clocks: &[NetId]) -> NetId
     }
 }
 
-/// One round: each domain's lock-ups are held at their inputs in its view. Whether one changed.
+// One round: each domain's lock-ups are held at their inputs in its view. Whether one changed.
 fn round(
     circuit: &Circuit,
     pulse: Pulse<'_>,
@@ -72,15 +72,15 @@ fn round(
     changed
 }
 
-/// Whether there is a lock-up.
+// Whether there is a lock-up.
 fn has_latch(latches: &[Option<Latch>]) -> bool
     ensures { result ≡ list_any (λ latch. is_some latch) latches.now }
 {
     latches.iter().any(|latch| latch.is_some())
 }
 
-/// Holds all lock-ups at their inputs in the views of their domains: a round for each net at most, since each round
-/// gets one more level of them right.
+// Holds all lock-ups at their inputs in the views of their domains: a round for each net at most, since each round
+// gets one more level of them right.
 fn hold_lockups(
     circuit: &Circuit,
     pulse: Pulse<'_>,
@@ -112,7 +112,7 @@ fn hold_lockups(
     }
 }
 
-/// The next values of the flip-flops of the pulsed domains, each in the view of its domain.
+// The next values of the flip-flops of the pulsed domains, each in the view of its domain.
 fn next_values(
     circuit: &Circuit,
     pulse: Pulse<'_>,
@@ -157,14 +157,14 @@ fn next_values(
     }
 }
 
-/// The map with the next value where its domain pulses.
+// The map with the next value where its domain pulses.
 fn raised(up: bool, next: Tri, old: Tri) -> Tri
     ensures { result ≡ raised_by up next old }
 {
     if up { old.join(next) } else { old }
 }
 
-/// Joins the next values of the flip-flops of the pulsed domains to the map. Whether one changed.
+// Joins the next values of the flip-flops of the pulsed domains to the map. Whether one changed.
 fn raise(flops: &[FlipFlop], pulsed: &[bool], next: &[Tri], poss: &mut [Tri]) -> bool
     requires poss { length poss.old ≡ length flops.now }
     requires next { length next.now ≡ length flops.now }
@@ -183,7 +183,7 @@ fn raise(flops: &[FlipFlop], pulsed: &[bool], next: &[Tri], poss: &mut [Tri]) ->
     changed
 }
 
-/// How many of the clocks pulse.
+// How many of the clocks pulse.
 fn pulsing(pulsed: &[bool], clocks: &[NetId]) -> usize
     ensures { result ≡ count_by (λ clock. is_up pulsed.now clock.0) clocks.now }
 {
@@ -193,7 +193,7 @@ fn pulsing(pulsed: &[bool], clocks: &[NetId]) -> usize
         .count()
 }
 
-/// Whether one domain pulses at most, and there is no lock-up: then its next values do not depend on the map.
+// Whether one domain pulses at most, and there is no lock-up: then its next values do not depend on the map.
 fn is_alone(circuit: &Circuit, pulsed: &[bool], clocks: &[NetId]) -> bool
     requires circuit { IsCircuit circuit.now }
     requires pulsing { PulsesAmong pulsed.now clocks.now }
@@ -204,7 +204,7 @@ fn is_alone(circuit: &Circuit, pulsed: &[bool], clocks: &[NetId]) -> bool
     !latched && many < 2
 }
 
-/// Whether a turn that changed the map, or not, is followed by another.
+// Whether a turn that changed the map, or not, is followed by another.
 fn goes_on(changed: bool, alone: bool) -> bool
     ensures on { result ≡ true → changed ≡ true }
     ensures off { result ≡ false → (changed ≡ false) ⊎ (alone ≡ true) }
@@ -212,7 +212,7 @@ fn goes_on(changed: bool, alone: bool) -> bool
     changed && !alone
 }
 
-/// One turn of the search for the least map: the next values at the map, joined to it. Whether there is another turn.
+// One turn of the search for the least map: the next values at the map, joined to it. Whether there is another turn.
 fn turn(
     circuit: &Circuit,
     pulse: Pulse<'_>,
@@ -249,8 +249,8 @@ fn turn(
     goes_on(changed, alone)
 }
 
-/// Finds the least map above the old values and above the next value of each flip-flop of a pulsed domain, and these
-/// next values.
+// Finds the least map above the old values and above the next value of each flip-flop of a pulsed domain, and these
+// next values.
 pub(crate) fn find_least(
     circuit: &Circuit,
     pulse: Pulse<'_>,

@@ -10,7 +10,7 @@ use dft_base::Tri;
 use dft_logic::{Circuit, View, differ, list_of, op_value};
 use dft_netlist::NetId;
 
-/// Marks these nets.
+// Marks these nets.
 fn mark_all(nets: &[u32], marked: &mut [bool])
     requires { (k : ℕ) → Has nets.now k → k < length marked.old }
     ensures lowered { (k : ℕ) → is_up marked.new k ≡ false → (is_up marked.old k ≡ false) × (Has nets.now k → ⊥) }
@@ -21,7 +21,7 @@ fn mark_all(nets: &[u32], marked: &mut [bool])
     }
 }
 
-/// Gives a net its driver's value, and marks its readers where that is new. Whether one was marked.
+// Gives a net its driver's value, and marks its readers where that is new. Whether one was marked.
 fn renew(
     circuit: &Circuit,
     view: &View<'_, '_, '_>,
@@ -54,7 +54,7 @@ fn renew(
     !readers.is_empty()
 }
 
-/// Gives each of these nets its driver's value, and marks the readers of those that change. Whether one was marked.
+// Gives each of these nets its driver's value, and marks the readers of those that change. Whether one was marked.
 fn refresh(
     circuit: &Circuit,
     view: &View<'_, '_, '_>,
@@ -77,7 +77,7 @@ fn refresh(
     any
 }
 
-/// Evaluates a net if it is marked, and takes its mark away.
+// Evaluates a net if it is marked, and takes its mark away.
 fn settle_marked(
     circuit: &Circuit,
     view: &View<'_, '_, '_>,
@@ -99,7 +99,7 @@ fn settle_marked(
     }
 }
 
-/// Evaluates the marked nets, in the circuit's order, and the readers of those that change.
+// Evaluates the marked nets, in the circuit's order, and the readers of those that change.
 fn sweep(circuit: &Circuit, view: &View<'_, '_, '_>, values: &mut [Tri], marked: &mut [bool])
     requires circuit { IsCircuit circuit.now }
     requires values { length values.old ≡ length circuit.now.ops.items }
@@ -113,7 +113,7 @@ fn sweep(circuit: &Circuit, view: &View<'_, '_, '_>, values: &mut [Tri], marked:
     }
 }
 
-/// Settles all nets in a view, where only the leaves of its domain and of another may lack their values in it.
+// Settles all nets in a view, where only the leaves of its domain and of another may lack their values in it.
 pub(crate) fn change_view(
     circuit: &Circuit,
     view: &View<'_, '_, '_>,
@@ -148,7 +148,7 @@ pub(crate) fn change_view(
     }
 }
 
-/// Settles all nets in a view, where they have the values that they have from any sources.
+// Settles all nets in a view, where they have the values that they have from any sources.
 pub(crate) fn settle_again(
     circuit: &Circuit,
     view: &View<'_, '_, '_>,
@@ -169,7 +169,7 @@ pub(crate) fn settle_again(
     }
 }
 
-/// Settles all nets in a view, where they are settled in that of another domain.
+// Settles all nets in a view, where they are settled in that of another domain.
 pub(crate) fn enter(
     circuit: &Circuit,
     view: &View<'_, '_, '_>,

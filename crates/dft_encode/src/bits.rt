@@ -13,7 +13,7 @@ use dft_gf2::Fill;
 use dft_merge::{Merger, fill_bits};
 use std::alloc::{AllocError, Global};
 
-/// The channel bits that load a pattern, where these bits fill the columns that are free.
+// The channel bits that load a pattern, where these bits fill the columns that are free.
 fn solved(merger: &Merger<'_>, pattern: u32, like: &[bool]) -> Result<Vec<u64>, AllocError>
     requires pattern { pattern < length merger.now.patterns }
     requires columns { length like.now ≡ columns_in merger.now }
@@ -32,7 +32,7 @@ fn solved(merger: &Merger<'_>, pattern: u32, like: &[bool]) -> Result<Vec<u64>, 
     merger.channel_bits(pattern, &fill)
 }
 
-/// The channel bits that load a pattern, one a column, packed into words.
+// The channel bits that load a pattern, one a column, packed into words.
 pub(crate) fn channel_bits(
     alloc: Global,
     config: &Config,

@@ -14,7 +14,7 @@ use dft_cubes::Merged;
 use dft_expect::{Capturer, Pattern, Response};
 use std::alloc::{AllocError, Global};
 
-/// These patterns with their loads.
+// These patterns with their loads.
 fn loaded<'a>(
     alloc: Global,
     merged: &'a [Merged],
@@ -34,7 +34,7 @@ fn loaded<'a>(
     Ok(patterns)
 }
 
-/// What 512 patterns at most capture, from this number on, with these loads.
+// What 512 patterns at most capture, from this number on, with these loads.
 pub(crate) fn captures(
     finder: &Finder<'_>,
     capturer: &mut Capturer<'_>,

@@ -32,7 +32,7 @@ pub struct Encoded {
     pub masked: u64,
 }
 
-/// Adds all patterns to a list of vectors that has none.
+// Adds all patterns to a list of vectors that has none.
 fn fill_all(finder: &Finder<'_>, list: &mut VectorList<'_>) -> Result<Filled, AllocError>
     requires finder { IsFinder finder.now }
     requires list { list.old ≡ record { design = finder.now.design.now; config = finder.now.config.now; plan = finder.now.chains.now; vectors = []; count = 0 } }
@@ -47,7 +47,7 @@ fn fill_all(finder: &Finder<'_>, list: &mut VectorList<'_>) -> Result<Filled, Al
     fill(finder, &mut capturer, list)
 }
 
-/// The patterns of a list of vectors, behind the last of which nothing else comes.
+// The patterns of a list of vectors, behind the last of which nothing else comes.
 fn finished(
     list: VectorList<'_>,
     written: &Design,
@@ -63,7 +63,7 @@ fn finished(
     }
 }
 
-/// The patterns of all merged cubes.
+// The patterns of all merged cubes.
 fn patterns(finder: &Finder<'_>, written: &Design) -> Result<Encoded, AllocError>
     requires { IsFinder finder.now }
     ensures { IfOk result (IsEncoded written.now finder.now.design.now finder.now.config.now finder.now.chains.now finder.now.merger.now.rows finder.now.merger.now.patterns) }

@@ -17,17 +17,17 @@ use dft_expect::{Capturer, Response};
 use dft_vectors::VectorList;
 use std::alloc::AllocError;
 
-/// So many patterns are captured at once.
+// So many patterns are captured at once.
 const GROUP: usize = 512;
 
-/// What was found of the last pattern, and how many chains are masked, each once for each pattern.
+// What was found of the last pattern, and how many chains are masked, each once for each pattern.
 #[derive(Debug, Drop)]
 pub(crate) struct Filled {
     pub(crate) last: Option<Found>,
     pub(crate) masked: u64,
 }
 
-/// How many chains are masked.
+// How many chains are masked.
 fn masked(masks: &[bool]) -> usize
     ensures value { result ≡ count_by is_set masks.now }
     ensures few { result ≤ length masks.now }
@@ -35,7 +35,7 @@ fn masked(masks: &[bool]) -> usize
     masks.iter().filter(|bit| **bit).count()
 }
 
-/// Adds a pattern to a list of vectors, behind the one before it.
+// Adds a pattern to a list of vectors, behind the one before it.
 fn add(list: &mut VectorList<'_>, last: &Option<Found>, found: &Found) -> Result<(), AllocError>
     requires few { list.old.count < 65536 }
     requires last { IfSome last.now (FitsFound list.old.config list.old.plan) }
@@ -50,7 +50,7 @@ fn add(list: &mut VectorList<'_>, last: &Option<Found>, found: &Found) -> Result
     }
 }
 
-/// Adds the pattern of this number, which is the next one.
+// Adds the pattern of this number, which is the next one.
 fn step(
     finder: &Finder<'_>,
     list: &mut VectorList<'_>,
@@ -74,7 +74,7 @@ fn step(
     Ok(())
 }
 
-/// Adds the patterns from this number on, with these loads and responses.
+// Adds the patterns from this number on, with these loads and responses.
 fn steps(
     finder: &Finder<'_>,
     list: &mut VectorList<'_>,
@@ -96,7 +96,7 @@ fn steps(
     Ok(())
 }
 
-/// Adds the next patterns, so many, which are captured at once.
+// Adds the next patterns, so many, which are captured at once.
 fn group(
     finder: &Finder<'_>,
     capturer: &mut Capturer<'_>,
@@ -118,7 +118,7 @@ fn group(
     steps(finder, list, filled, first, &loads, &responses)
 }
 
-/// Adds all patterns to a list of vectors that has none.
+// Adds all patterns to a list of vectors that has none.
 pub(crate) fn fill(
     finder: &Finder<'_>,
     capturer: &mut Capturer<'_>,

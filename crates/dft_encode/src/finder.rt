@@ -6,7 +6,7 @@ use dft_netlist::Design;
 use dft_stitch::Chains;
 use std::alloc::Global;
 
-/// The design and its configuration, the chains, those that are always masked, and the merged cubes.
+// The design and its configuration, the chains, those that are always masked, and the merged cubes.
 #[derive(Clone, Copy)]
 pub(crate) struct Finder<'a> {
     pub(crate) alloc: Global,

@@ -17,19 +17,19 @@ use dft_stitch::Chains;
 use dft_vectors::Pattern;
 use std::alloc::{AllocError, Global};
 
-/// A pattern, and all that is found of it.
+// A pattern, and all that is found of it.
 #[derive(Debug, Drop)]
 pub(crate) struct Found {
     pub(crate) merged: Merged,
-    /// The channel bits of its load, packed into words.
+    // The channel bits of its load, packed into words.
     pub(crate) bits: Listed<u64>,
-    /// Which chains are masked while it is unloaded.
+    // Which chains are masked while it is unloaded.
     pub(crate) masks: Listed<bool>,
     pub(crate) response: Response,
 }
 
 impl Found {
-    /// The pattern.
+    // The pattern.
     pub(crate) fn pattern(&self) -> Pattern<'_>
         ensures merged { result.merged.now ≡ self.entry.now.merged }
         ensures bits { result.bits.now ≡ self.entry.now.bits }
@@ -45,7 +45,7 @@ impl Found {
     }
 }
 
-/// The same merged cubes once more.
+// The same merged cubes once more.
 fn copied(alloc: Global, merged: &Merged) -> Result<Merged, AllocError>
     ensures { IfOk result (λ copy. copy ≡ merged.now) }
 {
@@ -58,7 +58,7 @@ fn copied(alloc: Global, merged: &Merged) -> Result<Merged, AllocError>
     })
 }
 
-/// The same response once more.
+// The same response once more.
 fn copied_response(alloc: Global, response: &Response) -> Result<Response, AllocError>
     ensures { IfOk result (λ copy. copy ≡ response.now) }
 {
@@ -70,7 +70,7 @@ fn copied_response(alloc: Global, response: &Response) -> Result<Response, Alloc
     })
 }
 
-/// The mask bit of each chain, where these are always masked.
+// The mask bit of each chain, where these are always masked.
 fn mask_bits(
     alloc: Global,
     always: &[bool],
@@ -90,7 +90,7 @@ fn mask_bits(
     masks(alloc, &policy, chains, response)
 }
 
-/// The pattern of this number, where this is its load, and it captures this.
+// The pattern of this number, where this is its load, and it captures this.
 pub(crate) fn find(
     finder: &Finder<'_>,
     number: usize,

@@ -10,16 +10,16 @@ use dft_base::Listed;
 use dft_expect::loaded;
 use std::alloc::AllocError;
 
-/// The load of a pattern.
+// The load of a pattern.
 #[derive(Debug, Drop)]
 pub(crate) struct Load {
-    /// The bits of the channels, one a column, packed into words.
+    // The bits of the channels, one a column, packed into words.
     pub(crate) bits: Listed<u64>,
-    /// What they bring to the cells, chain by chain.
+    // What they bring to the cells, chain by chain.
     pub(crate) cells: Listed<bool>,
 }
 
-/// The load of the pattern of this number.
+// The load of the pattern of this number.
 fn load_of(finder: &Finder<'_>, number: u32) -> Result<Load, AllocError>
     requires finder { IsFinder finder.now }
     requires number { number < length finder.now.merger.now.patterns }
@@ -34,7 +34,7 @@ fn load_of(finder: &Finder<'_>, number: u32) -> Result<Load, AllocError>
     })
 }
 
-/// The loads of so many patterns from this number on.
+// The loads of so many patterns from this number on.
 pub(crate) fn loads(
     finder: &Finder<'_>,
     first: usize,

@@ -34,7 +34,7 @@ fn is_listed(chains: &[u16], chain: u16) -> bool
     false
 }
 
-/// For each chain whether the configuration always masks it.
+// For each chain whether the configuration always masks it.
 pub(crate) fn always_masked(alloc: Global, config: &Config) -> Result<Vec<bool>, AllocError>
     ensures { IfOk result (λ always. always.items ≡ always_of config.now) }
 {

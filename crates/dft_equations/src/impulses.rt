@@ -9,7 +9,7 @@ use dft_config::{Config, Injector, Listed, Tap};
 use std::alloc::{AllocError, Global};
 use std::mem;
 
-// The states that a single 1 brings, for each channel by its own 1 at cycle 0.
+/// The states that a single 1 brings, for each channel by its own 1 at cycle 0.
 pub fn impulses(
     alloc: Global,
     config: &Config,

@@ -7,7 +7,7 @@ use dft_lanes::put;
 use std::alloc::{AllocError, Global};
 use std::marker::Model;
 
-// A bit for each column, packed into words of 64. A clause sees the list of the bits.
+/// A bit for each column, packed into words of 64. A clause sees the list of the bits.
 #[derive(Drop)]
 pub struct Row {
     columns: u32,
@@ -27,7 +27,7 @@ impl Model for Row {
 }
 
 impl Row {
-    // The row of these bits.
+    /// The row of these bits.
     pub fn of_bits(alloc: Global, bits: &[bool]) -> Result<Row, AllocError>
         requires { length bits.now < 2 ^ 32 }
         ensures { IfOk result (λ row. row ≡ bits.now) }
@@ -42,7 +42,7 @@ impl Row {
         })
     }
 
-    // The row whose bits are moved down by so many columns.
+    /// The row whose bits are moved down by so many columns.
     pub fn moved(&self, alloc: Global, places: u32) -> Result<Row, AllocError>
         ensures size { IfOk result (λ row. length row ≡ length self.now) }
         ensures bits { IfOk result (λ row. (column : ℕ) → bit_at row column ≡ bit_at self.now (column + places)) }
@@ -57,7 +57,7 @@ impl Row {
         })
     }
 
-    // The words.
+    /// The words.
     pub fn words(&self) -> &[u64]
         ensures size { length result.now ≡ (length self.now + 63) / 64 }
         ensures packed { (column : ℕ) → packed_bit result.now column ≡ bit_at self.now column }

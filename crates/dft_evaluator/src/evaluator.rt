@@ -106,7 +106,7 @@ impl Evaluator {
     }
 }
 
-/// Either for each net in each pattern.
+// Either for each net in each pattern.
 fn blank(alloc: Global, nets: u32) -> Result<Vec<Wide>, AllocError>
     ensures { IfOk result (λ wides. wides.items ≡ replicate nets unknown_wide) }
 {

@@ -15,7 +15,7 @@ use dft_lanes::{Wide, wide_and, wide_mux, wide_not, wide_or, wide_xor};
 use dft_logic::{Op, Operand};
 use dft_netlist::NetId;
 
-/// What an operand can be.
+// What an operand can be.
 fn operand(operand: &Operand, wides: &[Wide]) -> Wide
     requires { AreWides wides.now }
     ensures { IsWide result (λ p. value_from (values_in wides.now p) (source_at operand.now)) }
@@ -60,7 +60,7 @@ fn xor_of(inputs: &[Operand], wides: &[Wide]) -> Wide
     result
 }
 
-/// What the table gives at the inputs, where those before them put it at this place and the next one weighs this.
+// What the table gives at the inputs, where those before them put it at this place and the next one weighs this.
 fn table_of(table: u64, inputs: &[Operand], wides: &[Wide], place: u32, weight: u32) -> Wide
     requires wides { AreWides wides.now }
     requires place { place + weight * 2 ^ length inputs.now < 64 + weight }
@@ -81,7 +81,7 @@ fn table_of(table: u64, inputs: &[Operand], wides: &[Wide], place: u32, weight: 
     }
 }
 
-/// The output of a gate, a table or a tie.
+// The output of a gate, a table or a tie.
 fn gate(kind: Kind, inputs: &[Operand], wides: &[Wide]) -> Wide
     requires takes { TakesInputs kind (length inputs.now) }
     requires wides { AreWides wides.now }
@@ -115,7 +115,7 @@ fn gate(kind: Kind, inputs: &[Operand], wides: &[Wide]) -> Wide
     }
 }
 
-/// What a net can be: the output of its gate or join, and a source what it is.
+// What a net can be: the output of its gate or join, and a source what it is.
 pub(crate) fn op_wide(op: &Op, net: NetId, wides: &[Wide]) -> Wide
     requires fits { Fits op.now }
     requires wides { AreWides wides.now }

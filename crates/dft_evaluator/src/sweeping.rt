@@ -9,7 +9,7 @@ use crate::gates::op_wide;
 use dft_lanes::Wide;
 use dft_logic::Circuit;
 
-/// Settles all nets in all patterns from what their sources are, in the circuit's order.
+// Settles all nets in all patterns from what their sources are, in the circuit's order.
 pub(crate) fn sweep(circuit: &Circuit, wides: &mut [Wide])
     requires circuit { IsCircuit circuit.now }
     requires nets { length wides.old ≡ length circuit.now.ops.items }

@@ -40,7 +40,7 @@ pub fn all(value: Tri) -> Wide
     }
 }
 
-/// What the net of a number can be, and past the end either.
+// What the net of a number can be, and past the end either.
 pub(crate) fn wide_at(wides: &[Wide], net: u32) -> Wide
     ensures { result ≡ spec.wide_at wides.now net }
 {
@@ -50,7 +50,7 @@ pub(crate) fn wide_at(wides: &[Wide], net: u32) -> Wide
     }
 }
 
-/// The value in a pattern.
+// The value in a pattern.
 pub(crate) fn value_in(wide: &Wide, pattern: u16) -> Tri
     requires { pattern < 512 }
     ensures { result ≡ value_in wide.now pattern }
@@ -66,7 +66,7 @@ pub(crate) fn value_in(wide: &Wide, pattern: u16) -> Tri
     }
 }
 
-/// Whether a value can be this bit.
+// Whether a value can be this bit.
 fn may(value: Tri, bit: bool) -> bool
     ensures { result ≡ spec.may value bit }
 {
@@ -77,7 +77,7 @@ fn may(value: Tri, bit: bool) -> bool
     }
 }
 
-/// Makes the bit at a place this one.
+// Makes the bit at a place this one.
 fn write(row: &mut [u64], place: usize, bit: bool)
     requires { place / 64 < length row.old }
     ensures { (k : ℕ) → packed_bit row.new k ≡ (if k == place then bit else packed_bit row.old k) }
@@ -100,7 +100,7 @@ pub fn set_value(wide: &mut Wide, pattern: u16, value: Tri)
     write(&mut wide.can_one, place, may(value, true));
 }
 
-/// What a net can be whose value in one pattern is set.
+// What a net can be whose value in one pattern is set.
 pub(crate) fn with_value(wide: &Wide, pattern: u16, value: Tri) -> Wide
     requires { pattern < 512 }
     ensures each { (p : ℕ) → value_in result p ≡ (if p == pattern then value else value_in wide.now p) }

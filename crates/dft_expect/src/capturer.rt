@@ -112,7 +112,7 @@ impl<'a> Capturer<'a> {
     }
 }
 
-/// What each net is set to.
+// What each net is set to.
 fn all_settings(
     alloc: Global,
     design: &Design,

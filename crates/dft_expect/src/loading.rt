@@ -16,7 +16,7 @@ use dft_config::{Config, RingConfig};
 use dft_stitch::Chains;
 use std::alloc::{AllocError, Global};
 
-/// The bit that enters a chain from the state after so many cycles.
+// The bit that enters a chain from the state after so many cycles.
 pub(crate) fn entering(
     ring: &RingConfig,
     states: &[Listed<bool>],
@@ -32,7 +32,7 @@ pub(crate) fn entering(
     ring::phase_sum(stages, states[cycle].as_slice())
 }
 
-/// Adds the bits that a load brings to so many cells of a chain, by the states of its cycles.
+// Adds the bits that a load brings to so many cells of a chain, by the states of its cycles.
 fn add_chain(
     loaded: &mut Vec<bool>,
     ring: &RingConfig,

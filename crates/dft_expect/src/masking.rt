@@ -22,7 +22,7 @@ fn is_unknown(value: Tri) -> bool
     }
 }
 
-/// Whether one of the values is unknown.
+// Whether one of the values is unknown.
 fn has_unknown(values: &[Tri]) -> bool
     ensures { result ≡ list_any spec.is_unknown values.now }
 {

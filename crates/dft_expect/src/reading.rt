@@ -18,8 +18,8 @@ use dft_evaluator::Evaluator;
 use dft_netlist::{Design, NetId, Signal};
 use std::alloc::{AllocError, Global};
 
-/// What is read: the settled values of a design, where the next values of its cells are read, and the bits of its output
-/// ports.
+// What is read: the settled values of a design, where the next values of its cells are read, and the bits of its output
+// ports.
 #[derive(Clone, Copy)]
 pub(crate) struct Reading<'a> {
     pub design: &'a Design,
@@ -29,7 +29,7 @@ pub(crate) struct Reading<'a> {
     pub outputs: &'a [NetId],
 }
 
-/// Whether a clock, if there is one, is the one that captures.
+// Whether a clock, if there is one, is the one that captures.
 fn is_same(clock: Option<NetId>, captures: Option<NetId>) -> bool
     ensures { result ≡ same_net clock captures }
 {
@@ -39,7 +39,7 @@ fn is_same(clock: Option<NetId>, captures: Option<NetId>) -> bool
     }
 }
 
-/// The value at what a pin is joined to.
+// The value at what a pin is joined to.
 fn signal_value(evaluator: &Evaluator, signal: Signal, pattern: u16) -> Tri
     requires { pattern < 512 }
     ensures { result ≡ value_of_signal (value_at evaluator.now pattern) signal }
@@ -51,7 +51,7 @@ fn signal_value(evaluator: &Evaluator, signal: Signal, pattern: u16) -> Tri
     }
 }
 
-/// The value of a cell after a capture: its next one where its clock captures, and else the loaded bit.
+// The value of a cell after a capture: its next one where its clock captures, and else the loaded bit.
 fn cell_after(
     evaluator: &Evaluator,
     read: &Read,
@@ -69,7 +69,7 @@ fn cell_after(
     }
 }
 
-/// The values of all cells after a capture.
+// The values of all cells after a capture.
 fn cells(
     alloc: Global,
     reading: &Reading<'_>,
@@ -94,7 +94,7 @@ fn cells(
     Ok(cells)
 }
 
-/// The values of these nets.
+// The values of these nets.
 fn values(
     alloc: Global,
     evaluator: &Evaluator,
@@ -111,7 +111,7 @@ fn values(
     Ok(values)
 }
 
-/// The clock that captures in a pattern, by the place of its domain.
+// The clock that captures in a pattern, by the place of its domain.
 fn clock_of(design: &Design, config: &Config, domain: u8) -> Option<NetId>
     ensures { result ≡ capture_clock design.now config.now domain }
 {
@@ -121,7 +121,7 @@ fn clock_of(design: &Design, config: &Config, domain: u8) -> Option<NetId>
     }
 }
 
-/// What a pattern captures, where its values are settled.
+// What a pattern captures, where its values are settled.
 pub(crate) fn response(
     alloc: Global,
     reading: &Reading<'_>,
@@ -143,7 +143,7 @@ pub(crate) fn response(
     })
 }
 
-/// What each pattern captures, where their values are settled.
+// What each pattern captures, where their values are settled.
 pub(crate) fn responses(
     alloc: Global,
     reading: &Reading<'_>,

@@ -12,15 +12,15 @@ use dft_netlist::{Design, Dir, InstanceId, NetId, Port, Root, Signal};
 use dft_stitch::Chains;
 use std::alloc::{AllocError, Global};
 
-/// Where the next value of a cell is read: the bit of an input port that its clock traces to, and what its data input is
-/// joined to.
+// Where the next value of a cell is read: the bit of an input port that its clock traces to, and what its data input is
+// joined to.
 #[derive(Clone, Copy)]
 pub(crate) struct Read {
     pub clock: Option<NetId>,
     pub input: Signal,
 }
 
-/// The bit of an input port that a pin traces to.
+// The bit of an input port that a pin traces to.
 fn clock_of(design: &Design, pin: Option<Signal>) -> Option<NetId>
     requires { IfSome pin (IsLive (length design.now.nets)) }
     ensures { option_map (λ net. net.0) result ≡ spec.clock_at design.now pin }
@@ -34,7 +34,7 @@ fn clock_of(design: &Design, pin: Option<Signal>) -> Option<NetId>
     }
 }
 
-/// Where the next value of a cell is read.
+// Where the next value of a cell is read.
 fn read_of(design: &Design, cell: InstanceId) -> Read
     ensures { IsReadOf design.now cell.0 result }
 {
@@ -43,7 +43,7 @@ fn read_of(design: &Design, cell: InstanceId) -> Read
     Read { clock, input }
 }
 
-/// What a pin is joined to; one that is not there is joined to nothing.
+// What a pin is joined to; one that is not there is joined to nothing.
 fn or_unconnected(pin: Option<Signal>) -> Signal
     ensures { result ≡ spec.or_unconnected pin }
 {
@@ -53,7 +53,7 @@ fn or_unconnected(pin: Option<Signal>) -> Signal
     }
 }
 
-/// Adds where the next values of these cells are read.
+// Adds where the next values of these cells are read.
 fn add_reads(reads: &mut Vec<Read>, design: &Design, cells: &[InstanceId]) -> Result<(), AllocError>
     ensures { (before : List InstanceId) → AreReads design.now before reads.old.items → OnOk result (AreReads design.now (before ++ cells.now) reads.new.items) }
 {
@@ -63,7 +63,7 @@ fn add_reads(reads: &mut Vec<Read>, design: &Design, cells: &[InstanceId]) -> Re
     Ok(())
 }
 
-/// Where the next values of all cells are read, chain by chain.
+// Where the next values of all cells are read, chain by chain.
 pub(crate) fn reads(
     alloc: Global,
     design: &Design,
@@ -78,7 +78,7 @@ pub(crate) fn reads(
     Ok(reads)
 }
 
-/// Adds the bits of an output port.
+// Adds the bits of an output port.
 fn add_outputs(outputs: &mut Vec<NetId>, port: &Port) -> Result<(), AllocError>
     ensures { OnOk result (outputs.new.items ≡ outputs.old.items ++ bits_out port.now.dir port.now.bits) }
 {
@@ -91,7 +91,7 @@ fn add_outputs(outputs: &mut Vec<NetId>, port: &Port) -> Result<(), AllocError>
     }
 }
 
-/// The bits of the output ports, in order.
+// The bits of the output ports, in order.
 pub(crate) fn outputs(alloc: Global, design: &Design) -> Result<Vec<NetId>, AllocError>
     ensures { IfOk result (λ outputs. outputs.items ≡ output_bits design.now.ports) }
 {

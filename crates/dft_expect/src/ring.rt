@@ -15,7 +15,7 @@ use dft_lanes::has_bit;
 use std::alloc::{AllocError, Global};
 use std::mem;
 
-/// The states after 0 cycles, 1 cycle and so on, one for each cycle of a load of these channel bits.
+// The states after 0 cycles, 1 cycle and so on, one for each cycle of a load of these channel bits.
 pub(crate) fn states(
     alloc: Global,
     ring: &RingConfig,
@@ -36,14 +36,14 @@ pub(crate) fn states(
     Ok(states)
 }
 
-/// The state in which each stage is 0.
+// The state in which each stage is 0.
 fn zero_state(alloc: Global, stages: u8) -> Result<Vec<bool>, AllocError>
     ensures { IfOk result (λ state. state.items ≡ replicate stages false) }
 {
     vec![in alloc; false; stages as usize]
 }
 
-/// The state one step later, where the bits of the channels begin at a place.
+// The state one step later, where the bits of the channels begin at a place.
 fn stepped(
     alloc: Global,
     ring: &RingConfig,
@@ -63,7 +63,7 @@ fn stepped(
     Ok(next)
 }
 
-/// Adds what taps and injectors bring.
+// Adds what taps and injectors bring.
 fn bring(next: &mut [bool], ring: &RingConfig, state: &[bool], bits: &[u64], first: usize)
     requires ring { (chains : ℕ) × IsRingInRange chains ring.now }
     requires stages { length state.now ≡ ring.now.stages }
@@ -76,7 +76,7 @@ fn bring(next: &mut [bool], ring: &RingConfig, state: &[bool], bits: &[u64], fir
     add_injectors(next, ring.injectors.as_slice(), bits, first);
 }
 
-/// The bits of the stages after each; the stage after the last is the first.
+// The bits of the stages after each; the stage after the last is the first.
 fn rotated(alloc: Global, state: &[bool]) -> Result<Vec<bool>, AllocError>
     ensures stages { IfOk result (λ next. length next.items ≡ length state.now) }
     ensures bits { IfOk result (λ next. (stage : ℕ) → stage < length state.now → bit_at next.items stage ≡ bit_at state.now ((stage + 1) % length state.now)) }
@@ -88,7 +88,7 @@ fn rotated(alloc: Global, state: &[bool]) -> Result<Vec<bool>, AllocError>
     Ok(next)
 }
 
-/// Adds what the taps bring from a state.
+// Adds what the taps bring from a state.
 fn add_taps(next: &mut [bool], taps: &[Tap], state: &[bool])
     requires stages { length next.old ≡ length state.now }
     requires within { All (λ tap. (tap.from < length state.now) × (tap.to < length state.now)) taps.now }
@@ -99,7 +99,7 @@ fn add_taps(next: &mut [bool], taps: &[Tap], state: &[bool])
     }
 }
 
-/// Adds what the injectors bring, where the bits of the channels begin at a place.
+// Adds what the injectors bring, where the bits of the channels begin at a place.
 fn add_injectors(next: &mut [bool], injectors: &[Injector], bits: &[u64], first: usize)
     requires small { first < 2 ^ 32 }
     requires within { All (λ injector. (first + injector.channel < 64 * length bits.now) × (injector.stage < length next.old)) injectors.now }
@@ -111,7 +111,7 @@ fn add_injectors(next: &mut [bool], injectors: &[Injector], bits: &[u64], first:
     }
 }
 
-/// Adds a bit to the one at a place.
+// Adds a bit to the one at a place.
 fn add_at(bits: &mut [bool], place: usize, bit: bool)
     requires { place < length bits.old }
     ensures { (k : ℕ) → bit_at bits.new k ≡ xor (bit_at bits.old k) ((place == k) && bit) }
@@ -119,7 +119,7 @@ fn add_at(bits: &mut [bool], place: usize, bit: bool)
     bits[place] ^= bit;
 }
 
-/// The sum of the stages that a chain takes.
+// The sum of the stages that a chain takes.
 pub(crate) fn phase_sum(stages: &[u8], state: &[bool]) -> bool
     requires { All (λ stage. stage < length state.now) stages.now }
     ensures { result ≡ sum_of (bit_at state.now) stages.now }

@@ -17,22 +17,22 @@ use dft_netlist::{Design, InstanceId, NetDriver, NetId};
 use dft_stitch::Chains;
 use std::alloc::{AllocError, Global};
 
-/// What a net is set to before it is settled.
+// What a net is set to before it is settled.
 #[derive(Clone, Copy)]
 pub(crate) enum Setting {
-    /// The bit that a pattern gives an input port.
+    // The bit that a pattern gives an input port.
     Input,
-    /// The bit of a reset or set, which is 1.
+    // The bit of a reset or set, which is 1.
     Reset,
-    /// The bit of a clock port, which is 0.
+    // The bit of a clock port, which is 0.
     Clock,
-    /// The bit of the cell of this number, as they are counted chain by chain, or its inverse.
+    // The bit of the cell of this number, as they are counted chain by chain, or its inverse.
     Cell(usize, bool),
-    /// Nothing that is known.
+    // Nothing that is known.
     Unknown,
 }
 
-/// For each net whether one of these names stands for it, as the bit of an input port.
+// For each net whether one of these names stands for it, as the bit of an input port.
 pub(crate) fn flags(alloc: Global, design: &Design, names: &[Name]) -> Result<Vec<bool>, AllocError>
     ensures { IfOk result (λ flags. AreFlags design.now names.now flags.items) }
 {
@@ -45,7 +45,7 @@ pub(crate) fn flags(alloc: Global, design: &Design, names: &[Name]) -> Result<Ve
     Ok(flags)
 }
 
-/// What the bit of an input port is set to.
+// What the bit of an input port is set to.
 fn port_setting(clock: bool, reset: bool) -> Setting
     ensures { result ≡ spec.port_setting clock reset }
 {
@@ -58,7 +58,7 @@ fn port_setting(clock: bool, reset: bool) -> Setting
     }
 }
 
-/// What the output of an instance is set to, which may be a cell of the chains.
+// What the output of an instance is set to, which may be a cell of the chains.
 fn cell_setting(chains: &Chains, starts: &[usize], instance: InstanceId, inverted: bool) -> Setting
     requires starts { AreStarts chains.now.chains starts.now }
     requires small { length (all_cells chains.now.chains) < 2 ^ 64 }
@@ -73,7 +73,7 @@ fn cell_setting(chains: &Chains, starts: &[usize], instance: InstanceId, inverte
     }
 }
 
-/// Whether the pin of this number of an instance has the inverse of a flip-flop's bit.
+// Whether the pin of this number of an instance has the inverse of a flip-flop's bit.
 fn is_inverted(design: &Design, instance: InstanceId, pin: usize) -> bool
     ensures { result ≡ inverts (slice_get (roles_at design.now instance.0) pin) }
 {
@@ -83,7 +83,7 @@ fn is_inverted(design: &Design, instance: InstanceId, pin: usize) -> bool
     }
 }
 
-/// What the settings of nets are found by: the design, its clocks and its resets by net, and its chains.
+// What the settings of nets are found by: the design, its clocks and its resets by net, and its chains.
 #[derive(Clone, Copy)]
 pub(crate) struct Finding<'a> {
     pub design: &'a Design,
@@ -93,7 +93,7 @@ pub(crate) struct Finding<'a> {
     pub starts: &'a [usize],
 }
 
-/// What a net is set to.
+// What a net is set to.
 fn setting_of(found: &Finding<'_>, net: NetId) -> Setting
     requires net { net.0 < length found.now.design.now.nets }
     requires clocks { length found.now.clocks.now ≡ length found.now.design.now.nets }
@@ -114,7 +114,7 @@ fn setting_of(found: &Finding<'_>, net: NetId) -> Setting
     }
 }
 
-/// What each net is set to.
+// What each net is set to.
 pub(crate) fn settings(alloc: Global, found: &Finding<'_>) -> Result<Vec<Setting>, AllocError>
     requires clocks { length found.now.clocks.now ≡ length found.now.design.now.nets }
     requires resets { length found.now.resets.now ≡ length found.now.design.now.nets }

@@ -20,7 +20,7 @@ use dft_evaluator::{Evaluator, all, set_value, unknown};
 use dft_lanes::Wide;
 use dft_netlist::NetId;
 
-/// The bit of a number, if there is one.
+// The bit of a number, if there is one.
 pub(crate) fn bit_at(bits: &[bool], number: usize) -> Option<bool>
     ensures { result ≡ slice_get bits.now number }
 {
@@ -30,14 +30,14 @@ pub(crate) fn bit_at(bits: &[bool], number: usize) -> Option<bool>
     }
 }
 
-/// The value of a bit.
+// The value of a bit.
 fn known(bit: bool) -> Tri
     ensures { result ≡ spec.or_unknown (Some bit) }
 {
     if bit { Tri::One } else { Tri::Zero }
 }
 
-/// The value of a bit that may not be there.
+// The value of a bit that may not be there.
 pub(crate) fn or_unknown(bit: Option<bool>) -> Tri
     ensures { result ≡ spec.or_unknown bit }
 {
@@ -47,7 +47,7 @@ pub(crate) fn or_unknown(bit: Option<bool>) -> Tri
     }
 }
 
-/// The value of a cell with this bit, or its inverse.
+// The value of a cell with this bit, or its inverse.
 fn cell_value(inverted: bool, bit: Option<bool>) -> Tri
     ensures { result ≡ by.cell_value inverted bit }
 {
@@ -57,7 +57,7 @@ fn cell_value(inverted: bool, bit: Option<bool>) -> Tri
     }
 }
 
-/// What the cell of a number, or its inverse, can be in the patterns.
+// What the cell of a number, or its inverse, can be in the patterns.
 fn cell_wide(patterns: &[Pattern<'_>], number: usize, inverted: bool) -> Wide
     requires { length patterns.now ≤ 512 }
     ensures wide { IsWide result (value_in result) }
@@ -71,7 +71,7 @@ fn cell_wide(patterns: &[Pattern<'_>], number: usize, inverted: bool) -> Wide
     wide
 }
 
-/// What a net with a setting can be, where no pattern gives a port a bit.
+// What a net with a setting can be, where no pattern gives a port a bit.
 fn setting_wide(setting: Setting, patterns: &[Pattern<'_>]) -> Wide
     requires { length patterns.now ≤ 512 }
     ensures wide { IsWide result (value_in result) }
@@ -86,7 +86,7 @@ fn setting_wide(setting: Setting, patterns: &[Pattern<'_>]) -> Wide
     }
 }
 
-/// Sets all nets as they are where no pattern gives a port a bit.
+// Sets all nets as they are where no pattern gives a port a bit.
 fn set_all(evaluator: &mut Evaluator, settings: &[Setting], patterns: &[Pattern<'_>])
     requires patterns { length patterns.now ≤ 512 }
     requires small { length settings.now < 2 ^ 32 }
@@ -100,7 +100,7 @@ fn set_all(evaluator: &mut Evaluator, settings: &[Setting], patterns: &[Pattern<
     }
 }
 
-/// Sets the bit that a pattern gives a port, if it is one that may have it.
+// Sets the bit that a pattern gives a port, if it is one that may have it.
 fn set_port(evaluator: &mut Evaluator, settings: &[Setting], pattern: u16, given: &(NetId, bool))
     requires pattern { pattern < 512 }
     requires nets { length settings.now ≡ length evaluator.old.wides }
@@ -112,7 +112,7 @@ fn set_port(evaluator: &mut Evaluator, settings: &[Setting], pattern: u16, given
     }
 }
 
-/// Sets the bits that a pattern gives ports; of two for one port the first one counts.
+// Sets the bits that a pattern gives ports; of two for one port the first one counts.
 fn set_ports(evaluator: &mut Evaluator, settings: &[Setting], pattern: u16, ports: &[(NetId, bool)])
     requires pattern { pattern < 512 }
     requires nets { length settings.now ≡ length evaluator.old.wides }
@@ -124,7 +124,7 @@ fn set_ports(evaluator: &mut Evaluator, settings: &[Setting], pattern: u16, port
     }
 }
 
-/// Sets the bits that each pattern gives ports.
+// Sets the bits that each pattern gives ports.
 fn set_given(evaluator: &mut Evaluator, settings: &[Setting], patterns: &[Pattern<'_>])
     requires patterns { length patterns.now ≤ 512 }
     requires nets { length settings.now ≡ length evaluator.old.wides }
@@ -138,7 +138,7 @@ fn set_given(evaluator: &mut Evaluator, settings: &[Setting], patterns: &[Patter
     }
 }
 
-/// Sets all nets as the patterns set them.
+// Sets all nets as the patterns set them.
 fn set_sources(evaluator: &mut Evaluator, settings: &[Setting], patterns: &[Pattern<'_>])
     requires patterns { length patterns.now ≤ 512 }
     requires small { length settings.now < 2 ^ 32 }
@@ -151,7 +151,7 @@ fn set_sources(evaluator: &mut Evaluator, settings: &[Setting], patterns: &[Patt
     set_given(evaluator, settings, patterns);
 }
 
-/// Settles all nets as they are before the captures of the patterns.
+// Settles all nets as they are before the captures of the patterns.
 pub(crate) fn settle_all(evaluator: &mut Evaluator, settings: &[Setting], patterns: &[Pattern<'_>])
     requires patterns { length patterns.now ≤ 512 }
     requires small { length settings.now < 2 ^ 32 }

@@ -20,7 +20,7 @@ use dft_config::{Config, RingConfig};
 use dft_stitch::Chains;
 use std::alloc::{AllocError, Global};
 
-/// Where the values of each chain begin.
+// Where the values of each chain begin.
 pub(crate) fn starts(alloc: Global, chains: &Chains) -> Result<Vec<usize>, AllocError>
     requires { length (all_cells chains.now.chains) < 2 ^ 64 }
     ensures { IfOk result (λ starts. AreStarts chains.now.chains starts.items) }
@@ -43,7 +43,7 @@ fn is_one(value: Tri) -> bool
     }
 }
 
-/// What is unloaded: the captured values and where those of each chain begin, and the states of the load that is running.
+// What is unloaded: the captured values and where those of each chain begin, and the states of the load that is running.
 #[derive(Clone, Copy)]
 struct Unload<'a> {
     ring: &'a RingConfig,
@@ -53,7 +53,7 @@ struct Unload<'a> {
     states: &'a [Listed<bool>],
 }
 
-/// What a chain shows in a cycle.
+// What a chain shows in a cycle.
 fn shown(unload: &Unload<'_>, chain: u16, cycle: usize) -> bool
     requires chain { chain < length unload.now.chains.now.chains }
     requires ring { IsRingInRange (length unload.now.chains.now.chains) unload.now.ring.now }
@@ -74,7 +74,7 @@ fn shown(unload: &Unload<'_>, chain: u16, cycle: usize) -> bool
     }
 }
 
-/// What a chain brings to an output in a cycle: nothing where it is masked.
+// What a chain brings to an output in a cycle: nothing where it is masked.
 fn counted(unload: &Unload<'_>, masks: &[bool], chain: u16, cycle: usize) -> bool
     requires chain { chain < length unload.now.chains.now.chains }
     requires ring { IsRingInRange (length unload.now.chains.now.chains) unload.now.ring.now }
@@ -94,7 +94,7 @@ fn counted(unload: &Unload<'_>, masks: &[bool], chain: u16, cycle: usize) -> boo
     }
 }
 
-/// What an output shows in a cycle: the sum over the chains of its group.
+// What an output shows in a cycle: the sum over the chains of its group.
 fn output(unload: &Unload<'_>, masks: &[bool], group: &[u16], cycle: usize) -> bool
     requires group { All (λ chain. chain < length unload.now.chains.now.chains) group.now }
     requires ring { IsRingInRange (length unload.now.chains.now.chains) unload.now.ring.now }
@@ -114,7 +114,7 @@ fn output(unload: &Unload<'_>, masks: &[bool], group: &[u16], cycle: usize) -> b
     sum
 }
 
-/// Adds what each output shows in a cycle.
+// Adds what each output shows in a cycle.
 fn add_cycle(
     expected: &mut Vec<bool>,
     unload: &Unload<'_>,

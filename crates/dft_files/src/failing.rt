@@ -10,7 +10,7 @@ pub struct Failing {
     pub kept: u32,
 }
 
-/// How many bytes the call of this number keeps, where it is to fail.
+// How many bytes the call of this number keeps, where it is to fail.
 pub(crate) fn kept_at(failing: &[Failing], call: u64) -> Option<u32>
     ensures { result ≡ kept_at failing.now call }
 {

@@ -5,7 +5,7 @@ ghost use Rattle.dft_generate.specs.Configurations.{configuration_text};
 
 use std::alloc::{AllocError, Global};
 
-/// The configuration, which is the same for all seeds and sizes.
+// The configuration, which is the same for all seeds and sizes.
 #[tactic(auto, unfolding(crate::specs::Configurations::configuration_text))]
 pub(crate) fn configuration(alloc: Global) -> Result<Vec<u8>, AllocError>
     ensures { IfOk result (λ text. text.items ≡ configuration_text) }

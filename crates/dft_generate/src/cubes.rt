@@ -92,7 +92,7 @@ fn add_cubes(out: &mut Vec<u8>, size: usize, words: &[u32]) -> Result<(), AllocE
     Ok(())
 }
 
-/// The cubes of a job of so many cells that these words give.
+// The cubes of a job of so many cells that these words give.
 pub(crate) fn cubes(alloc: Global, size: usize, words: &[u32]) -> Result<Vec<u8>, AllocError>
     requires some { 0 < size }
     requires small { size ≤ 20000 }

@@ -81,7 +81,7 @@ fn add_cells(out: &mut Vec<u8>, size: usize, words: &[u32]) -> Result<(), AllocE
     Ok(())
 }
 
-/// The netlist of so many cells that these words give.
+// The netlist of so many cells that these words give.
 #[tactic(auto, unfolding(crate::specs::Netlists::netlist_text))]
 pub(crate) fn netlist(alloc: Global, size: usize, words: &[u32]) -> Result<Vec<u8>, AllocError>
     requires some { 0 < size }

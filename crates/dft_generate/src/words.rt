@@ -9,7 +9,7 @@ use rand_core::utils::NextWord;
 use rand_pcg::Lcg64Xsh32;
 use std::alloc::{AllocError, Global};
 
-/// The first words of the generator with this seed.
+// The first words of the generator with this seed.
 pub(crate) fn drawn(alloc: Global, seed: u64, count: usize) -> Result<Vec<u32>, AllocError>
     ensures { IfOk result (λ words. words.items ≡ first_words pcg32 count (generator seed)) }
 {

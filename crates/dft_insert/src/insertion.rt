@@ -41,7 +41,7 @@ pub fn insert(
     Ok(Scanned { design, added })
 }
 
-/// A design that passes is sound, has an order, and has no net with two drivers.
+// A design that passes is sound, has an order, and has no net with two drivers.
 fn see_ready(design: &Design, config: &Config)
     requires range { IsInRange config.now }
     requires passed { rules.refusal design.now config.now ≡ None }
@@ -50,7 +50,7 @@ fn see_ready(design: &Design, config: &Config)
     design.soundness();
 }
 
-/// The design of a netlist that has an order and no net with two drivers.
+// The design of a netlist that has an order and no net with two drivers.
 fn finish(builder: DesignBuilder) -> Result<Design, AllocError>
     requires { CanFinish builder }
     ensures { IfOk result (λ design. design ≡ builder) }

@@ -15,14 +15,14 @@ use dft_cells::{Kind, Role};
 use dft_netlist::{Design, InstanceId, NetDriver, NetId};
 use std::alloc::{AllocError, Global};
 
-/// An instance: its kind and its pins.
+// An instance: its kind and its pins.
 #[derive(Drop)]
 struct Part {
     kind: Kind,
     wires: Vec<Wire>,
 }
 
-/// The instance of this number.
+// The instance of this number.
 fn part_at(alloc: Global, design: &Design, number: InstanceId) -> Result<Part, AllocError>
     requires { number.0 < length design.now.instances }
     ensures kind { IfOk result (λ part. part.kind ≡ kind_at design.now number.0) }
@@ -35,7 +35,7 @@ fn part_at(alloc: Global, design: &Design, number: InstanceId) -> Result<Part, A
     Ok(Part { kind, wires })
 }
 
-/// Whether the pin of this number of an instance has the inverse of a flip-flop's bit.
+// Whether the pin of this number of an instance has the inverse of a flip-flop's bit.
 fn is_inverted(design: &Design, number: InstanceId, pin: usize) -> bool
     requires { number.0 < length design.now.instances }
     ensures { result ≡ inverts (slice_get (roles_at design.now number.0) pin) }
@@ -46,7 +46,7 @@ fn is_inverted(design: &Design, number: InstanceId, pin: usize) -> bool
     }
 }
 
-/// What a net takes its value from.
+// What a net takes its value from.
 fn net_op(alloc: Global, design: &Design, flags: &[bool], net: NetId) -> Result<Op, AllocError>
     requires { net.0 < length design.now.nets }
     ensures { IfOk result (IsOpOf design.now (ports_by flags.now) net.0) }
@@ -80,7 +80,7 @@ fn net_op(alloc: Global, design: &Design, flags: &[bool], net: NetId) -> Result<
     }
 }
 
-/// What each net takes its value from.
+// What each net takes its value from.
 fn net_ops(alloc: Global, design: &Design, flags: &[bool]) -> Result<Vec<Op>, AllocError>
     ensures count { IfOk result (λ ops. length ops.items ≡ length design.now.nets) }
     ensures each { IfOk result (λ ops. (net : ℕ) → net < length design.now.nets → IsOpOf design.now (ports_by flags.now) net (op_at ops.items net)) }
@@ -92,7 +92,7 @@ fn net_ops(alloc: Global, design: &Design, flags: &[bool]) -> Result<Vec<Op>, Al
     Ok(ops)
 }
 
-/// The flip-flop of an instance.
+// The flip-flop of an instance.
 fn instance_flop(
     alloc: Global,
     design: &Design,
@@ -107,7 +107,7 @@ fn instance_flop(
     Ok(flop)
 }
 
-/// The lock-up of an instance, if it is one.
+// The lock-up of an instance, if it is one.
 fn instance_latch(
     alloc: Global,
     design: &Design,
@@ -127,7 +127,7 @@ fn instance_latch(
     }
 }
 
-/// The flip-flops of all instances.
+// The flip-flops of all instances.
 fn flops(alloc: Global, design: &Design, flags: &[bool]) -> Result<Vec<FlipFlop>, AllocError>
     ensures { IfOk result (λ flops. AreFlops design.now (ports_by flags.now) (length design.now.instances) flops.items) }
 {
@@ -138,7 +138,7 @@ fn flops(alloc: Global, design: &Design, flags: &[bool]) -> Result<Vec<FlipFlop>
     Ok(flops)
 }
 
-/// The lock-ups of all instances.
+// The lock-ups of all instances.
 fn latches(alloc: Global, design: &Design, flags: &[bool]) -> Result<Vec<Option<Latch>>, AllocError>
     ensures { IfOk result (λ latches. AreLatches design.now (ports_by flags.now) (length design.now.instances) latches.items) }
 {

@@ -16,7 +16,7 @@ use dft_cells::{Kind, Role};
 use dft_netlist::{Design, InstanceId, NetId, Root};
 use std::alloc::{AllocError, Global};
 
-/// Where a walk back from an operand leads.
+// Where a walk back from an operand leads.
 fn root_of(design: &Design, source: Operand) -> Root
     requires { IsLiveOperand (length design.now.nets) source }
     ensures { shown_root result ≡ traces.root_of design.now (source_at source) }
@@ -28,7 +28,7 @@ fn root_of(design: &Design, source: Operand) -> Root
     }
 }
 
-/// The clock port that a root is, where the clocks are flagged.
+// The clock port that a root is, where the clocks are flagged.
 fn clock_port(flags: &[bool], root: Root) -> Option<NetId>
     ensures { option_map (λ net. net.0) result ≡ logics.domain_of (ports_by flags.now) (shown_root root) }
 {
@@ -42,7 +42,7 @@ fn clock_port(flags: &[bool], root: Root) -> Option<NetId>
     }
 }
 
-/// The domain of an instance with these pins, by the net of its clock port.
+// The domain of an instance with these pins, by the net of its clock port.
 fn domain_of(design: &Design, flags: &[bool], wires: &[Wire]) -> Option<NetId>
     requires { AreLiveWires (length design.now.nets) wires.now }
     ensures { option_map (λ net. net.0) result ≡ logics.domain_at design.now (ports_by flags.now) (found_in role.Clock (map wired_at wires.now)) }
@@ -53,8 +53,8 @@ fn domain_of(design: &Design, flags: &[bool], wires: &[Wire]) -> Option<NetId>
     }
 }
 
-/// What a reset or set is, by its root: `None` where it keeps its flip-flop from being modelled, `Some(None)` where it
-/// never acts.
+// What a reset or set is, by its root: `None` where it keeps its flip-flop from being modelled, `Some(None)` where it
+// never acts.
 fn force_of(flags: &[bool], value: bool, root: Root) -> Option<Option<Acting>>
     ensures { option_map force_at result ≡ logics.force_of (ports_by flags.now) value (shown_root root) }
 {
@@ -69,7 +69,7 @@ fn force_of(flags: &[bool], value: bool, root: Root) -> Option<Option<Acting>>
     }
 }
 
-/// The reset or set of a flip-flop with these pins.
+// The reset or set of a flip-flop with these pins.
 fn forcing(design: &Design, flags: &[bool], wires: &[Wire]) -> Option<Option<Acting>>
     requires { AreLiveWires (length design.now.nets) wires.now }
     ensures { option_map force_at result ≡ logics.forcing design.now (ports_by flags.now) (found_in role.Reset (map wired_at wires.now)) (found_in role.Preset (map wired_at wires.now)) }
@@ -83,7 +83,7 @@ fn forcing(design: &Design, flags: &[bool], wires: &[Wire]) -> Option<Option<Act
     }
 }
 
-/// The scan pins of a flip-flop with these pins, if it has them.
+// The scan pins of a flip-flop with these pins, if it has them.
 fn scan_of(wires: &[Wire]) -> Option<ScanPins>
     ensures { scan_at result ≡ logics.scan_of (found_in role.ScanEnable (map wired_at wires.now)) (found_in role.ScanIn (map wired_at wires.now)) }
 {
@@ -96,7 +96,7 @@ fn scan_of(wires: &[Wire]) -> Option<ScanPins>
     }
 }
 
-/// The data input of an instance with these pins.
+// The data input of an instance with these pins.
 fn data_in(number: InstanceId, wires: &[Wire]) -> Operand
     ensures { source_at result ≡ logics.or_loose number.0 (found_in role.Din (map wired_at wires.now)) }
 {
@@ -106,7 +106,7 @@ fn data_in(number: InstanceId, wires: &[Wire]) -> Operand
     }
 }
 
-/// Whether a kind is a flip-flop.
+// Whether a kind is a flip-flop.
 fn is_flip_flop(kind: Kind) -> bool
     ensures { result ≡ takes_clock kind }
 {
@@ -116,7 +116,7 @@ fn is_flip_flop(kind: Kind) -> bool
     }
 }
 
-/// The flip-flop with these pins, if it is modelled.
+// The flip-flop with these pins, if it is modelled.
 fn modelled(design: &Design, flags: &[bool], number: InstanceId, wires: &[Wire]) -> Option<FlipFlop>
     requires { AreLiveWires (length design.now.nets) wires.now }
     ensures { option_map cell_of result ≡ modelled_in design.now (ports_by flags.now) number.0 (map wired_at wires.now) }
@@ -135,7 +135,7 @@ fn modelled(design: &Design, flags: &[bool], number: InstanceId, wires: &[Wire])
     }
 }
 
-/// The lock-up with these pins, if its clock traces to a clock port.
+// The lock-up with these pins, if its clock traces to a clock port.
 pub(crate) fn latch_of(
     design: &Design,
     flags: &[bool],
@@ -154,7 +154,7 @@ pub(crate) fn latch_of(
     }
 }
 
-/// The flip-flop of an instance; one that no net shows where the instance is no modelled flip-flop.
+// The flip-flop of an instance; one that no net shows where the instance is no modelled flip-flop.
 pub(crate) fn flop_at(
     design: &Design,
     flags: &[bool],
@@ -181,7 +181,7 @@ pub(crate) fn flop_at(
     }
 }
 
-/// What a net takes its value from that is joined to an output pin of an instance with these pins.
+// What a net takes its value from that is joined to an output pin of an instance with these pins.
 pub(crate) fn pin_op(
     alloc: Global,
     design: &Design,

@@ -39,7 +39,7 @@ pub struct Sights<'o, 's> {
 }
 
 impl Sights<'_, '_> {
-    /// The entry that has the value of an operand.
+    // The entry that has the value of an operand.
     fn entry(&self, operand: Operand) -> Entry
         ensures { entry_of result ≡ spec.source_entry (tables.origin_at self.now.origins.now) (source_at operand) }
     {
@@ -53,7 +53,7 @@ impl Sights<'_, '_> {
         }
     }
 
-    /// Whether an operand is as at the strobe in the view of a domain.
+    // Whether an operand is as at the strobe in the view of a domain.
     fn is_still(&self, view: NetId, operand: Operand) -> bool
         ensures { result ≡ spec.is_still_source view.0 (shown_at self.now.shown.now) (source_at operand) }
     {
@@ -64,7 +64,7 @@ impl Sights<'_, '_> {
         }
     }
 
-    /// The entry that has the value of an operand, if it is still.
+    // The entry that has the value of an operand, if it is still.
     fn one(&self, view: NetId, operand: Operand) -> Option<Entry>
         ensures { entry_there result ≡ spec.entry_if (spec.is_still_source view.0 (shown_at self.now.shown.now) (source_at operand)) (Some (spec.source_entry (tables.origin_at self.now.origins.now) (source_at operand))) }
     {
@@ -75,7 +75,7 @@ impl Sights<'_, '_> {
         }
     }
 
-    /// The entry of what a scan cell takes, with this value of its scan enable.
+    // The entry of what a scan cell takes, with this value of its scan enable.
     fn chosen(&self, view: NetId, enable: Tri, scan_in: Operand, data_in: Operand) -> Option<Entry>
         ensures { entry_there result ≡ spec.chosen_entry (spec.is_still_source view.0 (shown_at self.now.shown.now)) (tables.origin_at self.now.origins.now) enable (source_at scan_in) (source_at data_in) }
     {
@@ -90,7 +90,7 @@ impl Sights<'_, '_> {
         }
     }
 
-    /// The entry of what a flip-flop takes, from the strobe's value of its scan enable.
+    // The entry of what a flip-flop takes, from the strobe's value of its scan enable.
     fn taken(
         &self,
         view: NetId,
@@ -111,7 +111,7 @@ impl Sights<'_, '_> {
     }
 }
 
-/// The entry where a reset or set may act.
+// The entry where a reset or set may act.
 fn forced_entry(force: Option<Acting>, ports: &[Tri], entry: Option<Entry>) -> Option<Entry>
     ensures { entry_there result ≡ spec.forced_entry (force_at force) (machine.value_at ports.now) (entry_there entry) }
 {
@@ -128,7 +128,7 @@ fn forced_entry(force: Option<Acting>, ports: &[Tri], entry: Option<Entry>) -> O
     }
 }
 
-/// The entry of a flip-flop, from the strobe's value of its scan enable; none where something that it needs may move.
+// The entry of a flip-flop, from the strobe's value of its scan enable; none where something that it needs may move.
 pub(crate) fn entry_given(
     flop: &FlipFlop,
     pulse: Pulse<'_>,
@@ -169,7 +169,7 @@ pub fn find_entries(
 }
 
 impl Entry {
-    /// The value of the flip-flop of an instance by its entry.
+    // The value of the flip-flop of an instance by its entry.
     pub(crate) fn value(
         self,
         place: usize,
@@ -187,7 +187,7 @@ impl Entry {
         }
     }
 
-    /// The same. Most entries follow another flip-flop, and need not come here.
+    // The same. Most entries follow another flip-flop, and need not come here.
     #[inline(never)]
     fn settled_value(
         self,

@@ -23,7 +23,7 @@ pub fn forced(value: bool, pin: Tri, bit: Tri) -> Tri
     }
 }
 
-/// What a flip-flop takes: its scan input where its scan enable is 1, else its data input.
+// What a flip-flop takes: its scan input where its scan enable is 1, else its data input.
 fn chosen(enable: Tri, scan_in: Tri, data_in: Tri) -> Tri
     ensures { result ≡ tri_chosen enable scan_in data_in }
 {
@@ -34,7 +34,7 @@ fn chosen(enable: Tri, scan_in: Tri, data_in: Tri) -> Tri
     }
 }
 
-/// What a reset or set leaves of a value, if there is one.
+// What a reset or set leaves of a value, if there is one.
 fn forced_by(force: Option<Acting>, ports: &[Tri], bit: Tri) -> Tri
     ensures { result ≡ tri_forced_by (circuits.force_at force) (spec.value_at ports.now) bit }
 {
@@ -45,7 +45,7 @@ fn forced_by(force: Option<Acting>, ports: &[Tri], bit: Tri) -> Tri
 }
 
 impl FlipFlop {
-    /// What it takes in the view with these values.
+    // What it takes in the view with these values.
     fn taken(&self, values: &[Tri]) -> Tri
         ensures { result ≡ taken_at (circuits.cell_of self.now) (spec.value_at values.now) }
     {

@@ -10,7 +10,7 @@ use crate::circuit::{Acting, FlipFlop, Operand, ScanPins};
 use crate::entries::Entry;
 use dft_netlist::NetId;
 
-/// Marks a net; past the end there is none.
+// Marks a net; past the end there is none.
 fn mark_net(net: NetId, marked: &mut [bool])
     ensures { MarksAll marked.old marked.new (net.0 ∷ []) }
 {
@@ -19,7 +19,7 @@ fn mark_net(net: NetId, marked: &mut [bool])
     }
 }
 
-/// Marks the net of an operand.
+// Marks the net of an operand.
 fn mark_operand(operand: &Operand, marked: &mut [bool])
     ensures { MarksAll marked.old marked.new (nets_of (source_at operand.now ∷ [])) }
 {
@@ -30,7 +30,7 @@ fn mark_operand(operand: &Operand, marked: &mut [bool])
     }
 }
 
-/// Marks the nets of the pins that are there for scan: the scan enable's alone, or the scan input's too.
+// Marks the nets of the pins that are there for scan: the scan enable's alone, or the scan input's too.
 fn mark_scan(alone: bool, scan: Option<ScanPins>, marked: &mut [bool])
     ensures { MarksAll marked.old marked.new (scan_needs alone (scan_at scan)) }
 {
@@ -45,7 +45,7 @@ fn mark_scan(alone: bool, scan: Option<ScanPins>, marked: &mut [bool])
     }
 }
 
-/// Marks what has to be settled for a flip-flop with an entry.
+// Marks what has to be settled for a flip-flop with an entry.
 fn mark_entry(flop: &FlipFlop, entry: Entry, marked: &mut [bool])
     ensures { MarksAll marked.old marked.new (entry_needs (cell_of flop.now) (entry_of entry)) }
 {
@@ -75,7 +75,7 @@ pub fn mark_entries(flops: &[FlipFlop], entries: &[Entry], marked: &mut [bool])
     }
 }
 
-/// Marks the port of a reset or set.
+// Marks the port of a reset or set.
 fn mark_force(force: Option<Acting>, marked: &mut [bool])
     ensures { MarksAll marked.old marked.new (force_nets (force_at force)) }
 {

@@ -11,7 +11,7 @@ use crate::settling::flag_at;
 use crate::tables::list_of;
 use dft_netlist::NetId;
 
-/// Whether one of these nets is marked.
+// Whether one of these nets is marked.
 fn any_marked(nets: &[u32], marked: &[bool]) -> bool
     ensures { result ≡ false → (k : ℕ) → Has nets.now k → is_up marked.now k ≡ false }
 {
@@ -23,7 +23,7 @@ fn any_marked(nets: &[u32], marked: &[bool]) -> bool
     false
 }
 
-/// Marks a net if one that is settled from it is marked.
+// Marks a net if one that is settled from it is marked.
 fn mark_read(circuit: &Circuit, net: NetId, marked: &mut [bool])
     requires circuit { IsCircuit circuit.now }
     requires live { net.0 < length circuit.now.ops.items }

@@ -9,7 +9,7 @@ ghost use Rattle.dft_logic.specs.EntryTables.{number_of};
 use crate::circuit::{Circuit, Op, Operand};
 use dft_netlist::{InstanceId, NetId};
 
-/// The flip-flop that a net shows, if it shows one; past the end none does.
+// The flip-flop that a net shows, if it shows one; past the end none does.
 pub(crate) fn origin_at(origins: &[Option<InstanceId>], net: NetId) -> Option<InstanceId>
     ensures { number_of result ≡ tables.origin_at origins.now net.0 }
 {
@@ -19,7 +19,7 @@ pub(crate) fn origin_at(origins: &[Option<InstanceId>], net: NetId) -> Option<In
     }
 }
 
-/// The flip-flop that an operand shows.
+// The flip-flop that an operand shows.
 fn operand_origin(operand: &Operand, origins: &[Option<InstanceId>]) -> Option<InstanceId>
     ensures { number_of result ≡ origin_of (tables.origin_at origins.now) (source_at operand.now) }
 {
@@ -30,7 +30,7 @@ fn operand_origin(operand: &Operand, origins: &[Option<InstanceId>]) -> Option<I
     }
 }
 
-/// The flip-flop that a net shows by its driver.
+// The flip-flop that a net shows by its driver.
 fn op_origin(op: &Op, origins: &[Option<InstanceId>]) -> Option<InstanceId>
     ensures { number_of result ≡ origin_given (tables.origin_at origins.now) (meaning op.now) }
 {

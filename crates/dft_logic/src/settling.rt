@@ -12,7 +12,7 @@ use dft_base::Tri;
 use dft_cells::tri_of;
 use dft_netlist::NetId;
 
-/// The most inputs that a gate or a table has.
+// The most inputs that a gate or a table has.
 const MAX_INPUTS: usize = 8;
 
 /// The value at a place, and `Unknown` past the end.
@@ -77,7 +77,7 @@ pub fn strobe_view(pulse: Pulse<'_>) -> View<'_, '_, '_>
     }
 }
 
-/// The domain of the flip-flop of an instance.
+// The domain of the flip-flop of an instance.
 pub(crate) fn domain_at(flops: &[FlipFlop], instance: u32) -> NetId
     ensures { result.0 ≡ (cell_at (map cell_of flops.now) instance).domain }
 {
@@ -88,7 +88,7 @@ pub(crate) fn domain_at(flops: &[FlipFlop], instance: u32) -> NetId
 }
 
 impl View<'_, '_, '_> {
-    /// The value of a clock.
+    // The value of a clock.
     fn clock(&self, net: NetId) -> Tri
         ensures { result ≡ (if circuits.flag_at self.now.pulse.pulsed.now net.0 then (if net.0 == self.now.domain.0 then Tri.Zero else Tri.Unknown) else Tri.Zero) }
     {
@@ -99,7 +99,7 @@ impl View<'_, '_, '_> {
         }
     }
 
-    /// The value of the flip-flop of an instance.
+    // The value of the flip-flop of an instance.
     fn flop(&self, flops: &[FlipFlop], instance: u32) -> Tri
         ensures { result ≡ (view_base (map cell_of flops.now) self.now).flops instance }
     {
@@ -125,7 +125,7 @@ impl Operand {
     }
 }
 
-/// Writes the values of operands, in order.
+// Writes the values of operands, in order.
 fn gather(inputs: &[Operand], values: &[Tri], row: &mut [Tri])
     requires { length inputs.now ≤ length row.old }
     ensures { take (length inputs.now) row.new ≡ map (value_from (spec.value_at values.now)) (map source_at inputs.now) }
@@ -135,7 +135,7 @@ fn gather(inputs: &[Operand], values: &[Tri], row: &mut [Tri])
     }
 }
 
-/// The inverse where asked for.
+// The inverse where asked for.
 fn inverted(value: Tri, inverse: bool) -> Tri
     ensures { result ≡ (if inverse then settled.inverse value else value) }
 {

@@ -21,7 +21,7 @@ pub enum Shown {
 }
 
 impl Shown {
-    /// Whether what shows this is as at the strobe in the view of a domain.
+    // Whether what shows this is as at the strobe in the view of a domain.
     pub(crate) fn is_still(self, view: NetId) -> bool
         ensures { result ≡ shows.is_still view.0 (shown_of self) }
     {
@@ -32,7 +32,7 @@ impl Shown {
         }
     }
 
-    /// What shows this and another show together.
+    // What shows this and another show together.
     fn with(self, other: Shown) -> Shown
         ensures { shown_of result ≡ shows.with_shown (shown_of self) (shown_of other) }
     {
@@ -50,7 +50,7 @@ impl Shown {
     }
 }
 
-/// What a net shows; past the end nothing.
+// What a net shows; past the end nothing.
 pub(crate) fn shown_here(shown: &[Shown], net: NetId) -> Shown
     ensures { shown_of result ≡ shown_at shown.now net.0 }
 {
@@ -60,7 +60,7 @@ pub(crate) fn shown_here(shown: &[Shown], net: NetId) -> Shown
     }
 }
 
-/// What an operand shows.
+// What an operand shows.
 fn operand_shown(operand: &Operand, shown: &[Shown]) -> Shown
     ensures { shown_of result ≡ shows.shown_by (shown_at shown.now) (nets_of (source_at operand.now ∷ [])) }
 {
@@ -71,7 +71,7 @@ fn operand_shown(operand: &Operand, shown: &[Shown]) -> Shown
     }
 }
 
-/// What a flip-flop or the clock of a domain shows.
+// What a flip-flop or the clock of a domain shows.
 fn domain_shown(pulsed: &[bool], domain: NetId) -> Shown
     ensures { shown_of result ≡ shows.domain_shown (is_up pulsed.now) domain.0 }
 {
@@ -82,7 +82,7 @@ fn domain_shown(pulsed: &[bool], domain: NetId) -> Shown
     }
 }
 
-/// What a lock-up of a domain shows.
+// What a lock-up of a domain shows.
 fn lockup_shown(domain: NetId, input: Shown) -> Shown
     ensures { shown_of result ≡ shows.lockup_shown domain.0 (shown_of input) }
 {
@@ -93,7 +93,7 @@ fn lockup_shown(domain: NetId, input: Shown) -> Shown
     }
 }
 
-/// What the inputs of a gate show together, from the last to the first.
+// What the inputs of a gate show together, from the last to the first.
 fn inputs_shown(inputs: &[Operand], shown: &[Shown]) -> Shown
     ensures { shown_of result ≡ shows.shown_by (shown_at shown.now) (nets_of (map source_at inputs.now)) }
 {
@@ -104,7 +104,7 @@ fn inputs_shown(inputs: &[Operand], shown: &[Shown]) -> Shown
     together
 }
 
-/// What a net shows by its driver.
+// What a net shows by its driver.
 fn op_shown(op: &Op, net: NetId, flops: &[FlipFlop], pulsed: &[bool], shown: &[Shown]) -> Shown
     ensures { shown_of result ≡ shown_in (map cell_of flops.now) (is_up pulsed.now) (shown_at shown.now) net.0 (meaning op.now) }
 {

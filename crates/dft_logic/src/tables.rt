@@ -22,7 +22,7 @@ pub fn list_of(table: &[Numbers], place: NetId) -> &[u32]
     }
 }
 
-/// So many empty lists.
+// So many empty lists.
 fn empty(alloc: Global, count: usize) -> Result<Vec<Numbers>, AllocError>
     ensures { IfOk result (λ table. table.items ≡ replicate count []) }
 {
@@ -33,7 +33,7 @@ fn empty(alloc: Global, count: usize) -> Result<Vec<Numbers>, AllocError>
     Ok(table)
 }
 
-/// Lists a number at a place of the table; past its end there is none.
+// Lists a number at a place of the table; past its end there is none.
 fn add(table: &mut Vec<Numbers>, place: NetId, number: u32) -> Result<(), AllocError>
     ensures { OnOk result (IsAdded table.old.items (place.0 ∷ []) number table.new.items) }
 {
@@ -43,7 +43,7 @@ fn add(table: &mut Vec<Numbers>, place: NetId, number: u32) -> Result<(), AllocE
     Ok(())
 }
 
-/// Lists a number at a place, if there is one.
+// Lists a number at a place, if there is one.
 fn add_at(table: &mut Vec<Numbers>, place: Option<NetId>, number: u32) -> Result<(), AllocError>
     ensures { OnOk result (IsAdded table.old.items (listed place) number table.new.items) }
 {
@@ -53,7 +53,7 @@ fn add_at(table: &mut Vec<Numbers>, place: Option<NetId>, number: u32) -> Result
     }
 }
 
-/// The net of an operand, if it is joined to one.
+// The net of an operand, if it is joined to one.
 fn net_of(operand: &Operand) -> Option<NetId>
     ensures { listed result ≡ nets_of (source_at operand.now ∷ []) }
 {
@@ -63,7 +63,7 @@ fn net_of(operand: &Operand) -> Option<NetId>
     }
 }
 
-/// Lists a net as a reader of the nets of operands.
+// Lists a net as a reader of the nets of operands.
 fn add_inputs(table: &mut Vec<Numbers>, inputs: &[Operand], reader: u32) -> Result<(), AllocError>
     ensures { OnOk result (IsAdded table.old.items (nets_of (map source_at inputs.now)) reader table.new.items) }
 {
@@ -73,7 +73,7 @@ fn add_inputs(table: &mut Vec<Numbers>, inputs: &[Operand], reader: u32) -> Resu
     Ok(())
 }
 
-/// Lists a net as a reader of the nets that its value is settled from.
+// Lists a net as a reader of the nets that its value is settled from.
 fn add_reader(table: &mut Vec<Numbers>, op: &Op, reader: u32) -> Result<(), AllocError>
     ensures { OnOk result (IsAdded table.old.items (reads (meaning op.now)) reader table.new.items) }
 {
@@ -84,7 +84,7 @@ fn add_reader(table: &mut Vec<Numbers>, op: &Op, reader: u32) -> Result<(), Allo
     }
 }
 
-/// The readers of each net.
+// The readers of each net.
 pub(crate) fn readers(alloc: Global, ops: &[Op]) -> Result<Vec<Numbers>, AllocError>
     requires { length ops.now < 2 ^ 32 }
     ensures { IfOk result (λ table. IsTable (length ops.now) (length ops.now) (λ net. reads (meaning (op_at ops.now net))) table.items) }
@@ -96,7 +96,7 @@ pub(crate) fn readers(alloc: Global, ops: &[Op]) -> Result<Vec<Numbers>, AllocEr
     Ok(table)
 }
 
-/// The domain whose clock, flip-flop or lock-up a net shows.
+// The domain whose clock, flip-flop or lock-up a net shows.
 fn leaf_domain(op: &Op, net: NetId, flops: &[FlipFlop]) -> Option<NetId>
     ensures { listed result ≡ leaf_domains (map cell_of flops.now) net.0 (meaning op.now) }
 {
@@ -108,7 +108,7 @@ fn leaf_domain(op: &Op, net: NetId, flops: &[FlipFlop]) -> Option<NetId>
     }
 }
 
-/// The one place of a source's table, where a net is a source.
+// The one place of a source's table, where a net is a source.
 fn source_place(op: &Op) -> Option<NetId>
     ensures { listed result ≡ source_places (meaning op.now) }
 {
@@ -118,7 +118,7 @@ fn source_place(op: &Op) -> Option<NetId>
     }
 }
 
-/// The sources, in a table of one list: the nets that show an input, a clock, a flip-flop or a lock-up.
+// The sources, in a table of one list: the nets that show an input, a clock, a flip-flop or a lock-up.
 pub(crate) fn sources(alloc: Global, ops: &[Op]) -> Result<Vec<Numbers>, AllocError>
     requires { length ops.now < 2 ^ 32 }
     ensures { IfOk result (λ table. IsTable 1 (length ops.now) (λ net. source_places (meaning (op_at ops.now net))) table.items) }
@@ -130,7 +130,7 @@ pub(crate) fn sources(alloc: Global, ops: &[Op]) -> Result<Vec<Numbers>, AllocEr
     Ok(table)
 }
 
-/// The nets that show the clock of each domain, or a flip-flop or a lock-up of it.
+// The nets that show the clock of each domain, or a flip-flop or a lock-up of it.
 pub(crate) fn leaves(
     alloc: Global,
     ops: &[Op],
@@ -147,7 +147,7 @@ pub(crate) fn leaves(
     Ok(table)
 }
 
-/// The flip-flops of each domain.
+// The flip-flops of each domain.
 pub(crate) fn cells(
     alloc: Global,
     flops: &[FlipFlop],
@@ -163,7 +163,7 @@ pub(crate) fn cells(
     Ok(table)
 }
 
-/// The domain of a lock-up.
+// The domain of a lock-up.
 fn latch_domain(latch: Option<Latch>) -> Option<NetId>
     ensures { listed result ≡ latch_domains (circuits.latch_of latch) }
 {
@@ -173,7 +173,7 @@ fn latch_domain(latch: Option<Latch>) -> Option<NetId>
     }
 }
 
-/// The lock-ups of each domain.
+// The lock-ups of each domain.
 pub(crate) fn holders(
     alloc: Global,
     latches: &[Option<Latch>],
@@ -189,7 +189,7 @@ pub(crate) fn holders(
     Ok(table)
 }
 
-/// The net of a reset or set.
+// The net of a reset or set.
 fn force_net(force: Option<Acting>) -> Option<NetId>
     ensures { listed result ≡ force_nets (circuits.force_at force) }
 {
@@ -199,7 +199,7 @@ fn force_net(force: Option<Acting>) -> Option<NetId>
     }
 }
 
-/// The flip-flops that each reset or set acts on.
+// The flip-flops that each reset or set acts on.
 pub(crate) fn followers(
     alloc: Global,
     flops: &[FlipFlop],

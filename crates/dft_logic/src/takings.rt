@@ -20,8 +20,8 @@ pub struct Taking {
     pub entry: Entry,
 }
 
-/// Whether a flip-flop takes `Unknown` in every pulse: its data input is joined to no net, and it has no scan pins,
-/// reset or set. So it is with what stands for an instance that is no flip-flop.
+// Whether a flip-flop takes `Unknown` in every pulse: its data input is joined to no net, and it has no scan pins,
+// reset or set. So it is with what stands for an instance that is no flip-flop.
 fn is_loose(flop: &FlipFlop) -> bool
     ensures { result ≡ spec.is_loose (cell_of flop.now) }
 {
@@ -31,7 +31,7 @@ fn is_loose(flop: &FlipFlop) -> bool
     }
 }
 
-/// Whether a flip-flop with this entry has the same value after a pulse, if it is `Unknown` where it is loose.
+// Whether a flip-flop with this entry has the same value after a pulse, if it is `Unknown` where it is loose.
 fn is_idle(flop: &FlipFlop, entry: Entry) -> bool
     ensures { result ≡ spec.is_idle (cell_of flop.now) (entry_of entry) }
 {

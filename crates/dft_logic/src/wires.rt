@@ -12,14 +12,14 @@ use dft_cells::{Cell, Role};
 use dft_netlist::{Instance, InstanceId, Signal, is_role, role_at};
 use std::alloc::{AllocError, Global};
 
-/// A pin: what it is for, and what it takes its value from.
+// A pin: what it is for, and what it takes its value from.
 #[derive(Clone, Copy)]
 pub(crate) struct Wire {
     pub role: Role,
     pub source: Operand,
 }
 
-/// What a pin takes its value from.
+// What a pin takes its value from.
 pub(crate) fn operand(instance: InstanceId, pin: usize, signal: Signal) -> Operand
     ensures { source_at result ≡ source_of instance.0 pin signal }
 {
@@ -30,7 +30,7 @@ pub(crate) fn operand(instance: InstanceId, pin: usize, signal: Signal) -> Opera
     }
 }
 
-/// The pins of an instance.
+// The pins of an instance.
 pub(crate) fn wires(
     alloc: Global,
     library: &[Cell],
@@ -51,7 +51,7 @@ pub(crate) fn wires(
     Ok(wires)
 }
 
-/// What the first pin of a role takes its value from.
+// What the first pin of a role takes its value from.
 pub(crate) fn find(wires: &[Wire], role: Role) -> Option<Operand>
     ensures found { option_map source_at result ≡ found_in role (map wired_at wires.now) }
     ensures live { (count : ℕ) → AreLiveWires count wires.now → ForSome result (IsLiveOperand count) }
@@ -64,7 +64,7 @@ pub(crate) fn find(wires: &[Wire], role: Role) -> Option<Operand>
     None
 }
 
-/// What the inputs of a gate take their values from.
+// What the inputs of a gate take their values from.
 pub(crate) fn gate_inputs(alloc: Global, wires: &[Wire]) -> Result<Operands, AllocError>
     ensures { IfOk result (λ inputs. map source_at inputs ≡ inputs_in (map wired_at wires.now)) }
 {

@@ -37,8 +37,8 @@ fn add_cell(
     }
 }
 
-/// Adds the equations of scanned cells, each named by its position, up to the first that contradicts the kept ones, and says
-/// whether there is none.
+// Adds the equations of scanned cells, each named by its position, up to the first that contradicts the kept ones, and says
+// whether there is none.
 pub(crate) fn add_cells(
     system: &mut System,
     loading: &Loading<'_>,
@@ -61,7 +61,7 @@ pub(crate) fn add_cells(
     true
 }
 
-/// A new system with the equations of scanned cells that some channel bits load.
+// A new system with the equations of scanned cells that some channel bits load.
 pub(crate) fn system_of(
     loading: &Loading<'_>,
     cells: &[(InstanceId, bool)],

@@ -103,7 +103,7 @@ fn join(
     }
 }
 
-/// Puts a cube of scanned cells into the first of the open patterns that it fits, and tells that pattern's number.
+// Puts a cube of scanned cells into the first of the open patterns that it fits, and tells that pattern's number.
 pub(crate) fn join_first(
     loading: &Loading<'_>,
     slots: &mut [Slot],

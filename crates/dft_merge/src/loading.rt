@@ -8,7 +8,7 @@ use dft_netlist::InstanceId;
 use dft_stitch::Chains;
 use std::alloc::Global;
 
-/// What cells are loaded by: the chains, and the load equations of their places.
+// What cells are loaded by: the chains, and the load equations of their places.
 #[derive(Clone, Copy)]
 pub(crate) struct Loading<'a> {
     pub(crate) alloc: Global,
@@ -17,7 +17,7 @@ pub(crate) struct Loading<'a> {
 }
 
 impl<'a> Loading<'a> {
-    /// The load equation of a cell, if it is scanned.
+    // The load equation of a cell, if it is scanned.
     pub(crate) fn row(&self, cell: InstanceId) -> Option<&'a [u64]>
         requires { IsLoading self.now }
         ensures { MatchOption result (rows_by self.now cell ≡ None)
@@ -35,7 +35,7 @@ impl<'a> Loading<'a> {
         self.row(cell).is_some()
     }
 
-    /// The first of these cells that is not scanned.
+    // The first of these cells that is not scanned.
     pub(crate) fn first_unscanned(&self, cells: &[(InstanceId, bool)]) -> Option<InstanceId>
         requires { IsLoading self.now }
         ensures { result ≡ spec.first_unscanned (rows_by self.now) cells.now }

@@ -31,9 +31,9 @@ pub struct Merger<'a> {
     loading: Loading<'a>,
     window: usize,
     patterns: Vec<Merged>,
-    /// What is kept of the open patterns, the oldest first.
+    // What is kept of the open patterns, the oldest first.
     slots: Vec<Slot>,
-    /// The system of a cube alone, and its mark before any equation.
+    // The system of a cube alone, and its mark before any equation.
     alone: System,
     start: Mark,
 }

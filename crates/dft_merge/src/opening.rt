@@ -105,8 +105,8 @@ fn put(draft: Draft, system: &mut System, slots: &mut [Slot], patterns: &mut Vec
     patterns.push_reserved(draft.pattern);
 }
 
-/// Begins a pattern with a cube whose equations the system has, and closes the oldest open one where the window is full.
-/// The system becomes that of a closed pattern, or a new one.
+// Begins a pattern with a cube whose equations the system has, and closes the oldest open one where the window is full.
+// The system becomes that of a closed pattern, or a new one.
 pub(crate) fn open(
     loading: &Loading<'_>,
     window: usize,

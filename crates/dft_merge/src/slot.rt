@@ -7,7 +7,7 @@ use dft_cubes::Cube;
 use dft_gf2::System;
 use std::alloc::{AllocError, Global};
 
-/// What is kept of an open pattern beside its lists: the system of its cells' equations, and its bits by number.
+// What is kept of an open pattern beside its lists: the system of its cells' equations, and its bits by number.
 #[derive(Drop)]
 pub(crate) struct Slot {
     pub(crate) system: System,
@@ -16,7 +16,7 @@ pub(crate) struct Slot {
 }
 
 impl Slot {
-    /// A slot whose system has so many columns.
+    // A slot whose system has so many columns.
     pub(crate) fn blank(alloc: Global, columns: u32) -> Result<Slot, AllocError>
         ensures { IfOk result (λ slot. slot.system.columns ≡ columns) }
     {
@@ -28,14 +28,14 @@ impl Slot {
     }
 }
 
-/// Whether a cube gives a cell or a port the opposite of a bit in these tables.
+// Whether a cube gives a cell or a port the opposite of a bit in these tables.
 pub(crate) fn opposes(cells: &[Option<bool>], ports: &[Option<bool>], cube: &Cube) -> bool
     ensures { result ≡ (opposes_by cell_number cells.now cube.now.cells || opposes_by port_number ports.now cube.now.ports) }
 {
     opposes_cells(cells, cube.cells.as_slice()) || opposes_ports(ports, cube.ports.as_slice())
 }
 
-/// Makes room in two tables for what a cube gives.
+// Makes room in two tables for what a cube gives.
 pub(crate) fn grow_for(
     cells: &mut Vec<Option<bool>>,
     ports: &mut Vec<Option<bool>>,

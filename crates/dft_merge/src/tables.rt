@@ -31,7 +31,7 @@ fn is_opposite(there: Option<bool>, bit: bool) -> bool
     }
 }
 
-/// Whether one of these cells has the opposite bit in the table.
+// Whether one of these cells has the opposite bit in the table.
 pub(crate) fn opposes_cells(table: &[Option<bool>], cells: &[(InstanceId, bool)]) -> bool
     ensures { result ≡ opposes_by cell_number table.now cells.now }
 {
@@ -40,7 +40,7 @@ pub(crate) fn opposes_cells(table: &[Option<bool>], cells: &[(InstanceId, bool)]
         .any(|given| is_opposite(bit_of(table, given.0.0), given.1))
 }
 
-/// Whether one of these ports has the opposite bit in the table.
+// Whether one of these ports has the opposite bit in the table.
 pub(crate) fn opposes_ports(table: &[Option<bool>], ports: &[(NetId, bool)]) -> bool
     ensures { result ≡ opposes_by port_number table.now ports.now }
 {
@@ -49,7 +49,7 @@ pub(crate) fn opposes_ports(table: &[Option<bool>], ports: &[(NetId, bool)]) -> 
         .any(|given| is_opposite(bit_of(table, given.0.0), given.1))
 }
 
-/// The least number above those of these cells.
+// The least number above those of these cells.
 pub(crate) fn cells_end(cells: &[(InstanceId, bool)]) -> usize
     ensures { AreBelow cell_number result cells.now }
 {
@@ -60,7 +60,7 @@ pub(crate) fn cells_end(cells: &[(InstanceId, bool)]) -> usize
     end
 }
 
-/// The least number above those of these ports.
+// The least number above those of these ports.
 pub(crate) fn ports_end(ports: &[(NetId, bool)]) -> usize
     ensures { AreBelow port_number result ports.now }
 {
@@ -71,7 +71,7 @@ pub(crate) fn ports_end(ports: &[(NetId, bool)]) -> usize
     end
 }
 
-/// Makes room in a table for the numbers below this one.
+// Makes room in a table for the numbers below this one.
 pub(crate) fn grow(table: &mut Vec<Option<bool>>, end: usize) -> Result<(), AllocError>
     ensures same { SameBits table.old.items table.new.items }
     ensures room { OnOk result (end ≤ vec_len table.new) }
@@ -82,7 +82,7 @@ pub(crate) fn grow(table: &mut Vec<Option<bool>>, end: usize) -> Result<(), Allo
     Ok(())
 }
 
-/// Notes the bits of these cells where the table has none yet.
+// Notes the bits of these cells where the table has none yet.
 pub(crate) fn note_cells(table: &mut [Option<bool>], cells: &[(InstanceId, bool)])
     requires { AreBelow cell_number (length table.old) cells.now }
     ensures { IsNoted cell_number table.old cells.now table.new }
@@ -92,7 +92,7 @@ pub(crate) fn note_cells(table: &mut [Option<bool>], cells: &[(InstanceId, bool)
     }
 }
 
-/// Notes the bits of these ports where the table has none yet.
+// Notes the bits of these ports where the table has none yet.
 pub(crate) fn note_ports(table: &mut [Option<bool>], ports: &[(NetId, bool)])
     requires { AreBelow port_number (length table.old) ports.now }
     ensures { IsNoted port_number table.old ports.now table.new }
@@ -113,7 +113,7 @@ fn note(table: &mut [Option<bool>], number: u32, bit: bool)
     }
 }
 
-/// Appends those of these cells that have no bit in the table.
+// Appends those of these cells that have no bit in the table.
 pub(crate) fn push_missing_cells(
     list: &mut Vec<(InstanceId, bool)>,
     table: &[Option<bool>],
@@ -129,7 +129,7 @@ pub(crate) fn push_missing_cells(
     }
 }
 
-/// Appends those of these ports that have no bit in the table.
+// Appends those of these ports that have no bit in the table.
 pub(crate) fn push_missing_ports(
     list: &mut Vec<(NetId, bool)>,
     table: &[Option<bool>],

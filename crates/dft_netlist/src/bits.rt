@@ -9,7 +9,7 @@ ghost use Rattle.dft_netlist.specs.NameTables.{AllDiffer};
 use dft_base::{Name, Range};
 use std::alloc::{AllocError, Global};
 
-/// The printed names of a port's bits, the leftmost first.
+// The printed names of a port's bits, the leftmost first.
 pub(crate) fn bit_names(
     alloc: Global,
     name: &Name,
@@ -28,7 +28,7 @@ pub(crate) fn bit_names(
     }
 }
 
-/// The printed names of a vector's bits, the leftmost first.
+// The printed names of a vector's bits, the leftmost first.
 fn vector_names(alloc: Global, name: &Name, range: Range) -> Result<Vec<Name>, AllocError>
     ensures names { IfOk result (λ names. names.items ≡ map (spec.bit_name name.now) (indices_of range)) }
     ensures differ { IfOk result (λ names. AllDiffer names.items) }
@@ -53,7 +53,7 @@ pub fn index_at(range: Range, place: u32) -> u16
     }
 }
 
-/// The printed name of a bit: the vector's name and the index in brackets.
+// The printed name of a bit: the vector's name and the index in brackets.
 fn bit_name(alloc: Global, name: &Name, index: u16) -> Result<Name, AllocError>
     ensures { IfOk result (λ bit. bit ≡ spec.bit_name name.now index) }
 {
@@ -65,8 +65,8 @@ fn bit_name(alloc: Global, name: &Name, index: u16) -> Result<Name, AllocError>
     Name::from_slice(alloc, &bytes)
 }
 
-/// The own name of a vector; a scalar port has none besides its bit's. A port's name is a name, and its range of 16-bit
-/// numbers.
+// The own name of a vector; a scalar port has none besides its bit's. A port's name is a name, and its range of 16-bit
+// numbers.
 pub(crate) fn vector_key(
     alloc: Global,
     name: &Name,

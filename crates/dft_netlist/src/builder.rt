@@ -155,7 +155,7 @@ impl DesignBuilder {
             .set(pin as usize, Signal::Net(net));
     }
 
-    /// The name of an instance, refused where it is taken.
+    // The name of an instance, refused where it is taken.
     fn untaken(&self, name: Option<Name>) -> Result<Option<Name>, NetlistError>
         ensures same { IfOk result (λ same. same ≡ name) }
         ensures refused { Answers (taken_or (first_taken self.now (own_names name)) None) result }
@@ -171,7 +171,7 @@ impl DesignBuilder {
         }
     }
 
-    /// The name of a port, refused where it or one of its bits' is taken.
+    // The name of a port, refused where it or one of its bits' is taken.
     fn untaken_port(
         &self,
         name: Name,
@@ -194,7 +194,7 @@ impl DesignBuilder {
         Ok(name)
     }
 
-    /// Refuses one port more, of so many bits, where it passes a limit.
+    // Refuses one port more, of so many bits, where it passes a limit.
     fn check_room(&self, width: usize) -> Result<(), NetlistError>
         ensures { Answers (room_limit self.now width) result }
     {
@@ -296,7 +296,7 @@ impl DesignBuilder {
     }
 }
 
-/// The refusal of one more than the limit.
+// The refusal of one more than the limit.
 fn too_many(what: Counted, limit: usize) -> NetlistError
     requires { limit < 2 ^ 32 }
     ensures { result ≡ NetlistError.TooMany what (pos limit) }

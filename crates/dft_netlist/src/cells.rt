@@ -36,7 +36,7 @@ pub fn role_at(cells: &[Cell], cell: CellRef, pin: usize) -> Option<Role>
     }
 }
 
-/// What this pin of a library cell is for, if there is one.
+// What this pin of a library cell is for, if there is one.
 fn cell_role(cell: &Cell, pin: usize) -> Option<Role>
     ensures { result ≡ slice_get (map (λ p. p.role) cell.now.pins) pin }
 {
@@ -46,7 +46,7 @@ fn cell_role(cell: &Cell, pin: usize) -> Option<Role>
     }
 }
 
-/// What this pin of a gate primitive is for, if there is one: its inputs come first, then its output.
+// What this pin of a gate primitive is for, if there is one: its inputs come first, then its output.
 fn gate_role(inputs: u8, pin: usize) -> Option<Role>
     ensures { result ≡ slice_get (gate_roles inputs) pin }
 {
@@ -77,7 +77,7 @@ pub fn is_role(one: Role, other: Role) -> bool
     }
 }
 
-/// Whether this role is there, and is the one.
+// Whether this role is there, and is the one.
 fn has_role(one: Role, other: Option<Role>) -> bool
     ensures { result ≡ option_map_or (same_role one) other false }
 {
@@ -100,7 +100,7 @@ pub fn signal_of(cells: &[Cell], instance: &Instance, role: Role) -> Option<Sign
     None
 }
 
-/// What this pin of an instance of this cell is for, which is there.
+// What this pin of an instance of this cell is for, which is there.
 pub(crate) fn known_role(cells: &[Cell], cell: CellRef, pin: usize) -> Role
     requires { pin < length (shape_of cells.now cell).roles }
     ensures { slice_get (shape_of cells.now cell).roles pin ≡ Some result }
@@ -117,7 +117,7 @@ pub(crate) fn known_role(cells: &[Cell], cell: CellRef, pin: usize) -> Role
     }
 }
 
-/// Whether the output of a cell of this kind reads a pin of this role at the same moment.
+// Whether the output of a cell of this kind reads a pin of this role at the same moment.
 pub(crate) fn reads_role(kind: Kind, role: Role) -> bool
     ensures { result ≡ spec.reads_role kind role }
 {

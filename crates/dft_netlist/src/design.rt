@@ -152,7 +152,7 @@ impl Design {
         Root::Other
     }
 
-    /// One step back from this net.
+    // One step back from this net.
     fn step_back(&self, net: NetId) -> Step
         requires { net.0 < length self.now.nets }
         ensures step { TakesStep self.now net.0 result }
@@ -166,7 +166,7 @@ impl Design {
         }
     }
 
-    /// One step back through a buffer or from a tie.
+    // One step back through a buffer or from a tie.
     fn step_through(&self, id: InstanceId, pin: usize) -> Step
         requires { id.0 < length self.now.instances }
         ensures step { (walk : Source → TracedRoot) (net : ℕ) → IsWalk walk → after_step walk result ≡ root_of_driver walk net (driver_at self.now (PinOf id pin)) }
@@ -182,14 +182,14 @@ impl Design {
     }
 }
 
-/// One step of a walk back: to a net, or to its end.
+// One step of a walk back: to a net, or to its end.
 #[derive(Clone, Copy, Debug, PartialEq, Eq)]
 pub(crate) enum Step {
     Back(NetId),
     End(Root),
 }
 
-/// To what a pin is joined.
+// To what a pin is joined.
 fn step_to(signal: Signal) -> Step
     ensures step { (walk : Source → TracedRoot) → IsWalk walk → after_step walk result ≡ walk (source_of 0 0 signal) }
     ensures live { (count : ℕ) → IsLive count signal → IsLiveStep count result }

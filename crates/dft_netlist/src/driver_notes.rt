@@ -7,7 +7,7 @@ use crate::net_driver::NetDriver;
 use std::alloc::{AllocError, Global};
 use std::marker::Model;
 
-/// What drives each net first, and the least net that is driven again.
+// What drives each net first, and the least net that is driven again.
 #[derive(Debug, Drop)]
 pub(crate) struct DriverNotes {
     found: Vec<NetDriver>,
@@ -25,7 +25,7 @@ impl Model for DriverNotes {
 }
 
 impl DriverNotes {
-    /// Nothing drives any of so many nets.
+    // Nothing drives any of so many nets.
     pub(crate) fn new(alloc: Global, count: usize) -> Result<DriverNotes, AllocError>
         ensures { IfOk result (λ notes. notes ≡ record { found = replicate count Nothing; clash = None }) }
     {
@@ -33,7 +33,7 @@ impl DriverNotes {
         Ok(DriverNotes { found, clash: None })
     }
 
-    /// Notes that this drives a net.
+    // Notes that this drives a net.
     pub(crate) fn note(&mut self, net: NetId, by: NetDriver)
         requires { net.0 < length self.old.found }
         ensures { self.new ≡ noted self.old (net, by) }
@@ -45,14 +45,14 @@ impl DriverNotes {
         }
     }
 
-    /// The least net that is driven again, if there is one.
+    // The least net that is driven again, if there is one.
     pub(crate) fn clash(&self) -> Option<NetId>
         ensures { result ≡ self.now.clash }
     {
         self.clash
     }
 
-    /// What drives each net.
+    // What drives each net.
     pub(crate) fn into_found(self) -> Vec<NetDriver>
         ensures { result.items ≡ self.found }
     {
@@ -60,7 +60,7 @@ impl DriverNotes {
     }
 }
 
-/// The lesser of two nets, where there are two.
+// The lesser of two nets, where there are two.
 fn least(other: Option<NetId>, net: NetId) -> NetId
     ensures { Some result ≡ least_net other net }
 {

@@ -23,7 +23,7 @@ use dft_base::{Dir, Name};
 use dft_cells::{Cell, Role};
 use std::alloc::Global;
 
-/// What drives each net, by its number; refused where one has two drivers.
+// What drives each net, by its number; refused where one has two drivers.
 pub(crate) fn find_drivers(
     alloc: Global,
     builder: &DesignBuilder,

@@ -11,7 +11,7 @@ use dft_base::Name;
 use indexmap::Equivalent;
 use std::hash::{Hash, Hasher};
 
-/// A name that is a key.
+// A name that is a key.
 #[derive(Debug, Drop)]
 pub(crate) struct Key {
     pub(crate) name: Name,

@@ -51,7 +51,7 @@ impl DesignBuilder {
     }
 }
 
-/// The bytes of a name, if there is one.
+// The bytes of a name, if there is one.
 fn key_of(alloc: Global, name: &Option<Name>) -> Result<Option<Name>, AllocError>
     ensures key { IfOk result (λ key. key ≡ name.now) }
     ensures name { OnOk result (IsNameIfAny name.now) }

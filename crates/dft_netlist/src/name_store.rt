@@ -10,10 +10,10 @@ use indexmap::IndexMap;
 use std::alloc::{AllocError, Global};
 use std::marker::Model;
 
-/// More names than this are as many as memory cannot hold.
+// More names than this are as many as memory cannot hold.
 pub(crate) const MAX_NAMES: usize = 4_294_967_295;
 
-/// Names and what each stands for. A clause sees them in order of adding.
+// Names and what each stands for. A clause sees them in order of adding.
 #[derive(Debug, Drop)]
 pub(crate) struct NameStore {
     names: IndexMap<Key, Named>,
@@ -32,7 +32,7 @@ impl Model for NameStore {
 }
 
 impl NameStore {
-    /// No name yet.
+    // No name yet.
     pub(crate) fn new(alloc: Global) -> NameStore
         ensures { result.entries ≡ [] }
     {
@@ -41,7 +41,7 @@ impl NameStore {
         }
     }
 
-    /// How many names there are.
+    // How many names there are.
     pub(crate) fn len(&self) -> usize
         ensures count { result ≡ length self.now.entries }
         ensures few { result ≤ MAX_NAMES }
@@ -49,7 +49,7 @@ impl NameStore {
         self.names.len()
     }
 
-    /// The name at this place.
+    // The name at this place.
     pub(crate) fn name(&self, place: u32) -> &Name
         requires { place < length self.now.entries }
         ensures { result.now ≡ name_at self.now.entries place }
@@ -60,14 +60,14 @@ impl NameStore {
         }
     }
 
-    /// What this name stands for.
+    // What this name stands for.
     pub(crate) fn get(&self, name: &[u8]) -> Option<Named>
         ensures { result ≡ look_up self.now.entries name.now }
     {
         self.names.get(name).copied()
     }
 
-    /// Makes room for so many more names.
+    // Makes room for so many more names.
     pub(crate) fn reserve(&mut self, more: usize) -> Result<(), AllocError>
         ensures same { self.new.entries ≡ self.old.entries }
         ensures room { OnOk result (more ≤ self.new.room) }
@@ -78,7 +78,7 @@ impl NameStore {
         self.names.reserve(more)
     }
 
-    /// Adds a name that is not there, for which there is room.
+    // Adds a name that is not there, for which there is room.
     pub(crate) fn insert_reserved(&mut self, name: Name, named: Named)
         requires room { 0 < self.old.room }
         requires fresh { look_up self.old.entries name ≡ None }

@@ -9,12 +9,12 @@ use dft_base::Name;
 use std::alloc::{AllocError, Global};
 use std::marker::Model;
 
-/// What each printed name stands for, and the names of nets by their numbers. Each name is kept once. A clause sees the
-/// names in order of adding.
+// What each printed name stands for, and the names of nets by their numbers. Each name is kept once. A clause sees the
+// names in order of adding.
 #[derive(Debug, Drop)]
 pub(crate) struct NameTable {
     names: NameStore,
-    /// The place of each net's name.
+    // The place of each net's name.
     nets: Vec<u32>,
 }
 
@@ -31,7 +31,7 @@ impl Model for NameTable {
 }
 
 impl NameTable {
-    /// No name yet.
+    // No name yet.
     pub(crate) fn new(alloc: Global) -> NameTable
         ensures entries { result.entries ≡ [] }
         ensures nets { result.nets ≡ [] }
@@ -42,21 +42,21 @@ impl NameTable {
         }
     }
 
-    /// What this name stands for.
+    // What this name stands for.
     pub(crate) fn get(&self, name: &[u8]) -> Option<Named>
         ensures { result ≡ look_up self.now.entries name.now }
     {
         self.names.get(name)
     }
 
-    /// How many nets there are.
+    // How many nets there are.
     pub(crate) fn net_count(&self) -> usize
         ensures { result ≡ length self.now.nets }
     {
         self.nets.len()
     }
 
-    /// The name of this net.
+    // The name of this net.
     pub(crate) fn net_name(&self, net: NetId) -> &Name
         requires { net.0 < length self.now.nets }
         ensures { slice_get self.now.nets net.0 ≡ Some result.now }
@@ -64,7 +64,7 @@ impl NameTable {
         self.names.name(self.nets[net.0 as usize])
     }
 
-    /// Makes room for so many more names.
+    // Makes room for so many more names.
     pub(crate) fn reserve(&mut self, more: usize) -> Result<(), AllocError>
         ensures entries { self.new.entries ≡ self.old.entries }
         ensures nets { self.new.nets ≡ self.old.nets }
@@ -74,7 +74,7 @@ impl NameTable {
         self.nets.reserve(more)
     }
 
-    /// Adds a name, if there is one, that is not there and for which there is room, of no net.
+    // Adds a name, if there is one, that is not there and for which there is room, of no net.
     pub(crate) fn insert_own(&mut self, name: Option<Name>, named: Named)
         requires room { 0 < self.old.room }
         requires fresh { IsFree self.old.entries name }
@@ -87,7 +87,7 @@ impl NameTable {
         }
     }
 
-    /// Adds a net of this name, which is not there and for which there is room.
+    // Adds a net of this name, which is not there and for which there is room.
     pub(crate) fn insert_net(&mut self, name: Name)
         requires room { 0 < self.old.room }
         requires few { length self.old.nets < 2 ^ 32 }
@@ -102,7 +102,7 @@ impl NameTable {
         self.nets.push_reserved(place);
     }
 
-    /// Adds nets of these names, which are not there and for which there is room.
+    // Adds nets of these names, which are not there and for which there is room.
     pub(crate) fn insert_nets(&mut self, names: Vec<Name>)
         requires room { vec_len names ≤ self.old.room }
         requires few { length self.old.nets + vec_len names < 2 ^ 32 }

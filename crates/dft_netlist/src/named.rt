@@ -13,7 +13,7 @@ pub enum Named {
     Instance(InstanceId),
 }
 
-/// The net, if a net is named.
+// The net, if a net is named.
 pub(crate) fn net_of(named: Option<Named>) -> Option<NetId>
     ensures { result ≡ net_in named }
 {
@@ -23,7 +23,7 @@ pub(crate) fn net_of(named: Option<Named>) -> Option<NetId>
     }
 }
 
-/// The instance, if an instance is named.
+// The instance, if an instance is named.
 pub(crate) fn instance_of(named: Option<Named>) -> Option<InstanceId>
     ensures { result ≡ instance_in named }
 {

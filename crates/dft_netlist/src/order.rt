@@ -22,7 +22,7 @@ use dft_base::Name;
 use dft_cells::{Cell, Kind, Role};
 use std::alloc::{AllocError, Global};
 
-/// Every net once, after the nets that its driver reads; refused where there is no such order.
+// Every net once, after the nets that its driver reads; refused where there is no such order.
 pub(crate) fn find_order(
     alloc: Global,
     builder: &DesignBuilder,
@@ -43,7 +43,7 @@ pub(crate) fn find_order(
     Ok(progress.into_order())
 }
 
-/// Places a net and all that it needs, or tells the net that a walk back from it meets again.
+// Places a net and all that it needs, or tells the net that a walk back from it meets again.
 fn place(
     builder: &DesignBuilder,
     drivers: &[NetDriver],
@@ -73,7 +73,7 @@ fn place(
     Ok(None)
 }
 
-/// The first net that this driver of a net reads and that is not placed.
+// The first net that this driver of a net reads and that is not placed.
 fn first_open_net(
     builder: &DesignBuilder,
     driver: NetDriver,
@@ -96,7 +96,7 @@ fn first_open_net(
     }
 }
 
-/// The first net that the output of an instance reads and that is not placed.
+// The first net that the output of an instance reads and that is not placed.
 fn first_open_pin(cells: &[Cell], instance: &Instance, states: &[State]) -> Option<NetId>
     requires { IsInstance cells.now (length states.now) instance.now.name instance.now.cell instance.now.pins }
     ensures first { let shape = shape_of cells.now instance.now.cell in number_of result ≡ first_open states.now (pins_read shape.kind shape.roles instance.now.pins) }
@@ -112,7 +112,7 @@ fn first_open_pin(cells: &[Cell], instance: &Instance, states: &[State]) -> Opti
     None
 }
 
-/// The net of a pin that is read, if it has one that is not placed.
+// The net of a pin that is read, if it has one that is not placed.
 fn open_pin(kind: Kind, role: Role, signal: Signal, states: &[State]) -> Option<NetId>
     requires { IsLive (length states.now) signal }
     ensures first { number_of result ≡ first_open states.now (read_at kind role signal) }
@@ -125,7 +125,7 @@ fn open_pin(kind: Kind, role: Role, signal: Signal, states: &[State]) -> Option<
     }
 }
 
-/// The net of this signal, if it has one that is not placed.
+// The net of this signal, if it has one that is not placed.
 fn open_net(signal: Signal, states: &[State]) -> Option<NetId>
     requires { IsLive (length states.now) signal }
     ensures first { number_of result ≡ first_open states.now (net_of_signal signal) }

@@ -31,7 +31,7 @@ impl NetIds {
         }
     }
 
-    /// So many nets, with numbers from this one on.
+    // So many nets, with numbers from this one on.
     pub(crate) fn counted(alloc: Global, first: u32, count: u32) -> Result<NetIds, AllocError>
         requires { first + count < 2 ^ 32 }
         ensures { IfOk result (λ nets. nets ≡ nets_from first count) }

@@ -6,7 +6,7 @@ use crate::ids::NetId;
 use std::alloc::{AllocError, Global};
 use std::marker::Model;
 
-/// How far a net is: not met yet, on the walk, or in the order.
+// How far a net is: not met yet, on the walk, or in the order.
 #[derive(Clone, Copy, Debug, PartialEq, Eq)]
 pub(crate) enum State {
     New,
@@ -14,7 +14,7 @@ pub(crate) enum State {
     Placed,
 }
 
-/// An order that is being made, and the walk back that is under way; the last net of the walk stands last.
+// An order that is being made, and the walk back that is under way; the last net of the walk stands last.
 #[derive(Debug, Drop)]
 pub(crate) struct Progress {
     states: Vec<State>,
@@ -33,7 +33,7 @@ impl Model for Progress {
 }
 
 impl Progress {
-    /// No net of so many is met.
+    // No net of so many is met.
     pub(crate) fn new(alloc: Global, count: usize) -> Result<Progress, AllocError>
         ensures { IfOk result (λ progress. progress ≡ record { states = replicate count New; order = []; walk = [] }) }
     {
@@ -45,14 +45,14 @@ impl Progress {
         })
     }
 
-    /// How far each net is.
+    // How far each net is.
     pub(crate) fn states(&self) -> &[State]
         ensures { result.now ≡ self.now.states }
     {
         &self.states
     }
 
-    /// Whether the net is not met yet.
+    // Whether the net is not met yet.
     pub(crate) fn is_new(&self, net: NetId) -> bool
         requires { net.0 < length self.now.states }
         ensures { result ≡ is_new (slice_get self.now.states net.0) }
@@ -60,7 +60,7 @@ impl Progress {
         matches!(self.states[net.0 as usize], State::New)
     }
 
-    /// Whether the net is on the walk.
+    // Whether the net is on the walk.
     pub(crate) fn is_walked(&self, net: NetId) -> bool
         requires { net.0 < length self.now.states }
         ensures { result ≡ is_walked (slice_get self.now.states net.0) }
@@ -68,14 +68,14 @@ impl Progress {
         matches!(self.states[net.0 as usize], State::Walked)
     }
 
-    /// The last net of the walk.
+    // The last net of the walk.
     pub(crate) fn top(&self) -> Option<NetId>
         ensures { result ≡ top_of self.now.walk }
     {
         self.walk.last().copied()
     }
 
-    /// The walk goes on to this net.
+    // The walk goes on to this net.
     pub(crate) fn enter(&mut self, net: NetId) -> Result<(), AllocError>
         requires { net.0 < length self.old.states }
         ensures { OnOk result (self.new ≡ entered self.old net) }
@@ -85,7 +85,7 @@ impl Progress {
         Ok(())
     }
 
-    /// The walk goes back from its last net, which comes next in the order.
+    // The walk goes back from its last net, which comes next in the order.
     pub(crate) fn leave(&mut self, net: NetId) -> Result<(), AllocError>
         requires { net.0 < length self.old.states }
         ensures { OnOk result (self.new ≡ left self.old net) }
@@ -96,7 +96,7 @@ impl Progress {
         Ok(())
     }
 
-    /// The order.
+    // The order.
     pub(crate) fn into_order(self) -> Vec<NetId>
         ensures { result.items ≡ self.order }
     {

@@ -80,7 +80,7 @@ impl PartsBuilder {
         )
     }
 
-    /// Makes an instance of a cell of the library between nets that are there.
+    // Makes an instance of a cell of the library between nets that are there.
     fn store(&mut self, cell: CellId, nets: Between) -> Result<(), NetlistError>
         requires cell { cell.0 < length self.old.netlist.library }
         requires clock { nets.clock.0 < length self.old.netlist.nets }

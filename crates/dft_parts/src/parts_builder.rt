@@ -85,7 +85,7 @@ impl PartsBuilder {
         Ok(net)
     }
 
-    /// Makes an instance.
+    // Makes an instance.
     pub(crate) fn instance(&mut self, cell: CellRef, pins: &[Signal]) -> Result<(), NetlistError>
         requires { IsInstanceOf self.old.netlist (Some []) cell pins.now }
         ensures makes { Makes (λ _. tt) (an_instance cell pins.now) self.old result self.new }
@@ -117,7 +117,7 @@ impl PartsBuilder {
         self.pin(instance, pin, net);
     }
 
-    /// Whether an instance has this pin, joined to nothing.
+    // Whether an instance has this pin, joined to nothing.
     fn is_open(&self, instance: InstanceId, pin: u32) -> bool
         ensures { result ≡ is_open_at self.now.netlist instance pin }
     {
@@ -128,7 +128,7 @@ impl PartsBuilder {
     }
 }
 
-/// Whether there is a pin of this number, joined to nothing.
+// Whether there is a pin of this number, joined to nothing.
 fn is_open(pins: &[Signal], pin: usize) -> bool
     ensures { result ≡ is_unconnected (slice_get pins.now pin) }
 {

@@ -13,7 +13,7 @@ use dft_cells::{CellId, Kind, Library, Pin, Role};
 use dft_netlist::{NetId, PinSignals, Signal};
 use std::alloc::{AllocError, Global};
 
-/// The pins of a gate between these nets.
+// The pins of a gate between these nets.
 pub(crate) fn gate_pins(
     alloc: Global,
     inputs: &[NetId],
@@ -29,7 +29,7 @@ pub(crate) fn gate_pins(
     Ok(pins)
 }
 
-/// The nets that a cell that stores a bit stands between.
+// The nets that a cell that stores a bit stands between.
 #[derive(Clone, Copy, Debug, PartialEq, Eq)]
 pub(crate) struct Between {
     pub(crate) clock: NetId,
@@ -37,7 +37,7 @@ pub(crate) struct Between {
     pub(crate) output: NetId,
 }
 
-/// The pins of a cell between these nets.
+// The pins of a cell between these nets.
 pub(crate) fn store_pins(
     alloc: Global,
     cell_pins: &[Pin],
@@ -52,7 +52,7 @@ pub(crate) fn store_pins(
     Ok(pins)
 }
 
-/// The pins of a cell of the library.
+// The pins of a cell of the library.
 pub(crate) fn cell_pins(library: &Library, cell: CellId) -> &[Pin]
     requires { cell.0 < length library.now }
     ensures { map role_of result.now ≡ (shape_of library.now (ALibrary cell)).roles }
@@ -60,7 +60,7 @@ pub(crate) fn cell_pins(library: &Library, cell: CellId) -> &[Pin]
     library.cell(cell).pins.as_slice()
 }
 
-/// What a pin is joined to, by what it is for.
+// What a pin is joined to, by what it is for.
 fn pin_between(nets: Between, role: Role) -> Signal
     ensures { result ≡ spec.pin_between nets.clock nets.input nets.output role }
 {
@@ -72,7 +72,7 @@ fn pin_between(nets: Between, role: Role) -> Signal
     }
 }
 
-/// The first flip-flop without reset of a library.
+// The first flip-flop without reset of a library.
 pub(crate) fn first_dff(library: &Library) -> CellId
     ensures first { result ≡ first_cell is_dff library.now }
     ensures there { result.0 < length library.now }
@@ -83,7 +83,7 @@ pub(crate) fn first_dff(library: &Library) -> CellId
     }
 }
 
-/// The first lock-up of a library.
+// The first lock-up of a library.
 pub(crate) fn first_lockup(library: &Library) -> CellId
     ensures first { result ≡ first_cell is_lockup library.now }
     ensures there { result.0 < length library.now }

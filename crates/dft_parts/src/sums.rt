@@ -27,7 +27,7 @@ impl PartsBuilder {
         Ok(left[0])
     }
 
-    /// Joins neighbours by XOR gates, two by two, and passes an odd last net on.
+    // Joins neighbours by XOR gates, two by two, and passes an odd last net on.
     fn pairs(&mut self, nets: &[NetId]) -> Result<Vec<NetId>, NetlistError>
         requires { AreThere self.old.netlist nets.now }
         ensures makes { Makes (λ joined. joined.items) (spec.pairs nets.now) self.old result self.new }

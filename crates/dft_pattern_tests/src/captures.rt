@@ -281,7 +281,7 @@ fn captured(alloc: Global, job: &Job<'_>, rows: &[Vec<u64>]) -> Result<String, A
     Ok(line)
 }
 
-/// What the cubes capture as patterns, loaded by these rows of channel bits.
+// What the cubes capture as patterns, loaded by these rows of channel bits.
 pub(crate) fn line(alloc: Global, job: &Job<'_>, rows: &str) -> Result<String, AllocError>
     requires range { IsInRange job.now.config.now }
     requires passed { refusal job.now.design.now job.now.config.now ≡ None }

@@ -114,7 +114,7 @@ fn compared(
     }
 }
 
-/// Whether the cubes, by turns and with random loads, capture the same in groups and one by one.
+// Whether the cubes, by turns and with random loads, capture the same in groups and one by one.
 pub(crate) fn line(alloc: Global, job: &Job<'_>) -> Result<String, AllocError>
     requires range { IsInRange job.now.config.now }
     requires passed { refusal job.now.design.now job.now.config.now ≡ None }

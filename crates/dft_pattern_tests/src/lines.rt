@@ -19,7 +19,7 @@ use std::alloc::{AllocError, Global};
 // Longer texts of configurations and cubes are not read.
 const LONGEST: usize = 4096;
 
-/// A netlist, a configuration and cubes.
+// A netlist, a configuration and cubes.
 #[derive(Clone, Copy)]
 pub(crate) struct Texts<'a> {
     pub(crate) netlist: &'a str,
@@ -27,8 +27,8 @@ pub(crate) struct Texts<'a> {
     pub(crate) cubes: &'a str,
 }
 
-/// What is told of them: where the cubes go and the channel bits of the patterns; what the cubes capture as patterns, loaded by
-/// these rows of channel bits; whether many patterns capture the same in groups and one by one.
+// What is told of them: where the cubes go and the channel bits of the patterns; what the cubes capture as patterns, loaded by
+// these rows of channel bits; whether many patterns capture the same in groups and one by one.
 #[derive(Clone, Copy)]
 pub(crate) enum Told<'a> {
     Placements,
@@ -36,7 +36,7 @@ pub(crate) enum Told<'a> {
     Groups,
 }
 
-/// What the texts stand for, and the chains of the design.
+// What the texts stand for, and the chains of the design.
 #[derive(Clone, Copy)]
 pub(crate) struct Job<'a> {
     pub(crate) design: &'a Design,

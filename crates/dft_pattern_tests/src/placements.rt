@@ -287,7 +287,7 @@ fn loaded(
     merged(alloc, config, chains, &equations, cubes)
 }
 
-/// What becomes of the cubes of a job.
+// What becomes of the cubes of a job.
 pub(crate) fn line(alloc: Global, job: &Job<'_>) -> Result<String, AllocError>
     requires range { IsInRange job.now.config.now }
     requires chains { job.now.chains.now ≡ plan_of job.now.design.now job.now.config.now }

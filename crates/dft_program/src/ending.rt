@@ -12,7 +12,7 @@ use std::io;
 use std::process::ExitCode;
 use std::rt::Env;
 
-/// The exit status of a command's status (0 where it is done).
+// The exit status of a command's status (0 where it is done).
 fn number_of(status: Status) -> u8
     ensures { result ≡ status_number status }
 {

@@ -12,14 +12,14 @@ use dft_netlist::NetId;
 use dft_patterns::{Act, Acts};
 use std::alloc::{AllocError, Global};
 
-/// The act at the signal with this number.
+// The act at the signal with this number.
 pub(crate) fn act_at(acts: &[Act], signal: usize) -> Act
     ensures { result ≡ spec.act_at acts.now signal }
 {
     acts.get(signal).copied().unwrap_or(Act::Unset)
 }
 
-/// What an act leaves an input at that had this value before.
+// What an act leaves an input at that had this value before.
 pub(crate) fn set_by(act: Act, before: Tri) -> Tri
     ensures { result ≡ rows.set_by act before }
 {
@@ -30,7 +30,7 @@ pub(crate) fn set_by(act: Act, before: Tri) -> Tri
     }
 }
 
-/// Whether two values differ.
+// Whether two values differ.
 pub(crate) fn differ(one: Tri, other: Tri) -> bool
     ensures { result ≡ false → one ≡ other }
 {
@@ -49,7 +49,7 @@ fn is_pulse(act: Act) -> bool
     }
 }
 
-/// The bit that an act compares, if it compares one.
+// The bit that an act compares, if it compares one.
 pub(crate) fn printed(act: Act) -> Option<bool>
     ensures { result ≡ spec.printed act }
 {
@@ -60,7 +60,7 @@ pub(crate) fn printed(act: Act) -> Option<bool>
     }
 }
 
-/// What a compared bit comes to where its value is not as printed.
+// What a compared bit comes to where its value is not as printed.
 pub(crate) fn differs(vector: u32, signal: u32, value: Tri, printed: bool) -> Option<Verdict>
     ensures { result ≡ decided_by vector signal value printed None }
 {
@@ -71,7 +71,7 @@ pub(crate) fn differs(vector: u32, signal: u32, value: Tri, printed: bool) -> Op
     }
 }
 
-/// Whether the signal with this number pulses in some vector.
+// Whether the signal with this number pulses in some vector.
 fn pulses_at(vectors: &[Acts], signal: usize) -> bool
     ensures { result ≡ spec.pulses_at vectors.now signal }
 {
@@ -80,7 +80,7 @@ fn pulses_at(vectors: &[Acts], signal: usize) -> bool
         .any(|acts| is_pulse(act_at(acts.as_slice(), signal)))
 }
 
-/// The signals that pulse in some vector, of the first so many.
+// The signals that pulse in some vector, of the first so many.
 pub(crate) fn clocks_of(
     alloc: Global,
     count: usize,
@@ -97,7 +97,7 @@ pub(crate) fn clocks_of(
     Ok(clocks)
 }
 
-/// The nets of these signals.
+// The nets of these signals.
 pub(crate) fn nets_at(
     alloc: Global,
     nets: &[NetId],
@@ -111,7 +111,7 @@ pub(crate) fn nets_at(
         .collect(alloc)
 }
 
-/// Says of each clock whether it pulses in this vector.
+// Says of each clock whether it pulses in this vector.
 pub(crate) fn mark(clocks: &[usize], acts: &[Act], pulsed: &mut [bool])
     requires { length pulsed.old ≡ length clocks.now }
     ensures { pulsed.new ≡ map (λ signal. rows.is_pulse (spec.act_at acts.now signal)) clocks.now }

@@ -17,14 +17,14 @@ use dft_cycle::AbstractMachine;
 use dft_netlist::NetId;
 use dft_patterns::Act;
 
-/// A bit that a vector compares: the number of its signal, and the bit that is printed.
+// A bit that a vector compares: the number of its signal, and the bit that is printed.
 #[derive(Clone, Copy)]
 pub(crate) struct Asked {
     pub signal: u32,
     pub printed: bool,
 }
 
-/// Lists what a vector compares, in the order of the signals: the nets, and beside them what is printed.
+// Lists what a vector compares, in the order of the signals: the nets, and beside them what is printed.
 pub(crate) fn list_compared(
     nets: &[NetId],
     acts: &[Act],
@@ -53,7 +53,7 @@ pub(crate) fn list_compared(
     }
 }
 
-/// What the first of these bits that does not have the printed value comes to, if there is one.
+// What the first of these bits that does not have the printed value comes to, if there is one.
 fn decide(vector: u32, asked: &[Asked], seen: &[Tri]) -> Option<Verdict>
     requires { length seen.now ≡ length asked.now }
     ensures first { result ≡ decided_seen vector asked.now seen.now }
@@ -69,7 +69,7 @@ fn decide(vector: u32, asked: &[Asked], seen: &[Tri]) -> Option<Verdict>
     None
 }
 
-/// What the values of these nets at a strobe come to, compared with what is printed.
+// What the values of these nets at a strobe come to, compared with what is printed.
 pub(crate) fn compare(
     machine: &mut AbstractMachine<'_>,
     vector: u32,

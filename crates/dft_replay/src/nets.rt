@@ -24,7 +24,7 @@ fn same_dir(a: Dir, b: Dir) -> bool
     }
 }
 
-/// Adds a direction for each of these bits.
+// Adds a direction for each of these bits.
 fn add_bits(dirs: &mut Vec<Dir>, dir: Dir, bits: &[NetId]) -> Result<(), AllocError>
     ensures { OnOk result (dirs.new.items ≡ dirs.old.items ++ map (λ net. dir) bits.now) }
 {
@@ -34,7 +34,7 @@ fn add_bits(dirs: &mut Vec<Dir>, dir: Dir, bits: &[NetId]) -> Result<(), AllocEr
     Ok(())
 }
 
-/// The direction of each bit of the ports, by its net: their nets come first.
+// The direction of each bit of the ports, by its net: their nets come first.
 fn directions(alloc: Global, ports: &[Port]) -> Result<Vec<Dir>, AllocError>
     ensures { IfOk result (λ dirs. dirs.items ≡ dirs_of ports.now) }
 {
@@ -45,7 +45,7 @@ fn directions(alloc: Global, ports: &[Port]) -> Result<Vec<Dir>, AllocError>
     Ok(dirs)
 }
 
-/// The net of a signal, if it is a bit of a port with its direction.
+// The net of a signal, if it is a bit of a port with its direction.
 fn net_of(design: &Design, dirs: &[Dir], signal: &StilSignal) -> Option<NetId>
     requires sound { IsNetlist design.now }
     requires dirs { dirs.now ≡ dirs_of design.now.ports }
@@ -67,7 +67,7 @@ fn net_of(design: &Design, dirs: &[Dir], signal: &StilSignal) -> Option<NetId>
     }
 }
 
-/// The net of each signal. P7 tells the first signal that is no bit of a port with its direction.
+// The net of each signal. P7 tells the first signal that is no bit of a port with its direction.
 pub(crate) fn nets_of(
     alloc: Global,
     design: &Design,

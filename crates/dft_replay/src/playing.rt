@@ -19,7 +19,7 @@ use dft_netlist::NetId;
 use dft_patterns::Act;
 use std::alloc::{AllocError, Global};
 
-/// Sets the inputs that a vector sets.
+// Sets the inputs that a vector sets.
 fn set_inputs(machine: &mut AbstractMachine<'_>, nets: &[NetId], acts: &[Act])
     requires forced { IsForced machine.old }
     requires nets { AreSignals (length machine.old.netlist.nets) nets.now }
@@ -36,7 +36,7 @@ fn set_inputs(machine: &mut AbstractMachine<'_>, nets: &[NetId], acts: &[Act])
     }
 }
 
-/// What the vectors of a replay use again and again, made once.
+// What the vectors of a replay use again and again, made once.
 #[derive(Drop)]
 pub(crate) struct Room {
     pub pulsed: Vec<bool>,
@@ -59,7 +59,7 @@ impl Room {
     }
 }
 
-/// Plays a vector: sets its inputs, compares at a strobe and pulses.
+// Plays a vector: sets its inputs, compares at a strobe and pulses.
 pub(crate) fn play(
     machine: &mut AbstractMachine<'_>,
     nets: &[NetId],

@@ -22,7 +22,7 @@ use dft_netlist::{Design, NetId};
 use dft_patterns::{Acts, PatternSet};
 use std::alloc::{AllocError, Global};
 
-/// The verdict of vectors at signals with these nets.
+// The verdict of vectors at signals with these nets.
 fn verdict_at(
     alloc: Global,
     design: &Design,

@@ -13,7 +13,7 @@ fn bit_text(bit: bool) -> &'static [u8]
     if bit { b" 1" } else { b" 0" }
 }
 
-/// Adds variables, with a blank before each.
+// Adds variables, with a blank before each.
 fn add_each(out: &mut Vec<u8>, variables: &[Variable]) -> Result<(), AllocError>
     ensures { OnOk result (out.new.items ≡ out.old.items ++ flat_map form.variable_text variables.now) }
 {
@@ -26,7 +26,7 @@ fn add_each(out: &mut Vec<u8>, variables: &[Variable]) -> Result<(), AllocError>
     Ok(())
 }
 
-/// Adds variables, or a stroke where there is none.
+// Adds variables, or a stroke where there is none.
 #[tactic(auto, using(crate::proofs::TextLemmas::some_variables, crate::proofs::TextLemmas::no_variables))]
 fn add_variables(out: &mut Vec<u8>, variables: &[Variable]) -> Result<(), AllocError>
     ensures { OnOk result (out.new.items ≡ out.old.items ++ form.variables_text variables.now) }
@@ -38,7 +38,7 @@ fn add_variables(out: &mut Vec<u8>, variables: &[Variable]) -> Result<(), AllocE
     }
 }
 
-/// Adds the lines of sums.
+// Adds the lines of sums.
 #[tactic(auto, unfolding(crate::specs::Written::sum_line))]
 fn add_sums(out: &mut Vec<u8>, sums: &[SumLine]) -> Result<(), AllocError>
     ensures { OnOk result (out.new.items ≡ out.old.items ++ flat_map form.sum_line sums.now) }
@@ -61,7 +61,7 @@ fn add_encoded(out: &mut Vec<u8>, pattern: u32) -> Result<(), AllocError>
     out.extend_from_slice(b"\n")
 }
 
-/// Adds how many sums there are, and their lines.
+// Adds how many sums there are, and their lines.
 #[tactic(auto, unfolding(crate::specs::Written::unsolvable_text))]
 fn add_unsolvable(out: &mut Vec<u8>, sums: &[SumLine]) -> Result<(), AllocError>
     ensures { OnOk result (out.new.items ≡ out.old.items ++ form.unsolvable_text sums.now) }
@@ -73,7 +73,7 @@ fn add_unsolvable(out: &mut Vec<u8>, sums: &[SumLine]) -> Result<(), AllocError>
     Ok(())
 }
 
-/// Adds what became of a cube.
+// Adds what became of a cube.
 fn add_outcome(out: &mut Vec<u8>, outcome: &CubeLine) -> Result<(), AllocError>
     ensures { OnOk result (out.new.items ≡ out.old.items ++ form.outcome_text outcome.now) }
 {
@@ -88,7 +88,7 @@ fn add_outcome(out: &mut Vec<u8>, outcome: &CubeLine) -> Result<(), AllocError>
     }
 }
 
-/// Adds the lines of a cube.
+// Adds the lines of a cube.
 #[tactic(auto, unfolding(crate::specs::Written::cube_lines))]
 fn add_cube(out: &mut Vec<u8>, cube: &CubeReport) -> Result<(), AllocError>
     ensures { OnOk result (out.new.items ≡ out.old.items ++ form.cube_lines cube.now) }
@@ -98,7 +98,7 @@ fn add_cube(out: &mut Vec<u8>, cube: &CubeReport) -> Result<(), AllocError>
     add_outcome(out, &cube.outcome)
 }
 
-/// Adds the lines of cubes.
+// Adds the lines of cubes.
 pub(crate) fn add_cubes(out: &mut Vec<u8>, cubes: &[CubeReport]) -> Result<(), AllocError>
     ensures { OnOk result (out.new.items ≡ out.old.items ++ flat_map form.cube_lines cubes.now) }
 {

@@ -5,7 +5,7 @@ ghost use Rattle.std.specs.Prelude.{◌≡◌, ◌++◌, OnOk, decimal};
 use itoa::Buffer;
 use std::alloc::AllocError;
 
-/// Adds a number in decimal.
+// Adds a number in decimal.
 pub(crate) fn add_number(out: &mut Vec<u8>, number: u64) -> Result<(), AllocError>
     ensures { OnOk result (out.new.items ≡ out.old.items ++ decimal number) }
 {

@@ -12,7 +12,7 @@ use crate::report::{Header, Load, Report, ScannedLine, UnscannedLine};
 use dft_base::Rule;
 use std::alloc::{AllocError, Global};
 
-/// Adds the cycles and the variables of a load.
+// Adds the cycles and the variables of a load.
 #[tactic(auto, unfolding(crate::specs::Written::counts_text))]
 fn add_counts(out: &mut Vec<u8>, load: Load) -> Result<(), AllocError>
     ensures { OnOk result (out.new.items ≡ out.old.items ++ form.counts_text load) }
@@ -24,7 +24,7 @@ fn add_counts(out: &mut Vec<u8>, load: Load) -> Result<(), AllocError>
     Ok(())
 }
 
-/// Adds the counts of a load, if there are any.
+// Adds the counts of a load, if there are any.
 fn add_load(out: &mut Vec<u8>, load: Option<Load>) -> Result<(), AllocError>
     ensures { OnOk result (out.new.items ≡ out.old.items ++ form.load_text load) }
 {
@@ -34,7 +34,7 @@ fn add_load(out: &mut Vec<u8>, load: Option<Load>) -> Result<(), AllocError>
     }
 }
 
-/// Adds the line of the counts.
+// Adds the line of the counts.
 #[tactic(auto, unfolding(crate::specs::Written::header_line))]
 fn add_header(out: &mut Vec<u8>, header: Header) -> Result<(), AllocError>
     ensures { OnOk result (out.new.items ≡ out.old.items ++ form.header_line header) }
@@ -47,7 +47,7 @@ fn add_header(out: &mut Vec<u8>, header: Header) -> Result<(), AllocError>
     out.extend_from_slice(b"\n")
 }
 
-/// Adds the line of a chain.
+// Adds the line of a chain.
 #[tactic(auto, unfolding(crate::specs::Written::chain_line))]
 fn add_chain(out: &mut Vec<u8>, chain: usize, length: u32) -> Result<(), AllocError>
     ensures { OnOk result (out.new.items ≡ out.old.items ++ form.chain_line chain length) }
@@ -59,7 +59,7 @@ fn add_chain(out: &mut Vec<u8>, chain: usize, length: u32) -> Result<(), AllocEr
     out.extend_from_slice(b"\n")
 }
 
-/// Adds the lines of chains, numbered from 0.
+// Adds the lines of chains, numbered from 0.
 fn add_chains(out: &mut Vec<u8>, lengths: &[u32]) -> Result<(), AllocError>
     ensures { OnOk result (out.new.items ≡ out.old.items ++ form.chain_lines 0 lengths.now) }
 {
@@ -69,7 +69,7 @@ fn add_chains(out: &mut Vec<u8>, lengths: &[u32]) -> Result<(), AllocError>
     Ok(())
 }
 
-/// Adds a place of a chain.
+// Adds a place of a chain.
 #[tactic(auto, unfolding(crate::specs::Written::place_text))]
 fn add_place(out: &mut Vec<u8>, chain: u32, place: u32) -> Result<(), AllocError>
     ensures { OnOk result (out.new.items ≡ out.old.items ++ form.place_text chain place) }
@@ -81,7 +81,7 @@ fn add_place(out: &mut Vec<u8>, chain: u32, place: u32) -> Result<(), AllocError
     out.extend_from_slice(b"\n")
 }
 
-/// Adds the line of a scanned flip-flop.
+// Adds the line of a scanned flip-flop.
 #[tactic(auto, unfolding(crate::specs::Written::scanned_line))]
 fn add_scanned_line(out: &mut Vec<u8>, line: &ScannedLine) -> Result<(), AllocError>
     ensures { OnOk result (out.new.items ≡ out.old.items ++ form.scanned_line line.now) }
@@ -94,7 +94,7 @@ fn add_scanned_line(out: &mut Vec<u8>, line: &ScannedLine) -> Result<(), AllocEr
     Ok(())
 }
 
-/// Adds the lines of the scanned flip-flops.
+// Adds the lines of the scanned flip-flops.
 fn add_scanned(out: &mut Vec<u8>, lines: &[ScannedLine]) -> Result<(), AllocError>
     ensures { OnOk result (out.new.items ≡ out.old.items ++ flat_map form.scanned_line lines.now) }
 {
@@ -115,7 +115,7 @@ fn rule_text(rule: Rule) -> &'static [u8]
     }
 }
 
-/// Adds the lines of the flip-flops that are not scanned.
+// Adds the lines of the flip-flops that are not scanned.
 #[tactic(auto, unfolding(crate::specs::Written::unscanned_line))]
 fn add_unscanned(out: &mut Vec<u8>, lines: &[UnscannedLine]) -> Result<(), AllocError>
     ensures { OnOk result (out.new.items ≡ out.old.items ++ flat_map form.unscanned_line lines.now) }
@@ -130,7 +130,7 @@ fn add_unscanned(out: &mut Vec<u8>, lines: &[UnscannedLine]) -> Result<(), Alloc
     Ok(())
 }
 
-/// All lines before those of cubes.
+// All lines before those of cubes.
 #[tactic(auto, unfolding(crate::specs::Written::lines_before_cubes))]
 fn before_cubes(alloc: Global, report: &Report) -> Result<Vec<u8>, AllocError>
     ensures { IfOk result (λ bytes. bytes.items ≡ form.lines_before_cubes report.now) }
@@ -144,7 +144,7 @@ fn before_cubes(alloc: Global, report: &Report) -> Result<Vec<u8>, AllocError>
     Ok(out)
 }
 
-/// The whole text, however long it is.
+// The whole text, however long it is.
 #[tactic(auto, unfolding(crate::specs::Written::written))]
 fn text_of(alloc: Global, report: &Report) -> Result<Vec<u8>, AllocError>
     ensures { IfOk result (λ bytes. bytes.items ≡ form.written report.now) }

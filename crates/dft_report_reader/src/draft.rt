@@ -15,7 +15,7 @@ use dft_report::{
 };
 use std::alloc::{AllocError, Global};
 
-/// An unsolvable cube, of which some sums are to come.
+// An unsolvable cube, of which some sums are to come.
 #[derive(Debug, Drop)]
 pub(crate) struct Pending {
     pub(crate) name: Name,
@@ -23,7 +23,7 @@ pub(crate) struct Pending {
     pub(crate) owed: u32,
 }
 
-/// What has been read.
+// What has been read.
 #[derive(Debug, Drop)]
 pub(crate) struct Draft {
     pub(crate) header: Header,
@@ -36,7 +36,7 @@ pub(crate) struct Draft {
 }
 
 impl Draft {
-    /// Nothing was read.
+    // Nothing was read.
     pub(crate) fn new(alloc: Global) -> Draft
         ensures { reading_of result ≡ spec.nothing_read }
     {
@@ -55,7 +55,7 @@ impl Draft {
         }
     }
 
-    /// The report, where all is read.
+    // The report, where all is read.
     pub(crate) fn into_report(self) -> Report
         ensures { result ≡ spec.report_in (reading_of self) }
     {
@@ -286,7 +286,7 @@ impl Draft {
         self.sum(name, bit, variables)
     }
 
-    /// Takes what a line says; false where it may not stand there.
+    // Takes what a line says; false where it may not stand there.
     pub(crate) fn take(&mut self, alloc: Global, heard: Heard<'_>) -> Result<bool, AllocError>
         requires { SaysNames (said_by heard) }
         ensures { Takes (spec.with_said (reading_of self.old) (Some (said_by heard.entry))) result self.new }
@@ -313,7 +313,7 @@ impl Draft {
         }
     }
 
-    /// Takes a line; false where it is not of the form, or may not stand there.
+    // Takes a line; false where it is not of the form, or may not stand there.
     pub(crate) fn take_line(&mut self, alloc: Global, line: &[u8]) -> Result<bool, AllocError>
         ensures { Takes (spec.with_said (reading_of self.old) (saying.said_of (texts.words_of line.now))) result self.new }
     {

@@ -12,7 +12,7 @@ use crate::words::is_name;
 use dft_base::Rule;
 use dft_report::{Header, Load};
 
-/// What a line says.
+// What a line says.
 #[derive(Clone, Copy, Debug)]
 pub(crate) enum Heard<'a> {
     Title,
@@ -399,7 +399,7 @@ fn heard_by<'a>(word: &[u8], words: &'a [&'a [u8]]) -> Option<Heard<'a>>
     }
 }
 
-/// What a line with these words says, if that is something.
+// What a line with these words says, if that is something.
 pub(crate) fn heard_of<'a>(words: &'a [&'a [u8]]) -> Option<Heard<'a>>
     ensures said { option_map said_by result ≡ spec.said_of (map (λ word. word.now) words.now) }
     ensures names { IfSome result (λ heard. SaysNames (said_by heard)) }

@@ -12,7 +12,7 @@ fn has_leading_zero(word: &[u8]) -> bool
     }
 }
 
-/// The number that a word writes in decimal, without leading zeros and below 2^32.
+// The number that a word writes in decimal, without leading zeros and below 2^32.
 pub(crate) fn number_of(word: &[u8]) -> Option<u32>
     ensures { result ≡ spec.number_of word.now }
 {

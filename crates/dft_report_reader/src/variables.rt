@@ -55,7 +55,7 @@ fn all_variables(alloc: Global, words: &[&[u8]]) -> Result<Option<Vec<Variable>>
     Ok(Some(variables))
 }
 
-/// The variables that words write: a stroke for none, or one at least.
+// The variables that words write: a stroke for none, or one at least.
 pub(crate) fn variables_of(
     alloc: Global,
     words: &[&[u8]],

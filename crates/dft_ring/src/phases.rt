@@ -11,7 +11,7 @@ use dft_netlist::{NetId, NetlistError};
 use dft_parts::{PartsBuilder, push_net};
 use std::alloc::{AllocError, Global};
 
-/// Makes for each chain the sum of its phase set.
+// Makes for each chain the sum of its phase set.
 pub(crate) fn make_phases(
     parts: &mut PartsBuilder,
     ring: &RingConfig,
@@ -34,7 +34,7 @@ pub(crate) fn make_phases(
     Ok(phases)
 }
 
-/// Makes the sum of the phase set of a chain.
+// Makes the sum of the phase set of a chain.
 fn make_phase(
     parts: &mut PartsBuilder,
     ring: &RingConfig,
@@ -54,7 +54,7 @@ fn make_phase(
     parts.sum(&terms)
 }
 
-/// The nets of these stages.
+// The nets of these stages.
 fn phase_terms(alloc: Global, stages: &[NetId], set: &[u8]) -> Result<Vec<NetId>, AllocError>
     requires { All (λ stage. stage < length stages.now) set.now }
     ensures nets { IfOk result (λ terms. terms.items ≡ map (net_at stages.now) set.now) }

@@ -13,7 +13,7 @@ use dft_netlist::{NetId, NetlistError};
 use dft_parts::{EdtPorts, PartsBuilder, push_net};
 use std::alloc::{AllocError, Global};
 
-/// Makes so many nets.
+// Makes so many nets.
 pub(crate) fn make_nets(parts: &mut PartsBuilder, count: u8) -> Result<Vec<NetId>, NetlistError>
     ensures makes { Makes (λ nets. nets.items) (nets_made count) parts.old result parts.new }
     ensures there { IfOk result (λ nets. AreThere parts.new.netlist nets.items) }
@@ -29,7 +29,7 @@ pub(crate) fn make_nets(parts: &mut PartsBuilder, count: u8) -> Result<Vec<NetId
     Ok(nets)
 }
 
-/// Makes the stages of the ring, at nets that are there.
+// Makes the stages of the ring, at nets that are there.
 pub(crate) fn make_stages(
     parts: &mut PartsBuilder,
     ring: &RingConfig,
@@ -53,7 +53,7 @@ pub(crate) fn make_stages(
     Ok(())
 }
 
-/// Makes a stage of the ring: a flip-flop that takes the sum of what feeds the stage where `run` is 1, and else 0.
+// Makes a stage of the ring: a flip-flop that takes the sum of what feeds the stage where `run` is 1, and else 0.
 fn make_stage(
     parts: &mut PartsBuilder,
     ring: &RingConfig,
@@ -85,7 +85,7 @@ fn make_stage(
     parts.flop(ports.edt_clock, kept, stages[stage as usize])
 }
 
-/// The nets that a stage sums: that of the stage after it, those of its taps, then those of its injectors' channels.
+// The nets that a stage sums: that of the stage after it, those of its taps, then those of its injectors' channels.
 fn stage_terms(
     alloc: Global,
     ring: &RingConfig,
@@ -108,7 +108,7 @@ fn stage_terms(
     Ok(terms)
 }
 
-/// Adds the nets of the taps to a stage.
+// Adds the nets of the taps to a stage.
 fn push_taps(
     terms: &mut Vec<NetId>,
     taps: &[Tap],
@@ -126,7 +126,7 @@ fn push_taps(
     Ok(())
 }
 
-/// Adds the nets of the channels of the injectors to a stage.
+// Adds the nets of the channels of the injectors to a stage.
 fn push_injectors(
     terms: &mut Vec<NetId>,
     injectors: &[Injector],

@@ -9,7 +9,7 @@ ghost use Rattle.dft_rules.specs.Rules as rules;
 use dft_cells::{Cell, Kind, Role};
 use dft_netlist::{CellRef, role_at};
 
-/// Whether this pin takes what it is joined to as data.
+// Whether this pin takes what it is joined to as data.
 pub(crate) fn takes_data(cells: &[Cell], cell: CellRef, pin: usize) -> bool
     ensures { result ≡ option_map_or refusals.takes_data (slice_get (shape_of cells.now cell).roles pin) false }
 {
@@ -19,7 +19,7 @@ pub(crate) fn takes_data(cells: &[Cell], cell: CellRef, pin: usize) -> bool
     }
 }
 
-/// Whether the cell names a scan cell.
+// Whether the cell names a scan cell.
 pub(crate) fn has_scan_cell(cells: &[Cell], cell: CellRef) -> bool
     ensures { result ≡ is_some (rules.scan_cell_in cells.now cell) }
 {
@@ -32,14 +32,14 @@ pub(crate) fn has_scan_cell(cells: &[Cell], cell: CellRef) -> bool
     }
 }
 
-/// Whether flip-flops of this kind are judged.
+// Whether flip-flops of this kind are judged.
 pub(crate) fn may_be_scanned(kind: Kind) -> bool
     ensures { result ≡ rules.may_be_scanned kind }
 {
     matches!(kind, Kind::Dff | Kind::Dffr | Kind::Dffs)
 }
 
-/// Whether a cell of this kind uses its inputs as data.
+// Whether a cell of this kind uses its inputs as data.
 pub(crate) fn uses_data(kind: Kind) -> bool
     ensures { result ≡ refusals.uses_data kind }
 {

@@ -12,7 +12,7 @@ use dft_cells::{Cell, Kind};
 use dft_netlist::{Instance, Port, kind_of};
 use std::alloc::Global;
 
-/// Tests that no instance is a scan cell or a lock-up.
+// Tests that no instance is a scan cell or a lock-up.
 pub(crate) fn check_absent(
     alloc: Global,
     cells: &[Cell],
@@ -46,7 +46,7 @@ fn check_kind(alloc: Global, cells: &[Cell], instance: &Instance) -> Result<(), 
     }
 }
 
-/// Tests that no port's name has a double quote.
+// Tests that no port's name has a double quote.
 pub(crate) fn check_ports(alloc: Global, ports: &[Port]) -> Result<(), RuleError>
     ensures ok { OnOk result (spec.quoted_port ports.now ≡ None) }
     ensures refused { IfErr result (IsRefusal (spec.quoted_port ports.now)) }
@@ -67,7 +67,7 @@ fn has_quote(name: &[u8]) -> bool
     name.iter().any(|byte| *byte == b'"')
 }
 
-/// Tests that there are as many scanned cells as chains.
+// Tests that there are as many scanned cells as chains.
 pub(crate) fn check_count(verdicts: &[Option<Judged>], chains: u16) -> Result<(), RuleError>
     requires { length verdicts.now ≤ 262144 }
     ensures ok { OnOk result (spec.too_few verdicts.now chains ≡ None) }

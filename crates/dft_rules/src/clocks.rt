@@ -16,7 +16,7 @@ use dft_cells::Cell;
 use dft_netlist::{Design, Instance, NetId, Root, Signal, kind_of};
 use std::alloc::{AllocError, Global};
 
-/// Tests that no instance takes as data a net that traces to one of these nets, which are the configured domains'.
+// Tests that no instance takes as data a net that traces to one of these nets, which are the configured domains'.
 pub(crate) fn check_clocks(
     alloc: Global,
     design: &Design,
@@ -38,7 +38,7 @@ pub(crate) fn check_clocks(
     }
 }
 
-/// The first marked net that traces to one of these nets.
+// The first marked net that traces to one of these nets.
 fn first_clock(domains: &[NetId], roots: &[Root], used: &[bool]) -> Option<NetId>
     requires few { length domains.now ≤ 16 }
     requires small { length roots.now < 2 ^ 32 }
@@ -54,7 +54,7 @@ fn first_clock(domains: &[NetId], roots: &[Root], used: &[bool]) -> Option<NetId
     None
 }
 
-/// Marks the nets that some instance takes as data.
+// Marks the nets that some instance takes as data.
 fn data_nets(alloc: Global, design: &Design) -> Result<Vec<bool>, AllocError>
     ensures { IfOk result (λ used. AreUsed design.now.library design.now.instances (length design.now.nets) used.items) }
 {
@@ -65,7 +65,7 @@ fn data_nets(alloc: Global, design: &Design) -> Result<Vec<bool>, AllocError>
     Ok(used)
 }
 
-/// Marks the nets that an instance takes as data.
+// Marks the nets that an instance takes as data.
 fn mark_data(cells: &[Cell], instance: &Instance, used: &mut [bool])
     requires { IsInstance cells.now (length used.old) instance.now.name instance.now.cell instance.now.pins }
     ensures { (net : ℕ) → net < length used.old → slice_index_or used.new net false ≡ (slice_index_or used.old net false || is_data_of cells.now net instance.now) }
@@ -84,7 +84,7 @@ fn mark_pins(cells: &[Cell], instance: &Instance, used: &mut [bool])
     }
 }
 
-/// Marks the net of a pin that takes data.
+// Marks the net of a pin that takes data.
 fn mark(takes: bool, signal: Signal, used: &mut [bool])
     requires { IsLive (length used.old) signal }
     ensures { (net : ℕ) → net < length used.old → slice_index_or used.new net false ≡ (slice_index_or used.old net false || (takes && is_joined_to net signal)) }

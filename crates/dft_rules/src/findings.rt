@@ -13,20 +13,20 @@ use dft_base::Name;
 use dft_netlist::{Design, InstanceId, NetId, Root, Signal};
 use std::alloc::{AllocError, Global};
 
-/// What is looked up once, before flip-flops are judged.
+// What is looked up once, before flip-flops are judged.
 #[derive(Debug, Drop)]
 pub(crate) struct Findings {
-    /// The nets of the domains, in the order of the configuration.
+    // The nets of the domains, in the order of the configuration.
     pub(crate) domains: Vec<NetId>,
-    /// The nets of the resets.
+    // The nets of the resets.
     pub(crate) resets: Vec<NetId>,
-    /// Whether each instance is kept, by its number.
+    // Whether each instance is kept, by its number.
     pub(crate) kept: Vec<bool>,
-    /// The root of each net, by its number.
+    // The root of each net, by its number.
     pub(crate) roots: Vec<Root>,
 }
 
-/// The bits of input ports that these names stand for.
+// The bits of input ports that these names stand for.
 pub(crate) fn input_nets(
     alloc: Global,
     design: &Design,
@@ -46,7 +46,7 @@ pub(crate) fn input_nets(
     Ok(nets)
 }
 
-/// Marks the flip-flops with these names.
+// Marks the flip-flops with these names.
 pub(crate) fn kept_cells(
     alloc: Global,
     design: &Design,
@@ -66,7 +66,7 @@ pub(crate) fn kept_cells(
     Ok(marks)
 }
 
-/// The flip-flop with this name.
+// The flip-flop with this name.
 fn flip_flop_named(design: &Design, name: &[u8]) -> Option<InstanceId>
     ensures { result ≡ spec.flip_flop_named design.now name.now }
 {
@@ -86,7 +86,7 @@ fn unknown(alloc: Global, name: &Name) -> Result<RuleError, AllocError>
     })
 }
 
-/// The domain of a clock pin that is joined to this.
+// The domain of a clock pin that is joined to this.
 pub(crate) fn domain_at(domains: &[NetId], roots: &[Root], clock: Option<Signal>) -> Option<u8>
     requires { length domains.now ≤ 16 }
     ensures { result ≡ at.domain_at domains.now roots.now clock }
@@ -97,7 +97,7 @@ pub(crate) fn domain_at(domains: &[NetId], roots: &[Root], clock: Option<Signal>
     }
 }
 
-/// Whether the reset or the set, if there is one, is held at 1 while the resets are.
+// Whether the reset or the set, if there is one, is held at 1 while the resets are.
 pub(crate) fn are_held(
     resets: &[NetId],
     roots: &[Root],
@@ -127,7 +127,7 @@ fn is_held(resets: &[NetId], root: Root) -> bool
     }
 }
 
-/// The place of a root among nets.
+// The place of a root among nets.
 pub(crate) fn place_of(nets: &[NetId], root: Root) -> Option<u8>
     requires { length nets.now ≤ 16 }
     ensures { result ≡ place_among nets.now root }

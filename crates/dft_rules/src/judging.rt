@@ -37,7 +37,7 @@ pub fn judge(alloc: Global, design: &Design, config: &Config) -> Result<Verdicts
     Ok(Verdicts { verdicts })
 }
 
-/// Looks up what the rules ask, where no check before the count of the scanned cells fails.
+// Looks up what the rules ask, where no check before the count of the scanned cells fails.
 fn look_up(alloc: Global, design: &Design, config: &Config) -> Result<Findings, RuleError>
     requires { IsInRange config.now }
     ensures found { IfOk result (AreFindings design.now config.now) }
@@ -95,7 +95,7 @@ fn judge_instance(design: &Design, found: &Findings, number: usize) -> Option<Ju
     judgement(domain, held, scans, found.kept[number])
 }
 
-/// The judgement by the first rule that fails.
+// The judgement by the first rule that fails.
 fn judgement(domain: Option<u8>, held: bool, scans: bool, kept: bool) -> Option<Judged>
     ensures { result ≡ judged_by domain held scans kept }
 {

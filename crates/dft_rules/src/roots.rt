@@ -12,7 +12,7 @@ use dft_cells::Kind;
 use dft_netlist::{Design, InstanceId, NetDriver, NetId, Root, Signal, kind_of};
 use std::alloc::{AllocError, Global};
 
-/// The root that each net traces to. A net comes after those that its driver reads, so one step back is enough.
+// The root that each net traces to. A net comes after those that its driver reads, so one step back is enough.
 pub(crate) fn find_roots(alloc: Global, design: &Design) -> Result<Vec<Root>, AllocError>
     ensures { IfOk result (λ roots. AreRoots design.now roots.items) }
 {
@@ -24,7 +24,7 @@ pub(crate) fn find_roots(alloc: Global, design: &Design) -> Result<Vec<Root>, Al
     Ok(roots)
 }
 
-/// The root of a net, by the roots of the nets that its driver reads.
+// The root of a net, by the roots of the nets that its driver reads.
 fn root_from(design: &Design, net: NetId, roots: &[Root]) -> Root
     requires { net.0 < length design.now.nets }
     ensures { shown_root result ≡ traces.root_of_driver (root_among roots.now) net.0 (drivers.driver design.now net.0) }
@@ -37,7 +37,7 @@ fn root_from(design: &Design, net: NetId, roots: &[Root]) -> Root
     }
 }
 
-/// The root behind an output pin: that of a buffer's input, or the constant of a tie.
+// The root behind an output pin: that of a buffer's input, or the constant of a tie.
 fn root_through(design: &Design, id: InstanceId, pin: usize, net: NetId, roots: &[Root]) -> Root
     requires { id.0 < length design.now.instances }
     ensures { shown_root result ≡ traces.root_of_driver (root_among roots.now) net.0 (driver_at design.now (Pin id pin)) }
@@ -51,7 +51,7 @@ fn root_through(design: &Design, id: InstanceId, pin: usize, net: NetId, roots: 
     }
 }
 
-/// The root of what a pin is joined to.
+// The root of what a pin is joined to.
 pub(crate) fn root_at(roots: &[Root], signal: Signal) -> Root
     ensures { result ≡ root_in roots.now signal }
 {

@@ -36,7 +36,7 @@ fn is_unscanned(verdict: Option<Judged>) -> bool
     matches!(verdict, Some(Judged::Unscanned { .. }))
 }
 
-/// How many flip-flops are scanned.
+// How many flip-flops are scanned.
 fn scanned_count(instances: u32, verdicts: &Verdicts) -> u32
     requires { length verdicts.now ≡ instances }
     ensures { result ≡ spec.scanned_count verdicts.now }
@@ -50,7 +50,7 @@ fn scanned_count(instances: u32, verdicts: &Verdicts) -> u32
     found
 }
 
-/// How many flip-flops are judged and not scanned.
+// How many flip-flops are judged and not scanned.
 fn unscanned_count(instances: u32, verdicts: &Verdicts) -> u32
     requires { length verdicts.now ≡ instances }
     ensures { result ≡ spec.unscanned_count verdicts.now }

@@ -11,7 +11,7 @@ use dft_rules::{Judged, Rule, Verdicts};
 use dft_stitch::domain_of;
 use std::alloc::{AllocError, Global};
 
-/// The line of the cell at a place of a chain.
+// The line of the cell at a place of a chain.
 pub(crate) fn scanned_line(
     alloc: Global,
     design: &Design,
@@ -46,7 +46,7 @@ fn scanned_as(
     })
 }
 
-/// The name of an instance, if it has one.
+// The name of an instance, if it has one.
 fn name_of(alloc: Global, design: &Design, cell: InstanceId) -> Result<Option<Name>, AllocError>
     ensures { IfOk result (λ name. name ≡ spec.name_of design.now cell.0) }
 {
@@ -65,7 +65,7 @@ fn copied(alloc: Global, name: &Option<Name>) -> Result<Option<Name>, AllocError
     }
 }
 
-/// The name of the port of the domain in which a cell is scanned.
+// The name of the port of the domain in which a cell is scanned.
 fn domain_name(
     alloc: Global,
     config: &Config,
@@ -89,7 +89,7 @@ fn name_at(alloc: Global, names: &[Name], place: u8) -> Result<Option<Name>, All
     }
 }
 
-/// The line of an instance that is judged so, if it is a flip-flop that is not scanned.
+// The line of an instance that is judged so, if it is a flip-flop that is not scanned.
 pub(crate) fn unscanned_line(
     alloc: Global,
     instance: &Instance,

@@ -44,7 +44,7 @@ pub fn report_of(
     })
 }
 
-/// The lengths of the chains.
+// The lengths of the chains.
 fn lengths_of(alloc: Global, chains: &Chains) -> Result<Vec<u32>, AllocError>
     requires { All (λ cells. length cells ≤ 65536) chains.now.chains }
     ensures { IfOk result (λ lengths. lengths.items ≡ spec.lengths_of chains.now.chains) }
@@ -57,7 +57,7 @@ fn lengths_of(alloc: Global, chains: &Chains) -> Result<Vec<u32>, AllocError>
     Ok(lengths)
 }
 
-/// The lines of the scanned cells, by chain and place.
+// The lines of the scanned cells, by chain and place.
 fn scanned_lines(
     alloc: Global,
     design: &Design,
@@ -85,7 +85,7 @@ fn scanned_lines(
     Ok(lines)
 }
 
-/// Adds the lines of a chain, from the scan input on.
+// Adds the lines of a chain, from the scan input on.
 fn add_chain(
     alloc: Global,
     lines: &mut Vec<ScannedLine>,
@@ -105,7 +105,7 @@ fn add_chain(
     Ok(())
 }
 
-/// Adds an item, if there is one.
+// Adds an item, if there is one.
 fn add<T: Drop>(items: &mut Vec<T>, item: Option<T>) -> Result<(), AllocError>
     ensures { OnOk result (items.new.items ≡ items.old.items ++ listed item) }
 {
@@ -115,7 +115,7 @@ fn add<T: Drop>(items: &mut Vec<T>, item: Option<T>) -> Result<(), AllocError>
     Ok(())
 }
 
-/// The lines of the flip-flops that are not scanned, by the order of the instances.
+// The lines of the flip-flops that are not scanned, by the order of the instances.
 fn unscanned_lines(
     alloc: Global,
     instances: &[Instance],

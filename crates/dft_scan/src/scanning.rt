@@ -50,7 +50,7 @@ pub fn scan(alloc: Global, design: &Design, config: &Config) -> Result<ScanTexts
     })
 }
 
-/// What a finished design is, beside what the scan rules ask.
+// What a finished design is, beside what the scan rules ask.
 fn ready(design: &Design)
     ensures { (config : Config) → IsInRange config → rules.refusal design.now config ≡ None → IsReady design.now config }
 {

@@ -58,7 +58,7 @@ pub fn carry_joins(builder: &mut DesignBuilder, joins: &[Join], gap: &Gap) -> Re
     Ok(())
 }
 
-/// What a pin or a join of the design is joined to in the scanned netlist.
+// What a pin or a join of the design is joined to in the scanned netlist.
 fn moved_signal(gap: &Gap, signal: Signal) -> Signal
     requires room { gap.now.width ≤ MAX_PORTS }
     requires live { IsLive MAX_NETS signal }

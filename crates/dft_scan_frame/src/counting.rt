@@ -5,7 +5,7 @@ ghost use Rattle.dft_netlist.specs.Sound.{bits_of};
 
 use dft_netlist::{Design, Port};
 
-/// How many nets are bits of ports.
+// How many nets are bits of ports.
 pub(crate) fn count_port_nets(design: &Design) -> usize
     ensures count { result ≡ length (bits_of design.now.ports) }
     ensures within { result ≤ length design.now.nets }
@@ -13,7 +13,7 @@ pub(crate) fn count_port_nets(design: &Design) -> usize
     count_bits(design.ports())
 }
 
-/// How many bits these ports have.
+// How many bits these ports have.
 fn count_bits(ports: &[Port]) -> usize
     requires { length (bits_of ports.now) < 2 ^ 64 }
     ensures { result ≡ length (bits_of ports.now) }

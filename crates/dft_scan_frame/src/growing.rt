@@ -9,7 +9,7 @@ use dft_base::{Name, Range};
 use dft_netlist::{DesignBuilder, Dir, Instance, NetlistError};
 use std::alloc::{AllocError, Global};
 
-/// Adds a port and the nets of its bits.
+// Adds a port and the nets of its bits.
 pub(crate) fn add_port(
     builder: &mut DesignBuilder,
     name: Name,
@@ -26,7 +26,7 @@ pub(crate) fn add_port(
     }
 }
 
-/// Adds a net.
+// Adds a net.
 pub(crate) fn add_net(builder: &mut DesignBuilder, name: Name) -> Result<(), AllocError>
     requires { net_refusal builder.old name ≡ None }
     ensures { OnOk result (builder.new ≡ with_thing builder.old (ANet name)) }

@@ -11,8 +11,8 @@ use dft_netlist::{Design, DesignBuilder};
 use dft_scan_frame::InsertError;
 use std::alloc::Global;
 
-/// Adds these ports, or refuses the first whose name is taken or that passes a limit. The builder has only ports so far, and the
-/// names of the whole design are taken.
+// Adds these ports, or refuses the first whose name is taken or that passes a limit. The builder has only ports so far, and the
+// names of the whole design are taken.
 pub(crate) fn add_ports(
     alloc: Global,
     builder: &mut DesignBuilder,
@@ -30,7 +30,7 @@ pub(crate) fn add_ports(
     Ok(())
 }
 
-/// Adds a port, or refuses it.
+// Adds a port, or refuses it.
 fn add_port(
     alloc: Global,
     builder: &mut DesignBuilder,

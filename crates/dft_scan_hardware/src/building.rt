@@ -55,7 +55,7 @@ pub fn make_scanned(
     Ok(Unfinished { builder, added })
 }
 
-/// Makes the hardware of a style in its frame.
+// Makes the hardware of a style in its frame.
 fn fill(
     alloc: Global,
     builder: DesignBuilder,
@@ -84,7 +84,7 @@ fn fill(
     }
 }
 
-/// Makes the recipe of a style in its frame.
+// Makes the recipe of a style in its frame.
 fn make(
     parts: &mut PartsBuilder,
     design: &Design,

@@ -14,7 +14,7 @@ use dft_parts::PartsBuilder;
 use dft_scan_frame::{Gap, domain_net};
 use dft_stitch::{Chains, LockupPlace};
 
-/// Links a chain behind an entry: with lock-ups between domains, and elsewhere from cell to cell.
+// Links a chain behind an entry: with lock-ups between domains, and elsewhere from cell to cell.
 pub(crate) fn make_chain(
     parts: &mut PartsBuilder,
     design: &Design,
@@ -49,7 +49,7 @@ pub(crate) fn make_chain(
     Ok(())
 }
 
-/// Makes the lock-ups of a chain, in their order.
+// Makes the lock-ups of a chain, in their order.
 fn make_crossings(
     parts: &mut PartsBuilder,
     design: &Design,
@@ -73,7 +73,7 @@ fn make_crossings(
     Ok(())
 }
 
-/// Makes a lock-up where it stands in this chain.
+// Makes a lock-up where it stands in this chain.
 fn make_crossing_in(
     parts: &mut PartsBuilder,
     design: &Design,
@@ -97,7 +97,7 @@ fn make_crossing_in(
     Ok(())
 }
 
-/// Makes a lock-up on the domain of the cell before it, which drives the scan input of the cell behind it.
+// Makes a lock-up on the domain of the cell before it, which drives the scan input of the cell behind it.
 fn make_crossing(
     parts: &mut PartsBuilder,
     design: &Design,
@@ -123,7 +123,7 @@ fn make_crossing(
     Ok(())
 }
 
-/// Joins each scan input that is still open to the output of the cell before it.
+// Joins each scan input that is still open to the output of the cell before it.
 fn join_steps(parts: &mut PartsBuilder, design: &Design, cells: &[InstanceId], row: &[NetId])
     requires some { 0 < length parts.old.netlist.nets }
     requires row { AreThere parts.old.netlist row.now }

@@ -24,7 +24,7 @@ use dft_scan_frame::Gap;
 use dft_stitch::Chains;
 use std::alloc::{AllocError, Global};
 
-/// Makes what stands in the frame of style Edt.
+// Makes what stands in the frame of style Edt.
 pub(crate) fn make_edt(
     parts: &mut PartsBuilder,
     design: &Design,
@@ -44,7 +44,7 @@ pub(crate) fn make_edt(
     make_at_ports(parts, design, config, chains, gap, &ports)
 }
 
-/// Makes it at these nets of its ports.
+// Makes it at these nets of its ports.
 fn make_at_ports(
     parts: &mut PartsBuilder,
     design: &Design,
@@ -64,7 +64,7 @@ fn make_at_ports(
     make_behind_rows(parts, design, config, chains, gap, ports, &rows)
 }
 
-/// Makes ring, chains and compactor, where these are the nets at the outputs of the cells.
+// Makes ring, chains and compactor, where these are the nets at the outputs of the cells.
 fn make_behind_rows(
     parts: &mut PartsBuilder,
     design: &Design,
@@ -88,7 +88,7 @@ fn make_behind_rows(
     make_ends(parts, config, ports, ring.run, rows)
 }
 
-/// Makes the chains behind their lock-ups on edt_clock.
+// Makes the chains behind their lock-ups on edt_clock.
 fn make_edt_chains(
     parts: &mut PartsBuilder,
     design: &Design,
@@ -116,7 +116,7 @@ fn make_edt_chains(
     Ok(())
 }
 
-/// Makes a chain behind a lock-up on edt_clock that takes its phase sum.
+// Makes a chain behind a lock-up on edt_clock that takes its phase sum.
 fn make_edt_chain(
     parts: &mut PartsBuilder,
     design: &Design,
@@ -142,7 +142,7 @@ fn make_edt_chain(
     make_chain(parts, design, config, chains, gap, chain, row, entry)
 }
 
-/// Makes masks, hold bits and compactor behind the ends of the chains.
+// Makes masks, hold bits and compactor behind the ends of the chains.
 fn make_ends(
     parts: &mut PartsBuilder,
     config: &Config,
@@ -161,7 +161,7 @@ fn make_ends(
     build_compactor(parts, config, ports, run, &ends)
 }
 
-/// The nets at the ends of the chains.
+// The nets at the ends of the chains.
 fn last_nets(alloc: Global, rows: &[Listed<NetId>]) -> Result<Vec<NetId>, AllocError>
     ensures { IfOk result (λ nets. nets.items ≡ map chained.last_net rows.now) }
 {
@@ -172,7 +172,7 @@ fn last_nets(alloc: Global, rows: &[Listed<NetId>]) -> Result<Vec<NetId>, AllocE
     Ok(nets)
 }
 
-/// The nets of the ports, of which the first has this number.
+// The nets of the ports, of which the first has this number.
 fn port_nets(alloc: Global, first: u32, config: &Config) -> Result<EdtPorts, AllocError>
     requires range { IsInRange config.now }
     requires few { first ≤ MAX_NETS }
@@ -192,7 +192,7 @@ fn port_nets(alloc: Global, first: u32, config: &Config) -> Result<EdtPorts, All
     })
 }
 
-/// So many nets from a number on.
+// So many nets from a number on.
 fn nets_from(alloc: Global, first: u32, count: u32) -> Result<Listed<NetId>, AllocError>
     requires { first + count ≤ MAX_NETS + MAX_PORTS }
     ensures { IfOk result (λ nets. nets ≡ numbers.nets_from first count) }

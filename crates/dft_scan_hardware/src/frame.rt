@@ -19,7 +19,7 @@ use dft_scan_frame::{Gap, InsertError, carry_joins, carry_nets, carry_ports};
 use dft_stitch::Chains;
 use std::alloc::{AllocError, Global};
 
-/// The frame of a design, or the first added port that is refused, or the limit of nets.
+// The frame of a design, or the first added port that is refused, or the limit of nets.
 pub(crate) fn build_frame(
     alloc: Global,
     design: &Design,
@@ -38,7 +38,7 @@ pub(crate) fn build_frame(
     Ok(builder)
 }
 
-/// The ports of a design and their nets, over its cells.
+// The ports of a design and their nets, over its cells.
 fn bare_ports(alloc: Global, design: &Design) -> Result<DesignBuilder, AllocError>
     ensures { IfOk result (λ builder. builder ≡ ports_alone design.now) }
 {
@@ -47,7 +47,7 @@ fn bare_ports(alloc: Global, design: &Design) -> Result<DesignBuilder, AllocErro
     Ok(builder)
 }
 
-/// A module of the design's name over its cells, with nothing in it.
+// A module of the design's name over its cells, with nothing in it.
 fn bare_module(alloc: Global, design: &Design) -> Result<DesignBuilder, AllocError>
     ensures { IfOk result (λ builder. builder ≡ empty_netlist design.now.name design.now.library) }
 {
@@ -56,7 +56,7 @@ fn bare_module(alloc: Global, design: &Design) -> Result<DesignBuilder, AllocErr
     Ok(DesignBuilder::new(alloc, name, library))
 }
 
-/// Adds to the ports of the design the added ports, and the rest of the design.
+// Adds to the ports of the design the added ports, and the rest of the design.
 fn fill_frame(
     alloc: Global,
     builder: &mut DesignBuilder,
@@ -81,7 +81,7 @@ fn fill_frame(
     Ok(())
 }
 
-/// Refuses so many nets more where they pass the limit.
+// Refuses so many nets more where they pass the limit.
 fn check_room(design: &Design, added: usize) -> Result<(), InsertError>
     ensures accepted { OnOk result (room_refusal design.now added ≡ None) }
     ensures refused { IfErr result (IsRefusal (room_refusal design.now added)) }
@@ -95,7 +95,7 @@ fn check_room(design: &Design, added: usize) -> Result<(), InsertError>
     Ok(())
 }
 
-/// Adds the rest of the design behind all ports.
+// Adds the rest of the design behind all ports.
 fn carry_rest(
     alloc: Global,
     builder: &mut DesignBuilder,

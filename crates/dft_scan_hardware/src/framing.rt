@@ -27,7 +27,7 @@ use dft_scan_frame::{
 use dft_stitch::Chains;
 use std::alloc::{AllocError, Global};
 
-/// Adds the instances of the design: where one stands in a chain, as its scan cell.
+// Adds the instances of the design: where one stands in a chain, as its scan cell.
 pub(crate) fn frame_instances(
     alloc: Global,
     builder: &mut DesignBuilder,
@@ -51,7 +51,7 @@ pub(crate) fn frame_instances(
     Ok(())
 }
 
-/// Whether the instance of this number stands in a chain, as the scanned flip-flops do.
+// Whether the instance of this number stands in a chain, as the scanned flip-flops do.
 fn is_scanned(chains: &Chains, number: usize) -> bool
     requires { number < 2 ^ 32 }
     ensures { (n : Netlist) (config : AConfig) → IsInRange config → chains.now ≡ plan_of n config → result ≡ rules.is_scanned (judged n config number) }
@@ -62,7 +62,7 @@ fn is_scanned(chains: &Chains, number: usize) -> bool
     }
 }
 
-/// An instance in the frame.
+// An instance in the frame.
 fn framed(
     alloc: Global,
     library: &Library,
@@ -90,7 +90,7 @@ fn framed(
     }
 }
 
-/// The pins of a scan cell in place of a flip-flop with these pins, its scan input open.
+// The pins of a scan cell in place of a flip-flop with these pins, its scan input open.
 fn framed_pins(
     alloc: Global,
     roles: &[Pin],
@@ -108,7 +108,7 @@ fn framed_pins(
     Ok(made)
 }
 
-/// What a pin of a scan cell is joined to; `pin` is the flip-flop's pin that it may stand for.
+// What a pin of a scan cell is joined to; `pin` is the flip-flop's pin that it may stand for.
 fn framed_pin(role: Role, enable: NetId, pin: Signal) -> Signal
     ensures { result ≡ spec.framed_pin (Net enable) role pin }
 {

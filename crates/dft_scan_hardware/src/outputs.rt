@@ -17,7 +17,7 @@ use dft_scan_frame::{Gap, own_output};
 use dft_stitch::Chains;
 use std::alloc::AllocError;
 
-/// The nets at the outputs of the cells of all chains; for an output that is joined to nothing a net is made.
+// The nets at the outputs of the cells of all chains; for an output that is joined to nothing a net is made.
 pub(crate) fn make_rows(
     parts: &mut PartsBuilder,
     design: &Design,
@@ -47,7 +47,7 @@ fn push_row(rows: &mut Vec<Listed<NetId>>, row: Vec<NetId>) -> Result<(), AllocE
     Ok(())
 }
 
-/// The nets at the outputs of the cells of a chain.
+// The nets at the outputs of the cells of a chain.
 fn make_row(
     parts: &mut PartsBuilder,
     design: &Design,
@@ -68,7 +68,7 @@ fn make_row(
     Ok(nets)
 }
 
-/// The net at the output of a cell: its own, or one that is made for it.
+// The net at the output of a cell: its own, or one that is made for it.
 fn make_output(
     parts: &mut PartsBuilder,
     design: &Design,
@@ -88,7 +88,7 @@ fn make_output(
     }
 }
 
-/// Makes a net for an output that is joined to nothing.
+// Makes a net for an output that is joined to nothing.
 fn open_output(
     parts: &mut PartsBuilder,
     design: &Design,
@@ -103,7 +103,7 @@ fn open_output(
     Ok(net)
 }
 
-/// The nets at the outputs of a chain, and none where there is no such chain.
+// The nets at the outputs of a chain, and none where there is no such chain.
 pub(crate) fn row_at(rows: &[Listed<NetId>], chain: u16) -> &[NetId]
     ensures { result.now ≡ spec.row_at rows.now chain }
 {
@@ -113,7 +113,7 @@ pub(crate) fn row_at(rows: &[Listed<NetId>], chain: u16) -> &[NetId]
     }
 }
 
-/// The net at a place of a list, and the first net where there is no such place.
+// The net at a place of a list, and the first net where there is no such place.
 pub(crate) fn net_at(nets: &[NetId], place: usize) -> NetId
     ensures { result ≡ recipes.net_at nets.now place }
 {
@@ -123,7 +123,7 @@ pub(crate) fn net_at(nets: &[NetId], place: usize) -> NetId
     }
 }
 
-/// The net at the end of a chain.
+// The net at the end of a chain.
 pub(crate) fn last_net(row: &[NetId]) -> NetId
     ensures { result ≡ spec.last_net row.now }
 {

@@ -13,7 +13,7 @@ use dft_netlist::{Design, InstanceId, NetId, is_role};
 use dft_parts::PartsBuilder;
 use dft_scan_frame::{pins_of, scan_cell};
 
-/// Joins the scan input of a cell to this net, if there is such a cell, and where it is open.
+// Joins the scan input of a cell to this net, if there is such a cell, and where it is open.
 pub(crate) fn join_scan_in(
     parts: &mut PartsBuilder,
     design: &Design,
@@ -30,7 +30,7 @@ pub(crate) fn join_scan_in(
     }
 }
 
-/// Joins the first pin of a role of a scan cell to this net, where it is open.
+// Joins the first pin of a role of a scan cell to this net, where it is open.
 pub(crate) fn join_role(
     parts: &mut PartsBuilder,
     design: &Design,
@@ -48,7 +48,7 @@ pub(crate) fn join_role(
     }
 }
 
-/// The number of the first pin of this role, if there is one.
+// The number of the first pin of this role, if there is one.
 fn pin_of(pins: &[Pin], role: Role) -> Option<u32>
     requires { length pins.now < 2 ^ 32 }
     ensures { result ≡ number_of (same_role role) 0 (map role_of pins.now) }
@@ -61,7 +61,7 @@ fn pin_of(pins: &[Pin], role: Role) -> Option<u32>
     None
 }
 
-/// The pins of the scan cell that a flip-flop of the design names, and none where it names none.
+// The pins of the scan cell that a flip-flop of the design names, and none where it names none.
 fn scan_pins(design: &Design, cell: InstanceId) -> &[Pin]
     ensures roles { map role_of result.now ≡ scan_roles design.now cell }
     ensures few { length result.now < 2 ^ 32 }
@@ -73,7 +73,7 @@ fn scan_pins(design: &Design, cell: InstanceId) -> &[Pin]
     }
 }
 
-/// The scan cell that an instance of the design names.
+// The scan cell that an instance of the design names.
 fn scan_cell_at(design: &Design, cell: InstanceId) -> Option<CellId>
     ensures { result ≡ scan_cell_of design.now cell.0 }
 {
@@ -83,7 +83,7 @@ fn scan_cell_at(design: &Design, cell: InstanceId) -> Option<CellId>
     }
 }
 
-/// The cell at a place of a chain, if there is one.
+// The cell at a place of a chain, if there is one.
 pub(crate) fn cell_in(cells: &[InstanceId], place: usize) -> Option<InstanceId>
     ensures { result ≡ slice_get cells.now place }
 {

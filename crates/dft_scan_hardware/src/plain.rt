@@ -16,7 +16,7 @@ use dft_parts::PartsBuilder;
 use dft_scan_frame::Gap;
 use dft_stitch::Chains;
 
-/// Makes what stands in the frame of style Plain: nets for open outputs, the chains, and the buffers to the scan outputs.
+// Makes what stands in the frame of style Plain: nets for open outputs, the chains, and the buffers to the scan outputs.
 pub(crate) fn make_plain(
     parts: &mut PartsBuilder,
     design: &Design,
@@ -35,7 +35,7 @@ pub(crate) fn make_plain(
     make_plain_ends(parts, config, chains, gap, &rows)
 }
 
-/// Makes the chains behind their scan inputs.
+// Makes the chains behind their scan inputs.
 fn make_plain_chains(
     parts: &mut PartsBuilder,
     design: &Design,
@@ -61,7 +61,7 @@ fn make_plain_chains(
     Ok(())
 }
 
-/// Makes the buffers from the ends of the chains to their scan outputs.
+// Makes the buffers from the ends of the chains to their scan outputs.
 fn make_plain_ends(
     parts: &mut PartsBuilder,
     config: &Config,

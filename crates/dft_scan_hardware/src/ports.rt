@@ -11,7 +11,7 @@ use dft_config::Config;
 use dft_parts::numbered;
 use std::alloc::{AllocError, Global};
 
-/// The ports that a style adds, in order.
+// The ports that a style adds, in order.
 pub(crate) fn added_ports(
     alloc: Global,
     style: Style,
@@ -38,7 +38,7 @@ fn push_ports(
     }
 }
 
-/// Those of style Plain: scan_enable, then a scan input and then a scan output for each chain.
+// Those of style Plain: scan_enable, then a scan input and then a scan output for each chain.
 fn push_plain(alloc: Global, ports: &mut Vec<NewPort>, config: &Config) -> Result<(), AllocError>
     ensures { OnOk result (ports.new.items ≡ ports.old.items ++ plain_ports config.now) }
 {
@@ -49,7 +49,7 @@ fn push_plain(alloc: Global, ports: &mut Vec<NewPort>, config: &Config) -> Resul
     push_numbered(alloc, ports, &names.scan_out, Dir::Output, chains)
 }
 
-/// Those of style Edt: scan_enable, edt_clock and edt_update, then channels, mask ports and outputs.
+// Those of style Edt: scan_enable, edt_clock and edt_update, then channels, mask ports and outputs.
 fn push_edt(alloc: Global, ports: &mut Vec<NewPort>, config: &Config) -> Result<(), AllocError>
     ensures { OnOk result (ports.new.items ≡ ports.old.items ++ spec.edt_ports config.now) }
 {
@@ -60,7 +60,7 @@ fn push_edt(alloc: Global, ports: &mut Vec<NewPort>, config: &Config) -> Result<
     push_compression(alloc, ports, config)
 }
 
-/// The channels, the mask ports and the outputs.
+// The channels, the mask ports and the outputs.
 fn push_compression(
     alloc: Global,
     ports: &mut Vec<NewPort>,
@@ -84,7 +84,7 @@ fn push_port(ports: &mut Vec<NewPort>, name: Name, dir: Dir) -> Result<(), Alloc
     Ok(())
 }
 
-/// So many ports of one name, numbered from 0 on.
+// So many ports of one name, numbered from 0 on.
 fn push_numbered(
     alloc: Global,
     ports: &mut Vec<NewPort>,

@@ -4,7 +4,7 @@ ghost use Rattle.dft_scan_hardware.specs.Refusals.{as_told};
 use dft_netlist::NetlistError;
 use dft_scan_frame::InsertError;
 
-/// A refusal of the builder, as it is told.
+// A refusal of the builder, as it is told.
 pub(crate) fn told(error: NetlistError) -> InsertError
     ensures { result ≡ as_told error }
 {

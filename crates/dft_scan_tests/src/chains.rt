@@ -10,7 +10,7 @@ use std::test::Fail;
 const FIVE_CHAINS: &str =
     "chains = 5\nwarm = 0\nwindow = 1\nring = { stages = 2, channels = 1, taps = [], injectors = [[0, 1]], phase = [[0], [1], [0], [1], [0]] }\ncompactor = { groups = [[0, 1, 2, 3, 4]], mask_inputs = 1 }\n";
 
-/// The place of each of the first instances, the lock-ups by chain, place before and domain, and the cycles.
+// The place of each of the first instances, the lock-ups by chain, place before and domain, and the cycles.
 pub(crate) fn told(alloc: Global, chains: &Chains) -> Result<String, AllocError> {
     let mut line = String::new(alloc);
     push_places(alloc, &mut line, chains)?;

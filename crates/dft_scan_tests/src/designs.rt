@@ -2,22 +2,22 @@
 
 // ---- netlists
 
-// Four flip-flops in a row, by turns on two clocks.
+/// Four flip-flops in a row, by turns on two clocks.
 pub const ROW: &str =
     "module s (ca, cb, d, q); input ca, cb, d; output q; DFF f0 (.CK(ca), .D(d), .Q(n0)); DFF f1 (.CK(cb), .D(n0), .Q(n1)); DFF f2 (.CK(ca), .D(n1), .Q(n2)); DFF f3 (.CK(cb), .D(n2), .Q(q)); endmodule";
 
-// The same, where a clock gate gives the last one's clock.
+/// The same, where a clock gate gives the last one's clock.
 pub const GATED: &str =
     "module s (ca, cb, d, q); input ca, cb, d; output q; CKGATE u (.CK(cb), .EN(d), .GCK(g)); DFF f0 (.CK(ca), .D(d), .Q(n0)); DFF f1 (.CK(cb), .D(n0), .Q(n1)); DFF f2 (.CK(ca), .D(n1), .Q(n2)); DFF f3 (.CK(g), .D(n2), .Q(q)); endmodule";
 
-// The same on one clock.
+/// The same on one clock.
 pub const ONE: &str =
     "module s (ca, d, q); input ca, d; output q; DFF f0 (.CK(ca), .D(d), .Q(n0)); DFF f1 (.CK(ca), .D(n0), .Q(n1)); DFF f2 (.CK(ca), .D(n1), .Q(n2)); DFF f3 (.CK(ca), .D(n2), .Q(q)); endmodule";
 
 pub const PAIR: &str =
     "module s (ca, d, q); input ca, d; output q; DFF f0 (.CK(ca), .D(d), .Q(n0)); DFF f1 (.CK(ca), .D(n0), .Q(q)); endmodule";
 
-// The first flip-flop has a reset that the configuration does not name.
+/// The first flip-flop has a reset that the configuration does not name.
 pub const RESET: &str =
     "module s (ca, rn, d, q); input ca, rn, d; output q; DFFR f0 (.CK(ca), .D(d), .RN(rn), .Q(n0)); DFF f1 (.CK(ca), .D(n0), .Q(q)); endmodule";
 
@@ -30,7 +30,7 @@ pub const SCANNED: &str =
 pub const LOCKED: &str =
     "module s (ca, d, q); input ca, d; output q; LOCKUP l (.CK(ca), .D(d), .Q(q)); endmodule";
 
-// An instance has the name of a made one.
+/// An instance has the name of a made one.
 pub const CLASHING: &str =
     "module s (ca, d, q); input ca, d; output q; BUF dft_i0 (.A(d), .Y(n)); DFF f (.CK(ca), .D(n), .Q(q)); endmodule";
 

@@ -8,7 +8,7 @@ use dft_verilog_out::{gates_are_joined, write};
 use std::alloc::{AllocError, Global};
 use std::test::Fail;
 
-/// Four stages, one channel and a tap; two chains in one mask segment, of which the second has an output of its own.
+// Four stages, one channel and a tap; two chains in one mask segment, of which the second has an output of its own.
 pub(crate) const FOUR_STAGES: &str = "version = 1
 domains = ['clk']
 chains = 2
@@ -224,7 +224,7 @@ ring = { stages = 4, channels = 1, taps = [[2, 0]], injectors = [[0, 3]], phase 
 compactor = { groups = [[0, 1], [1]], mask_inputs = 1 }
 ";
 
-/// How a refusal of insertion is told here.
+// How a refusal of insertion is told here.
 pub(crate) fn refused(alloc: Global, error: InsertError) -> Result<String, AllocError> {
     match error {
         InsertError::NameClash { name } => named(alloc, "G6", &name),
@@ -237,7 +237,7 @@ pub(crate) fn refused(alloc: Global, error: InsertError) -> Result<String, Alloc
     }
 }
 
-/// The text of a netlist that is made.
+// The text of a netlist that is made.
 pub(crate) fn written(alloc: Global, design: &Design) -> Result<String, AllocError> {
     if !gates_are_joined(design) {
         return String::from_str(alloc, "open");

@@ -17,7 +17,7 @@ use dft_stitch::{Chains, StitchError, plan};
 use dft_verilog::{MAX_TEXT, read};
 use std::alloc::{AllocError, Global};
 
-/// What is told: the chains; the text that is made in a style; or how many instances are made in style Edt.
+// What is told: the chains; the text that is made in a style; or how many instances are made in style Edt.
 #[derive(Clone, Copy)]
 pub(crate) enum Told {
     Chains,
@@ -25,7 +25,7 @@ pub(crate) enum Told {
     Count,
 }
 
-/// A name behind a code.
+// A name behind a code.
 pub(crate) fn named(alloc: Global, code: &str, name: &Name) -> Result<String, AllocError> {
     let mut line = String::from_str(alloc, code)?;
     push_name(&mut line, name)?;
@@ -40,7 +40,7 @@ fn push_name(line: &mut String, name: &Name) -> Result<(), AllocError> {
     Ok(())
 }
 
-/// What is told of these texts.
+// What is told of these texts.
 pub(crate) fn line_for(
     alloc: Global,
     netlist: &str,

@@ -16,7 +16,7 @@ use std::marker::Model;
 pub struct Names {
     signals: Vec<StilSignal>,
     signal_names: KnownNames,
-    /// The number of each signal, in order: so a signal alone is kept as signals of a group are.
+    // The number of each signal, in order: so a signal alone is kept as signals of a group are.
     numbers: Vec<usize>,
     group_names: KnownNames,
     groups: Vec<Members>,

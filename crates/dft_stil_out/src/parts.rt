@@ -9,7 +9,7 @@ use dft_base::Dir;
 use dft_patterns::{Note, NoteKind, StilSignal};
 use itoa::Buffer;
 
-/// The bytes of names.
+// The bytes of names.
 pub(crate) fn name_bytes(signals: &[StilSignal]) -> Option<u64>
     ensures length { IfSome result (λ n. n ≡ spec.name_bytes signals.now) }
     ensures large { result ≡ None → 2 ^ 64 ≤ spec.name_bytes signals.now }
@@ -32,7 +32,7 @@ fn declaration_length(signal: &StilSignal) -> Option<u64>
     }
 }
 
-/// The lines that declare signals.
+// The lines that declare signals.
 pub(crate) fn declarations_length(signals: &[StilSignal]) -> Option<u64>
     ensures length { IfSome result (λ n. n ≡ spec.declarations_length signals.now) }
     ensures large { result ≡ None → 2 ^ 64 ≤ spec.declarations_length signals.now }
@@ -44,7 +44,7 @@ pub(crate) fn declarations_length(signals: &[StilSignal]) -> Option<u64>
     Some(bytes)
 }
 
-/// The line of a group of signals, with a label of so many letters.
+// The line of a group of signals, with a label of so many letters.
 pub(crate) fn group_length(label: u64, signals: &[StilSignal]) -> Option<u64>
     requires label { label < 10 }
     ensures length { IfSome result (λ n. n ≡ spec.group_length label (length signals.now) (spec.name_bytes signals.now)) }
@@ -59,7 +59,7 @@ pub(crate) fn group_length(label: u64, signals: &[StilSignal]) -> Option<u64>
         .checked_add(label + 9)
 }
 
-/// A line of so many bytes, if there is a signal.
+// A line of so many bytes, if there is a signal.
 pub(crate) fn waveforms_length(signals: &[StilSignal], bytes: u64) -> u64
     ensures { result ≡ spec.waveforms_length (length signals.now) bytes }
 {
@@ -77,7 +77,7 @@ fn assignment_length(label: u64, signals: usize) -> Option<u64>
     }
 }
 
-/// The line of a vector.
+// The line of a vector.
 pub(crate) fn line_length(inputs: usize, outputs: usize) -> Option<u64>
     ensures length { IfSome result (λ n. n ≡ spec.line_length inputs outputs) }
     ensures large { result ≡ None → 2 ^ 64 ≤ spec.line_length inputs outputs }
@@ -98,7 +98,7 @@ fn note_length(note: Note) -> u64
     }
 }
 
-/// The lines of notes.
+// The lines of notes.
 pub(crate) fn notes_length(notes: &[Note]) -> Option<u64>
     ensures length { IfSome result (λ n. n ≡ spec.notes_length notes.now) }
     ensures large { result ≡ None → 2 ^ 64 ≤ spec.notes_length notes.now }

@@ -21,13 +21,13 @@ use std::marker::Model;
 /// The tokens that are left of a pattern text (IEEE 1450-1999). A clause sees them as a list.
 #[derive(Drop)]
 pub struct Tokens<'a> {
-    /// The text from the next token on.
+    // The text from the next token on.
     ahead: &'a [u8],
-    /// Whether single quotes are open, so that a number has digits alone.
+    // Whether single quotes are open, so that a number has digits alone.
     quoted: bool,
-    /// The next token.
+    // The next token.
     front: Lexeme,
-    /// Where a fault puts its names.
+    // Where a fault puts its names.
     alloc: Global,
 }
 

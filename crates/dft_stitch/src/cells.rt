@@ -20,7 +20,7 @@ impl Model for Cells {
 }
 
 impl Cells {
-    /// These cells.
+    // These cells.
     pub(crate) fn from_slice(alloc: Global, cells: &[InstanceId]) -> Result<Cells, AllocError>
         ensures { IfOk result (λ chain. chain ≡ cells.now) }
     {

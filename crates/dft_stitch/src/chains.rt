@@ -11,7 +11,7 @@ use std::marker::Model;
 pub struct Chains {
     pub(crate) chains: Vec<Cells>,
     pub(crate) lockups: Vec<LockupPlace>,
-    /// The place of each instance, by its number.
+    // The place of each instance, by its number.
     pub(crate) places: Vec<Option<CellPlace>>,
     pub(crate) cycles: u16,
 }
@@ -67,7 +67,7 @@ impl Chains {
     }
 }
 
-/// What the table has for this cell, and nothing past its end.
+// What the table has for this cell, and nothing past its end.
 fn place_at(places: &[Option<CellPlace>], cell: InstanceId) -> Option<CellPlace>
     ensures { result ≡ slice_index_or places.now cell.0 None }
 {

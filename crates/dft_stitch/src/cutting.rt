@@ -9,7 +9,7 @@ use dft_netlist::InstanceId;
 use dft_rules::{Judged, Verdicts};
 use std::alloc::{AllocError, Global};
 
-/// The cells that are scanned, domain by domain and by instance order.
+// The cells that are scanned, domain by domain and by instance order.
 pub(crate) fn scanned_cells(
     alloc: Global,
     verdicts: &Verdicts,
@@ -41,7 +41,7 @@ fn add_cells(
     Ok(())
 }
 
-/// Adds an item, if there is one.
+// Adds an item, if there is one.
 pub(crate) fn add<T: Drop>(items: &mut Vec<T>, item: Option<T>) -> Result<(), AllocError>
     ensures { OnOk result (items.new.items ≡ items.old.items ++ spec.listed item) }
 {
@@ -51,7 +51,7 @@ pub(crate) fn add<T: Drop>(items: &mut Vec<T>, item: Option<T>) -> Result<(), Al
     Ok(())
 }
 
-/// The cell, where it is scanned in this domain.
+// The cell, where it is scanned in this domain.
 fn cell_in(verdicts: &Verdicts, domain: u8, cell: InstanceId) -> Option<InstanceId>
     ensures { result ≡ spec.cell_in verdicts.now domain cell.0 }
 {
@@ -72,7 +72,7 @@ pub fn domain_of(verdicts: &Verdicts, cell: InstanceId) -> Option<u8>
     }
 }
 
-/// Cuts the cells into so many chains, of which the first ones are one longer where they do not come out even.
+// Cuts the cells into so many chains, of which the first ones are one longer where they do not come out even.
 pub(crate) fn cut(alloc: Global, cells: &[InstanceId], count: u16) -> Result<Vec<Cells>, AllocError>
     requires some { 1 ≤ count }
     requires few { length cells.now ≤ 65536 }
@@ -89,7 +89,7 @@ pub(crate) fn cut(alloc: Global, cells: &[InstanceId], count: u16) -> Result<Vec
     Ok(chains)
 }
 
-/// The length of the longest chain, which is the first.
+// The length of the longest chain, which is the first.
 pub(crate) fn longest_chain(cells: usize, chains: u16) -> u32
     requires some { 1 ≤ chains }
     requires few { cells ≤ 65536 }
@@ -98,7 +98,7 @@ pub(crate) fn longest_chain(cells: usize, chains: u16) -> u32
     length_of(cells, usize::from(chains), 0) as u32
 }
 
-/// The length of this chain.
+// The length of this chain.
 fn length_of(cells: usize, chains: usize, chain: usize) -> usize
     requires some { 1 ≤ chains }
     requires few { cells ≤ 65536 }

@@ -11,7 +11,7 @@ use dft_netlist::InstanceId;
 use dft_rules::Verdicts;
 use std::alloc::{AllocError, Global};
 
-/// The lock-ups, chain by chain and by their places.
+// The lock-ups, chain by chain and by their places.
 pub(crate) fn find_lockups(
     alloc: Global,
     verdicts: &Verdicts,
@@ -43,7 +43,7 @@ fn add_lockups(
     Ok(())
 }
 
-/// The lock-up after a place, if the next cell has another domain.
+// The lock-up after a place, if the next cell has another domain.
 fn lockup_after(
     verdicts: &Verdicts,
     chain: u16,

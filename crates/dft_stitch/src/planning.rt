@@ -47,7 +47,7 @@ pub fn plan(
     })
 }
 
-/// The cycles of a load for so many scanned cells, where no limit is passed.
+// The cycles of a load for so many scanned cells, where no limit is passed.
 fn cycles_within(config: &Config, cells: usize) -> Result<u16, StitchError>
     requires { IsInRange config.now }
     ensures cycles { IfOk result (λ cycles. cycles ≡ spec.cycles_of config.now cells) }

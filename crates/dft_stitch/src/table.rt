@@ -10,7 +10,7 @@ use crate::places::CellPlace;
 use dft_netlist::InstanceId;
 use std::alloc::{AllocError, Global};
 
-/// Where each of so many instances stands.
+// Where each of so many instances stands.
 pub(crate) fn find_places(
     alloc: Global,
     count: usize,
@@ -28,7 +28,7 @@ pub(crate) fn find_places(
     Ok(places)
 }
 
-/// Notes the places of a chain's cells.
+// Notes the places of a chain's cells.
 fn note_cells(places: &mut [Option<CellPlace>], chain: u16, cells: &[InstanceId])
     requires short { length cells.now ≤ 65536 }
     requires below { AreBelow (length places.old) cells.now }

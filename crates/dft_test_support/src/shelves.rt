@@ -28,7 +28,7 @@ fn later(failing: Failing, calls: usize) -> Failing {
     }
 }
 
-/// The calls that fail, where one does.
+// The calls that fail, where one does.
 pub(crate) fn calls_of(
     alloc: Global,
     failing: Option<Failing>,

@@ -22,7 +22,7 @@ impl From<AllocError> for Unlike {
     }
 }
 
-/// The text of these bytes.
+// The text of these bytes.
 pub(crate) fn text_of(alloc: Global, bytes: &[u8]) -> Result<String, AllocError> {
     match std::str::from_utf8(bytes) {
         Ok(text) => String::from_str(alloc, text),

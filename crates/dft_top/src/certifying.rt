@@ -59,7 +59,7 @@ pub fn outcome_of_certify<F: Files>(
     outcome_of_design(alloc, &design, &config, names.cubes, names.report, files)
 }
 
-/// The outcome of a test over the design: its chains are planned, and then the named cubes and the named report are loaded.
+// The outcome of a test over the design: its chains are planned, and then the named cubes and the named report are loaded.
 fn outcome_of_design<F: Files>(
     alloc: Global,
     design: &Design,
@@ -82,7 +82,7 @@ fn outcome_of_design<F: Files>(
     outcome_with(alloc, design, config, &chains, cubes, report, files)
 }
 
-/// The chains of a design that no check refuses.
+// The chains of a design that no check refuses.
 fn planned(alloc: Global, design: &Design, config: &Config) -> Result<Chains, Stop>
     requires { IsInRange config.now }
     ensures given { IsGiven (PlanGives design.now config.now) result }
@@ -94,8 +94,8 @@ fn planned(alloc: Global, design: &Design, config: &Config) -> Result<Chains, St
     }
 }
 
-/// Judges the flip-flops of a design and plans its chains. It is refused by the first check that fails: of the scan rules, then of the
-/// plan.
+// Judges the flip-flops of a design and plans its chains. It is refused by the first check that fails: of the scan rules, then of the
+// plan.
 fn plan_chains(alloc: Global, design: &Design, config: &Config) -> Result<Chains, CompileError>
     requires { IsInRange config.now }
     ensures plan { IfOk result (λ chains. chains ≡ plan_of design.now config.now) }
@@ -109,14 +109,14 @@ fn plan_chains(alloc: Global, design: &Design, config: &Config) -> Result<Chains
     Ok(plan(alloc, design, config, &verdicts)?)
 }
 
-/// What a finished design is, beside what the scan rules ask.
+// What a finished design is, beside what the scan rules ask.
 fn ready(design: &Design)
     ensures { (config : Config) → IsInRange config → rules.refusal design.now config ≡ None → IsReady design.now config }
 {
     design.soundness();
 }
 
-/// The outcome of a test over planned chains: the named cubes are loaded, and then the named report.
+// The outcome of a test over planned chains: the named cubes are loaded, and then the named report.
 fn outcome_with<F: Files>(
     alloc: Global,
     design: &Design,
@@ -150,7 +150,7 @@ fn outcome_with<F: Files>(
     )
 }
 
-/// The outcome of a test over these cubes: the named report is loaded.
+// The outcome of a test over these cubes: the named report is loaded.
 fn outcome_over<F: Files>(
     alloc: Global,
     design: &Design,
@@ -174,7 +174,7 @@ fn outcome_over<F: Files>(
     outcome_of_report(alloc, design, config, chains, cubes, &report)
 }
 
-/// The outcome of a report's tests.
+// The outcome of a report's tests.
 fn outcome_of_report(
     alloc: Global,
     design: &Design,
@@ -204,7 +204,7 @@ fn outcome_of_report(
     }
 }
 
-/// The load equations of planned chains.
+// The load equations of planned chains.
 fn load_equations(
     alloc: Global,
     design: &Design,

@@ -77,7 +77,7 @@ pub fn run<F: Files, O: Sink>(alloc: Global, words: &[String], files: &mut F, ou
     }
 }
 
-/// Runs a command, or none.
+// Runs a command, or none.
 fn run_command<F: Files, O: Sink>(
     alloc: Global,
     command: Option<Command<'_>>,
@@ -101,7 +101,7 @@ fn run_command<F: Files, O: Sink>(
     }
 }
 
-/// What a command comes to, or what it is that there is none.
+// What a command comes to, or what it is that there is none.
 fn outcome_of<F: Files>(
     alloc: Global,
     command: Option<Command<'_>>,
@@ -125,7 +125,7 @@ fn outcome_of<F: Files>(
     }
 }
 
-/// Saves what a command saves of its outcome, and puts the outcome's line.
+// Saves what a command saves of its outcome, and puts the outcome's line.
 fn deliver<F: Files, O: Sink>(
     alloc: Global,
     command: Option<Command<'_>>,
@@ -151,7 +151,7 @@ fn deliver<F: Files, O: Sink>(
     }
 }
 
-/// Puts the line of an outcome, and answers it.
+// Puts the line of an outcome, and answers it.
 fn put_line<O: Sink>(outcome: Outcome, line: &[u8], out: &mut O) -> Answer
     requires { line.now ≡ line_of outcome }
     ensures { Prints outcome (O.faults out.old) (O.faults out.new) (O.told out.old) (O.told out.new) result }

@@ -46,7 +46,7 @@ pub fn outcome_of_compile<F: Files>(
     outcome_of_design(alloc, &design, &config, names.cubes, files)
 }
 
-/// The outcome of a compilation of the design: it is prepared, and then the named cubes are loaded.
+// The outcome of a compilation of the design: it is prepared, and then the named cubes are loaded.
 fn outcome_of_design<F: Files>(
     alloc: Global,
     design: &Design,
@@ -83,7 +83,7 @@ pub fn prepared(alloc: Global, design: &Design, config: &Config) -> Result<Prepa
     }
 }
 
-/// The outcome of a compilation of the named cubes, for a design that is prepared.
+// The outcome of a compilation of the named cubes, for a design that is prepared.
 fn outcome_with<F: Files>(
     alloc: Global,
     design: &Design,
@@ -129,7 +129,7 @@ pub fn outcome_of_cubes(
     }
 }
 
-/// The outcome with these texts and counts.
+// The outcome with these texts and counts.
 fn outcome_of(texts: CompileTexts) -> Outcome
     ensures { result ≡ Outcome.Compiled texts.counts texts.netlist.items texts.patterns.items texts.report.items }
 {

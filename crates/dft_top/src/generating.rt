@@ -37,7 +37,7 @@ pub fn outcome_of_generate(alloc: Global, numbers: JobNumbers) -> Result<Outcome
     replayed(alloc, compilation)
 }
 
-/// What the texts of a job compile to.
+// What the texts of a job compile to.
 fn compiled_job(alloc: Global, numbers: JobNumbers) -> Result<Outcome, Stop>
     requires { IsSize numbers.size }
     ensures outcome { ComesTo (Reaches (course_of_compile job_files) (job_held (numbers_of numbers))) result }
@@ -53,7 +53,7 @@ fn compiled_job(alloc: Global, numbers: JobNumbers) -> Result<Outcome, Stop>
     )
 }
 
-/// What a compilation of three texts comes to.
+// What a compilation of three texts comes to.
 fn compiled(alloc: Global, netlist: &[u8], config: &[u8], cubes: &[u8]) -> Result<Outcome, Stop>
     ensures outcome { ComesTo (Reaches (course_of_compile job_files) (texts_held netlist.now config.now cubes.now)) result }
     ensures suits { ComesTo IsOfCompile result }
@@ -65,7 +65,7 @@ fn compiled(alloc: Global, netlist: &[u8], config: &[u8], cubes: &[u8]) -> Resul
     compiled_design(alloc, &design, &config, cubes)
 }
 
-/// What a compilation of cubes for the design comes to.
+// What a compilation of cubes for the design comes to.
 fn compiled_design(
     alloc: Global,
     design: &Design,
@@ -82,7 +82,7 @@ fn compiled_design(
     compiled_with(alloc, design, config, &prepared, cubes)
 }
 
-/// What a compilation of cubes for a design that is prepared comes to.
+// What a compilation of cubes for a design that is prepared comes to.
 fn compiled_with(
     alloc: Global,
     design: &Design,
@@ -101,7 +101,7 @@ fn compiled_with(
     outcome_of_cubes(alloc, design, config, prepared, cubes.as_slice())
 }
 
-/// What comes of a compilation: the patterns that it made are replayed, and its refusal is the outcome.
+// What comes of a compilation: the patterns that it made are replayed, and its refusal is the outcome.
 fn replayed(alloc: Global, compilation: Outcome) -> Result<Outcome, Stop>
     requires { IsOfCompile compilation }
     ensures outcome { ComesTo (IsReplayedOf compilation) result }
@@ -122,7 +122,7 @@ fn replayed(alloc: Global, compilation: Outcome) -> Result<Outcome, Stop>
     }
 }
 
-/// What a replay of two texts comes to.
+// What a replay of two texts comes to.
 fn replay_of(alloc: Global, netlist: &[u8], patterns: &[u8]) -> Result<Outcome, Stop>
     ensures outcome { ComesTo (Reaches (course_of_replay made_files) (made_held netlist.now patterns.now)) result }
     ensures suits { ComesTo IsOfReplay result }
@@ -134,7 +134,7 @@ fn replay_of(alloc: Global, netlist: &[u8], patterns: &[u8]) -> Result<Outcome, 
     outcome_on(alloc, &design, &patterns)
 }
 
-/// What a compilation with these counts, and then this outcome of a replay, come to.
+// What a compilation with these counts, and then this outcome of a replay, come to.
 fn generated(counts: Counts, replay: Outcome) -> Outcome
     ensures { result ≡ spec.generated counts replay }
 {

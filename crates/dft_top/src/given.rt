@@ -62,7 +62,7 @@ pub fn given_patterns(alloc: Global, text: &[u8]) -> Result<PatternSet, Stop>
     patterns_in(alloc, text)
 }
 
-/// Refuses a text that is longer than its limit, with the name of its option.
+// Refuses a text that is longer than its limit, with the name of its option.
 fn check_length(alloc: Global, text: &[u8], option: &[u8], limit: u32) -> Result<(), Stop>
     requires { IsName option.now }
     ensures short { OnOk result (length text.now ≤ limit) }

@@ -138,7 +138,7 @@ pub fn load_report<F: Files>(alloc: Global, files: &mut F, name: &str) -> Result
     report_in(alloc, text.as_slice())
 }
 
-/// The bytes of a file that is named by an option of the command.
+// The bytes of a file that is named by an option of the command.
 fn load_text<F: Files>(
     alloc: Global,
     files: &mut F,

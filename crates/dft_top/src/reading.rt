@@ -57,7 +57,7 @@ pub fn design_in(alloc: Global, text: &[u8], library: Library) -> Result<Design,
     }
 }
 
-/// The design of a netlist text, which is sound and has an order.
+// The design of a netlist text, which is sound and has an order.
 fn design_of(alloc: Global, text: &[u8], library: Library) -> Result<Design, VerilogError>
     requires { length text.now ≤ MAX_NETLIST_BYTES }
     ensures design { IfOk result (IsDesignOf library text.now) }

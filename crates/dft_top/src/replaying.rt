@@ -60,7 +60,7 @@ pub fn outcome_on(alloc: Global, design: &Design, patterns: &PatternSet) -> Resu
     }
 }
 
-/// The outcome that a verdict is.
+// The outcome that a verdict is.
 fn outcome_of(alloc: Global, patterns: &PatternSet, verdict: Verdict) -> Result<Outcome, AllocError>
     requires vectors { length patterns.now.vectors < 2 ^ 32 }
     requires placed { IsPlaced (length patterns.now.vectors) (length patterns.now.signals) verdict }
@@ -83,7 +83,7 @@ fn outcome_of(alloc: Global, patterns: &PatternSet, verdict: Verdict) -> Result<
     }
 }
 
-/// The name of the signal with a number.
+// The name of the signal with a number.
 fn signal_name(alloc: Global, signals: &[StilSignal], signal: u32) -> Result<Name, AllocError>
     requires { signal < length signals.now }
     ensures { IfOk result (λ name. name ≡ spec.signal_name signals.now signal) }

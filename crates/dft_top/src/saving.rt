@@ -86,7 +86,7 @@ pub fn save_outcome<F: Files>(
     }
 }
 
-/// Saves these files, in order.
+// Saves these files, in order.
 fn save_all<F: Files>(alloc: Global, savings: &[Saving<'_>], files: &mut F) -> Result<(), SaveError>
     requires { AreApart (map saving_of savings.now) }
     ensures saved { OnOk result (HaveSaved (map saving_of savings.now) (F.held files.old) (F.held files.new)) }
@@ -101,7 +101,7 @@ fn save_all<F: Files>(alloc: Global, savings: &[Saving<'_>], files: &mut F) -> R
     Ok(())
 }
 
-/// Saves a file.
+// Saves a file.
 fn save_one<F: Files>(alloc: Global, saving: &Saving<'_>, files: &mut F) -> Result<(), SaveError>
     ensures saved { OnOk result (Told (λ h. file_at (saving_of saving.now).name h ≡ Some (saving_of saving.now).bytes) (F.held files.new)) }
     ensures others { ToldChange (KeepsOthers (saving_of saving.now).name) (F.held files.old) (F.held files.new) }

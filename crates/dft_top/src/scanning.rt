@@ -44,7 +44,7 @@ pub fn outcome_of_scan<F: Files>(
     outcome_of_design(alloc, &design, &config)
 }
 
-/// The outcome of a scan of the design.
+// The outcome of a scan of the design.
 fn outcome_of_design(alloc: Global, design: &Design, config: &Config) -> Result<Outcome, Stop>
     requires range { IsInRange config.now }
     requires joined { GatesAreJoined design.now }
@@ -58,7 +58,7 @@ fn outcome_of_design(alloc: Global, design: &Design, config: &Config) -> Result<
     }
 }
 
-/// The outcome with these texts and counts.
+// The outcome with these texts and counts.
 fn outcome_of(texts: ScanTexts) -> Outcome
     ensures { result ≡ Outcome.Scanned texts.counts texts.netlist.items texts.report.items }
 {

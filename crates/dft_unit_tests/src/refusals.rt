@@ -44,7 +44,7 @@ fn push_lines(whole: &mut Vec<u8>, lines: &[&str]) -> Result<(), AllocError> {
     Ok(())
 }
 
-/// A refusal by its code and its parts.
+// A refusal by its code and its parts.
 #[derive(Drop)]
 struct Told {
     code: &'static str,
@@ -92,7 +92,7 @@ fn line_of(alloc: Global, error: ConfigError) -> Result<Vec<u8>, AllocError> {
     line(alloc, &told)
 }
 
-/// What the small whole case with a text for a part gives: `ok`, or the refusal with its parts.
+// What the small whole case with a text for a part gives: `ok`, or the refusal with its parts.
 fn answer(alloc: Global, part: Part, text: &str) -> Result<Vec<u8>, AllocError> {
     let whole = text_of(alloc, part, text)?;
     answer_to(alloc, &whole)

@@ -8,14 +8,14 @@ use dft_base::Tri;
 use dft_patterns::Act;
 use std::alloc::AllocError;
 
-/// An input is set to a bit.
+// An input is set to a bit.
 pub(crate) fn set_to(bit: bool) -> Act
     ensures { result ≡ spec.set_to bit }
 {
     if bit { Act::High } else { Act::Low }
 }
 
-/// An input pulses, or is set to a value.
+// An input pulses, or is set to a value.
 pub(crate) fn driven(pulsed: bool, value: Tri) -> Act
     ensures { result ≡ spec.driven pulsed value }
 {
@@ -26,7 +26,7 @@ pub(crate) fn driven(pulsed: bool, value: Tri) -> Act
     }
 }
 
-/// The value of a port to which a pattern gives this bit, or none.
+// The value of a port to which a pattern gives this bit, or none.
 pub(crate) fn port_value(is_reset: bool, given: Option<bool>) -> Tri
     ensures { result ≡ captures.port_value is_reset given }
 {
@@ -52,7 +52,7 @@ fn compare(value: Tri) -> Act
     }
 }
 
-/// Adds the acts of outputs that are to show these bits.
+// Adds the acts of outputs that are to show these bits.
 pub(crate) fn push_expected(acts: &mut Vec<Act>, bits: &[bool]) -> Result<(), AllocError>
     ensures { OnOk result (acts.new.items ≡ acts.old.items ++ map spec.expect bits.now) }
 {
@@ -62,7 +62,7 @@ pub(crate) fn push_expected(acts: &mut Vec<Act>, bits: &[bool]) -> Result<(), Al
     Ok(())
 }
 
-/// Adds the acts of outputs that are compared where their values are known.
+// Adds the acts of outputs that are compared where their values are known.
 pub(crate) fn push_compared(acts: &mut Vec<Act>, values: &[Tri]) -> Result<(), AllocError>
     ensures { OnOk result (acts.new.items ≡ acts.old.items ++ map spec.compare values.now) }
 {
@@ -72,7 +72,7 @@ pub(crate) fn push_compared(acts: &mut Vec<Act>, values: &[Tri]) -> Result<(), A
     Ok(())
 }
 
-/// Adds the acts of so many outputs that are not compared.
+// Adds the acts of so many outputs that are not compared.
 pub(crate) fn push_ignored(acts: &mut Vec<Act>, outputs: usize) -> Result<(), AllocError>
     ensures { OnOk result (acts.new.items ≡ acts.old.items ++ replicate outputs Act.Ignore) }
 {

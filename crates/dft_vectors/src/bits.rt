@@ -9,7 +9,7 @@ use dft_base::Dir;
 use dft_netlist::{NetId, Port};
 use std::alloc::{AllocError, Global};
 
-/// The bits of the input ports, in order.
+// The bits of the input ports, in order.
 pub(crate) fn inputs(alloc: Global, ports: &[Port]) -> Result<Vec<NetId>, AllocError>
     ensures { IfOk result (λ bits. bits.items ≡ input_bits ports.now) }
 {
@@ -22,7 +22,7 @@ pub(crate) fn inputs(alloc: Global, ports: &[Port]) -> Result<Vec<NetId>, AllocE
     Ok(bits)
 }
 
-/// The bits of the output ports, in order.
+// The bits of the output ports, in order.
 pub(crate) fn outputs(alloc: Global, ports: &[Port]) -> Result<Vec<NetId>, AllocError>
     ensures { IfOk result (λ bits. bits.items ≡ output_bits ports.now) }
 {
@@ -35,7 +35,7 @@ pub(crate) fn outputs(alloc: Global, ports: &[Port]) -> Result<Vec<NetId>, Alloc
     Ok(bits)
 }
 
-/// The bit that a pattern gives to each net with a number below the end.
+// The bit that a pattern gives to each net with a number below the end.
 pub(crate) fn given_bits(
     alloc: Global,
     end: usize,

@@ -18,7 +18,7 @@ use dft_patterns::Act;
 use dft_stitch::Chains;
 use std::alloc::{AllocError, Global};
 
-/// The design, its configuration and its chains, and what is looked up once.
+// The design, its configuration and its chains, and what is looked up once.
 #[derive(Drop)]
 pub(crate) struct Layout<'a> {
     pub(crate) alloc: Global,
@@ -29,7 +29,7 @@ pub(crate) struct Layout<'a> {
     pub(crate) segments: Vec<Segment>,
 }
 
-/// What vectors of a design with these chains are made from.
+// What vectors of a design with these chains are made from.
 pub(crate) fn look_up<'a>(
     alloc: Global,
     design: &'a Design,
@@ -57,7 +57,7 @@ pub(crate) fn look_up<'a>(
 }
 
 impl<'a> Layout<'a> {
-    /// Adds the acts of outputs that are not compared.
+    // Adds the acts of outputs that are not compared.
     fn push_unseen(&self, acts: &mut Vec<Act>) -> Result<(), AllocError>
         requires { IsLayout self.now }
         ensures { OnOk result (acts.new.items ≡ acts.old.items ++ own.ignored (length self.now.config.now.compactor.groups)) }
@@ -65,7 +65,7 @@ impl<'a> Layout<'a> {
         push_ignored(acts, self.config.compactor.groups.as_slice().len())
     }
 
-    /// Adds the acts of the set-up vector.
+    // Adds the acts of the set-up vector.
     pub(crate) fn push_set_up(&self, acts: &mut Vec<Act>) -> Result<(), AllocError>
         requires { IsLayout self.now }
         ensures { OnOk result (acts.new.items ≡ acts.old.items ++ spec.set_up_acts self.now.design.now self.now.config.now) }
@@ -77,7 +77,7 @@ impl<'a> Layout<'a> {
         Ok(())
     }
 
-    /// Adds the acts of the capture vector of a pattern, whose outputs have these values.
+    // Adds the acts of the capture vector of a pattern, whose outputs have these values.
     pub(crate) fn push_capture(
         &self,
         acts: &mut Vec<Act>,

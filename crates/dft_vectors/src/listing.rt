@@ -63,7 +63,7 @@ impl<'a> VectorList<'a> {
         })
     }
 
-    /// Adds the set-up vector, where there is no pattern yet.
+    // Adds the set-up vector, where there is no pattern yet.
     fn set_up(&mut self) -> Result<(), AllocError>
         ensures { OnOk result (self.new ≡ record self.old { vectors = begun_by self.old }) }
     {
@@ -75,7 +75,7 @@ impl<'a> VectorList<'a> {
         Ok(())
     }
 
-    /// Adds the load of a pattern.
+    // Adds the load of a pattern.
     fn load(&mut self, last: Option<Pattern<'_>>, pattern: Pattern<'_>) -> Result<(), AllocError>
         requires last { IfSome last (Fits self.old.config self.old.plan) }
         requires pattern { Fits self.old.config self.old.plan pattern }
@@ -94,7 +94,7 @@ impl<'a> VectorList<'a> {
         Ok(())
     }
 
-    /// Adds the capture vector of a pattern.
+    // Adds the capture vector of a pattern.
     fn capture(&mut self, pattern: Pattern<'_>) -> Result<(), AllocError>
         ensures { OnOk result (self.new ≡ record self.old {
           vectors = self.old.vectors
@@ -125,7 +125,7 @@ impl<'a> VectorList<'a> {
         Ok(())
     }
 
-    /// Adds a load without a channel bit or a mask.
+    // Adds a load without a channel bit or a mask.
     fn last_load(&mut self, last: Option<Pattern<'_>>) -> Result<(), AllocError>
         requires last { IfSome last (Fits self.old.config self.old.plan) }
         ensures { OnOk result (self.new ≡ record self.old {
@@ -138,7 +138,7 @@ impl<'a> VectorList<'a> {
         Ok(())
     }
 
-    /// Adds the last load, where there is a pattern.
+    // Adds the last load, where there is a pattern.
     fn unload(&mut self, last: Option<Pattern<'_>>) -> Result<(), AllocError>
         requires last { IfSome last (Fits self.old.config self.old.plan) }
         ensures { OnOk result (self.new ≡ record self.old { vectors = ended_by self.old (table_of self.old.config.ring (packed_bit (replicate (words_for (columns_of self.old.config self.old.plan)) 0))) (data_if_any self.old.config self.old.plan last.entry) }) }

@@ -18,7 +18,7 @@ use dft_expect::expected;
 use dft_patterns::{Act, Acts};
 use std::alloc::AllocError;
 
-/// Adds the acts of outputs in a cycle, by what they are to show in all cycles.
+// Adds the acts of outputs in a cycle, by what they are to show in all cycles.
 fn push_shown(
     acts: &mut Vec<Act>,
     width: usize,
@@ -36,7 +36,7 @@ fn push_shown(
     }
 }
 
-/// Adds the acts of the inputs in a cycle of a load.
+// Adds the acts of the inputs in a cycle of a load.
 fn push_inputs(
     acts: &mut Vec<Act>,
     layout: &Layout<'_>,
@@ -59,7 +59,7 @@ fn push_inputs(
     Ok(())
 }
 
-/// Adds the acts of the shift vector in a cycle of a load.
+// Adds the acts of the shift vector in a cycle of a load.
 fn push_shift(
     acts: &mut Vec<Act>,
     layout: &Layout<'_>,
@@ -82,7 +82,7 @@ fn push_shift(
     push_shown(acts, width, expected, cycle)
 }
 
-/// Adds the vectors of a load.
+// Adds the vectors of a load.
 fn add_shifts(
     vectors: &mut Vec<Acts>,
     layout: &Layout<'_>,
@@ -106,7 +106,7 @@ fn add_shifts(
     Ok(())
 }
 
-/// Adds the vectors of the first load, behind which nothing was captured.
+// Adds the vectors of the first load, behind which nothing was captured.
 fn add_first(
     vectors: &mut Vec<Acts>,
     layout: &Layout<'_>,
@@ -121,7 +121,7 @@ fn add_first(
     Ok(())
 }
 
-/// Adds the vectors of a load, while what a pattern captured comes out.
+// Adds the vectors of a load, while what a pattern captured comes out.
 fn add_next(
     vectors: &mut Vec<Acts>,
     layout: &Layout<'_>,
@@ -146,7 +146,7 @@ fn add_next(
     Ok(())
 }
 
-/// Adds the vectors of a load of these channel bits that sends these masks, while what a pattern captured before comes out.
+// Adds the vectors of a load of these channel bits that sends these masks, while what a pattern captured before comes out.
 pub(crate) fn add_load(
     vectors: &mut Vec<Acts>,
     layout: &Layout<'_>,
@@ -166,7 +166,7 @@ pub(crate) fn add_load(
     }
 }
 
-/// The packed bits of a load in which no channel bit is 1.
+// The packed bits of a load in which no channel bit is 1.
 pub(crate) fn no_bits(layout: &Layout<'_>) -> Result<Vec<u64>, AllocError>
     ensures { IfOk result (λ bits. bits.items ≡ replicate (words_for (columns_of layout.now.config.now layout.now.chains.now)) 0) }
 {

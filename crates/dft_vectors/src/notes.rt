@@ -33,7 +33,7 @@ pub fn notes_of(alloc: Global, cycles: u16, patterns: u32) -> Result<Vec<Note>, 
     Ok(notes)
 }
 
-/// The number of the first vector of a pattern's load.
+// The number of the first vector of a pattern's load.
 fn first_vector(cycles: u16, pattern: u32) -> u32
     requires cycles { cycles ≤ 4096 }
     requires patterns { pattern ≤ 65536 }

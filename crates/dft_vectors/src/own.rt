@@ -20,7 +20,7 @@ use dft_netlist::{Design, NetId};
 use dft_patterns::Act;
 use std::alloc::{AllocError, Global};
 
-/// A bit of an input port, and whether it is a clock or a reset.
+// A bit of an input port, and whether it is a clock or a reset.
 #[derive(Clone, Copy)]
 pub(crate) struct OwnInput {
     pub(crate) net: NetId,
@@ -28,22 +28,22 @@ pub(crate) struct OwnInput {
     pub(crate) is_reset: bool,
 }
 
-/// What is looked up once of the design's ports.
+// What is looked up once of the design's ports.
 #[derive(Drop)]
 pub(crate) struct OwnPorts {
-    /// The nets of the clocks, in the order of the configuration.
+    // The nets of the clocks, in the order of the configuration.
     pub(crate) clocks: Vec<Option<NetId>>,
-    /// The bits of the input ports.
+    // The bits of the input ports.
     pub(crate) inputs: Vec<OwnInput>,
-    /// What a shift vector does at them.
+    // What a shift vector does at them.
     pub(crate) pulsing: Vec<Act>,
-    /// How many bits the output ports have.
+    // How many bits the output ports have.
     pub(crate) outputs: usize,
-    /// How many nets the design has.
+    // How many nets the design has.
     pub(crate) nets: usize,
 }
 
-/// What the ports of a design are for.
+// What the ports of a design are for.
 pub(crate) fn own_ports(
     alloc: Global,
     design: &Design,
@@ -67,7 +67,7 @@ pub(crate) fn own_ports(
     })
 }
 
-/// The nets of these names.
+// The nets of these names.
 fn nets_named(
     alloc: Global,
     design: &Design,
@@ -96,7 +96,7 @@ fn is_among(found: &[Option<NetId>], net: NetId) -> bool
     found.iter().any(|other| is_net(*other, net))
 }
 
-/// What these bits of input ports are for.
+// What these bits of input ports are for.
 fn own_inputs(
     alloc: Global,
     nets: &[NetId],
@@ -114,7 +114,7 @@ fn own_inputs(
         .collect(alloc)
 }
 
-/// What a vector does at the design's inputs in which every clock pulses.
+// What a vector does at the design's inputs in which every clock pulses.
 fn pulsing(alloc: Global, inputs: &[OwnInput]) -> Result<Vec<Act>, AllocError>
     ensures { IfOk result (λ acts. acts.items ≡ map (λ input. spec.driven input.is_clock (captures.port_value input.is_reset None)) inputs.now) }
 {
@@ -124,7 +124,7 @@ fn pulsing(alloc: Global, inputs: &[OwnInput]) -> Result<Vec<Act>, AllocError>
         .collect(alloc)
 }
 
-/// Adds what the set-up vector does at the design's inputs.
+// Adds what the set-up vector does at the design's inputs.
 pub(crate) fn push_quiet(acts: &mut Vec<Act>, inputs: &[OwnInput]) -> Result<(), AllocError>
     ensures { OnOk result (acts.new.items ≡ acts.old.items ++ map (λ input. spec.driven false (captures.port_value input.is_reset None)) inputs.now) }
 {
@@ -152,7 +152,7 @@ fn clock_at(clocks: &[Option<NetId>], domain: u8) -> Option<NetId>
     }
 }
 
-/// Adds what a capture vector does at inputs, where this clock pulses and these bits are given by net.
+// Adds what a capture vector does at inputs, where this clock pulses and these bits are given by net.
 fn push_given(
     acts: &mut Vec<Act>,
     inputs: &[OwnInput],
@@ -169,7 +169,7 @@ fn push_given(
     Ok(())
 }
 
-/// Adds what the capture vector of a pattern does at the design's inputs.
+// Adds what the capture vector of a pattern does at the design's inputs.
 pub(crate) fn push_captured(
     alloc: Global,
     acts: &mut Vec<Act>,

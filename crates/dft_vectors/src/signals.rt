@@ -23,7 +23,7 @@ pub fn signals_of(alloc: Global, design: &Design) -> Result<Vec<StilSignal>, All
     Ok(signals)
 }
 
-/// The signal of a port's bit.
+// The signal of a port's bit.
 #[tactic(auto, using(std::proofs::lemmas::Option::get_or_from_slice_get))]
 fn signal(alloc: Global, design: &Design, dir: Dir, net: NetId) -> Result<StilSignal, AllocError>
     requires { net.0 < length design.now.nets }
@@ -33,7 +33,7 @@ fn signal(alloc: Global, design: &Design, dir: Dir, net: NetId) -> Result<StilSi
     Ok(StilSignal { name, dir })
 }
 
-/// Adds the signals of these nets.
+// Adds the signals of these nets.
 fn push_signals(
     alloc: Global,
     signals: &mut Vec<StilSignal>,

@@ -15,7 +15,7 @@ use dft_netlist_text::Declared;
 use dft_verilog_draft::{HeaderPort, width};
 use std::alloc::{AllocError, Global};
 
-/// Gives a net this number, unless it has one.
+// Gives a net this number, unless it has one.
 fn give_number(numbers: &mut [Option<NetId>], net: usize, number: u32)
     requires { net < length numbers.old }
     ensures { numbers.new ≡ with_number net number numbers.old }
@@ -25,7 +25,7 @@ fn give_number(numbers: &mut [Option<NetId>], net: usize, number: u32)
     }
 }
 
-/// Gives nets with numbers one after the other the final numbers from `next` on, unless they have some.
+// Gives nets with numbers one after the other the final numbers from `next` on, unless they have some.
 fn number_bits(numbers: &mut [Option<NetId>], first: usize, count: usize, next: usize)
     requires within { first + count ≤ length numbers.old }
     requires few { next + count ≤ 2 ^ 32 }
@@ -36,7 +36,7 @@ fn number_bits(numbers: &mut [Option<NetId>], first: usize, count: usize, next: 
     }
 }
 
-/// How many nets a name with this range has.
+// How many nets a name with this range has.
 fn net_count(range: Option<Range>) -> usize
     ensures count { result ≡ spec.net_count range }
     ensures few { result ≤ 65536 }
@@ -47,7 +47,7 @@ fn net_count(range: Option<Range>) -> usize
     }
 }
 
-/// Gives the nets of a port the final numbers from `next` on, and says which number comes then.
+// Gives the nets of a port the final numbers from `next` on, and says which number comes then.
 fn number_port(numbers: &mut [Option<NetId>], declared: Option<Declared>, next: usize) -> usize
     requires within { IsDeclaredWithin (length numbers.old) declared }
     requires few { next + 65536 ≤ 2 ^ 32 }

@@ -17,7 +17,7 @@ use dft_verilog_draft::{DraftInstance, HeaderPort, ModuleDraft};
 use dft_verilog_tokens::Word;
 use std::alloc::{AllocError, Global};
 
-/// Adds a port of the header, if it was declared.
+// Adds a port of the header, if it was declared.
 fn add_port(
     alloc: Global,
     builder: &mut DesignBuilder,
@@ -37,7 +37,7 @@ fn add_port(
     }
 }
 
-/// Adds the ports of the header that were declared.
+// Adds the ports of the header that were declared.
 fn add_ports(
     alloc: Global,
     builder: &mut DesignBuilder,
@@ -52,7 +52,7 @@ fn add_ports(
     Ok(())
 }
 
-/// The number of a net, which is added where it has none.
+// The number of a net, which is added where it has none.
 fn number_or_add(
     alloc: Global,
     builder: &mut DesignBuilder,
@@ -69,7 +69,7 @@ fn number_or_add(
     }
 }
 
-/// Adds the nets that have no number yet, and gives the numbers of all.
+// Adds the nets that have no number yet, and gives the numbers of all.
 fn add_others(
     alloc: Global,
     builder: &mut DesignBuilder,
@@ -89,7 +89,7 @@ fn add_others(
     Ok(finals)
 }
 
-/// Adds a draft's ports and its other nets, and gives the final numbers of its nets.
+// Adds a draft's ports and its other nets, and gives the final numbers of its nets.
 fn add_all_nets(
     alloc: Global,
     builder: &mut DesignBuilder,
@@ -106,7 +106,7 @@ fn add_all_nets(
     add_others(alloc, builder, draft.nets(), &numbers)
 }
 
-/// Adds a join of a draft.
+// Adds a join of a draft.
 fn add_join(
     builder: &mut DesignBuilder,
     draft: &ModuleDraft<'_>,
@@ -123,7 +123,7 @@ fn add_join(
     builder.join(target, source)
 }
 
-/// Adds the joins of a draft.
+// Adds the joins of a draft.
 fn add_joins(
     builder: &mut DesignBuilder,
     draft: &ModuleDraft<'_>,
@@ -139,7 +139,7 @@ fn add_joins(
     Ok(())
 }
 
-/// Adds an instance of a draft.
+// Adds an instance of a draft.
 fn add_instance(
     alloc: Global,
     builder: &mut DesignBuilder,
@@ -161,7 +161,7 @@ fn add_instance(
     Ok(())
 }
 
-/// Adds the instances of a draft.
+// Adds the instances of a draft.
 fn add_instances(
     alloc: Global,
     builder: &mut DesignBuilder,
@@ -179,7 +179,7 @@ fn add_instances(
     Ok(())
 }
 
-/// Adds all that a draft has to a netlist that has nothing yet.
+// Adds all that a draft has to a netlist that has nothing yet.
 fn add_all(
     alloc: Global,
     builder: &mut DesignBuilder,
@@ -194,7 +194,7 @@ fn add_all(
     add_instances(alloc, builder, draft, &finals)
 }
 
-/// A netlist over a draft's cells that has nothing yet, and room for what the draft has.
+// A netlist over a draft's cells that has nothing yet, and room for what the draft has.
 fn begun(
     alloc: Global,
     library: Library,
@@ -210,7 +210,7 @@ fn begun(
     Ok(builder)
 }
 
-/// The netlist of a draft, not finished yet. The names that are taken are let go first.
+// The netlist of a draft, not finished yet. The names that are taken are let go first.
 fn built(
     alloc: Global,
     library: Library,
@@ -226,8 +226,8 @@ fn built(
     Ok(builder)
 }
 
-/// The design of what a module said, of which no part is refused, over its cells. Refused with `MultipleDrivers` for the
-/// first net with two drivers, and else with `Loop` where the nets have no order.
+// The design of what a module said, of which no part is refused, over its cells. Refused with `MultipleDrivers` for the
+// first net with two drivers, and else with `Loop` where the nets have no order.
 pub(crate) fn finished(
     alloc: Global,
     library: Library,

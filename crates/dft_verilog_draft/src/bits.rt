@@ -23,7 +23,7 @@ pub fn width(range: Range) -> usize
     }
 }
 
-/// The index of the bit at this place from the left.
+// The index of the bit at this place from the left.
 fn index_at(range: Range, place: usize) -> u16
     requires { place < ranges.width range }
     ensures { result ≡ bits.index_at range place }
@@ -35,7 +35,7 @@ fn index_at(range: Range, place: usize) -> u16
     }
 }
 
-/// The printed name of a bit: the vector's name, and the bit's index in brackets.
+// The printed name of a bit: the vector's name, and the bit's index in brackets.
 fn bit_name<'a>(alloc: Global, word: &[u8], index: u16) -> Result<Word<'a>, AllocError>
     requires { IsName word.now }
     ensures { IfOk result (λ name. name ≡ names.bit_name word.now index) }

@@ -14,7 +14,7 @@ use dft_netlist::{Counted, Dir, MAX_INSTANCES, MAX_NETS, MAX_PORTS, NetId};
 use dft_netlist_text::{Cause, Declared, Meaning, Shape};
 use dft_verilog_tokens::{ReadError, Word, full, refused, taken};
 
-/// The place in the header that a name stands for.
+// The place in the header that a name stands for.
 fn port_place(meaning: Option<Meaning>) -> Option<usize>
     ensures { result ≡ spec.port_place meaning }
 {
@@ -24,7 +24,7 @@ fn port_place(meaning: Option<Meaning>) -> Option<usize>
     }
 }
 
-/// Whether two names have the same range.
+// Whether two names have the same range.
 fn same_range(a: Option<Range>, b: Option<Range>) -> bool
     ensures { result ≡ spec.same_range a b }
 {
@@ -36,7 +36,7 @@ fn same_range(a: Option<Range>, b: Option<Range>) -> bool
 }
 
 impl<'a> ModuleDraft<'a> {
-    /// The first of these names that is taken.
+    // The first of these names that is taken.
     fn first_taken<'n>(&self, names: &'n [Word<'a>]) -> Option<&'n Word<'a>>
         ensures { option_copied result ≡ spec.first_taken self.now names.now }
     {
@@ -45,7 +45,7 @@ impl<'a> ModuleDraft<'a> {
             .find(|name| self.meaning(name.as_slice()).is_some())
     }
 
-    /// The names of the nets that a name of this range is to stand for, unless a bit's is taken.
+    // The names of the nets that a name of this range is to stand for, unless a bit's is taken.
     fn new_bits(
         &self,
         place: usize,
@@ -66,7 +66,7 @@ impl<'a> ModuleDraft<'a> {
         }
     }
 
-    /// The names of a vector's bits, unless one is taken.
+    // The names of a vector's bits, unless one is taken.
     fn new_vector_bits(
         &self,
         place: usize,
@@ -84,14 +84,14 @@ impl<'a> ModuleDraft<'a> {
         }
     }
 
-    /// Whether there is room for so many nets more.
+    // Whether there is room for so many nets more.
     fn has_room_for_nets(&self, more: usize) -> bool
         ensures { result ≡ not (nat_lt MAX_NETS (length self.now.nets + more)) }
     {
         more <= MAX_NETS - self.net_count()
     }
 
-    /// The nets of a name that comes next.
+    // The nets of a name that comes next.
     pub(crate) fn next_shape(&self, range: Option<Range>) -> Shape
         ensures { result ≡ spec.next_shape self.now range }
     {
@@ -101,7 +101,7 @@ impl<'a> ModuleDraft<'a> {
         }
     }
 
-    /// A name that is free stands for one net, of this name.
+    // A name that is free stands for one net, of this name.
     fn declare_scalar(&mut self, place: usize, word: &'a [u8]) -> Result<(), ReadError>
         requires name { IsName word.now }
         requires free { spec.meaning_of self.old word.now ≡ None }
@@ -116,7 +116,7 @@ impl<'a> ModuleDraft<'a> {
         Ok(())
     }
 
-    /// A name that is free stands for new nets.
+    // A name that is free stands for new nets.
     pub(crate) fn declare_free(
         &mut self,
         place: usize,
@@ -133,7 +133,7 @@ impl<'a> ModuleDraft<'a> {
         }
     }
 
-    /// A name that is free stands for the nets of its bits.
+    // A name that is free stands for the nets of its bits.
     fn declare_bits(
         &mut self,
         place: usize,
@@ -173,7 +173,7 @@ impl<'a> ModuleDraft<'a> {
         Ok(())
     }
 
-    /// Gives the port at this place of the header a direction and a range.
+    // Gives the port at this place of the header a direction and a range.
     fn declare_at(
         &mut self,
         place: usize,
@@ -262,7 +262,7 @@ impl<'a> ModuleDraft<'a> {
         Ok(())
     }
 
-    /// A `wire` repeats a port. Refused where the port was not declared with this range, or was repeated before.
+    // A `wire` repeats a port. Refused where the port was not declared with this range, or was repeated before.
     fn repeat_port(
         &mut self,
         place: usize,
@@ -304,7 +304,7 @@ impl<'a> ModuleDraft<'a> {
         }
     }
 
-    /// Declares a wire without a range, for whose net there is room, or repeats a port. Its name is looked up once.
+    // Declares a wire without a range, for whose net there is room, or repeats a port. Its name is looked up once.
     fn declare_lone_wire(&mut self, place: usize, word: &'a [u8]) -> Result<(), ReadError>
         requires name { IsName word.now }
         requires room { length self.old.nets < MAX_NETS }
@@ -317,7 +317,7 @@ impl<'a> ModuleDraft<'a> {
         }
     }
 
-    /// Declares a wire with or without a range, or repeats a port.
+    // Declares a wire with or without a range, or repeats a port.
     fn declare_any_wire(
         &mut self,
         place: usize,
@@ -353,7 +353,7 @@ impl<'a> ModuleDraft<'a> {
         }
     }
 
-    /// Refuses an instance for which there is no room: at its name, if that is taken.
+    // Refuses an instance for which there is no room: at its name, if that is taken.
     fn refuse_instance(&self, place: usize, word: &[u8]) -> Result<(), ReadError>
         requires name { IsName word.now }
         requires full { MAX_INSTANCES ≤ length self.now.instances }

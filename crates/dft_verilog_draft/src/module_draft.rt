@@ -178,7 +178,7 @@ impl<'a> ModuleDraft<'a> {
         }
     }
 
-    /// Takes a name that is free.
+    // Takes a name that is free.
     pub(crate) fn take(&mut self, word: &'a [u8], meaning: Meaning) -> Result<(), AllocError>
         requires name { IsName word.now }
         requires free { spec.meaning_of self.old word.now ≡ None }
@@ -188,7 +188,7 @@ impl<'a> ModuleDraft<'a> {
         self.names.take(Word::read(word), meaning)
     }
 
-    /// Takes a name if it is free. Tells what it stood for before.
+    // Takes a name if it is free. Tells what it stood for before.
     pub(crate) fn put(
         &mut self,
         word: &'a [u8],
@@ -202,7 +202,7 @@ impl<'a> ModuleDraft<'a> {
         self.names.put(Word::read(word), meaning)
     }
 
-    /// A name that is free stands for one net of this name from here on. Tells what it stood for before.
+    // A name that is free stands for one net of this name from here on. Tells what it stood for before.
     pub(crate) fn put_net(&mut self, word: &'a [u8]) -> Result<Option<Meaning>, AllocError>
         requires name { IsName word.now }
         requires room { length self.old.nets < MAX_NETS }
@@ -220,7 +220,7 @@ impl<'a> ModuleDraft<'a> {
         }
     }
 
-    /// Takes the names of a vector's bits, which are those of the nets from this one on.
+    // Takes the names of a vector's bits, which are those of the nets from this one on.
     pub(crate) fn take_bits(&mut self, range: Option<Range>, first: usize) -> Result<(), AllocError>
         requires within { first ≤ length self.old.nets }
         requires free { AreFreeBits range self.old.names (drop first self.old.nets) }
@@ -235,7 +235,7 @@ impl<'a> ModuleDraft<'a> {
         }
     }
 
-    /// Adds a net of this name.
+    // Adds a net of this name.
     pub(crate) fn add_net(&mut self, word: &'a [u8]) -> Result<(), AllocError>
         requires name { IsName word.now }
         requires room { length self.old.nets < MAX_NETS }
@@ -245,7 +245,7 @@ impl<'a> ModuleDraft<'a> {
         Ok(())
     }
 
-    /// Adds nets of these names.
+    // Adds nets of these names.
     pub(crate) fn add_nets(&mut self, mut names: Vec<Word<'a>>) -> Result<(), AllocError>
         requires { length self.old.nets + length names.items ≤ MAX_NETS }
         ensures { OnOk result (self.new ≡ record self.old { nets = self.old.nets ++ names.entry.items }) }
@@ -253,7 +253,7 @@ impl<'a> ModuleDraft<'a> {
         self.nets.append(&mut names)
     }
 
-    /// Adds a port at the end of the header.
+    // Adds a port at the end of the header.
     pub(crate) fn add_port(&mut self, port: HeaderPort) -> Result<(), AllocError>
         requires room { length self.old.ports < MAX_PORTS }
         requires within { IsDeclaredWithin (length self.old.nets) port.declared }
@@ -263,7 +263,7 @@ impl<'a> ModuleDraft<'a> {
         Ok(())
     }
 
-    /// Puts this port at a place of the header.
+    // Puts this port at a place of the header.
     pub(crate) fn set_port(&mut self, place: usize, port: HeaderPort)
         requires { IsDeclaredWithin (length self.old.nets) port.declared }
         ensures { self.new ≡ record self.old { ports = slice_set self.old.ports place port } }

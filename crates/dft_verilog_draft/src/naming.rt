@@ -15,7 +15,7 @@ use dft_netlist::{NetId, PinSignals, Signal};
 use dft_netlist_text::{Cause, Meaning, Select};
 use dft_verilog_tokens::{ReadError, refused};
 
-/// The net of a name without a range that stands for it, if all of it is selected.
+// The net of a name without a range that stands for it, if all of it is selected.
 #[inline(always)]
 fn lone_net(meaning: Option<Meaning>, what: Select) -> Option<NetId>
     ensures { result ≡ lone_net meaning what }
@@ -29,7 +29,7 @@ fn lone_net(meaning: Option<Meaning>, what: Select) -> Option<NetId>
     }
 }
 
-/// The one bit of these; another number of bits is refused at this place.
+// The one bit of these; another number of bits is refused at this place.
 fn lone_of(place: usize, bits: &[Signal]) -> Result<Signal, ReadError>
     ensures read { (d : Draft) → Checks (λ bit. (d, bit)) (lone_of place d bits.now) result }
     ensures one { IfOk result (λ bit. bits.now ≡ bit ∷ []) }
@@ -59,7 +59,7 @@ impl<'a> ModuleDraft<'a> {
         self.read_meaning(spot, word, what, meaning, bits)
     }
 
-    /// The same of a name that stands for this.
+    // The same of a name that stands for this.
     fn read_meaning(
         &mut self,
         spot: Spot,
@@ -101,7 +101,7 @@ impl<'a> ModuleDraft<'a> {
         }
     }
 
-    /// The one bit that a name gives which stands for this.
+    // The one bit that a name gives which stands for this.
     fn lone_bit_of(
         &mut self,
         spot: Spot,

@@ -24,7 +24,7 @@ pub struct Run {
     pub count: u32,
 }
 
-/// Whether a range has this index.
+// Whether a range has this index.
 fn has_index(range: Range, index: u16) -> bool
     ensures { result ≡ ranges.has_index range index }
 {
@@ -35,7 +35,7 @@ fn has_index(range: Range, index: u16) -> bool
     }
 }
 
-/// How far an index is from the left of its range.
+// How far an index is from the left of its range.
 fn place_in(range: Range, index: u16) -> u16
     ensures { result ≡ ranges.place_in range index }
 {
@@ -46,7 +46,7 @@ fn place_in(range: Range, index: u16) -> u16
     }
 }
 
-/// Whether a part lies in a range and goes its way.
+// Whether a part lies in a range and goes its way.
 fn has_part(range: Range, part: Range) -> bool
     ensures { result ≡ ranges.has_part range part }
 {
@@ -55,7 +55,7 @@ fn has_part(range: Range, part: Range) -> bool
         && place_in(range, part.left) <= place_in(range, part.right)
 }
 
-/// What is selected of a vector with its first net at this number.
+// What is selected of a vector with its first net at this number.
 fn selected_of_vector(shape: Shape, range: Range, what: Select) -> Option<Run>
     requires { shape.first.0 ≤ MAX_NETS }
     ensures bits { option_map signals_of_run result ≡ spec.selected_of_vector shape range what }
@@ -83,7 +83,7 @@ fn selected_of_vector(shape: Shape, range: Range, what: Select) -> Option<Run>
     }
 }
 
-/// What is selected of the nets of a name.
+// What is selected of the nets of a name.
 fn selected(shape: Shape, what: Select) -> Option<Run>
     requires { shape.first.0 ≤ MAX_NETS }
     ensures bits { option_map signals_of_run result ≡ spec.selected shape what }
@@ -99,7 +99,7 @@ fn selected(shape: Shape, what: Select) -> Option<Run>
     }
 }
 
-/// Puts the signals of nets behind those before.
+// Puts the signals of nets behind those before.
 fn push_run(bits: &mut PinSignals, run: Run) -> Result<(), AllocError>
     requires { run.first + run.count < 2 ^ 32 }
     ensures { OnOk result (bits.new ≡ bits.old ++ signals_of_run run) }
@@ -110,7 +110,7 @@ fn push_run(bits: &mut PinSignals, run: Run) -> Result<(), AllocError>
     Ok(())
 }
 
-/// Whether a whole name that was not declared is a net at such a place.
+// Whether a whole name that was not declared is a net at such a place.
 fn implies(site: Site, depth: usize) -> bool
     ensures { result ≡ spec.implies site depth }
 {
@@ -127,7 +127,7 @@ fn is_whole(what: Select) -> bool
     matches!(&what, Select::Whole)
 }
 
-/// Puts what is selected of a name's nets behind the bits before. Refused where the selection does not fit.
+// Puts what is selected of a name's nets behind the bits before. Refused where the selection does not fit.
 fn push_selected(
     bits: &mut PinSignals,
     place: usize,
@@ -154,7 +154,7 @@ pub struct Spot {
     pub place: usize,
 }
 
-/// Whether a name that was not declared is a net from here on.
+// Whether a name that was not declared is a net from here on.
 fn is_implied(spot: Spot, what: Select) -> bool
     ensures { result ≡ (spec.implies spot.site spot.depth && spec.is_whole what) }
 {
@@ -162,7 +162,7 @@ fn is_implied(spot: Spot, what: Select) -> bool
 }
 
 impl<'a> ModuleDraft<'a> {
-    /// A name that is free is a net from here on.
+    // A name that is free is a net from here on.
     fn imply(
         &mut self,
         place: usize,
@@ -179,7 +179,7 @@ impl<'a> ModuleDraft<'a> {
         Ok(())
     }
 
-    /// Puts what a port's name gives behind the bits before. Refused where the port was not declared.
+    // Puts what a port's name gives behind the bits before. Refused where the port was not declared.
     fn bits_of_port(
         &self,
         place: usize,
@@ -213,7 +213,7 @@ impl<'a> ModuleDraft<'a> {
         self.bits_of_meaning(spot, word, what, meaning, bits)
     }
 
-    /// The same of a name that stands for this.
+    // The same of a name that stands for this.
     pub(crate) fn bits_of_meaning(
         &mut self,
         spot: Spot,

@@ -10,7 +10,7 @@ use dft_base::{Name, Range};
 use dft_netlist::{Dir, Port};
 use std::alloc::AllocError;
 
-/// Adds the names of ports, with commas between them.
+// Adds the names of ports, with commas between them.
 fn add_port_names(out: &mut Vec<u8>, ports: &[Port]) -> Result<(), AllocError>
     ensures { OnOk result (out.new.items ≡ out.old.items ++ form.list_text (map (λ (p : APort). form.name_text p.name) ports.now)) }
 {
@@ -23,7 +23,7 @@ fn add_port_names(out: &mut Vec<u8>, ports: &[Port]) -> Result<(), AllocError>
     Ok(())
 }
 
-/// Adds the heading of the module.
+// Adds the heading of the module.
 #[tactic(auto, unfolding(crate::specs::Written::module_line))]
 pub(crate) fn add_heading(out: &mut Vec<u8>, name: &Name, ports: &[Port]) -> Result<(), AllocError>
     ensures { OnOk result (out.new.items ≡ out.old.items ++ form.module_line name.now ports.now) }
@@ -44,7 +44,7 @@ fn dir_text(dir: Dir) -> &'static [u8]
     }
 }
 
-/// Adds a range, if there is one.
+// Adds a range, if there is one.
 fn add_range(out: &mut Vec<u8>, range: Option<Range>) -> Result<(), AllocError>
     ensures { OnOk result (out.new.items ≡ out.old.items ++ form.range_text range) }
 {
@@ -58,7 +58,7 @@ fn add_range(out: &mut Vec<u8>, range: Option<Range>) -> Result<(), AllocError>
     out.extend_from_slice(b"] ")
 }
 
-/// Adds the line of a port.
+// Adds the line of a port.
 #[tactic(auto, unfolding(crate::specs::Written::port_line))]
 fn add_port(out: &mut Vec<u8>, port: &Port) -> Result<(), AllocError>
     ensures { OnOk result (out.new.items ≡ out.old.items ++ form.port_line port.now) }
@@ -69,7 +69,7 @@ fn add_port(out: &mut Vec<u8>, port: &Port) -> Result<(), AllocError>
     out.extend_from_slice(b";\n")
 }
 
-/// Adds the lines of ports.
+// Adds the lines of ports.
 pub(crate) fn add_ports(out: &mut Vec<u8>, ports: &[Port]) -> Result<(), AllocError>
     ensures { OnOk result (out.new.items ≡ out.old.items ++ flat_map form.port_line ports.now) }
 {
@@ -79,7 +79,7 @@ pub(crate) fn add_ports(out: &mut Vec<u8>, ports: &[Port]) -> Result<(), AllocEr
     Ok(())
 }
 
-/// Adds the lines of other nets.
+// Adds the lines of other nets.
 #[tactic(auto, unfolding(crate::specs::Written::wire_line))]
 pub(crate) fn add_wires(out: &mut Vec<u8>, nets: &[NetText]) -> Result<(), AllocError>
     ensures { OnOk result (out.new.items ≡ out.old.items ++ flat_map form.wire_line nets.now) }

@@ -13,7 +13,7 @@ use dft_cells::{Cell, Kind, Pin};
 use dft_netlist::{CellRef, Instance, Join, Signal};
 use std::alloc::AllocError;
 
-/// Adds the line of a join.
+// Adds the line of a join.
 #[tactic(auto, unfolding(crate::specs::Written::join_line))]
 fn add_join(out: &mut Vec<u8>, nets: &[NetText], join: Join) -> Result<(), AllocError>
     requires { IsAJoin (length nets.now) join.target join.source }
@@ -26,7 +26,7 @@ fn add_join(out: &mut Vec<u8>, nets: &[NetText], join: Join) -> Result<(), Alloc
     out.extend_from_slice(b";\n")
 }
 
-/// Adds the lines of joins.
+// Adds the lines of joins.
 pub(crate) fn add_joins(
     out: &mut Vec<u8>,
     nets: &[NetText],
@@ -41,7 +41,7 @@ pub(crate) fn add_joins(
     Ok(())
 }
 
-/// Adds a pin and what it is joined to.
+// Adds a pin and what it is joined to.
 fn add_joined(out: &mut Vec<u8>, nets: &[NetText], pin: &Name, to: Signal) -> Result<(), AllocError>
     requires { IsLive (length nets.now) to }
     ensures { OnOk result (out.new.items ≡ out.old.items ++ form.connection_text nets.now pin.now to) }
@@ -54,7 +54,7 @@ fn add_joined(out: &mut Vec<u8>, nets: &[NetText], pin: &Name, to: Signal) -> Re
     Ok(())
 }
 
-/// Whether a pin is joined to something.
+// Whether a pin is joined to something.
 pub(crate) fn is_joined(signal: Signal) -> bool
     ensures { result ≡ form.is_joined signal }
 {
@@ -64,7 +64,7 @@ pub(crate) fn is_joined(signal: Signal) -> bool
     }
 }
 
-/// Adds the pins that are joined, with commas between them.
+// Adds the pins that are joined, with commas between them.
 fn add_connections(
     out: &mut Vec<u8>,
     nets: &[NetText],
@@ -102,7 +102,7 @@ fn gate_text(kind: Kind) -> &'static [u8]
     }
 }
 
-/// Adds signals behind those that are there.
+// Adds signals behind those that are there.
 fn add_inputs(out: &mut Vec<u8>, nets: &[NetText], signals: &[Signal]) -> Result<(), AllocError>
     requires { AreLive (length nets.now) signals.now }
     ensures { OnOk result (out.new.items ≡ out.old.items ++ form.list_text_behind (codes ", ") (map (form.signal_text nets.now) signals.now)) }
@@ -114,7 +114,7 @@ fn add_inputs(out: &mut Vec<u8>, nets: &[NetText], signals: &[Signal]) -> Result
     Ok(())
 }
 
-/// Adds a gate's terminals, its output first.
+// Adds a gate's terminals, its output first.
 fn add_terminals(out: &mut Vec<u8>, nets: &[NetText], pins: &[Signal]) -> Result<(), AllocError>
     requires { AreLive (length nets.now) pins.now }
     ensures { OnOk result (out.new.items ≡ out.old.items ++ form.list_text (map (form.signal_text nets.now) (form.output_first pins.now))) }
@@ -127,7 +127,7 @@ fn add_terminals(out: &mut Vec<u8>, nets: &[NetText], pins: &[Signal]) -> Result
     add_inputs(out, nets, inputs)
 }
 
-/// Adds a name, if there is one.
+// Adds a name, if there is one.
 fn add_own_name(out: &mut Vec<u8>, name: &Option<Name>) -> Result<(), AllocError>
     ensures { OnOk result (out.new.items ≡ out.old.items ++ form.own_name_text name.now) }
 {
@@ -140,7 +140,7 @@ fn add_own_name(out: &mut Vec<u8>, name: &Option<Name>) -> Result<(), AllocError
     }
 }
 
-/// Adds the line of a gate.
+// Adds the line of a gate.
 #[tactic(auto, unfolding(crate::specs::Written::gate_line))]
 fn add_gate(
     out: &mut Vec<u8>,
@@ -158,7 +158,7 @@ fn add_gate(
     out.extend_from_slice(b");\n")
 }
 
-/// Adds the line of an instance of a cell.
+// Adds the line of an instance of a cell.
 #[tactic(auto, unfolding(crate::specs::Written::cell_line))]
 fn add_cell(
     out: &mut Vec<u8>,
@@ -177,7 +177,7 @@ fn add_cell(
     out.extend_from_slice(b");\n")
 }
 
-/// Adds the line of an instance.
+// Adds the line of an instance.
 fn add_instance(
     out: &mut Vec<u8>,
     cells: &[Cell],
@@ -193,7 +193,7 @@ fn add_instance(
     }
 }
 
-/// Adds the lines of instances.
+// Adds the lines of instances.
 pub(crate) fn add_instances(
     out: &mut Vec<u8>,
     cells: &[Cell],

@@ -15,7 +15,7 @@ fn are_joined(signals: &[Signal]) -> bool
     signals.iter().all(|to| is_joined(*to))
 }
 
-/// Whether every pin of an instance is joined, where it is of a gate.
+// Whether every pin of an instance is joined, where it is of a gate.
 fn is_joined_gate(instance: &Instance) -> bool
     ensures { result ≡ spec.is_joined_gate instance.now }
 {
@@ -25,7 +25,7 @@ fn is_joined_gate(instance: &Instance) -> bool
     }
 }
 
-/// Whether every pin of each of these is joined, where it is of a gate.
+// Whether every pin of each of these is joined, where it is of a gate.
 fn are_joined_gates(instances: &[Instance]) -> bool
     ensures { result ≡ list_all spec.is_joined_gate instances.now }
 {

@@ -7,7 +7,7 @@ use dft_base::{Name, needs_escape};
 use itoa::Buffer;
 use std::alloc::AllocError;
 
-/// Adds a name, behind a backslash where it needs one.
+// Adds a name, behind a backslash where it needs one.
 pub(crate) fn add_name(out: &mut Vec<u8>, name: &Name) -> Result<(), AllocError>
     ensures { OnOk result (out.new.items ≡ out.old.items ++ form.name_text name.now) }
 {
@@ -20,7 +20,7 @@ pub(crate) fn add_name(out: &mut Vec<u8>, name: &Name) -> Result<(), AllocError>
     Ok(())
 }
 
-/// Adds a number in decimal.
+// Adds a number in decimal.
 pub(crate) fn add_number(out: &mut Vec<u8>, number: u16) -> Result<(), AllocError>
     ensures { OnOk result (out.new.items ≡ out.old.items ++ decimal number) }
 {

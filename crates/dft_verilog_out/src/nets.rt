@@ -11,7 +11,7 @@ use dft_netlist::{Design, NetId, Port, Signal, index_at};
 use std::alloc::{AllocError, Global};
 use std::marker::Model;
 
-/// A net as it is written. A clause sees it as its bytes.
+// A net as it is written. A clause sees it as its bytes.
 #[derive(Debug, Drop)]
 pub(crate) struct NetText {
     bytes: Vec<u8>,
@@ -26,7 +26,7 @@ impl Model for NetText {
 }
 
 impl NetText {
-    /// Its bytes.
+    // Its bytes.
     pub(crate) fn as_slice(&self) -> &[u8]
         ensures { result.now ≡ self.now }
     {
@@ -34,7 +34,7 @@ impl NetText {
     }
 }
 
-/// A net by its own name.
+// A net by its own name.
 fn whole(alloc: Global, name: &Name) -> Result<NetText, AllocError>
     ensures { IfOk result (λ text. text ≡ form.name_text name.now) }
 {
@@ -43,7 +43,7 @@ fn whole(alloc: Global, name: &Name) -> Result<NetText, AllocError>
     Ok(NetText { bytes })
 }
 
-/// A bit of a vector, by its index.
+// A bit of a vector, by its index.
 fn bit(alloc: Global, name: &Name, index: u16) -> Result<NetText, AllocError>
     ensures { IfOk result (λ text. text ≡ form.bit_select_text name.now index) }
 {
@@ -55,7 +55,7 @@ fn bit(alloc: Global, name: &Name, index: u16) -> Result<NetText, AllocError>
     Ok(NetText { bytes })
 }
 
-/// Adds the bits of a vector, leftmost first.
+// Adds the bits of a vector, leftmost first.
 fn add_bits(
     alloc: Global,
     texts: &mut Vec<NetText>,
@@ -71,7 +71,7 @@ fn add_bits(
     Ok(())
 }
 
-/// Adds the bits of a port, leftmost first.
+// Adds the bits of a port, leftmost first.
 fn add_port_texts(alloc: Global, texts: &mut Vec<NetText>, port: &Port) -> Result<(), AllocError>
     ensures { OnOk result (texts.new.items ≡ texts.old.items ++ form.port_texts port.now) }
 {
@@ -84,7 +84,7 @@ fn add_port_texts(alloc: Global, texts: &mut Vec<NetText>, port: &Port) -> Resul
     }
 }
 
-/// The bits of the ports, one port after another.
+// The bits of the ports, one port after another.
 pub(crate) fn port_texts(alloc: Global, ports: &[Port]) -> Result<Vec<NetText>, AllocError>
     ensures { IfOk result (λ texts. texts.items ≡ flat_map form.port_texts ports.now) }
 {
@@ -95,7 +95,7 @@ pub(crate) fn port_texts(alloc: Global, ports: &[Port]) -> Result<Vec<NetText>, 
     Ok(texts)
 }
 
-/// Adds the nets behind those that are there.
+// Adds the nets behind those that are there.
 pub(crate) fn add_other_texts(
     alloc: Global,
     texts: &mut Vec<NetText>,
@@ -111,7 +111,7 @@ pub(crate) fn add_other_texts(
     Ok(())
 }
 
-/// Adds a net or a constant.
+// Adds a net or a constant.
 pub(crate) fn add_signal(
     out: &mut Vec<u8>,
     texts: &[NetText],

@@ -20,13 +20,13 @@ use std::marker::Model;
 /// The tokens that are left of a netlist text (IEEE 1364). A clause sees them as a list.
 #[derive(Drop)]
 pub struct Tokens<'a> {
-    /// The text from the next token on.
+    // The text from the next token on.
     ahead: &'a [u8],
-    /// Whether the token before it is a base, so that digits are read as one token.
+    // Whether the token before it is a base, so that digits are read as one token.
     behind_base: bool,
-    /// The next token.
+    // The next token.
     front: Lexeme,
-    /// Where a fault puts its names.
+    // Where a fault puts its names.
     alloc: Global,
 }
 
