@@ -5,6 +5,7 @@ use Rattle.std.specs.String.{string_cmp}
 use Rattle.std.specs.List.{AllByRecursion, list_all}
 use Rattle.std.specs.List.Sorted.{IsStrictlySortedBy}
 use Rattle.std.proofs.lemmas.Bool.Decides.{nat_tests}
+use Rattle.std.proofs.lemmas.Bool.{and_from}
 use Rattle.dft_base.specs.Words.{is_reserved}
 use Rattle.toml.specs.Data.{Data, Members, no_members, member, as_table}
 use Rattle.toml.specs.View.{view, members_view}
@@ -20,7 +21,7 @@ use Rattle.dft_cells.specs.Keys.{kind_named, keys_of as key_words, pin_keys}
 use Rattle.dft_cells.specs.Drafts.{draft_of, draft_of_kind, pins_of, scan_name, rows_of, fitted}
 use Rattle.dft_cells.specs.Reading.{key_count, few, cells_table, judged, drafts_of, cell_with}
 use Rattle.dft_cells.specs.WellFormed.{IsCell, ascend, comes_before, pin_name}
-use Rattle.dft_cells.proofs.PinNames.{both_pass, pins_pass, tested}
+use Rattle.dft_cells.proofs.PinNames.{pins_pass, tested}
 use Rattle.dft_cells.proofs.Outcomes.{needed_ok, checked_ok, after_ok, cons_parts}
 use Rattle.dft_cells.proofs.RoleLemmas.{fitted_parts}
 use Rattle.dft_cells.proofs.Halving.{names_of}
@@ -44,7 +45,7 @@ kind_drafts name kind table draft named h =
     let (_, done) = checked_ok (not (is_reserved name)) flaw.Reserved (made name fitting pins scan) draft last in
     let is : record { name = name; kind = fitting; pins = pins; scan = scan } ≡ draft = cc in
     let (roles, differ) = fitted_parts kind table pins rows fitting pins_are fitted_is in
-    rw (← is) record { named = refl; fits = record { roles = roles; differ = differ; named = both_pass (is_name name) (list_all is_name (map pin_name pins)) named (pins_pass (pin_keys kind) table pins pins_are) } }
+    rw (← is) record { named = refl; fits = record { roles = roles; differ = differ; named = and_from (is_name name) (list_all is_name (map pin_name pins)) named (pins_pass (pin_keys kind) table pins pins_are) } }
 
 pub drafts_fit : (name : List ℕ) (value : Data) (draft : Draft) → draft_of name value ≡ Ok draft → IsDraft name draft
 unfolding draft_of

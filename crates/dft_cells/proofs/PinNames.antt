@@ -1,7 +1,7 @@
 -- The names at the keys of a cell's table are names.
-use Rattle.std.proofs.Common.{codes, ℕ, ◌≡◌, ◌&&◌, Bool, true, false, cond, List, [], ◌∷◌, ◌++◌, map, Option, Some, None, option_map, option_and_then, refl, subst}
+use Rattle.std.proofs.Common.{codes, ℕ, ◌≡◌, Bool, true, false, cond, List, [], ◌∷◌, ◌++◌, map, Option, Some, None, option_map, option_and_then, refl, subst}
 use Rattle.std.specs.List.{list_all}
-use Rattle.std.proofs.lemmas.Bool.{and_parts}
+use Rattle.std.proofs.lemmas.Bool.{and_parts, and_from}
 use Rattle.toml.specs.Data.{Items, Members, no_items, item, as_array, as_str, get_member}
 use Rattle.dft_toml.specs.Values.{is_name, name_of, name_at, name_in, names_in, text_at, has_key, with_first}
 use Rattle.dft_cells.specs.declared.kind.Role.{Role}
@@ -16,10 +16,6 @@ pub tested : (test : Bool) (name given : List ℕ) → cond test (Some name) Non
 tested true name given e = (refl, cc)
 tested false name given e = absurd (cc)
 
-pub both_pass : (a b : Bool) → a ≡ true → b ≡ true → (a && b) ≡ true
-both_pass true b e f = f
-both_pass false b e f = absurd (cc)
-
 -- all of these are names
 abbrev Pass : List (List ℕ) → Type 0
 Pass names = list_all is_name names ≡ true
@@ -30,7 +26,7 @@ name_passes (Some x) name h = let (passes, same) = tested (is_name x) x name h i
 
 one_passes : (o : Option (List ℕ)) (names : List (List ℕ)) → ((name : List ℕ) → o ≡ Some name → is_name name ≡ true) → option_map (λ name. name ∷ []) o ≡ Some names → Pass names
 one_passes None names each h = absurd (cc)
-one_passes (Some x) names each h = let same : x ∷ [] ≡ names = cc in subst Pass same (both_pass (is_name x) true (each x refl) refl)
+one_passes (Some x) names each h = let same : x ∷ [] ≡ names = cc in subst Pass same (and_from (is_name x) true (each x refl) refl)
 
 at_key : (word : List ℕ) (table : Members) (names : List (List ℕ)) → one_name word table ≡ Some names → Pass names
 at_key word table names h = one_passes (name_at word table) names (name_passes (text_at word table)) h
@@ -39,7 +35,7 @@ first_passes : (first : Option (List ℕ)) (rest : Option (List (List ℕ))) (na
     with_first first rest ≡ Some names → Pass names
 first_passes None rest names here more h = absurd (cc)
 first_passes (Some x) None names here more h = absurd (cc)
-first_passes (Some x) (Some xs) names here more h = let same : x ∷ xs ≡ names = cc in subst Pass same (both_pass (is_name x) (list_all is_name xs) (here x refl) (more xs refl))
+first_passes (Some x) (Some xs) names here more h = let same : x ∷ xs ≡ names = cc in subst Pass same (and_from (is_name x) (list_all is_name xs) (here x refl) (more xs refl))
 
 items_pass : (items : Items) (names : List (List ℕ)) → names_in items ≡ Some names → Pass names
 items_pass no_items names h = let empty : [] ≡ names = cc in subst Pass empty refl
@@ -70,7 +66,7 @@ before_pass : (role : Role) (names : List (List ℕ)) (more : List Pin) → Pass
 before_pass role [] more h g = g
 before_pass role (x ∷ names) more h g =
     let (here, rest) = and_parts (is_name x) (list_all is_name names) h in
-    both_pass (is_name x) (list_all is_name (map pin_name (map (pin_with role) names ++ more))) here (before_pass role names more rest g)
+    and_from (is_name x) (list_all is_name (map pin_name (map (pin_with role) names ++ more))) here (before_pass role names more rest g)
 
 some_pass : (role : Role) (found : Option (List (List ℕ))) (rest : Option (List Pin)) (pins : List Pin) → ((names : List (List ℕ)) → found ≡ Some names → Pass names) → ((more : List Pin) → rest ≡ Some more → Pass (map pin_name more)) →
     before_pins role found rest ≡ Some pins → Pass (map pin_name pins)

@@ -12,20 +12,14 @@ use Rattle.dft_netlist.specs.Names.{find_net}
 use Rattle.dft_netlist.specs.Netlist.{Netlist}
 use Rattle.dft_netlist.specs.Sound.{IsNetlist}
 use Rattle.dft_config.specs.declared.config.Config.{Config}
-use Rattle.dft_rules.specs.declared.error.RuleError.{RuleError}
 use Rattle.dft_rules.specs.declared.error.RuleError.TheVariants.{UnknownName}
-use Rattle.dft_rules.specs.Refusals.{first_failing, refusal, unknown_port}
-use Rattle.dft_rules.proofs.CheckLemmas.{from_resets}
+use Rattle.dft_rules.specs.Refusals.{refusal, unknown_port}
+use Rattle.dft_rules.proofs.CheckLemmas.{from_resets, none_first}
 use Rattle.dft_rules.proofs.NamedPorts.{name_at}
-
--- where no check fails the first does not, and none behind it
-pub first_passes : (check : Option RuleError) (rest : List (Option RuleError)) → first_failing (check ∷ rest) ≡ None → (check ≡ None) × (first_failing rest ≡ None)
-first_passes None rest h = (refl, h)
-first_passes (Some error) rest h = absurd (none-some error (sym h))
 
 known_domains : (n : Netlist) (config : Config) → refusal n config ≡ None → unknown_port n config.domains ≡ None
 unfolding refusal
-known_domains n config passed = (first_passes (unknown_port n config.domains) (from_resets n config) passed).0
+known_domains n config passed = (none_first (unknown_port n config.domains) (from_resets n config) passed).0
 
 found_by : (t : Bool) (name : Text) (rest : Option Text) → option_map UnknownName (cond t (Some name) rest) ≡ None → (t ≡ false) × (option_map UnknownName rest ≡ None)
 found_by true name rest h = absurd (none-some (UnknownName name) (sym h))

@@ -1,14 +1,12 @@
 -- The written form, one part more.
-use Rattle.std.proofs.Common.{◌≡◌, ℕ, zero, suc, ◌+◌, ◌<◌, ◌≤◌, true, false, List, [], ◌∷◌, ◌++◌, length, map, flat_map, drop, get_or, codes, Option, Some, None, refl, sym, ap, ◌∙◌, arith, append_assoc, add-one, slice_get, length-append, subst, inl, inr, ◌-◌, take}
-use Rattle.std.proofs.lemmas.List.{length-map, length-drop, take_all}
+use Rattle.std.proofs.Common.{◌≡◌, ℕ, zero, suc, ◌+◌, ◌<◌, ◌≤◌, true, false, List, [], ◌∷◌, ◌++◌, length, map, flat_map, drop, get_or, codes, Option, Some, None, refl, sym, ap, ◌∙◌, arith, append_assoc, add-one, slice_get, length-append, subst}
+use Rattle.std.proofs.lemmas.List.{length-map}
 use Rattle.dft_base.specs.declared.place.Range.{Range}
 use Rattle.dft_base.specs.Lexing.{Text}
 use Rattle.dft_cells.specs.declared.cell.Pin.{Pin}
 use Rattle.dft_netlist.specs.declared.port.Port.{Port}
 use Rattle.dft_netlist.specs.declared.instance.Signal.{Signal}
 use Rattle.dft_netlist.specs.Names.{bit_name, bit_names, indices_of}
-use Rattle.std.proofs.lemmas.Bool.{cases_lt}
-use Rattle.std.proofs.lemmas.Option.{get_or_from_slice_get}
 use Rattle.std.proofs.Math.Seq.{drop-append_seam}
 use Rattle.dft_cells.specs.declared.cell.Cell.{Cell}
 use Rattle.dft_netlist.specs.declared.instance.Instance.{Instance}

@@ -36,7 +36,7 @@ use Rattle.dft_netlist_text.specs.Items.{gate_instance, cell_instance}
 use Rattle.dft_cells.proofs.CellNames.{cell_is_named, pin_is_named}
 use Rattle.dft_base.specs.Name.{IsName}
 use Rattle.dft_verilog_out.specs.Named.{IsJoinedGate}
-use Rattle.dft_verilog_out.specs.Written.{join_line, is_joined, output_first, gate_line, cell_line, found_cell_line, instance_line}
+use Rattle.dft_verilog_out.specs.Written.{join_line, output_first, gate_line, cell_line, found_cell_line, instance_line}
 use Rattle.dft_verilog_out.proofs.CountLemmas.{Once, look, words}
 use Rattle.dft_verilog_out.proofs.DraftLemmas.{entry, free_at, words-append, name_instance-is, room_for_instance-is}
 use Rattle.dft_verilog_out.proofs.FindLemmas.{find_cell-at, pin_place-at}

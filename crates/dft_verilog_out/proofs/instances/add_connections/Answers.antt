@@ -1,10 +1,5 @@
-use Rattle.std.proofs.Common.{◌≡◌, sym, refl, Some, true, ℕ, slice_get, arith}
-use Rattle.std.proofs.lemmas.Option.{slice_get-get_or}
-use Rattle.dft_base.specs.Name.{IsName}
-use Rattle.dft_cells.specs.declared.cell.Pin.{Pin}
-use Rattle.dft_netlist.specs.declared.instance.Signal.{Signal}
+use Rattle.std.proofs.Common.{sym, refl, arith}
 use Rattle.dft_netlist.specs.declared.instance.Signal.TheVariants.{Net}
-use Rattle.dft_verilog_out.specs.Written.{is_joined}
 use Rattle.dft_verilog_out.proofs.FormLemmas.{connections-joined, connections-unjoined}
 use Rattle.dft_verilog_out.proofs.instances.add_connections.Goals as goal
 use Rattle.dft_verilog_out.proofs.instances.add_connections.Goals.{then-is_joined+in_ok-extend_from_slice+in_ok-add_joined, else-is_joined}

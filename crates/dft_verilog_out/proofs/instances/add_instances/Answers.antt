@@ -1,7 +1,5 @@
 use Rattle.std.proofs.Common.{◌∙◌, ap, sym, Some}
 use Rattle.std.proofs.lemmas.Option.{slice_get-get_or}
-use Rattle.dft_verilog_out.specs.Written.{instance_line}
-use Rattle.dft_verilog_out.proofs.FormLemmas.{line_more}
 use Rattle.dft_verilog_out.proofs.instances.add_instances.Goals as goal
 
 pub add_instance-requires : goal.add_instance-requires

@@ -1,4 +1,4 @@
-use Rattle.std.proofs.Common.{◌∙◌, ◌++◌, List, ap, sym, refl, subst, arith, length, flat_map, drop, slice_get}
+use Rattle.std.proofs.Common.{◌∙◌, ◌++◌, ap, sym, refl, subst, arith, length, flat_map, drop}
 use Rattle.std.proofs.lemmas.List.{take_rest}
 use Rattle.dft_netlist_text.specs.NetlistText.{StandsFor}
 use Rattle.dft_base.specs.Lexing.{Text}
