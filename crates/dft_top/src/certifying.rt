@@ -2,7 +2,7 @@
 
 ghost use Rattle.std.specs.Prelude.{◌≡◌, ◌⊎◌, Err, IfErr, IfOk, None, length, map};
 ghost use Rattle.dft_files.specs.Outside.{Rose, Told};
-ghost use Rattle.dft_config.specs.declared.config.Config.{Config};
+ghost use Rattle.dft_config.specs.Config.{Config};
 ghost use Rattle.dft_config.specs.Range.{IsInRange};
 ghost use Rattle.dft_rules.specs.Refusals as rules;
 ghost use Rattle.dft_stitch.specs.Chains.{plan_of};
@@ -68,7 +68,6 @@ fn outcome_of_design<F: Files>(
     report: &str,
     files: &mut F,
 ) -> Result<Outcome, Stop>
-    requires { IsInRange config.now }
     ensures outcome { ComesTo (λ o. Told (λ h. Reaches (course_of_planned design.now config.now cubes.now report.now) h o) (F.held files.old)) result }
     ensures suits { ComesTo IsOfCertify result }
     ensures rose { result ≡ Err Stop.ReadFault → Rose (F.read_faults files.old) (F.read_faults files.new) }
@@ -84,7 +83,6 @@ fn outcome_of_design<F: Files>(
 
 // The chains of a design that no check refuses.
 fn planned(alloc: Global, design: &Design, config: &Config) -> Result<Chains, Stop>
-    requires { IsInRange config.now }
     ensures given { IsGiven (PlanGives design.now config.now) result }
     ensures fits { IfOk result (λ chains. stitch.refusal design.now config.now ≡ None) }
 {
@@ -97,7 +95,6 @@ fn planned(alloc: Global, design: &Design, config: &Config) -> Result<Chains, St
 // Judges the flip-flops of a design and plans its chains. It is refused by the first check that fails: of the scan rules, then of the
 // plan.
 fn plan_chains(alloc: Global, design: &Design, config: &Config) -> Result<Chains, CompileError>
-    requires { IsInRange config.now }
     ensures plan { IfOk result (λ chains. chains ≡ plan_of design.now config.now) }
     ensures ready { IfOk result (λ chains. IsReady design.now config.now) }
     ensures accepted { IfOk result (λ chains. plan_refusal design.now config.now ≡ None) }
@@ -105,6 +102,7 @@ fn plan_chains(alloc: Global, design: &Design, config: &Config) -> Result<Chains
     ensures refused { IfErr result (IsRefusal (plan_refusal design.now config.now)) }
 {
     ready(design);
+    config.soundness();
     let verdicts = judge(alloc, design, config)?;
     Ok(plan(alloc, design, config, &verdicts)?)
 }
@@ -126,7 +124,6 @@ fn outcome_with<F: Files>(
     report: &str,
     files: &mut F,
 ) -> Result<Outcome, Stop>
-    requires range { IsInRange config.now }
     requires planned { chains.now ≡ plan_of design.now config.now }
     requires fits { stitch.refusal design.now config.now ≡ None }
     ensures outcome { ComesTo (λ o. Told (λ h. Reaches (course_of_certified design.now config.now cubes.now report.now) h o) (F.held files.old)) result }
@@ -160,7 +157,6 @@ fn outcome_over<F: Files>(
     report: &str,
     files: &mut F,
 ) -> Result<Outcome, Stop>
-    requires range { IsInRange config.now }
     requires planned { chains.now ≡ plan_of design.now config.now }
     requires fits { stitch.refusal design.now config.now ≡ None }
     ensures outcome { ComesTo (λ o. Told (λ h. Reaches (course_of_report design.now config.now cubes.now report.now) h o) (F.held files.old)) result }
@@ -183,17 +179,17 @@ fn outcome_of_report(
     cubes: &[Cube],
     report: &Report,
 ) -> Result<Outcome, Stop>
-    requires range { IsInRange config.now }
     requires planned { chains.now ≡ plan_of design.now config.now }
     requires fits { stitch.refusal design.now config.now ≡ None }
     ensures outcome { ComesTo (IsOutcomeOfReport design.now config.now cubes.now report.now) result }
     ensures suits { ComesTo IsOfCertify result }
     ensures quiet { result ≡ Err Stop.ReadFault → ⊥ }
 {
+    config.soundness();
     let equations = load_equations(alloc, design, config, chains)?;
     let sums = CellSums {
         design,
-        ring: &config.ring,
+        ring: config.ring(),
         chains,
         equations: &equations,
     };
@@ -211,7 +207,6 @@ fn load_equations(
     config: &Config,
     chains: &Chains,
 ) -> Result<Equations, AllocError>
-    requires range { IsInRange config.now }
     requires planned { chains.now ≡ plan_of design.now config.now }
     requires fits { stitch.refusal design.now config.now ≡ None }
     ensures { IfOk result (AreLoadEquations config.now.ring (map length chains.now.chains) chains.now.cycles) }

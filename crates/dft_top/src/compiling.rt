@@ -2,7 +2,6 @@
 
 ghost use Rattle.std.specs.Prelude.{◌≡◌, Err, Some};
 ghost use Rattle.dft_files.specs.Outside.{Rose, Told};
-ghost use Rattle.dft_config.specs.Range.{IsInRange};
 ghost use Rattle.dft_compile.specs.Prepared.{IsPrepared};
 ghost use Rattle.dft_verilog_out.specs.Named.{GatesAreJoined};
 ghost use Rattle.dft_command_line.specs.Named.{compile_files_of};
@@ -54,7 +53,6 @@ fn outcome_of_design<F: Files>(
     cubes: &str,
     files: &mut F,
 ) -> Result<Outcome, Stop>
-    requires range { IsInRange config.now }
     requires joined { GatesAreJoined design.now }
     ensures outcome { ComesTo (λ o. Told (λ h. Reaches (course_of_design design.now config.now cubes.now) h o) (F.held files.old)) result }
     ensures suits { ComesTo IsOfCompile result }
@@ -71,7 +69,6 @@ fn outcome_of_design<F: Files>(
 
 /// The design with its chains, behind compression hardware, where no check refuses it.
 pub fn prepared(alloc: Global, design: &Design, config: &Config) -> Result<Prepared, Stop>
-    requires { IsInRange config.now }
     ensures { IsGiven (DesignGives design.now config.now) result }
 {
     match prepare(alloc, design, config) {
@@ -92,7 +89,6 @@ fn outcome_with<F: Files>(
     cubes: &str,
     files: &mut F,
 ) -> Result<Outcome, Stop>
-    requires range { IsInRange config.now }
     requires joined { GatesAreJoined design.now }
     requires prepared { IsPrepared design.now config.now prepared.now }
     ensures outcome { ComesTo (λ o. Told (λ h. Reaches (course_of_cubes design.now config.now cubes.now) h o) (F.held files.old)) result }
@@ -114,7 +110,6 @@ pub fn outcome_of_cubes(
     prepared: &Prepared,
     cubes: &[Cube],
 ) -> Result<Outcome, Stop>
-    requires range { IsInRange config.now }
     requires joined { GatesAreJoined design.now }
     requires prepared { IsPrepared design.now config.now prepared.now }
     requires few { AreFew cubes.now }
@@ -123,6 +118,7 @@ pub fn outcome_of_cubes(
     ensures quiet { result ≡ Err Stop.ReadFault → ⊥ }
 {
     design.soundness();
+    config.soundness();
     match compile(alloc, design, config, prepared, cubes) {
         Ok(texts) => Ok(outcome_of(texts)),
         Err(error) => Err(Stop::Refused(compile_refusal(alloc, error)?)),

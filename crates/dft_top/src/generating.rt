@@ -1,7 +1,6 @@
 //! The outcome of a generated job: its texts are compiled, and what comes of them is replayed.
 
 ghost use Rattle.std.specs.Prelude.{◌≡◌, ℕ, List, Err};
-ghost use Rattle.dft_config.specs.Range.{IsInRange};
 ghost use Rattle.dft_compile.specs.Prepared.{IsPrepared};
 ghost use Rattle.dft_generate.specs.Jobs.{IsSize};
 ghost use Rattle.dft_verilog_out.specs.Named.{GatesAreJoined};
@@ -72,7 +71,6 @@ fn compiled_design(
     config: &Config,
     cubes: &[u8],
 ) -> Result<Outcome, Stop>
-    requires range { IsInRange config.now }
     requires joined { GatesAreJoined design.now }
     ensures outcome { (netlist settings : List ℕ) → ComesTo (Reaches (course_of_design design.now config.now job_files.cubes) (texts_held netlist settings cubes.now)) result }
     ensures suits { ComesTo IsOfCompile result }
@@ -90,7 +88,6 @@ fn compiled_with(
     prepared: &Prepared,
     cubes: &[u8],
 ) -> Result<Outcome, Stop>
-    requires range { IsInRange config.now }
     requires joined { GatesAreJoined design.now }
     requires prepared { IsPrepared design.now config.now prepared.now }
     ensures outcome { (netlist settings : List ℕ) → ComesTo (Reaches (course_of_cubes design.now config.now job_files.cubes) (texts_held netlist settings cubes.now)) result }

@@ -3,7 +3,6 @@
 ghost use Rattle.std.specs.Prelude.{◌≡◌, ◌≤◌, ◌<◌, IfOk, IsSomeAnd, Err, Some, length, option_map};
 ghost use Rattle.dft_base.specs.Name.{IsName};
 ghost use Rattle.dft_files.specs.Outside.{Told, file_at};
-ghost use Rattle.dft_config.specs.Range.{IsInRange};
 ghost use Rattle.dft_patterns.specs.Patterns.{IsWellFormed};
 ghost use Rattle.dft_verilog_out.specs.Named.{GatesAreJoined};
 ghost use Rattle.dft_top.specs.Checks.{too_long, AreFew, LibraryGives, ConfigGives, CubesGive, NetlistGives, PatternsGive, ReportGives};
@@ -60,7 +59,6 @@ fn load_named_library<F: Files>(alloc: Global, files: &mut F, name: &str) -> Res
 /// The configuration with this name.
 pub fn load_config<F: Files>(alloc: Global, files: &mut F, name: &str) -> Result<Config, Stop>
     ensures gives { IsGivenTold (ConfigGives name.now) (F.held files.old) result }
-    ensures range { IfOk result IsInRange }
     ensures fault { result ≡ Err Stop.ReadFault → LoadFails (Some name.now) (F.failed files.new)
         (F.read_faults files.old) (F.read_faults files.new) }
     ensures held { F.held files.new ≡ F.held files.old }
@@ -112,7 +110,6 @@ pub fn load_cubes<F: Files>(
     design: &Design,
     config: &Config,
 ) -> Result<Listed<Cube>, Stop>
-    requires { IsInRange config.now }
     ensures gives { IsGivenTold (CubesGive design.now config.now name.now) (F.held files.old) result }
     ensures few { IfOk result AreFew }
     ensures fault { result ≡ Err Stop.ReadFault → LoadFails (Some name.now) (F.failed files.new)

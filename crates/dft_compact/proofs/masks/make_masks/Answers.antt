@@ -47,4 +47,4 @@ returns-clause-makes c =
 pub returns-clause-count : goal.returns-clause-count
 returns-clause-count c =
     let end : (c.loop-segment.segment ≡ c.args.config.now.compactor.mask_inputs) = omega (arith, c.loop-segment-test.false, c.loop-segment.auto.segment-end) in
-    c.loop-segment.invariant.made ∙ ap (segment_start c.args.config.now) end ∙ all_segments c.args.config.now c.requires.range.compactor.mask_inputs.0
+    c.loop-segment.invariant.made ∙ ap (segment_start c.args.config.now) end ∙ all_segments c.args.config.now c.soundness.ensures.compactor.mask_inputs.0

@@ -4,7 +4,7 @@ use Rattle.dft_top.specs.declared.stop.Stop.TheVariants.{ReadFault}
 use Rattle.dft_command_line.specs.Named.{certify_files_of}
 use Rattle.dft_top.specs.Checks.{ConfigGives, LibraryGives, NetlistGives}
 use Rattle.dft_cells.specs.declared.cell.Cell.{Cell}
-use Rattle.dft_config.specs.declared.config.Config.{Config}
+use Rattle.dft_config.specs.Config.{Config}
 use Rattle.dft_netlist.specs.Netlist.{Netlist}
 use Rattle.dft_top.specs.Courses.{Reaches, Step, TurnComes}
 use Rattle.dft_top.specs.Outcomes.{course_of_planned}

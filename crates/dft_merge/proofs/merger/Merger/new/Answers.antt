@@ -11,7 +11,7 @@ invariant_of-result c =
     let none = state_none rows.columns (cell_row chains rows) c.args.config.now.window c.new-2.result.items c.new-3.result.items c.new-2.ensures.items c.new-3.ensures.items in
     record {
       loading = rows_are c.args.config.now.ring chains c.args.chains.now.cycles rows c.requires.equations c.requires.apart;
-      window = c.requires.config.window.0;
+      window = c.soundness.ensures.window.0;
       start = c.mark-start.ensures ∙ ap (λ (s : Elimination). length s.kept) c.in_ok-alone.ensures;
       alone = ap (λ (s : Elimination). s.columns) c.in_ok-alone.ensures ∙ c.columns.ensures;
       count = none.count;
