@@ -38,9 +38,10 @@ pub fn build_ring(
 {
     config.soundness();
     let run = parts.driving_gate(Kind::Inv, &[ports.edt_update])?;
-    let stages = make_nets(parts, config.ring().stages)?;
-    make_stages(parts, config.ring(), ports, run, &stages)?;
-    let phases = make_phases(parts, config.ring(), &stages, config.chains())?;
+    let ring = config.ring();
+    let stages = make_nets(parts, ring.stages)?;
+    make_stages(parts, ring, ports, run, &stages)?;
+    let phases = make_phases(parts, ring, &stages, config.chains())?;
     Ok(Ring {
         run,
         phases: Listed::from_vec(phases),
