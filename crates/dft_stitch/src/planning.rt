@@ -52,6 +52,7 @@ fn cycles_within(config: &Config, cells: usize) -> Result<u16, StitchError>
     ensures fits { IfOk result (λ cycles. refusal_of config.now cells ≡ None) }
     ensures refused { IfErr result (IsRefusal (refusal_of config.now cells)) }
 {
+    config.soundness();
     if cells > MAX_CELLS {
         return Err(too_many(Counted::Cells, MAX_CELLS as u32));
     }
