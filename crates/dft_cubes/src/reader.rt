@@ -115,6 +115,7 @@ pub fn read(
     ensures cubes { IfOk result (λ cubes. cubes_of design.now config.now bytes.now ≡ Ok cubes.items) }
     ensures refused { IfErr result (IsRefused (cubes_of design.now config.now bytes.now)) }
 {
+    config.soundness();
     let mut taken = Taken::new(alloc, design)?;
     let last = take_lines(&mut taken, alloc, bytes, design, config)?;
     taken.finish(last)
