@@ -1,7 +1,6 @@
 //! Times the load equations of 16 chains behind a ring of 16 stages and 4 channels, for loads of 4,096 cycles.
 
 ghost use Rattle.std.specs.Prelude.{◌≡◌, ◌≤◌};
-ghost use Rattle.dft_config.specs.Range.{IsInRange};
 
 use dft_config::Config;
 use dft_equations::equations;
@@ -44,10 +43,9 @@ fn time_read(
     config: &Config,
     cells: u16,
 ) -> io::Result<()>
-    requires config { IsInRange config.now }
     requires cells { cells ≤ 4096 }
 {
-    if config.chains == 16 && config.ring.channels == 4 {
+    if config.chains() == 16 && config.ring().channels == 4 {
         time_chains(rt, alloc, config, cells)
     } else {
         eprintln!(rt; "the configuration is not the one that is timed")
@@ -61,7 +59,6 @@ fn time_chains(
     config: &Config,
     cells: u16,
 ) -> io::Result<()>
-    requires config { IsInRange config.now }
     requires chains { config.now.chains ≡ 16 }
     requires channels { config.now.ring.channels ≡ 4 }
     requires cells { cells ≤ 4096 }

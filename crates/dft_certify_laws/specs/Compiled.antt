@@ -1,7 +1,7 @@
 -- What a compilation writes certifies.
 use Rattle.std.specs.Prelude.{◌≡◌, List, None}
 use Rattle.dft_netlist.specs.Netlist.{Netlist}
-use Rattle.dft_config.specs.declared.config.Config.{Config}
+use Rattle.dft_config.specs.Config.{Config}
 use Rattle.dft_stitch.specs.Chains.{plan_of}
 use Rattle.dft_cubes.specs.declared.cube.Cube.{Cube}
 use Rattle.dft_cubes.specs.Laws.{AreCubes}

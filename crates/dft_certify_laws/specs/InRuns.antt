@@ -2,7 +2,7 @@
 use Rattle.std.specs.Prelude.{ℕ, ◌≡◌, List, None, Some, slice_get}
 use Rattle.dft_netlist.specs.Logic.{Ports}
 use Rattle.dft_netlist.specs.Netlist.{Netlist}
-use Rattle.dft_config.specs.declared.config.Config.{Config}
+use Rattle.dft_config.specs.Config.{Config}
 use Rattle.dft_config.specs.Ring.{Table}
 use Rattle.dft_equations.specs.LoadRows.{LoadRows}
 use Rattle.dft_cubes.specs.declared.cube.Cube.{Cube}

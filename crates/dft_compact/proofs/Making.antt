@@ -4,7 +4,7 @@ use Rattle.std.specs.List.{range_with_len}
 use Rattle.dft_cells.specs.declared.kind.Kind.TheVariants.{And, Buf, Inv}
 use Rattle.dft_netlist.specs.declared.ids.NetId.{NetId}
 use Rattle.dft_netlist.specs.declared.error.NetlistError.{NetlistError}
-use Rattle.dft_config.specs.declared.config.Config.{Config}
+use Rattle.dft_config.specs.Config.{Config}
 use Rattle.dft_parts.specs.declared.edt_ports.EdtPorts.{EdtPorts}
 use Rattle.dft_parts.specs.Parts.{Making}
 use Rattle.dft_parts.specs.Recipes.{Recipe, ◌>>=◌, each, collect, net_at, a_gate, outcome, IsRefusal, Makes}

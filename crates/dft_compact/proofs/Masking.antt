@@ -5,7 +5,7 @@ use Rattle.dft_cells.specs.declared.kind.Kind.TheVariants.{And, Or}
 use Rattle.dft_netlist.specs.declared.ids.NetId.{NetId}
 use Rattle.dft_netlist.specs.declared.error.NetlistError.{NetlistError}
 use Rattle.dft_netlist.specs.Netlist.{Netlist}
-use Rattle.dft_config.specs.declared.config.Config.{Config}
+use Rattle.dft_config.specs.Config.{Config}
 use Rattle.dft_parts.specs.declared.edt_ports.EdtPorts.{EdtPorts}
 use Rattle.dft_parts.specs.Parts.{Making}
 use Rattle.dft_parts.specs.Recipes.{Recipe, pure, ◌>>=◌, net_at, a_net, a_flop, outcome, IsRefusal, Makes}

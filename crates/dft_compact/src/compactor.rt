@@ -1,5 +1,4 @@
 ghost use Rattle.std.specs.Prelude.{◌≡◌, ◌<◌, ◌≤◌, OnOk, length};
-ghost use Rattle.dft_config.specs.Range.{IsInRange};
 ghost use Rattle.dft_parts.specs.Recipes.{AreThere, Makes};
 ghost use Rattle.dft_compact.specs.Bounds.{PortsThere};
 ghost use Rattle.dft_compact.specs.CompactorRecipe.{a_compactor};
@@ -20,7 +19,6 @@ pub fn build_compactor(
     run: NetId,
     ends: &[NetId],
 ) -> Result<(), NetlistError>
-    requires range { IsInRange config.now }
     requires masks { length ports.now.masks ≡ config.now.compactor.mask_inputs }
     requires outputs { length ports.now.outputs ≡ length config.now.compactor.groups }
     requires ports { PortsThere parts.old.netlist ports.now run }

@@ -2,7 +2,6 @@
 
 ghost use Rattle.std.specs.Prelude.{◌≡◌, ◌<◌, ◌≤◌, IfOk, OnOk, length};
 ghost use Rattle.std.specs.List.{All};
-ghost use Rattle.dft_config.specs.Range.{IsInRange};
 ghost use Rattle.dft_config.specs.Segments as segments;
 ghost use Rattle.dft_parts.specs.Recipes.{AreThere, Makes};
 ghost use Rattle.dft_compact.specs.CompactorRecipe.{a_mask, a_next, a_segment, segments};
@@ -22,7 +21,6 @@ pub(crate) fn make_masks(
     ports: &EdtPorts,
     run: NetId,
 ) -> Result<Vec<MaskNets>, NetlistError>
-    requires range { IsInRange config.now }
     requires masks { length ports.now.masks ≡ config.now.compactor.mask_inputs }
     requires ports { PortsThere parts.old.netlist ports.now run }
     ensures makes { Makes (λ masks. masks.items) (segments config.now ports.now run 0 config.now.compactor.mask_inputs) parts.old result parts.new }
@@ -30,8 +28,9 @@ pub(crate) fn make_masks(
     ensures count { IfOk result (λ masks. length masks.items ≡ config.now.chains) }
     ensures nets { OnOk result (length parts.old.netlist.nets ≤ length parts.new.netlist.nets) }
 {
+    config.soundness();
     let mut masks = Vec::new(parts.alloc());
-    for segment in 0..config.compactor.mask_inputs {
+    for segment in 0..config.compactor().mask_inputs {
         let port = ports.masks.as_slice()[segment as usize];
         let count = segment_length(config, segment);
         let chains = make_segment(parts, ports, run, port, count)?;
@@ -42,12 +41,12 @@ pub(crate) fn make_masks(
 
 // How many chains a segment has.
 fn segment_length(config: &Config, segment: u8) -> u16
-    requires { IsInRange config.now }
     ensures { result ≡ segments.segment_length config.now segment }
 {
-    let inputs = u16::from(config.compactor.mask_inputs);
-    let length = config.chains / inputs;
-    if u16::from(segment) < config.chains % inputs {
+    config.soundness();
+    let inputs = u16::from(config.compactor().mask_inputs);
+    let length = config.chains() / inputs;
+    if u16::from(segment) < config.chains() % inputs {
         length + 1
     } else {
         length

@@ -2,7 +2,6 @@
 
 ghost use Rattle.std.specs.Prelude.{ℕ, ◌≡◌, ◌<◌, ◌≤◌, IfOk, OnOk, length, map};
 ghost use Rattle.std.specs.List.{All, range_with_len};
-ghost use Rattle.dft_config.specs.Range.{IsInRange};
 ghost use Rattle.dft_edt.specs.Hardware.{group_of};
 ghost use Rattle.dft_parts.specs.Recipes.{AreThere, Makes, collect, each, net_at};
 ghost use Rattle.dft_parts.specs.Sums.{a_sum};
@@ -57,7 +56,6 @@ pub(crate) fn make_outputs(
     ports: &EdtPorts,
     gated: &[NetId],
 ) -> Result<(), NetlistError>
-    requires range { IsInRange config.now }
     requires outputs { length ports.now.outputs ≡ length config.now.compactor.groups }
     requires chains { length gated.now ≡ config.now.chains }
     requires shown { AreThere parts.old.netlist ports.now.outputs }
@@ -65,7 +63,7 @@ pub(crate) fn make_outputs(
     ensures makes { Makes (λ _. tt) (each (an_output config.now ports.now gated.now) (range_with_len 0 (length config.now.compactor.groups))) parts.old result parts.new }
     ensures nets { OnOk result (length parts.old.netlist.nets ≤ length parts.new.netlist.nets) }
 {
-    let count = config.compactor.groups.as_slice().len();
+    let count = config.compactor().groups.as_slice().len();
     for output in 0..count {
         make_output(parts, config, ports, gated, output)?;
     }
@@ -80,7 +78,6 @@ fn make_output(
     gated: &[NetId],
     output: usize,
 ) -> Result<(), NetlistError>
-    requires range { IsInRange config.now }
     requires output { output < length config.now.compactor.groups }
     requires outputs { length ports.now.outputs ≡ length config.now.compactor.groups }
     requires chains { length gated.now ≡ config.now.chains }
@@ -100,7 +97,6 @@ fn sum_group(
     gated: &[NetId],
     output: usize,
 ) -> Result<NetId, NetlistError>
-    requires range { IsInRange config.now }
     requires output { output < length config.now.compactor.groups }
     requires chains { length gated.now ≡ config.now.chains }
     requires there { AreThere parts.old.netlist gated.now }
@@ -108,7 +104,8 @@ fn sum_group(
     ensures there { IfOk result (λ sum. sum.0 < length parts.new.netlist.nets) }
     ensures nets { OnOk result (length parts.old.netlist.nets ≤ length parts.new.netlist.nets) }
 {
-    let group = config.compactor.groups.as_slice()[output].as_slice();
+    config.soundness();
+    let group = config.compactor().groups.as_slice()[output].as_slice();
     let terms = group_terms(parts.alloc(), gated, group)?;
     parts.sum(&terms)
 }

@@ -1,7 +1,7 @@
 -- What a compilation gives.
 use Rattle.std.specs.Prelude.{◌≡◌, ◌<◌, ◌^◌, List, length, None, Ok}
 use Rattle.dft_netlist.specs.Netlist.{Netlist}
-use Rattle.dft_config.specs.declared.config.Config.{Config}
+use Rattle.dft_config.specs.Config.{Config}
 use Rattle.dft_equations.specs.LoadRows.{LoadRows}
 use Rattle.dft_stitch.specs.Chains.{plan_of}
 use Rattle.dft_cubes.specs.declared.cube.Cube.{Cube}

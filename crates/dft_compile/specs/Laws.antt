@@ -1,7 +1,7 @@
 -- Laws of compilations.
 use Rattle.std.specs.Prelude.{◌≡◌, List, length}
 use Rattle.dft_netlist.specs.Netlist.{Netlist}
-use Rattle.dft_config.specs.declared.config.Config.{Config}
+use Rattle.dft_config.specs.Config.{Config}
 use Rattle.dft_config.specs.Range.{IsInRange}
 use Rattle.dft_equations.specs.LoadRows.{LoadRows}
 use Rattle.dft_stitch.specs.Chains.{plan_of}

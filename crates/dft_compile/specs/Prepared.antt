@@ -1,7 +1,7 @@
 -- What is ready before the cubes are read.
 use Rattle.std.specs.Prelude.{◌≡◌, None}
 use Rattle.dft_netlist.specs.Netlist.{Netlist}
-use Rattle.dft_config.specs.declared.config.Config.{Config}
+use Rattle.dft_config.specs.Config.{Config}
 use Rattle.dft_rules.specs.Refusals as rules
 use Rattle.dft_rules.specs.Rules.{judgements}
 use Rattle.dft_stitch.specs.Chains.{plan_of}

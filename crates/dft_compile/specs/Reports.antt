@@ -1,7 +1,7 @@
 -- The report of a compilation: what the report of a scan says, the load, and what became of each cube.
 use Rattle.std.specs.Prelude.{◌*◌, List, Some}
 use Rattle.dft_netlist.specs.Netlist.{Netlist}
-use Rattle.dft_config.specs.declared.config.Config.{Config}
+use Rattle.dft_config.specs.Config.{Config}
 use Rattle.dft_stitch.specs.Chains.{plan_of}
 use Rattle.dft_stitch.specs.Plans.{Plan}
 use Rattle.dft_cubes.specs.declared.cube.Cube.{Cube}

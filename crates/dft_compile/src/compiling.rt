@@ -2,7 +2,6 @@
 
 ghost use Rattle.std.specs.Prelude.{◌<◌, ◌≤◌, ◌^◌, length, IfErr, IfOk};
 ghost use Rattle.std.specs.List.{All};
-ghost use Rattle.dft_config.specs.Range.{IsInRange};
 ghost use Rattle.dft_netlist_text.specs.NetlistText.{StandsFor};
 ghost use Rattle.dft_scan_hardware.specs.Statements.{scanned};
 ghost use Rattle.dft_scan_hardware.specs.declared.style.Style.TheVariants.{Edt};
@@ -33,7 +32,6 @@ pub fn compile(
     prepared: &Prepared,
     cubes: &[Cube],
 ) -> Result<CompileTexts, CompileError>
-    requires range { IsInRange config.now }
     requires joined { GatesAreJoined design.now }
     requires prepared { IsPrepared design.now config.now prepared.now }
     requires cubes { length cubes.now ≤ 65536 }
@@ -43,6 +41,7 @@ pub fn compile(
     ensures refused { IfErr result (IsLate design.now config.now cubes.now) }
 {
     design.soundness();
+    config.soundness();
     cubes_are_named(cubes);
     let chains = &prepared.chains;
     let equations = load_equations(alloc, design, config, chains)?;

@@ -2,7 +2,7 @@
 
 ghost use Rattle.std.specs.Prelude.{◌≡◌, None, IfErr, IfOk};
 ghost use Rattle.dft_config.specs.Range.{IsInRange};
-ghost use Rattle.dft_config.specs.declared.config.Config.{Config};
+ghost use Rattle.dft_config.specs.Config.{Config};
 ghost use Rattle.dft_rules.specs.Refusals as rules;
 ghost use Rattle.dft_scan_frame.specs.Statements.{IsReady};
 ghost use Rattle.dft_compile.specs.Prepared.{IsPrepared};
@@ -28,13 +28,13 @@ pub struct Prepared {
 /// Judges the flip-flops of a design, plans its chains and inserts them behind compression hardware. It is refused by the first
 /// check that fails: of the scan rules, of the plan, then of the insertion.
 pub fn prepare(alloc: Global, design: &Design, config: &Config) -> Result<Prepared, CompileError>
-    requires { IsInRange config.now }
     ensures prepared { IfOk result (IsPrepared design.now config.now) }
     ensures ready { IfOk result (λ p. IsReady design.now config.now) }
     ensures accepted { IfOk result (λ p. first_refusal design.now config.now ≡ None) }
     ensures refused { IfErr result (IsRefusal (first_refusal design.now config.now)) }
 {
     ready(design);
+    config.soundness();
     let verdicts = judge(alloc, design, config)?;
     let chains = plan(alloc, design, config, &verdicts)?;
     let scanned = insert(alloc, design, config, &chains, Style::Edt)?.design;

@@ -1,7 +1,6 @@
 //! The report of a compilation.
 
 ghost use Rattle.std.specs.Prelude.{◌≡◌, ◌+◌, ◌≤◌, pos, [], length, option_map, IfErr, IfOk, OnOk};
-ghost use Rattle.dft_config.specs.Range.{IsInRange};
 ghost use Rattle.dft_cube_reports.specs.Lengths as lengths;
 ghost use Rattle.dft_cube_reports.specs.Outcomes as outcomes;
 ghost use Rattle.dft_cube_reports.specs.Sums.{rows_in, IsSums};
@@ -30,17 +29,17 @@ fn base_report(
     config: &Config,
     prepared: &Prepared,
 ) -> Result<Report, AllocError>
-    requires range { IsInRange config.now }
     requires prepared { IsPrepared design.now config.now prepared.now }
     ensures { IfOk result (λ report. report ≡ report_with design.now config.now []) }
 {
+    config.soundness();
     let chains = &prepared.chains;
     let counts = counts_of(design.instances().len() as u32, &prepared.verdicts, chains);
     let mut report = report_of(alloc, design, config, &prepared.verdicts, chains, &counts)?;
     let cycles = u32::from(chains.cycles());
     report.header.load = Some(Load {
         cycles,
-        variables: cycles * u32::from(config.ring.channels),
+        variables: cycles * u32::from(config.ring().channels),
     });
     Ok(report)
 }
@@ -99,7 +98,6 @@ pub(crate) fn report_text(
     cubes: &[Cube],
     placed: &[Placed],
 ) -> Result<Vec<u8>, CompileError>
-    requires range { IsInRange config.now }
     requires prepared { IsPrepared sums.now.design.now config.now prepared.now }
     requires sums { IsSums sums.now }
     requires ring { sums.now.ring.now ≡ config.now.ring }

@@ -1,7 +1,6 @@
 //! A compilation whose cubes are placed.
 
 ghost use Rattle.std.specs.Prelude.{◌≡◌, ◌≤◌, length, map, option_map, IfErr, IfOk, OnOk};
-ghost use Rattle.dft_config.specs.Range.{IsInRange};
 ghost use Rattle.dft_equations.specs.LoadRows.{AreLoadEquations};
 ghost use Rattle.dft_netlist_text.specs.NetlistText.{StandsFor};
 ghost use Rattle.dft_scan_hardware.specs.Statements.{scanned};
@@ -41,7 +40,6 @@ pub(crate) fn load_equations(
     config: &Config,
     chains: &Chains,
 ) -> Result<Equations, AllocError>
-    requires range { IsInRange config.now }
     requires planned { chains.now ≡ plan_of design.now config.now }
     requires fits { refusal design.now config.now ≡ None }
     ensures { IfOk result (AreLoadEquations config.now.ring (map length chains.now.chains) chains.now.cycles) }
@@ -84,7 +82,7 @@ impl<'a> Work<'a> {
     {
         let sums = CellSums {
             design: self.design,
-            ring: &self.config.ring,
+            ring: self.config.ring(),
             chains: &self.prepared.chains,
             equations: self.equations,
         };

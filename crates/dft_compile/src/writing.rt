@@ -1,7 +1,6 @@
 //! The text of the patterns.
 
 ghost use Rattle.std.specs.Prelude.{◌≡◌, ◌≤◌, None, length, IfErr, IfOk};
-ghost use Rattle.dft_config.specs.Range.{IsInRange};
 ghost use Rattle.dft_stil_tokens.specs.declared.blanks.TheConstants.{MAX_TEXT};
 ghost use Rattle.dft_vectors.specs.PatternData.{columns_of};
 ghost use Rattle.dft_compile.specs.Compilation.{IsPatternText};
@@ -31,7 +30,6 @@ pub(crate) fn pattern_text(
     prepared: &Prepared,
     merger: &Merger<'_>,
 ) -> Result<PatternText, CompileError>
-    requires range { IsInRange config.now }
     requires prepared { IsPrepared design.now config.now prepared.now }
     requires chains { merger.now.chains ≡ prepared.now.chains.chains }
     requires columns { merger.now.rows.columns ≡ columns_of config.now prepared.now.chains }
@@ -40,6 +38,7 @@ pub(crate) fn pattern_text(
     ensures text { IfOk result (IsPatternText design.now config.now merger.now.rows merger.now.patterns) }
     ensures memory { IfErr result (IsRefusal None) }
 {
+    config.soundness();
     let encoded = encode(
         alloc,
         design,

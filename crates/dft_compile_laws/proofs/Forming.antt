@@ -2,7 +2,7 @@
 use Rattle.std.proofs.Common.{suc, inr, List, [], ◌∷◌, refl}
 use Rattle.dft_merge.proofs.EquationLemmas.{Each}
 use Rattle.dft_netlist.specs.Netlist.{Netlist}
-use Rattle.dft_config.specs.declared.config.Config.{Config}
+use Rattle.dft_config.specs.Config.{Config}
 use Rattle.dft_stitch.specs.Chains.{plan_of}
 use Rattle.dft_patterns.specs.declared.act.Act.{Act}
 use Rattle.dft_patterns.specs.declared.signal.StilSignal.{StilSignal}

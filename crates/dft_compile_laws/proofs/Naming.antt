@@ -17,7 +17,7 @@ use Rattle.dft_netlist.specs.Names.{bit_names}
 use Rattle.dft_netlist.specs.Netlist.{Netlist}
 use Rattle.dft_netlist.specs.Sound.{IsNetlist, bit_names_of, bits_of}
 use Rattle.dft_netlist.proofs.LiveDriven.{AreBefore, before_front, before_back, nets_before}
-use Rattle.dft_config.specs.declared.config.Config.{Config}
+use Rattle.dft_config.specs.Config.{Config}
 use Rattle.dft_expect.specs.Captures.{bits_out, output_bits}
 use Rattle.dft_patterns.specs.Patterns.{inputs, is_input, outputs}
 use Rattle.dft_patterns.specs.declared.signal.StilSignal.{StilSignal}

@@ -10,7 +10,7 @@ use Rattle.dft_netlist.specs.declared.ids.NetId.{NetId}
 use Rattle.dft_netlist.specs.NetNumbers.{nets_from}
 use Rattle.dft_netlist.specs.Netlist.{Netlist}
 use Rattle.dft_abstract.specs.Cycle.{Round}
-use Rattle.dft_config.specs.declared.config.Config.{Config}
+use Rattle.dft_config.specs.Config.{Config}
 use Rattle.dft_config.specs.Ring.{Table}
 use Rattle.dft_stitch.specs.Chains.{plan_of}
 use Rattle.dft_edt.specs.Hardware.{group_of}

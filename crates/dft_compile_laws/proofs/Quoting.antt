@@ -23,7 +23,7 @@ use Rattle.dft_netlist.specs.Names.{IsShortRange, bit_name, bit_names, indices_o
 use Rattle.dft_netlist.specs.Netlist.{Netlist}
 use Rattle.dft_netlist.specs.Sound.{IsNetlist, bit_names_of}
 use Rattle.dft_netlist.proofs.BitLemmas.{index_short}
-use Rattle.dft_config.specs.declared.config.Config.{Config}
+use Rattle.dft_config.specs.Config.{Config}
 use Rattle.dft_config.specs.Range.{IsInRange, names_of}
 use Rattle.dft_rules.specs.declared.error.RuleError.TheVariants.{PortName}
 use Rattle.dft_rules.specs.Refusals.{clock_as_data, first_present, has_quote, quoted_port, refusal, unknown_cell, unknown_port}

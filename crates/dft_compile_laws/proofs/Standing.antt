@@ -6,7 +6,7 @@ use Rattle.dft_base.specs.Lexing.{Text}
 use Rattle.dft_netlist.specs.declared.ids.NetId.{NetId}
 use Rattle.dft_netlist.specs.Connections.{input_net}
 use Rattle.dft_netlist.specs.Netlist.{Netlist}
-use Rattle.dft_config.specs.declared.config.Config.{Config}
+use Rattle.dft_config.specs.Config.{Config}
 use Rattle.dft_expect.specs.Captures.{capture_clock}
 use Rattle.dft_rules.specs.Refusals.{refusal}
 use Rattle.dft_rules.proofs.Passed.{clock_of_domain}

@@ -3,7 +3,7 @@ use Rattle.std.proofs.Common.{ℕ, zero, suc, ◌≡◌, List, [], ◌∷◌, �
 use Rattle.dft_netlist.specs.Logic.{Logic, Ports}
 use Rattle.dft_netlist.specs.Netlist.{Netlist}
 use Rattle.dft_netlist.specs.Runs.{Now, Vector, Turn, IsRun, AreTurns, AreLow, after_turn}
-use Rattle.dft_config.specs.declared.config.Config.{Config}
+use Rattle.dft_config.specs.Config.{Config}
 use Rattle.dft_runs.specs.Passes.{after_turns}
 use Rattle.dft_scan_behavior.specs.EdtVectors.{edt_logic}
 use Rattle.dft_pattern_behavior.specs.Given.{Pattern}

@@ -12,7 +12,7 @@ use Rattle.dft_netlist.specs.Runs.{Vector}
 use Rattle.dft_netlist.specs.Sound.{IsNetlist}
 use Rattle.dft_netlist.proofs.RankLemmas.{order_ranks}
 use Rattle.dft_abstract.specs.Cycle.{all_unknown}
-use Rattle.dft_config.specs.declared.config.Config.{Config}
+use Rattle.dft_config.specs.Config.{Config}
 use Rattle.dft_stitch.specs.Chains.{plan_of}
 use Rattle.dft_expect.specs.Captures.{output_bits}
 use Rattle.dft_patterns.specs.declared.act.Act.{Act}

@@ -8,7 +8,7 @@ use Rattle.dft_netlist.specs.Logic.{Ports}
 use Rattle.dft_netlist.specs.Netlist.{Netlist}
 use Rattle.dft_netlist.specs.Runs.{Now, Vector, Turn, IsRun}
 use Rattle.dft_netlist.specs.Sound.{IsNetlist}
-use Rattle.dft_config.specs.declared.config.Config.{Config}
+use Rattle.dft_config.specs.Config.{Config}
 use Rattle.dft_equations.specs.LoadRows.{LoadRows}
 use Rattle.dft_rules.specs.Rules.{is_net}
 use Rattle.dft_stitch.specs.Chains.{plan_of}

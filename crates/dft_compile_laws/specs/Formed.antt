@@ -4,7 +4,7 @@ use Rattle.dft_base.specs.Lexing.{Text}
 use Rattle.dft_netlist.specs.declared.ids.NetId.{NetId}
 use Rattle.dft_netlist.specs.Netlist.{Netlist}
 use Rattle.dft_netlist.specs.Sound.{IsNetlist, bit_names_of}
-use Rattle.dft_config.specs.declared.config.Config.{Config}
+use Rattle.dft_config.specs.Config.{Config}
 use Rattle.dft_expect.specs.Captures.{config_ports}
 use Rattle.dft_patterns.specs.Patterns.{IsWellFormed}
 use Rattle.dft_scan_frame.specs.Statements.{IsReady}

@@ -2,7 +2,7 @@
 use Rattle.std.specs.Prelude.{◌≡◌, List, ◌++◌, map, None}
 use Rattle.dft_netlist.specs.Netlist.{Netlist}
 use Rattle.dft_netlist.specs.Sound.{IsNetlist}
-use Rattle.dft_config.specs.declared.config.Config.{Config}
+use Rattle.dft_config.specs.Config.{Config}
 use Rattle.dft_stitch.specs.Chains.{plan_of}
 use Rattle.dft_expect.specs.Captures.{output_bits}
 use Rattle.dft_patterns.specs.Patterns.{Patterns}

@@ -6,7 +6,7 @@ use Rattle.dft_netlist.specs.Logic.{Ports}
 use Rattle.dft_netlist.specs.Netlist.{Netlist}
 use Rattle.dft_netlist.specs.Runs.{Now, Vector, Turn}
 use Rattle.dft_netlist.specs.Sound.{IsNetlist}
-use Rattle.dft_config.specs.declared.config.Config.{Config}
+use Rattle.dft_config.specs.Config.{Config}
 use Rattle.dft_config.specs.Ring.{Table}
 use Rattle.dft_equations.specs.LoadRows.{LoadRows}
 use Rattle.dft_cubes.specs.declared.cube.Cube.{Cube}

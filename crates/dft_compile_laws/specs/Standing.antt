@@ -1,7 +1,7 @@
 -- What is asked of compiled patterns, of each by its number.
 use Rattle.std.specs.Prelude.{ℕ, ◌<◌, ◌≡◌, List, length, Some, slice_get}
 use Rattle.dft_netlist.specs.Netlist.{Netlist}
-use Rattle.dft_config.specs.declared.config.Config.{Config}
+use Rattle.dft_config.specs.Config.{Config}
 use Rattle.dft_stitch.specs.Chains.{plan_of}
 use Rattle.dft_expect.specs.Captures.{IsCapture}
 use Rattle.dft_expect.specs.Loaded.{loaded_of}

@@ -6,7 +6,7 @@ use Rattle.dft_netlist.specs.Netlist.{Netlist}
 use Rattle.dft_netlist.specs.Orders.{IsOrder}
 use Rattle.dft_netlist.specs.Runs.{Now, Turn}
 use Rattle.dft_netlist.specs.Sound.{IsNetlist}
-use Rattle.dft_config.specs.declared.config.Config.{Config}
+use Rattle.dft_config.specs.Config.{Config}
 use Rattle.dft_stitch.specs.Chains.{plan_of}
 use Rattle.dft_stitch.specs.Plans.{Plan}
 use Rattle.dft_replay.specs.declared.verdict.Verdict.TheVariants.{Pass}

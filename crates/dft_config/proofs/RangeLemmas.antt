@@ -1,5 +1,5 @@
 -- A configuration that a table gives is in range.
-use Rattle.std.proofs.Common.{ℕ, zero, suc, pos, ◌≡◌, ◌==◌, ◌≢◌, ◌+◌, ◌<◌, ◌≤◌, min, Bool, true, false, not, IsTrue, codes, List, [], ◌∷◌, length, get_or, Option, Some, None, Result, Ok, IfOk, if◌then◌else◌, All, refl, sym, ap, ◌∙◌, arith}
+use Rattle.std.proofs.Common.{ℕ, zero, suc, pos, ◌≡◌, ◌==◌, ◌≢◌, ◌+◌, ◌<◌, ◌≤◌, min, Bool, true, false, not, IsTrue, codes, List, [], ◌∷◌, length, get_or, Option, Some, None, Result, Ok, IfOk, if◌then◌else◌, All, refl, sym, ap, subst, ◌∙◌, arith}
 use Rattle.std.proofs.lemmas.Bool.{and_parts, not-true}
 use Rattle.std.proofs.lemmas.Bool.Decides.{nat_tests}
 use Rattle.std.proofs.lemmas.List.Elements.{All-nil, All-cons}
@@ -15,17 +15,17 @@ use Rattle.dft_config.specs.declared.port.Port.TheVariants as port
 use Rattle.dft_config.specs.declared.config.RingConfig.{RingConfig}
 use Rattle.dft_config.specs.declared.config.CompactorConfig.{CompactorConfig}
 use Rattle.dft_config.specs.declared.config.PortNames.{PortNames}
-use Rattle.dft_config.specs.declared.config.Config.{Config}
+use Rattle.dft_config.specs.Config.{Config}
 use Rattle.dft_config.specs.declared.reading.Steering.{Steering}
 use Rattle.dft_config.specs.declared.reading.Carrying.{Carrying}
-use Rattle.dft_config.specs.declared.reading.Clocking.{Clocking}
-use Rattle.dft_config.specs.declared.reading.Loading.{Loading}
+use Rattle.dft_config.specs.declared.draft.Clocking.{Clocking}
+use Rattle.dft_config.specs.declared.draft.Loading.{Loading}
 use Rattle.dft_config.specs.Faults.{unless}
 use Rattle.dft_config.specs.Range.{IsInRange, IsSet, IsSeedInRange, has, all_differ, same_number, names_of}
 use Rattle.dft_config.specs.Settings.{number, numbers, taps, injectors, phase, groups, domains, resets, keep, fill, port_name}
 use Rattle.dft_config.specs.Unknown.{first_unknown}
 use Rattle.dft_config.specs.Checks.{Test, first_failing, are_apart, each_differs, have_items, repetition_tests, emptiness_tests, first_repeated, first_empty, is_reached, first_not, first_unreached}
-use Rattle.dft_config.specs.Reading.{ring_of, compactor_of, steering_of, carrying_of, names_of_ports, clocking_of, loading_of, keys_of, checked, reading}
+use Rattle.dft_config.specs.Reading.{ring_of, compactor_of, steering_of, carrying_of, names_of_ports, clocking_of, loading_of, keys_of, checked}
 use Rattle.dft_config.proofs.BoundLemmas.{ok_after, ok_any, number_ok, numbers_ok, IsTapBelow, taps_ok, IsInjectorBelow, injectors_ok, AreBelow, phase_ok, AreGroups, groups_ok, domains_ok, resets_ok, fill_ok, IsFree, port_ok}
 
 -- the numbers of a ring, of a compactor and of a configuration are within their bounds
@@ -261,7 +261,8 @@ checks_ok table config b =
     ok_unless (first_unreached config) (λ chain. fault.Unreached (pos chain)) (Ok config) IsInRange (λ reached.
     checked_ok config b (repetitions_passed config differ) (emptiness_passed config filled) (reached_ok config reached)))))
 
--- a configuration that a table gives is in range
-pub reading_ok : (table : Members) → IfOk (reading table) IsInRange
-unfolding reading
-reading_ok table = ok_after (keys_of table) (checked table) IsBounded IsInRange (keys_ok table) (checks_ok table)
+-- what the keys of a table give is in range where it passes the checks
+pub passed_in_range : (table : Members) (config : Config) → keys_of table ≡ Ok config → checked table config ≡ Ok config → IsInRange config
+passed_in_range table config given passed =
+    let bounded = subst (λ r. IfOk r IsBounded) given (keys_ok table) in
+    subst (λ r. IfOk r IsInRange) passed (checks_ok table config bounded)

@@ -1,6 +1,6 @@
 -- The cycles of a load (Rajski and others, 2004).
 use Rattle.std.specs.Prelude.{ℕ, ◌+◌, ◌/◌, ◌%◌, max, nat_lt, if◌then◌else◌}
-use Rattle.dft_config.specs.declared.config.Config.{Config}
+use Rattle.dft_config.specs.Config.{Config}
 
 -- the length of a part where a number of items is cut into parts one after the other, the first ones one longer
 abbrev pub part_length : ℕ → ℕ → ℕ → ℕ

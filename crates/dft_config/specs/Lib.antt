@@ -1,6 +1,8 @@
+pub mod Config
 pub mod Cycles
 pub mod Segments
 pub mod Range
+pub mod Shown
 pub mod Keys
 pub mod Faults
 pub mod Ports

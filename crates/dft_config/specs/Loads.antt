@@ -4,7 +4,7 @@ use Rattle.dft_base.specs.Solutions.{sum_to}
 use Rattle.dft_config.specs.Ring.{Table, state_after, phase_sum}
 use Rattle.dft_config.specs.Range.{IsInRange}
 use Rattle.dft_config.specs.declared.config.RingConfig.{RingConfig}
-use Rattle.dft_config.specs.declared.config.Config.{Config}
+use Rattle.dft_config.specs.Config.{Config}
 
 -- The variable of a channel at a cycle has the column cycle * channels + channel; so a column's channel and cycle are these.
 abbrev pub channel_of : RingConfig → ℕ → ℕ

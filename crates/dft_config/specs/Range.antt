@@ -10,7 +10,7 @@ use Rattle.dft_config.specs.declared.config.Injector.{Injector}
 use Rattle.dft_config.specs.declared.config.RingConfig.{RingConfig}
 use Rattle.dft_config.specs.declared.config.CompactorConfig.{CompactorConfig}
 use Rattle.dft_config.specs.declared.config.PortNames.{PortNames}
-use Rattle.dft_config.specs.declared.config.Config.{Config}
+use Rattle.dft_config.specs.Config.{Config}
 
 -- whether an item stands among others, and whether none stands twice, by a test of equality
 abbrev pub has : {T : Type 0} → (T → T → Bool) → List T → T → Bool

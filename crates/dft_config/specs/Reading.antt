@@ -9,11 +9,11 @@ use Rattle.dft_config.specs.declared.fault.Fault.TheVariants as fault
 use Rattle.dft_config.specs.declared.config.RingConfig.{RingConfig}
 use Rattle.dft_config.specs.declared.config.CompactorConfig.{CompactorConfig}
 use Rattle.dft_config.specs.declared.config.PortNames.{PortNames}
-use Rattle.dft_config.specs.declared.config.Config.{Config}
+use Rattle.dft_config.specs.Config.{Config}
 use Rattle.dft_config.specs.declared.reading.Steering.{Steering}
 use Rattle.dft_config.specs.declared.reading.Carrying.{Carrying}
-use Rattle.dft_config.specs.declared.reading.Clocking.{Clocking}
-use Rattle.dft_config.specs.declared.reading.Loading.{Loading}
+use Rattle.dft_config.specs.declared.draft.Clocking.{Clocking}
+use Rattle.dft_config.specs.declared.draft.Loading.{Loading}
 use Rattle.dft_config.specs.Faults.{after, unless}
 use Rattle.dft_config.specs.Settings.{number, numbers, taps, injectors, phase, groups, domains, resets, keep, fill, port_name}
 use Rattle.dft_config.specs.Unknown.{first_unknown}

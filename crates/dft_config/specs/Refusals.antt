@@ -8,7 +8,7 @@ use Rattle.dft_config.specs.declared.fault.Fault.{Fault}
 use Rattle.dft_config.specs.declared.fault.Fault.TheVariants as fault
 use Rattle.dft_config.specs.declared.error.ConfigError.{ConfigError}
 use Rattle.dft_config.specs.declared.error.ConfigError.TheVariants.{C1, C2, C3, C4, C5, C6, Memory}
-use Rattle.dft_config.specs.declared.config.Config.{Config}
+use Rattle.dft_config.specs.Config.{Config}
 use Rattle.dft_config.specs.Keys.{dotted}
 use Rattle.dft_config.specs.Reading.{reading}
 

@@ -1,6 +1,6 @@
 -- Mask segments: the chains that one mask input serves, and the bits that it sends in a load.
 use Rattle.std.specs.Prelude.{ℕ, zero, suc, ◌+◌, ◌-◌, ◌&&◌, Bool, nat_lt}
-use Rattle.dft_config.specs.declared.config.Config.{Config}
+use Rattle.dft_config.specs.Config.{Config}
 use Rattle.dft_config.specs.Cycles.{part_length}
 
 -- the chains of a mask segment are as many as these, one after the other

@@ -4,45 +4,51 @@ ghost use Rattle.std.specs.Prelude.{◌≡◌, ℕ, ◌||◌, ◌<◌, false, If
 ghost use Rattle.std.specs.Str.{bytes_eq};
 ghost use Rattle.dft_config.specs.Range.{has, all_differ, same_number, names_of};
 ghost use Rattle.dft_config.specs.Checks as spec;
+ghost use Rattle.dft_config.specs.Shown.{drafted};
 
-use crate::config::{Config, PortNames};
+use crate::config::PortNames;
 use crate::distinct::{
     chains_differ, injectors_differ, names_differ, stages_differ, taps_differ, texts_differ,
 };
+use crate::draft::Draft;
 use crate::fault::Key;
 use dft_base::{Listed, Name};
 use std::alloc::{AllocError, Global};
 
 /// The first key with something that stands twice in one list.
 #[tactic(auto, unfolding(crate::specs::Checks::first_repeated))]
-pub fn first_repeated(alloc: Global, config: &Config) -> Result<Option<Key>, AllocError>
-    ensures { IfOk result (λ key. key ≡ spec.first_repeated config.now) }
+pub fn first_repeated(alloc: Global, draft: &Draft) -> Result<Option<Key>, AllocError>
+    ensures { IfOk result (λ key. key ≡ spec.first_repeated (drafted draft.now)) }
 {
-    if !names_differ(alloc, config.domains.as_slice())? {
+    if !names_differ(alloc, draft.clocking.domains.as_slice())? {
         return Ok(Some(Key::Domains));
     }
-    if !resets_differ(alloc, config.domains.as_slice(), config.resets.as_slice())? {
+    if !resets_differ(
+        alloc,
+        draft.clocking.domains.as_slice(),
+        draft.clocking.resets.as_slice(),
+    )? {
         return Ok(Some(Key::Resets));
     }
-    if !names_differ(alloc, config.keep.as_slice())? {
+    if !names_differ(alloc, draft.clocking.keep.as_slice())? {
         return Ok(Some(Key::Keep));
     }
-    if !chains_differ(alloc, config.always_masked.as_slice())? {
+    if !chains_differ(alloc, draft.loading.always_masked.as_slice())? {
         return Ok(Some(Key::AlwaysMasked));
     }
-    if !taps_differ(alloc, config.ring.taps.as_slice())? {
+    if !taps_differ(alloc, draft.ring.taps.as_slice())? {
         return Ok(Some(Key::Taps));
     }
-    if !injectors_differ(alloc, config.ring.injectors.as_slice())? {
+    if !injectors_differ(alloc, draft.ring.injectors.as_slice())? {
         return Ok(Some(Key::Injectors));
     }
-    if !phase_differs(alloc, config.ring.phase.as_slice())? {
+    if !phase_differs(alloc, draft.ring.phase.as_slice())? {
         return Ok(Some(Key::Phase));
     }
-    if !groups_differ(alloc, config.compactor.groups.as_slice())? {
+    if !groups_differ(alloc, draft.compactor.groups.as_slice())? {
         return Ok(Some(Key::Groups));
     }
-    if !ports_differ(alloc, &config.names)? {
+    if !ports_differ(alloc, &draft.names)? {
         return Ok(Some(Key::Names));
     }
     Ok(None)
@@ -118,12 +124,12 @@ fn ports_differ(alloc: Global, names: &PortNames) -> Result<bool, AllocError>
 
 /// The first key with an empty list in its list.
 #[tactic(auto, unfolding(crate::specs::Checks::first_empty))]
-pub fn first_empty(config: &Config) -> Option<Key>
-    ensures { result ≡ spec.first_empty config.now }
+pub fn first_empty(draft: &Draft) -> Option<Key>
+    ensures { result ≡ spec.first_empty (drafted draft.now) }
 {
-    if !have_items(config.ring.phase.as_slice()) {
+    if !have_items(draft.ring.phase.as_slice()) {
         Some(Key::Phase)
-    } else if !have_items(config.compactor.groups.as_slice()) {
+    } else if !have_items(draft.compactor.groups.as_slice()) {
         Some(Key::Groups)
     } else {
         None
@@ -143,14 +149,14 @@ fn have_items<T>(lists: &[Listed<T>]) -> bool
 
 /// The first chain that stands in no group.
 #[tactic(auto, unfolding(crate::specs::Checks::first_unreached))]
-pub fn first_unreached(alloc: Global, config: &Config) -> Result<Option<u16>, AllocError>
-    ensures { IfOk result (λ chain. chain ≡ spec.first_unreached config.now) }
+pub fn first_unreached(alloc: Global, draft: &Draft) -> Result<Option<u16>, AllocError>
+    ensures { IfOk result (λ chain. chain ≡ spec.first_unreached (drafted draft.now)) }
 {
-    let mut reached = vec![in alloc; false; usize::from(config.chains)]?;
-    for group in config.compactor.groups.as_slice() {
+    let mut reached = vec![in alloc; false; usize::from(draft.loading.chains)]?;
+    for group in draft.compactor.groups.as_slice() {
         mark(&mut reached, group.as_slice());
     }
-    Ok(first_unmarked(&reached, config.chains))
+    Ok(first_unmarked(&reached, draft.loading.chains))
 }
 
 // Marks the chains of a group.

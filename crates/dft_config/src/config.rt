@@ -1,5 +1,11 @@
+ghost use Rattle.std.specs.Prelude.{◌≡◌};
+ghost use Rattle.dft_config.specs.Range.{IsInRange};
+ghost use Rattle.dft_config.specs.Shown.{drafted};
+
+use crate::draft::Draft;
 use dft_base::{Listed, Name};
 use dft_toml::Names;
+use std::marker::Model;
 
 /// The bits of channels that no equation decides.
 #[derive(Clone, Copy, Debug, PartialEq, Eq)]
@@ -59,25 +65,139 @@ pub struct PortNames {
     pub scan_out: Name,
 }
 
-/// A configuration.
+/// A configuration. It is in range: no call that takes one asks more. A clause sees it as a record.
 #[derive(Debug, Drop)]
 pub struct Config {
+    domains: Names,
+    resets: Names,
+    keep: Names,
+    chains: u16,
+    warm: u16,
+    window: u8,
+    fill: FillRule,
+    always_masked: Listed<u16>,
+    ring: RingConfig,
+    compactor: CompactorConfig,
+    names: PortNames,
+}
+
+impl Model for Config {
+    ghost use Rattle.dft_config.specs.Config.{Config};
+
+    ghost Value = { Config };
+
+    ghost use Rattle.dft_config.specs.Shown.{config_in, IsConfigInside};
+
+    ghost view = { config_in };
+
+    ghost invariant = { IsConfigInside };
+}
+
+impl Config {
+    // The configuration of a draft.
+    pub(crate) fn from_draft(draft: Draft) -> Config
+        requires { IsInRange (drafted draft) }
+        ensures { result ≡ drafted draft }
+    {
+        let clocking = draft.clocking;
+        let loading = draft.loading;
+        Config {
+            domains: clocking.domains,
+            resets: clocking.resets,
+            keep: clocking.keep,
+            chains: loading.chains,
+            warm: loading.warm,
+            window: loading.window,
+            fill: loading.fill,
+            always_masked: loading.always_masked,
+            ring: draft.ring,
+            compactor: draft.compactor,
+            names: draft.names,
+        }
+    }
+
+    /// Does nothing: its clause is what holds of every configuration. Each number is within its bounds, nothing stands
+    /// twice in one list, and each chain stands in a group of the compactor.
+    pub fn soundness(&self)
+        ensures { IsInRange self.now }
+    {
+        let _chains = self.chains;
+    }
+
     /// The clock ports, 1 to 16.
-    pub domains: Names,
+    pub fn domains(&self) -> &[Name]
+        ensures { result.now ≡ self.now.domains }
+    {
+        self.domains.as_slice()
+    }
+
     /// The reset ports, at most 16.
-    pub resets: Names,
+    pub fn resets(&self) -> &[Name]
+        ensures { result.now ≡ self.now.resets }
+    {
+        self.resets.as_slice()
+    }
+
     /// The flip-flops that are not scanned.
-    pub keep: Names,
+    pub fn keep(&self) -> &[Name]
+        ensures { result.now ≡ self.now.keep }
+    {
+        self.keep.as_slice()
+    }
+
     /// 1 to 1,024 chains.
-    pub chains: u16,
+    pub fn chains(&self) -> u16
+        ensures { result ≡ self.now.chains }
+    {
+        self.chains
+    }
+
     /// The cycles before a load reaches the longest chain, at most 4,095.
-    pub warm: u16,
+    pub fn warm(&self) -> u16
+        ensures { result ≡ self.now.warm }
+    {
+        self.warm
+    }
+
     /// The patterns that a cube may still join, 1 to 16.
-    pub window: u8,
-    pub fill: FillRule,
+    pub fn window(&self) -> u8
+        ensures { result ≡ self.now.window }
+    {
+        self.window
+    }
+
+    /// The bits of channels that no equation decides.
+    pub fn fill(&self) -> FillRule
+        ensures { result ≡ self.now.fill }
+    {
+        self.fill
+    }
+
     /// The chains that are masked in each pattern.
-    pub always_masked: Listed<u16>,
-    pub ring: RingConfig,
-    pub compactor: CompactorConfig,
-    pub names: PortNames,
+    pub fn always_masked(&self) -> &[u16]
+        ensures { result.now ≡ self.now.always_masked }
+    {
+        self.always_masked.as_slice()
+    }
+
+    /// The ring generator and the phase shifter.
+    pub fn ring(&self) -> &RingConfig
+        ensures { result.now ≡ self.now.ring }
+    {
+        &self.ring
+    }
+
+    /// The compactor and its masks.
+    pub fn compactor(&self) -> &CompactorConfig
+        ensures { result.now ≡ self.now.compactor }
+    {
+        &self.compactor
+    }
+
+    /// The names of the ports that are added.
+    pub fn names(&self) -> &PortNames
+        ensures { result.now ≡ self.now.names }
+    {
+        &self.names
+    }
 }

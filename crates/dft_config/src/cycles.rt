@@ -1,18 +1,17 @@
 ghost use Rattle.std.specs.Prelude.{◌≡◌, ◌≤◌};
 ghost use Rattle.dft_config.specs.Cycles as spec;
-ghost use Rattle.dft_config.specs.Range.{IsInRange};
 
 use crate::config::Config;
 
 /// The cycles of a load, where the longest chain has this many cells.
 pub fn load_cycles(config: &Config, longest: u32) -> u32
-    requires config { IsInRange config.now }
     requires longest { longest ≤ 65536 }
     ensures { result ≡ spec.load_cycles config.now longest }
 {
-    let chains = u32::from(config.chains);
-    let masks = u32::from(config.compactor.mask_inputs);
-    (u32::from(config.warm) + longest).max(longest_part(chains, masks))
+    config.soundness();
+    let chains = u32::from(config.chains());
+    let masks = u32::from(config.compactor().mask_inputs);
+    (u32::from(config.warm()) + longest).max(longest_part(chains, masks))
 }
 
 fn longest_part(items: u32, parts: u32) -> u32

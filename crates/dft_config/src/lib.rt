@@ -5,6 +5,7 @@ mod checks;
 mod config;
 mod cycles;
 mod distinct;
+mod draft;
 mod error;
 mod fault;
 mod laws;

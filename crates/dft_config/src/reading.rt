@@ -4,17 +4,19 @@ ghost use Rattle.std.specs.Prelude.{◌≡◌, ◌≤◌, IfOk, IfErr, OnOk, Ok,
 ghost use Rattle.toml.specs.View.{table_view};
 ghost use Rattle.dft_config.specs.Faults.{IsFault};
 ghost use Rattle.dft_config.specs.Reading as spec;
+ghost use Rattle.dft_config.specs.Shown.{drafted};
 
 use crate::checks::{first_empty, first_repeated, first_unreached};
-use crate::config::{CompactorConfig, Config, FillRule, PortNames, RingConfig};
+use crate::config::{CompactorConfig, Config, PortNames, RingConfig};
+use crate::draft::{Clocking, Draft, Loading};
 use crate::fault::{Fault, Key};
 use crate::port::Port;
 use crate::unknown::first_unknown;
 use crate::values::{
     domains, fill, groups, injectors, keep, number, numbers, phase, port_name, resets, taps,
 };
-use dft_base::{Listed, Name};
-use dft_toml::{Names, table_at, value_at, value_in};
+use dft_base::Name;
+use dft_toml::{table_at, value_at, value_in};
 use std::alloc::Global;
 use toml::Table;
 
@@ -117,24 +119,6 @@ fn names_of_ports(alloc: Global, table: Option<&Table>) -> Result<PortNames, Fau
     })
 }
 
-// What is read first: the domains, the resets and the kept cells.
-#[derive(Drop)]
-struct Clocking {
-    domains: Names,
-    resets: Names,
-    keep: Names,
-}
-
-// What is read next: the chains, the loads, and the chains that are always masked.
-#[derive(Drop)]
-struct Loading {
-    chains: u16,
-    warm: u16,
-    window: u8,
-    fill: FillRule,
-    always_masked: Listed<u16>,
-}
-
 // The domains, the resets and the kept cells, behind the version.
 #[tactic(auto, unfolding(crate::specs::Reading::clocking_of))]
 fn clocking_of(alloc: Global, table: &Table) -> Result<Clocking, Fault>
@@ -173,10 +157,10 @@ fn loading_of(alloc: Global, table: &Table) -> Result<Loading, Fault>
     })
 }
 
-/// The configuration whose keys a table has.
+// What the keys of a table give.
 #[tactic(auto, unfolding(crate::specs::Reading::keys_of))]
-pub fn keys_of(alloc: Global, table: &Table) -> Result<Config, Fault>
-    ensures ok { IfOk result (λ config. spec.keys_of (table_view table.now) ≡ Ok config) }
+fn keys_of(alloc: Global, table: &Table) -> Result<Draft, Fault>
+    ensures ok { IfOk result (λ draft. spec.keys_of (table_view table.now) ≡ Ok (drafted draft)) }
     ensures refused { IfErr result (λ e. IsFault e → spec.keys_of (table_view table.now) ≡ Err e) }
 {
     let clocking = clocking_of(alloc, table)?;
@@ -184,37 +168,31 @@ pub fn keys_of(alloc: Global, table: &Table) -> Result<Config, Fault>
     let ring = ring_of(alloc, loading.chains, table_at(table, "ring"))?;
     let compactor = compactor_of(alloc, loading.chains, table_at(table, "compactor"))?;
     let names = names_of_ports(alloc, table_at(table, "names"))?;
-    Ok(Config {
-        domains: clocking.domains,
-        resets: clocking.resets,
-        keep: clocking.keep,
-        chains: loading.chains,
-        warm: loading.warm,
-        window: loading.window,
-        fill: loading.fill,
-        always_masked: loading.always_masked,
+    Ok(Draft {
+        clocking,
+        loading,
         ring,
         compactor,
         names,
     })
 }
 
-// Refuses the first fault of a configuration whose keys were read.
+// Refuses the first fault of a draft.
 #[tactic(auto, unfolding(crate::specs::Reading::checked))]
-fn check(alloc: Global, config: &Config, table: &Table) -> Result<(), Fault>
-    ensures ok { OnOk result (spec.checked (table_view table.now) config.now ≡ Ok config.now) }
-    ensures refused { IfErr result (λ e. IsFault e → spec.checked (table_view table.now) config.now ≡ Err e) }
+fn check(alloc: Global, draft: &Draft, table: &Table) -> Result<(), Fault>
+    ensures ok { OnOk result (spec.checked (table_view table.now) (drafted draft.now) ≡ Ok (drafted draft.now)) }
+    ensures refused { IfErr result (λ e. IsFault e → spec.checked (table_view table.now) (drafted draft.now) ≡ Err e) }
 {
-    if let Some(name) = first_unknown(alloc, config.fill, table)? {
+    if let Some(name) = first_unknown(alloc, draft.loading.fill, table)? {
         return Err(Fault::Unknown(name));
     }
-    if let Some(key) = first_repeated(alloc, config)? {
+    if let Some(key) = first_repeated(alloc, draft)? {
         return Err(Fault::Repeated(key));
     }
-    if let Some(key) = first_empty(config) {
+    if let Some(key) = first_empty(draft) {
         return Err(Fault::Empty(key));
     }
-    match first_unreached(alloc, config)? {
+    match first_unreached(alloc, draft)? {
         Some(chain) => Err(Fault::Unreached(i64::from(chain))),
         None => Ok(()),
     }
@@ -226,7 +204,7 @@ pub fn config_of(alloc: Global, table: &Table) -> Result<Config, Fault>
     ensures ok { IfOk result (λ config. spec.reading (table_view table.now) ≡ Ok config) }
     ensures refused { IfErr result (λ e. IsFault e → spec.reading (table_view table.now) ≡ Err e) }
 {
-    let config = keys_of(alloc, table)?;
-    check(alloc, &config, table)?;
-    Ok(config)
+    let draft = keys_of(alloc, table)?;
+    check(alloc, &draft, table)?;
+    Ok(Config::from_draft(draft))
 }

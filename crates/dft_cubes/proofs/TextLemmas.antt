@@ -6,7 +6,7 @@ use Rattle.std.specs.List.{prefix_len}
 use Rattle.std.proofs.lemmas.Bool.{eq-eqb}
 use Rattle.dft_base.specs.Lexing.{Text}
 use Rattle.dft_netlist.specs.Netlist.{Netlist}
-use Rattle.dft_config.specs.declared.config.Config.{Config}
+use Rattle.dft_config.specs.Config.{Config}
 use Rattle.dft_word_lines.specs.Lines.{lines_of, words_of}
 use Rattle.dft_word_lines.proofs.LineLemmas.{is_on_line, line_ends}
 use Rattle.dft_cubes.specs.declared.cube.Cube.{Cube}

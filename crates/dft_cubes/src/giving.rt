@@ -52,7 +52,7 @@ pub(crate) fn give_cell(
 fn is_special(here: &Here<'_>, name: &[u8]) -> bool
     ensures { result ≡ (spec.is_among here.now.config.now.domains name.now || spec.is_among here.now.config.now.resets name.now) }
 {
-    is_among(here.config.domains.as_slice(), name) || is_among(here.config.resets.as_slice(), name)
+    is_among(here.config.domains(), name) || is_among(here.config.resets(), name)
 }
 
 // Gives a port its bit in the pending cube.

@@ -36,8 +36,7 @@ pub(crate) fn domain_named(config: &Config, clock: &[u8]) -> Option<usize>
     ensures within { IfSome result (λ place. place < length config.now.domains) }
 {
     config
-        .domains
-        .as_slice()
+        .domains()
         .iter()
         .position(|name| name.as_slice() == clock)
 }

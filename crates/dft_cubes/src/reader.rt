@@ -1,7 +1,6 @@
 //! Reads cube files.
 
 ghost use Rattle.std.specs.Prelude.{◌≡◌, ◌<◌, ◌≤◌, ◌^◌, [], None, Ok, IfErr, IfOk, OnOk, length, map};
-ghost use Rattle.dft_config.specs.Range.{IsInRange};
 ghost use Rattle.dft_word_lines.specs.Lines.{AreWithin, cut};
 ghost use Rattle.dft_cubes.specs.Cubes.{IsFault, IsRefused, cubes_of, ended, line_refusal, with_line};
 ghost use Rattle.dft_cubes.specs.Taking.{IsTaken, Passes, SaysNames, line_said, pending_of, reading_of, refusal_of};
@@ -113,10 +112,10 @@ pub fn read(
     config: &Config,
 ) -> Result<Vec<Cube>, CubeError>
     requires small { length bytes.now < 2 ^ 31 }
-    requires range { IsInRange config.now }
     ensures cubes { IfOk result (λ cubes. cubes_of design.now config.now bytes.now ≡ Ok cubes.items) }
     ensures refused { IfErr result (IsRefused (cubes_of design.now config.now bytes.now)) }
 {
+    config.soundness();
     let mut taken = Taken::new(alloc, design)?;
     let last = take_lines(&mut taken, alloc, bytes, design, config)?;
     taken.finish(last)

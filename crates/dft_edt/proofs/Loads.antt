@@ -9,7 +9,7 @@ use Rattle.dft_netlist.specs.Runs.{Now, Vector, after_turn}
 use Rattle.dft_abstract.specs.Cycle.{after_round}
 use Rattle.dft_abstract.specs.Laws.{bits}
 use Rattle.dft_abstract.proofs.Lifts.{known_after_turn, low_after_turn}
-use Rattle.dft_config.specs.declared.config.Config.{Config}
+use Rattle.dft_config.specs.Config.{Config}
 use Rattle.dft_config.specs.Range.{IsInRange}
 use Rattle.dft_config.specs.Ring.{Table, step, state_after, phase_of, phase_sum}
 use Rattle.dft_config.specs.Loads.{moment_of_place}

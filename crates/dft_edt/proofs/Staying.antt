@@ -5,7 +5,7 @@ use Rattle.dft_netlist.specs.declared.ids.InstanceId.{InstanceId}
 use Rattle.dft_netlist.specs.Drivers.{Source, Net}
 use Rattle.dft_netlist.specs.Logic.{Logic, Ports, Cell, Input, Gate, Flop, Lockup}
 use Rattle.dft_config.specs.declared.config.RingConfig.{RingConfig}
-use Rattle.dft_config.specs.declared.config.Config.{Config}
+use Rattle.dft_config.specs.Config.{Config}
 use Rattle.dft_runs.specs.WiderPorts.{MeansMore}
 use Rattle.dft_chains.specs.Hardware.{ChainNets}
 use Rattle.dft_chains.proofs.Staying.{net_stays, chains_stay}

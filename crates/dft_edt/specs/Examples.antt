@@ -5,7 +5,7 @@ use Rattle.dft_netlist.specs.declared.ids.InstanceId.{InstanceId}
 use Rattle.dft_netlist.specs.Drivers.{Net}
 use Rattle.dft_netlist.specs.Logic.{Logic, Ports, Cell, Meaning, Input, Clock, Gate, Flop, Lockup, Free, IsRanked}
 use Rattle.dft_config.specs.declared.config.FillRule.TheVariants.{Zeros}
-use Rattle.dft_config.specs.declared.config.Config.{Config}
+use Rattle.dft_config.specs.Config.{Config}
 use Rattle.dft_config.specs.Range.{IsInRange}
 use Rattle.dft_chains.specs.Hardware.{ChainNets}
 use Rattle.dft_edt.specs.Hardware.{EdtNets, IsEdt}

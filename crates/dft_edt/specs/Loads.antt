@@ -8,7 +8,7 @@ use Rattle.dft_netlist.specs.Logic.{Logic, Ports, IsRanked}
 use Rattle.dft_netlist.specs.Runs.{Now, Vector, Turn, IsTurn, after_turn, AreTurns, IsRun}
 use Rattle.dft_abstract.specs.Cycle.{Round, IsRound, after_round}
 use Rattle.dft_runs.specs.Passes.{Pass, Passes, ArePasses, end_of, AreRounds, after_rounds, after_turns}
-use Rattle.dft_config.specs.declared.config.Config.{Config}
+use Rattle.dft_config.specs.Config.{Config}
 use Rattle.dft_config.specs.Range.{IsInRange}
 use Rattle.dft_config.specs.Ring.{Table}
 use Rattle.dft_config.specs.Loads.{load_equation, bit_of_column}

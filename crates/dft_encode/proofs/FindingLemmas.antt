@@ -10,7 +10,7 @@ use Rattle.dft_base.specs.Solutions.{bit_at, IsChosen}
 use Rattle.dft_netlist.specs.declared.ids.InstanceId.{InstanceId}
 use Rattle.dft_netlist.specs.Netlist.{Netlist}
 use Rattle.dft_netlist.proofs.NotesLemmas.{item_at}
-use Rattle.dft_config.specs.declared.config.Config.{Config}
+use Rattle.dft_config.specs.Config.{Config}
 use Rattle.dft_config.specs.declared.config.FillRule.{FillRule}
 use Rattle.dft_config.specs.declared.config.FillRule.TheVariants.{Zeros, Ones, Seed}
 use Rattle.dft_config.specs.Ring.{Table}

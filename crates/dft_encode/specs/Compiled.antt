@@ -2,7 +2,7 @@
 use Rattle.std.specs.Prelude.{ℕ, ◌≡◌, List, [], length, map, Some, slice_get}
 use Rattle.dft_base.specs.Solutions.{IsChosen, bit_at}
 use Rattle.dft_netlist.specs.Netlist.{Netlist}
-use Rattle.dft_config.specs.declared.config.Config.{Config}
+use Rattle.dft_config.specs.Config.{Config}
 use Rattle.dft_equations.specs.LoadRows.{LoadRows, AreLoadEquations}
 use Rattle.dft_stitch.specs.Plans.{Plan}
 use Rattle.dft_cubes.specs.declared.cube.Cube.{Cube}

@@ -1,7 +1,6 @@
 //! The patterns of merged cubes.
 
 ghost use Rattle.std.specs.Prelude.{◌≡◌, ◌≤◌, List, None, [], length, IfOk, IfSome};
-ghost use Rattle.dft_config.specs.Range.{IsInRange};
 ghost use Rattle.dft_rules.specs.Refusals as rules;
 ghost use Rattle.dft_stitch.specs.Chains.{plan_of};
 ghost use Rattle.dft_stitch.specs.Limits as stitch;
@@ -86,7 +85,6 @@ pub fn encode(
     merger: &Merger<'_>,
     written: &Design,
 ) -> Result<Encoded, AllocError>
-    requires range { IsInRange config.now }
     requires passed { rules.refusal design.now config.now ≡ None }
     requires fits { stitch.refusal design.now config.now ≡ None }
     requires planned { chains.now ≡ plan_of design.now config.now }
@@ -95,6 +93,7 @@ pub fn encode(
     requires few { length merger.now.patterns ≤ 65536 }
     ensures { IfOk result (IsEncoded written.now design.now config.now chains.now merger.now.rows merger.now.patterns) }
 {
+    config.soundness();
     let always = always_masked(alloc, config)?;
     let finder = Finder {
         alloc,

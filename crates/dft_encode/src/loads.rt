@@ -25,7 +25,7 @@ fn load_of(finder: &Finder<'_>, number: u32) -> Result<Load, AllocError>
     requires number { number < length finder.now.merger.now.patterns }
     ensures { IfOk result (IsLoad finder.now number) }
 {
-    let columns = u32::from(finder.chains.cycles()) * u32::from(finder.config.ring.channels);
+    let columns = u32::from(finder.chains.cycles()) * u32::from(finder.config.ring().channels);
     let bits = channel_bits(finder.alloc, finder.config, finder.merger, number, columns)?;
     let cells = loaded(finder.alloc, finder.config, finder.chains, &bits)?;
     Ok(Load {

@@ -38,9 +38,9 @@ fn is_listed(chains: &[u16], chain: u16) -> bool
 pub(crate) fn always_masked(alloc: Global, config: &Config) -> Result<Vec<bool>, AllocError>
     ensures { IfOk result (λ always. always.items ≡ always_of config.now) }
 {
-    let mut always = Vec::with_capacity(alloc, usize::from(config.chains))?;
-    for chain in 0..config.chains {
-        always.push(is_listed(config.always_masked.as_slice(), chain))?;
+    let mut always = Vec::with_capacity(alloc, usize::from(config.chains()))?;
+    for chain in 0..config.chains() {
+        always.push(is_listed(config.always_masked(), chain))?;
     }
     Ok(always)
 }

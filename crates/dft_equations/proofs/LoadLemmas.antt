@@ -7,7 +7,7 @@ use Rattle.std.proofs.lemmas.List.{get_or_past, get_or_default, length-append}
 use Rattle.std.proofs.lemmas.List.FromFn.{get_or-map-range_with_len, length-map-range_with_len, fill_by_all}
 use Rattle.dft_base.specs.Solutions.{xor, bit_at}
 use Rattle.dft_config.specs.declared.config.RingConfig.{RingConfig}
-use Rattle.dft_config.specs.declared.config.Config.{Config}
+use Rattle.dft_config.specs.Config.{Config}
 use Rattle.dft_config.specs.Range.{IsRingInRange, IsSet}
 use Rattle.dft_config.specs.Ring.{sum_of, state_after, phase_of}
 use Rattle.dft_config.specs.Loads.{channel_of, cycle_of, single, reaches, moment_of_place, load_equation}

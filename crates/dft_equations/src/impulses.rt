@@ -1,7 +1,6 @@
 ghost use Rattle.std.specs.Prelude.{◌≡◌, ℕ, ◌+◌, ◌%◌, ◌<◌, ◌==◌, ◌&&◌, false, length, replicate, IfOk};
 ghost use Rattle.std.specs.List.{All};
 ghost use Rattle.dft_base.specs.Solutions.{bit_at, xor};
-ghost use Rattle.dft_config.specs.Range.{IsRingInRange};
 ghost use Rattle.dft_config.specs.Ring.{tapped, injected, step};
 ghost use Rattle.dft_equations.specs.Impulses.{IsImpulse, AreImpulses};
 
@@ -15,11 +14,10 @@ pub fn impulses(
     config: &Config,
     cycles: u16,
 ) -> Result<Vec<Listed<Listed<bool>>>, AllocError>
-    requires { IsRingInRange config.now.chains config.now.ring }
     ensures { IfOk result (λ all. AreImpulses config.now.ring cycles all.items) }
 {
-    let mut all = Vec::with_capacity(alloc, config.ring.channels as usize)?;
-    for channel in 0..config.ring.channels {
+    let mut all = Vec::with_capacity(alloc, config.ring().channels as usize)?;
+    for channel in 0..config.ring().channels {
         all.push(impulse(alloc, config, channel, cycles)?)?;
     }
     Ok(all)
@@ -32,11 +30,10 @@ fn impulse(
     channel: u8,
     cycles: u16,
 ) -> Result<Listed<Listed<bool>>, AllocError>
-    requires { IsRingInRange config.now.chains config.now.ring }
     ensures { IfOk result (IsImpulse config.now.ring channel cycles) }
 {
     let mut states = Vec::with_capacity(alloc, cycles as usize)?;
-    let mut state = zero_state(alloc, config.ring.stages)?;
+    let mut state = zero_state(alloc, config.ring().stages)?;
     for cycle in 0..cycles {
         let next = stepped(alloc, config, &state, channel, cycle == 0)?;
         states.push(Listed::from_vec(mem::replace(&mut state, next)))?;
@@ -59,7 +56,6 @@ fn stepped(
     channel: u8,
     bit: bool,
 ) -> Result<Vec<bool>, AllocError>
-    requires ring { IsRingInRange config.now.chains config.now.ring }
     requires stages { length state.now ≡ config.now.ring.stages }
     ensures stages { IfOk result (λ next. length next.items ≡ config.now.ring.stages) }
     ensures step { IfOk result (λ next. (stage : ℕ) → bit_at next.items stage ≡ step config.now.ring (λ other. (other == channel) && bit) (bit_at state.now) stage) }
@@ -71,13 +67,13 @@ fn stepped(
 
 // Adds what taps and injectors bring.
 fn bring(next: &mut [bool], config: &Config, state: &[bool], channel: u8, bit: bool)
-    requires ring { IsRingInRange config.now.chains config.now.ring }
     requires stages { length state.now ≡ config.now.ring.stages }
     requires next { length next.old ≡ length state.now }
     ensures { (stage : ℕ) → bit_at next.new stage ≡ xor (xor (bit_at next.old stage) (tapped config.now.ring.taps (bit_at state.now) stage)) (injected config.now.ring.injectors (λ other. (other == channel) && bit) stage) }
 {
-    add_taps(next, config.ring.taps.as_slice(), state);
-    add_injectors(next, config.ring.injectors.as_slice(), channel, bit);
+    config.soundness();
+    add_taps(next, config.ring().taps.as_slice(), state);
+    add_injectors(next, config.ring().injectors.as_slice(), channel, bit);
 }
 
 // The bits of the stages after each; the stage after the last is the first.

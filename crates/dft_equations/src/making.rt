@@ -1,7 +1,6 @@
 ghost use Rattle.std.specs.Prelude.{◌≡◌, ℕ, ◌*◌, ◌<◌, ◌≤◌, ◌^◌, length, map, IfOk};
 ghost use Rattle.std.specs.List.{All, slice_index, range_with_len};
 ghost use Rattle.dft_base.specs.Solutions.{bit_at};
-ghost use Rattle.dft_config.specs.Range.{IsRingInRange};
 ghost use Rattle.dft_config.specs.Ring.{sum_of};
 ghost use Rattle.dft_config.specs.Loads.{load_equation};
 ghost use Rattle.dft_equations.specs.Impulses.{AreImpulses};
@@ -21,7 +20,6 @@ pub fn equations(
     lengths: &[u16],
     cycles: u16,
 ) -> Result<Equations, AllocError>
-    requires ring { IsRingInRange config.now.chains config.now.ring }
     requires chains { length lengths.now ≡ config.now.chains }
     requires lengths { All (λ cells. cells ≤ cycles) lengths.now }
     requires columns { cycles * config.now.ring.channels ≤ 16384 }
@@ -32,7 +30,10 @@ pub fn equations(
     for chain in 0..lengths.len() {
         chains.push(chain_rows(alloc, config, &responses, chain, lengths[chain], cycles)?)?;
     }
-    Ok(Equations::new(u32::from(cycles) * u32::from(config.ring.channels), chains))
+    Ok(Equations::new(
+        u32::from(cycles) * u32::from(config.ring().channels),
+        chains,
+    ))
 }
 
 // The rows of the cells of a chain: the first one's, moved down by the channels for each place.
@@ -44,19 +45,19 @@ fn chain_rows(
     cells: u16,
     cycles: u16,
 ) -> Result<Listed<Row>, AllocError>
-    requires ring { IsRingInRange config.now.chains config.now.ring }
     requires responses { AreImpulses config.now.ring cycles responses.now }
     requires chain { chain < config.now.chains }
     requires cells { cells ≤ cycles }
     requires columns { cycles * config.now.ring.channels ≤ 16384 }
     ensures { IfOk result (AreRowsOf config.now.ring cycles chain cells) }
 {
+    config.soundness();
     let mut rows = Vec::with_capacity(alloc, cells as usize)?;
     if cells > 0 {
         let bits = first_bits(alloc, config, responses, chain, cycles)?;
         let first = Row::of_bits(alloc, &bits)?;
         for place in 0..cells {
-            rows.push(first.moved(alloc, u32::from(place) * u32::from(config.ring.channels))?)?;
+            rows.push(first.moved(alloc, u32::from(place) * u32::from(config.ring().channels))?)?;
         }
     }
     Ok(Listed::from_vec(rows))
@@ -70,13 +71,12 @@ fn first_bits(
     chain: usize,
     cycles: u16,
 ) -> Result<Vec<bool>, AllocError>
-    requires ring { IsRingInRange config.now.chains config.now.ring }
     requires responses { AreImpulses config.now.ring cycles responses.now }
     requires chain { chain < config.now.chains }
     requires columns { cycles * config.now.ring.channels ≤ 16384 }
     ensures { IfOk result (λ bits. bits.items ≡ equation_row config.now.ring cycles chain 0) }
 {
-    let columns = usize::from(cycles) * usize::from(config.ring.channels);
+    let columns = usize::from(cycles) * usize::from(config.ring().channels);
     let mut bits = Vec::with_capacity(alloc, columns)?;
     for column in 0..columns {
         bits.push(first_bit(config, responses, chain, cycles, column))?;
@@ -93,16 +93,16 @@ fn first_bit(
     cycles: u16,
     column: usize,
 ) -> bool
-    requires ring { IsRingInRange config.now.chains config.now.ring }
     requires responses { AreImpulses config.now.ring cycles responses.now }
     requires chain { chain < config.now.chains }
     requires column { column < cycles * config.now.ring.channels }
     ensures { result ≡ load_equation config.now.ring cycles chain 0 column }
 {
-    let channels = usize::from(config.ring.channels);
+    config.soundness();
+    let channels = usize::from(config.ring().channels);
     let response = responses[column % channels].as_slice();
     let state = response[usize::from(cycles) - 1 - column / channels].as_slice();
-    phase_sum(config.ring.phase.as_slice()[chain].as_slice(), state)
+    phase_sum(config.ring().phase.as_slice()[chain].as_slice(), state)
 }
 
 // The sum of the stages that a chain takes.

@@ -12,7 +12,7 @@ use Rattle.dft_netlist.proofs.Meanings.{source_same, meaning_monotone, at_nets}
 use Rattle.dft_netlist.proofs.Ranks.{order_is_rank}
 use Rattle.dft_abstract.specs.Cycle.{strobe_sources}
 use Rattle.dft_abstract.proofs.Views.{settled_same}
-use Rattle.dft_config.specs.declared.config.Config.{Config}
+use Rattle.dft_config.specs.Config.{Config}
 use Rattle.dft_cubes.specs.declared.cube.Merged.{Merged}
 use Rattle.dft_expect.specs.Captures.{config_ports}
 use Rattle.dft_expect.specs.Loaded.{all_cells, loaded_values}

@@ -23,7 +23,7 @@ use Rattle.dft_netlist.specs.Logic.{Cell, Force, Ports, Scan, Input, Clock, cell
 use Rattle.dft_netlist.specs.Settled.{TriSources, inverse}
 use Rattle.dft_abstract.specs.Cycle.{strobe_sources, tri_forced_by}
 use Rattle.dft_logic.proofs.Pasts.{past_free}
-use Rattle.dft_config.specs.declared.config.Config.{Config}
+use Rattle.dft_config.specs.Config.{Config}
 use Rattle.dft_rules.specs.Rules.{may_be_scanned}
 use Rattle.dft_expect.specs.Captures.{config_ports}
 use Rattle.dft_stitch.specs.Chains.{plan_of}

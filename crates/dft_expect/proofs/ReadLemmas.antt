@@ -25,7 +25,7 @@ use Rattle.dft_netlist.specs.Settled.{value_from}
 use Rattle.dft_netlist.specs.Traces.{root_of}
 use Rattle.dft_netlist.proofs.TraceLemmas.{is_walk}
 use Rattle.dft_abstract.specs.Cycle.{tri_forced_by, tri_taken_by}
-use Rattle.dft_config.specs.declared.config.Config.{Config}
+use Rattle.dft_config.specs.Config.{Config}
 use Rattle.dft_rules.specs.Rules.{is_net}
 use Rattle.dft_stitch.specs.Chains.{plan_of}
 use Rattle.dft_cubes.specs.declared.cube.Merged.{Merged}

@@ -24,7 +24,7 @@ use Rattle.dft_netlist.specs.Sound.{IsCellOf, is_primitive}
 use Rattle.dft_netlist.specs.Traces.{Root, Port, Constant, Other, root_of}
 use Rattle.dft_netlist.specs.Logic.{Ports, Force, Scan, Cell, same_role, pin_of, or_loose, domain_at, force_of, forcing, scan_of, modelled, modelled_of, flip_flop}
 use Rattle.dft_netlist.specs.Logic as logic
-use Rattle.dft_config.specs.declared.config.Config.{Config}
+use Rattle.dft_config.specs.Config.{Config}
 use Rattle.dft_config.specs.Range.{IsInRange}
 use Rattle.dft_netlist.specs.Connections.{input_net}
 use Rattle.dft_rules.specs.Rules.{is_net, place_of_root, place_of_source, domain_of, is_held, are_held, are_held_at, scan_cell_of, is_kept, may_be_scanned, judged_by}

@@ -15,7 +15,7 @@ use Rattle.dft_netlist.specs.Settled.{IsTriSettled}
 use Rattle.dft_netlist.specs.Runs.{Vector}
 use Rattle.dft_abstract.specs.Cycle.{strobe_sources}
 use Rattle.dft_abstract.specs.Laws.{next_from}
-use Rattle.dft_config.specs.declared.config.Config.{Config}
+use Rattle.dft_config.specs.Config.{Config}
 use Rattle.dft_rules.specs.Rules.{is_net}
 pub use Rattle.dft_rules.specs.ConfigPorts.{config_ports}
 use Rattle.dft_cubes.specs.declared.cube.Merged.{Merged}

@@ -9,7 +9,7 @@ use Rattle.dft_netlist.specs.Netlist.{Netlist}
 use Rattle.dft_netlist.specs.Drivers.{Source, nets_of, AreBelow, IsOrdered}
 use Rattle.dft_netlist.specs.Logic.{Logic, Free, IsRanked}
 use Rattle.dft_netlist.specs.Settled.{TriSources, IsTriSettled}
-use Rattle.dft_config.specs.declared.config.Config.{Config}
+use Rattle.dft_config.specs.Config.{Config}
 use Rattle.dft_cubes.specs.declared.cube.Merged.{Merged}
 use Rattle.dft_expect.specs.declared.response.Response.{Response}
 use Rattle.dft_expect.specs.Captures.{IsCapture}

@@ -5,7 +5,7 @@ use Rattle.dft_base.specs.declared.tri.Tri.{Tri}
 use Rattle.dft_base.specs.declared.tri.Tri.TheVariants.{Zero, One, Unknown}
 use Rattle.dft_base.specs.Solutions.{bit_at}
 use Rattle.dft_netlist.specs.declared.ids.InstanceId.{InstanceId}
-use Rattle.dft_config.specs.declared.config.Config.{Config}
+use Rattle.dft_config.specs.Config.{Config}
 use Rattle.dft_config.specs.Range.{has, same_number}
 use Rattle.dft_stitch.specs.Chains.{blocks}
 

@@ -1,7 +1,6 @@
 //! What patterns capture, up to 512 at a time.
 
 ghost use Rattle.std.specs.Prelude.{◌≡◌, ◌≤◌, ◌<◌, ◌^◌, None, length, IfOk};
-ghost use Rattle.dft_config.specs.Range.{IsInRange};
 ghost use Rattle.dft_rules.specs.Refusals.{refusal};
 ghost use Rattle.dft_stitch.specs.Chains.{plan_of};
 ghost use Rattle.dft_expect.specs.Capturing.{AreCaptures, Captures, IsPrepared};
@@ -53,12 +52,12 @@ impl<'a> Capturer<'a> {
         config: &'a Config,
         chains: &Chains,
     ) -> Result<Capturer<'a>, AllocError>
-        requires config { IsInRange config.now }
         requires passed { refusal design.now config.now ≡ None }
         requires chains { chains.now ≡ plan_of design.now config.now }
         ensures { IfOk result (λ c. c ≡ record { design = design.entry.now; config = config.entry.now }) }
     {
         design.soundness();
+        config.soundness();
         let evaluator = Evaluator::prepare(alloc, design)?;
         let reads = reads(alloc, design, chains)?;
         let outputs = outputs(alloc, design)?;
@@ -123,8 +122,8 @@ fn all_settings(
     requires small { length (all_cells chains.now.chains) < 2 ^ 64 }
     ensures { IfOk result (λ settings. IsPrepared design.now config.now settings.items) }
 {
-    let clocks = flags(alloc, design, config.domains.as_slice())?;
-    let resets = flags(alloc, design, config.resets.as_slice())?;
+    let clocks = flags(alloc, design, config.domains())?;
+    let resets = flags(alloc, design, config.resets())?;
     let starts = starts(alloc, chains)?;
     let found = Finding {
         design,

@@ -63,17 +63,12 @@ pub fn loaded(
     requires bits { chains.now.cycles * config.now.ring.channels ≤ 64 * length bits.now }
     ensures { IfOk result (λ loaded. loaded.items ≡ loaded_of config.now.ring (table_of config.now.ring (packed_bit bits.now)) chains.now.cycles chains.now.chains) }
 {
-    let states = ring::states(alloc, &config.ring, bits, chains.cycles())?;
+    let ring = config.ring();
+    let states = ring::states(alloc, ring, bits, chains.cycles())?;
     let mut loaded = Vec::new(alloc);
     for chain in 0..chains.count() {
         let cells = chains.chain(chain).len();
-        add_chain(
-            &mut loaded,
-            &config.ring,
-            &states,
-            usize::from(chain),
-            cells,
-        )?;
+        add_chain(&mut loaded, ring, &states, usize::from(chain), cells)?;
     }
     Ok(loaded)
 }

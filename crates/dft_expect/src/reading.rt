@@ -115,7 +115,7 @@ fn values(
 fn clock_of(design: &Design, config: &Config, domain: u8) -> Option<NetId>
     ensures { result ≡ capture_clock design.now config.now domain }
 {
-    match config.domains.as_slice().get(usize::from(domain)) {
+    match config.domains().get(usize::from(domain)) {
         Some(name) => design.input(name.as_slice()),
         None => None,
     }

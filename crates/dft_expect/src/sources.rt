@@ -5,7 +5,7 @@ ghost use Rattle.dft_netlist.specs.Netlist.{Netlist};
 ghost use Rattle.dft_evaluator.specs.Wides.{IsWide, value_in};
 ghost use Rattle.dft_evaluator.specs.Evaluations.{IsFor, value_at};
 ghost use Rattle.dft_expect.specs.declared.pattern.Pattern.{Pattern as PatternOf};
-ghost use Rattle.dft_config.specs.declared.config.Config.{Config};
+ghost use Rattle.dft_config.specs.Config.{Config};
 ghost use Rattle.dft_expect.specs.Captures.{bit_of_port};
 ghost use Rattle.dft_expect.specs.Capturing.{CanCapture, IsPrepared, Settles};
 ghost use Rattle.dft_expect.specs.Loaded as spec;

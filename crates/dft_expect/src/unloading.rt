@@ -156,16 +156,17 @@ pub fn expected(
     ensures { IfOk result (λ expected. expected.items ≡ expected_of config.now.ring config.now.compactor.groups (table_of config.now.ring (packed_bit next.now)) masks.now (by_chain chains.now.chains response.now.cells) chains.now.cycles) }
 {
     let values = response.cells.as_slice();
-    let states = states(alloc, &config.ring, next, chains.cycles())?;
+    let ring = config.ring();
+    let states = states(alloc, ring, next, chains.cycles())?;
     let starts = starts(alloc, chains)?;
     let unload = Unload {
-        ring: &config.ring,
+        ring,
         chains,
         values,
         starts: &starts,
         states: &states,
     };
-    let groups = config.compactor.groups.as_slice();
+    let groups = config.compactor().groups.as_slice();
     let mut expected = Vec::new(alloc);
     for cycle in 0..states.len() {
         add_cycle(&mut expected, &unload, masks, groups, cycle)?;

@@ -2,7 +2,7 @@
 -- over the stages c, c + 5 and c + 11, by 16; one output sums the even chains, another the odd ones.
 use Rattle.std.specs.Prelude.{◌++◌, ◌∷◌, [], codes}
 use Rattle.dft_base.specs.Lexing.{Text}
-use Rattle.dft_config.specs.declared.config.Config.{Config}
+use Rattle.dft_config.specs.Config.{Config}
 use Rattle.dft_config.specs.declared.config.FillRule.TheVariants.{Zeros}
 use Rattle.dft_config.specs.Refusals.{IsConfig}
 

@@ -14,7 +14,7 @@ use Rattle.dft_netlist.specs.declared.instance.CellRef.TheVariants.{Library}
 use Rattle.dft_netlist.specs.Drivers.{shape_of}
 use Rattle.dft_netlist.specs.Logic.{same_role}
 use Rattle.dft_netlist.specs.Netlist.{Netlist}
-use Rattle.dft_config.specs.declared.config.Config.{Config}
+use Rattle.dft_config.specs.Config.{Config}
 use Rattle.dft_config.specs.declared.config.RingConfig.{RingConfig}
 use Rattle.dft_stitch.specs.declared.places.LockupPlace.{LockupPlace}
 use Rattle.dft_stitch.specs.Plans.{Plan}

@@ -1,7 +1,6 @@
 //! The insertion of scan chains.
 
 ghost use Rattle.std.specs.Prelude.{◌≡◌, None, IfErr, IfOk};
-ghost use Rattle.dft_config.specs.Range.{IsInRange};
 ghost use Rattle.dft_rules.specs.Refusals as rules;
 ghost use Rattle.dft_stitch.specs.Chains.{plan_of};
 ghost use Rattle.dft_scan_frame.specs.Refusals.{IsRefusal};
@@ -27,7 +26,6 @@ pub fn insert(
     chains: &Chains,
     style: Style,
 ) -> Result<Scanned, InsertError>
-    requires range { IsInRange config.now }
     requires passed { rules.refusal design.now config.now ≡ None }
     requires planned { chains.now ≡ plan_of design.now config.now }
     ensures design { IfOk result (λ s. s.design ≡ scanned_netlist style design.now config.now chains.now) }
@@ -43,11 +41,11 @@ pub fn insert(
 
 // A design that passes is sound, has an order, and has no net with two drivers.
 fn see_ready(design: &Design, config: &Config)
-    requires range { IsInRange config.now }
     requires passed { rules.refusal design.now config.now ≡ None }
     ensures { IsReady design.now config.now }
 {
     design.soundness();
+    config.soundness();
 }
 
 // The design of a netlist that has an order and no net with two drivers.

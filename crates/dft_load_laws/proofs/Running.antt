@@ -14,7 +14,7 @@ use Rattle.dft_netlist.specs.Logic.{Ports}
 use Rattle.dft_netlist.specs.Netlist.{Netlist}
 use Rattle.dft_netlist.specs.Runs.{Now, Vector, Turn, IsRun}
 use Rattle.dft_netlist.specs.Sound.{bits_of}
-use Rattle.dft_config.specs.declared.config.Config.{Config}
+use Rattle.dft_config.specs.Config.{Config}
 use Rattle.dft_config.specs.Ring.{Table}
 use Rattle.dft_rules.specs.Rules.{is_net}
 use Rattle.dft_runs.specs.Choices.{PulseBelow}

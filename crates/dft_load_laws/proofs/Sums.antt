@@ -9,7 +9,7 @@ use Rattle.dft_scan_behavior.proofs.Outputs.{HasChain, chain_by}
 use Rattle.dft_base.specs.Solutions.{bit_at, sum_over}
 use Rattle.dft_base.proofs.SumLemmas.{sum_same}
 use Rattle.dft_netlist.specs.declared.ids.InstanceId.{InstanceId}
-use Rattle.dft_config.specs.declared.config.Config.{Config}
+use Rattle.dft_config.specs.Config.{Config}
 use Rattle.dft_config.specs.declared.config.RingConfig.{RingConfig}
 use Rattle.dft_config.specs.Range.{IsInRange}
 use Rattle.dft_config.specs.Ring.{phase_sum, state_after}

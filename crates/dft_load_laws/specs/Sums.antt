@@ -2,7 +2,7 @@
 use Rattle.std.specs.Prelude.{ℕ, ◌<◌, ◌≡◌, Bool, List, [], length, map, unwrap_or, Some}
 use Rattle.dft_base.specs.Solutions.{sum_over}
 use Rattle.dft_netlist.specs.declared.ids.InstanceId.{InstanceId}
-use Rattle.dft_config.specs.declared.config.Config.{Config}
+use Rattle.dft_config.specs.Config.{Config}
 use Rattle.dft_config.specs.Range.{IsInRange}
 use Rattle.dft_config.specs.Ring.{phase_sum, state_after}
 use Rattle.dft_config.specs.Loads.{moment_of_place}

@@ -1,7 +1,7 @@
 -- What placement leaves in patterns: all that a cube gave, and nothing that no cube gave.
 use Rattle.std.specs.Prelude.{ℕ, Bool, ◌≡◌, ◌<◌, List, [], length, None, Some, slice_get}
 use Rattle.dft_netlist.specs.Netlist.{Netlist}
-use Rattle.dft_config.specs.declared.config.Config.{Config}
+use Rattle.dft_config.specs.Config.{Config}
 use Rattle.dft_cubes.specs.declared.cube.Cube.{Cube}
 use Rattle.dft_cubes.specs.declared.cube.Merged.{Merged}
 use Rattle.dft_cubes.specs.Laws.{AreCells, AreCubes, ArePorts}

@@ -22,7 +22,7 @@ pub fn fill_bits(
 ) -> Result<Vec<bool>, AllocError>
     ensures { IfOk result (λ bits. bits.items ≡ fill_of config.now.fill pattern columns) }
 {
-    match config.fill {
+    match config.fill() {
         FillRule::Zeros => vec![in alloc; false; columns as usize],
         FillRule::Ones => vec![in alloc; true; columns as usize],
         FillRule::Seed(seed) => seeded(alloc, seed, pattern, columns),

@@ -1,6 +1,5 @@
 ghost use Rattle.std.specs.Prelude.{◌≡◌, ◌≤◌, ◌<◌, ◌^◌, ℕ, [], None, Some, length, map, IfOk, MatchOption, OnErr, slice_get};
 ghost use Rattle.dft_base.specs.Solutions.{bit_at, IsChosen};
-ghost use Rattle.dft_config.specs.Range.{IsInRange};
 ghost use Rattle.dft_equations.specs.LoadRows.{AreLoadEquations};
 ghost use Rattle.dft_gf2.specs.Like.{AnswersLike};
 ghost use Rattle.dft_lanes.specs.Rows.{bits_of, IsPacked};
@@ -59,11 +58,11 @@ impl<'a> Merger<'a> {
         chains: &'a Chains,
         equations: &'a Equations,
     ) -> Result<Merger<'a>, AllocError>
-        requires config { IsInRange config.now }
         requires equations { AreLoadEquations config.now.ring (map length chains.now.chains) chains.now.cycles equations.now }
         requires apart { StandApart chains.now.chains }
         ensures { IfOk result (λ merger. merger ≡ record { chains = chains.entry.now.chains; rows = equations.entry.now; window = config.now.window; patterns = [] }) }
     {
+        config.soundness();
         let alone = System::new(alloc, equations.columns())?;
         let start = alone.mark();
         Ok(Merger {
@@ -72,7 +71,7 @@ impl<'a> Merger<'a> {
                 chains,
                 equations,
             },
-            window: config.window as usize,
+            window: config.window() as usize,
             patterns: Vec::new(alloc),
             slots: Vec::new(alloc),
             alone,

@@ -28,7 +28,7 @@ use Rattle.dft_netlist.specs.Traces.{Root, Port, Constant, Other, root_of}
 use Rattle.dft_netlist.proofs.LiveDriven.{AreBefore, before_front, before_back}
 use Rattle.dft_abstract.specs.Cycle.{Round, IsRound, after_round, pulse_of, strobe_sources, tri_forced_by}
 use Rattle.dft_abstract.specs.Laws.{next_from}
-use Rattle.dft_config.specs.declared.config.Config.{Config}
+use Rattle.dft_config.specs.Config.{Config}
 use Rattle.dft_config.specs.Cycles.{longest_segment}
 use Rattle.dft_config.proofs.Linearity.{loads_sum}
 use Rattle.dft_rules.specs.Rules.{is_net}

@@ -6,7 +6,7 @@ use Rattle.dft_base.specs.Lexing.{Text}
 use Rattle.dft_base.proofs.BitLemmas.{true_false}
 use Rattle.dft_netlist.specs.Connections.{input_net}
 use Rattle.dft_netlist.specs.Netlist.{Netlist}
-use Rattle.dft_config.specs.declared.config.Config.{Config}
+use Rattle.dft_config.specs.Config.{Config}
 use Rattle.dft_rules.specs.Rules.{is_net}
 pub use Rattle.dft_rules.proofs.NamedPorts.{named_input, reset_rests}
 use Rattle.dft_expect.specs.Captures.{capture_clock}

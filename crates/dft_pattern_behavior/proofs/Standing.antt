@@ -24,7 +24,7 @@ use Rattle.dft_netlist.specs.Sound.{IsNetlist, bit_names_of, bits_of}
 use Rattle.dft_netlist.proofs.LiveLemmas.{length-bits}
 use Rattle.dft_netlist.proofs.Ranks.{order_is_rank}
 use Rattle.dft_abstract.specs.Cycle.{after_pulse, pulse_of}
-use Rattle.dft_config.specs.declared.config.Config.{Config}
+use Rattle.dft_config.specs.Config.{Config}
 use Rattle.dft_rules.specs.Rules.{is_net}
 use Rattle.dft_stitch.specs.Chains.{plan_of}
 use Rattle.dft_chains.specs.ScanOff.{Places}

@@ -5,7 +5,7 @@ use Rattle.dft_netlist.specs.Logic.{Ports}
 use Rattle.dft_netlist.specs.Netlist.{Netlist}
 use Rattle.dft_netlist.specs.Runs.{Vector}
 use Rattle.dft_abstract.specs.Cycle.{Round}
-use Rattle.dft_config.specs.declared.config.Config.{Config}
+use Rattle.dft_config.specs.Config.{Config}
 use Rattle.dft_runs.specs.Passes.{AreRounds}
 use Rattle.dft_stitch.specs.Chains.{plan_of}
 use Rattle.dft_scan_frame.specs.Statements.{IsReady}

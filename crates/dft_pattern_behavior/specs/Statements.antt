@@ -12,7 +12,7 @@ use Rattle.dft_netlist.specs.Logic.{Logic, flip_flop}
 use Rattle.dft_netlist.specs.Settled.{IsTriSettled}
 use Rattle.dft_netlist.specs.Runs.{Vector}
 use Rattle.dft_abstract.specs.Cycle.{AreViews, after_pulse, pulse_of, strobe_sources}
-use Rattle.dft_config.specs.declared.config.Config.{Config}
+use Rattle.dft_config.specs.Config.{Config}
 use Rattle.dft_stitch.specs.Chains.{plan_of}
 use Rattle.dft_chains.specs.ScanOff.{Places}
 use Rattle.dft_edt.specs.Captures.{Covers, IsCapture as IsCaptureOf}

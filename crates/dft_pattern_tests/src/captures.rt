@@ -1,7 +1,6 @@
 //! What patterns capture, which chains are masked and what the outputs show, worked by hand.
 
 ghost use Rattle.std.specs.Prelude.{ℕ, ◌≡◌, ◌<◌, ◌≤◌, ◌*◌, true, None, Some, length, slice_get, IfOk};
-ghost use Rattle.dft_config.specs.Range.{IsInRange};
 ghost use Rattle.dft_rules.specs.Refusals.{refusal};
 ghost use Rattle.dft_stitch.specs.Chains.{plan_of};
 ghost use Rattle.dft_expect.specs.Loaded.{all_cells};
@@ -163,15 +162,15 @@ pub(crate) fn all_merged(alloc: Global, cubes: &[Cube]) -> Result<Vec<Merged>, A
 fn is_row(config: &Config, chains: &Chains, row: &[u64]) -> bool
     ensures { result ≡ true → chains.now.cycles * config.now.ring.channels ≤ 64 * length row.now }
 {
-    row.len() == 256 && u32::from(chains.cycles()) * u32::from(config.ring.channels) <= 16_384
+    row.len() == 256 && u32::from(chains.cycles()) * u32::from(config.ring().channels) <= 16_384
 }
 
 // The bits that a row brings to the cells.
 fn load_of(alloc: Global, job: &Job<'_>, row: &[u64]) -> Result<Vec<bool>, AllocError>
-    requires range { IsInRange job.now.config.now }
     requires passed { refusal job.now.design.now job.now.config.now ≡ None }
     requires chains { job.now.chains.now ≡ plan_of job.now.design.now job.now.config.now }
 {
+    job.config.soundness();
     if is_row(job.config, job.chains, row) {
         loaded(alloc, job.config, job.chains, row)
     } else {
@@ -187,11 +186,7 @@ fn is_listed(chains: &[u16], chain: u16) -> bool {
 fn always_masked(alloc: Global, config: &Config, chains: u16) -> Result<Vec<bool>, AllocError> {
     let mut always = Vec::with_capacity(alloc, usize::from(chains))?;
     for chain in 0..chains {
-        let masked = config
-            .always_masked
-            .as_slice()
-            .iter()
-            .any(|masked| *masked == chain);
+        let masked = config.always_masked().iter().any(|masked| *masked == chain);
         always.push(masked)?;
     }
     Ok(always)
@@ -205,11 +200,11 @@ fn push_unload(
     response: &Response,
     next: &[u64],
 ) -> Result<(), AllocError>
-    requires range { IsInRange job.now.config.now }
     requires passed { refusal job.now.design.now job.now.config.now ≡ None }
     requires chains { job.now.chains.now ≡ plan_of job.now.design.now job.now.config.now }
     requires cells { length response.now.cells ≡ length (all_cells job.now.chains.now.chains) }
 {
+    job.config.soundness();
     if !is_row(job.config, job.chains, next) {
         return line.push('?');
     }
@@ -239,7 +234,6 @@ fn responses_of(
     job: &Job<'_>,
     patterns: &[Pattern<'_>],
 ) -> Result<Vec<Response>, AllocError>
-    requires range { IsInRange job.now.config.now }
     requires passed { refusal job.now.design.now job.now.config.now ≡ None }
     requires chains { job.now.chains.now ≡ plan_of job.now.design.now job.now.config.now }
     ensures { IfOk result (λ found. (place : ℕ) (r : Response) → slice_get found.items place ≡ Some r → length r.cells ≡ length (all_cells job.now.chains.now.chains)) }
@@ -253,7 +247,6 @@ fn responses_of(
 
 // What becomes of the patterns of the cubes, loaded by these rows.
 fn captured(alloc: Global, job: &Job<'_>, rows: &[Vec<u64>]) -> Result<String, AllocError>
-    requires range { IsInRange job.now.config.now }
     requires passed { refusal job.now.design.now job.now.config.now ≡ None }
     requires chains { job.now.chains.now ≡ plan_of job.now.design.now job.now.config.now }
 {
@@ -283,7 +276,6 @@ fn captured(alloc: Global, job: &Job<'_>, rows: &[Vec<u64>]) -> Result<String, A
 
 // What the cubes capture as patterns, loaded by these rows of channel bits.
 pub(crate) fn line(alloc: Global, job: &Job<'_>, rows: &str) -> Result<String, AllocError>
-    requires range { IsInRange job.now.config.now }
     requires passed { refusal job.now.design.now job.now.config.now ≡ None }
     requires chains { job.now.chains.now ≡ plan_of job.now.design.now job.now.config.now }
 {

@@ -1,7 +1,6 @@
 //! The captures of a whole group of patterns and a further one, and those of the same patterns one by one.
 
 ghost use Rattle.std.specs.Prelude.{◌≡◌, None};
-ghost use Rattle.dft_config.specs.Range.{IsInRange};
 ghost use Rattle.dft_rules.specs.Refusals.{refusal};
 ghost use Rattle.dft_stitch.specs.Chains.{plan_of};
 
@@ -116,7 +115,6 @@ fn compared(
 
 // Whether the cubes, by turns and with random loads, capture the same in groups and one by one.
 pub(crate) fn line(alloc: Global, job: &Job<'_>) -> Result<String, AllocError>
-    requires range { IsInRange job.now.config.now }
     requires passed { refusal job.now.design.now job.now.config.now ≡ None }
     requires chains { job.now.chains.now ≡ plan_of job.now.design.now job.now.config.now }
 {

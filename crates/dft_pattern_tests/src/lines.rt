@@ -1,7 +1,6 @@
 //! What is told of a netlist, a configuration and cubes, as one line.
 
 ghost use Rattle.std.specs.Prelude.{◌≡◌, ◌≤◌, None, length};
-ghost use Rattle.dft_config.specs.Range.{IsInRange};
 ghost use Rattle.dft_rules.specs.Refusals.{refusal};
 ghost use Rattle.dft_rules.specs.Rules.{judgements};
 ghost use Rattle.dft_stitch.specs.Chains.{plan_of};
@@ -85,7 +84,6 @@ fn with_cubes(
     texts: &Texts<'_>,
     told: Told<'_>,
 ) -> Result<String, AllocError>
-    requires range { IsInRange config.now }
     requires cubes { length texts.now.cubes.now ≤ 4096 }
 {
     match read_cubes(alloc, texts.cubes.as_bytes(), design, config) {
@@ -100,9 +98,7 @@ fn judged(
     config: &Config,
     cubes: &[Cube],
     told: Told<'_>,
-) -> Result<String, AllocError>
-    requires { IsInRange config.now }
-{
+) -> Result<String, AllocError> {
     match judge(alloc, design, config) {
         Ok(verdicts) => planned(alloc, design, config, cubes, &verdicts, told),
         Err(_) => String::from_str(alloc, "not judged"),
@@ -117,7 +113,6 @@ fn planned(
     verdicts: &Verdicts,
     told: Told<'_>,
 ) -> Result<String, AllocError>
-    requires range { IsInRange config.now }
     requires passed { refusal design.now config.now ≡ None }
     requires verdicts { verdicts.now ≡ judgements design.now config.now }
 {
@@ -137,7 +132,6 @@ fn planned(
 }
 
 fn line_of(alloc: Global, job: &Job<'_>, told: Told<'_>) -> Result<String, AllocError>
-    requires range { IsInRange job.now.config.now }
     requires passed { refusal job.now.design.now job.now.config.now ≡ None }
     requires chains { job.now.chains.now ≡ plan_of job.now.design.now job.now.config.now }
 {

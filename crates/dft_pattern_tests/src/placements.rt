@@ -2,7 +2,6 @@
 
 ghost use Rattle.std.specs.Prelude.{◌≡◌, ◌<◌, length, map, IfOk, IfSome, OnOk, nat_le};
 ghost use Rattle.std.specs.List.{list_all};
-ghost use Rattle.dft_config.specs.Range.{IsInRange};
 ghost use Rattle.dft_equations.specs.LoadRows.{AreLoadEquations};
 ghost use Rattle.dft_stitch.specs.Chains.{plan_of};
 ghost use Rattle.dft_merge.specs.Merging.{columns_in};
@@ -253,7 +252,6 @@ fn merged(
     equations: &Equations,
     cubes: &[Cube],
 ) -> Result<String, AllocError>
-    requires config { IsInRange config.now }
     requires equations { AreLoadEquations config.now.ring (map length chains.now.chains) chains.now.cycles equations.now }
     requires apart { StandApart chains.now.chains }
 {
@@ -272,14 +270,13 @@ fn loaded(
     lengths: &[u16],
     cubes: &[Cube],
 ) -> Result<String, AllocError>
-    requires config { IsInRange config.now }
     requires lengths { map length chains.now.chains ≡ lengths.now }
     requires apart { StandApart chains.now.chains }
 {
     let cycles = chains.cycles();
-    if lengths.len() != usize::from(config.chains)
+    if lengths.len() != usize::from(config.chains())
         || !are_at_most(lengths, cycles)
-        || u32::from(cycles) * u32::from(config.ring.channels) > 16_384
+        || u32::from(cycles) * u32::from(config.ring().channels) > 16_384
     {
         return String::from_str(alloc, "not loaded");
     }
@@ -289,9 +286,9 @@ fn loaded(
 
 // What becomes of the cubes of a job.
 pub(crate) fn line(alloc: Global, job: &Job<'_>) -> Result<String, AllocError>
-    requires range { IsInRange job.now.config.now }
     requires chains { job.now.chains.now ≡ plan_of job.now.design.now job.now.config.now }
 {
+    job.config.soundness();
     plans_stand_apart();
     match lengths_of(alloc, job.chains, job.chains.cycles())? {
         Some(lengths) => loaded(alloc, job.config, job.chains, &lengths, job.cubes),

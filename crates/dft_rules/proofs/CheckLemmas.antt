@@ -7,7 +7,7 @@ use Rattle.dft_netlist.specs.declared.instance.Instance.{Instance}
 use Rattle.dft_rules.specs.declared.error.RuleError.{RuleError}
 use Rattle.dft_rules.specs.declared.error.RuleError.TheVariants.{ClockAsData, ScanCellPresent, TooFewCells, UnknownName, LockupPresent, PortName, Memory}
 use Rattle.dft_netlist.specs.Netlist.{Netlist}
-use Rattle.dft_config.specs.declared.config.Config.{Config}
+use Rattle.dft_config.specs.Config.{Config}
 use Rattle.dft_rules.specs.Refusals.{first_failing, first_present, present, clock_as_data, quoted_port, too_few, unknown_cell, unknown_port, refusal, IsRefusal}
 use Rattle.dft_rules.specs.Rules.{judgements}
 

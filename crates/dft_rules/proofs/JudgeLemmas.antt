@@ -17,7 +17,7 @@ use Rattle.dft_netlist.specs.Drivers.{Source, Net, Connection, connections_of, s
 use Rattle.dft_netlist.specs.Logic.{same_role, pin_of}
 use Rattle.dft_netlist.specs.Roots.{shown_root}
 use Rattle.dft_netlist.specs.Traces.{root_of}
-use Rattle.dft_config.specs.declared.config.Config.{Config}
+use Rattle.dft_config.specs.Config.{Config}
 use Rattle.dft_rules.proofs.FindLemmas.{find_same}
 use Rattle.dft_rules.proofs.RootLemmas.{shown_in}
 use Rattle.dft_rules.specs.declared.findings.Findings.{Findings}

@@ -14,7 +14,7 @@ use Rattle.dft_netlist.specs.Connections.{is_input, input_net}
 use Rattle.dft_netlist.specs.Drivers.{driver}
 use Rattle.dft_netlist.specs.Names.{find_net, find_net_from}
 use Rattle.dft_netlist.specs.Netlist.{Netlist}
-use Rattle.dft_config.specs.declared.config.Config.{Config}
+use Rattle.dft_config.specs.Config.{Config}
 use Rattle.dft_config.specs.Range.{IsInRange, has}
 use Rattle.dft_rules.specs.Rules.{is_net}
 use Rattle.dft_rules.specs.ConfigPorts.{config_ports}

@@ -11,7 +11,7 @@ use Rattle.dft_netlist.specs.Drivers.{driver}
 use Rattle.dft_netlist.specs.Names.{find_net}
 use Rattle.dft_netlist.specs.Netlist.{Netlist}
 use Rattle.dft_netlist.specs.Sound.{IsNetlist}
-use Rattle.dft_config.specs.declared.config.Config.{Config}
+use Rattle.dft_config.specs.Config.{Config}
 use Rattle.dft_rules.specs.declared.error.RuleError.TheVariants.{UnknownName}
 use Rattle.dft_rules.specs.Refusals.{refusal, unknown_port}
 use Rattle.dft_rules.proofs.CheckLemmas.{from_resets, none_first}

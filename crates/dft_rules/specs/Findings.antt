@@ -10,7 +10,7 @@ use Rattle.dft_netlist.specs.declared.limits.TheConstants.{MAX_INSTANCES}
 use Rattle.dft_netlist.specs.declared.root.Root.{Root}
 use Rattle.dft_netlist.specs.declared.root.Root.TheVariants.{Port, Constant, Other}
 use Rattle.dft_netlist.specs.Netlist.{Netlist}
-use Rattle.dft_config.specs.declared.config.Config.{Config}
+use Rattle.dft_config.specs.Config.{Config}
 use Rattle.dft_rules.specs.declared.findings.Findings.{Findings}
 use Rattle.dft_rules.specs.Refusals.{is_data_of}
 use Rattle.dft_netlist.specs.Connections.{input_net}

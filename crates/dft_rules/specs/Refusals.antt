@@ -13,7 +13,7 @@ use Rattle.dft_netlist.specs.declared.instance.Signal.TheVariants as signal
 use Rattle.dft_netlist.specs.declared.port.Port.{Port}
 use Rattle.dft_netlist.specs.Netlist.{Netlist}
 use Rattle.dft_netlist.specs.Drivers.{Connection, Net, connections_of, shape_of}
-use Rattle.dft_config.specs.declared.config.Config.{Config}
+use Rattle.dft_config.specs.Config.{Config}
 use Rattle.dft_rules.specs.declared.error.RuleError.{RuleError}
 use Rattle.dft_rules.specs.declared.error.RuleError.TheVariants.{ClockAsData, ScanCellPresent, TooFewCells, UnknownName, LockupPresent, PortName, Memory}
 use Rattle.dft_rules.specs.declared.judged.Judged.{Judged}

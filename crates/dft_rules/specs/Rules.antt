@@ -17,7 +17,7 @@ use Rattle.dft_netlist.specs.Logic.{pin_of}
 use Rattle.dft_netlist.specs.Connections.{input_net}
 use Rattle.dft_netlist.specs.Names.{find_instance}
 use Rattle.dft_netlist.specs.Traces.{Root, Port, Constant, Other, root_of}
-use Rattle.dft_config.specs.declared.config.Config.{Config}
+use Rattle.dft_config.specs.Config.{Config}
 use Rattle.dft_base.specs.declared.rule.Rule.{Rule}
 use Rattle.dft_base.specs.declared.rule.Rule.TheVariants.{S1, S2, S3, S4}
 use Rattle.dft_rules.specs.declared.judged.Judged.{Judged}

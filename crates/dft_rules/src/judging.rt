@@ -1,8 +1,7 @@
 //! The judgement of a design by the scan rules.
 
 ghost use Rattle.std.specs.Prelude.{◌≡◌, ◌<◌, ◌≤◌, None, Some, IfOk, IfErr, length};
-ghost use Rattle.dft_config.specs.Range.{IsInRange};
-ghost use Rattle.dft_config.specs.declared.config.Config.{Config};
+ghost use Rattle.dft_config.specs.Config.{Config};
 ghost use Rattle.dft_rules.specs.Findings.{AreFindings, IsFor};
 ghost use Rattle.dft_rules.specs.Refusals.{IsLeftToCount, IsRefusal, refusal};
 ghost use Rattle.dft_rules.specs.Rules.{judged, judged_by, judgements};
@@ -26,28 +25,27 @@ use std::alloc::{AllocError, Global};
 /// scan cell or a lock-up is there already, by the order of instances; a configured clock is used as data; a port's
 /// name has a double quote; there are fewer scanned cells than chains.
 pub fn judge(alloc: Global, design: &Design, config: &Config) -> Result<Verdicts, RuleError>
-    requires { IsInRange config.now }
     ensures judged { IfOk result (λ verdicts. verdicts ≡ judgements design.now config.now) }
     ensures accepted { IfOk result (λ verdicts. refusal design.now config.now ≡ None) }
     ensures refused { IfErr result (IsRefusal (refusal design.now config.now)) }
 {
     let found = look_up(alloc, design, config)?;
     let verdicts = judge_each(alloc, design, &found)?;
-    check_count(&verdicts, config.chains)?;
+    check_count(&verdicts, config.chains())?;
     Ok(Verdicts { verdicts })
 }
 
 // Looks up what the rules ask, where no check before the count of the scanned cells fails.
 fn look_up(alloc: Global, design: &Design, config: &Config) -> Result<Findings, RuleError>
-    requires { IsInRange config.now }
     ensures found { IfOk result (AreFindings design.now config.now) }
     ensures fits { IfOk result (IsFor design.now) }
     ensures passed { IfOk result (λ found. IsLeftToCount design.now config.now) }
     ensures refused { IfErr result (IsRefusal (refusal design.now config.now)) }
 {
-    let domains = input_nets(alloc, design, config.domains.as_slice())?;
-    let resets = input_nets(alloc, design, config.resets.as_slice())?;
-    let kept = kept_cells(alloc, design, config.keep.as_slice())?;
+    config.soundness();
+    let domains = input_nets(alloc, design, config.domains())?;
+    let resets = input_nets(alloc, design, config.resets())?;
+    let kept = kept_cells(alloc, design, config.keep())?;
     check_absent(alloc, design.library().cells(), design.instances())?;
     let roots = find_roots(alloc, design)?;
     check_clocks(alloc, design, &domains, &roots)?;

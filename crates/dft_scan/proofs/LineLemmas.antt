@@ -15,7 +15,7 @@ use Rattle.dft_netlist.specs.Names.{instance_name}
 use Rattle.dft_netlist.specs.Drivers.{kind_at, kind_of, shape_of}
 use Rattle.dft_netlist.specs.Sound.{IsCellOf, IsNetlist, is_primitive}
 use Rattle.dft_netlist.proofs.LiveLemmas.{le_or_lt}
-use Rattle.dft_config.specs.declared.config.Config.{Config}
+use Rattle.dft_config.specs.Config.{Config}
 use Rattle.dft_rules.specs.declared.judged.Judged.{Judged}
 use Rattle.dft_rules.specs.declared.judged.Judged.TheVariants.{Scanned, Unscanned}
 use Rattle.dft_base.specs.declared.rule.Rule.{Rule}

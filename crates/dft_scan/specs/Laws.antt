@@ -1,7 +1,7 @@
 -- Laws of the report.
 use Rattle.std.specs.Prelude.{ℕ, Option, None, Some, IsSome}
 use Rattle.dft_netlist.specs.Netlist.{Netlist}
-use Rattle.dft_config.specs.declared.config.Config.{Config}
+use Rattle.dft_config.specs.Config.{Config}
 use Rattle.dft_rules.specs.declared.judged.Judged.{Judged}
 use Rattle.dft_rules.specs.declared.judged.Judged.TheVariants.{Scanned, Unscanned}
 use Rattle.dft_rules.specs.Rules.{judged, judgements}

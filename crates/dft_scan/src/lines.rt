@@ -75,7 +75,7 @@ fn domain_name(
     ensures { IfOk result (λ name. name ≡ spec.domain_name config.now verdicts.now cell) }
 {
     match domain_of(verdicts, cell) {
-        Some(domain) => name_at(alloc, config.domains.as_slice(), domain),
+        Some(domain) => name_at(alloc, config.domains(), domain),
         None => Ok(None),
     }
 }

@@ -5,7 +5,7 @@ ghost use Rattle.dft_config.specs.Range.{IsInRange};
 ghost use Rattle.dft_scan_frame.specs.Statements.{IsReady};
 ghost use Rattle.dft_scan_hardware.specs.Statements.{scanned};
 ghost use Rattle.dft_scan_hardware.specs.declared.style.Style.TheVariants.{Plain};
-ghost use Rattle.dft_config.specs.declared.config.Config.{Config};
+ghost use Rattle.dft_config.specs.Config.{Config};
 ghost use Rattle.dft_rules.specs.Refusals as rules;
 ghost use Rattle.dft_netlist_text.specs.NetlistText.{StandsFor};
 ghost use Rattle.dft_scan.specs.Refusals.{IsRefusal, refusal};
@@ -27,7 +27,6 @@ use std::alloc::Global;
 /// and the report are written. It is refused by the first check that fails: of the scan rules, of the plan, of the
 /// insertion, and then of the length of the report. Every pin of a gate must be joined, as in a design that was read.
 pub fn scan(alloc: Global, design: &Design, config: &Config) -> Result<ScanTexts, ScanError>
-    requires range { IsInRange config.now }
     requires joined { GatesAreJoined design.now }
     ensures scan { IfOk result (IsScanOf design.now config.now) }
     ensures ready { IfOk result (λ s. IsReady design.now config.now) }
@@ -36,6 +35,7 @@ pub fn scan(alloc: Global, design: &Design, config: &Config) -> Result<ScanTexts
     ensures refused { IfErr result (IsRefusal (refusal design.now config.now)) }
 {
     ready(design);
+    config.soundness();
     let verdicts = judge(alloc, design, config)?;
     let chains = plan(alloc, design, config, &verdicts)?;
     let scanned = insert(alloc, design, config, &chains, Style::Plain)?;

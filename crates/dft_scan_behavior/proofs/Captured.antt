@@ -4,7 +4,7 @@ use Rattle.dft_netlist.specs.Logic.{Logic, Ports, Cell, IsRanked, cell_or_none, 
 use Rattle.dft_netlist.specs.Netlist.{Netlist}
 use Rattle.dft_netlist.proofs.RankLemmas.{order_ranks}
 use Rattle.dft_netlist.proofs.Ranks.{order_is_rank}
-use Rattle.dft_config.specs.declared.config.Config.{Config}
+use Rattle.dft_config.specs.Config.{Config}
 use Rattle.dft_runs.specs.WiderPorts.{Widens}
 use Rattle.dft_runs.proofs.WiderPortsLemmas.{ports_widen}
 use Rattle.dft_chains.specs.ScanOff.{Places}

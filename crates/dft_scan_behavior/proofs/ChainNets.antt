@@ -10,7 +10,7 @@ use Rattle.dft_netlist.specs.declared.ids.NetId.{NetId}
 use Rattle.dft_netlist.specs.declared.ids.InstanceId.{InstanceId}
 use Rattle.dft_netlist.specs.Logic.{same_role}
 use Rattle.dft_netlist.specs.Netlist.{Netlist}
-use Rattle.dft_config.specs.declared.config.Config.{Config}
+use Rattle.dft_config.specs.Config.{Config}
 use Rattle.dft_stitch.specs.declared.places.LockupPlace.{LockupPlace}
 use Rattle.dft_parts.specs.Recipes.{Start, Recipe, pure, ◌>>◌, behind, each, net_at, a_net, a_lockup}
 use Rattle.dft_scan_frame.specs.Moves.{Gap}

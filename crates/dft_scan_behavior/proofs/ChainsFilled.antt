@@ -10,7 +10,7 @@ use Rattle.std.proofs.lemmas.Option.{none-some, same_Some, slice_get-map}
 use Rattle.dft_base.proofs.ListLemmas.{get_range}
 use Rattle.dft_netlist.specs.declared.ids.InstanceId.{InstanceId}
 use Rattle.dft_netlist.specs.Netlist.{Netlist}
-use Rattle.dft_config.specs.declared.config.Config.{Config}
+use Rattle.dft_config.specs.Config.{Config}
 use Rattle.dft_config.specs.Cycles.{part_length}
 use Rattle.dft_rules.specs.declared.error.RuleError.{RuleError}
 use Rattle.dft_rules.specs.declared.judged.Judged.{Judged}

@@ -16,7 +16,7 @@ use Rattle.dft_netlist.specs.Drivers.{Source, pins_of}
 use Rattle.dft_netlist.specs.Traces.{Root, Port, Constant, Other, root_of}
 use Rattle.dft_netlist.specs.Logic.{Force, pin_of, domain_at, force_of, forcing}
 use Rattle.dft_netlist.specs.Logic as logic
-use Rattle.dft_config.specs.declared.config.Config.{Config}
+use Rattle.dft_config.specs.Config.{Config}
 use Rattle.dft_scan_frame.specs.ConfigPorts.{config_ports}
 use Rattle.dft_rules.specs.Rules.{is_net, place_of_root, place_of_source, domain_of, is_held, are_held}
 use Rattle.dft_chains.specs.ScanOff.{moved_force}

@@ -2,7 +2,7 @@
 use Rattle.std.proofs.Common.{ℕ, ◌≡◌, List, ◌++◌, length, map, refl, subst}
 use Rattle.std.specs.List.{range_with_len}
 use Rattle.dft_netlist.specs.Netlist.{Netlist}
-use Rattle.dft_config.specs.declared.config.Config.{Config}
+use Rattle.dft_config.specs.Config.{Config}
 use Rattle.dft_stitch.specs.Chains.{plan_of}
 use Rattle.dft_parts.specs.Growth.{HasParts}
 use Rattle.dft_parts.specs.Parts.{Part}

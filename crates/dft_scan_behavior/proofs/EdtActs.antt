@@ -9,7 +9,7 @@ use Rattle.dft_netlist.specs.Runs.{Now, Vector, Turn, IsTurn, after_turn, AreLow
 use Rattle.dft_abstract.specs.Cycle.{pulse_of}
 use Rattle.dft_abstract.specs.Laws.{bits}
 use Rattle.dft_abstract.proofs.Lifts.{known_after_turn}
-use Rattle.dft_config.specs.declared.config.Config.{Config}
+use Rattle.dft_config.specs.Config.{Config}
 use Rattle.dft_config.specs.Range.{IsInRange}
 use Rattle.dft_config.specs.Ring.{step, phase_sum, phase_of}
 use Rattle.dft_stitch.specs.Chains.{plan_of}

@@ -13,7 +13,7 @@ use Rattle.dft_netlist.specs.Netlist.{Netlist}
 use Rattle.dft_netlist.specs.Sound.{NoConstantOutput}
 use Rattle.dft_netlist.specs.Drivers.{connections_from, pins_at, shape_of}
 use Rattle.dft_netlist.specs.Logic.{Flop, same_role, pin_of, flop_meaning, meaning_of, logic_of}
-use Rattle.dft_config.specs.declared.config.Config.{Config}
+use Rattle.dft_config.specs.Config.{Config}
 use Rattle.dft_stitch.specs.Chains.{plan_of}
 use Rattle.dft_stitch.specs.Plans.{cell_at}
 use Rattle.dft_stitch.proofs.OnceLemmas.{cells_once, cells_scanned}

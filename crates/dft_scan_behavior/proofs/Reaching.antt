@@ -3,7 +3,7 @@ use Rattle.std.proofs.Common.{ℕ, sym, subst}
 use Rattle.dft_base.specs.declared.tri.Tri.{Tri}
 use Rattle.dft_netlist.specs.Logic.{Logic, Ports}
 use Rattle.dft_netlist.specs.Netlist.{Netlist}
-use Rattle.dft_config.specs.declared.config.Config.{Config}
+use Rattle.dft_config.specs.Config.{Config}
 use Rattle.dft_runs.specs.Passes.{Passes, end_of, pass_of_round, passes_of_rounds, after_rounds}
 use Rattle.dft_runs.proofs.Passing.{round_passes, rounds_pass}
 use Rattle.dft_stitch.specs.Chains.{plan_of}

@@ -11,7 +11,7 @@ use Rattle.dft_netlist.specs.declared.instance.Signal.TheVariants as signal
 use Rattle.dft_netlist.specs.Drivers.{Net}
 use Rattle.dft_netlist.specs.Logic.{Logic, Lockup, same_role, logic_of}
 use Rattle.dft_netlist.specs.Netlist.{Netlist}
-use Rattle.dft_config.specs.declared.config.Config.{Config}
+use Rattle.dft_config.specs.Config.{Config}
 use Rattle.dft_rules.specs.Rules.{judgements}
 use Rattle.dft_stitch.specs.Chains.{plan_of}
 use Rattle.dft_stitch.specs.Plans.{cell_at}

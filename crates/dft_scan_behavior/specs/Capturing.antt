@@ -9,7 +9,7 @@ use Rattle.dft_netlist.specs.Runs.{Vector}
 use Rattle.dft_netlist.specs.Settled.{IsTriSettled}
 use Rattle.dft_abstract.specs.Cycle.{AreViews, after_pulse, pulse_of, strobe_sources}
 use Rattle.dft_abstract.specs.Laws.{next_from}
-use Rattle.dft_config.specs.declared.config.Config.{Config}
+use Rattle.dft_config.specs.Config.{Config}
 use Rattle.dft_edt.specs.Captures.{StandsOver, IsCapture}
 use Rattle.dft_scan_frame.specs.ConfigPorts.{config_ports}
 use Rattle.dft_scan_frame.specs.Statements.{IsReady}

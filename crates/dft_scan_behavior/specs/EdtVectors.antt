@@ -10,7 +10,7 @@ use Rattle.dft_netlist.specs.Settled.{IsTriSettled}
 use Rattle.dft_netlist.specs.Runs.{Now, Vector, Turn, IsTurn, after_turn, AreLow}
 use Rattle.dft_abstract.specs.Cycle.{AreViews, after_pulse, pulse_of, strobe_sources}
 use Rattle.dft_abstract.specs.Laws.{shown}
-use Rattle.dft_config.specs.declared.config.Config.{Config}
+use Rattle.dft_config.specs.Config.{Config}
 use Rattle.dft_config.specs.Ring.{step, phase_sum, sum_of}
 use Rattle.dft_runs.specs.WiderPorts.{Suits}
 use Rattle.dft_stitch.specs.Chains.{plan_of}

@@ -8,7 +8,7 @@ use Rattle.dft_netlist.specs.Netlist.{Netlist}
 use Rattle.dft_netlist.specs.Runs.{Now, Vector, Turn, IsTurn, after_turn, AreTurns, IsRun}
 use Rattle.dft_abstract.specs.Cycle.{Round, IsRound, after_round}
 use Rattle.dft_abstract.specs.Laws.{shown}
-use Rattle.dft_config.specs.declared.config.Config.{Config}
+use Rattle.dft_config.specs.Config.{Config}
 use Rattle.dft_config.specs.Cycles.{longest_segment}
 use Rattle.dft_config.specs.Ring.{Table, sum_of}
 use Rattle.dft_runs.specs.Passes.{AreRounds, after_rounds, after_turns}

@@ -5,7 +5,7 @@ use Rattle.dft_netlist.specs.Logic.{Logic, logic_of}
 use Rattle.dft_netlist.specs.Netlist.{Netlist}
 use Rattle.dft_netlist.specs.Runs.{Now, Vector, Turn, IsTurn, AreTurns, IsRun}
 use Rattle.dft_abstract.specs.Laws.{shown}
-use Rattle.dft_config.specs.declared.config.Config.{Config}
+use Rattle.dft_config.specs.Config.{Config}
 use Rattle.dft_stitch.specs.Chains.{plan_of}
 use Rattle.dft_stitch.specs.Plans.{cell_at}
 use Rattle.dft_runs.specs.Passes.{after_turns}

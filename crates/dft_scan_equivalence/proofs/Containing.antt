@@ -10,7 +10,7 @@ use Rattle.dft_netlist.specs.Logic.{flip_flop, meaning_of, logic_of}
 use Rattle.dft_netlist.specs.Logic as logic
 use Rattle.dft_netlist.proofs.RankLemmas.{order_ranks}
 use Rattle.dft_netlist.proofs.Ranks.{order_is_rank}
-use Rattle.dft_config.specs.declared.config.Config.{Config}
+use Rattle.dft_config.specs.Config.{Config}
 use Rattle.dft_chains.specs.ScanOff.{moved_meaning, Contains, KeepsFlop}
 use Rattle.dft_chains.proofs.ScanOffLemmas.{scan_off}
 use Rattle.dft_scan_frame.specs.AddedPorts.{ports_from}

@@ -5,7 +5,7 @@ use Rattle.dft_netlist.specs.Netlist.{Netlist}
 use Rattle.dft_netlist.specs.NetDrivers.{IsSingle, times_driven}
 use Rattle.dft_netlist.specs.Orders.{Has, AreOnce, IsOrderable}
 use Rattle.dft_netlist.proofs.RankLemmas as orders
-use Rattle.dft_config.specs.declared.config.Config.{Config}
+use Rattle.dft_config.specs.Config.{Config}
 use Rattle.dft_parts.specs.Parts.{Part}
 use Rattle.dft_parts.specs.Ranks.{AreRanked}
 use Rattle.dft_parts.specs.Single.{driven_by_parts, times_in}

@@ -18,7 +18,7 @@ use Rattle.dft_netlist.specs.Netlist.{Netlist}
 use Rattle.dft_netlist.specs.Orders.{Has}
 use Rattle.dft_netlist.specs.Sound.{IsLive, AreLive, is_output}
 use Rattle.dft_netlist.proofs.StandLemmas.{has_left, has_right, has_either}
-use Rattle.dft_config.specs.declared.config.Config.{Config}
+use Rattle.dft_config.specs.Config.{Config}
 use Rattle.dft_chains.specs.ScanOff.{moved_source}
 use Rattle.dft_parts.specs.Ranks.{reads_by, IsRanked, IsJoinRanked, AreRanked}
 use Rattle.dft_parts.specs.Single.{net_driven, nets_driven}

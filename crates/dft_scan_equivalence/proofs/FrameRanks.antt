@@ -17,7 +17,7 @@ use Rattle.dft_netlist.specs.Names.{find_net}
 use Rattle.dft_netlist.specs.Netlist.{Netlist}
 use Rattle.dft_netlist.specs.NetDrivers.{roles_in}
 use Rattle.dft_netlist.proofs.LiveDriven.{ports_fit}
-use Rattle.dft_config.specs.declared.config.Config.{Config}
+use Rattle.dft_config.specs.Config.{Config}
 use Rattle.dft_rules.specs.Refusals.{is_scanned}
 use Rattle.dft_rules.specs.Rules.{judged, scan_cell_in, scan_cell_of}
 use Rattle.dft_stitch.specs.Chains.{plan_of}

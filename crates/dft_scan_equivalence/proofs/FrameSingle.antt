@@ -21,7 +21,7 @@ use Rattle.dft_netlist.specs.Netlist.{Netlist}
 use Rattle.dft_netlist.specs.NetDrivers.{IsSingle, times_driven}
 use Rattle.dft_netlist.specs.Sound.{bits_of}
 use Rattle.dft_netlist.proofs.LiveDriven.{DriveBelow, AreBefore, before_front, before_back, nets_before, drives_below}
-use Rattle.dft_config.specs.declared.config.Config.{Config}
+use Rattle.dft_config.specs.Config.{Config}
 use Rattle.dft_rules.specs.Refusals.{is_scanned}
 use Rattle.dft_rules.specs.Rules.{judged, scan_cell_in}
 use Rattle.dft_scan_frame.specs.AddedPorts.{NewPort, new_port, numbered_ports, ports_from}

@@ -17,7 +17,7 @@ use Rattle.dft_netlist.specs.Drivers.{Source, Shape, Connection, connections_fro
 use Rattle.dft_netlist.specs.Logic.{Ports, same_role, pin_of, or_loose, scan_of, domain_of, domain_at, force_of, forcing, modelled, modelled_of, flip_flop}
 use Rattle.dft_netlist.specs.Traces.{Root, Port, Constant, Other, root_of}
 use Rattle.dft_netlist.proofs.RankLemmas.{order_ranks}
-use Rattle.dft_config.specs.declared.config.Config.{Config}
+use Rattle.dft_config.specs.Config.{Config}
 use Rattle.dft_rules.specs.Refusals.{is_scanned}
 use Rattle.dft_rules.specs.Rules.{judged, scan_cell_in}
 use Rattle.dft_chains.specs.ScanOff.{moved_source, IsWithin, IsEnabledBy, Places}

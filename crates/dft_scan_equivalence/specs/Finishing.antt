@@ -1,6 +1,6 @@
 -- Scanned netlists can be finished.
 use Rattle.dft_netlist.specs.Netlist.{Netlist}
-use Rattle.dft_config.specs.declared.config.Config.{Config}
+use Rattle.dft_config.specs.Config.{Config}
 use Rattle.dft_scan_frame.specs.Statements.{IsReady, CanFinish}
 use Rattle.dft_scan_hardware.specs.declared.style.Style.{Style}
 use Rattle.dft_scan_hardware.specs.Statements.{scanned}

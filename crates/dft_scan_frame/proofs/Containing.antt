@@ -24,7 +24,7 @@ use Rattle.dft_netlist.specs.Drivers as drivers
 use Rattle.dft_netlist.specs.Logic.{Ports, Meaning, Cell, same_role, pin_of, modelled_of, flip_flop, cell_or_none, flop_meaning, meaning_of, reads}
 use Rattle.dft_netlist.specs.Logic as logic
 use Rattle.dft_netlist.specs.Names.{find_net}
-use Rattle.dft_config.specs.declared.config.Config.{Config}
+use Rattle.dft_config.specs.Config.{Config}
 use Rattle.dft_netlist.specs.Connections.{is_input, input_net}
 use Rattle.dft_netlist.proofs.SettledLemmas.{no_flop}
 use Rattle.dft_rules.specs.Rules.{is_net}

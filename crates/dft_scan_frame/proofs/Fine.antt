@@ -23,7 +23,7 @@ use Rattle.dft_netlist.specs.Netlist.{Netlist}
 use Rattle.dft_netlist.specs.Sound.{bits_of, IsCellOf, is_primitive}
 use Rattle.dft_netlist.specs.Drivers.{Source, Driver, Input, Gate, Joined, Flop, Lockup, Free, Driven, Connection, driver_of_kind, at_signal, at_role, driven_by_pins, driven_by, driven_by_instances, driven_by_bits, driven_by_ports, driven_by_joins, all_driven, driver_in, driver, inputs_of, connections_of, shape_of}
 use Rattle.dft_netlist.proofs.LiveDriven.{AreBefore, before_front, before_back, nets_before}
-use Rattle.dft_config.specs.declared.config.Config.{Config}
+use Rattle.dft_config.specs.Config.{Config}
 use Rattle.dft_rules.specs.declared.error.RuleError.{RuleError}
 use Rattle.dft_rules.specs.Refusals.{present_as, present, first_failing}
 use Rattle.dft_rules.proofs.CheckLemmas.{none_present}

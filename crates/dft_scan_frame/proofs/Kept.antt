@@ -13,7 +13,7 @@ use Rattle.dft_netlist.specs.Orders.{Has, reads_of, IsOrderFrom}
 use Rattle.dft_netlist.specs.Traces.{Root, Port, Traces, AtPort, AtConstant, AtTie, ThroughBuffer, ThroughJoin, root_of}
 use Rattle.dft_netlist.proofs.Walks.{port_found}
 use Rattle.dft_netlist.proofs.LiveDriven.{ports_fit}
-use Rattle.dft_config.specs.declared.config.Config.{Config}
+use Rattle.dft_config.specs.Config.{Config}
 use Rattle.dft_scan_frame.specs.AddedPorts.{new_port, numbered, numbered_ports, plain_ports}
 use Rattle.dft_scan_frame.specs.Statements.{IsReady}
 use Rattle.dft_scan_frame.proofs.Fine as fine

@@ -5,7 +5,7 @@ use Rattle.std.proofs.lemmas.Option.{none-some}
 use Rattle.dft_netlist.specs.declared.ids.InstanceId.{InstanceId}
 use Rattle.dft_netlist.specs.Netlist.{Netlist}
 use Rattle.dft_netlist.specs.Drivers.{kind_at}
-use Rattle.dft_config.specs.declared.config.Config.{Config}
+use Rattle.dft_config.specs.Config.{Config}
 use Rattle.dft_rules.specs.declared.judged.Judged.TheVariants.{Scanned}
 use Rattle.dft_rules.specs.Rules.{may_be_scanned, domain_of, are_held_at, scan_cell_of, is_kept, judged_by, judged}
 use Rattle.dft_stitch.specs.Chains.{plan_of}

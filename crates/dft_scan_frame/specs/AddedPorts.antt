@@ -6,7 +6,7 @@ use Rattle.dft_base.specs.Lexing.{Text}
 use Rattle.dft_netlist.specs.declared.port.Port.{Port}
 use Rattle.dft_base.specs.declared.dir.Dir.{Dir}
 use Rattle.dft_base.specs.declared.dir.Dir.TheVariants.{Input, Output}
-use Rattle.dft_config.specs.declared.config.Config.{Config}
+use Rattle.dft_config.specs.Config.{Config}
 
 -- a port of one bit
 pub record NewPort : Type 0 where

@@ -7,7 +7,7 @@ use Rattle.dft_netlist.specs.Netlist.{Netlist}
 use Rattle.dft_netlist.specs.Connections.{input_net}
 use Rattle.dft_netlist.specs.Drivers.{Source, Net, Tied, Loose, pins_of}
 use Rattle.dft_netlist.specs.Logic.{pin_of}
-use Rattle.dft_config.specs.declared.config.Config.{Config}
+use Rattle.dft_config.specs.Config.{Config}
 use Rattle.dft_scan_frame.specs.Moves.{Gap, moved}
 
 -- the number of the first item that passes a test, where the items are numbered from a number on

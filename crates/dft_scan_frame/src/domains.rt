@@ -23,7 +23,7 @@ pub fn domain_net(design: &Design, config: &Config, gap: &Gap, domain: u8) -> Ne
 fn domain_name(config: &Config, domain: u8) -> &[u8]
     ensures { result.now ≡ slice_index_or config.now.domains domain [] }
 {
-    match config.domains.as_slice().get(usize::from(domain)) {
+    match config.domains().get(usize::from(domain)) {
         Some(name) => name.as_slice(),
         None => &[],
     }

@@ -8,7 +8,7 @@ use Rattle.dft_netlist.specs.Netlist.{Netlist}
 use Rattle.dft_netlist.specs.Sound.{IsNetlist}
 use Rattle.dft_netlist.proofs.PortLemmas.{nets_from-length}
 use Rattle.dft_netlist.proofs.LiveDriven.{ports_fit}
-use Rattle.dft_config.specs.declared.config.Config.{Config}
+use Rattle.dft_config.specs.Config.{Config}
 use Rattle.dft_config.specs.Range.{IsInRange}
 use Rattle.dft_stitch.specs.Chains.{plan_of, cells_of}
 use Rattle.dft_stitch.specs.Plans.{Plan}

@@ -25,7 +25,7 @@ use Rattle.dft_netlist.specs.Netlist.{Netlist}
 use Rattle.dft_netlist.specs.Sound.{IsNetlist, IsLive, AreLive, IsInstance, IsAJoin, NoConstantOutput, HasOnlyPorts}
 use Rattle.dft_netlist.proofs.SoundLemmas.{live_none, live_cons}
 use Rattle.dft_netlist.proofs.LiveDriven.{ports_fit as ports_among}
-use Rattle.dft_config.specs.declared.config.Config.{Config}
+use Rattle.dft_config.specs.Config.{Config}
 use Rattle.dft_rules.specs.Refusals.{is_scanned}
 use Rattle.dft_rules.specs.Rules.{judged, scan_cell_in}
 use Rattle.dft_scan_frame.specs.declared.error.InsertError.TheVariants.{TooMany}

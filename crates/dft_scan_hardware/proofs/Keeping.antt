@@ -20,7 +20,7 @@ use Rattle.dft_netlist.specs.Drivers.{Connection, Shape, connections_from, kind_
 use Rattle.dft_netlist.specs.Names.{instance_name}
 use Rattle.dft_netlist.specs.Logic.{same_role}
 use Rattle.dft_netlist.specs.Netlist.{Netlist}
-use Rattle.dft_config.specs.declared.config.Config.{Config}
+use Rattle.dft_config.specs.Config.{Config}
 use Rattle.dft_rules.specs.declared.judged.Judged.{Judged}
 use Rattle.dft_rules.specs.declared.judged.Judged.TheVariants.{Scanned, Unscanned}
 use Rattle.dft_rules.specs.Refusals.{is_scanned}

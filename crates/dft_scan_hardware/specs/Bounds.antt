@@ -1,7 +1,7 @@
 -- Nets that are there.
 use Rattle.std.specs.Prelude.{◌<◌, ◌≡◌, length}
 use Rattle.dft_netlist.specs.Netlist.{Netlist}
-use Rattle.dft_config.specs.declared.config.Config.{Config}
+use Rattle.dft_config.specs.Config.{Config}
 use Rattle.dft_parts.specs.declared.edt_ports.EdtPorts.{EdtPorts}
 use Rattle.dft_parts.specs.Recipes.{AreThere}
 

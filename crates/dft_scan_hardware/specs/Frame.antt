@@ -11,7 +11,7 @@ use Rattle.dft_netlist.specs.declared.instance.Signal.TheVariants.{Unconnected}
 use Rattle.dft_netlist.specs.declared.instance.Instance.{Instance}
 use Rattle.dft_netlist.specs.Drivers.{shape_of}
 use Rattle.dft_netlist.specs.Netlist.{Netlist}
-use Rattle.dft_config.specs.declared.config.Config.{Config}
+use Rattle.dft_config.specs.Config.{Config}
 use Rattle.dft_rules.specs.Refusals.{is_scanned}
 use Rattle.dft_rules.specs.Rules.{judged, scan_cell_in}
 use Rattle.dft_scan_frame.specs.AddedPorts.{port_name, ports_from}

@@ -4,7 +4,7 @@ use Rattle.dft_base.specs.declared.dir.Dir.TheVariants.{Input, Output}
 use Rattle.dft_netlist.specs.declared.ids.NetId.{NetId}
 use Rattle.dft_netlist.specs.NetNumbers.{nets_from}
 use Rattle.dft_netlist.specs.Netlist.{Netlist}
-use Rattle.dft_config.specs.declared.config.Config.{Config}
+use Rattle.dft_config.specs.Config.{Config}
 use Rattle.dft_parts.specs.declared.edt_ports.EdtPorts.{EdtPorts}
 use Rattle.dft_scan_frame.specs.AddedPorts.{NewPort, new_port, numbered_ports, plain_ports}
 use Rattle.dft_scan_frame.specs.Moves.{Gap, gap_of}

@@ -8,7 +8,7 @@ use Rattle.dft_netlist.specs.Building.{port_refusal}
 use Rattle.dft_netlist.specs.Names.{is_taken}
 use Rattle.dft_netlist.specs.Netlist.{Netlist}
 use Rattle.dft_netlist.specs.Sound.{bits_of}
-use Rattle.dft_config.specs.declared.config.Config.{Config}
+use Rattle.dft_config.specs.Config.{Config}
 use Rattle.dft_stitch.specs.Plans.{Plan}
 use Rattle.dft_parts.specs.Parts.{parts_refusal}
 use Rattle.dft_scan_frame.specs.declared.error.InsertError.{InsertError}

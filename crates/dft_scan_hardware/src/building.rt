@@ -1,7 +1,6 @@
 //! The making of scanned netlists.
 
 ghost use Rattle.std.specs.Prelude.{◌≡◌, ◌≤◌, None, IfErr, IfOk, OnOk, length, option_map};
-ghost use Rattle.dft_config.specs.Range.{IsInRange};
 ghost use Rattle.dft_netlist.specs.declared.limits.TheConstants.{MAX_NETS};
 ghost use Rattle.dft_parts.specs.Parts.{parts_refusal};
 ghost use Rattle.dft_parts.specs.Recipes.{Makes};
@@ -41,7 +40,6 @@ pub fn make_scanned(
     chains: &Chains,
     style: Style,
 ) -> Result<Unfinished, InsertError>
-    requires range { IsInRange config.now }
     requires planned { chains.now ≡ plan_of design.now config.now }
     ensures netlist { IfOk result (λ s. s.builder ≡ scanned_netlist style design.now config.now chains.now) }
     ensures added { IfOk result (λ s. s.added.items ≡ added_ids style design.now config.now) }
@@ -64,7 +62,6 @@ fn fill(
     chains: &Chains,
     style: Style,
 ) -> Result<DesignBuilder, InsertError>
-    requires range { IsInRange config.now }
     requires planned { chains.now ≡ plan_of design.now config.now }
     requires frame { builder ≡ frame style design.now config.now }
     ensures netlist { IfOk result (λ builder. builder ≡ scanned_netlist style design.now config.now chains.now) }
@@ -93,7 +90,6 @@ fn make(
     style: Style,
     gap: &Gap,
 ) -> Result<(), NetlistError>
-    requires range { IsInRange config.now }
     requires planned { chains.now ≡ plan_of design.now config.now }
     requires frame { parts.old.netlist ≡ frame style design.now config.now }
     requires few { length parts.old.netlist.nets ≤ MAX_NETS }
@@ -101,6 +97,7 @@ fn make(
     ensures makes { Makes (λ _. tt) (recipe style design.now config.now chains.now) parts.old result parts.new }
 {
     design.soundness();
+    config.soundness();
     match style {
         Style::Plain => make_plain(parts, design, config, chains, gap),
         Style::Edt => make_edt(parts, design, config, chains, gap),

@@ -2,7 +2,6 @@
 
 ghost use Rattle.std.specs.Prelude.{◌≡◌, ◌+◌, ◌<◌, ◌≤◌, IfOk, OnOk, length, map};
 ghost use Rattle.std.specs.List.{All, range_with_len};
-ghost use Rattle.dft_config.specs.Range.{IsInRange};
 ghost use Rattle.dft_netlist.specs.declared.limits.TheConstants.{MAX_NETS, MAX_PORTS};
 ghost use Rattle.dft_netlist.specs.NetNumbers as numbers;
 ghost use Rattle.dft_parts.specs.Recipes.{AreThere, Makes, each};
@@ -32,7 +31,6 @@ pub(crate) fn make_edt(
     chains: &Chains,
     gap: &Gap,
 ) -> Result<(), NetlistError>
-    requires range { IsInRange config.now }
     requires count { length chains.now.chains ≡ config.now.chains }
     requires room { gap.now.width ≤ MAX_PORTS }
     requires before { gap.now.before ≤ MAX_NETS }
@@ -53,7 +51,6 @@ fn make_at_ports(
     gap: &Gap,
     ports: &EdtPorts,
 ) -> Result<(), NetlistError>
-    requires range { IsInRange config.now }
     requires count { length chains.now.chains ≡ config.now.chains }
     requires room { gap.now.width ≤ MAX_PORTS }
     requires ports { EdtThere parts.old.netlist config.now ports.now }
@@ -74,7 +71,6 @@ fn make_behind_rows(
     ports: &EdtPorts,
     rows: &[Listed<NetId>],
 ) -> Result<(), NetlistError>
-    requires range { IsInRange config.now }
     requires count { length rows.now ≡ config.now.chains }
     requires room { gap.now.width ≤ MAX_PORTS }
     requires ports { EdtThere parts.old.netlist config.now ports.now }
@@ -150,7 +146,6 @@ fn make_ends(
     run: NetId,
     rows: &[Listed<NetId>],
 ) -> Result<(), NetlistError>
-    requires range { IsInRange config.now }
     requires count { length rows.now ≡ config.now.chains }
     requires ports { EdtThere parts.old.netlist config.now ports.now }
     requires inverse { run.0 < length parts.old.netlist.nets }
@@ -174,20 +169,20 @@ fn last_nets(alloc: Global, rows: &[Listed<NetId>]) -> Result<Vec<NetId>, AllocE
 
 // The nets of the ports, of which the first has this number.
 fn port_nets(alloc: Global, first: u32, config: &Config) -> Result<EdtPorts, AllocError>
-    requires range { IsInRange config.now }
     requires few { first ≤ MAX_NETS }
     ensures { IfOk result (λ ports. ports ≡ edt_nets first config.now) }
 {
+    config.soundness();
     let channels = first + 3;
-    let masks = channels + u32::from(config.ring.channels);
-    let outputs = masks + u32::from(config.compactor.mask_inputs);
-    let count = config.compactor.groups.as_slice().len() as u32;
+    let masks = channels + u32::from(config.ring().channels);
+    let outputs = masks + u32::from(config.compactor().mask_inputs);
+    let count = config.compactor().groups.as_slice().len() as u32;
     Ok(EdtPorts {
         scan_enable: NetId(first),
         edt_clock: NetId(first + 1),
         edt_update: NetId(first + 2),
-        channels: nets_from(alloc, channels, u32::from(config.ring.channels))?,
-        masks: nets_from(alloc, masks, u32::from(config.compactor.mask_inputs))?,
+        channels: nets_from(alloc, channels, u32::from(config.ring().channels))?,
+        masks: nets_from(alloc, masks, u32::from(config.compactor().mask_inputs))?,
         outputs: nets_from(alloc, outputs, count)?,
     })
 }

@@ -1,7 +1,6 @@
 //! The frame: the design with the added ports, and with scan cells whose scan inputs are open.
 
 ghost use Rattle.std.specs.Prelude.{◌≡◌, ◌≤◌, None, IfErr, IfOk, OnOk, length};
-ghost use Rattle.dft_config.specs.Range.{IsInRange};
 ghost use Rattle.dft_netlist.specs.Building.{empty_netlist};
 ghost use Rattle.dft_stitch.specs.Chains.{plan_of};
 ghost use Rattle.dft_scan_frame.specs.Refusals.{IsRefusal};
@@ -27,7 +26,6 @@ pub(crate) fn build_frame(
     chains: &Chains,
     style: Style,
 ) -> Result<DesignBuilder, InsertError>
-    requires range { IsInRange config.now }
     requires planned { chains.now ≡ plan_of design.now config.now }
     ensures frame { IfOk result (λ builder. builder ≡ frame style design.now config.now) }
     ensures accepted { IfOk result (λ builder. frame_refusal style design.now config.now ≡ None) }
@@ -65,7 +63,6 @@ fn fill_frame(
     chains: &Chains,
     style: Style,
 ) -> Result<(), InsertError>
-    requires range { IsInRange config.now }
     requires planned { chains.now ≡ plan_of design.now config.now }
     requires bare { builder.old ≡ ports_alone design.now }
     ensures frame { OnOk result (builder.new ≡ frame style design.now config.now) }
@@ -105,7 +102,6 @@ fn carry_rest(
     style: Style,
     gap: &Gap,
 ) -> Result<(), AllocError>
-    requires range { IsInRange config.now }
     requires planned { chains.now ≡ plan_of design.now config.now }
     requires accepted { frame_refusal style design.now config.now ≡ None }
     requires gap { gap.now ≡ spec.gap_in style design.now config.now }

@@ -2,7 +2,7 @@
 
 ghost use Rattle.std.specs.Prelude.{◌≡◌, ◌<◌, ◌≤◌, ◌^◌, IfOk, OnOk, map};
 ghost use Rattle.dft_cells.specs.WellFormed.{role_of};
-ghost use Rattle.dft_config.specs.declared.config.Config.{Config as AConfig};
+ghost use Rattle.dft_config.specs.Config.{Config as AConfig};
 ghost use Rattle.dft_config.specs.Range.{IsInRange};
 ghost use Rattle.dft_netlist.specs.Netlist.{Netlist};
 ghost use Rattle.dft_netlist.specs.declared.instance.Signal.TheVariants.{Net};
@@ -36,12 +36,12 @@ pub(crate) fn frame_instances(
     chains: &Chains,
     gap: &Gap,
 ) -> Result<(), AllocError>
-    requires range { IsInRange config.now }
     requires planned { chains.now ≡ plan_of design.now config.now }
     requires room { gap.now.width ≤ MAX_PORTS }
     requires fit { AllFit builder.old (instance_things (map_from (framed_at design.now config.now gap.now) 0 design.now.instances)) }
     ensures { OnOk result (builder.new ≡ with_things builder.old (instance_things (map_from (framed_at design.now config.now gap.now) 0 design.now.instances))) }
 {
+    config.soundness();
     let library = design.library();
     for (number, instance) in design.instances().iter().enumerate() {
         let scanned = is_scanned(chains, number);

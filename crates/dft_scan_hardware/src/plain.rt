@@ -74,7 +74,7 @@ fn make_plain_ends(
     requires rows { All (AreThere parts.old.netlist) rows.now }
     ensures makes { Makes (λ _. tt) (each (a_plain_end config.now gap.now rows.now) (range_with_len 0 (length chains.now.chains))) parts.old result parts.new }
 {
-    let first = gap.before() + 1 + u32::from(config.chains);
+    let first = gap.before() + 1 + u32::from(config.chains());
     let count = chains.count();
     for chain in 0..count {
         let end = last_net(row_at(rows, chain));

@@ -42,8 +42,8 @@ fn push_ports(
 fn push_plain(alloc: Global, ports: &mut Vec<NewPort>, config: &Config) -> Result<(), AllocError>
     ensures { OnOk result (ports.new.items ≡ ports.old.items ++ plain_ports config.now) }
 {
-    let names = &config.names;
-    let chains = usize::from(config.chains);
+    let names = config.names();
+    let chains = usize::from(config.chains());
     push_port(ports, names.scan_enable.copy(alloc)?, Dir::Input)?;
     push_numbered(alloc, ports, &names.scan_in, Dir::Input, chains)?;
     push_numbered(alloc, ports, &names.scan_out, Dir::Output, chains)
@@ -53,7 +53,7 @@ fn push_plain(alloc: Global, ports: &mut Vec<NewPort>, config: &Config) -> Resul
 fn push_edt(alloc: Global, ports: &mut Vec<NewPort>, config: &Config) -> Result<(), AllocError>
     ensures { OnOk result (ports.new.items ≡ ports.old.items ++ spec.edt_ports config.now) }
 {
-    let names = &config.names;
+    let names = config.names();
     push_port(ports, names.scan_enable.copy(alloc)?, Dir::Input)?;
     push_port(ports, names.edt_clock.copy(alloc)?, Dir::Input)?;
     push_port(ports, names.edt_update.copy(alloc)?, Dir::Input)?;
@@ -68,10 +68,10 @@ fn push_compression(
 ) -> Result<(), AllocError>
     ensures { OnOk result (ports.new.items ≡ ports.old.items ++ spec.compression_ports config.now) }
 {
-    let names = &config.names;
-    let channels = usize::from(config.ring.channels);
-    let masks = usize::from(config.compactor.mask_inputs);
-    let outputs = config.compactor.groups.as_slice().len();
+    let names = config.names();
+    let channels = usize::from(config.ring().channels);
+    let masks = usize::from(config.compactor().mask_inputs);
+    let outputs = config.compactor().groups.as_slice().len();
     push_numbered(alloc, ports, &names.channel, Dir::Input, channels)?;
     push_numbered(alloc, ports, &names.mask, Dir::Input, masks)?;
     push_numbered(alloc, ports, &names.output, Dir::Output, outputs)

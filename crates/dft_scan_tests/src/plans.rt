@@ -1,7 +1,6 @@
 //! What is told of a netlist under a configuration, as one text.
 
 ghost use Rattle.std.specs.Prelude.{◌≡◌, ◌≤◌, None, length};
-ghost use Rattle.dft_config.specs.Range.{IsInRange};
 ghost use Rattle.dft_rules.specs.Refusals.{refusal};
 ghost use Rattle.dft_rules.specs.Rules.{judgements};
 ghost use Rattle.dft_stitch.specs.Chains.{plan_of};
@@ -71,9 +70,12 @@ fn configured(
     }
 }
 
-fn judged(alloc: Global, design: &Design, config: &Config, told: Told) -> Result<String, AllocError>
-    requires { IsInRange config.now }
-{
+fn judged(
+    alloc: Global,
+    design: &Design,
+    config: &Config,
+    told: Told,
+) -> Result<String, AllocError> {
     match judge(alloc, design, config) {
         Ok(verdicts) => planned(alloc, design, config, &verdicts, told),
         Err(error) => refused(alloc, error),
@@ -99,7 +101,6 @@ fn planned(
     verdicts: &Verdicts,
     told: Told,
 ) -> Result<String, AllocError>
-    requires range { IsInRange config.now }
     requires passed { refusal design.now config.now ≡ None }
     requires verdicts { verdicts.now ≡ judgements design.now config.now }
 {
@@ -117,7 +118,6 @@ fn line_of(
     chains: &Chains,
     told: Told,
 ) -> Result<String, AllocError>
-    requires range { IsInRange config.now }
     requires passed { refusal design.now config.now ≡ None }
     requires planned { chains.now ≡ plan_of design.now config.now }
 {
@@ -135,7 +135,6 @@ fn made(
     chains: &Chains,
     style: Style,
 ) -> Result<String, AllocError>
-    requires range { IsInRange config.now }
     requires passed { refusal design.now config.now ≡ None }
     requires planned { chains.now ≡ plan_of design.now config.now }
 {
@@ -151,7 +150,6 @@ fn counted(
     config: &Config,
     chains: &Chains,
 ) -> Result<String, AllocError>
-    requires range { IsInRange config.now }
     requires passed { refusal design.now config.now ≡ None }
     requires planned { chains.now ≡ plan_of design.now config.now }
 {

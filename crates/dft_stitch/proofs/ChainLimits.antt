@@ -7,7 +7,7 @@ use Rattle.std.proofs.lemmas.List.Elements.{All-nil, All-cons, All-head, All-tai
 use Rattle.std.proofs.lemmas.List.FromFn.{length-map-range_with_len}
 use Rattle.std.proofs.lemmas.Bool.{ltb-false}
 use Rattle.dft_netlist.specs.Netlist.{Netlist}
-use Rattle.dft_config.specs.declared.config.Config.{Config}
+use Rattle.dft_config.specs.Config.{Config}
 use Rattle.dft_config.specs.Cycles.{part_length, longest_segment}
 use Rattle.dft_stitch.specs.declared.error.Counted.TheVariants.{Cells, Cycles, Variables}
 use Rattle.dft_stitch.specs.declared.error.StitchError.{StitchError}

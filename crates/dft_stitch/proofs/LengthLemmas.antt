@@ -12,7 +12,7 @@ use Rattle.dft_config.specs.Cycles.{part_length, longest_segment}
 use Rattle.dft_stitch.specs.Chains.{blocks, chain_lengths, cells_of, plan_of}
 use Rattle.dft_stitch.proofs.BlockLemmas.{chain_count}
 use Rattle.dft_netlist.specs.Netlist.{Netlist}
-use Rattle.dft_config.specs.declared.config.Config.{Config}
+use Rattle.dft_config.specs.Config.{Config}
 use Rattle.dft_config.specs.Range.{IsInRange}
 
 -- ---- a block is as long as asked, at most

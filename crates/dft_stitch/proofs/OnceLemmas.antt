@@ -18,7 +18,7 @@ use Rattle.dft_netlist.specs.Drivers.{Source, pins_of, kind_of, kind_at}
 use Rattle.dft_netlist.specs.Logic.{pin_of}
 use Rattle.dft_netlist.specs.Traces.{Root, Port, Constant, Other, root_of}
 use Rattle.dft_netlist.proofs.LiveLemmas.{le_or_lt}
-use Rattle.dft_config.specs.declared.config.Config.{Config}
+use Rattle.dft_config.specs.Config.{Config}
 use Rattle.dft_rules.specs.declared.judged.Judged.{Judged}
 use Rattle.dft_rules.specs.declared.judged.Judged.TheVariants.{Scanned, Unscanned}
 use Rattle.dft_netlist.specs.Connections.{input_net}

@@ -1,7 +1,7 @@
 -- The limits of a plan.
 use Rattle.std.specs.Prelude.{ℕ, ◌≡◌, pos, ◌*◌, nat_lt, length, Option, None, Some, if◌then◌else◌}
 use Rattle.dft_netlist.specs.Netlist.{Netlist}
-use Rattle.dft_config.specs.declared.config.Config.{Config}
+use Rattle.dft_config.specs.Config.{Config}
 use Rattle.dft_stitch.specs.declared.error.Counted.TheVariants.{Cells, Cycles, Variables}
 use Rattle.dft_stitch.specs.declared.error.StitchError.{StitchError}
 use Rattle.dft_stitch.specs.declared.error.StitchError.TheVariants.{TooMany, Memory}

@@ -1,7 +1,6 @@
 //! The plan of a design's scan chains.
 
 ghost use Rattle.std.specs.Prelude.{◌≡◌, None, IfOk, IfErr, pos};
-ghost use Rattle.dft_config.specs.Range.{IsInRange};
 ghost use Rattle.dft_rules.specs.Rules.{judgements};
 ghost use Rattle.dft_stitch.specs.Chains as spec;
 ghost use Rattle.dft_stitch.specs.Limits.{IsRefusal, refusal, refusal_of};
@@ -26,17 +25,17 @@ pub fn plan(
     config: &Config,
     verdicts: &Verdicts,
 ) -> Result<Chains, StitchError>
-    requires config { IsInRange config.now }
     requires verdicts { verdicts.now ≡ judgements design.now config.now }
     ensures plan { IfOk result (λ chains. chains ≡ spec.plan_of design.now config.now) }
     ensures fits { IfOk result (λ chains. refusal design.now config.now ≡ None) }
     ensures refused { IfErr result (IsRefusal (refusal design.now config.now)) }
 {
+    config.soundness();
     let count = design.instances().len();
-    let domains = config.domains.as_slice().len() as u8;
+    let domains = config.domains().len() as u8;
     let cells = scanned_cells(alloc, verdicts, count as u32, domains)?;
     let cycles = cycles_within(config, cells.len())?;
-    let chains = cut(alloc, &cells, config.chains)?;
+    let chains = cut(alloc, &cells, config.chains())?;
     let lockups = find_lockups(alloc, verdicts, &chains)?;
     let places = find_places(alloc, count, &chains)?;
     Ok(Chains {
@@ -49,19 +48,19 @@ pub fn plan(
 
 // The cycles of a load for so many scanned cells, where no limit is passed.
 fn cycles_within(config: &Config, cells: usize) -> Result<u16, StitchError>
-    requires { IsInRange config.now }
     ensures cycles { IfOk result (λ cycles. cycles ≡ spec.cycles_of config.now cells) }
     ensures fits { IfOk result (λ cycles. refusal_of config.now cells ≡ None) }
     ensures refused { IfErr result (IsRefusal (refusal_of config.now cells)) }
 {
+    config.soundness();
     if cells > MAX_CELLS {
         return Err(too_many(Counted::Cells, MAX_CELLS as u32));
     }
-    let cycles = load_cycles(config, longest_chain(cells, config.chains));
+    let cycles = load_cycles(config, longest_chain(cells, config.chains()));
     if cycles > MAX_CYCLES {
         return Err(too_many(Counted::Cycles, MAX_CYCLES));
     }
-    if cycles * u32::from(config.ring.channels) > MAX_VARIABLES {
+    if cycles * u32::from(config.ring().channels) > MAX_VARIABLES {
         return Err(too_many(Counted::Variables, MAX_VARIABLES));
     }
     Ok(cycles as u16)

@@ -1,7 +1,5 @@
 //! Cube files: what each stands for, or its refusal.
 
-ghost use Rattle.dft_config.specs.Range.{IsInRange};
-
 use dft_base::{Name, Place};
 use dft_cells::Library;
 use dft_config::Config;
@@ -138,9 +136,7 @@ fn line_of(
     text: &[u8],
     design: &Design,
     config: &Config,
-) -> Result<String, AllocError>
-    requires { IsInRange config.now }
-{
+) -> Result<String, AllocError> {
     if text.len() > 67_108_864 {
         return String::from_str(alloc, "too long");
     }

@@ -1,7 +1,7 @@
 -- What a test of a report comes to.
 use Rattle.std.proofs.Common.{ℕ, ◌≡◌, ◌∙◌, List, length, map, Option, None, Some, refl, sym, subst}
 use Rattle.dft_netlist.specs.Netlist.{Netlist}
-use Rattle.dft_config.specs.declared.config.Config.{Config}
+use Rattle.dft_config.specs.Config.{Config}
 use Rattle.dft_equations.specs.LoadRows.{AreLoadEquations, LoadRows}
 use Rattle.dft_stitch.specs.Chains.{plan_of}
 use Rattle.dft_stitch.specs.Plans.{Plan}

@@ -1,6 +1,6 @@
 -- What a compilation of cubes comes to.
 use Rattle.std.proofs.Common.{◌≡◌, ◌<◌, ◌^◌, List, [], ◌∷◌, length, Option, None, Some, option_map, Ok, sym, ap, ◌∙◌, subst, ℕ}
-use Rattle.dft_config.specs.declared.config.Config.{Config}
+use Rattle.dft_config.specs.Config.{Config}
 use Rattle.dft_config.specs.Range.{IsInRange}
 use Rattle.dft_netlist.specs.Drivers.{IsOrdered}
 use Rattle.dft_netlist.specs.Netlist.{Netlist}

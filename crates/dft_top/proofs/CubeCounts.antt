@@ -10,7 +10,7 @@ use Rattle.dft_netlist.specs.declared.ids.InstanceId.{InstanceId}
 use Rattle.dft_netlist.specs.declared.ids.NetId.{NetId}
 use Rattle.dft_netlist.specs.Netlist.{Netlist}
 use Rattle.dft_netlist.specs.Connections.{input_net}
-use Rattle.dft_config.specs.declared.config.Config.{Config}
+use Rattle.dft_config.specs.Config.{Config}
 use Rattle.dft_rules.specs.Rules.{flip_flop_named}
 use Rattle.dft_cells.specs.WellFormed.{has_name}
 use Rattle.dft_word_lines.specs.Lines.{are_printed, lines_of, onto_first, words_of}

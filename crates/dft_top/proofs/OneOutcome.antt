@@ -2,7 +2,7 @@
 use Rattle.std.proofs.Common.{ℕ, ◌≡◌, List, codes, sym, ap, ◌∙◌, Option, None, Some, Result, Ok, subst}
 use Rattle.dft_files.specs.Outside.{Held, file_at}
 use Rattle.dft_cells.specs.declared.cell.Cell.{Cell}
-use Rattle.dft_config.specs.declared.config.Config.{Config}
+use Rattle.dft_config.specs.Config.{Config}
 use Rattle.dft_cubes.specs.declared.cube.Cube.{Cube}
 use Rattle.dft_netlist.specs.Drivers.{IsOrdered}
 use Rattle.dft_netlist.specs.Netlist.{Netlist}

@@ -7,7 +7,7 @@ use Rattle.dft_cells.specs.declared.cell.Cell.{Cell}
 use Rattle.dft_cells.specs.declared.refusal.LibraryError.{LibraryError}
 use Rattle.dft_cells.specs.declared.refusal.LibraryError.TheVariants as library
 use Rattle.dft_cells.specs.Reading.{library_of, IsLibraryOf, FirstFails, IsRefusedAs}
-use Rattle.dft_config.specs.declared.config.Config.{Config}
+use Rattle.dft_config.specs.Config.{Config}
 use Rattle.dft_config.specs.declared.error.ConfigError.{ConfigError}
 use Rattle.dft_config.specs.declared.error.ConfigError.TheVariants as config
 use Rattle.dft_config.specs.Reading.{reading}

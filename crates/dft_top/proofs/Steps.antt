@@ -2,7 +2,7 @@
 use Rattle.std.proofs.Common.{ℕ, List}
 use Rattle.dft_files.specs.Outside.{Held}
 use Rattle.dft_cells.specs.declared.cell.Cell.{Cell}
-use Rattle.dft_config.specs.declared.config.Config.{Config}
+use Rattle.dft_config.specs.Config.{Config}
 use Rattle.dft_netlist.specs.Netlist.{Netlist}
 use Rattle.dft_replay.specs.Fits.{first_misfit}
 use Rattle.dft_scan.specs.Refusals.{refusal}

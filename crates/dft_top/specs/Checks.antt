@@ -6,7 +6,7 @@ use Rattle.dft_cells.specs.declared.cell.Cell.{Cell}
 use Rattle.dft_cells.specs.declared.refusal.LibraryError.{LibraryError}
 use Rattle.dft_cells.specs.Standard.{standard_cells}
 use Rattle.dft_cells.specs.Reading.{IsLibraryOf, IsRefusedAs}
-use Rattle.dft_config.specs.declared.config.Config.{Config}
+use Rattle.dft_config.specs.Config.{Config}
 use Rattle.dft_config.specs.declared.error.ConfigError.{ConfigError}
 use Rattle.dft_config.specs.Range.{IsInRange}
 use Rattle.dft_config.specs.Refusals.{IsConfig}

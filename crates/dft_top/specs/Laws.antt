@@ -2,7 +2,7 @@
 use Rattle.std.specs.Prelude.{ℕ, ◌≡◌, List, None, Ok}
 use Rattle.dft_files.specs.Outside.{Held}
 use Rattle.dft_cells.specs.declared.cell.Cell.{Cell}
-use Rattle.dft_config.specs.declared.config.Config.{Config}
+use Rattle.dft_config.specs.Config.{Config}
 use Rattle.dft_netlist.specs.Drivers.{IsOrdered}
 use Rattle.dft_netlist.specs.Netlist.{Netlist}
 use Rattle.dft_patterns.specs.Patterns.{Patterns}

@@ -2,7 +2,7 @@
 use Rattle.std.specs.Prelude.{ℕ, ◌<◌, ◌≤◌, ◌^◌, ◌≡◌, List, length, None, Some, Ok, slice_get}
 use Rattle.dft_files.specs.Outside.{Held, file_at}
 use Rattle.dft_cells.specs.declared.cell.Cell.{Cell}
-use Rattle.dft_config.specs.declared.config.Config.{Config}
+use Rattle.dft_config.specs.Config.{Config}
 use Rattle.dft_netlist.specs.Netlist.{Netlist}
 use Rattle.dft_netlist.specs.Logic.{Ports}
 use Rattle.dft_netlist_text.specs.NetlistText.{StandsFor}

@@ -1,7 +1,7 @@
 //! The outcome of a test of certificates: whether the sums that a report prints for cubes show that no channel bits load them.
 
 ghost use Rattle.std.specs.Prelude.{◌≡◌, Err, IfErr, IfOk, None, length, map};
-ghost use Rattle.dft_config.specs.declared.config.Config.{Config};
+ghost use Rattle.dft_config.specs.Config.{Config};
 ghost use Rattle.dft_config.specs.Range.{IsInRange};
 ghost use Rattle.dft_rules.specs.Refusals as rules;
 ghost use Rattle.dft_stitch.specs.Chains.{plan_of};
@@ -60,7 +60,6 @@ fn outcome_of_design<F: Files>(
     report: &str,
     files: &mut F,
 ) -> Result<Outcome, Stop>
-    requires { IsInRange config.now }
     ensures { Follows (course_of_planned design.now config.now cubes.now report.now)
         (seen_files (F.held files.old) (F.failed files.old) (F.read_faults files.old) (F.write_faults files.old))
         (seen_files (F.held files.new) (F.failed files.new) (F.read_faults files.new) (F.write_faults files.new)) result }
@@ -71,7 +70,6 @@ fn outcome_of_design<F: Files>(
 
 // The chains of a design that no check refuses.
 fn planned(alloc: Global, design: &Design, config: &Config) -> Result<Chains, Stop>
-    requires { IsInRange config.now }
     ensures given { IsGiven (PlanGives design.now config.now) result }
     ensures fits { IfOk result (λ chains. stitch.refusal design.now config.now ≡ None) }
 {
@@ -84,7 +82,6 @@ fn planned(alloc: Global, design: &Design, config: &Config) -> Result<Chains, St
 // Judges the flip-flops of a design and plans its chains. It is refused by the first check that fails: of the scan rules, then of the
 // plan.
 fn plan_chains(alloc: Global, design: &Design, config: &Config) -> Result<Chains, CompileError>
-    requires { IsInRange config.now }
     ensures plan { IfOk result (λ chains. chains ≡ plan_of design.now config.now) }
     ensures ready { IfOk result (λ chains. IsReady design.now config.now) }
     ensures accepted { IfOk result (λ chains. plan_refusal design.now config.now ≡ None) }
@@ -92,6 +89,7 @@ fn plan_chains(alloc: Global, design: &Design, config: &Config) -> Result<Chains
     ensures refused { IfErr result (IsRefusal (plan_refusal design.now config.now)) }
 {
     ready(design);
+    config.soundness();
     let verdicts = judge(alloc, design, config)?;
     Ok(plan(alloc, design, config, &verdicts)?)
 }
@@ -113,7 +111,6 @@ fn outcome_with<F: Files>(
     report: &str,
     files: &mut F,
 ) -> Result<Outcome, Stop>
-    requires range { IsInRange config.now }
     requires planned { chains.now ≡ plan_of design.now config.now }
     requires fits { stitch.refusal design.now config.now ≡ None }
     ensures { Follows (course_of_certified design.now config.now cubes.now report.now)
@@ -142,7 +139,6 @@ fn outcome_over<F: Files>(
     report: &str,
     files: &mut F,
 ) -> Result<Outcome, Stop>
-    requires range { IsInRange config.now }
     requires planned { chains.now ≡ plan_of design.now config.now }
     requires fits { stitch.refusal design.now config.now ≡ None }
     ensures { Follows (course_of_report design.now config.now cubes.now report.now)
@@ -162,16 +158,16 @@ fn outcome_of_report(
     cubes: &[Cube],
     report: &Report,
 ) -> Result<Outcome, Stop>
-    requires range { IsInRange config.now }
     requires planned { chains.now ≡ plan_of design.now config.now }
     requires fits { stitch.refusal design.now config.now ≡ None }
     ensures outcome { ComesTo (IsOutcomeOfReport design.now config.now cubes.now report.now) result }
     ensures quiet { result ≡ Err Stop.ReadFault → ⊥ }
 {
+    config.soundness();
     let equations = load_equations(alloc, design, config, chains)?;
     let sums = CellSums {
         design,
-        ring: &config.ring,
+        ring: config.ring(),
         chains,
         equations: &equations,
     };
@@ -189,7 +185,6 @@ fn load_equations(
     config: &Config,
     chains: &Chains,
 ) -> Result<Equations, AllocError>
-    requires range { IsInRange config.now }
     requires planned { chains.now ≡ plan_of design.now config.now }
     requires fits { stitch.refusal design.now config.now ≡ None }
     ensures { IfOk result (AreLoadEquations config.now.ring (map length chains.now.chains) chains.now.cycles) }

@@ -1,7 +1,6 @@
 //! The outcome of a compilation: the texts of a scanned netlist behind compression hardware, of its patterns and of its report.
 
 ghost use Rattle.std.specs.Prelude.{◌≡◌, Err};
-ghost use Rattle.dft_config.specs.Range.{IsInRange};
 ghost use Rattle.dft_compile.specs.Prepared.{IsPrepared};
 ghost use Rattle.dft_verilog_out.specs.Named.{GatesAreJoined};
 ghost use Rattle.dft_command_line.specs.Named.{compile_files_of};
@@ -47,7 +46,6 @@ fn outcome_of_design<F: Files>(
     cubes: &str,
     files: &mut F,
 ) -> Result<Outcome, Stop>
-    requires range { IsInRange config.now }
     requires joined { GatesAreJoined design.now }
     ensures { Follows (course_of_design design.now config.now cubes.now)
         (seen_files (F.held files.old) (F.failed files.old) (F.read_faults files.old) (F.write_faults files.old))
@@ -59,7 +57,6 @@ fn outcome_of_design<F: Files>(
 
 /// The design with its chains, behind compression hardware, where no check refuses it.
 pub fn prepared(alloc: Global, design: &Design, config: &Config) -> Result<Prepared, Stop>
-    requires { IsInRange config.now }
     ensures { IsGiven (DesignGives design.now config.now) result }
 {
     match prepare(alloc, design, config) {
@@ -80,7 +77,6 @@ fn outcome_with<F: Files>(
     cubes: &str,
     files: &mut F,
 ) -> Result<Outcome, Stop>
-    requires range { IsInRange config.now }
     requires joined { GatesAreJoined design.now }
     requires prepared { IsPrepared design.now config.now prepared.now }
     ensures { Follows (course_of_cubes design.now config.now cubes.now)
@@ -99,7 +95,6 @@ pub fn outcome_of_cubes(
     prepared: &Prepared,
     cubes: &[Cube],
 ) -> Result<Outcome, Stop>
-    requires range { IsInRange config.now }
     requires joined { GatesAreJoined design.now }
     requires prepared { IsPrepared design.now config.now prepared.now }
     requires few { AreFew cubes.now }
@@ -107,6 +102,7 @@ pub fn outcome_of_cubes(
     ensures quiet { result ≡ Err Stop.ReadFault → ⊥ }
 {
     design.soundness();
+    config.soundness();
     match compile(alloc, design, config, prepared, cubes) {
         Ok(texts) => Ok(outcome_of(texts)),
         Err(error) => Err(Stop::Refused(compile_refusal(alloc, error)?)),

@@ -1,7 +1,6 @@
 //! The outcome of a generated job: its texts are compiled, and what comes of them is replayed.
 
 ghost use Rattle.std.specs.Prelude.{◌≡◌, ℕ, List, Err};
-ghost use Rattle.dft_config.specs.Range.{IsInRange};
 ghost use Rattle.dft_compile.specs.Prepared.{IsPrepared};
 ghost use Rattle.dft_generate.specs.Jobs.{IsSize};
 ghost use Rattle.dft_verilog_out.specs.Named.{GatesAreJoined};
@@ -67,7 +66,6 @@ fn compiled_design(
     config: &Config,
     cubes: &[u8],
 ) -> Result<Outcome, Stop>
-    requires range { IsInRange config.now }
     requires joined { GatesAreJoined design.now }
     ensures { (netlist settings : List ℕ) → Follows (course_of_design design.now config.now job_files.cubes)
         (still (texts_held netlist settings cubes.now)) (still (texts_held netlist settings cubes.now)) result }
@@ -84,7 +82,6 @@ fn compiled_with(
     prepared: &Prepared,
     cubes: &[u8],
 ) -> Result<Outcome, Stop>
-    requires range { IsInRange config.now }
     requires joined { GatesAreJoined design.now }
     requires prepared { IsPrepared design.now config.now prepared.now }
     ensures { (netlist settings : List ℕ) → Follows (course_of_cubes design.now config.now job_files.cubes)

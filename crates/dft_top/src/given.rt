@@ -1,7 +1,6 @@
 //! Texts that are given as if they were files: each is checked for its length, and gives a value by its checks, or is refused.
 
 ghost use Rattle.std.specs.Prelude.{IfOk, Some, codes};
-ghost use Rattle.dft_config.specs.Range.{IsInRange};
 ghost use Rattle.dft_patterns.specs.Patterns.{IsWellFormed};
 ghost use Rattle.dft_verilog_out.specs.Named.{GatesAreJoined};
 ghost use Rattle.dft_io.specs.Texts.{FileGives};
@@ -22,7 +21,6 @@ use std::alloc::Global;
 /// The configuration of a text.
 pub fn given_config(alloc: Global, text: &[u8]) -> Result<Config, Stop>
     ensures given { IsGiven (FileGives limit.MAX_CONFIG_BYTES (codes "config") ConfigText (Some text.now)) result }
-    ensures range { IfOk result IsInRange }
 {
     check_length(alloc, text, b"config", MAX_CONFIG_BYTES)?;
     config_in(alloc, text)
@@ -44,7 +42,6 @@ pub fn given_cubes(
     design: &Design,
     config: &Config,
 ) -> Result<Listed<Cube>, Stop>
-    requires { IsInRange config.now }
     ensures given { IsGiven (FileGives limit.MAX_CUBE_BYTES (codes "cubes") (CubeText design.now config.now) (Some text.now)) result }
     ensures few { IfOk result AreFew }
 {

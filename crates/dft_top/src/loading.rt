@@ -1,7 +1,6 @@
 //! The files of a command: each is loaded in its turn, and gives a value by its checks, or is refused.
 
 ghost use Rattle.std.specs.Prelude.{IfOk, Some, option_map};
-ghost use Rattle.dft_config.specs.Range.{IsInRange};
 ghost use Rattle.dft_patterns.specs.Patterns.{IsWellFormed};
 ghost use Rattle.dft_verilog_out.specs.Named.{GatesAreJoined};
 ghost use Rattle.dft_io.specs.Steps.{Takes, seen_files};
@@ -52,7 +51,6 @@ pub fn load_config<F: Files>(alloc: Global, files: &mut F, name: &str) -> Result
     ensures takes { Takes (Some name.now) (ConfigGives name.now)
         (seen_files (F.held files.old) (F.failed files.old) (F.read_faults files.old) (F.write_faults files.old))
         (seen_files (F.held files.new) (F.failed files.new) (F.read_faults files.new) (F.write_faults files.new)) result }
-    ensures range { IfOk result IsInRange }
 {
     let text = load_text(alloc, files, name, b"config", MAX_CONFIG_BYTES)?;
     config_in(alloc, text.as_slice())
@@ -93,7 +91,6 @@ pub fn load_cubes<F: Files>(
     design: &Design,
     config: &Config,
 ) -> Result<Listed<Cube>, Stop>
-    requires { IsInRange config.now }
     ensures takes { Takes (Some name.now) (CubesGive design.now config.now name.now)
         (seen_files (F.held files.old) (F.failed files.old) (F.read_faults files.old) (F.write_faults files.old))
         (seen_files (F.held files.new) (F.failed files.new) (F.read_faults files.new) (F.write_faults files.new)) result }

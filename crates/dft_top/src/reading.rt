@@ -1,7 +1,6 @@
 //! What the texts of files give by their checks.
 
 ghost use Rattle.std.specs.Prelude.{◌≤◌, IfErr, IfOk, length};
-ghost use Rattle.dft_config.specs.Range.{IsInRange};
 ghost use Rattle.dft_patterns.specs.Patterns.{IsWellFormed};
 ghost use Rattle.dft_verilog.specs.Refusals.{IsRefused};
 ghost use Rattle.dft_verilog_out.specs.Named.{GatesAreJoined};
@@ -37,7 +36,6 @@ pub fn library_in(alloc: Global, text: &[u8]) -> Result<Library, Stop>
 pub fn config_in(alloc: Global, text: &[u8]) -> Result<Config, Stop>
     requires { length text.now ≤ MAX_CONFIG_BYTES }
     ensures given { IsGiven (ConfigText text.now) result }
-    ensures range { IfOk result IsInRange }
 {
     match Config::read(alloc, text) {
         Ok(config) => Ok(config),
@@ -89,7 +87,6 @@ pub fn cubes_in(
     config: &Config,
 ) -> Result<Listed<Cube>, Stop>
     requires short { length text.now ≤ MAX_CUBE_BYTES }
-    requires range { IsInRange config.now }
     ensures given { IsGiven (CubeText design.now config.now text.now) result }
     ensures few { IfOk result AreFew }
 {

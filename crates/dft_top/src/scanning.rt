@@ -1,7 +1,6 @@
 //! The outcome of a scan: the texts of a scanned netlist and of its report.
 
 ghost use Rattle.std.specs.Prelude.{◌≡◌, Err};
-ghost use Rattle.dft_config.specs.Range.{IsInRange};
 ghost use Rattle.dft_scan.specs.Refusals.{refusal};
 ghost use Rattle.dft_verilog_out.specs.Named.{GatesAreJoined};
 ghost use Rattle.dft_command_line.specs.Named.{scan_files_of};
@@ -39,7 +38,6 @@ pub fn outcome_of_scan<F: Files>(
 
 // The outcome of a scan of the design.
 fn outcome_of_design(alloc: Global, design: &Design, config: &Config) -> Result<Outcome, Stop>
-    requires range { IsInRange config.now }
     requires joined { GatesAreJoined design.now }
     ensures outcome { ComesTo (IsOutcomeOfScanOf design.now config.now (refusal design.now config.now)) result }
     ensures quiet { result ≡ Err Stop.ReadFault → ⊥ }

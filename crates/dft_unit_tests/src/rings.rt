@@ -1,6 +1,5 @@
 ghost use Rattle.std.specs.Prelude.{◌≡◌, ◌<◌, ◌≤◌, length, IsTrue, nat_le};
 ghost use Rattle.std.specs.List.{list_all};
-ghost use Rattle.dft_config.specs.Range.{IsRingInRange};
 ghost use Rattle.dft_equations.specs.LoadRows.{rows_of};
 
 use dft_config::Config;
@@ -78,25 +77,24 @@ fn fitting_rows(
     lengths: &[u16],
     cycles: u16,
 ) -> Result<String, AllocError>
-    requires ring { IsRingInRange config.now.chains config.now.ring }
     requires lengths { IsTrue (list_all (λ cells. nat_le cells cycles) lengths.now) }
     requires columns { cycles ≤ 512 }
 {
-    if usize::from(config.chains) != lengths.len() {
+    if usize::from(config.chains()) != lengths.len() {
         return String::from_str(alloc, "not of so many chains");
     }
     rows(alloc, config, lengths, cycles)
 }
 
 fn rows(alloc: Global, config: &Config, lengths: &[u16], cycles: u16) -> Result<String, AllocError>
-    requires ring { IsRingInRange config.now.chains config.now.ring }
     requires chains { length lengths.now ≡ config.now.chains }
     requires lengths { IsTrue (list_all (λ cells. nat_le cells cycles) lengths.now) }
     requires columns { cycles ≤ 512 }
 {
+    config.soundness();
     let equations = equations(alloc, config, lengths, cycles)?;
     let mut text = String::new(alloc);
-    for chain in 0..config.chains {
+    for chain in 0..config.chains() {
         let places = lengths[usize::from(chain)];
         push_chain(alloc, &equations, chain, places, &mut text)?;
     }

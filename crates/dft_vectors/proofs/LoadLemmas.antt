@@ -7,7 +7,7 @@ use Rattle.dft_base.specs.Packed.{packed_bit}
 use Rattle.dft_base.specs.Solutions.{bit_at}
 use Rattle.dft_lanes.specs.Rows.{bits_of, IsPacked}
 use Rattle.dft_netlist.specs.Netlist.{Netlist}
-use Rattle.dft_config.specs.declared.config.Config.{Config}
+use Rattle.dft_config.specs.Config.{Config}
 use Rattle.dft_config.specs.Ring.{Table}
 use Rattle.dft_stitch.specs.Plans.{Plan}
 use Rattle.dft_expect.specs.Loaded.{table_of}

@@ -13,7 +13,7 @@ use Rattle.dft_netlist.proofs.LiveLemmas.{bit_live}
 use Rattle.dft_netlist.specs.declared.ids.NetId.{NetId}
 use Rattle.dft_netlist.specs.Netlist.{Netlist}
 use Rattle.dft_netlist.specs.Connections.{input_net}
-use Rattle.dft_config.specs.declared.config.Config.{Config}
+use Rattle.dft_config.specs.Config.{Config}
 use Rattle.dft_rules.specs.Rules.{is_net}
 use Rattle.dft_cubes.specs.declared.cube.Merged.{Merged}
 use Rattle.dft_expect.specs.Captures.{config_ports, port_value, capture_vector, capture_clock, bit_of_port, bits_out, output_bits}

@@ -1,7 +1,7 @@
 -- What compiled vectors do at the added ports of style Edt (Rajski and others, 2004).
 use Rattle.std.specs.Prelude.{ℕ, Bool, true, false, List, [], ◌∷◌, ◌++◌, map}
 use Rattle.std.specs.List.{range_with_len}
-use Rattle.dft_config.specs.declared.config.Config.{Config}
+use Rattle.dft_config.specs.Config.{Config}
 use Rattle.dft_patterns.specs.declared.act.Act.{Act}
 use Rattle.dft_patterns.specs.declared.act.Act.TheVariants.{Pulse}
 use Rattle.dft_vectors.specs.OwnPorts.{set_to}

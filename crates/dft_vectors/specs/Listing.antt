@@ -1,7 +1,7 @@
 -- A list of vectors that is being made.
 use Rattle.std.specs.Prelude.{ℕ, ◌≡◌, List, length}
 use Rattle.dft_netlist.specs.Netlist.{Netlist}
-use Rattle.dft_config.specs.declared.config.Config.{Config}
+use Rattle.dft_config.specs.Config.{Config}
 use Rattle.dft_stitch.specs.Plans.{Plan}
 use Rattle.dft_patterns.specs.declared.act.Act.{Act}
 use Rattle.dft_vectors.specs.PatternData.{PatternData}

@@ -2,7 +2,7 @@
 use Rattle.std.specs.Prelude.{ℕ, ◌≡◌, ◌*◌, Bool, List, length, Option, option_map}
 use Rattle.dft_base.specs.Solutions.{bit_at}
 use Rattle.dft_lanes.specs.Rows.{bits_of, IsPacked}
-use Rattle.dft_config.specs.declared.config.Config.{Config}
+use Rattle.dft_config.specs.Config.{Config}
 use Rattle.dft_config.specs.Ring.{Table}
 use Rattle.dft_stitch.specs.Plans.{Plan}
 use Rattle.dft_cubes.specs.declared.cube.Merged.{Merged}

@@ -1,7 +1,7 @@
 -- Mask segments as they are looked up.
 use Rattle.std.specs.Prelude.{ℕ, ◌+◌, ◌&&◌, Bool, List, map, nat_lt}
 use Rattle.std.specs.List.{range_with_len}
-use Rattle.dft_config.specs.declared.config.Config.{Config}
+use Rattle.dft_config.specs.Config.{Config}
 use Rattle.dft_config.specs.Segments.{segment_start, segment_length}
 use Rattle.dft_vectors.specs.declared.added.Segment.{Segment}
 

@@ -4,7 +4,7 @@ use Rattle.std.specs.List.{All}
 use Rattle.dft_netlist.specs.declared.ids.NetId.{NetId}
 use Rattle.dft_netlist.specs.Netlist.{Netlist}
 use Rattle.dft_netlist.specs.Connections.{input_net}
-use Rattle.dft_config.specs.declared.config.Config.{Config}
+use Rattle.dft_config.specs.Config.{Config}
 use Rattle.dft_expect.specs.Captures.{config_ports, output_bits}
 use Rattle.dft_vectors.specs.declared.own.OwnInput.{OwnInput}
 use Rattle.dft_vectors.specs.declared.own.OwnPorts.{OwnPorts}

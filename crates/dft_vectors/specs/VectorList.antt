@@ -4,7 +4,7 @@ use Rattle.std.specs.Prelude.{ℕ, zero, suc, ◌+◌, ◌*◌, false, Bool, Lis
 use Rattle.std.specs.List.{range_with_len}
 use Rattle.dft_base.specs.Solutions.{bit_at}
 use Rattle.dft_netlist.specs.Netlist.{Netlist}
-use Rattle.dft_config.specs.declared.config.Config.{Config}
+use Rattle.dft_config.specs.Config.{Config}
 use Rattle.dft_config.specs.Ring.{Table}
 use Rattle.dft_stitch.specs.Plans.{Plan}
 use Rattle.dft_config.specs.Segments.{sent_mask}

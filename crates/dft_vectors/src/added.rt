@@ -4,7 +4,6 @@ ghost use Rattle.std.specs.Prelude.{◌≡◌, ◌+◌, ◌*◌, ◌<◌, ◌≤
 ghost use Rattle.std.specs.List.{range_with_len};
 ghost use Rattle.dft_base.specs.Packed.{packed_bit};
 ghost use Rattle.dft_base.specs.Solutions.{bit_at};
-ghost use Rattle.dft_config.specs.Range.{IsInRange};
 ghost use Rattle.dft_config.specs.Segments as segments;
 ghost use Rattle.dft_config.specs.Segments.{sent_mask};
 ghost use Rattle.dft_vectors.specs.AddedPorts as spec;
@@ -26,12 +25,12 @@ pub(crate) struct Segment {
 
 // The mask segments.
 pub(crate) fn segments(alloc: Global, config: &Config) -> Result<Vec<Segment>, AllocError>
-    requires { IsInRange config.now }
     ensures { IfOk result (λ segments. segments.items ≡ segments_of config.now) }
 {
+    config.soundness();
     let mut segments = Vec::new(alloc);
     let mut start = 0;
-    for segment in 0..config.compactor.mask_inputs {
+    for segment in 0..config.compactor().mask_inputs {
         let length = segment_length(config, segment);
         segments.push(Segment { start, length })?;
         start += length;
@@ -41,15 +40,15 @@ pub(crate) fn segments(alloc: Global, config: &Config) -> Result<Vec<Segment>, A
 
 // How many chains a segment has.
 fn segment_length(config: &Config, segment: u8) -> u16
-    requires { IsInRange config.now }
     ensures length { result ≡ segments.segment_length config.now segment }
     ensures few { result ≤ 1025 }
 {
-    let inputs = u16::from(config.compactor.mask_inputs);
-    if u16::from(segment) < config.chains % inputs {
-        config.chains / inputs + 1
+    config.soundness();
+    let inputs = u16::from(config.compactor().mask_inputs);
+    if u16::from(segment) < config.chains() % inputs {
+        config.chains() / inputs + 1
     } else {
-        config.chains / inputs
+        config.chains() / inputs
     }
 }
 
@@ -128,6 +127,6 @@ pub(crate) fn push_clearing(acts: &mut Vec<Act>, config: &Config) -> Result<(), 
     ensures { OnOk result (acts.new.items ≡ acts.old.items ++ spec.clearing config.now) }
 {
     push_controls(acts, false, true)?;
-    push_low(acts, config.ring.channels)?;
-    push_low(acts, config.compactor.mask_inputs)
+    push_low(acts, config.ring().channels)?;
+    push_low(acts, config.compactor().mask_inputs)
 }

@@ -1,7 +1,6 @@
 //! What vectors are made from.
 
 ghost use Rattle.std.specs.Prelude.{◌≡◌, ◌≤◌, ◌++◌, length, IfOk, OnOk};
-ghost use Rattle.dft_config.specs.Range.{IsInRange};
 ghost use Rattle.dft_cubes.specs.declared.cube.Merged.{Merged as AMerged};
 ghost use Rattle.dft_vectors.specs.OwnPorts as own;
 ghost use Rattle.dft_vectors.specs.Shown.{IsLayout};
@@ -36,7 +35,6 @@ pub(crate) fn look_up<'a>(
     config: &'a Config,
     chains: &'a Chains,
 ) -> Result<Layout<'a>, AllocError>
-    requires range { IsInRange config.now }
     requires chains { length chains.now.chains ≡ config.now.chains }
     requires cycles { chains.now.cycles ≤ 4096 }
     ensures layout { IfOk result IsLayout }
@@ -44,6 +42,7 @@ pub(crate) fn look_up<'a>(
     ensures config { IfOk result (λ l. l.config.now ≡ config.entry.now) }
     ensures chains { IfOk result (λ l. l.chains.now ≡ chains.entry.now) }
 {
+    config.soundness();
     let own = own_ports(alloc, design, config)?;
     let segments = segments(alloc, config)?;
     Ok(Layout {
@@ -62,7 +61,7 @@ impl<'a> Layout<'a> {
         requires { IsLayout self.now }
         ensures { OnOk result (acts.new.items ≡ acts.old.items ++ own.ignored (length self.now.config.now.compactor.groups)) }
     {
-        push_ignored(acts, self.config.compactor.groups.as_slice().len())
+        push_ignored(acts, self.config.compactor().groups.as_slice().len())
     }
 
     // Adds the acts of the set-up vector.

@@ -1,7 +1,6 @@
 //! Lists of vectors, pattern after pattern.
 
 ghost use Rattle.std.specs.Prelude.{◌≡◌, ◌+◌, ◌<◌, ◌≤◌, ◌++◌, ◌∷◌, [], List, None, length, replicate, IfSome, IfOk, OnOk};
-ghost use Rattle.dft_config.specs.Range.{IsInRange};
 ghost use Rattle.dft_vectors.specs.Listing.{Lists};
 ghost use Rattle.dft_vectors.specs.ListSteps.{begun_by, ended_by};
 ghost use Rattle.dft_base.specs.Packed.{packed_bit};
@@ -51,7 +50,6 @@ impl<'a> VectorList<'a> {
         config: &'a Config,
         chains: &'a Chains,
     ) -> Result<VectorList<'a>, AllocError>
-        requires range { IsInRange config.now }
         requires chains { length chains.now.chains ≡ config.now.chains }
         requires cycles { chains.now.cycles ≤ 4096 }
         ensures { IfOk result (λ list. list ≡ record { design = design.entry.now; config = config.entry.now; plan = chains.entry.now; vectors = []; count = 0 }) }

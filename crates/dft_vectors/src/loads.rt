@@ -50,7 +50,7 @@ fn push_inputs(
     ensures { OnOk result (acts.new.items ≡ acts.old.items
         ++ spec.shift_inputs layout.now.design.now layout.now.config.now layout.now.chains.now (table_of layout.now.config.now.ring (packed_bit bits.now)) masks.now cycle) }
 {
-    let channels = layout.config.ring.channels;
+    let channels = layout.config.ring().channels;
     let place = usize::from(layout.chains.cycles()) - (cycle + 1);
     acts.extend_from_slice(&layout.own.pulsing)?;
     push_controls(acts, true, false)?;
@@ -76,7 +76,7 @@ fn push_shift(
         ++ spec.shift_with layout.now.design.now layout.now.config.now layout.now.chains.now (table_of layout.now.config.now.ring (packed_bit bits.now)) masks.now cycle
         (shown_at (length layout.now.config.now.compactor.groups) (option_map (λ shown. shown.now) expected.entry) cycle)) }
 {
-    let width = layout.config.compactor.groups.as_slice().len();
+    let width = layout.config.compactor().groups.as_slice().len();
     push_inputs(acts, layout, bits, masks, cycle)?;
     push_ignored(acts, layout.own.outputs)?;
     push_shown(acts, width, expected, cycle)
@@ -170,6 +170,6 @@ pub(crate) fn add_load(
 pub(crate) fn no_bits(layout: &Layout<'_>) -> Result<Vec<u64>, AllocError>
     ensures { IfOk result (λ bits. bits.items ≡ replicate (words_for (columns_of layout.now.config.now layout.now.chains.now)) 0) }
 {
-    let columns = usize::from(layout.chains.cycles()) * usize::from(layout.config.ring.channels);
+    let columns = usize::from(layout.chains.cycles()) * usize::from(layout.config.ring().channels);
     vec![in layout.alloc; 0; (columns + 63) / 64]
 }

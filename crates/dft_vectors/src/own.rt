@@ -3,7 +3,7 @@
 ghost use Rattle.std.specs.Prelude.{◌≡◌, ◌++◌, false, get_or, map, None, IfOk, OnOk};
 ghost use Rattle.std.specs.List.{list_any};
 ghost use Rattle.dft_netlist.specs.Netlist.{Netlist};
-ghost use Rattle.dft_config.specs.declared.config.Config.{Config};
+ghost use Rattle.dft_config.specs.Config.{Config};
 ghost use Rattle.dft_rules.specs.Rules as rules;
 ghost use Rattle.dft_expect.specs.Captures as captures;
 ghost use Rattle.dft_expect.specs.Captures.{capture_vector};
@@ -53,8 +53,8 @@ pub(crate) fn own_ports(
 {
     let ports = design.ports();
     let nets = bits::inputs(alloc, ports)?;
-    let clocks = nets_named(alloc, design, config.domains.as_slice())?;
-    let resets = nets_named(alloc, design, config.resets.as_slice())?;
+    let clocks = nets_named(alloc, design, config.domains())?;
+    let resets = nets_named(alloc, design, config.resets())?;
     let inputs = own_inputs(alloc, &nets, &clocks, &resets)?;
     let pulsing = pulsing(alloc, &inputs)?;
     let outputs = bits::outputs(alloc, ports)?.len();

@@ -14,7 +14,7 @@ returns-in_err-make_output-clause-makes c =
     let k = c.loop-output.output in
     let n = length c.as_slice-count.result.now in
     rw (p.1, p.2)
-    (subst (λ (m : ℕ). IsRefusal (outcome (each f (range_with_len 0 m)) c.args.parts.now) c.in_err-make_output.field-0.0) (ap length c.as_slice-count.ensures)
+    (subst (λ (m : ℕ). IsRefusal (outcome (each f (range_with_len 0 m)) c.args.parts.now) c.in_err-make_output.field-0.0) (ap length (rw c.compactor.ensures at c.as_slice-count.ensures))
     (each_stops f (range_with_len 0 n) (range_with_len k (n - k)) (range_with_len (k + 1) (n - (k + 1))) k c.args.parts.now c.loop-output.parts c.in_err-make_output.field-0.0 c.loop-output.invariant (range_on k n c.loop-output-test.true)
     c.in_err-make_output.ensures.makes))
 
@@ -31,5 +31,5 @@ returns-clause-makes c =
     let f = an_output c.args.config.now c.args.ports.now c.args.gated.now in
     let k = c.loop-output.output in
     let n = length c.as_slice-count.result.now in
-    subst (λ (m : ℕ). outcome (each f (range_with_len 0 m)) c.args.parts.now ≡ Ok (tt, c.loop-output.parts)) (ap length c.as_slice-count.ensures)
+    subst (λ (m : ℕ). outcome (each f (range_with_len 0 m)) c.args.parts.now ≡ Ok (tt, c.loop-output.parts)) (ap length (rw c.compactor.ensures at c.as_slice-count.ensures))
     (each_ends f (range_with_len 0 n) (range_with_len k (n - k)) c.args.parts.now c.loop-output.parts c.loop-output.invariant (range_over k n c.loop-output-test.false))

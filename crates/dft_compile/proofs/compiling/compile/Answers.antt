@@ -11,7 +11,7 @@ use Rattle.dft_compile.proofs.WorkLemmas.{compiled_of, placed_by, placed_count, 
 use Rattle.dft_compile.proofs.compiling.compile.Goals as goal
 
 pub new-requires-clause-apart : goal.new-requires-clause-apart
-new-requires-clause-apart c = subst (λ (p : Plan). StandApart p.chains) (sym c.requires.prepared.chains) (c.plans_stand_apart.ensures c.args.design.now c.args.config.now c.requires.range)
+new-requires-clause-apart c = subst (λ (p : Plan). StandApart p.chains) (sym c.requires.prepared.chains) (c.plans_stand_apart.ensures c.args.design.now c.args.config.now c.soundness-2.ensures)
 
 pub texts-requires : goal.texts-requires
 texts-requires c =
@@ -19,11 +19,11 @@ texts-requires c =
     let new = c.in_ok-merger.ensures in
     let none = ap (λ (m : Merging). length m.patterns) new in
     record {
-      range = c.requires.range;
+      range = c.soundness-2.ensures;
       joined = c.requires.joined;
       prepared = c.requires.prepared;
       equations = c.in_ok-equations.ensures;
-      apart = subst (λ (p : Plan). StandApart p.chains) (sym c.requires.prepared.chains) (c.plans_stand_apart.ensures c.args.design.now c.args.config.now c.requires.range);
+      apart = subst (λ (p : Plan). StandApart p.chains) (sym c.requires.prepared.chains) (c.plans_stand_apart.ensures c.args.design.now c.args.config.now c.soundness-2.ensures);
       chains = ap (λ (m : Merging). m.chains) same ∙ ap (λ (m : Merging). m.chains) new;
       rows = ap (λ (m : Merging). m.rows) same ∙ ap (λ (m : Merging). m.rows) new;
       few = omega (arith, c.in_ok-placed.ensures.few, none, c.requires.cubes);
@@ -36,7 +36,7 @@ pub returns-clause-compile : goal.returns-clause-compile
 returns-clause-compile c =
     let n = c.args.design.now in
     let config = c.args.config.now in
-    let told = told_of n config c.args.cubes.now c.requires.range c.soundness.ensures.netlist c.requires.prepared.passed c.requires.prepared.fits (c.plans_stand_apart.ensures n config c.requires.range) c.cubes_are_named.ensures c.requires.cubes c.requires.cells in
+    let told = told_of n config c.args.cubes.now c.soundness-2.ensures c.soundness.ensures.netlist c.requires.prepared.passed c.requires.prepared.fits (c.plans_stand_apart.ensures n config c.soundness-2.ensures) c.cubes_are_named.ensures c.requires.cubes c.requires.cells in
     let p = placed_by c.args.design.now c.args.config.now c.args.cubes.now c.args.prepared.now.chains c.in_ok-equations.equations c.in_ok-merger.merger c.in_ok-placed.placed.items c.deref.result.now c.place_all.new.merger.patterns c.requires.prepared.chains
     c.in_ok-equations.ensures c.in_ok-merger.ensures c.deref.ensures.value c.in_ok-placed.ensures.placed in
     IfOk-weaker c.texts.result (AreTextsOf n config c.args.cubes.now c.in_ok-equations.equations c.deref.result.now c.place_all.new.merger.patterns) (IsCompileOf n config c.args.cubes.now)

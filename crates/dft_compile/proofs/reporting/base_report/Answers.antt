@@ -17,7 +17,7 @@ counts_of-counts-requires-clause-few c =
     let n = c.args.design.now in
     let config = c.args.config.now in
     let P : Plan → Type 0 = λ p. length p.lockups < 2 ^ 32 in
-    subst P (sym c.requires.prepared.chains) (few_lockups (judgements n config) (plan_of n config).chains (few_chains n config c.requires.range) (short_chains n config c.requires.prepared.fits))
+    subst P (sym c.requires.prepared.chains) (few_lockups (judgements n config) (plan_of n config).chains (few_chains n config c.soundness.ensures) (short_chains n config c.requires.prepared.fits))
 
 pub report_of-requires-clause-short : goal.report_of-requires-clause-short
 report_of-requires-clause-short c =

@@ -5,7 +5,7 @@ use Rattle.dft_config.proofs.checks.first_unreached.Given as goal
 
 abbrev pub invariant-loop-group : goal.invariant-loop-group
 invariant-loop-group l = record {
-  marks : length l.reached.items ≡ l.config.chains;
+  marks : length l.reached.items ≡ l.draft.loading.chains;
   same : (k : ℕ) → k < length l.reached.items
-      → is_reached l.config.compactor.groups k ≡ (get_or l.reached.items k false || is_reached (drop l.group-index l.config.compactor.groups) k);
+      → is_reached l.draft.compactor.groups k ≡ (get_or l.reached.items k false || is_reached (drop l.group-index l.draft.compactor.groups) k);
 }

@@ -8,11 +8,12 @@ use Rattle.dft_equations.proofs.ImpulseLemmas.{impulse_start, impulse_step, impu
 use Rattle.dft_equations.proofs.impulses.impulse.Goals as goal
 
 pub loop-cycle-init : goal.loop-cycle-init
-loop-cycle-init c = record {
-  so_far = record { count = ap length c.in_ok-states.ensures.items; stages = λ t less. absurd (omega arith); bits = λ t less. absurd (omega arith) };
-  stages = ap length c.in_ok-state.ensures ∙ length-replicate {A = Bool} c.args.config.now.ring.stages _;
-  bits = λ stage. ap (λ (l : List Bool). bit_at l stage) c.in_ok-state.ensures ∙ bit_at-zeros c.args.config.now.ring.stages stage ∙ impulse_start c.args.config.now.ring c.args.channel stage;
-}
+loop-cycle-init c =
+    let zeros = rw c.ring.ensures at c.in_ok-state.ensures in record {
+      so_far = record { count = ap length c.in_ok-states.ensures.items; stages = λ t less. absurd (omega arith); bits = λ t less. absurd (omega arith) };
+      stages = ap length zeros ∙ length-replicate {A = Bool} c.args.config.now.ring.stages _;
+      bits = λ stage. ap (λ (l : List Bool). bit_at l stage) zeros ∙ bit_at-zeros c.args.config.now.ring.stages stage ∙ impulse_start c.args.config.now.ring c.args.channel stage;
+    }
 
 pub loop-cycle-preserved : goal.loop-cycle-preserved
 loop-cycle-preserved c =

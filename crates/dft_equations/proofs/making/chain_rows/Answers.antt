@@ -2,6 +2,7 @@
 use Rattle.std.proofs.Common.{◌*◌, ◌+◌, arith, ap, length, ◌∙◌}
 use Rattle.std.proofs.lemmas.List.FromFn.{length-map-range_with_len}
 use Rattle.dft_base.specs.Solutions.{bit_at}
+use Rattle.dft_config.specs.declared.config.RingConfig.{RingConfig}
 use Rattle.dft_config.specs.Loads.{load_equation}
 use Rattle.dft_equations.proofs.LoadLemmas.{rows_more}
 use Rattle.dft_equations.proofs.making.chain_rows.Goals as goal
@@ -18,4 +19,4 @@ loop-place-preserved c =
     let first_is = c.in_ok-first.ensures ∙ c.deref.ensures.value ∙ c.in_ok-bits.ensures in
     rw c.in_ok-push.ensures.items
     (rows_more ring c.args.cycles c.args.chain c.loop-place.place c.loop-place.rows.items c.in_ok-first.first _ (omega arith) (omega arith) c.loop-place.invariant first_is c.in_ok-moved.ensures.size
-    (λ column. c.in_ok-moved.ensures.bits column ∙ (λ t. bit_at c.in_ok-first.first (column + c.from.ensures t * c.from-in-loop-place.ensures t))))
+    (λ column. c.in_ok-moved.ensures.bits column ∙ (λ t. bit_at c.in_ok-first.first (column + c.from.ensures t * (c.from-in-loop-place.ensures ∙ ap (λ (r : RingConfig). r.channels) c.ring.ensures) t))))

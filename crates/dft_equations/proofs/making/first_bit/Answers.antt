@@ -6,13 +6,13 @@ use Rattle.dft_equations.proofs.making.first_bit.Goals.{After-as_slice-2, After-
 read : (c : After-as_slice-2) → IsRead c.args.config.now c.args.cycles c.args.chain c.args.column c.args.responses.now c.index-responses-column.result c.index-response-from.result c.index-as_slice-chain.result
 read c =
     record {
-      range = c.requires.ring;
+      range = c.soundness.ensures.ring;
       impulses = c.requires.responses;
       chain_less = c.requires.chain;
       column_less = c.requires.column;
-      response_is = rw c.from-channels.ensures at c.index-responses-column.is;
-      state_is = rw (c.as_slice-response.ensures, c.from.ensures, c.from-channels.ensures) at c.index-response-from.is;
-      stages_are = rw c.as_slice.ensures at c.index-as_slice-chain.is;
+      response_is = rw (c.from-channels.ensures, c.ring.ensures) at c.index-responses-column.is;
+      state_is = rw (c.as_slice-response.ensures, c.from.ensures, c.from-channels.ensures, c.ring.ensures) at c.index-response-from.is;
+      stages_are = rw (c.as_slice.ensures, c.ring-2.ensures) at c.index-as_slice-chain.is;
     }
 
 pub phase_sum-requires : goal.phase_sum-requires
@@ -21,13 +21,13 @@ phase_sum-requires c = rw (c.as_slice-2.ensures, c.as_slice-state.ensures) (read
 read_after : (c : After-phase_sum) → IsRead c.args.config.now c.args.cycles c.args.chain c.args.column c.args.responses.now c.index-responses-column.result c.index-response-from.result c.index-as_slice-chain.result
 read_after c =
     record {
-      range = c.requires.ring;
+      range = c.soundness.ensures.ring;
       impulses = c.requires.responses;
       chain_less = c.requires.chain;
       column_less = c.requires.column;
-      response_is = rw c.from-channels.ensures at c.index-responses-column.is;
-      state_is = rw (c.as_slice-response.ensures, c.from.ensures, c.from-channels.ensures) at c.index-response-from.is;
-      stages_are = rw c.as_slice.ensures at c.index-as_slice-chain.is;
+      response_is = rw (c.from-channels.ensures, c.ring.ensures) at c.index-responses-column.is;
+      state_is = rw (c.as_slice-response.ensures, c.from.ensures, c.from-channels.ensures, c.ring.ensures) at c.index-response-from.is;
+      stages_are = rw (c.as_slice.ensures, c.ring-2.ensures) at c.index-as_slice-chain.is;
     }
 
 pub returns : goal.returns

@@ -11,9 +11,9 @@ pub loop-cycle-preserved : goal.loop-cycle-preserved
 loop-cycle-preserved c =
     let ring = c.args.config.now.ring in
     let table = table_of ring (packed_bit c.args.next.now) in
-    let are = c.in_ok-states.ensures in
+    let are = rw c.ring-ring.ensures at c.in_ok-states.ensures in
     let again = states_again ring table c.cycles.result c.in_ok-states.states.items c.deref-2.result.now are c.deref-2.ensures.value in
-    let more = rw (c.as_slice-values.ensures, c.as_slice-groups.ensures) at (c.in_ok-add_cycle.ensures table again) in
+    let more = (rw (c.as_slice-values.ensures, c.as_slice-groups.ensures, c.compactor.ensures, c.ring-ring.ensures) at c.in_ok-add_cycle.ensures) table again in
     let less : c.loop-cycle.cycle < c.args.chains.now.cycles = omega (arith, c.loop-cycle-test.true, c.len-cycle-end.ensures, are.count, c.cycles.ensures) in
     unloading_goes_on ring c.args.config.now.compactor.groups table c.args.masks.now (by_chain c.args.chains.now.chains c.args.response.now.cells) c.args.chains.now.cycles c.loop-cycle.cycle
     c.loop-cycle.expected.items c.add_cycle.new.expected.items less more c.loop-cycle.invariant

@@ -1,6 +1,6 @@
 use Rattle.std.proofs.Common.{◌∙◌, sym, subst, ap}
 use Rattle.dft_netlist.specs.Netlist.{Netlist}
-use Rattle.dft_config.specs.declared.config.Config.{Config}
+use Rattle.dft_config.specs.Config.{Config}
 use Rattle.dft_scan_frame.specs.Statements.{CanFinish}
 use Rattle.dft_scan_hardware.specs.Scanned.{scanned_netlist}
 use Rattle.dft_scan_equivalence.proofs.Finished.{can_be_finished}

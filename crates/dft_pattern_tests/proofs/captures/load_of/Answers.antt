@@ -11,7 +11,7 @@ pub loaded-requires-clause-ring : goal.loaded-requires-clause-ring
 loaded-requires-clause-ring c =
     let config = c.args.job.now.config.now in
     let count = ap (λ (p : Plan). length p.chains) c.requires.chains ∙ chains_count c.args.job.now.design.now config in
-    subst (λ k. IsRingInRange k config.ring) (sym count) c.requires.range.ring
+    subst (λ k. IsRingInRange k config.ring) (sym count) c.soundness.ensures.ring
 
 pub loaded-requires-clause-cells : goal.loaded-requires-clause-cells
 loaded-requires-clause-cells c =

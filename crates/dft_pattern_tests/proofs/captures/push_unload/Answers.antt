@@ -11,11 +11,11 @@ pub expected-requires-clause-ring : goal.expected-requires-clause-ring
 expected-requires-clause-ring c =
     let config = c.args.job.now.config.now in
     let count = ap (λ (p : Plan). length p.chains) c.requires.chains ∙ chains_count c.args.job.now.design.now config in
-    subst (λ k. IsRingInRange k config.ring) (sym count) c.requires.range.ring
+    subst (λ k. IsRingInRange k config.ring) (sym count) c.soundness.ensures.ring
 
 pub expected-requires-clause-groups : goal.expected-requires-clause-groups
 expected-requires-clause-groups c =
     let config = c.args.job.now.config.now in
     let count = ap (λ (p : Plan). length p.chains) c.requires.chains ∙ chains_count c.args.job.now.design.now config in
     subst (λ (k : ℕ). All (λ (group : List ℕ). All (λ (chain : ℕ). chain < k) group) config.compactor.groups) (sym count)
-    (All-weaker (IsSet config.chains) (λ (group : List ℕ). All (λ (chain : ℕ). chain < config.chains) group) (λ group set. set.below) config.compactor.groups c.requires.range.compactor.groups)
+    (All-weaker (IsSet config.chains) (λ (group : List ℕ). All (λ (chain : ℕ). chain < config.chains) group) (λ group set. set.below) config.compactor.groups c.soundness.ensures.compactor.groups)

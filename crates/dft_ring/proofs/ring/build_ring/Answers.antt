@@ -13,7 +13,7 @@ returns-in_err-run-clause-makes c =
 pub returns-in_err-stages-clause-makes : goal.returns-in_err-stages-clause-makes
 returns-in_err-stages-clause-makes c =
     let p = err_from_is_err_and c.from_residual-in_err-stages.result c.from_residual-in_err-stages.ensures.1 in
-    rw (p.1, p.2) (nets_refused c.args.config.now c.args.ports.now c.args.parts.now c.driving_gate.new.self c.in_ok-run.run' c.in_err-stages.field-0.0 c.in_ok-run.ensures.makes c.in_err-stages.ensures.makes)
+    rw (p.1, p.2) (nets_refused c.args.config.now c.args.ports.now c.args.parts.now c.driving_gate.new.self c.in_ok-run.run' c.in_err-stages.field-0.0 c.in_ok-run.ensures.makes (rw c.ring-ring.ensures at c.in_err-stages.ensures.makes))
 
 pub returns-in_err-make_stages-clause-makes : goal.returns-in_err-make_stages-clause-makes
 returns-in_err-make_stages-clause-makes c =
@@ -22,8 +22,8 @@ returns-in_err-make_stages-clause-makes c =
     let ports = c.args.ports.now in
     let stages = c.in_ok-stages.stages.items in
     rw (p.1, p.2)
-    (stages_refused config ports c.args.parts.now c.driving_gate.new.self c.make_nets.new.parts c.in_ok-run.run' stages c.in_err-make_stages.field-0.0 c.in_ok-run.ensures.makes c.in_ok-stages.ensures.makes
-    (subst (λ (ns : List NetId). IsRefusal (outcome (stages_of config ports c.in_ok-run.run' ns) c.make_nets.new.parts) c.in_err-make_stages.field-0.0) c.deref.ensures.value c.in_err-make_stages.ensures.makes))
+    (stages_refused config ports c.args.parts.now c.driving_gate.new.self c.make_nets.new.parts c.in_ok-run.run' stages c.in_err-make_stages.field-0.0 c.in_ok-run.ensures.makes (rw c.ring-ring.ensures at c.in_ok-stages.ensures.makes)
+    (subst (λ (ns : List NetId). IsRefusal (outcome (stages_of config ports c.in_ok-run.run' ns) c.make_nets.new.parts) c.in_err-make_stages.field-0.0) c.deref.ensures.value (rw c.ring-ring.ensures at c.in_err-make_stages.ensures.makes)))
 
 pub returns-in_err-phases-clause-makes : goal.returns-in_err-phases-clause-makes
 returns-in_err-phases-clause-makes c =
@@ -32,9 +32,9 @@ returns-in_err-phases-clause-makes c =
     let ports = c.args.ports.now in
     let stages = c.in_ok-stages.stages.items in
     rw (p.1, p.2)
-    (phases_refused config ports c.args.parts.now c.driving_gate.new.self c.make_nets.new.parts c.make_stages.new.parts c.in_ok-run.run' stages c.in_err-phases.field-0.0 c.in_ok-run.ensures.makes c.in_ok-stages.ensures.makes
-    (subst (λ (ns : List NetId). outcome (stages_of config ports c.in_ok-run.run' ns) c.make_nets.new.parts ≡ Ok (tt, c.make_stages.new.parts)) c.deref.ensures.value c.in_ok-make_stages.ensures.makes)
-    (subst (λ (ns : List NetId). IsRefusal (outcome (phases_of config ns) c.make_stages.new.parts) c.in_err-phases.field-0.0) c.deref-2.ensures.value c.in_err-phases.ensures.makes))
+    (phases_refused config ports c.args.parts.now c.driving_gate.new.self c.make_nets.new.parts c.make_stages.new.parts c.in_ok-run.run' stages c.in_err-phases.field-0.0 c.in_ok-run.ensures.makes (rw c.ring-ring.ensures at c.in_ok-stages.ensures.makes)
+    (subst (λ (ns : List NetId). outcome (stages_of config ports c.in_ok-run.run' ns) c.make_nets.new.parts ≡ Ok (tt, c.make_stages.new.parts)) c.deref.ensures.value (rw c.ring-ring.ensures at c.in_ok-make_stages.ensures.makes))
+    (subst (λ (ns : List NetId). IsRefusal (outcome (phases_of config ns) c.make_stages.new.parts) c.in_err-phases.field-0.0) c.deref-2.ensures.value (rw (c.ring-ring.ensures, c.chains.ensures) at c.in_err-phases.ensures.makes)))
 
 pub returns-clause-makes : goal.returns-clause-makes
 returns-clause-makes c =
@@ -45,7 +45,7 @@ returns-clause-makes c =
     let run = c.in_ok-run.run' in
     let end = c.make_phases.new.parts in
     let listed : (phases ≡ c.from_vec.result) = sym c.from_vec.ensures in
-    to_end config ports c.args.parts.now c.driving_gate.new.self c.make_nets.new.parts c.make_stages.new.parts end run stages phases c.in_ok-run.ensures.makes c.in_ok-stages.ensures.makes
-    (subst (λ (ns : List NetId). outcome (stages_of config ports run ns) c.make_nets.new.parts ≡ Ok (tt, c.make_stages.new.parts)) c.deref.ensures.value c.in_ok-make_stages.ensures.makes)
-    (subst (λ (ns : List NetId). outcome (phases_of config ns) c.make_stages.new.parts ≡ Ok (phases, end)) c.deref-2.ensures.value c.in_ok-phases.ensures.makes)
+    to_end config ports c.args.parts.now c.driving_gate.new.self c.make_nets.new.parts c.make_stages.new.parts end run stages phases c.in_ok-run.ensures.makes (rw c.ring-ring.ensures at c.in_ok-stages.ensures.makes)
+    (subst (λ (ns : List NetId). outcome (stages_of config ports run ns) c.make_nets.new.parts ≡ Ok (tt, c.make_stages.new.parts)) c.deref.ensures.value (rw c.ring-ring.ensures at c.in_ok-make_stages.ensures.makes))
+    (subst (λ (ns : List NetId). outcome (phases_of config ns) c.make_stages.new.parts ≡ Ok (phases, end)) c.deref-2.ensures.value (rw (c.ring-ring.ensures, c.chains.ensures) at c.in_ok-phases.ensures.makes))
     ∙ (λ i. Ok (record { run = run; phases = listed i }, end))

@@ -21,7 +21,7 @@ returns-in_err-check_count-clause-refused c =
     let config = c.args.config.now in
     let p = err_from_is_err_and c.from_residual-in_err-check_count.result c.from_residual-in_err-check_count.ensures.1 in
     let same : c.deref.result.now ≡ judgements n config = c.deref.ensures.value ∙ c.in_ok-verdicts.ensures config c.in_ok-found.ensures.found in
-    rw (p.1, p.2) (refused_by n config (too_few (judgements n config) config.chains) [] c.in_err-check_count.field-0.0 c.in_ok-found.ensures.passed (rw same at c.in_err-check_count.ensures.refused))
+    rw (p.1, p.2) (refused_by n config (too_few (judgements n config) config.chains) [] c.in_err-check_count.field-0.0 c.in_ok-found.ensures.passed (rw (same, c.chains.ensures) at c.in_err-check_count.ensures.refused))
 
 pub returns-clause-judged : goal.returns-clause-judged
 returns-clause-judged c = c.in_ok-verdicts.ensures c.args.config.now c.in_ok-found.ensures.found
@@ -31,4 +31,4 @@ returns-clause-accepted c =
     let n = c.args.design.now in
     let config = c.args.config.now in
     let same : c.deref.result.now ≡ judgements n config = c.deref.ensures.value ∙ c.in_ok-verdicts.ensures config c.in_ok-found.ensures.found in
-    at_end n config c.in_ok-found.ensures.passed (rw same at c.in_ok-check_count.ensures.ok)
+    at_end n config c.in_ok-found.ensures.passed (rw (same, c.chains.ensures) at c.in_ok-check_count.ensures.ok)

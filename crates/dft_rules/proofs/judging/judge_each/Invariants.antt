@@ -1,7 +1,7 @@
 -- The instances so far are judged.
 use Rattle.std.proofs.Common.{◌≡◌, map}
 use Rattle.std.specs.List.{range_with_len}
-use Rattle.dft_config.specs.declared.config.Config.{Config}
+use Rattle.dft_config.specs.Config.{Config}
 use Rattle.dft_rules.specs.Findings.{AreFindings}
 use Rattle.dft_rules.specs.Rules.{judged}
 use Rattle.dft_rules.proofs.judging.judge_each.Given as goal

@@ -34,7 +34,7 @@ counts_of-counts-requires-clause-few c =
     let config = c.args.config.now in
     let P : Plan → Type 0 = λ p. length p.lockups < 2 ^ 32 in
     subst P (sym c.in_ok-chains.ensures.plan)
-    (few_lockups (judgements n config) (plan_of n config).chains (few_chains n config c.requires.range) (short_chains n config c.in_ok-chains.ensures.fits))
+    (few_lockups (judgements n config) (plan_of n config).chains (few_chains n config c.soundness.ensures) (short_chains n config c.in_ok-chains.ensures.fits))
 
 pub report_of-requires-clause-short : goal.report_of-requires-clause-short
 report_of-requires-clause-short c =
@@ -58,7 +58,7 @@ write-requires-2 c =
     let n = c.args.design.now in
     let config = c.args.config.now in
     let is = c.in_ok-scanned.ensures.design ∙ ap (scanned_netlist Plain n config) c.in_ok-chains.ensures.plan in
-    subst GatesAreJoined (sym is) (scanned_joined Plain n config c.requires.range c.requires.joined)
+    subst GatesAreJoined (sym is) (scanned_joined Plain n config c.soundness.ensures c.requires.joined)
 
 pub returns-in_err-netlist-clause-refused : goal.returns-in_err-netlist-clause-refused
 returns-in_err-netlist-clause-refused c =
@@ -66,7 +66,7 @@ returns-in_err-netlist-clause-refused c =
     err_refused (refusal c.args.design.now c.args.config.now) c.from_residual-in_err-netlist.result p.0 _ p.1 p.2 _
 
 pub returns-clause-ready : goal.returns-clause-ready
-returns-clause-ready c = c.ready.ensures c.args.config.now c.requires.range c.in_ok-verdicts.ensures.accepted
+returns-clause-ready c = c.ready.ensures c.args.config.now c.soundness.ensures c.in_ok-verdicts.ensures.accepted
 
 pub returns-clause-accepted : goal.returns-clause-accepted
 returns-clause-accepted c =

@@ -12,7 +12,7 @@ use Rattle.dft_scan_hardware.proofs.building.make.Goals as goal
 pub make_plain-requires-clause-room : goal.make_plain-requires-clause-room
 make_plain-requires-clause-room c =
     let gap : c.args.gap.now ≡ gap_in Plain c.args.design.now c.args.config.now = c.requires.gap ∙ ap (λ (s : Style). gap_in s c.args.design.now c.args.config.now) c.in-Plain.is in
-    omega (arith, ap (λ (g : Gap). g.width) gap, plain_room c.args.config.now c.requires.range)
+    omega (arith, ap (λ (g : Gap). g.width) gap, plain_room c.args.config.now c.soundness-2.ensures)
 
 pub make_plain-requires-clause-ports : goal.make_plain-requires-clause-ports
 make_plain-requires-clause-ports c =
@@ -28,7 +28,7 @@ make_edt-requires-clause-count c = chains_planned c.args.design.now c.args.confi
 pub make_edt-requires-clause-room : goal.make_edt-requires-clause-room
 make_edt-requires-clause-room c =
     let gap : c.args.gap.now ≡ gap_in Edt c.args.design.now c.args.config.now = c.requires.gap ∙ ap (λ (s : Style). gap_in s c.args.design.now c.args.config.now) c.in-Edt.is in
-    omega (arith, ap (λ (g : Gap). g.width) gap, edt_room c.args.config.now c.requires.range)
+    omega (arith, ap (λ (g : Gap). g.width) gap, edt_room c.args.config.now c.soundness-2.ensures)
 
 pub make_edt-requires-clause-before : goal.make_edt-requires-clause-before
 make_edt-requires-clause-before c = omega (arith, ap (λ (g : Gap). g.before) c.requires.gap, before_few c.args.design.now c.args.config.now c.args.style c.soundness.ensures.netlist)

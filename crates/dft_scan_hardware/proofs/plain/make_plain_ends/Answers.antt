@@ -13,7 +13,7 @@ returns-in_err-gate c =
     let f = a_plain_end c.args.config.now c.args.gap.now c.args.rows.now in
     let k = c.loop-chain.chain in
     let n = c.count-count.result in
-    let refused : IsRefusal (outcome (f k) c.loop-chain.parts) c.in_err-gate.field-0.0 = rw (c.last_net-end.ensures, c.row_at.ensures, c.before-2.ensures, c.from.ensures, c.from-in-loop-chain.ensures) at c.in_err-gate.ensures.makes in
+    let refused : IsRefusal (outcome (f k) c.loop-chain.parts) c.in_err-gate.field-0.0 = rw (c.last_net-end.ensures, c.row_at.ensures, c.before-2.ensures, c.from.ensures, c.chains.ensures, c.from-in-loop-chain.ensures) at c.in_err-gate.ensures.makes in
     rw (p.1, p.2)
     (record {
       makes = subst (λ (m : ℕ). IsRefusal (outcome (each f (range_with_len 0 m)) c.args.parts.now) c.in_err-gate.field-0.0) c.count-count.ensures
@@ -25,7 +25,7 @@ loop-chain-preserved c =
     let f = a_plain_end c.args.config.now c.args.gap.now c.args.rows.now in
     let k = c.loop-chain.chain in
     let n = c.count-count.result in
-    let made : outcome (f k) c.loop-chain.parts ≡ Ok (tt, c.gate.new.self) = rw (c.last_net-end.ensures, c.row_at.ensures, c.before-2.ensures, c.from.ensures, c.from-in-loop-chain.ensures) at c.in_ok-gate.ensures.makes in
+    let made : outcome (f k) c.loop-chain.parts ≡ Ok (tt, c.gate.new.self) = rw (c.last_net-end.ensures, c.row_at.ensures, c.before-2.ensures, c.from.ensures, c.chains.ensures, c.from-in-loop-chain.ensures) at c.in_ok-gate.ensures.makes in
     each_goes f (range_with_len 0 n) (range_with_len k (n - k)) (range_with_len (k + 1) (n - (k + 1))) k c.args.parts.now c.loop-chain.parts c.gate.new.self c.loop-chain.invariant (range_on k n c.loop-chain-test.true) made c.in_ok-gate.ensures.nets
 
 pub returns : goal.returns

@@ -20,7 +20,7 @@ scanned_cells-requires c =
     omega (arith, size, ap length c.instances-count.ensures.instances)
 
 pub cut-requires-clause-some : goal.cut-requires-clause-some
-cut-requires-clause-some c = c.requires.config.chains.0
+cut-requires-clause-some c = omega (arith, c.soundness.ensures.chains.0, c.chains.ensures)
 
 pub cut-requires-clause-few : goal.cut-requires-clause-few
 cut-requires-clause-few c =
@@ -29,14 +29,14 @@ cut-requires-clause-few c =
 
 pub find_lockups-requires-clause-few : goal.find_lockups-requires-clause-few
 find_lockups-requires-clause-few c =
-    let is : c.deref-2.result.now ≡ chains_of c.deref.result.now c.args.config.now.chains = c.deref-2.ensures.value ∙ c.in_ok-chains.ensures in
+    let is : c.deref-2.result.now ≡ chains_of c.deref.result.now c.args.config.now.chains = c.deref-2.ensures.value ∙ (rw c.chains.ensures at c.in_ok-chains.ensures) in
     let count = chain_count c.deref.result.now c.args.config.now.chains in
-    omega (arith, ap length is, count, c.requires.config.chains.1)
+    omega (arith, ap length is, count, c.soundness.ensures.chains.1)
 
 pub find_lockups-requires-clause-short : goal.find_lockups-requires-clause-short
 find_lockups-requires-clause-short c =
     let cells = c.deref.result.now in
-    let is : c.deref-2.result.now ≡ chains_of cells c.args.config.now.chains = c.deref-2.ensures.value ∙ c.in_ok-chains.ensures in
+    let is : c.deref-2.result.now ≡ chains_of cells c.args.config.now.chains = c.deref-2.ensures.value ∙ (rw c.chains.ensures at c.in_ok-chains.ensures) in
     let few = few_cells c.args.config.now _ c.in_ok-cycles.ensures.fits in
     let le : length cells ≤ 65536 = omega (arith, few, ap length c.deref.ensures.value) in
     let P : List (List InstanceId) → Type 0 = λ chains. All (λ (block : List InstanceId). length block ≤ 65536) chains in
@@ -44,14 +44,14 @@ find_lockups-requires-clause-short c =
 
 pub find_places-requires-clause-few : goal.find_places-requires-clause-few
 find_places-requires-clause-few c =
-    let is : c.deref-3.result.now ≡ chains_of c.deref.result.now c.args.config.now.chains = c.deref-3.ensures.value ∙ c.in_ok-chains.ensures in
+    let is : c.deref-3.result.now ≡ chains_of c.deref.result.now c.args.config.now.chains = c.deref-3.ensures.value ∙ (rw c.chains.ensures at c.in_ok-chains.ensures) in
     let count = chain_count c.deref.result.now c.args.config.now.chains in
-    omega (arith, ap length is, count, c.requires.config.chains.1)
+    omega (arith, ap length is, count, c.soundness.ensures.chains.1)
 
 pub find_places-requires-clause-short : goal.find_places-requires-clause-short
 find_places-requires-clause-short c =
     let cells = c.deref.result.now in
-    let is : c.deref-3.result.now ≡ chains_of cells c.args.config.now.chains = c.deref-3.ensures.value ∙ c.in_ok-chains.ensures in
+    let is : c.deref-3.result.now ≡ chains_of cells c.args.config.now.chains = c.deref-3.ensures.value ∙ (rw c.chains.ensures at c.in_ok-chains.ensures) in
     let few = few_cells c.args.config.now _ c.in_ok-cycles.ensures.fits in
     let le : length cells ≤ 65536 = omega (arith, few, ap length c.deref.ensures.value) in
     let P : List (List InstanceId) → Type 0 = λ chains. All (λ (block : List InstanceId). length block ≤ 65536) chains in
@@ -62,8 +62,8 @@ find_places-requires-clause-below c =
     let n = c.args.design.now in
     let v = c.args.verdicts.now in
     let cells = c.deref.result.now in
-    let is : c.deref-3.result.now ≡ chains_of cells c.args.config.now.chains = c.deref-3.ensures.value ∙ c.in_ok-chains.ensures in
-    let scanned : cells ≡ scanned_cells v (length c.args.config.now.domains) = c.deref.ensures.value ∙ c.in_ok-cells.ensures ∙ ap (λ (xs : List (List ℕ)). scanned_cells v (length xs)) c.as_slice.ensures in
+    let is : c.deref-3.result.now ≡ chains_of cells c.args.config.now.chains = c.deref-3.ensures.value ∙ (rw c.chains.ensures at c.in_ok-chains.ensures) in
+    let scanned : cells ≡ scanned_cells v (length c.args.config.now.domains) = c.deref.ensures.value ∙ c.in_ok-cells.ensures ∙ ap (λ (xs : List (List ℕ)). scanned_cells v (length xs)) c.domains.ensures in
     let size : length v ≡ length c.instances-count.result.now = ap length c.requires.verdicts ∙ length-map-range_with_len (judged n c.args.config.now) 0 (length n.instances) ∙ sym (ap length c.instances-count.ensures.instances) in
     let below : AreBelow (length c.instances-count.result.now) cells = (
     let P : List InstanceId → Type 0 = λ xs. AreBelow (length c.instances-count.result.now) xs in
@@ -77,7 +77,7 @@ invariant_of-result c =
     let count = chain_count c.deref.result.now c.args.config.now.chains in
     let P : List (List InstanceId) → Type 0 = λ chains. Knows chains c.in_ok-places.places.items in
     record {
-      few = omega (arith, ap length c.in_ok-chains.ensures, count, c.requires.config.chains.1);
+      few = omega (arith, ap length (rw c.chains.ensures at c.in_ok-chains.ensures), count, c.soundness.ensures.chains.1);
       places = subst P c.deref-3.ensures.value c.in_ok-places.ensures;
     }
 
@@ -87,8 +87,8 @@ returns-clause-plan c =
     let config = c.args.config.now in
     let v = c.args.verdicts.now in
     let cells = c.in_ok-cells.cells.items in
-    let scanned : cells ≡ cells_of n config = c.in_ok-cells.ensures ∙ ap (λ (xs : List (List ℕ)). scanned_cells v (length xs)) c.as_slice.ensures ∙ ap (λ (xs : List (Option Judged)). scanned_cells xs (length config.domains)) c.requires.verdicts in
-    let cut : c.in_ok-chains.chains.items ≡ chains_of cells config.chains = c.in_ok-chains.ensures ∙ ap (λ (xs : List InstanceId). chains_of xs config.chains) c.deref.ensures.value in
+    let scanned : cells ≡ cells_of n config = c.in_ok-cells.ensures ∙ ap (λ (xs : List (List ℕ)). scanned_cells v (length xs)) c.domains.ensures ∙ ap (λ (xs : List (Option Judged)). scanned_cells xs (length config.domains)) c.requires.verdicts in
+    let cut : c.in_ok-chains.chains.items ≡ chains_of cells config.chains = (rw c.chains.ensures at c.in_ok-chains.ensures) ∙ ap (λ (xs : List InstanceId). chains_of xs config.chains) c.deref.ensures.value in
     let lockups : c.in_ok-lockups.lockups.items ≡ lockups_of v c.in_ok-chains.chains.items = c.in_ok-lockups.ensures ∙ ap (lockups_of v) c.deref-2.ensures.value in
     plan_is n config v cells c.in_ok-chains.chains.items c.in_ok-lockups.lockups.items c.in_ok-cycles.cycles c.requires.verdicts scanned cut lockups (c.in_ok-cycles.ensures.cycles ∙ ap (cycles_of config) (c.len.ensures ∙ c.in_ok-cells.cells.ok.0))
 
@@ -97,7 +97,7 @@ returns-clause-fits c =
     let n = c.args.design.now in
     let config = c.args.config.now in
     let v = c.args.verdicts.now in
-    let scanned : c.in_ok-cells.cells.items ≡ cells_of n config = c.in_ok-cells.ensures ∙ ap (λ (xs : List (List ℕ)). scanned_cells v (length xs)) c.as_slice.ensures ∙ ap (λ (xs : List (Option Judged)). scanned_cells xs (length config.domains)) c.requires.verdicts in
+    let scanned : c.in_ok-cells.cells.items ≡ cells_of n config = c.in_ok-cells.ensures ∙ ap (λ (xs : List (List ℕ)). scanned_cells v (length xs)) c.domains.ensures ∙ ap (λ (xs : List (Option Judged)). scanned_cells xs (length config.domains)) c.requires.verdicts in
     ap (λ (xs : List InstanceId). refusal_of config (length xs)) (sym scanned) ∙ ap (refusal_of config) (sym (c.len.ensures ∙ c.in_ok-cells.cells.ok.0)) ∙ c.in_ok-cycles.ensures.fits
 
 pub returns-in_err-cycles-clause-refused : goal.returns-in_err-cycles-clause-refused
@@ -106,7 +106,7 @@ returns-in_err-cycles-clause-refused c =
     let config = c.args.config.now in
     let v = c.args.verdicts.now in
     let p = err_from_is_err_and c.from_residual-in_err-cycles.result c.from_residual-in_err-cycles.ensures.1 in
-    let scanned : c.in_ok-cells.cells.items ≡ cells_of n config = c.in_ok-cells.ensures ∙ ap (λ (xs : List (List ℕ)). scanned_cells v (length xs)) c.as_slice.ensures ∙ ap (λ (xs : List (Option Judged)). scanned_cells xs (length config.domains)) c.requires.verdicts in
+    let scanned : c.in_ok-cells.cells.items ≡ cells_of n config = c.in_ok-cells.ensures ∙ ap (λ (xs : List (List ℕ)). scanned_cells v (length xs)) c.domains.ensures ∙ ap (λ (xs : List (Option Judged)). scanned_cells xs (length config.domains)) c.requires.verdicts in
     let P : ℕ → Type 0 = λ m. IsRefusal (refusal_of config m) c.in_err-cycles.field-0.0 in
     let refused = subst P (c.len.ensures ∙ c.in_ok-cells.cells.ok.0) c.in_err-cycles.ensures.refused in
     rw (p.1, p.2) (refused_for n config c.in_ok-cells.cells.items c.in_err-cycles.field-0.0 scanned refused)

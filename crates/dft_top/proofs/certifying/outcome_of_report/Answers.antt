@@ -8,8 +8,8 @@ use Rattle.dft_top.proofs.certifying.outcome_of_report.Goals as goal
 pub certify-requires : goal.certify-requires
 certify-requires c =
     let plan = c.args.chains.now in
-    let apart : StandApart plan.chains = subst (λ (p : Plan). StandApart p.chains) (sym c.requires.planned) (c.plans_stand_apart.ensures c.args.design.now c.args.config.now c.requires.range) in
-    record { rows = rows_are c.args.config.now.ring plan.chains plan.cycles c.in_ok-equations.equations c.in_ok-equations.ensures apart; channels = c.requires.range.ring.channels.0 }
+    let apart : StandApart plan.chains = subst (λ (p : Plan). StandApart p.chains) (sym c.requires.planned) (c.plans_stand_apart.ensures c.args.design.now c.args.config.now c.soundness.ensures) in
+    rw c.ring.ensures (record { rows = rows_are c.args.config.now.ring plan.chains plan.cycles c.in_ok-equations.equations c.in_ok-equations.ensures apart; channels = c.soundness.ensures.ring.channels.0 })
 
 pub returns-in-Ok-clause-outcome : goal.returns-in-Ok-clause-outcome
 returns-in-Ok-clause-outcome c =

@@ -11,8 +11,8 @@ returns c =
     let n = c.args.design.now in
     let config = c.args.config.now in
     let ports = c.ports-ports.ensures.ports in
-    let clocks = c.in_ok-clocks.ensures ∙ ap (nets_named n) c.as_slice.ensures in
-    let resets = c.in_ok-resets.ensures ∙ ap (nets_named n) c.as_slice-2.ensures in
+    let clocks = c.in_ok-clocks.ensures ∙ ap (nets_named n) c.domains.ensures in
+    let resets = c.in_ok-resets.ensures ∙ ap (nets_named n) c.resets.ensures in
     let bits = c.in_ok-nets.ensures ∙ ap input_bits ports in
     let inputs = c.in_ok-inputs.ensures
     ∙ found_as n config c.deref-2.result.now c.deref-3.result.now (c.deref-2.ensures.value ∙ clocks) (c.deref-3.ensures.value ∙ resets) c.deref.result.now

@@ -6,4 +6,4 @@ pub report_text-requires-clause-sums : goal.report_text-requires-clause-sums
 report_text-requires-clause-sums c =
     let w = c.args.self.now in
     let plan = w.prepared.now.chains in
-    record { rows = rows_are w.config.now.ring plan.chains plan.cycles w.equations.now c.requires.equations c.requires.apart; channels = c.requires.range.ring.channels.0 }
+    rw c.ring.ensures (record { rows = rows_are w.config.now.ring plan.chains plan.cycles w.equations.now c.requires.equations c.requires.apart; channels = c.requires.range.ring.channels.0 })

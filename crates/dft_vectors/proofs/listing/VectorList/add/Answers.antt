@@ -1,7 +1,7 @@
 -- The set-up vector, a load and a capture more.
 use Rattle.std.proofs.Common.{◌+◌, ap}
 use Rattle.dft_base.specs.Packed.{packed_bit}
-use Rattle.dft_config.specs.declared.config.Config.{Config}
+use Rattle.dft_config.specs.Config.{Config}
 use Rattle.dft_stitch.specs.Plans.{Plan}
 use Rattle.dft_expect.specs.Loaded.{table_of}
 use Rattle.dft_vectors.specs.Listing.{Listing}
