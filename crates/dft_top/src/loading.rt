@@ -48,7 +48,7 @@ fn load_named_library<F: Files>(alloc: Global, files: &mut F, name: &str) -> Res
 
 /// The configuration with this name.
 pub fn load_config<F: Files>(alloc: Global, files: &mut F, name: &str) -> Result<Config, Stop>
-    ensures takes { Takes (Some name.now) (ConfigGives name.now)
+    ensures { Takes (Some name.now) (ConfigGives name.now)
         (seen_files (F.held files.old) (F.failed files.old) (F.read_faults files.old) (F.write_faults files.old))
         (seen_files (F.held files.new) (F.failed files.new) (F.read_faults files.new) (F.write_faults files.new)) result }
 {
