@@ -98,12 +98,14 @@ fn replayed(alloc: Global, compilation: Outcome) -> Result<Outcome, Stop>
     ensures quiet { result ≡ Err Stop.ReadFault → ⊥ }
 {
     match compilation {
-        Outcome::Finished(Work::Compiled {
-            counts,
-            netlist,
-            patterns,
-            ..
-        }) => {
+        Outcome::Finished(
+            Work::Compiled {
+                counts,
+                netlist,
+                patterns,
+                ..
+            },
+        ) => {
             let replay = replay_of(alloc, netlist.as_slice(), patterns.as_slice())?;
             Ok(generated(counts, replay))
         }

@@ -37,11 +37,13 @@ pub fn save_outcome<F: Files>(
     match (command, outcome) {
         (
             Some(Command::Scan(names)),
-            Outcome::Finished(Work::Scanned {
-                netlist,
-                report,
-                ..
-            }),
+            Outcome::Finished(
+                Work::Scanned {
+                    netlist,
+                    report,
+                    ..
+                },
+            ),
         ) => save_all(
             alloc,
             &[
@@ -58,12 +60,14 @@ pub fn save_outcome<F: Files>(
         ),
         (
             Some(Command::Compile(names)),
-            Outcome::Finished(Work::Compiled {
-                netlist,
-                patterns,
-                report,
-                ..
-            }),
+            Outcome::Finished(
+                Work::Compiled {
+                    netlist,
+                    patterns,
+                    report,
+                    ..
+                },
+            ),
         ) => save_all(
             alloc,
             &[
