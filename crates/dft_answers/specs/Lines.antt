@@ -8,9 +8,11 @@ use Rattle.dft_answers.specs.declared.answer.Code.{Code}
 use Rattle.dft_answers.specs.declared.answer.Code.TheVariants.{F1, L1, L2, L3, L4, L5, L6, L7, C1, C2, C3, C4, C5, C6, V1, V2, V3, V4, V5, V6, V7, V8, V9, V10, V11, V12, N1, N2, N3, N4, G1, G2, G3, G4, G5, G6, G7, P1, P2, P3, P4, P5, P6, P7, P8, P9, P10, Q1, Q2, Q3, Q4, Q5, Q6, Q7, Q8, Q9, K1, K2, K3, K4, K5, K6}
 use Rattle.dft_answers.specs.declared.answer.Refusal.{Refusal}
 use Rattle.dft_answers.specs.declared.outcome.Outcome.{Outcome}
-use Rattle.dft_answers.specs.declared.outcome.Outcome.TheVariants.{Usage, Refused, Passed, Mismatch, Undetermined, Scanned, Compiled, Certified, Generated}
+use Rattle.dft_answers.specs.declared.outcome.Outcome.TheVariants.{Usage, Refused, Finished}
 use Rattle.dft_answers.specs.declared.outcome.Replayed.{Replayed}
 use Rattle.dft_answers.specs.declared.outcome.Replayed.TheVariants as replayed
+use Rattle.dft_answers.specs.declared.outcome.Work.{Work}
+use Rattle.dft_answers.specs.declared.outcome.Work.TheVariants as work
 
 abbrev pub code_text : Code → List ℕ
 code_text F1 = codes "F1"
@@ -129,7 +131,7 @@ compiled_line counts = load_part counts ++ (fate_part counts ++ (vector_part cou
 abbrev pub certified_line : (unsolvable : ℕ) → List ℕ
 certified_line unsolvable = codes "certified " ++ (decimal unsolvable ++ codes " cubes\n")
 
--- what a replay of a generated job comes to
+-- what a replay comes to
 abbrev pub replayed_line : Replayed → List ℕ
 replayed_line (replayed.Passed vectors compared) = passed_line vectors compared
 replayed_line (replayed.Mismatch vector signal) = failed_line (codes "mismatch") vector signal
@@ -139,13 +141,15 @@ replayed_line (replayed.Undetermined vector signal) = failed_line (codes "undete
 abbrev pub generated_lines : compiled.Counts → Replayed → List ℕ
 generated_lines counts replay = compiled_line counts ++ replayed_line replay
 
+-- what a command did
+abbrev pub work_line : Work → List ℕ
+work_line (work.Replayed replay) = replayed_line replay
+work_line (work.Scanned counts netlist report) = scanned_line counts
+work_line (work.Compiled counts netlist patterns report) = compiled_line counts
+work_line (work.Certified unsolvable) = certified_line unsolvable
+work_line (work.Generated counts replay) = generated_lines counts replay
+
 abbrev pub line_of : Outcome → List ℕ
 line_of Usage = usage_line
 line_of (Refused refusal) = refused_line refusal
-line_of (Passed vectors compared) = passed_line vectors compared
-line_of (Mismatch vector signal) = failed_line (codes "mismatch") vector signal
-line_of (Undetermined vector signal) = failed_line (codes "undetermined") vector signal
-line_of (Scanned counts netlist report) = scanned_line counts
-line_of (Compiled counts netlist patterns report) = compiled_line counts
-line_of (Certified unsolvable) = certified_line unsolvable
-line_of (Generated counts replay) = generated_lines counts replay
+line_of (Finished work) = work_line work

@@ -1,7 +1,7 @@
 ghost use Rattle.std.specs.Prelude.{◌≡◌};
 ghost use Rattle.dft_answers.specs.Answers as spec;
 
-use crate::outcome::{Outcome, Replayed};
+use crate::outcome::{Outcome, Replayed, Work};
 use dft_base::{Name, Place};
 
 /// How a command ended.
@@ -195,20 +195,24 @@ impl Answer {
                 status: Status::Refused,
                 refusal: Some(refusal),
             },
-            Outcome::Passed { .. }
-            | Outcome::Scanned { .. }
-            | Outcome::Compiled { .. }
-            | Outcome::Certified { .. } => Answer::stopped(Status::Done),
-            Outcome::Generated { replay, .. } => Answer::stopped(status_of(&replay)),
-            Outcome::Mismatch { .. } | Outcome::Undetermined { .. } => {
-                Answer::stopped(Status::NotPassed)
-            }
+            Outcome::Finished(work) => Answer::stopped(work_status(&work)),
         }
     }
 }
 
-// A generated job is done where its patterns pass.
-fn status_of(replay: &Replayed) -> Status
+// A replay may not pass, that of a generated job too; all else that is finished is done.
+fn work_status(work: &Work) -> Status
+    ensures { result ≡ spec.work_status work.now }
+{
+    match work {
+        Work::Replayed(replay) => replayed_status(replay),
+        Work::Generated { replay, .. } => replayed_status(replay),
+        Work::Scanned { .. } | Work::Compiled { .. } | Work::Certified { .. } => Status::Done,
+    }
+}
+
+// A replay is done where the patterns pass.
+fn replayed_status(replay: &Replayed) -> Status
     ensures { result ≡ spec.replayed_status replay.now }
 {
     match replay {

@@ -8,7 +8,7 @@ mod refusal;
 mod refusing;
 
 pub use answer::{Answer, Code, Refusal, Status};
-pub use outcome::{Outcome, Replayed};
+pub use outcome::{Outcome, Replayed, Work};
 pub use printing::line;
 pub use refusing::{
     certify_refusal, compile_refusal, config_refusal, cube_refusal, library_refusal, read_refusal,

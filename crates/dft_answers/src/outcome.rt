@@ -3,7 +3,7 @@ use dft_base::{Listed, Name};
 use dft_compile::Counts as CompileCounts;
 use dft_scan::Counts;
 
-/// What the replay of a generated job comes to. Vectors are numbered from 0.
+/// What a replay comes to. Vectors are numbered from 0.
 #[derive(Debug, Drop)]
 pub enum Replayed {
     /// Every compared bit is known and as printed.
@@ -14,28 +14,11 @@ pub enum Replayed {
     Undetermined { vector: u32, signal: Name },
 }
 
-/// What a command comes to where nothing outside fails and memory is found. Vectors are numbered from 0.
+/// What a command did: a variant for each command.
 #[derive(Debug, Drop)]
-pub enum Outcome {
-    /// The words are no command.
-    Usage,
-    /// A file is refused.
-    Refused(Refusal),
-    /// Every compared bit is known and as printed.
-    Passed {
-        vectors: u32,
-        compared: u64,
-    },
-    /// The first compared bit that is not known to be as printed is the opposite, at this signal.
-    Mismatch {
-        vector: u32,
-        signal: Name,
-    },
-    /// The first compared bit that is not known to be as printed is not known, at this signal.
-    Undetermined {
-        vector: u32,
-        signal: Name,
-    },
+pub enum Work {
+    /// Patterns are replayed.
+    Replayed(Replayed),
     /// The design is scanned: what is counted, and the texts of the scanned netlist and of the report, to be saved.
     Scanned {
         counts: Counts,
@@ -59,4 +42,15 @@ pub enum Outcome {
         counts: CompileCounts,
         replay: Replayed,
     },
+}
+
+/// What a command comes to where nothing outside fails and memory is found.
+#[derive(Debug, Drop)]
+pub enum Outcome {
+    /// The words are no command.
+    Usage,
+    /// A file is refused.
+    Refused(Refusal),
+    /// No check failed, and this was done.
+    Finished(Work),
 }

@@ -4,7 +4,7 @@ ghost use Rattle.std.specs.Prelude.{◌≡◌, ◌++◌, IfOk, OnOk, option_map}
 ghost use Rattle.dft_answers.specs.Lines as spec;
 
 use crate::answer::{Code, Refusal};
-use crate::outcome::{Outcome, Replayed};
+use crate::outcome::{Outcome, Replayed, Work};
 use dft_base::{Name, Place};
 use dft_compile::Counts as CompileCounts;
 use dft_scan::Counts;
@@ -89,15 +89,20 @@ pub fn line(alloc: Global, outcome: &Outcome) -> Result<Vec<u8>, AllocError>
     match outcome {
         Outcome::Usage => Vec::from_slice(alloc, USAGE.as_bytes()),
         Outcome::Refused(refusal) => refused_line(alloc, refusal),
-        Outcome::Passed { vectors, compared } => passed_line(alloc, *vectors, *compared),
-        Outcome::Mismatch { vector, signal } => failed_line(alloc, "mismatch", *vector, signal),
-        Outcome::Undetermined { vector, signal } => {
-            failed_line(alloc, "undetermined", *vector, signal)
-        }
-        Outcome::Scanned { counts, .. } => scanned_line(alloc, *counts),
-        Outcome::Compiled { counts, .. } => compiled_line(alloc, *counts),
-        Outcome::Certified { unsolvable } => certified_line(alloc, *unsolvable),
-        Outcome::Generated { counts, replay } => generated_lines(alloc, *counts, replay),
+        Outcome::Finished(work) => work_line(alloc, work),
+    }
+}
+
+// The line of what a command did.
+fn work_line(alloc: Global, work: &Work) -> Result<Vec<u8>, AllocError>
+    ensures { IfOk result (λ line. line.items ≡ spec.work_line work.now) }
+{
+    match work {
+        Work::Replayed(replay) => replayed_line(alloc, replay),
+        Work::Scanned { counts, .. } => scanned_line(alloc, *counts),
+        Work::Compiled { counts, .. } => compiled_line(alloc, *counts),
+        Work::Certified { unsolvable } => certified_line(alloc, *unsolvable),
+        Work::Generated { counts, replay } => generated_lines(alloc, *counts, replay),
     }
 }
 

@@ -15,7 +15,8 @@ use Rattle.dft_certify.specs.declared.error.CertifyError.TheVariants as certify
 use Rattle.dft_certify.specs.Certifying.{IsFault, certify_refusal, unsolvable_in}
 use Rattle.dft_answers.specs.declared.answer.Refusal.{Refusal}
 use Rattle.dft_answers.specs.declared.outcome.Outcome.{Outcome}
-use Rattle.dft_answers.specs.declared.outcome.Outcome.TheVariants.{Certified, Refused}
+use Rattle.dft_answers.specs.declared.outcome.Outcome.TheVariants.{Finished, Refused}
+use Rattle.dft_answers.specs.declared.outcome.Work.TheVariants.{Certified}
 use Rattle.dft_answers.specs.Refusals as refusals
 use Rattle.dft_top.specs.Outcomes.{IsOutcomeOfReport, IsOutcomeOfTest, IsRefusal}
 
@@ -35,10 +36,10 @@ tested n config cubes report plan rows o planned are is = (
 
 pub certified_is : (n : Netlist) (config : Config) (cubes : List Cube) (report : Report) (plan : Plan) (rows : LoadRows) (count : ℕ) → plan ≡ plan_of n config →
     AreLoadEquations config.ring (map (λ cells. length cells) plan.chains) plan.cycles rows → first_test n config plan rows cubes report ≡ None → count ≡ unsolvable_in report.cubes →
-    IsOutcomeOfReport n config cubes report (Certified count)
+    IsOutcomeOfReport n config cubes report (Finished (Certified count))
 certified_is n config cubes report plan rows count planned are none is =
-    tested n config cubes report plan rows (Certified count) planned are
-    (subst (λ (fault : Option CertifyError). IsOutcomeOfTest report fault (Certified count)) (sym none) (λ i. Certified (is i)))
+    tested n config cubes report plan rows (Finished (Certified count)) planned are
+    (subst (λ (fault : Option CertifyError). IsOutcomeOfTest report fault (Finished (Certified count))) (sym none) (λ i. Finished (Certified (is i))))
 
 -- an error that is told as a refusal is the first test that fails
 fault_is : (fault : Option CertifyError) (error : CertifyError) (refusal : Refusal) → IsFault fault error → refusals.certify_refusal error ≡ Some refusal → fault ≡ Some error

@@ -26,7 +26,8 @@ use Rattle.dft_compile.specs.Texts.{counts_of, netlist_text, pattern_set, patter
 use Rattle.dft_compile.proofs.BytesLemmas.{bytes_told}
 use Rattle.dft_answers.specs.declared.answer.Refusal.{Refusal}
 use Rattle.dft_answers.specs.declared.outcome.Outcome.{Outcome}
-use Rattle.dft_answers.specs.declared.outcome.Outcome.TheVariants.{Compiled, Refused}
+use Rattle.dft_answers.specs.declared.outcome.Outcome.TheVariants.{Finished, Refused}
+use Rattle.dft_answers.specs.declared.outcome.Work.TheVariants.{Compiled}
 use Rattle.dft_answers.specs.Refusals.{compile_refusal}
 use Rattle.dft_top.specs.Outcomes.{IsCompiled, IsOutcomeOfCubes, IsOutcomeOfPlacing, refusal_of}
 use Rattle.dft_top.proofs.CompiledOnce.{SamePlacing, patterns_one, placing_one}
@@ -74,15 +75,15 @@ refused_is n rank config cubes (compile.Memory error) refusal ordered range late
 -- ---- what is compiled
 
 pub compiled_is : (n : Netlist) (config : Config) (cubes : List Cube) (t : CompileTexts) → IsInRange config → IsCompileOf n config cubes t → StandsFor n.library t.netlist.items (scanned Edt n config) →
-    IsOutcomeOfCubes n config cubes (Compiled t.counts t.netlist.items t.patterns.items t.report.items)
+    IsOutcomeOfCubes n config cubes (Finished (Compiled t.counts t.netlist.items t.patterns.items t.report.items))
 compiled_is n config cubes t range is reads =
-    let o = Compiled t.counts t.netlist.items t.patterns.items t.report.items in
+    let o = Finished (Compiled t.counts t.netlist.items t.patterns.items t.report.items) in
     let counts = is.texts.counts in
     let netlist = is.texts.netlist in
     let patterns = is.texts.patterns in
     let report = is.texts.report in
     let compiled : IsCompiled n config cubes is.placing is.texts.list o = record {
-      is = λ i. Compiled (counts i) (netlist i) (patterns i) (report i);
+      is = λ i. Finished (Compiled (counts i) (netlist i) (patterns i) (report i));
       reads = subst (λ (text : List ℕ). StandsFor n.library text (scanned Edt n config)) netlist reads;
       few = is.texts.few;
       told = is.told;
@@ -111,12 +112,12 @@ patterns_of n config cubes p q list same are =
     (subst (λ (rows : LoadRows). ArePatterns n config (plan_of n config) rows q.merged list) (sym same.rows) are)
 
 texts_one : (n : Netlist) (config : Config) (cubes : List Cube) (p q : Placing config (plan_of n config) cubes) (list more : List PatternData) → SamePlacing config (plan_of n config) cubes p q → list ≡ more →
-    Compiled (counts_of n config p.placed list) (netlist_text n config) (pattern_text n config list) (report_text n config p.rows cubes p.placed)
-    ≡ Compiled (counts_of n config q.placed more) (netlist_text n config) (pattern_text n config more) (report_text n config q.rows cubes q.placed)
+    Finished (Compiled (counts_of n config p.placed list) (netlist_text n config) (pattern_text n config list) (report_text n config p.rows cubes p.placed))
+    ≡ Finished (Compiled (counts_of n config q.placed more) (netlist_text n config) (pattern_text n config more) (report_text n config q.rows cubes q.placed))
 texts_one n config cubes p q list more same lists =
     let rows = same.rows in
     let placed = same.placed in
-    λ i. Compiled (counts_of n config (placed i) (lists i)) (netlist_text n config) (pattern_text n config (lists i)) (report_text n config (rows i) cubes (placed i))
+    λ i. Finished (Compiled (counts_of n config (placed i) (lists i)) (netlist_text n config) (pattern_text n config (lists i)) (report_text n config (rows i) cubes (placed i)))
 
 -- the text of its report is read as the report
 abbrev IsRead : (n : Netlist) (config : Config) (cubes : List Cube) → LoadRows → List Placed → Type 0

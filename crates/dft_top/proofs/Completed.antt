@@ -1,16 +1,18 @@
 -- When a command is answered.
 use Rattle.std.proofs.Common.{ℕ, ◌≡◌, ◌⊎◌, inl, inr, List, refl, sym, ap, subst, Option, None, Some}
 use Rattle.dft_files.specs.Outside.{Held}
-use Rattle.dft_command_line.specs.Words.{AreFor, Certify, Command, Compile, Generate, Replay, ReplayFiles, Scan}
+use Rattle.dft_command_line.specs.Words.{AreFor, Certify, CertifyFiles, Command, Compile, CompileFiles, Generate, Replay, ReplayFiles, Scan, ScanFiles}
 use Rattle.dft_command_line.proofs.Understood.{for_once}
 use Rattle.dft_answers.specs.declared.answer.Answer.{Answer}
 use Rattle.dft_answers.specs.declared.answer.Status.TheVariants.{Done, OutOfMemory}
 use Rattle.dft_answers.specs.declared.outcome.Outcome.{Outcome}
 use Rattle.dft_answers.specs.declared.outcome.Outcome.TheVariants as outcome
+use Rattle.dft_answers.specs.declared.outcome.Replayed.TheVariants.{Passed, Mismatch, Undetermined}
+use Rattle.dft_answers.specs.declared.outcome.Work.TheVariants.{Replayed, Scanned, Compiled, Certified}
 use Rattle.dft_answers.specs.Answers.{status_of}
 use Rattle.dft_top.specs.Courses.{IsPassing, Reaches}
 use Rattle.dft_top.specs.Outcomes.{IsOutcomeFor, course_of, course_of_replay}
-use Rattle.dft_top.specs.Run.{CompletesTold, EndsFor, IsAnswered, IsDelivered, IsOfCertify, IsOfCompile, IsOfReplay, IsOfScan, IsPassed, NoneFailed, Seen, Suits, ToldFor}
+use Rattle.dft_top.specs.Run.{CompletesTold, EndsFor, IsAnswered, IsDelivered, IsOf, IsPassed, NoneFailed, Seen, Suits, ToldFor}
 use Rattle.dft_top.proofs.Determined.{passing_reaches, reaches_one}
 use Rattle.dft_top.proofs.OneOutcome.{determined}
 use Rattle.dft_top.proofs.JobReplays.{JobsPass}
@@ -18,58 +20,38 @@ use Rattle.dft_top.proofs.Replays.{IsAccepted}
 
 -- ---- what an outcome that is no refusal is answered by
 
-passed_alone : (files : ReplayFiles) (held : Held) (o : Outcome) → Reaches (course_of_replay files) held o → (passed : IsPassed files held) → outcome.Passed passed.vectors passed.compared ≡ o
-passed_alone files held o is passed = reaches_one (course_of_replay files) held (outcome.Passed passed.vectors passed.compared) o (determined (Some (Replay files)) held) passed.is is
+passed_alone : (files : ReplayFiles) (held : Held) (o : Outcome) → Reaches (course_of_replay files) held o → (passed : IsPassed files held) → outcome.Finished (Replayed (Passed passed.vectors passed.compared)) ≡ o
+passed_alone files held o is passed = reaches_one (course_of_replay files) held (outcome.Finished (Replayed (Passed passed.vectors passed.compared))) o (determined (Some (Replay files)) held) passed.is is
 
-replay_answered : (files : ReplayFiles) (held : Held) (o : Outcome) → IsOfReplay o → IsAccepted o → Reaches (course_of_replay files) held o → IsAnswered (Replay files) held (status_of o)
-replay_answered files held outcome.Usage suits accepts is = absurd suits
+replay_answered : (files : ReplayFiles) (held : Held) (o : Outcome) → IsOf (Replay files) o → IsAccepted o → Reaches (course_of_replay files) held o → IsAnswered (Replay files) held (status_of o)
 replay_answered files held (outcome.Refused refusal) suits accepts is = absurd (accepts refusal refl)
-replay_answered files held (outcome.Passed vectors compared) suits accepts is = inl (refl, record { vectors = vectors; compared = compared; is = is })
-replay_answered files held (outcome.Mismatch vector signal) suits accepts is = inr (refl, λ passed. let e = passed_alone files held (outcome.Mismatch vector signal) is passed in cc)
-replay_answered files held (outcome.Undetermined vector signal) suits accepts is = inr (refl, λ passed. let e = passed_alone files held (outcome.Undetermined vector signal) is passed in cc)
-replay_answered files held (outcome.Scanned counts netlist report) suits accepts is = absurd suits
-replay_answered files held (outcome.Compiled counts netlist patterns report) suits accepts is = absurd suits
-replay_answered files held (outcome.Certified unsolvable) suits accepts is = absurd suits
-replay_answered files held (outcome.Generated counts replay) suits accepts is = absurd suits
+replay_answered files held (outcome.Finished (Replayed (Passed vectors compared))) suits accepts is = inl (refl, record { vectors = vectors; compared = compared; is = is })
+replay_answered files held (outcome.Finished (Replayed (Mismatch vector signal))) suits accepts is =
+    inr (refl, λ passed. let e = passed_alone files held (outcome.Finished (Replayed (Mismatch vector signal))) is passed in cc)
+replay_answered files held (outcome.Finished (Replayed (Undetermined vector signal))) suits accepts is =
+    inr (refl, λ passed. let e = passed_alone files held (outcome.Finished (Replayed (Undetermined vector signal))) is passed in cc)
+replay_answered files held o suits accepts is = absurd suits
 
-scan_done : (o : Outcome) → IsOfScan o → IsAccepted o → status_of o ≡ Done
-scan_done outcome.Usage suits accepts = absurd suits
-scan_done (outcome.Refused refusal) suits accepts = absurd (accepts refusal refl)
-scan_done (outcome.Passed vectors compared) suits accepts = absurd suits
-scan_done (outcome.Mismatch vector signal) suits accepts = absurd suits
-scan_done (outcome.Undetermined vector signal) suits accepts = absurd suits
-scan_done (outcome.Scanned counts netlist report) suits accepts = refl
-scan_done (outcome.Compiled counts netlist patterns report) suits accepts = absurd suits
-scan_done (outcome.Certified unsolvable) suits accepts = absurd suits
-scan_done (outcome.Generated counts replay) suits accepts = absurd suits
+scan_done : (files : ScanFiles) (o : Outcome) → IsOf (Scan files) o → IsAccepted o → status_of o ≡ Done
+scan_done files (outcome.Refused refusal) suits accepts = absurd (accepts refusal refl)
+scan_done files (outcome.Finished (Scanned counts netlist report)) suits accepts = refl
+scan_done files o suits accepts = absurd suits
 
-compile_done : (o : Outcome) → IsOfCompile o → IsAccepted o → status_of o ≡ Done
-compile_done outcome.Usage suits accepts = absurd suits
-compile_done (outcome.Refused refusal) suits accepts = absurd (accepts refusal refl)
-compile_done (outcome.Passed vectors compared) suits accepts = absurd suits
-compile_done (outcome.Mismatch vector signal) suits accepts = absurd suits
-compile_done (outcome.Undetermined vector signal) suits accepts = absurd suits
-compile_done (outcome.Scanned counts netlist report) suits accepts = absurd suits
-compile_done (outcome.Compiled counts netlist patterns report) suits accepts = refl
-compile_done (outcome.Certified unsolvable) suits accepts = absurd suits
-compile_done (outcome.Generated counts replay) suits accepts = absurd suits
+compile_done : (files : CompileFiles) (o : Outcome) → IsOf (Compile files) o → IsAccepted o → status_of o ≡ Done
+compile_done files (outcome.Refused refusal) suits accepts = absurd (accepts refusal refl)
+compile_done files (outcome.Finished (Compiled counts netlist patterns report)) suits accepts = refl
+compile_done files o suits accepts = absurd suits
 
-certify_done : (o : Outcome) → IsOfCertify o → IsAccepted o → status_of o ≡ Done
-certify_done outcome.Usage suits accepts = absurd suits
-certify_done (outcome.Refused refusal) suits accepts = absurd (accepts refusal refl)
-certify_done (outcome.Passed vectors compared) suits accepts = absurd suits
-certify_done (outcome.Mismatch vector signal) suits accepts = absurd suits
-certify_done (outcome.Undetermined vector signal) suits accepts = absurd suits
-certify_done (outcome.Scanned counts netlist report) suits accepts = absurd suits
-certify_done (outcome.Compiled counts netlist patterns report) suits accepts = absurd suits
-certify_done (outcome.Certified unsolvable) suits accepts = refl
-certify_done (outcome.Generated counts replay) suits accepts = absurd suits
+certify_done : (files : CertifyFiles) (o : Outcome) → IsOf (Certify files) o → IsAccepted o → status_of o ≡ Done
+certify_done files (outcome.Refused refusal) suits accepts = absurd (accepts refusal refl)
+certify_done files (outcome.Finished (Certified unsolvable)) suits accepts = refl
+certify_done files o suits accepts = absurd suits
 
 answered : JobsPass → (command : Command) (held : Held) (o : Outcome) → Suits (Some command) o → IsAccepted o → IsOutcomeFor (Some command) held o → IsAnswered command held (status_of o)
 answered pass (Replay files) held o suits accepts is = replay_answered files held o suits accepts is
-answered pass (Scan files) held o suits accepts is = scan_done o suits accepts
-answered pass (Compile files) held o suits accepts is = compile_done o suits accepts
-answered pass (Certify files) held o suits accepts is = certify_done o suits accepts
+answered pass (Scan files) held o suits accepts is = scan_done files o suits accepts
+answered pass (Compile files) held o suits accepts is = compile_done files o suits accepts
+answered pass (Certify files) held o suits accepts is = certify_done files o suits accepts
 answered pass (Generate numbers) held o suits accepts is = pass numbers o accepts is
 
 -- ---- of a run

@@ -10,7 +10,7 @@ use Rattle.dft_answers.specs.declared.outcome.Outcome.{Outcome}
 use Rattle.dft_answers.specs.declared.outcome.Outcome.TheVariants as outcome
 use Rattle.dft_answers.specs.Answers.{answer_of, status_of}
 use Rattle.dft_top.specs.Outcomes.{IsOutcomeOfJob}
-use Rattle.dft_top.specs.Run.{EndsFor, GeneratesJob, IsDelivered, IsOfGenerate, Seen}
+use Rattle.dft_top.specs.Run.{EndsFor, GeneratesJob, IsDelivered, IsOf, Seen}
 use Rattle.dft_top.proofs.JobReplays.{JobsPass}
 use Rattle.dft_top.proofs.Kept.{no_failing}
 
@@ -26,18 +26,12 @@ status_is : (a b : Answer) → a ≡ b → a.status ≡ b.status
 status_is a b same = ap (λ (c : Answer). c.status) same
 
 -- where its outcome is answered
-answered : JobsPass → (numbers : JobNumbers) (o : Outcome) (put_faults put_faults' : ℕ) (answer : Answer) → IsOfGenerate o → IsOutcomeOfJob numbers o → answer ≡ answer_of o → JobEnds numbers put_faults put_faults' answer
+answered : JobsPass → (numbers : JobNumbers) (o : Outcome) (put_faults put_faults' : ℕ) (answer : Answer) → IsOf (Generate numbers) o → IsOutcomeOfJob numbers o → answer ≡ answer_of o → JobEnds numbers put_faults put_faults' answer
 answered pass numbers outcome.Usage put_faults put_faults' answer suits is same = absurd suits
 answered pass numbers (outcome.Refused refusal) put_faults put_faults' answer suits is same = inr (inl (refusal, (is, same)))
-answered pass numbers (outcome.Passed vectors compared) put_faults put_faults' answer suits is same = absurd suits
-answered pass numbers (outcome.Mismatch vector signal) put_faults put_faults' answer suits is same = absurd suits
-answered pass numbers (outcome.Undetermined vector signal) put_faults put_faults' answer suits is same = absurd suits
-answered pass numbers (outcome.Scanned counts netlist report) put_faults put_faults' answer suits is same = absurd suits
-answered pass numbers (outcome.Compiled counts netlist patterns report) put_faults put_faults' answer suits is same = absurd suits
-answered pass numbers (outcome.Certified unsolvable) put_faults put_faults' answer suits is same = absurd suits
-answered pass numbers (outcome.Generated counts replay) put_faults put_faults' answer suits is same = inl (status_is answer _ same ∙ pass numbers (outcome.Generated counts replay) (λ refusal e. cc) is)
+answered pass numbers (outcome.Finished work) put_faults put_faults' answer suits is same = inl (status_is answer _ same ∙ pass numbers (outcome.Finished work) (λ refusal e. cc) is)
 
-delivered : JobsPass → (numbers : JobNumbers) (o : Outcome) (before after : Seen) (answer : Answer) → IsOfGenerate o → IsOutcomeOfJob numbers o → IsDelivered (Some (Generate numbers)) o before after answer →
+delivered : JobsPass → (numbers : JobNumbers) (o : Outcome) (before after : Seen) (answer : Answer) → IsOf (Generate numbers) o → IsOutcomeOfJob numbers o → IsDelivered (Some (Generate numbers)) o before after answer →
     JobEnds numbers before.put_faults after.put_faults answer
 delivered pass numbers o before after answer suits is (inl x) = answered pass numbers o before.put_faults after.put_faults answer suits is x.answers
 delivered pass numbers o before after answer suits is (inr (inl x)) = absurd (no_failing x.failed.saved x.failed.rest x.failed.failing x.failed.in_order)

@@ -14,6 +14,7 @@ use Rattle.dft_command_line.specs.Words.{JobNumbers}
 use Rattle.dft_answers.specs.declared.answer.Status.TheVariants.{Done}
 use Rattle.dft_answers.specs.declared.outcome.Outcome.{Outcome}
 use Rattle.dft_answers.specs.declared.outcome.Outcome.TheVariants as outcome
+use Rattle.dft_answers.specs.declared.outcome.Work.TheVariants.{Compiled}
 use Rattle.dft_answers.specs.Answers.{status_of}
 use Rattle.dft_top.specs.Courses.{Reaches}
 use Rattle.dft_top.specs.Outcomes.{IsOutcomeOfJob, IsReplayedOf, course_of_compile, course_of_replay, generated, job_files, job_held, made_files, made_held}
@@ -25,7 +26,7 @@ abbrev pub JobsPass : Type 0
 JobsPass = (numbers : JobNumbers) (o : Outcome) → IsAccepted o → IsOutcomeOfJob numbers o → status_of o ≡ Done
 
 -- what a compilation made of a job
-made_done : (numbers : JobNumbers) (counts : Counts) (netlist patterns report : List ℕ) (replay : Outcome) → IsAccepted replay → IsMade job_files (job_held numbers) (outcome.Compiled counts netlist patterns report) →
+made_done : (numbers : JobNumbers) (counts : Counts) (netlist patterns report : List ℕ) (replay : Outcome) → IsAccepted replay → IsMade job_files (job_held numbers) (outcome.Finished (Compiled counts netlist patterns report)) →
     Reaches (course_of_replay made_files) (made_held netlist patterns) replay → status_of (generated counts replay) ≡ Done
 made_done numbers counts netlist patterns report replay accepts m x =
     let n = m.netlist in
@@ -40,17 +41,12 @@ made_done numbers counts netlist patterns report replay accepts m x =
     (replay_passes made_files (made_held netlist patterns) standard_cells (scanned Edt n c) (without_notes (set_of n c list)) netlist patterns _ replay accepts refl refl refl stands reads m.holds.passes.verdict x)
 
 compiled_done : CompilationsHold → (numbers : JobNumbers) (compilation o : Outcome) → IsAccepted o → Reaches (course_of_compile job_files) (job_held numbers) compilation → IsReplayedOf compilation o → status_of o ≡ Done
-compiled_done hold numbers outcome.Usage o accepts is x = absurd x
 compiled_done hold numbers (outcome.Refused refusal) o accepts is x = absurd (accepts refusal x)
-compiled_done hold numbers (outcome.Passed vectors compared) o accepts is x = absurd x
-compiled_done hold numbers (outcome.Mismatch vector signal) o accepts is x = absurd x
-compiled_done hold numbers (outcome.Undetermined vector signal) o accepts is x = absurd x
-compiled_done hold numbers (outcome.Scanned counts netlist report) o accepts is x = absurd x
-compiled_done hold numbers (outcome.Compiled counts netlist patterns report) o accepts is x =
+compiled_done hold numbers (outcome.Finished (Compiled counts netlist patterns report)) o accepts is x =
     ap status_of x.1.1
-    ∙ made_done numbers counts netlist patterns report x.0 (λ refusal same. accepts refusal (x.1.1 ∙ ap (generated counts) same)) (made hold job_files (job_held numbers) (outcome.Compiled counts netlist patterns report) refl is) x.1.0
-compiled_done hold numbers (outcome.Certified unsolvable) o accepts is x = absurd x
-compiled_done hold numbers (outcome.Generated counts replay) o accepts is x = absurd x
+    ∙ made_done numbers counts netlist patterns report x.0 (λ refusal same. accepts refusal (x.1.1 ∙ ap (generated counts) same))
+    (made hold job_files (job_held numbers) (outcome.Finished (Compiled counts netlist patterns report)) refl is) x.1.0
+compiled_done hold numbers compilation o accepts is x = absurd x
 
 pub jobs_pass : CompilationsHold → JobsPass
 jobs_pass hold numbers o accepts x = compiled_done hold numbers x.0 o accepts x.1.0 x.1.1

@@ -1,10 +1,11 @@
 -- Where there is nothing to save, no file is changed.
 use Rattle.std.proofs.Common.{ℕ, ◌≡◌, ◌⊎◌, ◌∙◌, inl, inr, List, [], ◌∷◌, ◌++◌, refl, sym, subst, Option, None, Some}
 use Rattle.dft_files.specs.Outside.{Held}
-use Rattle.dft_command_line.specs.Words.{Command, Replay, Scan, Compile, Certify, Generate, AreFor}
+use Rattle.dft_command_line.specs.Words.{Command, Scan, Compile, AreFor}
 use Rattle.dft_answers.specs.declared.answer.Answer.{Answer}
 use Rattle.dft_answers.specs.declared.outcome.Outcome.{Outcome}
-use Rattle.dft_answers.specs.declared.outcome.Outcome.TheVariants.{Usage, Refused, Passed, Mismatch, Undetermined, Scanned, Compiled, Certified, Generated}
+use Rattle.dft_answers.specs.declared.outcome.Outcome.TheVariants.{Finished}
+use Rattle.dft_answers.specs.declared.outcome.Work.TheVariants.{Scanned, Compiled}
 use Rattle.dft_answers.specs.Answers.{status_of}
 use Rattle.dft_top.specs.Run.{AreSaving, EndsFor, IsDelivered, IsQuiet, KeepsFiles, Seen}
 use Rattle.dft_top.specs.Saves.{CountsSaves, HaveSaved, Saving, savings}
@@ -31,28 +32,9 @@ held_kept command o before after answer none (inr (inr (inr x))) = some_of_none 
 -- ---- when there is nothing to save
 
 quiet_saves : (command : Option Command) (o : Outcome) → IsQuiet (status_of o) → savings command o ≡ []
-quiet_saves None o quiet = refl
-quiet_saves (Some (Replay files)) o quiet = refl
-quiet_saves (Some (Scan files)) Usage quiet = refl
-quiet_saves (Some (Scan files)) (Refused refusal) quiet = refl
-quiet_saves (Some (Scan files)) (Passed vectors compared) quiet = refl
-quiet_saves (Some (Scan files)) (Mismatch vector signal) quiet = refl
-quiet_saves (Some (Scan files)) (Undetermined vector signal) quiet = refl
-quiet_saves (Some (Scan files)) (Scanned counts netlist report) quiet = absurd quiet
-quiet_saves (Some (Scan files)) (Compiled counts netlist patterns report) quiet = refl
-quiet_saves (Some (Scan files)) (Certified unsolvable) quiet = refl
-quiet_saves (Some (Scan files)) (Generated counts replay) quiet = refl
-quiet_saves (Some (Compile files)) Usage quiet = refl
-quiet_saves (Some (Compile files)) (Refused refusal) quiet = refl
-quiet_saves (Some (Compile files)) (Passed vectors compared) quiet = refl
-quiet_saves (Some (Compile files)) (Mismatch vector signal) quiet = refl
-quiet_saves (Some (Compile files)) (Undetermined vector signal) quiet = refl
-quiet_saves (Some (Compile files)) (Scanned counts netlist report) quiet = refl
-quiet_saves (Some (Compile files)) (Compiled counts netlist patterns report) quiet = absurd quiet
-quiet_saves (Some (Compile files)) (Certified unsolvable) quiet = refl
-quiet_saves (Some (Compile files)) (Generated counts replay) quiet = refl
-quiet_saves (Some (Certify files)) o quiet = refl
-quiet_saves (Some (Generate numbers)) o quiet = refl
+quiet_saves (Some (Scan files)) (Finished (Scanned counts netlist report)) quiet = absurd quiet
+quiet_saves (Some (Compile files)) (Finished (Compiled counts netlist patterns report)) quiet = absurd quiet
+quiet_saves command o quiet = refl
 
 quiet_of : (a b : Answer) → a ≡ b → IsQuiet a.status → IsQuiet b.status
 quiet_of a b same quiet = subst (λ (c : Answer). IsQuiet c.status) same quiet
@@ -65,12 +47,9 @@ quiet_delivers command o before after answer (inr (inr (inl x))) quiet = absurd 
 quiet_delivers command o before after answer (inr (inr (inr x))) quiet = absurd (quiet_of answer _ x.answers quiet)
 
 other_saves : (words : List (List ℕ)) (command : Option Command) (o : Outcome) → AreFor words command → (AreSaving words → ⊥) → savings command o ≡ []
-other_saves words None o are none = refl
-other_saves words (Some (Replay files)) o are none = refl
 other_saves words (Some (Scan files)) o are none = absurd (none (inl (files, are)))
 other_saves words (Some (Compile files)) o are none = absurd (none (inr (files, are)))
-other_saves words (Some (Certify files)) o are none = refl
-other_saves words (Some (Generate numbers)) o are none = refl
+other_saves words command o are none = refl
 
 saves_none : (words : List (List ℕ)) (command : Option Command) (o : Outcome) (before after : Seen) (answer : Answer) → AreFor words command → IsDelivered command o before after answer →
     IsQuiet answer.status ⊎ (AreSaving words → ⊥) → savings command o ≡ []

@@ -1,3 +1,4 @@
+pub mod Following
 pub mod Steps
 pub mod SavesInTurn
 pub mod NetlistRefusals
@@ -21,3 +22,5 @@ pub mod SomePatterns
 pub mod Completed
 pub mod Failing
 pub mod JobEnds
+pub mod Suited
+pub mod RunEnds

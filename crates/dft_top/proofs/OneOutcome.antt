@@ -17,6 +17,7 @@ use Rattle.dft_command_line.proofs.Understood.{for_once}
 use Rattle.dft_answers.specs.declared.answer.Refusal.{Refusal}
 use Rattle.dft_answers.specs.declared.outcome.Outcome.{Outcome}
 use Rattle.dft_answers.specs.declared.outcome.Outcome.TheVariants as outcome
+use Rattle.dft_answers.specs.declared.outcome.Work.TheVariants.{Compiled}
 use Rattle.dft_top.specs.declared.limits.TheConstants.{MAX_CONFIG_BYTES, MAX_CUBE_BYTES, MAX_NETLIST_BYTES, MAX_PATTERN_BYTES, MAX_REPORT_BYTES}
 use Rattle.dft_answers.specs.Refusals.{scan_refusal}
 use Rattle.dft_top.specs.Checks.{ConfigGives, ConfigText, CubeText, CubesGive, NetlistGives, NetlistText, PatternText, ReportText}
@@ -114,16 +115,10 @@ certify_determined files held = (
 -- ---- a generated job
 
 replayed_one : (compilation a b : Outcome) → IsReplayedOf compilation a → IsReplayedOf compilation b → a ≡ b
-replayed_one outcome.Usage a b x y = absurd x
 replayed_one (outcome.Refused refusal) a b x y = x ∙ sym y
-replayed_one (outcome.Passed vectors compared) a b x y = absurd x
-replayed_one (outcome.Mismatch vector signal) a b x y = absurd x
-replayed_one (outcome.Undetermined vector signal) a b x y = absurd x
-replayed_one (outcome.Scanned counts netlist report) a b x y = absurd x
-replayed_one (outcome.Compiled counts netlist patterns report) a b x y =
+replayed_one (outcome.Finished (Compiled counts netlist patterns report)) a b x y =
     x.1.1 ∙ ap (generated counts) (reaches_one (course_of_replay made_files) (made_held netlist patterns) x.0 y.0 (replay_determined made_files (made_held netlist patterns)) x.1.0 y.1.0) ∙ sym y.1.1
-replayed_one (outcome.Certified unsolvable) a b x y = absurd x
-replayed_one (outcome.Generated counts replay) a b x y = absurd x
+replayed_one compilation a b x y = absurd x
 
 job_one : (numbers : JobNumbers) (a b : Outcome) → IsOutcomeOfJob numbers a → IsOutcomeOfJob numbers b → a ≡ b
 job_one numbers a b x y =

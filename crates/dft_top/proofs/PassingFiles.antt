@@ -25,10 +25,11 @@ use Rattle.dft_compile.specs.Refusals.{first_refusal}
 use Rattle.dft_command_line.specs.Words.{Command, Replay, Scan, Compile, Certify, ReplayFiles, ScanFiles, CompileFiles, CertifyFiles}
 use Rattle.dft_command_line.proofs.Understood.{for_once}
 use Rattle.dft_answers.specs.declared.outcome.Outcome.{Outcome}
-use Rattle.dft_answers.specs.declared.outcome.Outcome.TheVariants.{Scanned}
+use Rattle.dft_answers.specs.declared.outcome.Outcome.TheVariants.{Finished}
+use Rattle.dft_answers.specs.declared.outcome.Work.TheVariants.{Scanned}
 use Rattle.dft_top.specs.declared.limits.TheConstants.{MAX_CONFIG_BYTES, MAX_CUBE_BYTES, MAX_NETLIST_BYTES, MAX_PATTERN_BYTES, MAX_REPORT_BYTES}
-use Rattle.dft_top.specs.Checks.{ConfigGives, ConfigText, CubeText, CubesGive, DesignGives, LibraryGives, NetlistGives, NetlistText, PatternText, PatternsGive, PlanGives, ReportGives, ReportText, Then, plan_refusal}
-use Rattle.dft_top.specs.Courses.{Reaches}
+use Rattle.dft_top.specs.Checks.{ConfigGives, ConfigText, CubeText, CubesGive, DesignGives, LibraryGives, NetlistGives, NetlistText, PatternText, PatternsGive, PlanGives, ReportGives, ReportText, plan_refusal}
+use Rattle.dft_top.specs.Courses.{Reaches, Then}
 use Rattle.dft_top.specs.Outcomes.{IsCompiled, IsOutcomeFor, IsOutcomeOfReport, IsOutcomeOfTest, course_of_certify, course_of_compile, course_of_replay, course_of_scan, IsOutcomeOfCubes, IsOutcomeOfScanOf, refusal_of, IsOutcomeOn}
 use Rattle.dft_top.specs.Laws.{PassingIsCertified, PassingIsCompiled, PassingIsReplayed, PassingIsScanned}
 use Rattle.dft_top.proofs.CompileLemmas.{compiled_due}
@@ -45,7 +46,7 @@ replay_due files held cells n p o library netlist patterns is =
     given_next (PatternsGive files.patterns held) (λ p. IsOutcomeOn n p (first_misfit n p.signals)) o p (file_one MAX_PATTERN_BYTES (codes "patterns") PatternText pattern_text_one (file_at files.patterns held)) patterns on
 
 scan_due : (files : ScanFiles) (held : Held) (cells : List Cell) (c : Config) (n : Netlist) (o : Outcome) → LibraryGives files.library held (Ok cells) → ConfigGives files.config held (Ok c) →
-    NetlistGives cells files.netlist held (Ok n) → refusal n c ≡ None → Reaches (course_of_scan files) held o → o ≡ Scanned (counts_of n c) (netlist_text n c) (report_text n c)
+    NetlistGives cells files.netlist held (Ok n) → refusal n c ≡ None → Reaches (course_of_scan files) held o → o ≡ Finished (Scanned (counts_of n c) (netlist_text n c) (report_text n c))
 scan_due files held cells c n o library config netlist none is =
     let over = given_next (LibraryGives files.library held) (ScanOver files held) o cells (library_gives_one files.library held) library is in
     let on = given_next (ConfigGives files.config held) (ScanOn files cells held) o c (file_one MAX_CONFIG_BYTES (codes "config") ConfigText config_text_one (file_at files.config held)) config over in

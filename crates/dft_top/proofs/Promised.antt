@@ -57,12 +57,12 @@ use Rattle.dft_top.specs.declared.limits.TheConstants.{MAX_CUBE_BYTES, MAX_NETLI
 use Rattle.dft_answers.specs.Answers.{status_of}
 use Rattle.dft_answers.specs.Refusals.{compile_refusal, scan_refusal}
 use Rattle.dft_answers.specs.Refusals as refusals
-use Rattle.dft_top.specs.Checks.{After, ConfigGives, CubeText, CubesGive, DesignGives, IsDesignOf, IsPlanned, LibraryGives, NetlistGives, NetlistText, PatternsGive, PlanGives, ReportGives, Then}
-use Rattle.dft_top.specs.Courses.{Reaches}
+use Rattle.dft_top.specs.Checks.{ConfigGives, CubeText, CubesGive, DesignGives, IsDesignOf, IsPlanned, LibraryGives, NetlistGives, NetlistText, PatternsGive, PlanGives, ReportGives}
+use Rattle.dft_top.specs.Courses.{After, Reaches, Then}
 use Rattle.dft_top.specs.Outcomes.{course_of_certify, course_of_compile, course_of_replay, course_of_scan, IsCompiled, IsOutcomeOfReport, IsOutcomeOfTest, IsOutcomeOfCubes, IsOutcomeOfPlacing, IsOutcomeOfScanOf, IsOutcomeOn, IsRefusal, IsScanned, outcome_of, refusal_of}
 use Rattle.dft_top.specs.Promises.{Certifies, Compiles, EveryRunShows, Passes, Scans}
-use Rattle.dft_top.specs.Run.{CertifiesTold, CompilesTold, EndsFor, IsDelivered, IsOfCompile, IsOfScan, IsOutcomeTold, PassesTold, ScansTold, Seen}
-use Rattle.dft_top.specs.Saves.{AreSaved, HaveSaved, Saving, compile_savings, savings, scan_savings}
+use Rattle.dft_top.specs.Run.{CertifiesTold, CompilesTold, EndsFor, IsDelivered, IsOutcomeTold, PassesTold, ScansTold, Seen}
+use Rattle.dft_top.specs.Saves.{AreSaved, HaveSaved, Saving, savings}
 use Rattle.dft_top.proofs.Lengths.{late_short}
 use Rattle.dft_top.proofs.Readings.{text_of}
 use Rattle.dft_top.proofs.Steps.{CertifyFor, CertifyOf, CertifyOn, CertifyOver, CertifyWith, CompileOf, CompileOn, CompileOver, CompileWith, ReplayOn, ReplayOver, ScanOn, ScanOver}
@@ -128,7 +128,7 @@ scan_done n c None o done h = h
 abbrev two_savings : (files : ScanFiles) → Netlist → Config → List Saving
 two_savings files n c = record { name = files.out; bytes = netlist_text n c } ∷ record { name = files.report; bytes = report_text n c } ∷ []
 
-scans : (files : ScanFiles) (old new : Held) (o : Outcome) → status_of o ≡ Done → Reaches (course_of_scan files) old o → HaveSaved (scan_savings files o) (Some old) (Some new) → Scans files old new
+scans : (files : ScanFiles) (old new : Held) (o : Outcome) → status_of o ≡ Done → Reaches (course_of_scan files) old o → HaveSaved (savings (Some (Scan files)) o) (Some old) (Some new) → Scans files old new
 scans files old new o done h saved =
     let x = then_done (LibraryGives files.library old) (ScanOver files old) o done h in
     let y = then_done (ConfigGives files.config old) (ScanOn files x.0 old) o done x.1.1 in
@@ -137,7 +137,7 @@ scans files old new o done h saved =
     let n = z.0 in
     let done_scan = scan_done n c (refusal n c) o done z.1.1 in
     let ready = done_scan.ready in
-    let left : AreSaved (two_savings files n c) old new = subst (λ (end : Outcome). HaveSaved (scan_savings files end) (Some old) (Some new)) done_scan.is saved in
+    let left : AreSaved (two_savings files n c) old new = subst (λ (end : Outcome). HaveSaved (savings (Some (Scan files)) end) (Some old) (Some new)) done_scan.is saved in
     let design = design_of x.0 files.netlist old n z.1.0 in record {
       cells = x.0;
       library = x.1.0;
@@ -236,13 +236,13 @@ made hold files old o done h =
       holds = hold n c p.1.0.order cubes placing list p.1.0.ready p.1.0.sound p.1.0.ordered (are_cubes n c files.cubes old cubes u.1.0) u.1.1.are;
     }
 
-compiles : CompilationsHold → (files : CompileFiles) (old new : Held) (o : Outcome) → status_of o ≡ Done → Reaches (course_of_compile files) old o → HaveSaved (compile_savings files o) (Some old) (Some new) → Compiles files old new
+compiles : CompilationsHold → (files : CompileFiles) (old new : Held) (o : Outcome) → status_of o ≡ Done → Reaches (course_of_compile files) old o → HaveSaved (savings (Some (Compile files)) o) (Some old) (Some new) → Compiles files old new
 compiles hold files old new o done h saved =
     let m = made hold files old o done h in
     let n = m.netlist in
     let c = m.config in
     let short = late_short n c m.cubes m.placing m.list m.late in
-    let left : AreSaved (three_savings files n c m.cubes m.placing m.list) old new = subst (λ (end : Outcome). HaveSaved (compile_savings files end) (Some old) (Some new)) m.is.is saved in record {
+    let left : AreSaved (three_savings files n c m.cubes m.placing m.list) old new = subst (λ (end : Outcome). HaveSaved (savings (Some (Compile files)) end) (Some old) (Some new)) m.is.is saved in record {
       cells = m.cells;
       library = m.library;
       config = c;
@@ -347,59 +347,23 @@ told_passes files None o done told = tt
 told_passes files (Some held) o done told = passes files held o done told
 
 -- where nothing is told, nothing is told then
-untold : (files : ScanFiles) (held' : Option Held) (o : Outcome) → status_of o ≡ Done → IsOfScan o → HaveSaved (scan_savings files o) None held' → held' ≡ None
-untold files held' outcome.Usage done suits saved = absurd suits
-untold files held' (outcome.Refused refusal) done suits saved = absurd cc
-untold files held' (outcome.Passed vectors compared) done suits saved = absurd suits
-untold files held' (outcome.Mismatch vector signal) done suits saved = absurd suits
-untold files held' (outcome.Undetermined vector signal) done suits saved = absurd suits
-untold files held' (outcome.Scanned counts netlist report) done suits saved = saved
-untold files held' (outcome.Compiled counts netlist patterns report) done suits saved = absurd suits
-untold files held' (outcome.Certified unsolvable) done suits saved = absurd suits
-untold files held' (outcome.Generated counts replay) done suits saved = absurd suits
+saved_untold : (all : List Saving) (held' : Option Held) → HaveSaved all None held' → held' ≡ None
+saved_untold [] held' saved = saved
+saved_untold (s ∷ all) held' saved = saved
 
-lost : (files : ScanFiles) (old : Held) (o : Outcome) → status_of o ≡ Done → IsOfScan o → HaveSaved (scan_savings files o) (Some old) None → ⊥
-lost files old outcome.Usage done suits saved = suits
-lost files old (outcome.Refused refusal) done suits saved = cc
-lost files old (outcome.Passed vectors compared) done suits saved = suits
-lost files old (outcome.Mismatch vector signal) done suits saved = suits
-lost files old (outcome.Undetermined vector signal) done suits saved = suits
-lost files old (outcome.Scanned counts netlist report) done suits saved = saved
-lost files old (outcome.Compiled counts netlist patterns report) done suits saved = suits
-lost files old (outcome.Certified unsolvable) done suits saved = suits
-lost files old (outcome.Generated counts replay) done suits saved = suits
+saved_lost : (all : List Saving) (old : Held) → HaveSaved all (Some old) None → ⊥
+saved_lost [] old saved = cc
+saved_lost (s ∷ all) old saved = saved
 
-told_scans : (files : ScanFiles) (held held' : Option Held) (o : Outcome) → status_of o ≡ Done → Told (λ h. Reaches (course_of_scan files) h o) held → IsOfScan o → HaveSaved (scan_savings files o) held held' → ToldChange (Scans files) held held'
-told_scans files None held' o done told suits saved = untold files held' o done suits saved
-told_scans files (Some old) None o done told suits saved = lost files old o done suits saved
-told_scans files (Some old) (Some new) o done told suits saved = scans files old new o done told saved
+told_scans : (files : ScanFiles) (held held' : Option Held) (o : Outcome) → status_of o ≡ Done → Told (λ h. Reaches (course_of_scan files) h o) held → HaveSaved (savings (Some (Scan files)) o) held held' → ToldChange (Scans files) held held'
+told_scans files None held' o done told saved = saved_untold (savings (Some (Scan files)) o) held' saved
+told_scans files (Some old) None o done told saved = saved_lost (savings (Some (Scan files)) o) old saved
+told_scans files (Some old) (Some new) o done told saved = scans files old new o done told saved
 
-compile_untold : (files : CompileFiles) (held' : Option Held) (o : Outcome) → status_of o ≡ Done → IsOfCompile o → HaveSaved (compile_savings files o) None held' → held' ≡ None
-compile_untold files held' outcome.Usage done suits saved = absurd suits
-compile_untold files held' (outcome.Refused refusal) done suits saved = absurd cc
-compile_untold files held' (outcome.Passed vectors compared) done suits saved = absurd suits
-compile_untold files held' (outcome.Mismatch vector signal) done suits saved = absurd suits
-compile_untold files held' (outcome.Undetermined vector signal) done suits saved = absurd suits
-compile_untold files held' (outcome.Scanned counts netlist report) done suits saved = absurd suits
-compile_untold files held' (outcome.Compiled counts netlist patterns report) done suits saved = saved
-compile_untold files held' (outcome.Certified unsolvable) done suits saved = absurd suits
-compile_untold files held' (outcome.Generated counts replay) done suits saved = absurd suits
-
-compile_lost : (files : CompileFiles) (old : Held) (o : Outcome) → status_of o ≡ Done → IsOfCompile o → HaveSaved (compile_savings files o) (Some old) None → ⊥
-compile_lost files old outcome.Usage done suits saved = suits
-compile_lost files old (outcome.Refused refusal) done suits saved = cc
-compile_lost files old (outcome.Passed vectors compared) done suits saved = suits
-compile_lost files old (outcome.Mismatch vector signal) done suits saved = suits
-compile_lost files old (outcome.Undetermined vector signal) done suits saved = suits
-compile_lost files old (outcome.Scanned counts netlist report) done suits saved = suits
-compile_lost files old (outcome.Compiled counts netlist patterns report) done suits saved = saved
-compile_lost files old (outcome.Certified unsolvable) done suits saved = suits
-compile_lost files old (outcome.Generated counts replay) done suits saved = suits
-
-told_compiles : CompilationsHold → (files : CompileFiles) (held held' : Option Held) (o : Outcome) → status_of o ≡ Done → Told (λ h. Reaches (course_of_compile files) h o) held → IsOfCompile o → HaveSaved (compile_savings files o) held held' → ToldChange (Compiles files) held held'
-told_compiles hold files None held' o done told suits saved = compile_untold files held' o done suits saved
-told_compiles hold files (Some old) None o done told suits saved = compile_lost files old o done suits saved
-told_compiles hold files (Some old) (Some new) o done told suits saved = compiles hold files old new o done told saved
+told_compiles : CompilationsHold → (files : CompileFiles) (held held' : Option Held) (o : Outcome) → status_of o ≡ Done → Told (λ h. Reaches (course_of_compile files) h o) held → HaveSaved (savings (Some (Compile files)) o) held held' → ToldChange (Compiles files) held held'
+told_compiles hold files None held' o done told saved = saved_untold (savings (Some (Compile files)) o) held' saved
+told_compiles hold files (Some old) None o done told saved = saved_lost (savings (Some (Compile files)) o) old saved
+told_compiles hold files (Some old) (Some new) o done told saved = compiles hold files old new o done told saved
 
 told_certifies : CertifiedExactly → CertifiedInRuns → (files : CertifyFiles) (held : Option Held) (o : Outcome) → status_of o ≡ Done → Told (λ h. Reaches (course_of_certify files) h o) held → Told (Certifies files) held
 told_certifies exact never files None o done told = tt
@@ -416,13 +380,13 @@ pub scans_for : (words : List (List ℕ)) (command : Option Command) (before aft
 scans_for words command before after answer are ended files is done =
     let ends = subst (λ (command : Option Command). EndsFor command before after answer) (for_once words command (Some (Scan files)) are is) ended in
     let d = ends_done (Some (Scan files)) before after answer ends done in
-    told_scans files before.held after.held d.o d.done d.told.told d.told.suits d.saved
+    told_scans files before.held after.held d.o d.done d.told.told d.saved
 
 pub compiles_for : CompilationsHold → (words : List (List ℕ)) (command : Option Command) (before after : Seen) (answer : Answer) → AreFor words command → EndsFor command before after answer → CompilesTold words before.held after.held answer
 compiles_for hold words command before after answer are ended files is done =
     let ends = subst (λ (command : Option Command). EndsFor command before after answer) (for_once words command (Some (Compile files)) are is) ended in
     let d = ends_done (Some (Compile files)) before after answer ends done in
-    told_compiles hold files before.held after.held d.o d.done d.told.told d.told.suits d.saved
+    told_compiles hold files before.held after.held d.o d.done d.told.told d.saved
 
 pub certifies_for : CertifiedExactly → CertifiedInRuns → (words : List (List ℕ)) (command : Option Command) (before after : Seen) (answer : Answer) → AreFor words command → EndsFor command before after answer → CertifiesTold words before.held answer
 certifies_for exact never words command before after answer are ended files is done =

@@ -52,7 +52,9 @@ use Rattle.dft_answers.specs.declared.outcome.Outcome.{Outcome}
 use Rattle.dft_answers.specs.declared.outcome.Outcome.TheVariants.{Refused}
 use Rattle.dft_top.specs.declared.limits.TheConstants.{MAX_LIBRARY_BYTES}
 use Rattle.dft_answers.specs.Refusals.{compile_refusal, config_refusal, cube_refusal, library_refusal, read_refusal, stil_refusal, verilog_refusal}
-use Rattle.dft_top.specs.Checks.{ArePatternsOf, ConfigText, CubeText, DesignGives, FileGives, IsPlanned, LibraryGives, LibraryText, NetlistText, PatternText, PlanGives, ReportText, Then, plan_refusal}
+use Rattle.dft_io.specs.Texts.{FileGives}
+use Rattle.dft_top.specs.Checks.{ArePatternsOf, ConfigText, CubeText, DesignGives, IsPlanned, LibraryGives, LibraryText, NetlistText, PatternText, PlanGives, ReportText, plan_refusal}
+use Rattle.dft_top.specs.Courses.{Then}
 use Rattle.dft_top.proofs.NetlistRefusals.{IsReason, reason_one, finished_or_refused}
 
 err_same : {A E : Type 0} (r : Result A E) (a b : E) → r ≡ Err a → r ≡ Err b → a ≡ b

@@ -16,10 +16,13 @@ use Rattle.dft_replay.proofs.Uniqueness.{verdict_one}
 use Rattle.dft_command_line.specs.Words.{ReplayFiles}
 use Rattle.dft_answers.specs.declared.answer.Refusal.{Refusal}
 use Rattle.dft_answers.specs.declared.outcome.Outcome.{Outcome}
-use Rattle.dft_answers.specs.declared.outcome.Outcome.TheVariants.{Passed, Refused}
+use Rattle.dft_answers.specs.declared.outcome.Outcome.TheVariants.{Finished, Refused}
+use Rattle.dft_answers.specs.declared.outcome.Replayed.TheVariants.{Passed}
+use Rattle.dft_answers.specs.declared.outcome.Work.TheVariants.{Replayed}
 use Rattle.dft_top.specs.declared.limits.TheConstants.{MAX_NETLIST_BYTES, MAX_PATTERN_BYTES}
-use Rattle.dft_top.specs.Checks.{After, ArePatternsOf, FileGives, IsDesignOf, LibraryGives, NetlistGives, NetlistText, PatternText, PatternsGive, Then}
-use Rattle.dft_top.specs.Courses.{Reaches}
+use Rattle.dft_io.specs.Texts.{FileGives}
+use Rattle.dft_top.specs.Checks.{ArePatternsOf, IsDesignOf, LibraryGives, NetlistGives, NetlistText, PatternText, PatternsGive}
+use Rattle.dft_top.specs.Courses.{After, Reaches, Then}
 use Rattle.dft_top.specs.Outcomes.{IsOutcomeOn, course_of_replay, outcome_of}
 use Rattle.dft_top.proofs.Readings.{given_next, library_gives_one, patterns_one, stands_one}
 use Rattle.dft_top.proofs.Steps.{ReplayOn, ReplayOver}
@@ -43,15 +46,15 @@ on_verdict n p None o accepts is = is
 
 -- a verdict of Pass is the only one
 pub on_passes : (n m : Netlist) (p q : Patterns) (rank : ℕ → ℕ) (compared : ℕ) (o : Outcome) → IsOrdered m rank → m ≡ n → q ≡ p → HasVerdict n p (verdict.Pass compared) →
-    (v : Verdict) × (HasVerdict m q v × (o ≡ outcome_of q v)) → o ≡ Passed (length p.vectors) compared
+    (v : Verdict) × (HasVerdict m q v × (o ≡ outcome_of q v)) → o ≡ Finished (Replayed (Passed (length p.vectors) compared))
 on_passes n m p q rank compared o ordered netlist patterns passes x =
     let has : HasVerdict m q (verdict.Pass compared) = subst (λ (l : Netlist). HasVerdict l q (verdict.Pass compared)) (sym netlist) (subst (λ (r : Patterns). HasVerdict n r (verdict.Pass compared)) (sym patterns) passes) in
     let same : x.0 ≡ verdict.Pass compared = verdict_one m rank q x.0 (verdict.Pass compared) ordered x.1.0 has in
-    x.1.1 ∙ ap (outcome_of q) same ∙ ap (λ (r : Patterns). Passed (length r.vectors) compared) patterns
+    x.1.1 ∙ ap (outcome_of q) same ∙ ap (λ (r : Patterns). Finished (Replayed (Passed (length r.vectors) compared))) patterns
 
 pub replay_passes : (files : ReplayFiles) (held : Held) (cells : List Cell) (n : Netlist) (p : Patterns) (netlist text : List ℕ) (compared : ℕ) (o : Outcome) → (accepts : IsAccepted o) → (library : LibraryGives files.library held (Ok cells)) →
     (at_netlist : file_at files.netlist held ≡ Some netlist) → (at_patterns : file_at files.patterns held ≡ Some text) → (stands : StandsFor cells netlist n) → (reads : pattern.StandsFor text p) → (passes : HasVerdict n p (verdict.Pass compared)) →
-    Reaches (course_of_replay files) held o → o ≡ Passed (length p.vectors) compared
+    Reaches (course_of_replay files) held o → o ≡ Finished (Replayed (Passed (length p.vectors) compared))
 replay_passes files held cells n p netlist text compared o accepts library at_netlist at_patterns stands reads passes x =
     let over = given_next (LibraryGives files.library held) (ReplayOver files held) o cells (library_gives_one files.library held) library x in
     let design = then_accepts (NetlistGives cells files.netlist held) (ReplayOn files held) o accepts over in

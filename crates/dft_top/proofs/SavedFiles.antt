@@ -27,9 +27,12 @@ use Rattle.dft_command_line.specs.Words.{Certify, CertifyFiles, Command, Compile
 use Rattle.dft_command_line.proofs.Understood.{for_once}
 use Rattle.dft_answers.specs.declared.answer.Refusal.{Refusal}
 use Rattle.dft_answers.specs.declared.outcome.Outcome.{Outcome}
-use Rattle.dft_answers.specs.declared.outcome.Outcome.TheVariants.{Certified, Passed}
+use Rattle.dft_answers.specs.declared.outcome.Outcome.TheVariants.{Finished}
+use Rattle.dft_answers.specs.declared.outcome.Replayed.TheVariants.{Passed}
+use Rattle.dft_answers.specs.declared.outcome.Work.TheVariants.{Certified, Replayed}
 use Rattle.dft_top.specs.declared.limits.TheConstants.{MAX_NETLIST_BYTES, MAX_PATTERN_BYTES, MAX_REPORT_BYTES}
-use Rattle.dft_top.specs.Checks.{ConfigGives, CubesGive, FileGives, LibraryGives, NetlistGives, NetlistText, PatternText, PatternsGive, ReportGives, ReportText, plan_refusal}
+use Rattle.dft_io.specs.Texts.{FileGives}
+use Rattle.dft_top.specs.Checks.{ConfigGives, CubesGive, LibraryGives, NetlistGives, NetlistText, PatternText, PatternsGive, ReportGives, ReportText, plan_refusal}
 use Rattle.dft_top.specs.Courses.{Reaches}
 use Rattle.dft_top.specs.Outcomes.{IsOutcomeFor, IsOutcomeOfTest, IsOutcomeOn, course_of_certify, course_of_replay}
 use Rattle.dft_top.specs.Promises.{Compiles}
@@ -51,7 +54,7 @@ named_at name other held text same at = ap (λ (n : List ℕ). file_at n held) s
 
 replayed : (files : ReplayFiles) (making : CompileFiles) (old new : Held) (o : Outcome) (c : Compiles making old new) → files.netlist ≡ making.out_netlist → files.patterns ≡ making.out_patterns → LibraryGives files.library new (Ok c.cells) →
     length (compiled.netlist_text c.netlist c.config) ≤ MAX_NETLIST_BYTES → length (set_of c.netlist c.config c.list).vectors ≤ MAX_VECTORS → Reaches (course_of_replay files) new o →
-    o ≡ Passed (length (set_of c.netlist c.config c.list).vectors) (all_compared c.config (plan_of c.netlist c.config) c.list)
+    o ≡ Finished (Replayed (Passed (length (set_of c.netlist c.config c.list).vectors) (all_compared c.config (plan_of c.netlist c.config) c.list)))
 replayed files making old new o c netlist patterns library short few x =
     let n : Netlist = scanned Edt c.netlist c.config in
     let p : Patterns = without_notes (set_of c.netlist c.config c.list) in
@@ -74,7 +77,7 @@ saved_replayed words files making old new o is netlist patterns c library short 
 
 certified : (files : CertifyFiles) (making : CompileFiles) (old new : Held) (o : Outcome) (c : Compiles making old new) → files.report ≡ making.out_report → LibraryGives files.library new (Ok c.cells) → ConfigGives files.config new (Ok c.config) →
     NetlistGives c.cells files.netlist new (Ok c.netlist) → CubesGive c.netlist c.config files.cubes new (Ok c.cubes) → Reaches (course_of_certify files) new o →
-    o ≡ Certified (unsolvable_in (compile_report c.netlist c.config (rows_of c.netlist c.config c.placing.rows) c.cubes c.placing.placed).cubes)
+    o ≡ Finished (Certified (unsolvable_in (compile_report c.netlist c.config (rows_of c.netlist c.config c.placing.rows) c.cubes c.placing.placed).cubes))
 certified files making old new o c report library config netlist cubes x =
     let n = c.netlist in
     let g = c.config in

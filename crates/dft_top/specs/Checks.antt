@@ -1,6 +1,6 @@
 -- What the files of a command give, each by its checks: a value, or the refusal of the first check that fails.
 use Rattle.std.specs.List.{All}
-use Rattle.std.specs.Prelude.{ℕ, ◌<◌, ◌≤◌, ◌^◌, ◌≡◌, ◌⊎◌, List, codes, length, Option, None, Some, option_map, [], ◌∷◌, Result, Ok, Err}
+use Rattle.std.specs.Prelude.{ℕ, ◌<◌, ◌≤◌, ◌^◌, ◌≡◌, List, codes, length, Option, None, Some, option_map, [], ◌∷◌, Result, Ok, Err}
 use Rattle.dft_files.specs.Outside.{Held, file_at}
 use Rattle.dft_cells.specs.declared.cell.Cell.{Cell}
 use Rattle.dft_cells.specs.declared.refusal.LibraryError.{LibraryError}
@@ -42,25 +42,10 @@ use Rattle.dft_compile.specs.declared.error.CompileError.TheVariants.{Rules, Sti
 use Rattle.dft_compile.specs.declared.prepared.Prepared.{Prepared}
 use Rattle.dft_compile.specs.Prepared.{IsPrepared}
 use Rattle.dft_compile.specs.Refusals.{first_failing, first_refusal}
-use Rattle.dft_answers.specs.declared.answer.Code.TheVariants.{F1}
 use Rattle.dft_answers.specs.declared.answer.Refusal.{Refusal}
-use Rattle.dft_answers.specs.declared.outcome.Outcome.{Outcome}
-use Rattle.dft_answers.specs.declared.outcome.Outcome.TheVariants.{Refused}
 use Rattle.dft_top.specs.declared.limits.TheConstants.{MAX_LIBRARY_BYTES, MAX_CONFIG_BYTES, MAX_NETLIST_BYTES, MAX_PATTERN_BYTES, MAX_CUBE_BYTES, MAX_REPORT_BYTES}
-use Rattle.dft_answers.specs.Refusals.{named, library_refusal, config_refusal, verilog_refusal, stil_refusal, cube_refusal, compile_refusal, read_refusal}
-
--- ---- one file
-
--- a file is longer than its limit; the part is the name of the file's option
-abbrev pub too_long : (option : List ℕ) → Refusal
-too_long option = named F1 option
-
--- The length of a file is checked first, and then what its text gives. A file that is not held gives nothing.
-abbrev pub FileGives : {A : Type 0} → (limit : ℕ) → (option : List ℕ) → (List ℕ → Result A Refusal → Type 0) → Option (List ℕ) → Result A Refusal → Type 0
-FileGives limit option text_gives None r = ⊥
-FileGives limit option text_gives (Some text) (Ok value) = (length text ≤ limit) × text_gives text (Ok value)
-FileGives limit option text_gives (Some text) (Err refusal) =
-    ((limit < length text) × (refusal ≡ too_long option)) ⊎ ((length text ≤ limit) × text_gives text (Err refusal))
+use Rattle.dft_io.specs.Texts.{FileGives}
+use Rattle.dft_answers.specs.Refusals.{library_refusal, config_refusal, verilog_refusal, stil_refusal, cube_refusal, compile_refusal, read_refusal}
 
 -- ---- the library
 
@@ -173,15 +158,3 @@ ReportText text (Err refusal) = (error : ReadError) × (reports.IsRefused (repor
 
 abbrev pub ReportGives : (name : List ℕ) → Held → Result Report Refusal → Type 0
 ReportGives name held r = FileGives MAX_REPORT_BYTES (codes "report") ReportText (file_at name held) r
-
--- ---- one file after another
-
--- Where a file gives a value, what comes behind gives the outcome; a refusal is the outcome.
-abbrev pub Then : {A : Type 0} → (Result A Refusal → Type 0) → (A → Outcome → Type 0) → Outcome → Type 0
-Then {A} gives next o =
-    ((value : A) × (gives (Ok value) × next value o))
-    ⊎ ((refusal : Refusal) × (gives (Err refusal) × (o ≡ Refused refusal)))
-
--- the file gives a value, of which this holds
-abbrev pub After : {A : Type 0} → (Result A Refusal → Type 0) → (A → Type 0) → Type 0
-After {A} gives next = (value : A) × (gives (Ok value) × next value)

@@ -1,10 +1,23 @@
 -- What a command does up to its outcome: it loads one file after another, each of which gives a value by its checks or is refused.
-use Rattle.std.specs.Prelude.{ℕ, ◌≡◌, ◌⊎◌, List, Option, Some, Result}
-use Rattle.dft_answers.specs.declared.outcome.Outcome.TheVariants.{Refused}
+use Rattle.std.specs.Prelude.{ℕ, ◌≡◌, ◌⊎◌, List, Option, Some, Result, Ok, Err}
 use Rattle.dft_files.specs.Outside.{Held}
 use Rattle.dft_answers.specs.declared.answer.Refusal.{Refusal}
 use Rattle.dft_answers.specs.declared.outcome.Outcome.{Outcome}
-use Rattle.dft_top.specs.Checks.{Then, After}
+use Rattle.dft_answers.specs.declared.outcome.Outcome.TheVariants.{Refused}
+
+-- ---- one file after another
+
+-- Where a file gives a value, what comes behind gives the outcome; a refusal is the outcome.
+abbrev pub Then : {A : Type 0} → (Result A Refusal → Type 0) → (A → Outcome → Type 0) → Outcome → Type 0
+Then {A} gives next o =
+    ((value : A) × (gives (Ok value) × next value o))
+    ⊎ ((refusal : Refusal) × (gives (Err refusal) × (o ≡ Refused refusal)))
+
+-- the file gives a value, of which this holds
+abbrev pub After : {A : Type 0} → (Result A Refusal → Type 0) → (A → Type 0) → Type 0
+After {A} gives next = (value : A) × (gives (Ok value) × next value)
+
+-- ---- courses
 
 -- A step gives a value or is refused, by what is held, and has the name of the file that it loads, where it loads one; what follows
 -- depends on the value. At the end it comes to an outcome.
@@ -16,6 +29,11 @@ pub data Course : Type 1 where
 abbrev pub Reaches : Course → Held → Outcome → Type 0
 Reaches (Step name gives next) held o = Then (gives held) (λ value. Reaches (next value) held) o
 Reaches (End is) held o = is o
+
+-- an outcome that it may come to, whatever its steps give
+abbrev pub Allows : Course → Outcome → Type 0
+Allows (Step {A} name gives next) o = ((value : A) × Allows (next value) o) ⊎ ((refusal : Refusal) × (o ≡ Refused refusal))
+Allows (End is) o = is o
 
 -- a step loads the file with this name
 abbrev pub Loads : Course → (name : List ℕ) → Type 0

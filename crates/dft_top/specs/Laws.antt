@@ -20,7 +20,8 @@ use Rattle.dft_report.specs.declared.report.Report.{Report}
 use Rattle.dft_certify.specs.Certifying.{certify_refusal, unsolvable_in}
 use Rattle.dft_command_line.specs.Words.{ReplayFiles, ScanFiles, CompileFiles, CertifyFiles, IsReplay, IsScan, IsCompile, IsCertify}
 use Rattle.dft_answers.specs.declared.outcome.Outcome.{Outcome}
-use Rattle.dft_answers.specs.declared.outcome.Outcome.TheVariants.{Scanned, Certified}
+use Rattle.dft_answers.specs.declared.outcome.Outcome.TheVariants.{Finished}
+use Rattle.dft_answers.specs.declared.outcome.Work.TheVariants.{Scanned, Certified}
 use Rattle.dft_top.specs.Checks.{ConfigGives, CubesGive, LibraryGives, NetlistGives, PatternsGive, ReportGives, plan_refusal}
 use Rattle.dft_top.specs.Outcomes.{IsCompiled, IsOutcome, IsOutcomeOn, refusal_of}
 
@@ -45,7 +46,7 @@ abbrev pub PassingIsScanned : Type 0
 PassingIsScanned =
     (words : List (List ℕ)) (files : ScanFiles) (held : Held) (cells : List Cell) (config : Config) (n : Netlist) (o : Outcome) → IsScan words files →
     LibraryGives files.library held (Ok cells) → ConfigGives files.config held (Ok config) → NetlistGives cells files.netlist held (Ok n) → refusal n config ≡ None →
-    IsOutcome words held o → o ≡ Scanned (counts_of n config) (netlist_text n config) (report_text n config)
+    IsOutcome words held o → o ≡ Finished (Scanned (counts_of n config) (netlist_text n config) (report_text n config))
 
 -- where each file of a compilation passes its checks, and no check of the design, of its placed cubes and of their patterns fails, the cubes are compiled
 abbrev pub PassingIsCompiled : Type 0
@@ -62,4 +63,4 @@ PassingIsCertified =
     (words : List (List ℕ)) (files : CertifyFiles) (held : Held) (cells : List Cell) (config : Config) (n : Netlist) (cubes : List Cube) (report : Report) (rows : LoadRows) (o : Outcome) → IsCertify words files →
     LibraryGives files.library held (Ok cells) → ConfigGives files.config held (Ok config) → NetlistGives cells files.netlist held (Ok n) → plan_refusal n config ≡ None →
     CubesGive n config files.cubes held (Ok cubes) → ReportGives files.report held (Ok report) → AreRows n config rows →
-    certify_refusal n config.ring (rows_of n config rows) rows.columns cubes report ≡ None → IsOutcome words held o → o ≡ Certified (unsolvable_in report.cubes)
+    certify_refusal n config.ring (rows_of n config rows) rows.columns cubes report ≡ None → IsOutcome words held o → o ≡ Finished (Certified (unsolvable_in report.cubes))

@@ -5,6 +5,6 @@ pub mod Promises
 pub mod Saves
 pub mod Named
 pub mod Run
-pub mod Stops
+pub mod Follows
 pub mod Laws
 pub mod Saved

@@ -41,8 +41,10 @@ use Rattle.dft_command_line.specs.Words.{Command, Replay, Scan, Compile, Certify
 use Rattle.dft_answers.specs.declared.answer.Code.TheVariants.{P7}
 use Rattle.dft_answers.specs.declared.answer.Refusal.{Refusal}
 use Rattle.dft_answers.specs.declared.outcome.Outcome.{Outcome}
-use Rattle.dft_answers.specs.declared.outcome.Outcome.TheVariants.{Usage, Refused, Passed, Mismatch, Undetermined, Scanned, Compiled, Certified, Generated}
-use Rattle.dft_answers.specs.declared.outcome.Replayed.TheVariants as replayed
+use Rattle.dft_answers.specs.declared.outcome.Outcome.TheVariants.{Usage, Refused, Finished}
+use Rattle.dft_answers.specs.declared.outcome.Replayed.{Replayed as ReplayEnd}
+use Rattle.dft_answers.specs.declared.outcome.Replayed.TheVariants.{Passed, Mismatch, Undetermined}
+use Rattle.dft_answers.specs.declared.outcome.Work.TheVariants.{Replayed, Scanned, Compiled, Certified, Generated}
 use Rattle.dft_answers.specs.Refusals.{named, scan_refusal, compile_refusal}
 use Rattle.dft_answers.specs.Refusals as refusals
 use Rattle.dft_top.specs.Checks.{LibraryGives, ConfigGives, NetlistGives, PatternsGive, DesignGives, CubesGive, PlanGives, ReportGives}
@@ -58,10 +60,14 @@ name_at (Some signal) = signal.name
 abbrev pub signal_name : List StilSignal → ℕ → List ℕ
 signal_name signals i = name_at (slice_get signals i)
 
+-- what a verdict is told as
+abbrev pub replayed_as : Patterns → Verdict → ReplayEnd
+replayed_as p (verdict.Pass compared) = Passed (length p.vectors) compared
+replayed_as p (verdict.Mismatch vector signal) = Mismatch vector (signal_name p.signals signal)
+replayed_as p (verdict.Undetermined vector signal) = Undetermined vector (signal_name p.signals signal)
+
 abbrev pub outcome_of : Patterns → Verdict → Outcome
-outcome_of p (verdict.Pass compared) = Passed (length p.vectors) compared
-outcome_of p (verdict.Mismatch vector signal) = Mismatch vector (signal_name p.signals signal)
-outcome_of p (verdict.Undetermined vector signal) = Undetermined vector (signal_name p.signals signal)
+outcome_of p v = Finished (Replayed (replayed_as p v))
 
 -- the first signal that is no bit of a port with its direction is refused, and else there is a verdict
 abbrev pub IsOutcomeOn : Netlist → Patterns → Option (List ℕ) → Outcome → Type 0
@@ -81,7 +87,7 @@ course_of_replay files =
 -- The design is scanned: the outcome has the written form of its scanned netlist, and its report. The text stands for the netlist.
 pub record IsScanned (n : Netlist) (config : Config) (o : Outcome) : Type 0 where
   pub ready : IsReady n config
-  pub is : o ≡ Scanned (counts_of n config) (netlist_text n config) (report_text n config)
+  pub is : o ≡ Finished (Scanned (counts_of n config) (netlist_text n config) (report_text n config))
   pub reads : StandsFor n.library (netlist_text n config) (scanned Plain n config)
 
 -- an error is a refusal, but for want of memory
@@ -107,8 +113,8 @@ course_of_scan files =
 -- The cubes are compiled, where they are placed so and these are the patterns: the outcome has the written forms of the scanned netlist, of the
 -- patterns and of the report. The netlist's text stands for it, the patterns' vectors can be counted, and the report's text is read as the report.
 pub record IsCompiled (n : Netlist) (config : Config) (cubes : List Cube) (placing : Placing config (plan_of n config) cubes) (list : List PatternData) (o : Outcome) : Type 0 where
-  pub is : o ≡ Compiled (compiled.counts_of n config placing.placed list) (compiled.netlist_text n config) (compiled.pattern_text n config list)
-      (compiled.report_text n config placing.rows cubes placing.placed)
+  pub is : o ≡ Finished (Compiled (compiled.counts_of n config placing.placed list) (compiled.netlist_text n config) (compiled.pattern_text n config list)
+      (compiled.report_text n config placing.rows cubes placing.placed))
   pub reads : StandsFor n.library (compiled.netlist_text n config) (scanned Edt n config)
   pub few : length (compiled.pattern_set n config list).vectors < 2 ^ 32
   pub told : report_of (compiled.report_text n config placing.rows cubes placing.placed) ≡ Ok (compile_report n config (rows_of n config placing.rows) cubes placing.placed)
@@ -154,7 +160,7 @@ course_of_compile files =
 -- the first test that fails is refused, and else the cubes that are reported unsolvable are certified
 abbrev pub IsOutcomeOfTest : Report → Option CertifyError → Outcome → Type 0
 IsOutcomeOfTest report (Some error) o = IsRefusal (refusals.certify_refusal error) o
-IsOutcomeOfTest report None o = o ≡ Certified (unsolvable_in report.cubes)
+IsOutcomeOfTest report None o = o ≡ Finished (Certified (unsolvable_in report.cubes))
 
 -- the report is tested over the load equations of the planned chains
 abbrev pub IsOutcomeOfReport : Netlist → Config → List Cube → Report → Outcome → Type 0
@@ -212,27 +218,15 @@ made_files = record { library = None; netlist = codes "netlist"; patterns = code
 
 -- what a compilation with these counts, and then this outcome of a replay, come to
 abbrev pub generated : Counts → Outcome → Outcome
-generated counts Usage = Usage
-generated counts (Refused refusal) = Refused refusal
-generated counts (Passed vectors compared) = Generated counts (replayed.Passed vectors compared)
-generated counts (Mismatch vector signal) = Generated counts (replayed.Mismatch vector signal)
-generated counts (Undetermined vector signal) = Generated counts (replayed.Undetermined vector signal)
-generated counts (Scanned scan netlist report) = Scanned scan netlist report
-generated counts (Compiled other netlist patterns report) = Compiled other netlist patterns report
-generated counts (Certified unsolvable) = Certified unsolvable
-generated counts (Generated other replay) = Generated other replay
+generated counts (Finished (Replayed replay)) = Finished (Generated counts replay)
+generated counts o = o
 
 -- What a compilation made is replayed; a refusal of either is the outcome.
 abbrev pub IsReplayedOf : (compilation : Outcome) → Outcome → Type 0
-IsReplayedOf Usage o = ⊥
 IsReplayedOf (Refused refusal) o = o ≡ Refused refusal
-IsReplayedOf (Passed vectors compared) o = ⊥
-IsReplayedOf (Mismatch vector signal) o = ⊥
-IsReplayedOf (Undetermined vector signal) o = ⊥
-IsReplayedOf (Scanned counts netlist report) o = ⊥
-IsReplayedOf (Compiled counts netlist patterns report) o = (replay : Outcome) × (Reaches (course_of_replay made_files) (made_held netlist patterns) replay × (o ≡ generated counts replay))
-IsReplayedOf (Certified unsolvable) o = ⊥
-IsReplayedOf (Generated counts replay) o = ⊥
+IsReplayedOf (Finished (Compiled counts netlist patterns report)) o =
+    (replay : Outcome) × (Reaches (course_of_replay made_files) (made_held netlist patterns) replay × (o ≡ generated counts replay))
+IsReplayedOf compilation o = ⊥
 
 -- The texts of the job are compiled, and what comes of it is replayed.
 abbrev pub IsOutcomeOfJob : JobNumbers → Outcome → Type 0

@@ -8,6 +8,8 @@ use Rattle.dft_answers.specs.declared.answer.Answer.{Answer}
 use Rattle.dft_answers.specs.declared.answer.Refusal.{Refusal}
 use Rattle.dft_answers.specs.declared.outcome.Outcome.{Outcome}
 use Rattle.dft_answers.specs.declared.outcome.Outcome.TheVariants as outcome
+use Rattle.dft_answers.specs.declared.outcome.Replayed.TheVariants.{Passed}
+use Rattle.dft_answers.specs.declared.outcome.Work.TheVariants as work
 use Rattle.dft_command_line.specs.Words.{Command, Replay, Scan, Compile, Certify, Generate, ReplayFiles, ScanFiles, CompileFiles, CertifyFiles, JobNumbers, AreFor, IsFor, IsReplay, IsScan, IsCompile, IsCertify, IsGenerate}
 use Rattle.dft_answers.specs.Answers.{answer_of, stopped}
 use Rattle.dft_answers.specs.Lines.{line_of}
@@ -38,71 +40,20 @@ seen held failed read_faults write_faults printed put_faults = record {
 
 -- ---- the outcome
 
--- a replay comes to a refusal or a verdict, a scan to a refusal or a scan, a compilation to a refusal or a compilation, a test of certificates to a
--- refusal or a count of certified cubes, a generated job to a refusal or to what it compiles to and replays as, and Usage is the outcome of exactly
--- the words that are no command
-abbrev pub IsOfReplay : Outcome → Type 0
-IsOfReplay outcome.Usage = ⊥
-IsOfReplay (outcome.Refused refusal) = Unit {0}
-IsOfReplay (outcome.Passed vectors compared) = Unit {0}
-IsOfReplay (outcome.Mismatch vector signal) = Unit {0}
-IsOfReplay (outcome.Undetermined vector signal) = Unit {0}
-IsOfReplay (outcome.Scanned counts netlist report) = ⊥
-IsOfReplay (outcome.Compiled counts netlist patterns report) = ⊥
-IsOfReplay (outcome.Certified unsolvable) = ⊥
-IsOfReplay (outcome.Generated counts replay) = ⊥
+-- a command comes to a refusal, or to work of its own
+abbrev pub IsOf : Command → Outcome → Type 0
+IsOf command (outcome.Refused refusal) = Unit {0}
+IsOf (Replay files) (outcome.Finished (work.Replayed replay)) = Unit {0}
+IsOf (Scan files) (outcome.Finished (work.Scanned counts netlist report)) = Unit {0}
+IsOf (Compile files) (outcome.Finished (work.Compiled counts netlist patterns report)) = Unit {0}
+IsOf (Certify files) (outcome.Finished (work.Certified unsolvable)) = Unit {0}
+IsOf (Generate numbers) (outcome.Finished (work.Generated counts replay)) = Unit {0}
+IsOf command o = ⊥
 
-abbrev pub IsOfScan : Outcome → Type 0
-IsOfScan outcome.Usage = ⊥
-IsOfScan (outcome.Refused refusal) = Unit {0}
-IsOfScan (outcome.Passed vectors compared) = ⊥
-IsOfScan (outcome.Mismatch vector signal) = ⊥
-IsOfScan (outcome.Undetermined vector signal) = ⊥
-IsOfScan (outcome.Scanned counts netlist report) = Unit {0}
-IsOfScan (outcome.Compiled counts netlist patterns report) = ⊥
-IsOfScan (outcome.Certified unsolvable) = ⊥
-IsOfScan (outcome.Generated counts replay) = ⊥
-
-abbrev pub IsOfCompile : Outcome → Type 0
-IsOfCompile outcome.Usage = ⊥
-IsOfCompile (outcome.Refused refusal) = Unit {0}
-IsOfCompile (outcome.Passed vectors compared) = ⊥
-IsOfCompile (outcome.Mismatch vector signal) = ⊥
-IsOfCompile (outcome.Undetermined vector signal) = ⊥
-IsOfCompile (outcome.Scanned counts netlist report) = ⊥
-IsOfCompile (outcome.Compiled counts netlist patterns report) = Unit {0}
-IsOfCompile (outcome.Certified unsolvable) = ⊥
-IsOfCompile (outcome.Generated counts replay) = ⊥
-
-abbrev pub IsOfCertify : Outcome → Type 0
-IsOfCertify outcome.Usage = ⊥
-IsOfCertify (outcome.Refused refusal) = Unit {0}
-IsOfCertify (outcome.Passed vectors compared) = ⊥
-IsOfCertify (outcome.Mismatch vector signal) = ⊥
-IsOfCertify (outcome.Undetermined vector signal) = ⊥
-IsOfCertify (outcome.Scanned counts netlist report) = ⊥
-IsOfCertify (outcome.Compiled counts netlist patterns report) = ⊥
-IsOfCertify (outcome.Certified unsolvable) = Unit {0}
-IsOfCertify (outcome.Generated counts replay) = ⊥
-
-abbrev pub IsOfGenerate : Outcome → Type 0
-IsOfGenerate outcome.Usage = ⊥
-IsOfGenerate (outcome.Refused refusal) = Unit {0}
-IsOfGenerate (outcome.Passed vectors compared) = ⊥
-IsOfGenerate (outcome.Mismatch vector signal) = ⊥
-IsOfGenerate (outcome.Undetermined vector signal) = ⊥
-IsOfGenerate (outcome.Scanned counts netlist report) = ⊥
-IsOfGenerate (outcome.Compiled counts netlist patterns report) = ⊥
-IsOfGenerate (outcome.Certified unsolvable) = ⊥
-IsOfGenerate (outcome.Generated counts replay) = Unit {0}
-
+-- Usage is the outcome of exactly the words that are no command
 abbrev pub Suits : Option Command → Outcome → Type 0
 Suits None o = o ≡ outcome.Usage
-Suits (Some (Replay files)) o = IsOfReplay o
-Suits (Some (Scan files)) o = IsOfScan o
-Suits (Some (Compile files)) o = IsOfCompile o
-Suits (Some (Certify files)) o = IsOfCertify o
-Suits (Some (Generate numbers)) o = IsOfGenerate o
+Suits (Some command) o = IsOf command o
 
 -- What is said of held files holds of those that are told; of a command that loads none, and of no command, it holds whatever is held.
 abbrev pub ToldFor : Option Command → (Held → Type 0) → Option Held → Type 0
@@ -162,13 +113,6 @@ pub record EndsShort (command : Option Command) (o : Outcome) (before after : Se
   pub saved : HaveSavedSome (savings command o) before.held after.held
   pub printed : after.printed ≡ before.printed
   pub answers : answer ≡ stopped OutOfMemory
-
--- what is printed of an outcome: its line, or a prefix of it where the outside fails, or nothing where memory runs out
-abbrev pub Prints : Outcome → (faults faults' : ℕ) → (old new : Option (List ℕ)) → Answer → Type 0
-Prints o faults faults' old new answer =
-    ((answer ≡ answer_of o) × Adds (line_of o) old new)
-    ⊎ (Rose faults faults' × AddsPrefix (line_of o) old new × (answer ≡ stopped WriteFault))
-    ⊎ ((new ≡ old) × (answer ≡ stopped OutOfMemory))
 
 -- what becomes of an outcome
 abbrev pub IsDelivered : Option Command → Outcome → (before after : Seen) → Answer → Type 0
@@ -242,7 +186,7 @@ pub record NoneFailed (before after : Seen) : Type 0 where
 pub record IsPassed (files : ReplayFiles) (held : Held) : Type 0 where
   pub vectors : ℕ
   pub compared : ℕ
-  pub is : IsOutcomeFor (Some (Replay files)) held (outcome.Passed vectors compared)
+  pub is : IsOutcomeFor (Some (Replay files)) held (outcome.Finished (work.Replayed (Passed vectors compared)))
 
 -- a replay is done exactly where the verdict is Pass, and not passed else; every other command is done
 abbrev pub IsAnswered : Command → Held → Status → Type 0

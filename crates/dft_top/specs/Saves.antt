@@ -3,48 +3,24 @@ use Rattle.std.specs.Prelude.{ℕ, ◌≡◌, false, List, [], ◌∷◌, ◌++�
 use Rattle.std.specs.List.{AllByRecursion}
 use Rattle.std.specs.Str.{bytes_eq}
 use Rattle.dft_files.specs.Outside.{Held, LeavesPart, Rose, ToldChange, file_at}
-use Rattle.dft_command_line.specs.Words.{Command, Replay, Scan, Compile, Certify, Generate, ScanFiles, CompileFiles, OutputsDiffer}
+use Rattle.dft_command_line.specs.Words.{Command, Replay, Scan, Compile, Certify, Generate, OutputsDiffer}
 use Rattle.dft_answers.specs.declared.outcome.Outcome.{Outcome}
-use Rattle.dft_answers.specs.declared.outcome.Outcome.TheVariants.{Usage, Refused, Passed, Mismatch, Undetermined, Scanned, Compiled, Certified, Generated}
+use Rattle.dft_answers.specs.declared.outcome.Outcome.TheVariants.{Finished}
+use Rattle.dft_answers.specs.declared.outcome.Work.TheVariants.{Scanned, Compiled}
 
 -- a file that is to be saved: its name, and its bytes
 pub record Saving : Type 0 where
   pub name : List ℕ
   pub bytes : List ℕ
 
--- the scanned netlist, then the report; no other outcome is saved
-abbrev pub scan_savings : ScanFiles → Outcome → List Saving
-scan_savings files Usage = []
-scan_savings files (Refused refusal) = []
-scan_savings files (Passed vectors compared) = []
-scan_savings files (Mismatch vector signal) = []
-scan_savings files (Undetermined vector signal) = []
-scan_savings files (Scanned counts netlist report) = record { name = files.out; bytes = netlist } ∷ record { name = files.report; bytes = report } ∷ []
-scan_savings files (Compiled counts netlist patterns report) = []
-scan_savings files (Certified unsolvable) = []
-scan_savings files (Generated counts replay) = []
-
--- the scanned netlist, then the patterns, then the report; no other outcome is saved
-abbrev pub compile_savings : CompileFiles → Outcome → List Saving
-compile_savings files Usage = []
-compile_savings files (Refused refusal) = []
-compile_savings files (Passed vectors compared) = []
-compile_savings files (Mismatch vector signal) = []
-compile_savings files (Undetermined vector signal) = []
-compile_savings files (Scanned counts netlist report) = []
-compile_savings files (Compiled counts netlist patterns report) =
-    record { name = files.out_netlist; bytes = netlist } ∷ record { name = files.out_patterns; bytes = patterns } ∷ record { name = files.out_report; bytes = report } ∷ []
-compile_savings files (Certified unsolvable) = []
-compile_savings files (Generated counts replay) = []
-
--- what a command saves, in order
+-- what a command saves, in order: of a scan the scanned netlist and the report, of a compilation the scanned netlist, the patterns and the report; of
+-- all else nothing
 abbrev pub savings : Option Command → Outcome → List Saving
-savings None o = []
-savings (Some (Replay files)) o = []
-savings (Some (Scan files)) o = scan_savings files o
-savings (Some (Compile files)) o = compile_savings files o
-savings (Some (Certify files)) o = []
-savings (Some (Generate numbers)) o = []
+savings (Some (Scan files)) (Finished (Scanned counts netlist report)) =
+    record { name = files.out; bytes = netlist } ∷ record { name = files.report; bytes = report } ∷ []
+savings (Some (Compile files)) (Finished (Compiled counts netlist patterns report)) =
+    record { name = files.out_netlist; bytes = netlist } ∷ record { name = files.out_patterns; bytes = patterns } ∷ record { name = files.out_report; bytes = report } ∷ []
+savings command o = []
 
 -- the files that a command saves have different names
 abbrev pub SavesApart : Option Command → Type 0

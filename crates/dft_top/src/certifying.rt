@@ -1,7 +1,6 @@
 //! The outcome of a test of certificates: whether the sums that a report prints for cubes show that no channel bits load them.
 
-ghost use Rattle.std.specs.Prelude.{◌≡◌, ◌⊎◌, Err, IfErr, IfOk, None, length, map};
-ghost use Rattle.dft_files.specs.Outside.{Rose, Told};
+ghost use Rattle.std.specs.Prelude.{◌≡◌, Err, IfErr, IfOk, None, length, map};
 ghost use Rattle.dft_config.specs.Config.{Config};
 ghost use Rattle.dft_config.specs.Range.{IsInRange};
 ghost use Rattle.dft_rules.specs.Refusals as rules;
@@ -11,16 +10,13 @@ ghost use Rattle.dft_equations.specs.LoadRows.{AreLoadEquations};
 ghost use Rattle.dft_scan_frame.specs.Statements.{IsReady};
 ghost use Rattle.dft_compile.specs.Refusals.{IsRefusal};
 ghost use Rattle.dft_command_line.specs.Named.{certify_files_of};
-ghost use Rattle.dft_command_line.specs.Words as words;
+ghost use Rattle.dft_io.specs.Steps.{IsGiven, seen_files};
 ghost use Rattle.dft_top.specs.Checks.{PlanGives, plan_refusal};
-ghost use Rattle.dft_top.specs.Courses.{Loads, Reaches, TurnComes};
-ghost use Rattle.dft_top.specs.Outcomes.{HasTurn, IsLoaded, IsOutcomeOfReport, course_of_certified, course_of_certify, course_of_planned, course_of_report};
-ghost use Rattle.dft_top.specs.Run.{IsOfCertify};
-ghost use Rattle.dft_top.specs.Stops.{ComesTo, IsGiven};
+ghost use Rattle.dft_top.specs.Outcomes.{IsOutcomeOfReport, course_of_certified, course_of_certify, course_of_planned, course_of_report};
+ghost use Rattle.dft_top.specs.Follows.{ComesTo, Follows};
 
 use crate::loading::{load_config, load_cubes, load_library, load_netlist, load_report};
-use crate::stop::Stop;
-use dft_answers::{Outcome, certify_refusal, compile_refusal};
+use dft_answers::{Outcome, Work, certify_refusal, compile_refusal};
 use dft_certify::certify;
 use dft_command_line::CertifyFiles;
 use dft_compile::CompileError;
@@ -30,6 +26,7 @@ use dft_cubes::Cube;
 use dft_encode::lengths_of;
 use dft_equations::{Equations, equations};
 use dft_files::Files;
+use dft_io::Stop;
 use dft_merge::plans_stand_apart;
 use dft_netlist::Design;
 use dft_report::Report;
@@ -44,14 +41,9 @@ pub fn outcome_of_certify<F: Files>(
     names: CertifyFiles<'_>,
     files: &mut F,
 ) -> Result<Outcome, Stop>
-    ensures outcome { ComesTo (λ o. Told (λ h. Reaches (course_of_certify (certify_files_of names.entry)) h o) (F.held files.old)) result }
-    ensures suits { ComesTo IsOfCertify result }
-    ensures rose { result ≡ Err Stop.ReadFault → Rose (F.read_faults files.old) (F.read_faults files.new) }
-    ensures loaded { result ≡ Err Stop.ReadFault → IsLoaded (Some (words.Certify (certify_files_of names.entry))) (F.failed files.new) }
-    ensures turn { result ≡ Err Stop.ReadFault → Told (λ h. HasTurn (Some (words.Certify (certify_files_of names.entry))) h
-        (F.failed files.new)) (F.held files.old) }
-    ensures held { F.held files.new ≡ F.held files.old }
-    ensures saves { F.write_faults files.new ≡ F.write_faults files.old }
+    ensures { Follows (course_of_certify (certify_files_of names.entry))
+        (seen_files (F.held files.old) (F.failed files.old) (F.read_faults files.old) (F.write_faults files.old))
+        (seen_files (F.held files.new) (F.failed files.new) (F.read_faults files.new) (F.write_faults files.new)) result }
 {
     let library = load_library(alloc, files, names.library)?;
     let config = load_config(alloc, files, names.config)?;
@@ -68,14 +60,9 @@ fn outcome_of_design<F: Files>(
     report: &str,
     files: &mut F,
 ) -> Result<Outcome, Stop>
-    ensures outcome { ComesTo (λ o. Told (λ h. Reaches (course_of_planned design.now config.now cubes.now report.now) h o) (F.held files.old)) result }
-    ensures suits { ComesTo IsOfCertify result }
-    ensures rose { result ≡ Err Stop.ReadFault → Rose (F.read_faults files.old) (F.read_faults files.new) }
-    ensures loaded { result ≡ Err Stop.ReadFault → Loads (course_of_planned design.now config.now cubes.now report.now) (F.failed files.new) }
-    ensures turn { result ≡ Err Stop.ReadFault → Told (λ h. TurnComes (course_of_planned design.now config.now cubes.now report.now) h
-        (F.failed files.new)) (F.held files.old) }
-    ensures held { F.held files.new ≡ F.held files.old }
-    ensures saves { F.write_faults files.new ≡ F.write_faults files.old }
+    ensures { Follows (course_of_planned design.now config.now cubes.now report.now)
+        (seen_files (F.held files.old) (F.failed files.old) (F.read_faults files.old) (F.write_faults files.old))
+        (seen_files (F.held files.new) (F.failed files.new) (F.read_faults files.new) (F.write_faults files.new)) result }
 {
     let chains = planned(alloc, design, config)?;
     outcome_with(alloc, design, config, &chains, cubes, report, files)
@@ -126,14 +113,9 @@ fn outcome_with<F: Files>(
 ) -> Result<Outcome, Stop>
     requires planned { chains.now ≡ plan_of design.now config.now }
     requires fits { stitch.refusal design.now config.now ≡ None }
-    ensures outcome { ComesTo (λ o. Told (λ h. Reaches (course_of_certified design.now config.now cubes.now report.now) h o) (F.held files.old)) result }
-    ensures suits { ComesTo IsOfCertify result }
-    ensures rose { result ≡ Err Stop.ReadFault → Rose (F.read_faults files.old) (F.read_faults files.new) }
-    ensures loaded { result ≡ Err Stop.ReadFault → Loads (course_of_certified design.now config.now cubes.now report.now) (F.failed files.new) }
-    ensures turn { result ≡ Err Stop.ReadFault → Told (λ h. TurnComes (course_of_certified design.now config.now cubes.now report.now) h
-        (F.failed files.new)) (F.held files.old) }
-    ensures held { F.held files.new ≡ F.held files.old }
-    ensures saves { F.write_faults files.new ≡ F.write_faults files.old }
+    ensures { Follows (course_of_certified design.now config.now cubes.now report.now)
+        (seen_files (F.held files.old) (F.failed files.old) (F.read_faults files.old) (F.write_faults files.old))
+        (seen_files (F.held files.new) (F.failed files.new) (F.read_faults files.new) (F.write_faults files.new)) result }
 {
     let cubes = load_cubes(alloc, files, cubes, design, config)?;
     outcome_over(
@@ -159,12 +141,9 @@ fn outcome_over<F: Files>(
 ) -> Result<Outcome, Stop>
     requires planned { chains.now ≡ plan_of design.now config.now }
     requires fits { stitch.refusal design.now config.now ≡ None }
-    ensures outcome { ComesTo (λ o. Told (λ h. Reaches (course_of_report design.now config.now cubes.now report.now) h o) (F.held files.old)) result }
-    ensures suits { ComesTo IsOfCertify result }
-    ensures rose { result ≡ Err Stop.ReadFault → Rose (F.read_faults files.old) (F.read_faults files.new) }
-    ensures loaded { result ≡ Err Stop.ReadFault → report.now ≡ F.failed files.new }
-    ensures held { F.held files.new ≡ F.held files.old }
-    ensures saves { F.write_faults files.new ≡ F.write_faults files.old }
+    ensures { Follows (course_of_report design.now config.now cubes.now report.now)
+        (seen_files (F.held files.old) (F.failed files.old) (F.read_faults files.old) (F.write_faults files.old))
+        (seen_files (F.held files.new) (F.failed files.new) (F.read_faults files.new) (F.write_faults files.new)) result }
 {
     let report = load_report(alloc, files, report)?;
     outcome_of_report(alloc, design, config, chains, cubes, &report)
@@ -182,7 +161,6 @@ fn outcome_of_report(
     requires planned { chains.now ≡ plan_of design.now config.now }
     requires fits { stitch.refusal design.now config.now ≡ None }
     ensures outcome { ComesTo (IsOutcomeOfReport design.now config.now cubes.now report.now) result }
-    ensures suits { ComesTo IsOfCertify result }
     ensures quiet { result ≡ Err Stop.ReadFault → ⊥ }
 {
     config.soundness();
@@ -195,7 +173,7 @@ fn outcome_of_report(
     };
     plans_stand_apart();
     match certify(alloc, &sums, cubes, report) {
-        Ok(unsolvable) => Ok(Outcome::Certified { unsolvable }),
+        Ok(unsolvable) => Ok(Outcome::Finished(Work::Certified { unsolvable })),
         Err(error) => Err(Stop::Refused(certify_refusal(error)?)),
     }
 }

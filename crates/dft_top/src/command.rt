@@ -1,13 +1,12 @@
 //! A run of the tool.
 
-ghost use Rattle.std.specs.Prelude.{◌≡◌, Some, Err, map, option_map, string_bytes};
-ghost use Rattle.dft_files.specs.Outside.{Rose, Told};
+ghost use Rattle.std.specs.Prelude.{map, option_map, string_bytes};
 ghost use Rattle.dft_command_line.specs.Named.{command_of};
-ghost use Rattle.dft_answers.specs.Lines.{line_of};
-ghost use Rattle.dft_top.specs.Outcomes.{HasTurn, IsLoaded, IsSized};
-ghost use Rattle.dft_top.specs.Run.{Ends, EndsFor, IsDelivered, CertifiesTold, CompilesTold, CompletesTold, FailsTold, GeneratesJob, IsOutcomeTold, KeepsFiles, PassesTold, Prints, ScansTold, seen};
+ghost use Rattle.dft_io.specs.Steps.{seen_files};
+ghost use Rattle.dft_top.specs.Follows.{Follows};
+ghost use Rattle.dft_top.specs.Outcomes.{IsSized, course_of};
+ghost use Rattle.dft_top.specs.Run.{Ends, EndsFor, IsDelivered, CertifiesTold, CompilesTold, CompletesTold, FailsTold, GeneratesJob, KeepsFiles, PassesTold, ScansTold, seen};
 ghost use Rattle.dft_top.specs.Saves.{CountsSaves, SavesApart, savings};
-ghost use Rattle.dft_top.specs.Stops.{ComesTo};
 
 use crate::certifying::outcome_of_certify;
 use crate::compiling::outcome_of_compile;
@@ -15,13 +14,13 @@ use crate::generating::outcome_of_generate;
 use crate::replaying::outcome_of_replay;
 use crate::saving::save_outcome;
 use crate::scanning::outcome_of_scan;
-use crate::stop::Stop;
 use dft_answers::{Answer, Outcome, Status, line};
 use dft_certify::reports_are_certified;
 use dft_certify_laws::certified_in_runs;
 use dft_command_line::{Command, command};
 use dft_compile_laws::compilations_hold;
-use dft_files::{Files, PutError, SaveError, Sink};
+use dft_files::{Files, SaveError, Sink};
+use dft_io::{Stop, put_line};
 use std::alloc::Global;
 
 /// Runs a command. `replay --netlist FILE --patterns FILE` replays the patterns on the netlist. `scan --netlist FILE
@@ -108,12 +107,9 @@ fn outcome_of<F: Files>(
     files: &mut F,
 ) -> Result<Outcome, Stop>
     requires { IsSized (option_map command_of command) }
-    ensures outcome { ComesTo (IsOutcomeTold (option_map command_of command.entry) (F.held files.old)) result }
-    ensures rose { result ≡ Err Stop.ReadFault → Rose (F.read_faults files.old) (F.read_faults files.new) }
-    ensures loaded { result ≡ Err Stop.ReadFault → IsLoaded (option_map command_of command.entry) (F.failed files.new) }
-    ensures turn { result ≡ Err Stop.ReadFault → Told (λ h. HasTurn (option_map command_of command.entry) h (F.failed files.new)) (F.held files.old) }
-    ensures held { F.held files.new ≡ F.held files.old }
-    ensures saves { F.write_faults files.new ≡ F.write_faults files.old }
+    ensures { Follows (course_of (option_map command_of command.entry))
+        (seen_files (F.held files.old) (F.failed files.old) (F.read_faults files.old) (F.write_faults files.old))
+        (seen_files (F.held files.new) (F.failed files.new) (F.read_faults files.new) (F.write_faults files.new)) result }
 {
     match command {
         None => Ok(Outcome::Usage),
@@ -148,17 +144,5 @@ fn deliver<F: Files, O: Sink>(
         Ok(()) => put_line(outcome, line.as_slice(), out),
         Err(SaveError::Failed) => Answer::stopped(Status::WriteFault),
         Err(SaveError::Memory(_)) => Answer::stopped(Status::OutOfMemory),
-    }
-}
-
-// Puts the line of an outcome, and answers it.
-fn put_line<O: Sink>(outcome: Outcome, line: &[u8], out: &mut O) -> Answer
-    requires { line.now ≡ line_of outcome }
-    ensures { Prints outcome (O.faults out.old) (O.faults out.new) (O.told out.old) (O.told out.new) result }
-{
-    match out.put(line) {
-        Ok(()) => Answer::of(outcome),
-        Err(PutError::Failed) => Answer::stopped(Status::WriteFault),
-        Err(PutError::Memory(_)) => Answer::stopped(Status::OutOfMemory),
     }
 }

@@ -1,25 +1,23 @@
 //! The outcome of a compilation: the texts of a scanned netlist behind compression hardware, of its patterns and of its report.
 
-ghost use Rattle.std.specs.Prelude.{◌≡◌, Err, Some};
-ghost use Rattle.dft_files.specs.Outside.{Rose, Told};
+ghost use Rattle.std.specs.Prelude.{◌≡◌, Err};
 ghost use Rattle.dft_compile.specs.Prepared.{IsPrepared};
 ghost use Rattle.dft_verilog_out.specs.Named.{GatesAreJoined};
 ghost use Rattle.dft_command_line.specs.Named.{compile_files_of};
-ghost use Rattle.dft_command_line.specs.Words as words;
+ghost use Rattle.dft_answers.specs.declared.outcome.Work.TheVariants.{Compiled};
+ghost use Rattle.dft_io.specs.Steps.{IsGiven, seen_files};
 ghost use Rattle.dft_top.specs.Checks.{AreFew, DesignGives};
-ghost use Rattle.dft_top.specs.Courses.{Loads, Reaches, TurnComes};
-ghost use Rattle.dft_top.specs.Outcomes.{HasTurn, IsLoaded, course_of_compile, course_of_cubes, course_of_design, IsOutcomeOfCubes};
-ghost use Rattle.dft_top.specs.Run.{IsOfCompile};
-ghost use Rattle.dft_top.specs.Stops.{ComesTo, IsGiven};
+ghost use Rattle.dft_top.specs.Outcomes.{course_of_compile, course_of_cubes, course_of_design, IsOutcomeOfCubes};
+ghost use Rattle.dft_top.specs.Follows.{ComesTo, Follows};
 
 use crate::loading::{load_config, load_cubes, load_library, load_netlist};
-use crate::stop::Stop;
-use dft_answers::{Outcome, compile_refusal};
+use dft_answers::{Outcome, Work, compile_refusal};
 use dft_command_line::CompileFiles;
 use dft_compile::{CompileTexts, Prepared, compile, prepare};
 use dft_config::{Config, Listed};
 use dft_cubes::Cube;
 use dft_files::Files;
+use dft_io::Stop;
 use dft_netlist::Design;
 use std::alloc::Global;
 
@@ -30,14 +28,9 @@ pub fn outcome_of_compile<F: Files>(
     names: CompileFiles<'_>,
     files: &mut F,
 ) -> Result<Outcome, Stop>
-    ensures outcome { ComesTo (λ o. Told (λ h. Reaches (course_of_compile (compile_files_of names.entry)) h o) (F.held files.old)) result }
-    ensures suits { ComesTo IsOfCompile result }
-    ensures rose { result ≡ Err Stop.ReadFault → Rose (F.read_faults files.old) (F.read_faults files.new) }
-    ensures loaded { result ≡ Err Stop.ReadFault → IsLoaded (Some (words.Compile (compile_files_of names.entry))) (F.failed files.new) }
-    ensures turn { result ≡ Err Stop.ReadFault → Told (λ h. HasTurn (Some (words.Compile (compile_files_of names.entry))) h
-        (F.failed files.new)) (F.held files.old) }
-    ensures held { F.held files.new ≡ F.held files.old }
-    ensures saves { F.write_faults files.new ≡ F.write_faults files.old }
+    ensures { Follows (course_of_compile (compile_files_of names.entry))
+        (seen_files (F.held files.old) (F.failed files.old) (F.read_faults files.old) (F.write_faults files.old))
+        (seen_files (F.held files.new) (F.failed files.new) (F.read_faults files.new) (F.write_faults files.new)) result }
 {
     let library = load_library(alloc, files, names.library)?;
     let config = load_config(alloc, files, names.config)?;
@@ -54,14 +47,9 @@ fn outcome_of_design<F: Files>(
     files: &mut F,
 ) -> Result<Outcome, Stop>
     requires joined { GatesAreJoined design.now }
-    ensures outcome { ComesTo (λ o. Told (λ h. Reaches (course_of_design design.now config.now cubes.now) h o) (F.held files.old)) result }
-    ensures suits { ComesTo IsOfCompile result }
-    ensures rose { result ≡ Err Stop.ReadFault → Rose (F.read_faults files.old) (F.read_faults files.new) }
-    ensures loaded { result ≡ Err Stop.ReadFault → Loads (course_of_design design.now config.now cubes.now) (F.failed files.new) }
-    ensures turn { result ≡ Err Stop.ReadFault → Told (λ h. TurnComes (course_of_design design.now config.now cubes.now) h
-        (F.failed files.new)) (F.held files.old) }
-    ensures held { F.held files.new ≡ F.held files.old }
-    ensures saves { F.write_faults files.new ≡ F.write_faults files.old }
+    ensures { Follows (course_of_design design.now config.now cubes.now)
+        (seen_files (F.held files.old) (F.failed files.old) (F.read_faults files.old) (F.write_faults files.old))
+        (seen_files (F.held files.new) (F.failed files.new) (F.read_faults files.new) (F.write_faults files.new)) result }
 {
     let prepared = prepared(alloc, design, config)?;
     outcome_with(alloc, design, config, &prepared, cubes, files)
@@ -91,12 +79,9 @@ fn outcome_with<F: Files>(
 ) -> Result<Outcome, Stop>
     requires joined { GatesAreJoined design.now }
     requires prepared { IsPrepared design.now config.now prepared.now }
-    ensures outcome { ComesTo (λ o. Told (λ h. Reaches (course_of_cubes design.now config.now cubes.now) h o) (F.held files.old)) result }
-    ensures suits { ComesTo IsOfCompile result }
-    ensures rose { result ≡ Err Stop.ReadFault → Rose (F.read_faults files.old) (F.read_faults files.new) }
-    ensures loaded { result ≡ Err Stop.ReadFault → cubes.now ≡ F.failed files.new }
-    ensures held { F.held files.new ≡ F.held files.old }
-    ensures saves { F.write_faults files.new ≡ F.write_faults files.old }
+    ensures { Follows (course_of_cubes design.now config.now cubes.now)
+        (seen_files (F.held files.old) (F.failed files.old) (F.read_faults files.old) (F.write_faults files.old))
+        (seen_files (F.held files.new) (F.failed files.new) (F.read_faults files.new) (F.write_faults files.new)) result }
 {
     let cubes = load_cubes(alloc, files, cubes, design, config)?;
     outcome_of_cubes(alloc, design, config, prepared, cubes.as_slice())
@@ -114,7 +99,6 @@ pub fn outcome_of_cubes(
     requires prepared { IsPrepared design.now config.now prepared.now }
     requires few { AreFew cubes.now }
     ensures outcome { ComesTo (IsOutcomeOfCubes design.now config.now cubes.now) result }
-    ensures suits { ComesTo IsOfCompile result }
     ensures quiet { result ≡ Err Stop.ReadFault → ⊥ }
 {
     design.soundness();
@@ -127,12 +111,12 @@ pub fn outcome_of_cubes(
 
 // The outcome with these texts and counts.
 fn outcome_of(texts: CompileTexts) -> Outcome
-    ensures { result ≡ Outcome.Compiled texts.counts texts.netlist.items texts.patterns.items texts.report.items }
+    ensures { result ≡ Outcome.Finished (Compiled texts.counts texts.netlist.items texts.patterns.items texts.report.items) }
 {
-    Outcome::Compiled {
+    Outcome::Finished(Work::Compiled {
         counts: texts.counts,
         netlist: Listed::from_vec(texts.netlist),
         patterns: Listed::from_vec(texts.patterns),
         report: Listed::from_vec(texts.report),
-    }
+    })
 }

@@ -5,22 +5,22 @@ ghost use Rattle.dft_compile.specs.Prepared.{IsPrepared};
 ghost use Rattle.dft_generate.specs.Jobs.{IsSize};
 ghost use Rattle.dft_verilog_out.specs.Named.{GatesAreJoined};
 ghost use Rattle.dft_command_line.specs.Named.{numbers_of};
-ghost use Rattle.dft_top.specs.Courses.{Reaches};
+ghost use Rattle.dft_command_line.specs.Words.{Compile};
 ghost use Rattle.dft_top.specs.Outcomes as spec;
 ghost use Rattle.dft_top.specs.Outcomes.{IsOutcomeOfJob, IsReplayedOf, course_of_compile, course_of_cubes, course_of_design, course_of_replay, job_files, job_held, made_files, made_held, texts_held};
-ghost use Rattle.dft_top.specs.Run.{IsOfCompile, IsOfGenerate, IsOfReplay};
-ghost use Rattle.dft_top.specs.Stops.{ComesTo};
+ghost use Rattle.dft_top.specs.Follows.{ComesTo, Follows, still};
+ghost use Rattle.dft_top.specs.Run.{IsOf};
 
 use crate::compiling::{outcome_of_cubes, prepared};
 use crate::given::{given_config, given_cubes, given_netlist, given_patterns};
 use crate::replaying::outcome_on;
-use crate::stop::Stop;
-use dft_answers::{Outcome, Replayed};
+use dft_answers::{Outcome, Work};
 use dft_cells::Library;
 use dft_command_line::JobNumbers;
 use dft_compile::{Counts, Prepared};
 use dft_config::Config;
 use dft_generate::generate;
+use dft_io::Stop;
 use dft_netlist::Design;
 use std::alloc::Global;
 
@@ -29,7 +29,6 @@ use std::alloc::Global;
 pub fn outcome_of_generate(alloc: Global, numbers: JobNumbers) -> Result<Outcome, Stop>
     requires { IsSize numbers.size }
     ensures outcome { ComesTo (IsOutcomeOfJob (numbers_of numbers)) result }
-    ensures suits { ComesTo IsOfGenerate result }
     ensures quiet { result ≡ Err Stop.ReadFault → ⊥ }
 {
     let compilation = compiled_job(alloc, numbers)?;
@@ -39,9 +38,7 @@ pub fn outcome_of_generate(alloc: Global, numbers: JobNumbers) -> Result<Outcome
 // What the texts of a job compile to.
 fn compiled_job(alloc: Global, numbers: JobNumbers) -> Result<Outcome, Stop>
     requires { IsSize numbers.size }
-    ensures outcome { ComesTo (Reaches (course_of_compile job_files) (job_held (numbers_of numbers))) result }
-    ensures suits { ComesTo IsOfCompile result }
-    ensures quiet { result ≡ Err Stop.ReadFault → ⊥ }
+    ensures { Follows (course_of_compile job_files) (still (job_held (numbers_of numbers))) (still (job_held (numbers_of numbers))) result }
 {
     let job = generate(alloc, numbers.seed, numbers.size as usize)?;
     compiled(
@@ -54,9 +51,7 @@ fn compiled_job(alloc: Global, numbers: JobNumbers) -> Result<Outcome, Stop>
 
 // What a compilation of three texts comes to.
 fn compiled(alloc: Global, netlist: &[u8], config: &[u8], cubes: &[u8]) -> Result<Outcome, Stop>
-    ensures outcome { ComesTo (Reaches (course_of_compile job_files) (texts_held netlist.now config.now cubes.now)) result }
-    ensures suits { ComesTo IsOfCompile result }
-    ensures quiet { result ≡ Err Stop.ReadFault → ⊥ }
+    ensures { Follows (course_of_compile job_files) (still (texts_held netlist.now config.now cubes.now)) (still (texts_held netlist.now config.now cubes.now)) result }
 {
     let library = Library::standard(alloc)?;
     let config = given_config(alloc, config)?;
@@ -72,9 +67,8 @@ fn compiled_design(
     cubes: &[u8],
 ) -> Result<Outcome, Stop>
     requires joined { GatesAreJoined design.now }
-    ensures outcome { (netlist settings : List ℕ) → ComesTo (Reaches (course_of_design design.now config.now job_files.cubes) (texts_held netlist settings cubes.now)) result }
-    ensures suits { ComesTo IsOfCompile result }
-    ensures quiet { result ≡ Err Stop.ReadFault → ⊥ }
+    ensures { (netlist settings : List ℕ) → Follows (course_of_design design.now config.now job_files.cubes)
+        (still (texts_held netlist settings cubes.now)) (still (texts_held netlist settings cubes.now)) result }
 {
     let prepared = prepared(alloc, design, config)?;
     compiled_with(alloc, design, config, &prepared, cubes)
@@ -90,9 +84,8 @@ fn compiled_with(
 ) -> Result<Outcome, Stop>
     requires joined { GatesAreJoined design.now }
     requires prepared { IsPrepared design.now config.now prepared.now }
-    ensures outcome { (netlist settings : List ℕ) → ComesTo (Reaches (course_of_cubes design.now config.now job_files.cubes) (texts_held netlist settings cubes.now)) result }
-    ensures suits { ComesTo IsOfCompile result }
-    ensures quiet { result ≡ Err Stop.ReadFault → ⊥ }
+    ensures { (netlist settings : List ℕ) → Follows (course_of_cubes design.now config.now job_files.cubes)
+        (still (texts_held netlist settings cubes.now)) (still (texts_held netlist settings cubes.now)) result }
 {
     let cubes = given_cubes(alloc, cubes, design, config)?;
     outcome_of_cubes(alloc, design, config, prepared, cubes.as_slice())
@@ -100,18 +93,19 @@ fn compiled_with(
 
 // What comes of a compilation: the patterns that it made are replayed, and its refusal is the outcome.
 fn replayed(alloc: Global, compilation: Outcome) -> Result<Outcome, Stop>
-    requires { IsOfCompile compilation }
+    requires { IsOf (Compile job_files) compilation }
     ensures outcome { ComesTo (IsReplayedOf compilation) result }
-    ensures suits { ComesTo IsOfGenerate result }
     ensures quiet { result ≡ Err Stop.ReadFault → ⊥ }
 {
     match compilation {
-        Outcome::Compiled {
-            counts,
-            netlist,
-            patterns,
-            ..
-        } => {
+        Outcome::Finished(
+            Work::Compiled {
+                counts,
+                netlist,
+                patterns,
+                ..
+            },
+        ) => {
             let replay = replay_of(alloc, netlist.as_slice(), patterns.as_slice())?;
             Ok(generated(counts, replay))
         }
@@ -121,9 +115,7 @@ fn replayed(alloc: Global, compilation: Outcome) -> Result<Outcome, Stop>
 
 // What a replay of two texts comes to.
 fn replay_of(alloc: Global, netlist: &[u8], patterns: &[u8]) -> Result<Outcome, Stop>
-    ensures outcome { ComesTo (Reaches (course_of_replay made_files) (made_held netlist.now patterns.now)) result }
-    ensures suits { ComesTo IsOfReplay result }
-    ensures quiet { result ≡ Err Stop.ReadFault → ⊥ }
+    ensures { Follows (course_of_replay made_files) (still (made_held netlist.now patterns.now)) (still (made_held netlist.now patterns.now)) result }
 {
     let library = Library::standard(alloc)?;
     let design = given_netlist(alloc, netlist, library)?;
@@ -136,18 +128,9 @@ fn generated(counts: Counts, replay: Outcome) -> Outcome
     ensures { result ≡ spec.generated counts replay }
 {
     match replay {
-        Outcome::Passed { vectors, compared } => Outcome::Generated {
-            counts,
-            replay: Replayed::Passed { vectors, compared },
-        },
-        Outcome::Mismatch { vector, signal } => Outcome::Generated {
-            counts,
-            replay: Replayed::Mismatch { vector, signal },
-        },
-        Outcome::Undetermined { vector, signal } => Outcome::Generated {
-            counts,
-            replay: Replayed::Undetermined { vector, signal },
-        },
+        Outcome::Finished(Work::Replayed(replay)) => {
+            Outcome::Finished(Work::Generated { counts, replay })
+        }
         refused => refused,
     }
 }

@@ -1,20 +1,19 @@
 //! Texts that are given as if they were files: each is checked for its length, and gives a value by its checks, or is refused.
 
-ghost use Rattle.std.specs.Prelude.{◌≡◌, ◌≤◌, ◌<◌, IfOk, OnOk, Err, Some, codes, length};
-ghost use Rattle.dft_base.specs.Name.{IsName};
+ghost use Rattle.std.specs.Prelude.{IfOk, Some, codes};
 ghost use Rattle.dft_patterns.specs.Patterns.{IsWellFormed};
 ghost use Rattle.dft_verilog_out.specs.Named.{GatesAreJoined};
-ghost use Rattle.dft_top.specs.Checks.{too_long, AreFew, ConfigText, CubeText, FileGives, NetlistText, PatternText};
-ghost use Rattle.dft_top.specs.Stops.{IsGiven, OnRefused};
+ghost use Rattle.dft_io.specs.Texts.{FileGives};
+ghost use Rattle.dft_io.specs.Steps.{IsGiven};
+ghost use Rattle.dft_top.specs.Checks.{AreFew, ConfigText, CubeText, NetlistText, PatternText};
 ghost use Rattle.dft_top.specs.declared.limits.TheConstants as limit;
 
 use crate::limits::{MAX_CONFIG_BYTES, MAX_CUBE_BYTES, MAX_NETLIST_BYTES, MAX_PATTERN_BYTES};
-use crate::loading::longer;
 use crate::reading::{config_in, cubes_in, design_in, patterns_in};
-use crate::stop::Stop;
 use dft_cells::Library;
 use dft_config::{Config, Listed};
 use dft_cubes::Cube;
+use dft_io::{Stop, check_length};
 use dft_netlist::Design;
 use dft_patterns::PatternSet;
 use std::alloc::Global;
@@ -57,17 +56,4 @@ pub fn given_patterns(alloc: Global, text: &[u8]) -> Result<PatternSet, Stop>
 {
     check_length(alloc, text, b"patterns", MAX_PATTERN_BYTES)?;
     patterns_in(alloc, text)
-}
-
-// Refuses a text that is longer than its limit, with the name of its option.
-fn check_length(alloc: Global, text: &[u8], option: &[u8], limit: u32) -> Result<(), Stop>
-    requires { IsName option.now }
-    ensures short { OnOk result (length text.now ≤ limit) }
-    ensures long { OnRefused result (λ refusal. (limit < length text.now) × (refusal ≡ too_long option.now)) }
-    ensures quiet { result ≡ Err Stop.ReadFault → ⊥ }
-{
-    if text.len() > limit as usize {
-        return Err(Stop::Refused(longer(alloc, option)?));
-    }
-    Ok(())
 }

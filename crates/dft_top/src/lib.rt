@@ -13,7 +13,6 @@ mod reading;
 mod replaying;
 mod saving;
 mod scanning;
-mod stop;
 
 pub use command::run;
 pub use dft_answers::Status;

@@ -1,24 +1,21 @@
 //! The outcome of a replay: the verdict of patterns on a netlist.
 
 ghost use Rattle.std.specs.Prelude.{◌≡◌, ◌<◌, ◌^◌, IfOk, Err, length};
-ghost use Rattle.dft_files.specs.Outside.{Rose, Told};
 ghost use Rattle.dft_replay.specs.Fits.{first_misfit};
 ghost use Rattle.dft_replay.specs.Verdicts.{IsPlaced};
 ghost use Rattle.dft_patterns.specs.Patterns.{IsWellFormed};
 ghost use Rattle.dft_command_line.specs.Named.{replay_files_of};
-ghost use Rattle.dft_command_line.specs.Words as words;
+ghost use Rattle.dft_io.specs.Steps.{seen_files};
 ghost use Rattle.dft_top.specs.Outcomes as spec;
-ghost use Rattle.dft_top.specs.Courses.{Reaches};
-ghost use Rattle.dft_top.specs.Outcomes.{HasTurn, IsLoaded, course_of_replay, IsOutcomeOn};
-ghost use Rattle.dft_top.specs.Run.{IsOfReplay};
-ghost use Rattle.dft_top.specs.Stops.{ComesTo};
+ghost use Rattle.dft_top.specs.Outcomes.{course_of_replay, IsOutcomeOn};
+ghost use Rattle.dft_top.specs.Follows.{ComesTo, Follows};
 
 use crate::loading::{load_library, load_netlist, load_patterns};
-use crate::stop::Stop;
-use dft_answers::{Code, Outcome, Refusal};
+use dft_answers::{Code, Outcome, Refusal, Replayed, Work};
 use dft_base::Name;
 use dft_command_line::ReplayFiles;
 use dft_files::Files;
+use dft_io::Stop;
 use dft_netlist::Design;
 use dft_patterns::{PatternSet, StilSignal};
 use dft_replay::{ReplayError, Verdict, replay};
@@ -31,14 +28,9 @@ pub fn outcome_of_replay<F: Files>(
     names: ReplayFiles<'_>,
     files: &mut F,
 ) -> Result<Outcome, Stop>
-    ensures outcome { ComesTo (λ o. Told (λ h. Reaches (course_of_replay (replay_files_of names.entry)) h o) (F.held files.old)) result }
-    ensures suits { ComesTo IsOfReplay result }
-    ensures rose { result ≡ Err Stop.ReadFault → Rose (F.read_faults files.old) (F.read_faults files.new) }
-    ensures loaded { result ≡ Err Stop.ReadFault → IsLoaded (Some (words.Replay (replay_files_of names.entry))) (F.failed files.new) }
-    ensures turn { result ≡ Err Stop.ReadFault → Told (λ h. HasTurn (Some (words.Replay (replay_files_of names.entry))) h
-        (F.failed files.new)) (F.held files.old) }
-    ensures held { F.held files.new ≡ F.held files.old }
-    ensures saves { F.write_faults files.new ≡ F.write_faults files.old }
+    ensures { Follows (course_of_replay (replay_files_of names.entry))
+        (seen_files (F.held files.old) (F.failed files.old) (F.read_faults files.old) (F.write_faults files.old))
+        (seen_files (F.held files.new) (F.failed files.new) (F.read_faults files.new) (F.write_faults files.new)) result }
 {
     let library = load_library(alloc, files, names.library)?;
     let design = load_netlist(alloc, files, names.netlist, library)?;
@@ -50,33 +42,37 @@ pub fn outcome_of_replay<F: Files>(
 pub fn outcome_on(alloc: Global, design: &Design, patterns: &PatternSet) -> Result<Outcome, Stop>
     requires { IsWellFormed patterns.now }
     ensures outcome { ComesTo (IsOutcomeOn design.now patterns.now (first_misfit design.now patterns.now.signals)) result }
-    ensures suits { ComesTo IsOfReplay result }
     ensures quiet { result ≡ Err Stop.ReadFault → ⊥ }
 {
     match replay(alloc, design, patterns) {
-        Ok(verdict) => Ok(outcome_of(alloc, patterns, verdict)?),
+        Ok(verdict) => Ok(Outcome::Finished(Work::Replayed(replayed_as(
+            alloc, patterns, verdict,
+        )?))),
         Err(ReplayError::P7 { name }) => Err(Stop::Refused(Refusal::named(Code::P7, name))),
         Err(ReplayError::Memory(_)) => Err(Stop::OutOfMemory),
     }
 }
 
-// The outcome that a verdict is.
-fn outcome_of(alloc: Global, patterns: &PatternSet, verdict: Verdict) -> Result<Outcome, AllocError>
+// What a verdict is told as.
+fn replayed_as(
+    alloc: Global,
+    patterns: &PatternSet,
+    verdict: Verdict,
+) -> Result<Replayed, AllocError>
     requires vectors { length patterns.now.vectors < 2 ^ 32 }
     requires placed { IsPlaced (length patterns.now.vectors) (length patterns.now.signals) verdict }
-    ensures outcome { IfOk result (λ o. o ≡ spec.outcome_of patterns.now verdict) }
-    ensures suits { IfOk result IsOfReplay }
+    ensures { IfOk result (λ r. r ≡ spec.replayed_as patterns.now verdict) }
 {
     match verdict {
-        Verdict::Pass { compared } => Ok(Outcome::Passed {
+        Verdict::Pass { compared } => Ok(Replayed::Passed {
             vectors: patterns.vectors().len() as u32,
             compared,
         }),
-        Verdict::Mismatch { vector, signal } => Ok(Outcome::Mismatch {
+        Verdict::Mismatch { vector, signal } => Ok(Replayed::Mismatch {
             vector,
             signal: signal_name(alloc, patterns.signals(), signal)?,
         }),
-        Verdict::Undetermined { vector, signal } => Ok(Outcome::Undetermined {
+        Verdict::Undetermined { vector, signal } => Ok(Replayed::Undetermined {
             vector,
             signal: signal_name(alloc, patterns.signals(), signal)?,
         }),

@@ -6,7 +6,7 @@ ghost use Rattle.dft_command_line.specs.Named.{command_of};
 ghost use Rattle.dft_top.specs.Saves.{AreApart, CountsSaves, HaveSaved, HaveSavedSome, SaveFailed, SavesApart, savings};
 ghost use Rattle.dft_top.specs.Named.{saving_of};
 
-use dft_answers::Outcome;
+use dft_answers::{Outcome, Work};
 use dft_command_line::Command;
 use dft_files::{Files, SaveError};
 use std::alloc::Global;
@@ -37,11 +37,13 @@ pub fn save_outcome<F: Files>(
     match (command, outcome) {
         (
             Some(Command::Scan(names)),
-            Outcome::Scanned {
-                netlist,
-                report,
-                ..
-            },
+            Outcome::Finished(
+                Work::Scanned {
+                    netlist,
+                    report,
+                    ..
+                },
+            ),
         ) => save_all(
             alloc,
             &[
@@ -58,12 +60,14 @@ pub fn save_outcome<F: Files>(
         ),
         (
             Some(Command::Compile(names)),
-            Outcome::Compiled {
-                netlist,
-                patterns,
-                report,
-                ..
-            },
+            Outcome::Finished(
+                Work::Compiled {
+                    netlist,
+                    patterns,
+                    report,
+                    ..
+                },
+            ),
         ) => save_all(
             alloc,
             &[

@@ -1,22 +1,20 @@
 //! The outcome of a scan: the texts of a scanned netlist and of its report.
 
 ghost use Rattle.std.specs.Prelude.{◌≡◌, Err};
-ghost use Rattle.dft_files.specs.Outside.{Rose, Told};
 ghost use Rattle.dft_scan.specs.Refusals.{refusal};
 ghost use Rattle.dft_verilog_out.specs.Named.{GatesAreJoined};
 ghost use Rattle.dft_command_line.specs.Named.{scan_files_of};
-ghost use Rattle.dft_command_line.specs.Words as words;
-ghost use Rattle.dft_top.specs.Courses.{Reaches};
-ghost use Rattle.dft_top.specs.Outcomes.{HasTurn, IsLoaded, course_of_scan, IsOutcomeOfScanOf};
-ghost use Rattle.dft_top.specs.Run.{IsOfScan};
-ghost use Rattle.dft_top.specs.Stops.{ComesTo};
+ghost use Rattle.dft_answers.specs.declared.outcome.Work.TheVariants.{Scanned};
+ghost use Rattle.dft_io.specs.Steps.{seen_files};
+ghost use Rattle.dft_top.specs.Outcomes.{course_of_scan, IsOutcomeOfScanOf};
+ghost use Rattle.dft_top.specs.Follows.{ComesTo, Follows};
 
 use crate::loading::{load_config, load_library, load_netlist};
-use crate::stop::Stop;
-use dft_answers::{Outcome, scan_refusal};
+use dft_answers::{Outcome, Work, scan_refusal};
 use dft_command_line::ScanFiles;
 use dft_config::{Config, Listed};
 use dft_files::Files;
+use dft_io::Stop;
 use dft_netlist::Design;
 use dft_scan::{ScanTexts, scan};
 use std::alloc::Global;
@@ -28,14 +26,9 @@ pub fn outcome_of_scan<F: Files>(
     names: ScanFiles<'_>,
     files: &mut F,
 ) -> Result<Outcome, Stop>
-    ensures outcome { ComesTo (λ o. Told (λ h. Reaches (course_of_scan (scan_files_of names.entry)) h o) (F.held files.old)) result }
-    ensures suits { ComesTo IsOfScan result }
-    ensures rose { result ≡ Err Stop.ReadFault → Rose (F.read_faults files.old) (F.read_faults files.new) }
-    ensures loaded { result ≡ Err Stop.ReadFault → IsLoaded (Some (words.Scan (scan_files_of names.entry))) (F.failed files.new) }
-    ensures turn { result ≡ Err Stop.ReadFault → Told (λ h. HasTurn (Some (words.Scan (scan_files_of names.entry))) h
-        (F.failed files.new)) (F.held files.old) }
-    ensures held { F.held files.new ≡ F.held files.old }
-    ensures saves { F.write_faults files.new ≡ F.write_faults files.old }
+    ensures { Follows (course_of_scan (scan_files_of names.entry))
+        (seen_files (F.held files.old) (F.failed files.old) (F.read_faults files.old) (F.write_faults files.old))
+        (seen_files (F.held files.new) (F.failed files.new) (F.read_faults files.new) (F.write_faults files.new)) result }
 {
     let library = load_library(alloc, files, names.library)?;
     let config = load_config(alloc, files, names.config)?;
@@ -47,7 +40,6 @@ pub fn outcome_of_scan<F: Files>(
 fn outcome_of_design(alloc: Global, design: &Design, config: &Config) -> Result<Outcome, Stop>
     requires joined { GatesAreJoined design.now }
     ensures outcome { ComesTo (IsOutcomeOfScanOf design.now config.now (refusal design.now config.now)) result }
-    ensures suits { ComesTo IsOfScan result }
     ensures quiet { result ≡ Err Stop.ReadFault → ⊥ }
 {
     match scan(alloc, design, config) {
@@ -58,11 +50,11 @@ fn outcome_of_design(alloc: Global, design: &Design, config: &Config) -> Result<
 
 // The outcome with these texts and counts.
 fn outcome_of(texts: ScanTexts) -> Outcome
-    ensures { result ≡ Outcome.Scanned texts.counts texts.netlist.items texts.report.items }
+    ensures { result ≡ Outcome.Finished (Scanned texts.counts texts.netlist.items texts.report.items) }
 {
-    Outcome::Scanned {
+    Outcome::Finished(Work::Scanned {
         counts: texts.counts,
         netlist: Listed::from_vec(texts.netlist),
         report: Listed::from_vec(texts.report),
-    }
+    })
 }

@@ -1,11 +1,13 @@
-use Rattle.std.proofs.Common.{List, codes, subst, ℕ}
+use Rattle.std.proofs.Common.{◌≡◌, Err, codes, rules}
+use Rattle.dft_io.proofs.TextSteps.{text_stops, text_takes}
 use Rattle.dft_top.specs.declared.limits.TheConstants.{MAX_PATTERN_BYTES}
 use Rattle.dft_top.specs.Checks.{PatternText}
-use Rattle.dft_top.specs.Stops.{IsGiven}
-use Rattle.dft_top.proofs.Steps.{text_told}
 use Rattle.dft_top.proofs.loading.load_patterns.Goals as goal
 
-pub returns-clause-gives : goal.returns-clause-gives
-returns-clause-gives g c =
-    text_told MAX_PATTERN_BYTES (codes "patterns") PatternText c.args.name.now c.in_ok-text.text.items (g.F.Files.held c.args.files.now) _ c.in_ok-text.ensures.bytes c.in_ok-text.ensures.short
-    (subst (λ (text : List ℕ). IsGiven (PatternText text) c.patterns_in.result) c.as_slice.ensures.value c.patterns_in.ensures.given)
+pub returns-in_err-text-clause-takes : goal.returns-in_err-text-clause-takes
+returns-in_err-text-clause-takes g c =
+    let stops : c.from_residual.result ≡ Err c.in_err-text.field-0.0 = search rules in
+    text_stops MAX_PATTERN_BYTES (codes "patterns") PatternText c.args.name.now _ _ c.in_err-text.field-0.0 _ c.in_err-text.ensures.takes stops
+
+pub returns-clause-takes : goal.returns-clause-takes
+returns-clause-takes g c = text_takes MAX_PATTERN_BYTES (codes "patterns") PatternText c.args.name.now _ _ _ c.in_ok-text.text _ c.in_ok-text.ensures.takes c.as_slice.ensures.value c.patterns_in.ensures.given

@@ -1,45 +1,21 @@
-use Rattle.std.proofs.Common.{◌≡◌, ◌∙◌, inl, inr, Err, refl, rules}
-use Rattle.dft_top.specs.declared.stop.Stop.TheVariants.{ReadFault}
-use Rattle.dft_command_line.specs.Named.{scan_files_of}
-use Rattle.dft_scan.specs.Refusals.{refusal}
-use Rattle.dft_top.specs.Checks.{ConfigGives, LibraryGives, NetlistGives}
-use Rattle.dft_top.specs.Outcomes.{IsOutcomeOfScanOf}
-use Rattle.dft_top.proofs.Steps.{ScanOn, ScanOver, value_then, stop_then, comes_told}
+use Rattle.std.proofs.Common.{◌≡◌, Err, rules}
+use Rattle.dft_top.proofs.Following.{end_follows, step_follows, stop_follows}
 use Rattle.dft_top.proofs.scanning.outcome_of_scan.Goals as goal
 
-pub returns-in_err-config-clause-outcome : goal.returns-in_err-config-clause-outcome
-returns-in_err-config-clause-outcome g c =
-    let held = g.F.Files.held c.args.files.now in
-    let files = scan_files_of c.args.names in
-    let cells = c.in_ok-library.library in
+pub returns-in_err-library : goal.returns-in_err-library
+returns-in_err-library g c =
+    let stops : c.from_residual.result ≡ Err c.in_err-library.field-0.0 = search rules in
+    stop_follows _ _ _ _ _ c.in_err-library.field-0.0 _ stops c.in_err-library.ensures
+
+pub returns-in_err-config : goal.returns-in_err-config
+returns-in_err-config g c =
     let stops : c.from_residual-in_err-config.result ≡ Err c.in_err-config.field-0.0 = search rules in
-    value_then (LibraryGives files.library) (ScanOver files) held held cells _ refl c.in_ok-library.ensures.gives
-    (stop_then (ConfigGives files.config) (ScanOn files cells) held _ c.in_err-config.field-0.0 _ c.load_library.ensures.held stops c.in_err-config.ensures.gives)
+    step_follows _ _ _ _ _ _ c.in_ok-library.library _ c.in_ok-library.ensures (stop_follows _ _ _ _ _ c.in_err-config.field-0.0 _ stops c.in_err-config.ensures)
 
-pub returns-in_err-design-clause-outcome : goal.returns-in_err-design-clause-outcome
-returns-in_err-design-clause-outcome g c =
-    let held = g.F.Files.held c.args.files.now in
-    let files = scan_files_of c.args.names in
-    let cells = c.in_ok-library.library in
-    let config = c.in_ok-config.config in
+pub returns-in_err-design : goal.returns-in_err-design
+returns-in_err-design g c =
     let stops : c.from_residual-in_err-design.result ≡ Err c.in_err-design.field-0.0 = search rules in
-    value_then (LibraryGives files.library) (ScanOver files) held held cells _ refl c.in_ok-library.ensures.gives
-    (value_then (ConfigGives files.config) (ScanOn files cells) held _ config _ c.load_library.ensures.held c.in_ok-config.ensures.gives
-    (stop_then (λ h. NetlistGives cells files.netlist h) (λ h n. IsOutcomeOfScanOf n config (refusal n config)) held _ c.in_err-design.field-0.0 _ (c.load_config.ensures.held ∙ c.load_library.ensures.held) stops c.in_err-design.ensures.gives))
+    step_follows _ _ _ _ _ _ c.in_ok-library.library _ c.in_ok-library.ensures (step_follows _ _ _ _ _ _ c.in_ok-config.config _ c.in_ok-config.ensures (stop_follows _ _ _ _ _ c.in_err-design.field-0.0 _ stops c.in_err-design.ensures.takes))
 
-pub returns-clause-outcome : goal.returns-clause-outcome
-returns-clause-outcome g c =
-    let held = g.F.Files.held c.args.files.now in
-    let files = scan_files_of c.args.names in
-    let cells = c.in_ok-library.library in
-    let config = c.in_ok-config.config in
-    let design = c.in_ok-design.design in
-    value_then (LibraryGives files.library) (ScanOver files) held held cells _ refl c.in_ok-library.ensures.gives
-    (value_then (ConfigGives files.config) (ScanOn files cells) held _ config _ c.load_library.ensures.held c.in_ok-config.ensures.gives
-    (value_then (λ h. NetlistGives cells files.netlist h) (λ h n. IsOutcomeOfScanOf n config (refusal n config)) held _ design _ (c.load_config.ensures.held ∙ c.load_library.ensures.held) c.in_ok-design.ensures.gives
-    (comes_told (IsOutcomeOfScanOf design config (refusal design config)) held _ c.outcome_of_design.ensures.outcome)))
-
-pub returns-in_err-design-clause-loaded : goal.returns-in_err-design-clause-loaded
-returns-in_err-design-clause-loaded g c = λ is.
-    let fails : c.load_netlist.result ≡ Err ReadFault = search rules in
-    inr (c.in_ok-library.library, inr (c.in_ok-config.config, inl (c.load_netlist.ensures.fault fails).1))
+pub returns : goal.returns
+returns g c = step_follows _ _ _ _ _ _ c.in_ok-library.library _ c.in_ok-library.ensures (step_follows _ _ _ _ _ _ c.in_ok-config.config _ c.in_ok-config.ensures (step_follows _ _ _ _ _ _ c.in_ok-design.design _ c.in_ok-design.ensures.takes (end_follows _ _ _ c.outcome_of_design.ensures.quiet c.outcome_of_design.ensures.outcome)))

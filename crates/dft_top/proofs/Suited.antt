@@ -1,0 +1,90 @@
+-- A command comes to a refusal, or to work of its own.
+use Rattle.std.proofs.Common.{ℕ, ◌≡◌, List, Option, None, Some, subst, sym}
+use Rattle.dft_netlist.specs.Netlist.{Netlist}
+use Rattle.dft_patterns.specs.Patterns.{Patterns}
+use Rattle.dft_replay.specs.Fits.{first_misfit}
+use Rattle.dft_config.specs.Config.{Config}
+use Rattle.dft_scan.specs.declared.error.ScanError.{ScanError}
+use Rattle.dft_scan.specs.Refusals.{refusal}
+use Rattle.dft_stitch.specs.Chains.{plan_of}
+use Rattle.dft_cubes.specs.declared.cube.Cube.{Cube}
+use Rattle.dft_vectors.specs.PatternData.{PatternData}
+use Rattle.dft_encode.specs.Compiled.{Placing}
+use Rattle.dft_compile.specs.declared.error.CompileError.{CompileError}
+use Rattle.dft_compile.specs.declared.texts.Counts.{Counts}
+use Rattle.dft_report.specs.declared.report.Report.{Report}
+use Rattle.dft_load_laws.specs.Loading.{rows_of}
+use Rattle.dft_certify.specs.declared.error.CertifyError.{CertifyError}
+use Rattle.dft_certify.specs.Certifying.{certify_refusal}
+use Rattle.dft_command_line.specs.Words.{Command, Replay, Scan, Compile, Certify, Generate, CertifyFiles, CompileFiles, JobNumbers, ReplayFiles, ScanFiles}
+use Rattle.dft_answers.specs.declared.answer.Refusal.{Refusal}
+use Rattle.dft_answers.specs.declared.outcome.Outcome.{Outcome}
+use Rattle.dft_answers.specs.declared.outcome.Outcome.TheVariants.{Usage, Refused, Finished}
+use Rattle.dft_answers.specs.declared.outcome.Work.TheVariants.{Compiled, Replayed}
+use Rattle.dft_answers.specs.Refusals.{compile_refusal, scan_refusal}
+use Rattle.dft_answers.specs.Refusals as refusals
+use Rattle.dft_top.specs.Courses.{Allows}
+use Rattle.dft_top.specs.Outcomes.{IsOutcomeOfCubes, IsOutcomeOfPlacing, IsOutcomeOfReport, IsOutcomeOfScanOf, IsOutcomeOfTest, IsOutcomeOn, IsRefusal, IsReplayedOf, course_of, course_of_certify, course_of_compile, course_of_replay, course_of_scan, generated, made_files, made_held, refusal_of}
+use Rattle.dft_top.specs.Run.{IsOf, Suits}
+use Rattle.dft_top.proofs.Following.{allowed_so, reaches_allows}
+
+refused_suits : (command : Command) (o : Outcome) (given : Option Refusal) → IsRefusal given o → IsOf command o
+refused_suits command o None is = absurd is
+refused_suits command o (Some refusal) is = subst (IsOf command) (sym is) tt
+
+replay_ends : (files : ReplayFiles) (n : Netlist) (p : Patterns) (misfit : Option (List ℕ)) (o : Outcome) → IsOutcomeOn n p misfit o → IsOf (Replay files) o
+replay_ends files n p (Some name) o is = subst (IsOf (Replay files)) (sym is) tt
+replay_ends files n p None o is = subst (IsOf (Replay files)) (sym is.1.1) tt
+
+pub replay_suits : (files : ReplayFiles) (o : Outcome) → Allows (course_of_replay files) o → IsOf (Replay files) o
+replay_suits files o allowed = allowed_so (IsOf (Replay files)) (course_of_replay files) o (λ refusal. tt) (λ cells n p o is. replay_ends files n p (first_misfit n p.signals) o is) allowed
+
+scan_ends : (files : ScanFiles) (n : Netlist) (c : Config) (refused : Option ScanError) (o : Outcome) → IsOutcomeOfScanOf n c refused o → IsOf (Scan files) o
+scan_ends files n c (Some error) o is = refused_suits (Scan files) o (scan_refusal error) is
+scan_ends files n c None o is = subst (IsOf (Scan files)) (sym is.is) tt
+
+scan_suits : (files : ScanFiles) (o : Outcome) → Allows (course_of_scan files) o → IsOf (Scan files) o
+scan_suits files o allowed = allowed_so (IsOf (Scan files)) (course_of_scan files) o (λ refusal. tt) (λ cells c n o is. scan_ends files n c (refusal n c) o is) allowed
+
+placing_ends : (files : CompileFiles) (n : Netlist) (c : Config) (cubes : List Cube) (placing : Placing c (plan_of n c) cubes) (list : List PatternData) (refused : Option CompileError) (o : Outcome) →
+    IsOutcomeOfPlacing n c cubes placing list refused o → IsOf (Compile files) o
+placing_ends files n c cubes placing list (Some error) o is = refused_suits (Compile files) o (compile_refusal error) is
+placing_ends files n c cubes placing list None o is = subst (IsOf (Compile files)) (sym is.is) tt
+
+compile_ends : (files : CompileFiles) (n : Netlist) (c : Config) (cubes : List Cube) (o : Outcome) → IsOutcomeOfCubes n c cubes o → IsOf (Compile files) o
+compile_ends files n c cubes o is = placing_ends files n c cubes is.placing is.list (refusal_of n c cubes is.placing is.list) o is.outcome
+
+pub compile_suits : (files : CompileFiles) (o : Outcome) → Allows (course_of_compile files) o → IsOf (Compile files) o
+compile_suits files o allowed = allowed_so (IsOf (Compile files)) (course_of_compile files) o (λ refusal. tt) (λ cells c n prepared cubes o is. compile_ends files n c cubes o is) allowed
+
+test_ends : (files : CertifyFiles) (report : Report) (fault : Option CertifyError) (o : Outcome) → IsOutcomeOfTest report fault o → IsOf (Certify files) o
+test_ends files report (Some error) o is = refused_suits (Certify files) o (refusals.certify_refusal error) is
+test_ends files report None o is = subst (IsOf (Certify files)) (sym is) tt
+
+certify_ends : (files : CertifyFiles) (n : Netlist) (c : Config) (cubes : List Cube) (report : Report) (o : Outcome) → IsOutcomeOfReport n c cubes report o → IsOf (Certify files) o
+certify_ends files n c cubes report o is = test_ends files report (certify_refusal n c.ring (rows_of n c is.0) is.0.columns cubes report) o is.1.1
+
+certify_suits : (files : CertifyFiles) (o : Outcome) → Allows (course_of_certify files) o → IsOf (Certify files) o
+certify_suits files o allowed = allowed_so (IsOf (Certify files)) (course_of_certify files) o (λ refusal. tt) (λ cells c n plan cubes report o is. certify_ends files n c cubes report o is) allowed
+
+-- a replay of what a compilation made
+generated_ends : (numbers : JobNumbers) (counts : Counts) (replay : Outcome) → IsOf (Replay made_files) replay → IsOf (Generate numbers) (generated counts replay)
+generated_ends numbers counts Usage suits = absurd suits
+generated_ends numbers counts (Refused refusal) suits = tt
+generated_ends numbers counts (Finished (Replayed replay)) suits = tt
+generated_ends numbers counts (Finished other) suits = absurd suits
+
+replayed_ends : (numbers : JobNumbers) (compilation o : Outcome) → IsReplayedOf compilation o → IsOf (Generate numbers) o
+replayed_ends numbers (Refused refusal) o is = subst (IsOf (Generate numbers)) (sym is) tt
+replayed_ends numbers (Finished (Compiled counts netlist patterns report)) o x =
+    subst (IsOf (Generate numbers)) (sym x.1.1)
+    (generated_ends numbers counts x.0 (replay_suits made_files x.0 (reaches_allows (course_of_replay made_files) (made_held netlist patterns) x.0 x.1.0)))
+replayed_ends numbers compilation o is = absurd is
+
+pub suits_of : (command : Option Command) (o : Outcome) → Allows (course_of command) o → Suits command o
+suits_of None o allowed = allowed
+suits_of (Some (Replay files)) o allowed = replay_suits files o allowed
+suits_of (Some (Scan files)) o allowed = scan_suits files o allowed
+suits_of (Some (Compile files)) o allowed = compile_suits files o allowed
+suits_of (Some (Certify files)) o allowed = certify_suits files o allowed
+suits_of (Some (Generate numbers)) o allowed = replayed_ends numbers allowed.0 o allowed.1.1

@@ -1,0 +1,13 @@
+use Rattle.std.proofs.Common.{◌≡◌, Err, codes, rules}
+use Rattle.dft_io.proofs.TextSteps.{text_stops, text_takes}
+use Rattle.dft_top.specs.declared.limits.TheConstants.{MAX_REPORT_BYTES}
+use Rattle.dft_top.specs.Checks.{ReportText}
+use Rattle.dft_top.proofs.loading.load_report.Goals as goal
+
+pub returns-in_err-text : goal.returns-in_err-text
+returns-in_err-text g c =
+    let stops : c.from_residual.result ≡ Err c.in_err-text.field-0.0 = search rules in
+    text_stops MAX_REPORT_BYTES (codes "report") ReportText c.args.name.now _ _ c.in_err-text.field-0.0 _ c.in_err-text.ensures.takes stops
+
+pub returns : goal.returns
+returns g c = text_takes MAX_REPORT_BYTES (codes "report") ReportText c.args.name.now _ _ _ c.in_ok-text.text _ c.in_ok-text.ensures.takes c.as_slice.ensures.value c.report_in.ensures
