@@ -1,0 +1,5 @@
+pub mod Cells
+pub mod Mentions
+pub mod Nets
+pub mod Ties
+pub mod Words

@@ -1,0 +1,6 @@
+//! Laws of generated jobs.
+#![tactic(auto)]
+
+mod laws;
+
+pub use laws::probe;
