@@ -1,3 +1,4 @@
+pub mod CellLines
 pub mod Cells
 pub mod Mentions
 pub mod Nets

@@ -1,6 +1,7 @@
 -- A net that is named at a pin of a generated cell.
 use Rattle.std.proofs.Common.{◌≡◌, ℕ, zero, suc, ◌+◌, ◌-◌, ◌<◌, ◌≤◌, ◌^◌, Bool, true, false, cond, ltb, List, [], ◌∷◌, ◌++◌, length, Option, Some, None, is_some, option_map, Ok, codes, decimal, slice_get, slice_set, refl, sym, ap, ◌∙◌, subst, arith, length-append, inl, inr}
 use Rattle.std.proofs.lemmas.Bool.Decides.{nat_tests}
+use Rattle.std.proofs.lemmas.Fmt.{decimal_digit}
 use Rattle.dft_base.specs.Lexing.{Text}
 use Rattle.dft_base.specs.Words.{is_word, is_reserved, reserved_words, continues_word}
 use Rattle.dft_cells.specs.Standard.{standard_cells}
@@ -95,14 +96,31 @@ pub net_bits : (drives : Bool) (names : List TakenName) (nets : List Text) (inst
     → bits_of_name (site.Pin drives) 0 (named w l) (draft names nets instances joins) ≡ Ok (draft (names_with w nets names) (with_net w nets) instances joins, net_in (with_net w nets) w ∷ [])
 net_bits drives names nets instances joins gates flops w l i tied room = bits_by (has_name nets w) drives names nets instances joins gates flops w l refl i tied room
 
--- a clock at a pin
-pub clock0_bits : (names : List TakenName) (nets : List Text) (instances : List Instance) (joins : List Join) (l : ℕ) → IsPortName names (codes "clk0") 0
-    → bits_of_name (site.Pin false) 0 (named (codes "clk0") l) (draft names nets instances joins) ≡ Ok (draft names nets instances joins, signal.Net (record { 0 = 0 }) ∷ [])
-clock0_bits names nets instances joins l at = rw (meaning_some (draft names nets instances joins) (codes "clk0") (entry (codes "clk0") (meaning.Port 0)) at) refl
+-- a net that was named before
+pub known_bits : (drives : Bool) (names : List TakenName) (nets : List Text) (instances : List Instance) (joins : List Join) (gates flops : ℕ) (w : Text) (l : ℕ) → IsInner w → has_name nets w ≡ true → AreTied names nets gates flops
+    → bits_of_name (site.Pin drives) 0 (named w l) (draft names nets instances joins) ≡ Ok (draft names nets instances joins, net_in nets w ∷ [])
+known_bits drives names nets instances joins gates flops w l i has tied =
+    let m = meaning_some (draft names nets instances joins) w (entry w (net_meaning (number_in nets w))) (tied.known w i has) in
+    rw m refl
 
-pub clock1_bits : (names : List TakenName) (nets : List Text) (instances : List Instance) (joins : List Join) (l : ℕ) → IsPortName names (codes "clk1") 1
-    → bits_of_name (site.Pin false) 0 (named (codes "clk1") l) (draft names nets instances joins) ≡ Ok (draft names nets instances joins, signal.Net (record { 0 = 1 }) ∷ [])
-clock1_bits names nets instances joins l at = rw (meaning_some (draft names nets instances joins) (codes "clk1") (entry (codes "clk1") (meaning.Port 1)) at) refl
+-- a clock at a pin
+pub clock_bits : (clock : ℕ) (names : List TakenName) (nets : List Text) (instances : List Instance) (joins : List Join) (gates flops l : ℕ) → clock < 2 → AreTied names nets gates flops
+    → bits_of_name (site.Pin false) 0 (named (codes "clk" ++ decimal clock) l) (draft names nets instances joins) ≡ Ok (draft names nets instances joins, signal.Net (record { 0 = clock }) ∷ [])
+clock_bits zero names nets instances joins gates flops l lt tied =
+    ap (λ (ds : Text). bits_of_name (site.Pin false) 0 (named (codes "clk" ++ ds) l) (draft names nets instances joins)) (decimal_digit 0 (omega arith))
+    ∙ rw (meaning_some (draft names nets instances joins) (codes "clk0") (entry (codes "clk0") (meaning.Port 0)) tied.clock0) refl
+clock_bits (suc zero) names nets instances joins gates flops l lt tied =
+    ap (λ (ds : Text). bits_of_name (site.Pin false) 0 (named (codes "clk" ++ ds) l) (draft names nets instances joins)) (decimal_digit 1 (omega arith))
+    ∙ rw (meaning_some (draft names nets instances joins) (codes "clk1") (entry (codes "clk1") (meaning.Port 1)) tied.clock1) refl
+clock_bits (suc (suc clock)) names nets instances joins gates flops l lt tied = absurd (omega arith)
+
+pub plain_clock : (clock : ℕ) → clock < 2 → IsPlain (codes "clk" ++ decimal clock)
+unfolding reserved_words
+plain_clock zero lt =
+    subst (λ (ds : Text). IsPlain (codes "clk" ++ ds)) (sym (decimal_digit 0 (omega arith))) (record { word = refl; free = refl; head = 99; tail = codes "lk0"; is = refl; other = λ e. absurd (omega arith) })
+plain_clock (suc zero) lt =
+    subst (λ (ds : Text). IsPlain (codes "clk" ++ ds)) (sym (decimal_digit 1 (omega arith))) (record { word = refl; free = refl; head = 99; tail = codes "lk1"; is = refl; other = λ e. absurd (omega arith) })
+plain_clock (suc (suc clock)) lt = absurd (omega arith)
 
 -- ---- a connection
 
