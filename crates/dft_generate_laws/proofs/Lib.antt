@@ -1,6 +1,9 @@
+pub mod AllCells
 pub mod CellLines
 pub mod Cells
+pub mod Front
 pub mod Mentions
 pub mod Nets
+pub mod Said
 pub mod Ties
 pub mod Words
