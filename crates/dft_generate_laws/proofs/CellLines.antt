@@ -14,6 +14,8 @@ use Rattle.dft_netlist.specs.declared.limits.TheConstants.{MAX_NETS, MAX_INSTANC
 use Rattle.dft_netlist.specs.declared.instance.Signal.{Signal}
 use Rattle.dft_netlist.specs.declared.instance.Signal.TheVariants as signal
 use Rattle.dft_netlist.specs.declared.instance.Instance.{Instance}
+use Rattle.dft_netlist.specs.Drivers.{Source, driver_of_kind}
+use Rattle.dft_netlist.specs.Drivers as drivers
 use Rattle.dft_netlist_text.specs.declared.text.Meaning.TheVariants as meaning
 use Rattle.dft_netlist_text.specs.Modules.{TakenName, Draft, name_instance, with_instance}
 use Rattle.dft_netlist_text.specs.Items.{Joined, unjoined, cell_instance}
@@ -75,13 +77,15 @@ pub record IsGateCell (name : Text) (number : ℕ) : Type 0 where
   pub found : find_cell standard_cells name ≡ Some (record { 0 = number })
   pub there : slice_get standard_cells number ≡ Some (gate name kind (codes "AB"))
   pub plain : IsPlain name
+  -- its output is driven by the gate of its inputs
+  pub acts : (i : ℕ) (inputs : List Source) → driver_of_kind kind i false inputs ≡ drivers.Gate kind inputs
 
 gate_by : (a b c : Bool) → IsGateCell (cond a (codes "NAND2") (cond b (codes "NOR2") (cond c (codes "XOR2") (codes "AND2")))) (cond a 12 (cond b 15 (cond c 27 0)))
 unfolding reserved_words
-gate_by true b c = record { kind = primitive.Nand; found = refl; there = refl; plain = record { word = refl; free = refl; head = 78; tail = codes "AND2"; is = refl; other = λ e. absurd (omega arith) } }
-gate_by false true c = record { kind = primitive.Nor; found = refl; there = refl; plain = record { word = refl; free = refl; head = 78; tail = codes "OR2"; is = refl; other = λ e. absurd (omega arith) } }
-gate_by false false true = record { kind = primitive.Xor; found = refl; there = refl; plain = record { word = refl; free = refl; head = 88; tail = codes "OR2"; is = refl; other = λ e. absurd (omega arith) } }
-gate_by false false false = record { kind = primitive.And; found = refl; there = refl; plain = record { word = refl; free = refl; head = 65; tail = codes "ND2"; is = refl; other = λ e. absurd (omega arith) } }
+gate_by true b c = record { kind = primitive.Nand; found = refl; there = refl; plain = record { word = refl; free = refl; head = 78; tail = codes "AND2"; is = refl; other = λ e. absurd (omega arith) }; acts = λ i inputs. refl }
+gate_by false true c = record { kind = primitive.Nor; found = refl; there = refl; plain = record { word = refl; free = refl; head = 78; tail = codes "OR2"; is = refl; other = λ e. absurd (omega arith) }; acts = λ i inputs. refl }
+gate_by false false true = record { kind = primitive.Xor; found = refl; there = refl; plain = record { word = refl; free = refl; head = 88; tail = codes "OR2"; is = refl; other = λ e. absurd (omega arith) }; acts = λ i inputs. refl }
+gate_by false false false = record { kind = primitive.And; found = refl; there = refl; plain = record { word = refl; free = refl; head = 65; tail = codes "ND2"; is = refl; other = λ e. absurd (omega arith) }; acts = λ i inputs. refl }
 
 pub gate_known : (word : ℕ) → IsGateCell (kind_of word) (gate_cell word)
 gate_known word = gate_by (eqb (word % 4) 0) (eqb (word % 4) 1) (eqb (word % 4) 2)

@@ -3,7 +3,10 @@ pub mod CellLines
 pub mod Cells
 pub mod Front
 pub mod Mentions
+pub mod NetNames
 pub mod Nets
+pub mod Places
 pub mod Said
+pub mod Sound
 pub mod Ties
 pub mod Words
