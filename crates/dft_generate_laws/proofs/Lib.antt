@@ -1,9 +1,11 @@
 pub mod AllCells
 pub mod CellLines
 pub mod Cells
+pub mod Driven
 pub mod Front
 pub mod Mentions
 pub mod NetNames
+pub mod NetlistLaws
 pub mod Nets
 pub mod Places
 pub mod Said

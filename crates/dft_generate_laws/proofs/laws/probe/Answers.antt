@@ -1,6 +1,5 @@
-use Rattle.dft_generate_laws.proofs.NetNames as m0
-use Rattle.dft_generate_laws.proofs.Places as m1
-use Rattle.dft_generate_laws.proofs.Sound as m2
+use Rattle.dft_generate_laws.proofs.Driven as m0
+use Rattle.dft_generate_laws.proofs.NetlistLaws as m1
 use Rattle.dft_generate_laws.proofs.laws.probe.Goals as goal
 
 pub returns : goal.returns
