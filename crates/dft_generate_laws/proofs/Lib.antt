@@ -1,6 +1,7 @@
 pub mod AllCells
 pub mod CellLines
 pub mod Cells
+pub mod CubeWords
 pub mod Driven
 pub mod Front
 pub mod Mentions

@@ -1,2 +1,3 @@
 pub mod Designs
+pub mod CubeLists
 pub mod Laws

@@ -3,4 +3,4 @@
 
 mod laws;
 
-pub use laws::probe;
+pub use laws::{netlists_are_read, probe};

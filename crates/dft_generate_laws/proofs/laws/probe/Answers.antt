@@ -1,5 +1,4 @@
-use Rattle.dft_generate_laws.proofs.Driven as m0
-use Rattle.dft_generate_laws.proofs.NetlistLaws as m1
+use Rattle.dft_generate_laws.proofs.CubeWords as m0
 use Rattle.dft_generate_laws.proofs.laws.probe.Goals as goal
 
 pub returns : goal.returns
