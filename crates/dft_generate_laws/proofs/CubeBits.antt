@@ -59,7 +59,7 @@ flop_named size words k lt few =
 
 module _ (size : ℕ) (words : List ℕ) (few : size ≤ 20000) (some : 0 < size) where
   -- a text takes what was read to this
-  pub Takes : Reading → Text → Reading → Type 0
+  abbrev pub Takes : Reading → Text → Reading → Type 0
   Takes r text new = (number : ℕ) → (last : ℕ) × ((rest : Text) → cubes_from (design size words) configuration r number (lines_of (text ++ rest)) ≡ cubes_from (design size words) configuration new last (lines_of rest))
 
   pub takes_none : (r : Reading) → Takes r [] r
@@ -92,7 +92,7 @@ module _ (size : ℕ) (words : List ℕ) (few : size ≤ 20000) (some : 0 < size
   -- ---- care bits
 
   -- the cells that are given are those of these words
-  pub Fits : List Given → List ℕ → Type 0
+  abbrev pub Fits : List Given → List ℕ → Type 0
   Fits cells before = (cell : ℕ) → list_any (λ (g : Given). g.0.0 == suc (cell + cell)) cells ≡ is_named size before cell
 
   pub fits_none : Fits [] []

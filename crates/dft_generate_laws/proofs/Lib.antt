@@ -1,6 +1,8 @@
 pub mod AllCells
 pub mod CellLines
 pub mod Cells
+pub mod CubeBits
+pub mod CubeTexts
 pub mod CubeWords
 pub mod Driven
 pub mod Front
