@@ -294,7 +294,7 @@ connection_read d nets cell place pin to done rest behind p is e =
     ap (λ t. named_connection cell (d, done ++ None ∷ rest) (cut_up t)) (joined_parts nets pin.name to behind)
     ∙ ap (named_connection cell (d, done ++ None ∷ rest)) (cut_up-point (name_text pin.name ++ 40 ∷ us) ∙ ap (λ ts. token kind.Point (46 ∷ []) (suc (length (name_text pin.name ++ 40 ∷ us))) ∷ ts)
     (n.at ∙ ap (λ ts. token kind.Name pin.name (suc n.left) ∷ ts) (cut_up-opened us (op.opens (41 ∷ behind)))))
-    ∙ named_connection-at cell d (done ++ None ∷ rest) place pin.name to (suc (length (name_text pin.name ++ 40 ∷ us))) (suc n.left) (suc (length us)) (suc (length behind)) (cut_up us) (cut_up behind) p.found (free_here done rest place e) (op.closed AClose behind)
+    ∙ named_connection-at cell d d (done ++ None ∷ rest) place pin.name to (suc (length (name_text pin.name ++ 40 ∷ us))) (suc n.left) (suc (length us)) (suc (length behind)) (cut_up us) (cut_up behind) p.found (free_here done rest place e) (op.closed AClose behind)
     (ap (λ b. expression (site.Pin b) d (cut_up us)) role ∙ op.reads AClose behind refl ∙ ap (λ ts. Ok ((d, to ∷ []), ts)) (cut_up-close behind))
     ∙ ap (λ (j : Joined). Ok ((d, j), cut_up behind)) (set_here done rest None (Some to) place e)
 
@@ -426,7 +426,7 @@ cell_read d named nets id cell name signals found there is_cell is_name says ps 
       ap (λ t. item d (cut_up t)) (form_parts (name_text cell.name) (Some name) inside rest)
       ∙ ap (item d) (m.at ∙ ap (λ ts. token kind.Name cell.name (suc m.left) ∷ ts) (cut_up-space (name_text name ++ 32 ∷ 40 ∷ bracketed inside rest) ∙ n.at ∙ ap (λ ts. token kind.Name name (suc n.left) ∷ ts)
       (open_at inside rest (conns_open (connection_texts nets cell.pins signals) nets cell.pins signals rest refl))))
-      ∙ cell-at d named id cell (map as_joined signals) cell.name name (suc m.left) n.left (suc (length (bracketed inside rest))) (suc (suc (suc (length rest)))) (suc (suc (length rest))) (cut_up (bracketed inside rest)) (cut_up rest) found there (says (suc n.left))
+      ∙ cell-at d named named id cell (map as_joined signals) cell.name name (suc m.left) n.left (suc (length (bracketed inside rest))) (suc (suc (suc (length rest)))) (suc (suc (length rest))) (cut_up (bracketed inside rest)) (cut_up rest) found there (says (suc n.left))
       (connections_read named nets cell signals (59 ∷ 10 ∷ rest) ps w ∙ ap (λ ts. Ok ((named, map as_joined signals), ts)) (close_line rest));
   goes_on = λ rest.
       let m = name_at cell.name 32 (name_text name ++ 32 ∷ 40 ∷ bracketed (list_text (connection_texts nets cell.pins signals)) rest) is_cell refl in

@@ -71,19 +71,19 @@ join-at d target source first a l b m us vs ts some t s = rw (some, t, s) refl
 
 -- ---- instances of cells
 
-pub named_connection-at : (cell : Cell) (d : Draft) (joined : Joined) (pin : ℕ) (word : Text) (to : Signal) (a b c e : ℕ) (us ts : List Token) → pin_place cell word ≡ Some pin
+pub named_connection-at : (cell : Cell) (d new : Draft) (joined : Joined) (pin : ℕ) (word : Text) (to : Signal) (a b c e : ℕ) (us ts : List Token) → pin_place cell word ≡ Some pin
     → was_joined (slice_get joined pin) ≡ false → sees kind.CloseParen us ≡ false
-    → expression (site.Pin (pin_drives (slice_get cell.pins pin))) d us ≡ Ok ((d, to ∷ []), token kind.CloseParen (41 ∷ []) e ∷ ts)
-    → named_connection cell (d, joined) (token kind.Point (46 ∷ []) a ∷ token kind.Name word b ∷ token kind.OpenParen (40 ∷ []) c ∷ us) ≡ Ok ((d, slice_set joined pin (Some to)), ts)
+    → expression (site.Pin (pin_drives (slice_get cell.pins pin))) d us ≡ Ok ((new, to ∷ []), token kind.CloseParen (41 ∷ []) e ∷ ts)
+    → named_connection cell (d, joined) (token kind.Point (46 ∷ []) a ∷ token kind.Name word b ∷ token kind.OpenParen (40 ∷ []) c ∷ us) ≡ Ok ((new, slice_set joined pin (Some to)), ts)
 unfolding named_connection connected_pin pin_content pin_signal expect sees kind_of same_kind bytes left next after
-named_connection-at cell d joined pin word to a b c e us ts at free some is = rw (at, free, some, is) refl
+named_connection-at cell d new joined pin word to a b c e us ts at free some is = rw (at, free, some, is) refl
 
-pub cell-at : (d named : Draft) (id : CellId) (cell : Cell) (joined : Joined) (word name : Text) (a l b c m : ℕ) (us ts : List Token) → find_cell d.library word ≡ Some id
+pub cell-at : (d named behind : Draft) (id : CellId) (cell : Cell) (joined : Joined) (word name : Text) (a l b c m : ℕ) (us ts : List Token) → find_cell d.library word ≡ Some id
     → slice_get d.library id.0 ≡ Some cell → name_instance (suc l) name d ≡ Ok named
-    → connections cell (named, unjoined cell) us ≡ Ok ((named, joined), token kind.CloseParen (41 ∷ []) c ∷ token kind.Semicolon (59 ∷ []) m ∷ ts)
-    → item d (token kind.Name word a ∷ token kind.Name name (suc l) ∷ token kind.OpenParen (40 ∷ []) b ∷ us) ≡ Ok (with_instance (cell_instance id name joined) named, ts)
+    → connections cell (named, unjoined cell) us ≡ Ok ((behind, joined), token kind.CloseParen (41 ∷ []) c ∷ token kind.Semicolon (59 ∷ []) m ∷ ts)
+    → item d (token kind.Name word a ∷ token kind.Name name (suc l) ∷ token kind.OpenParen (40 ∷ []) b ∷ us) ≡ Ok (with_instance (cell_instance id name joined) behind, ts)
 unfolding item cell_item instances instances_from instance expect sees kind_of same_kind bytes left next after
-cell-at d named id cell joined word name a l b c m us ts found there free joins = rw (found, there, free, joins) refl
+cell-at d named behind id cell joined word name a l b c m us ts found there free joins = rw (found, there, free, joins) refl
 
 -- ---- gates
 

@@ -175,7 +175,7 @@ whole_operand : (d : Draft) (at : Site) (word : Text) (net : ℕ) → IsName wor
 whole_operand d at word net name known = record {
   reads = λ f rest follows.
       let n = name_at word (follow_byte f) (follow_rest f rest) name (stops_word f) in
-      ap (expression at d) n.at ∙ whole-at at d (signal.Net (record { 0 = net }) ∷ []) word n.left (cut_up (follow f rest))
+      ap (expression at d) n.at ∙ whole-at at d d (signal.Net (record { 0 = net }) ∷ []) word n.left (cut_up (follow f rest))
       (selects d word (record { range = None; first = record { 0 = net } }) (implies at 0 && true) select.Whole (suc n.left) known) (ap (ends at) (kind-follow f rest) ∙ follows) (single f rest);
   some = λ f rest. let n = name_at word (follow_byte f) (follow_rest f rest) name (stops_word f) in (n.left, ap left n.at ∙ left_of kind.Name word (suc n.left) (cut_up (follow f rest)));
   closed = λ f rest. let n = name_at word (follow_byte f) (follow_rest f rest) name (stops_word f) in ap (sees kind.CloseParen) n.at ∙ no_close word (suc n.left) (cut_up (follow f rest));

@@ -61,7 +61,7 @@ fuel : (count : ℕ) (text rest : Text) (d new : Draft) → Lines count text d n
 fuel zero text rest d new l = omega arith
 fuel (suc count) text rest d new l = let e = l.enough in let s = l.size rest (omega arith) in omega (arith, length-append text rest)
 
-items_read : (count : ℕ) (text : Text) (d new : Draft) → Lines count text d new → items_from (left (cut_up (text ++ codes "endmodule\n"))) d (cut_up (text ++ codes "endmodule\n")) ≡ Ok (new, token kind.Endmodule (codes "endmodule") 10 ∷ [])
+pub items_read : (count : ℕ) (text : Text) (d new : Draft) → Lines count text d new → items_from (left (cut_up (text ++ codes "endmodule\n"))) d (cut_up (text ++ codes "endmodule\n")) ≡ Ok (new, token kind.Endmodule (codes "endmodule") 10 ∷ [])
 items_read count text d new l =
     let all : ℕ = left (cut_up (text ++ codes "endmodule\n")) in
     let enough = fuel count text (codes "endmodule\n") d new l in

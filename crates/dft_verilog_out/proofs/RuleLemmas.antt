@@ -37,10 +37,10 @@ range-at r first second a b c d e ts f s =
 abbrev pub named : Text → (l : ℕ) → SelectedName
 named word l = record { word = word; what = select.Whole; place = suc l }
 
-pub whole-at : (at : Site) (d : Draft) (bits : List Signal) (word : Text) (l : ℕ) (ts : List Token) → bits_of_name at 0 (named word l) d ≡ Ok (d, bits)
-    → ends at (kind_of ts) ≡ true → sees kind.OpenBracket ts ≡ false → expression at d (token kind.Name word (suc l) ∷ ts) ≡ Ok ((d, bits), ts)
+pub whole-at : (at : Site) (d new : Draft) (bits : List Signal) (word : Text) (l : ℕ) (ts : List Token) → bits_of_name at 0 (named word l) d ≡ Ok (new, bits)
+    → ends at (kind_of ts) ≡ true → sees kind.OpenBracket ts ≡ false → expression at d (token kind.Name word (suc l) ∷ ts) ≡ Ok ((new, bits), ts)
 unfolding expression concatenations_from opening operand named_operand selection followed expect kind_of same_kind bytes left next sees
-whole-at at d bits word l ts found follows single = rw (single, follows, found, follows) refl
+whole-at at d new bits word l ts found follows single = rw (single, follows, found, follows) refl
 
 pub bit-at : (at : Site) (d : Draft) (bits : List Signal) (word number : Text) (index l a b c : ℕ) (ts : List Token) → small_number number ≡ Some index
     → bits_of_name at 0 (record { word = word; what = select.Bit index; place = suc l }) d ≡ Ok (d, bits) → ends at (kind_of ts) ≡ true

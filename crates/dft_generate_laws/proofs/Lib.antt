@@ -1,0 +1,17 @@
+pub mod AllCells
+pub mod CellLines
+pub mod Cells
+pub mod CubeBits
+pub mod CubeTexts
+pub mod CubeWords
+pub mod Driven
+pub mod Front
+pub mod Mentions
+pub mod NetNames
+pub mod NetlistLaws
+pub mod Nets
+pub mod Places
+pub mod Said
+pub mod Sound
+pub mod Ties
+pub mod Words

@@ -1,0 +1,5 @@
+use Rattle.dft_generate_laws.proofs.CubeTexts.{cubes_are_read}
+use Rattle.dft_generate_laws.proofs.laws.cubes_are_read.Goals as goal
+
+pub returns : goal.returns
+returns c = cubes_are_read

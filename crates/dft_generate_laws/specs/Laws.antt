@@ -1,0 +1,23 @@
+-- Laws of generated jobs.
+use Rattle.std.specs.Prelude.{ℕ, ◌≡◌, List, Ok}
+use Rattle.dft_cells.specs.Standard.{standard_cells}
+use Rattle.dft_netlist_text.specs.NetlistText.{StandsFor}
+use Rattle.dft_cubes.specs.Cubes.{cubes_of}
+use Rattle.dft_generate.specs.Configurations.{configuration}
+use Rattle.dft_generate.specs.Cubes.{cubes_text}
+use Rattle.dft_generate.specs.Jobs.{IsSize}
+use Rattle.dft_generate.specs.Netlists.{netlist_text}
+use Rattle.dft_generate_laws.specs.CubeLists.{cubes_in, AreWords}
+use Rattle.dft_generate_laws.specs.Designs.{design}
+
+-- the netlist of every size, from whatever words, stands for the stated design over the standard library
+abbrev pub NetlistsAreRead : Type 0
+NetlistsAreRead = (size : ℕ) (words : List ℕ) → IsSize size → StandsFor standard_cells (netlist_text size words) (design size words)
+
+-- the cubes of every size, from words that are enough, are read for that design and the stated configuration as the stated cubes
+abbrev pub CubesAreRead : Type 0
+CubesAreRead = (size : ℕ) (words : List ℕ) → IsSize size → AreWords size words → cubes_of (design size words) configuration (cubes_text size words) ≡ Ok (cubes_in size words)
+
+-- for a trial
+abbrev pub Nothing : Type 0
+Nothing = Unit {0}

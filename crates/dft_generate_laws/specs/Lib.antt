@@ -1,0 +1,3 @@
+pub mod Designs
+pub mod CubeLists
+pub mod Laws

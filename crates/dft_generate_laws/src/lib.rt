@@ -1,0 +1,6 @@
+//! Laws of generated jobs.
+#![tactic(auto)]
+
+mod laws;
+
+pub use laws::{cubes_are_read, netlists_are_read, probe};
