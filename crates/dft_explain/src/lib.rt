@@ -2,7 +2,12 @@
 #![tactic(auto)]
 
 mod asking;
+mod faults;
+mod forms;
+mod helping;
 mod page;
 
 pub use asking::{Request, Topic, asked};
+pub use faults::fault_of_words;
+pub use helping::help;
 pub use page::Page;

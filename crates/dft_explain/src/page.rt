@@ -43,6 +43,13 @@ impl Page {
         push_shown(&mut self.bytes, text)
     }
 
+    // Adds a text as it is shown.
+    pub(crate) fn put_text(&mut self, text: &str) -> Result<(), AllocError>
+        ensures { OnOk result (self.new ≡ self.old ++ shown text.now) }
+    {
+        self.put(text.as_bytes())
+    }
+
     // Ends a line.
     pub(crate) fn end(&mut self) -> Result<(), AllocError>
         ensures { OnOk result (self.new ≡ self.old ++ 10 ∷ []) }
