@@ -5,6 +5,7 @@ ghost use Rattle.std.specs.Process.{exit_status};
 ghost use Rattle.dft_program.specs.Ends.{IsStatusOfRun, status_number};
 ghost use Rattle.dft_top.specs.Run.{seen};
 
+use dft_explain::{asked, fault_of_words, help};
 use dft_files::{Files, HostFiles, OutSink, Sink};
 use dft_top::{Status, run};
 use std::alloc::Global;
@@ -43,10 +44,35 @@ pub fn status_of_run<F: Files, O: Sink>(
     number_of(run(alloc, words, files, out).status)
 }
 
-/// The whole program on a host: its words without the first, its files, its output. The exit status is that of the run
-/// of the words. It is 6 where the words cannot be had for want of memory, and 7 where the host names another cause, among
-/// them a word that is not text.
-pub fn end<R: AllocGlobal + Env + Print + std::rt::Files>(rt: &R) -> ExitCode
+// Prints a text, and gives the exit status: 5 where it cannot be printed.
+fn print_text<R: Print>(rt: &R, text: &str) -> u8
+    ensures { result ≤ 5 }
+{
+    match OutSink::new(rt).put(text.as_bytes()) {
+        Ok(()) => 0,
+        Err(_) => 5,
+    }
+}
+
+// Tells a person on standard error what is wrong with words that are no command. Where that fails, nothing more happens.
+fn tell_fault<R: AllocGlobal + Eprint>(rt: &R, words: &[String]) {
+    let told = match fault_of_words(rt.alloc(), words) {
+        Ok(page) => match str::from_utf8(page.as_slice()) {
+            Ok(text) => rt.eprint(text),
+            Err(_) => Ok(()),
+        },
+        Err(_) => rt.eprint(NO_MEMORY),
+    };
+    drop(told);
+}
+
+const NO_MEMORY: &str = "dft: memory ran out\n";
+
+/// The whole program on a host: its words without the first, its files, its output. Words that ask for help or for the version
+/// are answered on standard output, with status 0. Else the exit status is that of the run of the words; where they are no
+/// command, standard error says what is wrong with them. It is 6 where the words cannot be had for want of memory, and 7
+/// where the host names another cause, among them a word that is not text.
+pub fn end<R: AllocGlobal + Env + Print + Eprint + std::rt::Files>(rt: &R) -> ExitCode
     ensures { exit_status result ≤ 7 }
 {
     let words = match std::env::args(rt) {
@@ -62,7 +88,14 @@ pub fn end<R: AllocGlobal + Env + Print + std::rt::Files>(rt: &R) -> ExitCode
         Ok(words) => words,
         Err(_) => return ExitCode::from(6),
     };
+    if let Some(request) = asked(words.as_slice()) {
+        return ExitCode::from(print_text(rt, help(request)));
+    }
     let mut files = HostFiles::new(rt, rt.alloc());
     let mut out = OutSink::new(rt);
-    ExitCode::from(status_of_run(rt.alloc(), words.as_slice(), &mut files, &mut out))
+    let status = status_of_run(rt.alloc(), words.as_slice(), &mut files, &mut out);
+    if status == number_of(Status::Usage) {
+        tell_fault(rt, words.as_slice());
+    }
+    ExitCode::from(status)
 }

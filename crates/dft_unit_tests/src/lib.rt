@@ -19,3 +19,5 @@ mod refusals;
 mod rings;
 #[cfg(test)]
 mod systems;
+#[cfg(test)]
+mod words;

@@ -1,0 +1,236 @@
+//! What is wrong with words that are no command, and words that ask for help.
+
+use dft_command_line::command;
+use dft_explain::{Request, Topic, asked, fault_of_words, help};
+use std::alloc::{AllocError, Global};
+use std::test::Fail;
+
+const SCAN: &str =
+    "dft: usage: dft scan --netlist FILE --config FILE --out FILE --report FILE [--library FILE]\n";
+
+const REPLAY: &str = "dft: usage: dft replay --netlist FILE --patterns FILE [--library FILE]\n";
+
+const GENERATE: &str = "dft: usage: dft generate --seed NUMBER --size NUMBER\n";
+
+const ANY: &str = "dft: usage: dft COMMAND ..; dft --help says more\n";
+
+// Words, what is said of them, and the form that follows.
+static FAULTS: [(&str, &str, &str); 20] = [
+    ("", "dft: no command\n", ANY),
+    ("play --netlist a", "dft: no such command: play\n", ANY),
+    ("--help scan", "dft: no such command: --help\n", ANY),
+    ("a\u{1b}b", "dft: no such command: a?b\n", ANY),
+    (
+        "scan --netlist a --config b --out c --report c",
+        "dft: --out and --report save one file: c\n",
+        SCAN,
+    ),
+    ("scan --help x", "dft: scan has no option --help\n", SCAN),
+    ("scan a", "dft: unexpected word: a\n", SCAN),
+    ("scan --", "dft: unexpected word: --\n", SCAN),
+    ("scan -o", "dft: unexpected word: -o\n", SCAN),
+    ("scan --=a", "dft: unexpected word: --=a\n", SCAN),
+    (
+        "scan --netlist a --config=",
+        "dft: --config has an empty value\n",
+        SCAN,
+    ),
+    (
+        "scan --netlist --config a",
+        "dft: --netlist has no value\n",
+        SCAN,
+    ),
+    (
+        "scan --netlist - --report",
+        "dft: --report has no value\n",
+        SCAN,
+    ),
+    (
+        "scan --out a --netlist=b",
+        "dft: scan needs --config\n",
+        SCAN,
+    ),
+    (
+        "replay --netlist a --netlist b --patterns c",
+        "dft: --netlist stands twice\n",
+        REPLAY,
+    ),
+    (
+        "replay --netlist=a --cubes b",
+        "dft: replay has no option --cubes\n",
+        REPLAY,
+    ),
+    (
+        "generate --seed x --size 15",
+        "dft: --seed wants a number from 0 to 18446744073709551615: x\n",
+        GENERATE,
+    ),
+    (
+        "generate --size 15 --seed 18446744073709551615",
+        "dft: --size wants a number from 16 to 20000: 15\n",
+        GENERATE,
+    ),
+    (
+        "generate --seed=1 --size=000016",
+        "dft: --size wants a number from 16 to 20000: 000016\n",
+        GENERATE,
+    ),
+    ("generate --seed=1 --size=00016", "", GENERATE),
+];
+
+// The words between the blanks of a line.
+fn words_of(alloc: Global, line: &str) -> Result<Vec<String>, AllocError> {
+    let mut words = Vec::new(alloc);
+    for word in line.split_whitespace() {
+        words.push(String::from_str(alloc, word)?)?;
+    }
+    Ok(words)
+}
+
+#[test]
+fn the_first_fault_of_words_is_told(rt: HostRuntime) -> Result<(), Fail> {
+    for (line, fault, form) in &FAULTS {
+        let words = words_of(rt.alloc(), *line)?;
+        let page = fault_of_words(rt.alloc(), &words)?;
+        let wanted = format!(in rt.alloc(); "{fault}{form}")?;
+        assert_eq!(rt; page.as_slice(), wanted.as_bytes(), "{line}");
+    }
+    Ok(())
+}
+
+// Lines of words that are commands.
+static COMMANDS: [&str; 5] = [
+    "replay --netlist a --patterns=b --library c",
+    "scan --netlist a --config b --out c --report=d --library e",
+    "compile --netlist a --config=b --cubes c --out-netlist d --out-patterns e --out-report f --library=g",
+    "certify --netlist a --config b --cubes c --report d --library e",
+    "generate --seed 1 --size 16",
+];
+
+// What stands in place of a word that is bent.
+static BENT: [&str; 12] = [
+    "",
+    "-",
+    "--",
+    "-x",
+    "--no",
+    "a",
+    "e",
+    "--netlist",
+    "--library=l",
+    "7",
+    "--help",
+    "--size",
+];
+
+// A line's words with the word at this place dropped (0), doubled (1), with `=` behind it (2), with a value joined to it (3), or another in its
+// place.
+fn bent(alloc: Global, words: &[String], at: usize, how: usize) -> Result<Vec<String>, AllocError> {
+    let mut made = Vec::new(alloc);
+    for (place, word) in words.iter().enumerate() {
+        if place != at {
+            made.push(String::from_str(alloc, word.as_str())?)?;
+        } else {
+            push_bent(alloc, &mut made, word.as_str(), how)?;
+        }
+    }
+    Ok(made)
+}
+
+fn push_bent(
+    alloc: Global,
+    made: &mut Vec<String>,
+    word: &str,
+    how: usize,
+) -> Result<(), AllocError> {
+    match how {
+        0 => {}
+        1 => {
+            made.push(String::from_str(alloc, word)?)?;
+            made.push(String::from_str(alloc, word)?)?;
+        }
+        2 => made.push(format!(in alloc; "{word}=")?)?,
+        3 => made.push(format!(in alloc; "{word}=v")?)?,
+        _ => made.push(String::from_str(alloc, BENT[(how - 4) % BENT.len()])?)?,
+    }
+    Ok(())
+}
+
+// Whether a fault is told exactly where the words are no command.
+fn is_told_rightly(alloc: Global, words: &[String]) -> Result<bool, AllocError> {
+    let page = fault_of_words(alloc, words)?;
+    let lines = page
+        .as_slice()
+        .iter()
+        .filter(|byte| **byte == b'\n')
+        .count();
+    let is_command = command(alloc, words)?.is_some();
+    Ok(lines == if is_command { 1 } else { 2 })
+}
+
+// Of a command's words bent at one place in each way, and then at another, how many there are; none counts after the first that is told
+// wrongly.
+fn told_rightly(alloc: Global, words: &[String], at: usize) -> Result<usize, AllocError> {
+    let mut count = 0;
+    for how in 0..16 {
+        let once = bent(alloc, words, at, how)?;
+        if !is_told_rightly(alloc, &once)? {
+            return Ok(0);
+        }
+        for second in 0..3 {
+            let twice = bent(
+                alloc,
+                &once,
+                (7 * at + 3 * how + second) % words.len(),
+                how + second,
+            )?;
+            if !is_told_rightly(alloc, &twice)? {
+                return Ok(0);
+            }
+        }
+        count += 4;
+    }
+    Ok(count)
+}
+
+#[test]
+fn a_fault_is_told_where_words_are_no_command(rt: HostRuntime) -> Result<(), Fail> {
+    let mut count = 0;
+    for line in &COMMANDS {
+        let words = words_of(rt.alloc(), *line)?;
+        assert!(rt; is_told_rightly(rt.alloc(), &words)?, "{line}");
+        for at in 0..words.len() {
+            let right = told_rightly(rt.alloc(), &words, at)?;
+            assert_eq!(rt; right, 64usize, "{line}: {at}");
+            count += right;
+        }
+    }
+    assert!(rt; count > 2000, "{count}");
+    Ok(())
+}
+
+// Words that ask, and for what.
+static ASKED: [(&str, Option<Request>); 8] = [
+    ("--help", Some(Request::Help)),
+    ("--version", Some(Request::Version)),
+    ("scan --help", Some(Request::HelpOf(Topic::Scan))),
+    ("generate --help", Some(Request::HelpOf(Topic::Generate))),
+    ("scan --help x", None),
+    ("help", None),
+    ("-h", None),
+    ("--help --version", None),
+];
+
+#[test]
+fn three_lists_of_words_ask(rt: HostRuntime) -> Result<(), Fail> {
+    for (line, wanted) in &ASKED {
+        let words = words_of(rt.alloc(), *line)?;
+        assert_eq!(rt; asked(&words), *wanted, "{line}");
+    }
+    assert_eq!(rt; help(Request::Version), "dft 0.1\n");
+    assert!(rt;
+        help(Request::HelpOf(Topic::Replay)).starts_with("usage: dft replay --netlist FILE"),
+        "replay"
+    );
+    Ok(())
+}
