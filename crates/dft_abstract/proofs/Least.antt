@@ -25,10 +25,10 @@ both_above One Zero p q = absurd p
 both_above One Unknown p q = absurd p
 
 -- a family of settled assignments grows with its sources
-settled_monotone : (l : Logic) (rank : ℕ → ℕ) (t s : ℕ → TriSources) (w u : ℕ → ℕ → Tri) → IsRanked l rank → ((d : ℕ) → IsTriSettled l (t d) (w d)) → ((d : ℕ) → IsTriSettled l (s d) (u d)) →
-    ((d k : ℕ) → AboveTri ((t d).ports k) ((s d).ports k)) → ((d e : ℕ) → AboveTri ((t d).clocks e) ((s d).clocks e)) → ((d c : ℕ) → AboveTri ((t d).flops c) ((s d).flops c)) →
-    ((r : ℕ) → ((k : ℕ) → rank k < r → (d : ℕ) → AboveTri (w d k) (u d k)) → (d c e : ℕ) (source : Source) → AreBelow rank r (nets_of (source ∷ [])) → AboveTri ((t d).lockups c e source) ((s d).lockups c e source)) →
-    (fuel net : ℕ) → rank net < fuel → (d : ℕ) → AboveTri (w d net) (u d net)
+settled_monotone : (l : Logic) (rank : ℕ → ℕ) (t s : ℕ → TriSources) (w u : ℕ → ℕ → Tri) → (ranked : IsRanked l rank) → (tw : ((d : ℕ) → IsTriSettled l (t d) (w d))) → (su : ((d : ℕ) → IsTriSettled l (s d) (u d))) →
+    (ports : ((d k : ℕ) → AboveTri ((t d).ports k) ((s d).ports k))) → (clocks : ((d e : ℕ) → AboveTri ((t d).clocks e) ((s d).clocks e))) → (flops : ((d c : ℕ) → AboveTri ((t d).flops c) ((s d).flops c))) →
+    (lockups : ((r : ℕ) → ((k : ℕ) → rank k < r → (d : ℕ) → AboveTri (w d k) (u d k)) → (d c e : ℕ) (source : Source) → AreBelow rank r (nets_of (source ∷ [])) → AboveTri ((t d).lockups c e source) ((s d).lockups c e source))) →
+    (fuel net : ℕ) → (less : rank net < fuel) → (d : ℕ) → AboveTri (w d net) (u d net)
 settled_monotone l rank t s w u ranked tw su ports clocks flops lockups zero net less d = absurd (omega arith)
 settled_monotone l rank t s w u ranked tw su ports clocks flops lockups (suc fuel) net less d =
     let ih : (k : ℕ) → rank k < rank net → (e : ℕ) → AboveTri (w e k) (u e k) = λ k below. settled_monotone l rank t s w u ranked tw su ports clocks flops lockups fuel k (omega arith) in

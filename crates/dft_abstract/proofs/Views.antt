@@ -72,10 +72,10 @@ strobe_exists l rank x old ranked =
 
 -- ---- one settled assignment
 
-same_within : (l : Logic) (rank : ℕ → ℕ) (t s : TriSources) (a b : ℕ → Tri) → IsRanked l rank → IsTriSettled l t a → IsTriSettled l s b →
-    ((k : ℕ) → t.ports k ≡ s.ports k) → ((e : ℕ) → t.clocks e ≡ s.clocks e) → ((c : ℕ) → t.flops c ≡ s.flops c) →
-    ((net c e : ℕ) (source : Source) → l.net net ≡ Lockup c e source → ((k : ℕ) → rank k < rank net → a k ≡ b k) → AreBelow rank (rank net) (nets_of (source ∷ [])) → t.lockups c e source ≡ s.lockups c e source) →
-    (fuel net : ℕ) → rank net < fuel → a net ≡ b net
+same_within : (l : Logic) (rank : ℕ → ℕ) (t s : TriSources) (a b : ℕ → Tri) → (ranked : IsRanked l rank) → (ta : IsTriSettled l t a) → (sb : IsTriSettled l s b) →
+    (ports : ((k : ℕ) → t.ports k ≡ s.ports k)) → (clocks : ((e : ℕ) → t.clocks e ≡ s.clocks e)) → (flops : ((c : ℕ) → t.flops c ≡ s.flops c)) →
+    (lockups : ((net c e : ℕ) (source : Source) → l.net net ≡ Lockup c e source → ((k : ℕ) → rank k < rank net → a k ≡ b k) → AreBelow rank (rank net) (nets_of (source ∷ [])) → t.lockups c e source ≡ s.lockups c e source)) →
+    (fuel net : ℕ) → (less : rank net < fuel) → a net ≡ b net
 same_within l rank t s a b ranked ta sb ports clocks flops lockups zero net less = absurd (omega arith)
 same_within l rank t s a b ranked ta sb ports clocks flops lockups (suc fuel) net less =
     let ih : (k : ℕ) → rank k < rank net → a k ≡ b k = λ k below. same_within l rank t s a b ranked ta sb ports clocks flops lockups fuel k (omega arith) in

@@ -87,9 +87,9 @@ none_is (Some x) false e = refl
 all_summed : (test : SumLine → Bool) (rest lines : List SumLine) (now : Bool) → rest ≡ [] → xor now (odd_in test rest) ≡ odd_in test lines → now ≡ odd_in test lines
 all_summed test rest lines now none sum = sym (xor_false now) ∙ ap (λ (ls : List SumLine). xor now (odd_in test ls)) (sym none) ∙ sum
 
-pub odd_certified : (n : Netlist) (row : CellRows) (columns : ℕ) (rest lines : List SumLine) (words read : List ℕ) (odd : Bool) (top : Option ℕ) (none : Bool) → rest ≡ [] → IsPacked columns words →
-    xor odd (odd_in (λ line. line.bit) rest) ≡ odd_in (λ line. line.bit) lines → ((c : ℕ) → xor (packed_bit words c) (odd_in (has_column n row c) rest) ≡ odd_in (has_column n row c) lines) → odd ≡ true → read ≡ words →
-    MatchOption top ((place : ℕ) → packed_bit read place ≡ false) (λ t. (packed_bit read t ≡ true) × ((place : ℕ) → t < place → packed_bit read place ≡ false)) → is_some top ≡ not none → none ≡ is_certificate n row columns lines
+pub odd_certified : (n : Netlist) (row : CellRows) (columns : ℕ) (rest lines : List SumLine) (words read : List ℕ) (odd : Bool) (top : Option ℕ) (none : Bool) → (left : rest ≡ []) → (packed : IsPacked columns words) →
+    (bits : xor odd (odd_in (λ line. line.bit) rest) ≡ odd_in (λ line. line.bit) lines) → (sums : ((c : ℕ) → xor (packed_bit words c) (odd_in (has_column n row c) rest) ≡ odd_in (has_column n row c) lines)) → (is : odd ≡ true) → (same : read ≡ words) →
+    (highest : MatchOption top ((place : ℕ) → packed_bit read place ≡ false) (λ t. (packed_bit read t ≡ true) × ((place : ℕ) → t < place → packed_bit read place ≡ false))) → (told : is_some top ≡ not none) → none ≡ is_certificate n row columns lines
 odd_certified n row columns rest lines words read odd top none left packed bits sums is same highest told =
     let found = subst (λ (ws : List ℕ). MatchOption top ((place : ℕ) → packed_bit ws place ≡ false) (λ t. (packed_bit ws t ≡ true) × ((place : ℕ) → t < place → packed_bit ws place ≡ false))) same highest in
     let even = none_on columns words (λ c. odd_in (has_column n row c) lines) top packed (λ c. all_summed (has_column n row c) rest lines (packed_bit words c) left (sums c)) found in

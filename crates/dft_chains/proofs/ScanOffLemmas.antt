@@ -34,10 +34,10 @@ joined_same rank r p s t a b pins ih (Tied bit) inside below = refl
 joined_same rank r p s t a b pins ih (Loose c pin) inside below = pins c pin
 
 given_same : (rank : ℕ → ℕ) (p : Places) (s t : Sources) (a b : ℕ → Bool) (net : ℕ) →
-    s.ports (p.moved net) ≡ t.ports net → ((domain : ℕ) → s.high (p.moved domain) ≡ t.high domain) → ((cell : ℕ) → p.is_flop cell ≡ true → s.flops cell ≡ t.flops cell) →
-    s.free (p.moved net) ≡ t.free net → ((i pin : ℕ) → s.loose i pin ≡ t.loose i pin) → ((k : ℕ) → k < p.size → rank k < rank net → a (p.moved k) ≡ b k) →
-    (m : Meaning) → AreBelow (λ k. k) p.size (reads m) → AreBelow rank (rank net) (reads m) → ((cell : ℕ) (inverted : Bool) → m ≡ Flop cell inverted → p.is_flop cell ≡ true) →
-    ((cell domain : ℕ) (source : Source) → m ≡ Lockup cell domain source → ⊥) → bit_given s a (p.moved net) (moved_meaning p.moved m) ≡ bit_given t b net m
+    (ports : s.ports (p.moved net) ≡ t.ports net) → (high : ((domain : ℕ) → s.high (p.moved domain) ≡ t.high domain)) → (flops : ((cell : ℕ) → p.is_flop cell ≡ true → s.flops cell ≡ t.flops cell)) →
+    (free : s.free (p.moved net) ≡ t.free net) → (pins : ((i pin : ℕ) → s.loose i pin ≡ t.loose i pin)) → (ih : ((k : ℕ) → k < p.size → rank k < rank net → a (p.moved k) ≡ b k)) →
+    (m : Meaning) → (inside : AreBelow (λ k. k) p.size (reads m)) → (below : AreBelow rank (rank net) (reads m)) → (shown : ((cell : ℕ) (inverted : Bool) → m ≡ Flop cell inverted → p.is_flop cell ≡ true)) →
+    (no_lockup : ((cell domain : ℕ) (source : Source) → m ≡ Lockup cell domain source → ⊥)) → bit_given s a (p.moved net) (moved_meaning p.moved m) ≡ bit_given t b net m
 given_same rank p s t a b net ports high flops free pins ih Input inside below shown no_lockup = ports
 given_same rank p s t a b net ports high flops free pins ih Clock inside below shown no_lockup = high net
 given_same rank p s t a b net ports high flops free pins ih (Gate kind inputs) inside below shown no_lockup = ap (bit_of kind) (inputs_same rank (rank net) p s t a b pins ih inputs inside below)
@@ -49,8 +49,8 @@ given_same rank p s t a b net ports high flops free pins ih Free inside below sh
 port_same : (p : Places) (now its : Now) → AreAlike p now.state its.state → AreFreeAlike p now.moment its.moment → (net : ℕ) → net < p.size → port_bits now.state now.moment (p.moved net) ≡ port_bits its.state its.moment net
 port_same p now its alike free net inside = ap (λ t. completed t (now.moment.free (p.moved net))) (alike.ports net inside) ∙ ap (completed (its.state.ports net)) (free.nets net inside)
 
-seen_by : (original written : Logic) (rank : ℕ → ℕ) (p : Places) (now its : Now) → IsRanked original rank → Contains original written p → AreAlike p now.state its.state → AreFreeAlike p now.moment its.moment →
-    IsNow written now → IsNow original its → (fuel net : ℕ) → rank net < fuel → net < p.size → now.moment.seen (p.moved net) ≡ its.moment.seen net
+seen_by : (original written : Logic) (rank : ℕ → ℕ) (p : Places) (now its : Now) → (ranked : IsRanked original rank) → (has : Contains original written p) → (alike : AreAlike p now.state its.state) → (free : AreFreeAlike p now.moment its.moment) →
+    (settled : IsNow written now) → (its_settled : IsNow original its) → (fuel net : ℕ) → (less : rank net < fuel) → (inside : net < p.size) → now.moment.seen (p.moved net) ≡ its.moment.seen net
 seen_by original written rank p now its ranked has alike free settled its_settled zero net less inside = absurd (omega (arith, less))
 seen_by original written rank p now its ranked has alike free settled its_settled (suc fuel) net less inside =
     settled (p.moved net) ∙ ap (bit_given (sources_of now) now.moment.seen (p.moved net)) (has.nets net inside)

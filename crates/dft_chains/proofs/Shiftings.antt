@@ -113,8 +113,8 @@ earlier : (chains : List (List InstanceId)) (chain before place : ℕ) (cell : I
 earlier chains chain before place cell is le = earlier_in (slice_get chains chain) before place cell is le
 
 -- the first vector of a list, and then the others
-entered_more : (chains : List (List InstanceId)) (w : ScanNets) (x : Vector) (xs : List Vector) (old mid new : ℕ → Bool) → IsShifted chains w x old mid → AreShifted chains w xs mid new →
-    (chain place number : ℕ) (cell : InstanceId) (y : Vector) → suc (place + number) ≡ suc (length xs) → slice_get (x ∷ xs) number ≡ Some y → cell_at chains chain place ≡ Some cell →
+entered_more : (chains : List (List InstanceId)) (w : ScanNets) (x : Vector) (xs : List Vector) (old mid new : ℕ → Bool) → (first : IsShifted chains w x old mid) → (rest : AreShifted chains w xs mid new) →
+    (chain place number : ℕ) (cell : InstanceId) (y : Vector) → (is : suc (place + number) ≡ suc (length xs)) → (at : slice_get (x ∷ xs) number ≡ Some y) → (stands : cell_at chains chain place ≡ Some cell) →
     Above (y.ports (w.scan_in chain)) (new cell.0)
 entered_more chains w x xs old mid new first rest chain place zero cell y is at stands =
     let other = earlier chains chain zero place cell stands (omega arith) in

@@ -176,8 +176,8 @@ back_before xs ys first port (suc k) =
     ap (λ (v : MaskNets). v.mask) (sym (at_back xs ys (first + k))) ∙ ap (λ (i : ℕ). (masks_at (xs ++ ys) i).mask) (sym e)
 
 -- the masks of a place of a segment that stands so many segments behind the first of these; before it so many chains
-pub cut_stands : (n : Netlist) (ports : Ports) (config : Config) (edt : EdtPorts) (run : NetId) (segment count i : ℕ) (at : Start) → IsSingle n → IsWellFormed n.library → at.library ≡ n.library → IsClockNet n ports edt.edt_clock.0 →
-    HasParts n i (segments config edt run segment count at).parts → (j k chains : ℕ) → j < count → k < segment_length config (segment + j) → chains + segment_start config segment ≡ segment_start config (segment + j) →
+pub cut_stands : (n : Netlist) (ports : Ports) (config : Config) (edt : EdtPorts) (run : NetId) (segment count i : ℕ) (at : Start) → (single : IsSingle n) → (well : IsWellFormed n.library) → (library : at.library ≡ n.library) → (clock : IsClockNet n ports edt.edt_clock.0) →
+    HasParts n i (segments config edt run segment count at).parts → (j k chains : ℕ) → (less : j < count) → (inside : k < segment_length config (segment + j)) → (is : chains + segment_start config segment ≡ segment_start config (segment + j)) →
     MaskAt (logic_of n ports) edt run (i + 5 * (chains + k)) (before_place (segments config edt run segment count at).value chains (net_at edt.masks (segment + j)) k) (masks_at (segments config edt run segment count at).value (chains + k))
 unfolding segments
 cut_stands n ports config edt run segment zero i at single well library clock h j k chains less inside is = absurd (omega (arith, less))

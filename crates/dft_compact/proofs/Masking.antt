@@ -149,8 +149,8 @@ segment_on : (ports : EdtPorts) (run last : NetId) (left : ℕ) (s t : Making) (
 unfolding a_segment
 segment_on ports run last left s t nets so_far h = list_more so_far (a_mask ports run last) (λ (first : MaskNets). first ∷ []) (λ (first : MaskNets). a_segment ports run first.mask left) s t nets h
 
-pub segment_goes : (ports : EdtPorts) (run port : NetId) (count : ℕ) (start now t : Making) (k : ℕ) (last : NetId) (so_far longer : List MaskNets) (nets : MaskNets) → Segmenting ports run port count start now k last so_far → k < count →
-    outcome (a_mask ports run last) now ≡ Ok (nets, t) → IsMade t.netlist nets → length now.netlist.nets ≤ length t.netlist.nets → longer ≡ so_far ++ nets ∷ [] → Segmenting ports run port count start t (k + 1) nets.mask longer
+pub segment_goes : (ports : EdtPorts) (run port : NetId) (count : ℕ) (start now t : Making) (k : ℕ) (last : NetId) (so_far longer : List MaskNets) (nets : MaskNets) → Segmenting ports run port count start now k last so_far → (less : k < count) →
+    (made : outcome (a_mask ports run last) now ≡ Ok (nets, t)) → (is : IsMade t.netlist nets) → (more : length now.netlist.nets ≤ length t.netlist.nets) → (grown : longer ≡ so_far ++ nets ∷ []) → Segmenting ports run port count start t (k + 1) nets.mask longer
 segment_goes ports run port count start now t k last so_far longer nets g less made is more grown =
     let before = g.more in
     let so_many = g.made in
@@ -205,8 +205,8 @@ cut_on config ports run segment left s t chains so_far h =
 next_start : (config : Config) (segment : ℕ) → segment_start config (segment + 1) ≡ segment_start config segment + segment_length config segment
 next_start config segment = let e : segment + 1 ≡ suc segment = omega arith in ap (segment_start config) e
 
-pub cut_goes : (config : Config) (ports : EdtPorts) (run : NetId) (count : ℕ) (start now t : Making) (segment : ℕ) (so_far longer chains : List MaskNets) → Cutting config ports run count start now segment so_far → segment < count →
-    outcome (a_segment ports run (net_at ports.masks segment) (segment_length config segment)) now ≡ Ok (chains, t) → AreMade t.netlist chains → length chains ≡ segment_length config segment → length now.netlist.nets ≤ length t.netlist.nets → longer ≡ so_far ++ chains →
+pub cut_goes : (config : Config) (ports : EdtPorts) (run : NetId) (count : ℕ) (start now t : Making) (segment : ℕ) (so_far longer chains : List MaskNets) → Cutting config ports run count start now segment so_far → (less : segment < count) →
+    (made : outcome (a_segment ports run (net_at ports.masks segment) (segment_length config segment)) now ≡ Ok (chains, t)) → (is : AreMade t.netlist chains) → (size : length chains ≡ segment_length config segment) → (more : length now.netlist.nets ≤ length t.netlist.nets) → (grown : longer ≡ so_far ++ chains) →
     Cutting config ports run count start t (segment + 1) longer
 cut_goes config ports run count start now t segment so_far longer chains g less made is size more grown =
     let before = g.more in

@@ -10,6 +10,10 @@ use Rattle.dft_stitch.specs.declared.error.StitchError.{StitchError}
 use Rattle.dft_stitch.specs.declared.error.StitchError.TheVariants as stitch_error
 use Rattle.dft_stitch.specs.Chains.{plan_of}
 use Rattle.dft_stitch.specs.Limits as stitch
+use Rattle.dft_stitch.specs.Planning as planning
+use Rattle.dft_stitch.specs.declared.planned.PrepareError.{PrepareError}
+use Rattle.dft_stitch.specs.declared.planned.PrepareError.TheVariants as prepare_error
+use Rattle.dft_stitch.proofs.PlannedLemmas.{by_rules, by_stitch}
 use Rattle.dft_scan_frame.specs.declared.error.InsertError.{InsertError}
 use Rattle.dft_scan_frame.specs.declared.error.InsertError.TheVariants as insert_error
 use Rattle.dft_scan_hardware.specs.declared.style.Style.TheVariants.{Edt}
@@ -17,7 +21,7 @@ use Rattle.dft_scan_frame.specs.Refusals as frame
 use Rattle.dft_scan_hardware.specs.Refusals as insert
 use Rattle.dft_compile.specs.declared.error.CompileError.{CompileError}
 use Rattle.dft_compile.specs.declared.error.CompileError.TheVariants.{Rules, Stitch, Insert}
-use Rattle.dft_compile.specs.Errors.{of_rules, of_stitch, of_insert}
+use Rattle.dft_compile.specs.Errors.{of_rules, of_stitch, of_planning, of_insert}
 use Rattle.dft_compile.specs.Refusals.{IsRefusal, first_failing, first_refusal}
 
 rules_first : (more : List (Option CompileError)) (r : Option RuleError) (e : RuleError) → r ≡ Some e → first_failing (option_map Rules r ∷ more) ≡ Some (Rules e)
@@ -65,6 +69,16 @@ refused_by_rules n config e h = rules_refused (stitch_checks n config) (rules.re
 
 pub refused_by_stitch : (n : Netlist) (config : Config) (e : StitchError) → rules.refusal n config ≡ None → stitch.IsRefusal (stitch.refusal n config) e → IsRefusal (first_refusal n config) (of_stitch e)
 refused_by_stitch n config e r h = after_rules (stitch_checks n config) (rules.refusal n config) (of_stitch e) r (stitch_refused (insert_checks n config) (stitch.refusal n config) e h)
+
+-- a refusal of planning is that of these two checks and more
+pub planning_refused : (n : Netlist) (config : Config) (more : List (Option CompileError)) (e : PrepareError) → planning.IsRefusal (planning.refusal n config) e →
+    IsRefusal (first_failing (option_map Rules (rules.refusal n config) ∷ option_map Stitch (stitch.refusal n config) ∷ more)) (of_planning e)
+planning_refused n config more (prepare_error.Rules e) h =
+    rules_first (option_map Stitch (stitch.refusal n config) ∷ more) (rules.refusal n config) e (by_rules (rules.refusal n config) (stitch.refusal n config) e h)
+planning_refused n config more (prepare_error.Stitch e) h =
+    let both = by_stitch (rules.refusal n config) (stitch.refusal n config) e h in
+    after_rules (option_map Stitch (stitch.refusal n config) ∷ more) (rules.refusal n config) (Stitch e) both.0 (stitch_first more (stitch.refusal n config) e both.1)
+planning_refused n config more (prepare_error.Memory e) h = _
 
 pub refused_by_insert : (n : Netlist) (config : Config) (e : InsertError) → rules.refusal n config ≡ None → stitch.refusal n config ≡ None → frame.IsRefusal (insert.refusal Edt n config (plan_of n config)) e → IsRefusal (first_refusal n config) (of_insert e)
 refused_by_insert n config e r s h =

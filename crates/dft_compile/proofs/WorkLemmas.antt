@@ -72,8 +72,8 @@ counts_are n config rows placed merged p h =
     ∙ ap (by (length list)) h.masked
     ∙ ap (λ (v : ℕ). record (by (length list) (masked_in list)) { vectors = v }) (sym (vector_count n config rows merged list h.are))
 
-pub are_texts : (n : Netlist) (config : Config) (cubes : List Cube) (rows : LoadRows) (placed : List Placed) (merged : List Merged) (t : CompileTexts) (p : PatternText) → refusal n config ≡ None → length merged ≤ 65536 → pattern_bytes n config (length merged) ≤ MAX_TEXT → length (report_text n config rows cubes placed) ≤ MAX_BYTES →
-    IsPatternText n config rows merged p → t.netlist.items ≡ netlist_text n config → t.patterns.items ≡ p.text.items → t.report.items ≡ report_text n config rows cubes placed → t.counts ≡ counts_by n config placed (length merged) p.masked →
+pub are_texts : (n : Netlist) (config : Config) (cubes : List Cube) (rows : LoadRows) (placed : List Placed) (merged : List Merged) (t : CompileTexts) (p : PatternText) → (fits : refusal n config ≡ None) → (count : length merged ≤ 65536) → (short : pattern_bytes n config (length merged) ≤ MAX_TEXT) → (few : length (report_text n config rows cubes placed) ≤ MAX_BYTES) →
+    IsPatternText n config rows merged p → (netlist : t.netlist.items ≡ netlist_text n config) → (patterns : t.patterns.items ≡ p.text.items) → (report : t.report.items ≡ report_text n config rows cubes placed) → (counts : t.counts ≡ counts_by n config placed (length merged) p.masked) →
     AreTextsOf n config cubes rows placed merged t
 are_texts n config cubes rows placed merged t p fits count short few h netlist patterns report counts = record {
   accepted = late_passed n config cubes rows placed (length merged) short few;

@@ -3,6 +3,8 @@ use Rattle.dft_rules.specs.declared.error.RuleError.{RuleError}
 use Rattle.dft_rules.specs.declared.error.RuleError.TheVariants as rule
 use Rattle.dft_stitch.specs.declared.error.StitchError.{StitchError}
 use Rattle.dft_stitch.specs.declared.error.StitchError.TheVariants as stitch
+use Rattle.dft_stitch.specs.declared.planned.PrepareError.{PrepareError}
+use Rattle.dft_stitch.specs.declared.planned.PrepareError.TheVariants as planning
 use Rattle.dft_scan_frame.specs.declared.error.InsertError.{InsertError}
 use Rattle.dft_scan_frame.specs.declared.error.InsertError.TheVariants as insert
 use Rattle.dft_report.specs.declared.error.ReportError.{ReportError}
@@ -19,6 +21,11 @@ of_rules error = Rules error
 abbrev pub of_stitch : StitchError → CompileError
 of_stitch (stitch.Memory error) = Memory error
 of_stitch error = Stitch error
+
+abbrev pub of_planning : PrepareError → CompileError
+of_planning (planning.Rules error) = Rules error
+of_planning (planning.Stitch error) = Stitch error
+of_planning (planning.Memory error) = Memory error
 
 abbrev pub of_insert : InsertError → CompileError
 of_insert (insert.Memory error) = Memory error

@@ -1,12 +1,12 @@
 ghost use Rattle.std.specs.Prelude.{◌≡◌, alloc_error};
-ghost use Rattle.dft_compile.specs.Errors.{of_insert, of_patterns, of_report, of_rules, of_stitch};
+ghost use Rattle.dft_compile.specs.Errors.{of_insert, of_patterns, of_planning, of_report, of_rules, of_stitch};
 ghost use Rattle.dft_compile.specs.declared.error.CompileError.TheVariants.{Memory};
 
 use dft_insert::InsertError;
 use dft_report::ReportError;
 use dft_rules::RuleError;
 use dft_stil_out::StilError;
-use dft_stitch::StitchError;
+use dft_stitch::{PrepareError, StitchError};
 use std::alloc::{AllocError, AllocFailed};
 use thiserror::Error;
 
@@ -66,6 +66,18 @@ impl From<StitchError> for CompileError {
         match error {
             StitchError::Memory(error) => CompileError::Memory(error),
             error => CompileError::Stitch(error),
+        }
+    }
+}
+
+impl From<PrepareError> for CompileError {
+    ghost from_gives = { λ error e. e ≡ of_planning error };
+
+    fn from(error: PrepareError) -> CompileError {
+        match error {
+            PrepareError::Rules(error) => CompileError::Rules(error),
+            PrepareError::Stitch(error) => CompileError::Stitch(error),
+            PrepareError::Memory(error) => CompileError::Memory(error),
         }
     }
 }

@@ -60,9 +60,9 @@ told_skipped columns row window old new cube (word.Unsolvable ids) cell first pl
 -- ---- entries
 
 -- a cube that is reported encoded was placed in the pattern that is told
-pub encoded_placed : (n : Netlist) (config : Config) (rows : LoadRows) (window : ℕ) (cubes : List Cube) (placed : List Placed) (patterns : List Merged) → AreCubes n config cubes →
-    PlacesAll rows.columns (rows_of n config rows) window [] cubes placed patterns → (c p : ℕ) (cube : Cube) (entry : CubeReport) → slice_get cubes c ≡ Some cube → slice_get (entries_of n config rows cubes placed) c ≡ Some entry →
-    entry.outcome ≡ Encoded p → slice_get placed c ≡ Some (word.Into p)
+pub encoded_placed : (n : Netlist) (config : Config) (rows : LoadRows) (window : ℕ) (cubes : List Cube) (placed : List Placed) (patterns : List Merged) → (sound : AreCubes n config cubes) →
+    (places : PlacesAll rows.columns (rows_of n config rows) window [] cubes placed patterns) → (c p : ℕ) (cube : Cube) (entry : CubeReport) → (at : slice_get cubes c ≡ Some cube) → (there : slice_get (entries_of n config rows cubes placed) c ≡ Some entry) →
+    (encoded : entry.outcome ≡ Encoded p) → slice_get placed c ≡ Some (word.Into p)
 encoded_placed n config rows window cubes placed patterns sound places c p cube entry at there encoded =
     let row = rows_of n config rows in
     let step = step_at rows.columns row window [] patterns cubes placed places c cube at in

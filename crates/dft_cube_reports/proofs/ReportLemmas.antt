@@ -29,8 +29,8 @@ pub no_reports : (n : Netlist) (ring : RingConfig) (row : CellRows) (cubes : Lis
 no_reports n ring row cubes placed k far = ap (λ l. cube_reports n ring row l (drop k placed)) (drop_all k cubes far)
 
 -- the report of one cube more, if it has one
-pub report_goes_on : (n : Netlist) (ring : RingConfig) (row : CellRows) (cubes : List Cube) (placed : List Placed) (k : ℕ) (cube : Cube) (place : Placed) (so_far new all : List CubeReport) → k < length cubes → length placed ≡ length cubes →
-    cube ≡ get_or cubes k cube → place ≡ get_or placed k place → new ≡ so_far ++ option_to_list (cube_report n ring row cube place) → so_far ++ cube_reports n ring row (drop k cubes) (drop k placed) ≡ all →
+pub report_goes_on : (n : Netlist) (ring : RingConfig) (row : CellRows) (cubes : List Cube) (placed : List Placed) (k : ℕ) (cube : Cube) (place : Placed) (so_far new all : List CubeReport) → (less : k < length cubes) → (same : length placed ≡ length cubes) →
+    (is : cube ≡ get_or cubes k cube) → (at : place ≡ get_or placed k place) → (more : new ≡ so_far ++ option_to_list (cube_report n ring row cube place)) → (before : so_far ++ cube_reports n ring row (drop k cubes) (drop k placed) ≡ all) →
     new ++ cube_reports n ring row (drop (k + 1) cubes) (drop (k + 1) placed) ≡ all
 report_goes_on n ring row cubes placed k cube place so_far new all less same is at more before =
     let rest = cube_reports n ring row (drop (k + 1) cubes) (drop (k + 1) placed) in
@@ -38,8 +38,8 @@ report_goes_on n ring row cubes placed k cube place so_far new all less same is 
     ∙ ap (λ (l : List CubeReport). so_far ++ l) (sym (reports_at n ring row cubes placed k cube place less same is at)) ∙ before
 
 -- the bytes of one cube more
-pub length_goes_on : (n : Netlist) (ring : RingConfig) (row : CellRows) (cubes : List Cube) (placed : List Placed) (k : ℕ) (cube : Cube) (place : Placed) (so_far more new all : ℕ) → k < length cubes → length placed ≡ length cubes →
-    cube ≡ get_or cubes k cube → place ≡ get_or placed k place → more ≡ option_length (cube_report n ring row cube place) → new ≡ so_far + more → so_far + lines_length (cube_reports n ring row (drop k cubes) (drop k placed)) ≡ all →
+pub length_goes_on : (n : Netlist) (ring : RingConfig) (row : CellRows) (cubes : List Cube) (placed : List Placed) (k : ℕ) (cube : Cube) (place : Placed) (so_far more new all : ℕ) → (less : k < length cubes) → (same : length placed ≡ length cubes) →
+    (is : cube ≡ get_or cubes k cube) → (at : place ≡ get_or placed k place) → (has : more ≡ option_length (cube_report n ring row cube place)) → (sum : new ≡ so_far + more) → (before : so_far + lines_length (cube_reports n ring row (drop k cubes) (drop k placed)) ≡ all) →
     new + lines_length (cube_reports n ring row (drop (k + 1) cubes) (drop (k + 1) placed)) ≡ all
 length_goes_on n ring row cubes placed k cube place so_far more new all less same is at has sum before =
     let rest = cube_reports n ring row (drop (k + 1) cubes) (drop (k + 1) placed) in

@@ -54,9 +54,9 @@ raised_above true Zero Unknown h = tt
 raised_above true One Unknown h = tt
 raised_above true Unknown Unknown h = tt
 
-pub turn_alone : (x : Circuit) (p : Pulse) (clocks : List NetId) (next old new : List Tri) (view : ℕ → ℕ → Tri) → IsCircuit x → length old ≡ length x.flops.items → length new ≡ length old → length next ≡ length x.flops.items → IsRaised x p next old new →
-    ((e : ℕ) → p.pulsed e ≡ true → Among clocks (length clocks) e) → IsAlone (logic_at x) p.pulsed →
-    ((w : ℕ → ℕ → Tri) → AreViews (logic_at x) p (value_at old) w → HasNext x p w clocks (length clocks) next) → AreViews (logic_at x) p (value_at new) view → AreNext (logic_at x) p view new next
+pub turn_alone : (x : Circuit) (p : Pulse) (clocks : List NetId) (next old new : List Tri) (view : ℕ → ℕ → Tri) → (is : IsCircuit x) → length old ≡ length x.flops.items → length new ≡ length old → length next ≡ length x.flops.items → (each : IsRaised x p next old new) →
+    (among : ((e : ℕ) → p.pulsed e ≡ true → Among clocks (length clocks) e)) → (alone : IsAlone (logic_at x) p.pulsed) →
+    (has : ((w : ℕ → ℕ → Tri) → AreViews (logic_at x) p (value_at old) w → HasNext x p w clocks (length clocks) next)) → (views : AreViews (logic_at x) p (value_at new) view) → AreNext (logic_at x) p view new next
 turn_alone x p clocks next old new view is a b n each among alone has views c up =
     let found = views_exist (logic_at x) (rank_of x) p (value_at old) (circuit_ranked x is) in
     let P : Tri → Type 0 = λ t. AboveTri t (next_value (logic_at x) p view c) in

@@ -44,9 +44,9 @@ ready_kept x v ws rs a e ready = subst (IsReady x) (sym (filled v ws rs a e)) re
 
 -- ---- a strobe
 
-pub strobed : (m after : Machine) (x : Circuit) (t : TriSources) (values : List Tri) → logic m ≡ logic_at x → after.netlist ≡ m.netlist → after.clocks ≡ m.clocks → after.inputs ≡ m.inputs → after.cells ≡ m.cells →
-    ((k : ℕ) → t.ports k ≡ value_at m.inputs k) → ((e : ℕ) → t.clocks e ≡ Zero) → ((c : ℕ) → t.flops c ≡ value_at m.cells c) →
-    ((c e : ℕ) (source : Source) → t.lockups c e source ≡ value_from (value_at values) source) → IsTriSettled (logic_at x) t (value_at values) → after.shown ≡ values → IsStrobed (logic m) m after
+pub strobed : (m after : Machine) (x : Circuit) (t : TriSources) (values : List Tri) → (compiled : logic m ≡ logic_at x) → after.netlist ≡ m.netlist → after.clocks ≡ m.clocks → after.inputs ≡ m.inputs → after.cells ≡ m.cells →
+    (ports : ((k : ℕ) → t.ports k ≡ value_at m.inputs k)) → (clocks : ((e : ℕ) → t.clocks e ≡ Zero)) → (flops : ((c : ℕ) → t.flops c ≡ value_at m.cells c)) →
+    (lockups : ((c e : ℕ) (source : Source) → t.lockups c e source ≡ value_from (value_at values) source)) → (settled : IsTriSettled (logic_at x) t (value_at values)) → (shown : after.shown ≡ values) → IsStrobed (logic m) m after
 strobed m after x t values compiled n k i c ports clocks flops lockups settled shown =
     let same : t ≡ at_strobe m (value_at values) = λ s. record { ports = λ p. ports p s; clocks = λ e. clocks e s; flops = λ f. flops f s; lockups = λ a b source. lockups a b source s } in
     let P : TriSources → Type 0 = λ u. IsTriSettled (logic_at x) u (value_at values) in
@@ -113,12 +113,12 @@ after_case : (l : Logic) (p : Pulse) (view : ℕ → ℕ → Tri) (c : ℕ) (nex
 after_case l p view c next cell true e is old = is e
 after_case l p view c next cell false e is old = sym old
 
-pub pulse_done : (m after : Machine) (x : Circuit) (pulsed : List Bool) (p : Pulse) (poss next : List Tri) → IsCircuit x → logic m ≡ logic_at x → after.netlist ≡ m.netlist → after.clocks ≡ m.clocks → after.inputs ≡ m.inputs → after.shown ≡ m.shown →
-    ((k : ℕ) → p.ports k ≡ value_at m.inputs k) → ((e : ℕ) → p.pulsed e ≡ pulses m.clocks pulsed e) → ((c : ℕ) → p.old c ≡ value_at m.cells c) →
+pub pulse_done : (m after : Machine) (x : Circuit) (pulsed : List Bool) (p : Pulse) (poss next : List Tri) → (is : IsCircuit x) → (compiled : logic m ≡ logic_at x) → after.netlist ≡ m.netlist → after.clocks ≡ m.clocks → after.inputs ≡ m.inputs → after.shown ≡ m.shown →
+    (ports : ((k : ℕ) → p.ports k ≡ value_at m.inputs k)) → (ups : ((e : ℕ) → p.pulsed e ≡ pulses m.clocks pulsed e)) → (old : ((c : ℕ) → p.old c ≡ value_at m.cells c)) →
     length m.cells ≡ length x.flops.items → length after.cells ≡ length m.cells → length next ≡ length x.flops.items →
-    ((view : ℕ → ℕ → Tri) → AreViews (logic_at x) p (value_at poss) view → IsLeast (logic_at x) p (value_at poss) view) →
-    ((view : ℕ → ℕ → Tri) → AreViews (logic_at x) p (value_at poss) view → AreNext (logic_at x) p view poss next) →
-    ((c : ℕ) → c < length x.flops.items → value_at after.cells c ≡ (if p.pulsed ((logic_at x).cell c).domain then value_at next c else value_at m.cells c)) → IsPulsed (logic m) m pulsed after
+    (least : ((view : ℕ → ℕ → Tri) → AreViews (logic_at x) p (value_at poss) view → IsLeast (logic_at x) p (value_at poss) view)) →
+    (nexts : ((view : ℕ → ℕ → Tri) → AreViews (logic_at x) p (value_at poss) view → AreNext (logic_at x) p view poss next)) →
+    (each : ((c : ℕ) → c < length x.flops.items → value_at after.cells c ≡ (if p.pulsed ((logic_at x).cell c).domain then value_at next c else value_at m.cells c))) → IsPulsed (logic m) m pulsed after
 pulse_done m after x pulsed p poss next is compiled n k i s ports ups old a b d least nexts each =
     let found = views_exist (logic_at x) (rank_of x) p (value_at poss) (circuit_ranked x is) in
     let same : p ≡ pulse_from m pulsed = λ t. record { ports = λ q. ports q t; pulsed = λ e. ups e t; old = λ c. old c t } in
@@ -309,9 +309,9 @@ after_past x p view c out old =
       go true = refl
       go false = old
 
-pub pulse_passed : (m after : Machine) (x : Circuit) (pulsed : List Bool) (p : Pulse) (new : List Tri) → logic m ≡ logic_at x → after.netlist ≡ m.netlist → after.clocks ≡ m.clocks → after.inputs ≡ m.inputs → after.shown ≡ m.shown →
-    after.cells ≡ new → ((k : ℕ) → p.ports k ≡ value_at m.inputs k) → ((e : ℕ) → p.pulsed e ≡ pulses m.clocks pulsed e) → ((c : ℕ) → p.old c ≡ value_at m.cells c) →
-    length m.cells ≡ length x.flops.items → length new ≡ length m.cells → IsPassed x p new → IsPulsed (logic m) m pulsed after
+pub pulse_passed : (m after : Machine) (x : Circuit) (pulsed : List Bool) (p : Pulse) (new : List Tri) → (compiled : logic m ≡ logic_at x) → after.netlist ≡ m.netlist → after.clocks ≡ m.clocks → after.inputs ≡ m.inputs → after.shown ≡ m.shown →
+    (cells : after.cells ≡ new) → (ports : ((k : ℕ) → p.ports k ≡ value_at m.inputs k)) → (ups : ((e : ℕ) → p.pulsed e ≡ pulses m.clocks pulsed e)) → (old : ((c : ℕ) → p.old c ≡ value_at m.cells c)) →
+    length m.cells ≡ length x.flops.items → length new ≡ length m.cells → (passed : IsPassed x p new) → IsPulsed (logic m) m pulsed after
 pulse_passed m after x pulsed p new compiled n k i s cells ports ups old a b passed =
     let same : p ≡ pulse_from m pulsed = λ t. record { ports = λ q. ports q t; pulsed = λ e. ups e t; old = λ c. old c t } in
     let P : Pulse → Type 0 = λ q. IsLeast (logic_at x) q passed.poss passed.view in

@@ -38,10 +38,10 @@ pub next_start : (x : Circuit) (p : Pulse) (view : ℕ → ℕ → Tri) (clocks 
 next_start x p view clocks next c live up among = (let less = among.before in absurd (omega arith))
 
 -- one pulsed domain more
-pub next_more : (x : Circuit) (p : Pulse) (poss : ℕ → Tri) (view : ℕ → ℕ → Tri) (clocks : List NetId) (held next new values : List Tri) (j d : ℕ) (t : TriSources) → IsCircuit x → AreViews (logic_at x) p poss view →
-    IsHeldView x p poss view d held t → IsTriSettled (logic_at x) t (value_at values) → IsHeld x view held (length x.ops.items) →
-    ((c : ℕ) → c < length x.flops.items → value_at new c ≡ next_by ((logic_at x).cell c) d p.ports (value_at values) (value_at next c)) →
-    (get_or clocks j (record { 0 = 0 })).0 ≡ d → HasNext x p view clocks j next → HasNext x p view clocks (j + 1) new
+pub next_more : (x : Circuit) (p : Pulse) (poss : ℕ → Tri) (view : ℕ → ℕ → Tri) (clocks : List NetId) (held next new values : List Tri) (j d : ℕ) (t : TriSources) → (is : IsCircuit x) → (views : AreViews (logic_at x) p poss view) →
+    (same : IsHeldView x p poss view d held t) → (settled : IsTriSettled (logic_at x) t (value_at values)) → (right : IsHeld x view held (length x.ops.items)) →
+    (each : ((c : ℕ) → c < length x.flops.items → value_at new c ≡ next_by ((logic_at x).cell c) d p.ports (value_at values) (value_at next c))) →
+    (here : (get_or clocks j (record { 0 = 0 })).0 ≡ d) → (before : HasNext x p view clocks j next) → HasNext x p view clocks (j + 1) new
 next_more x p poss view clocks held next new values j d t is views same settled right each here before c live up among =
     let cell : Cell = (logic_at x).cell c in
     elim (eqb_tells cell.domain d) [

@@ -96,11 +96,11 @@ by_takings cells q v table count takings old new are same loose put c live =
       ]
     ]
 
-pub passed : (x : Circuit) (clocks : List NetId) (pins : Pins) (plan : Plan) (q : Pulse) (values old new : List Tri) → IsCircuit x → IsPins x pins → IsMade x clocks pins plan →
-    ((e : ℕ) → q.pulsed e ≡ true → Among clocks (length clocks) e) → ((k : ℕ) → length x.ops.items ≤ k → q.ports k ≡ Unknown) → ((c : ℕ) → q.old c ≡ value_at old c) → LooseAreUnknown x (value_at old) → length values ≡ length x.ops.items →
-    plan.pulsed.items ≡ flags_of q.pulsed clocks → plan.ports.items ≡ row_of q.ports pins.ports.items → plan.enables.items ≡ row_of (value_at values) pins.enables.items →
-    ((k : ℕ) → Has (numbers_of (take plan.count plan.list.items)) k → value_at values k ≡ value_given (strobe_from q.ports q.old (value_at values)) (value_at values) k (meaning (op_at x.ops.items k))) →
-    ArePut plan.takings.items (length plan.takings.items) (taken_by (cell_at (map cell_of x.flops.items)) q (value_at values)) old new → IsPassed x q new
+pub passed : (x : Circuit) (clocks : List NetId) (pins : Pins) (plan : Plan) (q : Pulse) (values old new : List Tri) → (is : IsCircuit x) → (pinned : IsPins x pins) → IsMade x clocks pins plan →
+    (among : ((e : ℕ) → q.pulsed e ≡ true → Among clocks (length clocks) e)) → (past : ((k : ℕ) → length x.ops.items ≤ k → q.ports k ≡ Unknown)) → (olds : ((c : ℕ) → q.old c ≡ value_at old c)) → (loose : LooseAreUnknown x (value_at old)) → (len : length values ≡ length x.ops.items) →
+    (ups : plan.pulsed.items ≡ flags_of q.pulsed clocks) → (ports : plan.ports.items ≡ row_of q.ports pins.ports.items) → (enables : plan.enables.items ≡ row_of (value_at values) pins.enables.items) →
+    (settled : ((k : ℕ) → Has (numbers_of (take plan.count plan.list.items)) k → value_at values k ≡ value_given (strobe_from q.ports q.old (value_at values)) (value_at values) k (meaning (op_at x.ops.items k)))) →
+    (put : ArePut plan.takings.items (length plan.takings.items) (taken_by (cell_at (map cell_of x.flops.items)) q (value_at values)) old new) → IsPassed x q new
 unfolding logic_at
 passed x clocks pins plan q values old new is pinned m among past olds loose len ups ports enables settled put =
     let v : ℕ → Tri = value_at values in
@@ -125,9 +125,9 @@ passed x clocks pins plan q values old new is pinned m among past olds loose len
 -- ---- a plan is made
 
 pub plan_made : (x : Circuit) (clocks : List NetId) (pins : Pins) (p : Pulse) (values : List Tri) (origin : ℕ → Option ℕ) (shown : ℕ → Shown) (table : ℕ → Entry) (old mid new : Plan) →
-    IsPlan x clocks pins old → IsFilled x table old mid → IsNoted clocks pins p (value_at values) Made mid new → length values ≡ length x.ops.items → ((k : ℕ) → length x.ops.items ≤ k → p.ports k ≡ Unknown) →
-    ((e : ℕ) → p.pulsed e ≡ true → Among clocks (length clocks) e) → AreOrigins (logic_at x) origin → IsShownOn (logic_at x) p.pulsed (λ net. true) shown →
-    ((c : ℕ) → c < length x.flops.items → entry_for (cell_at (map cell_of x.flops.items) c) p origin shown (value_at values) ≡ Some (table c)) → IsPlan x clocks pins new
+    (was : IsPlan x clocks pins old) → IsFilled x table old mid → IsNoted clocks pins p (value_at values) Made mid new → (size : length values ≡ length x.ops.items) → (past : ((k : ℕ) → length x.ops.items ≤ k → p.ports k ≡ Unknown)) →
+    (among : ((e : ℕ) → p.pulsed e ≡ true → Among clocks (length clocks) e)) → (origins : AreOrigins (logic_at x) origin) → (shows : IsShownOn (logic_at x) p.pulsed (λ net. true) shown) →
+    (entries : ((c : ℕ) → c < length x.flops.items → entry_for (cell_at (map cell_of x.flops.items) c) p origin shown (value_at values) ≡ Some (table c))) → IsPlan x clocks pins new
 plan_made x clocks pins p values origin shown table old mid new was f n size past among origins shows entries =
     let lists : length new.list.items ≡ length mid.list.items = ap (λ (v : Vec NetId). length v.items) n.list in
     let taken : vec_capacity new.takings ≡ vec_capacity mid.takings = ap (λ (v : Vec Taking). vec_capacity v) n.takings in

@@ -27,8 +27,8 @@ pub record IsHeldView (x : Circuit) (p : Pulse) (poss : ℕ → Tri) (view : ℕ
   pub lockups : (c e : ℕ) (source : Source) → t.lockups c e source ≡ value_at held c
 
 -- nets of lower ranks have the view's values
-pub agree : (x : Circuit) (p : Pulse) (poss : ℕ → Tri) (view : ℕ → ℕ → Tri) (d : ℕ) (held : List Tri) (t : TriSources) (values : ℕ → Tri) (r : ℕ) → IsCircuit x → AreViews (logic_at x) p poss view →
-    IsHeldView x p poss view d held t → IsTriSettled (logic_at x) t values → IsHeld x view held r → (fuel k : ℕ) → rank_of x k < fuel → rank_of x k < r → values k ≡ view d k
+pub agree : (x : Circuit) (p : Pulse) (poss : ℕ → Tri) (view : ℕ → ℕ → Tri) (d : ℕ) (held : List Tri) (t : TriSources) (values : ℕ → Tri) (r : ℕ) → (is : IsCircuit x) → (views : AreViews (logic_at x) p poss view) →
+    (same : IsHeldView x p poss view d held t) → (settled : IsTriSettled (logic_at x) t values) → (right : IsHeld x view held r) → (fuel k : ℕ) → (less : rank_of x k < fuel) → (low : rank_of x k < r) → values k ≡ view d k
 agree x p poss view d held t values r is views same settled right zero k less low = absurd (omega arith)
 agree x p poss view d held t values r is views same settled right (suc fuel) k less low =
     settled k
@@ -86,10 +86,10 @@ pub record Rises (x : Circuit) (p : Pulse) (poss : ℕ → Tri) (clocks : List N
 pub rises_start : (x : Circuit) (p : Pulse) (poss : ℕ → Tri) (clocks : List NetId) (start : List Tri) → Rises x p poss clocks start start 0
 rises_start x p poss clocks start = record { at = λ view r views right. (right, λ net c e source here low among. (let less = among.before in absurd (omega arith))) }
 
-pub rises_more : (x : Circuit) (p : Pulse) (poss : ℕ → Tri) (clocks : List NetId) (start held new values : List Tri) (j d : ℕ) (t : TriSources) → IsCircuit x →
-    ((view : ℕ → ℕ → Tri) → IsHeldView x p poss view d held t) → IsTriSettled (logic_at x) t (value_at values) →
-    ((c : ℕ) → c < length x.latches.items → value_at new c ≡ held_by (latch_at x.latches.items c) d (value_at values) (value_at held c)) →
-    (get_or clocks j (record { 0 = 0 })).0 ≡ d → Rises x p poss clocks start held j → Rises x p poss clocks start new (j + 1)
+pub rises_more : (x : Circuit) (p : Pulse) (poss : ℕ → Tri) (clocks : List NetId) (start held new values : List Tri) (j d : ℕ) (t : TriSources) → (is : IsCircuit x) →
+    (same : ((view : ℕ → ℕ → Tri) → IsHeldView x p poss view d held t)) → (settled : IsTriSettled (logic_at x) t (value_at values)) →
+    (each : ((c : ℕ) → c < length x.latches.items → value_at new c ≡ held_by (latch_at x.latches.items c) d (value_at values) (value_at held c))) →
+    (here : (get_or clocks j (record { 0 = 0 })).0 ≡ d) → Rises x p poss clocks start held j → Rises x p poss clocks start new (j + 1)
 unfolding logic_at
 rises_more x p poss clocks start held new values j d t is same settled each here s = record {
   at = λ view r views right.

@@ -102,9 +102,9 @@ pub swept_live : (ops : List Op) (base : TriSources) (held : Option (List Tri)) 
     Sweeping ops base held order values marked j → net.0 < length ops
 swept_live ops base held order values marked j net d less is s = (let P : List NetId → Type 0 = λ l. AreOrdered ops s.before (numbers_of l) in (subst P (front ops base held order values marked j net d less is s) s.rest).1)
 
-pub sweeping_more : (ops : List Op) (base : TriSources) (held : Option (List Tri)) (order : List NetId) (values new : List Tri) (marked now : List Bool) (j : ℕ) (net d : NetId) → j < length order → net ≡ get_or order j d →
-    Sweeping ops base held order values marked j → ((k : ℕ) → flag_at now k ≡ false → IsGiven ops base held new k) →
-    ((k : ℕ) → flag_at now k ≡ true → ((flag_at marked k ≡ true) × (k ≡ net.0 → ⊥)) ⊎ Has (reads (meaning (op_at ops k))) net.0) → Sweeping ops base held order new now (j + 1)
+pub sweeping_more : (ops : List Op) (base : TriSources) (held : Option (List Tri)) (order : List NetId) (values new : List Tri) (marked now : List Bool) (j : ℕ) (net d : NetId) → (less : j < length order) → (is : net ≡ get_or order j d) →
+    Sweeping ops base held order values marked j → (given : ((k : ℕ) → flag_at now k ≡ false → IsGiven ops base held new k)) →
+    (raised : ((k : ℕ) → flag_at now k ≡ true → ((flag_at marked k ≡ true) × (k ≡ net.0 → ⊥)) ⊎ Has (reads (meaning (op_at ops k))) net.0)) → Sweeping ops base held order new now (j + 1)
 sweeping_more ops base held order values new marked now j net d less is s given raised =
     let e = front ops base held order values marked j net d less is s in
     let P : List NetId → Type 0 = λ l. AreOrdered ops s.before (numbers_of l) in
@@ -150,10 +150,10 @@ pub record Refreshing (ops : List Op) (base : TriSources) (held : Option (List T
       Has (drop j nets) k ⊎ (Has others k ⊎ IsGiven ops base held values k)
   pub none : any ≡ false → (k : ℕ) → flag_at first k ≡ false → flag_at marked k ≡ false
 
-pub refreshed_more : (ops : List Op) (base : TriSources) (held : Option (List Tri)) (nets : List ℕ) (start values new : List Tri) (first marked now : List Bool) (any : Bool) (j net d : ℕ) → j < length nets → net ≡ get_or nets j d →
-    Refreshing ops base held nets start values first marked any j → ((k : ℕ) → flag_at now k ≡ false → (k ≡ net) ⊎ IsGiven ops base held values k → IsGiven ops base held new k) →
-    ((k : ℕ) → flag_at now k ≡ false → flag_at marked k ≡ false) → (others : List ℕ) →
-    ((k : ℕ) → flag_at first k ≡ false → Has nets k ⊎ (Has others k ⊎ IsGiven ops base held start k)) → (k : ℕ) → flag_at now k ≡ false → Has (drop (j + 1) nets) k ⊎ (Has others k ⊎ IsGiven ops base held new k)
+pub refreshed_more : (ops : List Op) (base : TriSources) (held : Option (List Tri)) (nets : List ℕ) (start values new : List Tri) (first marked now : List Bool) (any : Bool) (j net d : ℕ) → (less : j < length nets) → (is : net ≡ get_or nets j d) →
+    Refreshing ops base held nets start values first marked any j → (given : ((k : ℕ) → flag_at now k ≡ false → (k ≡ net) ⊎ IsGiven ops base held values k → IsGiven ops base held new k)) →
+    (lowered : ((k : ℕ) → flag_at now k ≡ false → flag_at marked k ≡ false)) → (others : List ℕ) →
+    (near : ((k : ℕ) → flag_at first k ≡ false → Has nets k ⊎ (Has others k ⊎ IsGiven ops base held start k))) → (k : ℕ) → (down : flag_at now k ≡ false) → Has (drop (j + 1) nets) k ⊎ (Has others k ⊎ IsGiven ops base held new k)
 refreshed_more ops base held nets start values new first marked now any j net d less is s given lowered others near k down =
     elim (s.given others near k (lowered k down)) [
       | inl left ↦ elim (has_front nets j d k less left) [ inl e ↦ inr (inr (given k down (inl (e ∙ sym is)))) | inr rest ↦ inl rest ]
@@ -168,9 +168,9 @@ blind x net k readers is live e none h = elim (leb_tells (length x.ops.items) k)
 ]
 
 -- two lists, one after the other
-pub both_refreshed : (first mid last : List Bool) (a b la lb : List ℕ) (P Q R : ℕ → Type 0) → a ≡ la → b ≡ lb → ((k : ℕ) → Has la k ⊎ (Has lb k ⊎ P k)) →
-    ((others : List ℕ) → ((k : ℕ) → flag_at first k ≡ false → Has a k ⊎ (Has others k ⊎ P k)) → (k : ℕ) → flag_at mid k ≡ false → Has others k ⊎ Q k) →
-    ((others : List ℕ) → ((k : ℕ) → flag_at mid k ≡ false → Has b k ⊎ (Has others k ⊎ Q k)) → (k : ℕ) → flag_at last k ≡ false → Has others k ⊎ R k) → (k : ℕ) → flag_at last k ≡ false → R k
+pub both_refreshed : (first mid last : List Bool) (a b la lb : List ℕ) (P Q R : ℕ → Type 0) → (ea : a ≡ la) → (eb : b ≡ lb) → (near : ((k : ℕ) → Has la k ⊎ (Has lb k ⊎ P k))) →
+    (one : ((others : List ℕ) → ((k : ℕ) → flag_at first k ≡ false → Has a k ⊎ (Has others k ⊎ P k)) → (k : ℕ) → flag_at mid k ≡ false → Has others k ⊎ Q k)) →
+    (two : ((others : List ℕ) → ((k : ℕ) → flag_at mid k ≡ false → Has b k ⊎ (Has others k ⊎ Q k)) → (k : ℕ) → flag_at last k ≡ false → Has others k ⊎ R k)) → (k : ℕ) → (down : flag_at last k ≡ false) → R k
 both_refreshed first mid last a b la lb P Q R ea eb near one two k down =
     let start : (m : ℕ) → flag_at first m ≡ false → Has a m ⊎ (Has b m ⊎ P m) = λ m f.
     (let H : List ℕ → Type 0 = λ l. Has l m in elim (near m) [ inl h ↦ inl (subst H (sym ea) h) | inr rest ↦ elim rest [ inl h ↦ inr (inl (subst H (sym eb) h)) | inr is ↦ inr (inr is) ] ]) in

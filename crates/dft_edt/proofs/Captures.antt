@@ -58,8 +58,8 @@ given_over rank p s t a b net here over ih Free inside below shown no_lockup = t
 same_over : (t u v w : Tri) → t ≡ u → v ≡ w → AboveTri u w → AboveTri t v
 same_over t u v w e f h = rw (e, f) h
 
-values_by : (original written : Logic) (rank : ℕ → ℕ) (p : Places) (s t : TriSources) (a b : ℕ → Tri) → IsRanked original rank → Covers original written p → SourcesOver p s t → IsTriSettled original s a → IsTriSettled written t b →
-    (fuel net : ℕ) → rank net < fuel → net < p.size → AboveTri (a net) (b (p.moved net))
+values_by : (original written : Logic) (rank : ℕ → ℕ) (p : Places) (s t : TriSources) (a b : ℕ → Tri) → (ranked : IsRanked original rank) → (has : Covers original written p) → (over : SourcesOver p s t) → (settled : IsTriSettled original s a) → (its_settled : IsTriSettled written t b) →
+    (fuel net : ℕ) → (less : rank net < fuel) → (inside : net < p.size) → AboveTri (a net) (b (p.moved net))
 values_by original written rank p s t a b ranked has over settled its_settled zero net less inside = absurd (omega arith)
 values_by original written rank p s t a b ranked has over settled its_settled (suc fuel) net less inside =
     elim (has.nets net inside) [
@@ -122,8 +122,8 @@ within_source p a b over (Tied bit) inside = above_self (known bit)
 within_source p a b over (Loose i pin) inside = tt
 
 captured : (original written : Logic) (rank : ℕ → ℕ) (p : Places) (d : ℕ) (y x : Vector) (its old poss : ℕ → Tri) (view : ℕ → ℕ → Tri) (values : ℕ → Tri) →
-    IsRanked original rank → Covers original written p → IsCapture p d x → StandsOver p y x its old → IsTriSettled original (strobe_sources original y its values) values → AreViews written (pulse_of written x old) poss view →
-    (cell : ℕ) → p.is_flop cell ≡ true → (original.cell cell).domain ≡ d → AboveTri (next_from original y values cell) (after_pulse written (pulse_of written x old) view cell)
+    (ranked : IsRanked original rank) → (has : Covers original written p) → (capture : IsCapture p d x) → (over : StandsOver p y x its old) → (settled : IsTriSettled original (strobe_sources original y its values) values) → (views : AreViews written (pulse_of written x old) poss view) →
+    (cell : ℕ) → (is : p.is_flop cell ≡ true) → (own : (original.cell cell).domain ≡ d) → AboveTri (next_from original y values cell) (after_pulse written (pulse_of written x old) view cell)
 captured original written rank p d y x its old poss view values ranked has capture over settled views cell is own =
     let q : Pulse = pulse_of written x old in
     let e : ℕ = p.moved d in

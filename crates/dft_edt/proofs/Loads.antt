@@ -106,8 +106,8 @@ place_before None place next is = absurd (none-some next is)
 place_before (Some cells) place next is = get_before cells place next is
 
 loaded_cells : (l : Logic) (ports : Ports) (config : Config) (chains : List (List InstanceId)) (w : ChainNets) (hw : EdtNets) (table : Table) (t : ℕ) (x : Vector) (old : ℕ → Tri) (p : Pass) →
-    HasRing l ports config chains w hw → IsInRange config → IsEdtShift ports w hw x → Passes l x old p → Loaded config chains hw table t old →
-    (chain place u : ℕ) (cell : InstanceId) → cell_at chains chain place ≡ Some cell → suc (place + u) ≡ suc t → p.new cell.0 ≡ known (phase_sum config.ring chain (state_after config.ring table u))
+    (has : HasRing l ports config chains w hw) → (range : IsInRange config) → (shift : IsEdtShift ports w hw x) → (passes : Passes l x old p) → (loaded : Loaded config chains hw table t old) →
+    (chain place u : ℕ) (cell : InstanceId) → (stands : cell_at chains chain place ≡ Some cell) → (is : suc (place + u) ≡ suc t) → p.new cell.0 ≡ known (phase_sum config.ring chain (state_after config.ring table u))
 loaded_cells l ports config chains w hw table t x old p has range shift passes loaded chain zero u cell stands is =
     passes.after cell.0 (phase_sum config.ring chain (state_after config.ring table t))
     (λ poss view views. (shift_law l ports config chains w hw x old poss view has range shift views).firsts chain cell stands
@@ -120,7 +120,7 @@ loaded_cells l ports config chains w hw table t x old p has range shift passes l
     ∙ loaded.cells chain place u other.0 other.1 (omega (arith, is)))
 
 pub loaded_step : (l : Logic) (ports : Ports) (config : Config) (chains : List (List InstanceId)) (w : ChainNets) (hw : EdtNets) (table : Table) (t : ℕ) (x : Vector) (old : ℕ → Tri) (p : Pass) →
-    HasRing l ports config chains w hw → IsInRange config → IsEdtShift ports w hw x → Carries config hw (λ j. table j t) x → Passes l x old p → Loaded config chains hw table t old → Loaded config chains hw table (suc t) p.new
+    (has : HasRing l ports config chains w hw) → (range : IsInRange config) → (shift : IsEdtShift ports w hw x) → (carries : Carries config hw (λ j. table j t) x) → (passes : Passes l x old p) → (loaded : Loaded config chains hw table t old) → Loaded config chains hw table (suc t) p.new
 unfolding state_after
 loaded_step l ports config chains w hw table t x old p has range shift carries passes loaded = record {
   stages = λ i less. passes.after (hw.stage i) (step config.ring (λ j. table j t) (state_after config.ring table t) i)

@@ -107,7 +107,7 @@ clear_law l ports config chains w hw x old poss view has clearing views i less =
     (port_value l p poss view hw.clock hw.update views has.update ∙ clearing.update)
 
 stage_after : (l : Logic) (ports : Ports) (config : Config) (chains : List (List InstanceId)) (w : ChainNets) (hw : EdtNets) (x : Vector) (old poss : ℕ → Tri) (view : ℕ → ℕ → Tri) →
-    HasRing l ports config chains w hw → IsInRange config → IsEdtShift ports w hw x → AreViews l (pulse_of l x old) poss view → (i : ℕ) → i < config.ring.stages →
+    (has : HasRing l ports config chains w hw) → (range : IsInRange config) → (shift : IsEdtShift ports w hw x) → (views : AreViews l (pulse_of l x old) poss view) → (i : ℕ) → (less : i < config.ring.stages) →
     after_pulse l (pulse_of l x old) view (hw.stage i) ≡ tri_sum (map (at_feed (λ k. old (hw.stage k)) (λ j. x.ports (hw.channel j))) (feeds config.ring i))
 stage_after l ports config chains w hw x old poss view has range shift views i less =
     let h : HasStage l config.ring hw i = has.stages i less in
@@ -122,7 +122,7 @@ stage_after l ports config chains w hw x old poss view has range shift views i l
 -- ---- the first cells of chains
 
 first_after : (l : Logic) (ports : Ports) (config : Config) (chains : List (List InstanceId)) (w : ChainNets) (hw : EdtNets) (x : Vector) (old poss : ℕ → Tri) (view : ℕ → ℕ → Tri) →
-    HasRing l ports config chains w hw → IsInRange config → IsEdtShift ports w hw x → AreViews l (pulse_of l x old) poss view → (chain : ℕ) (cell : InstanceId) → cell_at chains chain zero ≡ Some cell →
+    (has : HasRing l ports config chains w hw) → (range : IsInRange config) → (shift : IsEdtShift ports w hw x) → (views : AreViews l (pulse_of l x old) poss view) → (chain : ℕ) (cell : InstanceId) → (stands : cell_at chains chain zero ≡ Some cell) →
     after_pulse l (pulse_of l x old) view cell.0 ≡ tri_sum (map (λ k. old (hw.stage k)) (phase_of config.ring chain))
 first_after l ports config chains w hw x old poss view has range shift views chain cell stands =
     let p : Pulse = pulse_of l x old in
@@ -260,8 +260,8 @@ output_law l config chains hw x old values has range settled last at j less =
 
 -- what an output shows at the strobe of a shift vector, where what the compactor takes of each chain is known
 pub shifts_shown : (l : Logic) (ports : Ports) (config : Config) (chains : List (List InstanceId)) (w : ChainNets) (hw : EdtNets) (x : Vector) (old values : ℕ → Tri) →
-    HasRing l ports config chains w hw → (has : HasCompactor l config chains hw) → IsInRange config → IsEdtShift ports w hw x → IsTriSettled l (strobe_sources l x old values) values → (j : ℕ) → j < length config.compactor.groups →
-    (taken : ℕ → Bool) → ((chain : ℕ) (less : chain < config.chains) → shown_by (old (hw.hold chain)) (old ((has.ends chain less).cell.0)) ≡ known (taken chain)) → values (hw.output j) ≡ known (sum_of taken (group_of config j))
+    (ring : HasRing l ports config chains w hw) → (has : HasCompactor l config chains hw) → (range : IsInRange config) → (shift : IsEdtShift ports w hw x) → (settled : IsTriSettled l (strobe_sources l x old values) values) → (j : ℕ) → j < length config.compactor.groups →
+    (taken : ℕ → Bool) → (is : ((chain : ℕ) (less : chain < config.chains) → shown_by (old (hw.hold chain)) (old ((has.ends chain less).cell.0)) ≡ known (taken chain))) → values (hw.output j) ≡ known (sum_of taken (group_of config j))
 shifts_shown l ports config chains w hw x old values ring has range shift settled j less taken is =
     let s : TriSources = strobe_sources l x old values in
     output_values l config chains hw s values has range settled j less

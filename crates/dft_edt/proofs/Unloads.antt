@@ -36,9 +36,9 @@ record Sent (config : Config) (hw : EdtNets) (masks : ℕ → Bool) (cycles t : 
 sent_start : (config : Config) (hw : EdtNets) (masks : ℕ → Bool) (cycles : ℕ) (values : ℕ → Tri) → Sent config hw masks cycles 0 values
 sent_start config hw masks cycles values = record { bit = λ m k u m_less k_less is. absurd (omega arith) }
 
-sent_bits : (l : Logic) (config : Config) (chains : List (List InstanceId)) (hw : EdtNets) (masks : ℕ → Bool) (cycles t : ℕ) (x : Vector) (old : ℕ → Tri) (p : Pass) → HasCompactor l config chains hw → x.pulsed hw.clock ≡ true →
-    Sends config hw (λ m. sent_mask config masks cycles m t) x → Passes l x old p → Sent config hw masks cycles t old →
-    (m k u : ℕ) → m < config.compactor.mask_inputs → k < segment_length config m → suc (k + u) ≡ suc t → p.new (hw.mask (chain_in config m k)) ≡ known (sent_mask config masks cycles m u)
+sent_bits : (l : Logic) (config : Config) (chains : List (List InstanceId)) (hw : EdtNets) (masks : ℕ → Bool) (cycles t : ℕ) (x : Vector) (old : ℕ → Tri) (p : Pass) → (has : HasCompactor l config chains hw) → (pulsed : x.pulsed hw.clock ≡ true) →
+    (sends : Sends config hw (λ m. sent_mask config masks cycles m t) x) → (passes : Passes l x old p) → (was : Sent config hw masks cycles t old) →
+    (m k u : ℕ) → (m_less : m < config.compactor.mask_inputs) → (k_less : k < segment_length config m) → (is : suc (k + u) ≡ suc t) → p.new (hw.mask (chain_in config m k)) ≡ known (sent_mask config masks cycles m u)
 sent_bits l config chains hw masks cycles t x old p has pulsed sends passes was m zero u m_less k_less is =
     passes.after (hw.mask (chain_in config m 0)) (sent_mask config masks cycles m t)
     (λ poss view views. mask_law l config chains hw x old poss view has pulsed views m zero m_less k_less ∙ sends m m_less)
@@ -121,9 +121,9 @@ unloading_start config chains hw table masks first clear masked = record {
 }
 
 moved_more : (l : Logic) (ports : Ports) (config : Config) (chains : List (List InstanceId)) (w : ChainNets) (hw : EdtNets) (first : ℕ → Tri) (t : ℕ) (x : Vector) (old : ℕ → Tri) (p : Pass) →
-    HasRing l ports config chains w hw → IsInRange config → IsEdtShift ports w hw x → Passes l x old p →
-    ((chain before place : ℕ) (other cell : InstanceId) (b : Bool) → before + t ≡ place → cell_at chains chain before ≡ Some other → cell_at chains chain place ≡ Some cell → first other.0 ≡ known b → old cell.0 ≡ known b) →
-    (chain before place : ℕ) (other cell : InstanceId) (b : Bool) → before + suc t ≡ place → cell_at chains chain before ≡ Some other → cell_at chains chain place ≡ Some cell → first other.0 ≡ known b → p.new cell.0 ≡ known b
+    (has : HasRing l ports config chains w hw) → (range : IsInRange config) → (shift : IsEdtShift ports w hw x) → (passes : Passes l x old p) →
+    (was : ((chain before place : ℕ) (other cell : InstanceId) (b : Bool) → before + t ≡ place → cell_at chains chain before ≡ Some other → cell_at chains chain place ≡ Some cell → first other.0 ≡ known b → old cell.0 ≡ known b)) →
+    (chain before place : ℕ) (other cell : InstanceId) (b : Bool) → (is : before + suc t ≡ place) → (other_stands : cell_at chains chain before ≡ Some other) → (stands : cell_at chains chain place ≡ Some cell) → (first_is : first other.0 ≡ known b) → p.new cell.0 ≡ known b
 moved_more l ports config chains w hw first t x old p has range shift passes was chain before zero other cell b is other_stands stands first_is = absurd (omega (arith, is))
 moved_more l ports config chains w hw first t x old p has range shift passes was chain before (suc place) other cell b is other_stands stands first_is =
     let between = place_before (slice_get chains chain) place cell stands in
@@ -131,8 +131,8 @@ moved_more l ports config chains w hw first t x old p has range shift passes was
     ∙ was chain before place other between.0 b (omega (arith, is)) other_stands between.1 first_is)
 
 unloading_step : (l : Logic) (ports : Ports) (config : Config) (chains : List (List InstanceId)) (w : ChainNets) (hw : EdtNets) (table : Table) (masks : ℕ → Bool) (first : ℕ → Tri) (t : ℕ) (x : Vector) (old : ℕ → Tri) (p : Pass) →
-    IsEdt l ports config chains w hw → IsInRange config → IsEdtShift ports w hw x → Carries config hw (λ j. table j t) x → Passes l x old p →
-    Unloading config chains hw table masks first t old → Unloading config chains hw table masks first (suc t) p.new
+    (has : IsEdt l ports config chains w hw) → (range : IsInRange config) → (shift : IsEdtShift ports w hw x) → (carries : Carries config hw (λ j. table j t) x) → (passes : Passes l x old p) →
+    (was : Unloading config chains hw table masks first t old) → Unloading config chains hw table masks first (suc t) p.new
 unloading_step l ports config chains w hw table masks first t x old p has range shift carries passes was = record {
   loaded = loaded_step l ports config chains w hw table t x old p has.ring range shift carries passes was.loaded;
   moved = moved_more l ports config chains w hw first t x old p has.ring range shift passes was.moved;
@@ -159,9 +159,9 @@ place_of_last (c ∷ []) zero cell here last = refl
 place_of_last (c ∷ d ∷ cells) zero cell here last = absurd (none-some d (sym last))
 place_of_last (c ∷ cells) (suc place) cell here last = ap suc (place_of_last cells place cell here last)
 
-end_at : (chains : List (List InstanceId)) (table : Table) (config : Config) (hw : EdtNets) (masks : ℕ → Bool) (first values : ℕ → Tri) (t chain place : ℕ) (cell : InstanceId) (b : Bool) (o : Option (List InstanceId)) → slice_get chains chain ≡ o →
-    cell_at chains chain place ≡ Some cell → option_and_then (λ cells. slice_get cells place) o ≡ Some cell → option_and_then (λ cells. slice_get cells (suc place)) o ≡ None →
-    Unloading config chains hw table masks first t values → end_value config.ring chains table first t chain ≡ known b → values cell.0 ≡ known b
+end_at : (chains : List (List InstanceId)) (table : Table) (config : Config) (hw : EdtNets) (masks : ℕ → Bool) (first values : ℕ → Tri) (t chain place : ℕ) (cell : InstanceId) (b : Bool) (o : Option (List InstanceId)) → (is : slice_get chains chain ≡ o) →
+    (stands : cell_at chains chain place ≡ Some cell) → (here : option_and_then (λ cells. slice_get cells place) o ≡ Some cell) → (last : option_and_then (λ cells. slice_get cells (suc place)) o ≡ None) →
+    (was : Unloading config chains hw table masks first t values) → (known_end : end_value config.ring chains table first t chain ≡ known b) → values cell.0 ≡ known b
 end_at chains table config hw masks first values t chain place cell b None is stands here last was known_end = absurd (none-some cell here)
 end_at chains table config hw masks first values t chain place cell b (Some cells) is stands here last was known_end =
     let long : length cells ≡ suc place = place_of_last cells place cell here last in

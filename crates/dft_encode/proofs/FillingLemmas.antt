@@ -67,11 +67,11 @@ in_list config d plan q last l m found patterns e r h =
     subst P e (subst Q r h)
 
 -- with one pattern more
-pub one_found : (f : Finder) (number : ℕ) (g h : Filled) (l m : Listing) (found : Found) → HasPatterns f number g l → slice_get f.merger.now.patterns number ≡ Some found.merged →
-    IsPattern f.design.now f.config.now f.chains.now f.merger.now.rows number (data_found f.config.now f.chains.now found) → FitsFound f.config.now f.chains.now found → count_by is_set found.masks ≤ 1024 →
-    m ≡ record l { vectors = m.vectors; count = l.count + 1 } →
-    ((patterns : List PatternData) → Lists l patterns → last_found l.config l.plan g.last ≡ last_of None patterns → Lists m (patterns ++ data_found l.config l.plan found ∷ [])) →
-    h.last ≡ Some found → h.masked ≡ g.masked + count_by is_set found.masks → HasPatterns f (number + 1) h m
+pub one_found : (f : Finder) (number : ℕ) (g h : Filled) (l m : Listing) (found : Found) → (has : HasPatterns f number g l) → (at : slice_get f.merger.now.patterns number ≡ Some found.merged) →
+    (is : IsPattern f.design.now f.config.now f.chains.now f.merger.now.rows number (data_found f.config.now f.chains.now found)) → (fits : FitsFound f.config.now f.chains.now found) → (small : count_by is_set found.masks ≤ 1024) →
+    (same : m ≡ record l { vectors = m.vectors; count = l.count + 1 }) →
+    (added : ((patterns : List PatternData) → Lists l patterns → last_found l.config l.plan g.last ≡ last_of None patterns → Lists m (patterns ++ data_found l.config l.plan found ∷ []))) →
+    (last : h.last ≡ Some found) → (masked : h.masked ≡ g.masked + count_by is_set found.masks) → HasPatterns f (number + 1) h m
 one_found f number g h l m found has at is fits small same added last masked =
     let merged = f.merger.now.patterns in
     let p = data_found f.config.now f.chains.now found in

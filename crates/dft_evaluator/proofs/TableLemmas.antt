@@ -33,10 +33,10 @@ narrower (x ∷ xs) place place' weight some near small =
     rw (behind x xs) (narrow place place' weight (2 ^ length xs) (one-le-pow (length xs) 2 (omega arith)) near halved)
 
 -- a choice between the two halves of a table
-pub table_chosen : (table place weight : ℕ) (wides : List Wide) (inputs rest : List Operand) (x : Operand) (w a b e : Wide) → inputs ≡ x ∷ rest
-    → IsWide a (λ p. shared (TableAt table place (2 * weight)) (inputs_at wides rest p)) → IsWide b (λ p. shared (TableAt table (place + weight) (2 * weight)) (inputs_at wides rest p))
-    → IsWide e (λ p. value_from (values_in wides p) (source_at x))
-    → ((pattern : ℕ) (v : Bool) → can w pattern v ≡ some_choice_of_three (λ x y c. if c then y else x) (can a pattern) (can b pattern) (can e pattern) v)
+pub table_chosen : (table place weight : ℕ) (wides : List Wide) (inputs rest : List Operand) (x : Operand) (w a b e : Wide) → (is : inputs ≡ x ∷ rest)
+    → (first : IsWide a (λ p. shared (TableAt table place (2 * weight)) (inputs_at wides rest p))) → (second : IsWide b (λ p. shared (TableAt table (place + weight) (2 * weight)) (inputs_at wides rest p)))
+    → (by : IsWide e (λ p. value_from (values_in wides p) (source_at x)))
+    → (made : ((pattern : ℕ) (v : Bool) → can w pattern v ≡ some_choice_of_three (λ x y c. if c then y else x) (can a pattern) (can b pattern) (can e pattern) v))
     → IsWide w (λ p. shared (TableAt table place weight) (inputs_at wides inputs p))
 table_chosen table place weight wides inputs rest x w a b e is first second by made =
     let f : ℕ → Bool → Tri = λ p c. shared (λ bs. TableAt table place weight (c ∷ bs)) (inputs_at wides rest p) in

@@ -194,9 +194,9 @@ captures_case n config patterns place here old new r count each at is more p pat
     let one : here ≡ pattern = same_Some here pattern (sym at ∙ ap (slice_get patterns) (sym (last ∙ count)) ∙ there) in
     subst (λ (x : Pattern). Captures n config x q) one (subst (λ (y : Response). Captures n config here y) same is)
 
-pub captures_more : (n : Netlist) (config : Config) (patterns : List Pattern) (place : ℕ) (here : Pattern) (old new : List Response) (r : Response) → length old ≡ place
-    → ((p : ℕ) (pattern : Pattern) (q : Response) → slice_get patterns p ≡ Some pattern → slice_get old p ≡ Some q → Captures n config pattern q) → slice_get patterns place ≡ Some here → Captures n config here r → new ≡ old ++ r ∷ []
-    → (p : ℕ) (pattern : Pattern) (q : Response) → slice_get patterns p ≡ Some pattern → slice_get new p ≡ Some q → Captures n config pattern q
+pub captures_more : (n : Netlist) (config : Config) (patterns : List Pattern) (place : ℕ) (here : Pattern) (old new : List Response) (r : Response) → (count : length old ≡ place)
+    → (each : ((p : ℕ) (pattern : Pattern) (q : Response) → slice_get patterns p ≡ Some pattern → slice_get old p ≡ Some q → Captures n config pattern q)) → (at : slice_get patterns place ≡ Some here) → (is : Captures n config here r) → (more : new ≡ old ++ r ∷ [])
+    → (p : ℕ) (pattern : Pattern) (q : Response) → (there : slice_get patterns p ≡ Some pattern) → (found : slice_get new p ≡ Some q) → Captures n config pattern q
 captures_more n config patterns place here old new r count each at is more p pattern q there found = captures_case n config patterns place here old new r count each at is more p pattern q there found (cases_lt p (length old))
 
 pub if_ok : {A : Type 0} (P : Response → Type 0) (r : Result Response AllocError) → IfOk r (λ x. A → P x) → A → IfOk r P

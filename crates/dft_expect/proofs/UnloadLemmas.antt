@@ -54,8 +54,8 @@ part_fits chains k cells at = omega (arith, before_next chains k cells at, befor
 part_length : (l s : ℕ) (all part : List Tri) → part ≡ take l (drop s all) → s + l ≤ length all → length part ≡ l
 part_length l s all part is fits = ap length is ∙ length-take-le l (drop s all) (omega (arith, length-drop s all))
 
-pub shown_cell : (ring : RingConfig) (table : Table) (chain l s t place : ℕ) (all part : List Tri) (d : Tri) (bit : Bool) → part ≡ take l (drop s all) → s + l ≤ length all → t < l → place ≡ s + l - 1 - t
-    → bit ≡ is_one (get_or all place d) → bit ≡ shown_by ring table chain part t
+pub shown_cell : (ring : RingConfig) (table : Table) (chain l s t place : ℕ) (all part : List Tri) (d : Tri) (bit : Bool) → (is : part ≡ take l (drop s all)) → (fits : s + l ≤ length all) → (less : t < l) → (at : place ≡ s + l - 1 - t)
+    → (read : bit ≡ is_one (get_or all place d)) → bit ≡ shown_by ring table chain part t
 shown_cell ring table chain l s t place all part d bit is fits less at read =
     let size = part_length l s all part is fits in
     let within : nat_lt t (length part) ≡ true = grind (arith, nat_tests, size) in
@@ -65,8 +65,8 @@ shown_cell ring table chain l s t place all part d bit is fits less at read =
     ∙ ap (λ (n : ℕ). get_or all n Unknown) from ∙ get_or_default all place Unknown d (omega arith) in
     read ∙ ap is_one (sym value) ∙ ap (λ (b : Bool). if b then is_one (from_end part t) else phase_sum ring chain (state_after ring table (t - length part))) (sym within)
 
-pub shown_later : (ring : RingConfig) (table : Table) (chain l s t cycles : ℕ) (all part : List Tri) (states : List (List Bool)) (bit : Bool) → part ≡ take l (drop s all) → s + l ≤ length all → l ≤ t → t < cycles
-    → AreStates ring table cycles states → bit ≡ phase_sum ring chain (bit_at (state_at states (t - l))) → bit ≡ shown_by ring table chain part t
+pub shown_later : (ring : RingConfig) (table : Table) (chain l s t cycles : ℕ) (all part : List Tri) (states : List (List Bool)) (bit : Bool) → (is : part ≡ take l (drop s all)) → (fits : s + l ≤ length all) → (past : l ≤ t) → (less : t < cycles)
+    → (are : AreStates ring table cycles states) → (read : bit ≡ phase_sum ring chain (bit_at (state_at states (t - l)))) → bit ≡ shown_by ring table chain part t
 shown_later ring table chain l s t cycles all part states bit is fits past less are read =
     let size = part_length l s all part is fits in
     let over : nat_lt t (length part) ≡ false = grind (arith, nat_tests, size) in

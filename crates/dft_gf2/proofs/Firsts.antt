@@ -55,8 +55,8 @@ sums_packed n m last words others new ys within left right ys_is end size sums =
   clear = λ k past. sums k ∙ (λ t. xor (left.clear k past t) ((sym (at m others ys right ys_is k) ∙ end k (omega arith)) t));
 }
 
-pub sums_at : (n m last : ℕ) (words others new : List ℕ) (xs ys : List Bool) → last < n → IsPacked n words → IsPacked m others → bits_of n words ≡ xs → bits_of m others ≡ ys → EndsAt ys last → length new ≡ length words
-    → ((k : ℕ) → packed_bit new k ≡ xor (packed_bit words k) (packed_bit others k)) → (k : ℕ) → bit_at (bits_of n new) k ≡ xor (bit_at xs k) (bit_at ys k)
+pub sums_at : (n m last : ℕ) (words others new : List ℕ) (xs ys : List Bool) → (within : last < n) → (left : IsPacked n words) → (right : IsPacked m others) → (xs_is : bits_of n words ≡ xs) → (ys_is : bits_of m others ≡ ys) → (end : EndsAt ys last) → (size : length new ≡ length words)
+    → (sums : ((k : ℕ) → packed_bit new k ≡ xor (packed_bit words k) (packed_bit others k))) → (k : ℕ) → bit_at (bits_of n new) k ≡ xor (bit_at xs k) (bit_at ys k)
 sums_at n m last words others new xs ys within left right xs_is ys_is end size sums k =
     bits-at new n k (sums_packed n m last words others new ys within left right ys_is end size sums).clear ∙ sums k
     ∙ (λ t. xor (sym (at n words xs left xs_is k) t) (sym (at m others ys right ys_is k) t))

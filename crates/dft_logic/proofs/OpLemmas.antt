@@ -275,8 +275,8 @@ fits_in n ports i inverted instance sound well at =
 
 -- ---- the op of a net that is joined to an output pin
 
-pub op_of_pin : (n : Netlist) (ports : Ports) (net i : ℕ) (inverted : Bool) (k : Kind) (ws : List Wired) (o : Op) (instance : Instance) → IsNetlist n → IsWellFormed n.library → slice_get n.instances i ≡ Some instance →
-    driver n net ≡ driver_of_kind (kind_at n i) i inverted (inputs_of i (pins_of n i)) → k ≡ kind_at n i → ws ≡ map (wired_by i) (pins_of n i) → meaning o ≡ meaning_in n ports i k inverted ws → IsOpOf n ports net o
+pub op_of_pin : (n : Netlist) (ports : Ports) (net i : ℕ) (inverted : Bool) (k : Kind) (ws : List Wired) (o : Op) (instance : Instance) → (sound : IsNetlist n) → (well : IsWellFormed n.library) → (at : slice_get n.instances i ≡ Some instance) →
+    (driven : driver n net ≡ driver_of_kind (kind_at n i) i inverted (inputs_of i (pins_of n i))) → (ke : k ≡ kind_at n i) → (we : ws ≡ map (wired_by i) (pins_of n i)) → (means : meaning o ≡ meaning_in n ports i k inverted ws) → IsOpOf n ports net o
 op_of_pin n ports net i inverted k ws o instance sound well at driven ke we means =
     let K : Kind → Type 0 = λ j. meaning o ≡ meaning_in n ports i j inverted ws in
     let W : List Wired → Type 0 = λ l. meaning o ≡ meaning_in n ports i (kind_at n i) inverted l in

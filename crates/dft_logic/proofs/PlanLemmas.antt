@@ -156,11 +156,11 @@ past_computes true is = absurd cc
 past_computes false is = absurd cc
 
 -- What the parts give comes to the pulse at a least map.
-pub planned : (x : Circuit) (p : Pulse) (origin : ℕ → Option ℕ) (shown : ℕ → Shown) (table : ℕ → Entry) (marked : List Bool) (values next : List Tri) → IsCircuit x → length values ≡ length x.ops.items →
-    AreOrigins (logic_at x) origin → IsShownOn (logic_at x) p.pulsed (λ net. true) shown → IsStrobeClosed (logic_at x) (flag_at marked) → IsStrobeOn (logic_at x) p.ports p.old (flag_at marked) (value_at values) →
-    ((c : ℕ) → c < length x.flops.items → entry_for (cell_at (map cell_of x.flops.items) c) p origin shown (value_at values) ≡ Some (table c)) →
-    ((c : ℕ) → c < length x.flops.items → (k : ℕ) → k < length x.ops.items → Has (entry_needs (cell_at (map cell_of x.flops.items) c) (table c)) k → flag_at marked k ≡ true) →
-    ((c : ℕ) → c < length x.flops.items → value_at next c ≡ entry_value p.old (value_at values) (next_at (cell_at (map cell_of x.flops.items) c) p.ports (value_at values)) c (table c)) →
+pub planned : (x : Circuit) (p : Pulse) (origin : ℕ → Option ℕ) (shown : ℕ → Shown) (table : ℕ → Entry) (marked : List Bool) (values next : List Tri) → (is : IsCircuit x) → (len : length values ≡ length x.ops.items) →
+    (origins : AreOrigins (logic_at x) origin) → (on : IsShownOn (logic_at x) p.pulsed (λ net. true) shown) → (closed : IsStrobeClosed (logic_at x) (flag_at marked)) → (settled : IsStrobeOn (logic_at x) p.ports p.old (flag_at marked) (value_at values)) →
+    (has : ((c : ℕ) → c < length x.flops.items → entry_for (cell_at (map cell_of x.flops.items) c) p origin shown (value_at values) ≡ Some (table c))) →
+    (marks : ((c : ℕ) → c < length x.flops.items → (k : ℕ) → k < length x.ops.items → Has (entry_needs (cell_at (map cell_of x.flops.items) c) (table c)) k → flag_at marked k ≡ true)) →
+    (takes : ((c : ℕ) → c < length x.flops.items → value_at next c ≡ entry_value p.old (value_at values) (next_at (cell_at (map cell_of x.flops.items) c) p.ports (value_at values)) c (table c))) →
     (poss : ℕ → Tri) × ((view : ℕ → ℕ → Tri) × (IsLeast (logic_at x) p poss view × ((c : ℕ) → c < length x.flops.items → value_at next c ≡ after_pulse (logic_at x) p view c)))
 unfolding logic_at
 planned x p origin shown table marked values next is len origins on closed settled has marks takes =

@@ -60,12 +60,12 @@ all_agree : (rank : ℕ → ℕ) (r : ℕ) (needs : ℕ → Bool) (v w : ℕ →
 all_agree rank r needs v w [] below all same = tt
 all_agree rank r needs v w (net ∷ nets) below all same = (same net below.0 all.0, all_agree rank r needs v w nets below.1 all.1 same)
 
-needed_within : (l : Logic) (rank : ℕ → ℕ) (t s : ℕ → TriSources) (needs : ℕ → ℕ → Bool) (v w : ℕ → ℕ → Tri) → IsRanked l rank → IsReadClosed l needs →
-    ((d net : ℕ) → needs d net ≡ true → v d net ≡ value_given (t d) (v d) net (l.net net)) → ((d net : ℕ) → needs d net ≡ true → w d net ≡ value_given (s d) (w d) net (l.net net)) →
-    ((d k : ℕ) → (t d).ports k ≡ (s d).ports k) → ((d net : ℕ) → needs d net ≡ true → l.net net ≡ Clock → (t d).clocks net ≡ (s d).clocks net) →
-    ((d net : ℕ) → needs d net ≡ true → (c : ℕ) (inverted : Bool) → l.net net ≡ Flop c inverted → (t d).flops c ≡ (s d).flops c) →
-    ((d c e : ℕ) (source : Source) → value_from (v e) source ≡ value_from (w e) source → (t d).lockups c e source ≡ (s d).lockups c e source) →
-    (fuel d net : ℕ) → rank net < fuel → needs d net ≡ true → v d net ≡ w d net
+needed_within : (l : Logic) (rank : ℕ → ℕ) (t s : ℕ → TriSources) (needs : ℕ → ℕ → Bool) (v w : ℕ → ℕ → Tri) → (ranked : IsRanked l rank) → (closed : IsReadClosed l needs) →
+    (tv : ((d net : ℕ) → needs d net ≡ true → v d net ≡ value_given (t d) (v d) net (l.net net))) → (sw : ((d net : ℕ) → needs d net ≡ true → w d net ≡ value_given (s d) (w d) net (l.net net))) →
+    (ports : ((d k : ℕ) → (t d).ports k ≡ (s d).ports k)) → (clocks : ((d net : ℕ) → needs d net ≡ true → l.net net ≡ Clock → (t d).clocks net ≡ (s d).clocks net)) →
+    (flops : ((d net : ℕ) → needs d net ≡ true → (c : ℕ) (inverted : Bool) → l.net net ≡ Flop c inverted → (t d).flops c ≡ (s d).flops c)) →
+    (lockups : ((d c e : ℕ) (source : Source) → value_from (v e) source ≡ value_from (w e) source → (t d).lockups c e source ≡ (s d).lockups c e source)) →
+    (fuel d net : ℕ) → (less : rank net < fuel) → (need : needs d net ≡ true) → v d net ≡ w d net
 needed_within l rank t s needs v w ranked closed tv sw ports clocks flops lockups zero d net less need = absurd (omega arith)
 needed_within l rank t s needs v w ranked closed tv sw ports clocks flops lockups (suc fuel) d net less need =
     let e : ℕ = read_in d (l.net net) in
@@ -74,12 +74,12 @@ needed_within l rank t s needs v w ranked closed tv sw ports clocks flops lockup
     tv d net need ∙ given_agrees (t d) (s d) v w d net (l.net net) (ports d) (clocks d net need) (flops d net need) (lockups d) same ∙ sym (sw d net need)
 
 -- two families of assignments, each settled on a closed set from sources that agree for its nets, agree on it
-pub needed_agrees : (l : Logic) (rank : ℕ → ℕ) (t s : ℕ → TriSources) (needs : ℕ → ℕ → Bool) (v w : ℕ → ℕ → Tri) → IsRanked l rank → IsReadClosed l needs →
-    ((d net : ℕ) → needs d net ≡ true → v d net ≡ value_given (t d) (v d) net (l.net net)) → ((d net : ℕ) → needs d net ≡ true → w d net ≡ value_given (s d) (w d) net (l.net net)) →
-    ((d k : ℕ) → (t d).ports k ≡ (s d).ports k) → ((d net : ℕ) → needs d net ≡ true → l.net net ≡ Clock → (t d).clocks net ≡ (s d).clocks net) →
-    ((d net : ℕ) → needs d net ≡ true → (c : ℕ) (inverted : Bool) → l.net net ≡ Flop c inverted → (t d).flops c ≡ (s d).flops c) →
-    ((d c e : ℕ) (source : Source) → value_from (v e) source ≡ value_from (w e) source → (t d).lockups c e source ≡ (s d).lockups c e source) →
-    (d net : ℕ) → needs d net ≡ true → v d net ≡ w d net
+pub needed_agrees : (l : Logic) (rank : ℕ → ℕ) (t s : ℕ → TriSources) (needs : ℕ → ℕ → Bool) (v w : ℕ → ℕ → Tri) → (ranked : IsRanked l rank) → (closed : IsReadClosed l needs) →
+    (tv : ((d net : ℕ) → needs d net ≡ true → v d net ≡ value_given (t d) (v d) net (l.net net))) → (sw : ((d net : ℕ) → needs d net ≡ true → w d net ≡ value_given (s d) (w d) net (l.net net))) →
+    (ports : ((d k : ℕ) → (t d).ports k ≡ (s d).ports k)) → (clocks : ((d net : ℕ) → needs d net ≡ true → l.net net ≡ Clock → (t d).clocks net ≡ (s d).clocks net)) →
+    (flops : ((d net : ℕ) → needs d net ≡ true → (c : ℕ) (inverted : Bool) → l.net net ≡ Flop c inverted → (t d).flops c ≡ (s d).flops c)) →
+    (lockups : ((d c e : ℕ) (source : Source) → value_from (v e) source ≡ value_from (w e) source → (t d).lockups c e source ≡ (s d).lockups c e source)) →
+    (d net : ℕ) → (need : needs d net ≡ true) → v d net ≡ w d net
 needed_agrees l rank t s needs v w ranked closed tv sw ports clocks flops lockups d net need = needed_within l rank t s needs v w ranked closed tv sw ports clocks flops lockups (suc (rank net)) d net (omega arith) need
 
 -- ---- next values

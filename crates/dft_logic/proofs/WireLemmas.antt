@@ -62,8 +62,8 @@ pub record Wiring (roles : List Role) (pins : List Signal) (number : ℕ) (whole
   pub wired : map wired_at wires ++ map (wired_by number) (connections_from j (drop j roles) (drop j pins)) ≡ whole
   pub live : (count : ℕ) → AreLive count pins → AreLiveWires count wires
 
-pub wiring_more : (roles : List Role) (pins items : List Signal) (number : ℕ) (whole : List Wired) (old new : List Wire) (j : ℕ) (role : Role) (source : Operand) (d : Signal) → items ≡ pins → j < length items → length pins ≡ length roles →
-    Some role ≡ slice_get roles j → source_at source ≡ source_of number j (get_or items j d) → new ≡ old ++ record { role = role; source = source } ∷ [] → Wiring roles pins number whole old j → Wiring roles pins number whole new (j + 1)
+pub wiring_more : (roles : List Role) (pins items : List Signal) (number : ℕ) (whole : List Wired) (old new : List Wire) (j : ℕ) (role : Role) (source : Operand) (d : Signal) → items ≡ pins → (less : j < length items) → (width : length pins ≡ length roles) →
+    (named : Some role ≡ slice_get roles j) → (is : source_at source ≡ source_of number j (get_or items j d)) → (grown : new ≡ old ++ record { role = role; source = source } ∷ []) → Wiring roles pins number whole old j → Wiring roles pins number whole new (j + 1)
 wiring_more roles pins items number whole old new j role source d e less width named is grown w =
     let s : Signal = get_or items j d in
     let a : j < length pins = omega (arith, ap length e) in

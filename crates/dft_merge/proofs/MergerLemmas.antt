@@ -96,8 +96,8 @@ length_became : (n : ℕ) (row : CellRows) (first : ℕ) (old : List Merged) (cu
 length_became n row first old cube new (inl same) = ap length same
 length_became n row first old cube new (inr joins) = ap length joins.1.patterns ∙ length-set old joins.0 (joined joins.1.pattern cube)
 
-pub state_tried : (n : ℕ) (row : CellRows) (window first : ℕ) (old new : List Merged) (cube : Cube) (slots others : List Slot) (result : Result (Option ℕ) AllocError) → IsState n row window old slots → first ≡ length old - length slots → first_unscanned row cube.cells ≡ None →
-    AreSlots n row first new others → IfOk result (Tried n row first old cube new) → OnErr result (new ≡ old) → IsState n row window new others
+pub state_tried : (n : ℕ) (row : CellRows) (window first : ℕ) (old new : List Merged) (cube : Cube) (slots others : List Slot) (result : Result (Option ℕ) AllocError) → (is : IsState n row window old slots) → (at : first ≡ length old - length slots) → (scanned : first_unscanned row cube.cells ≡ None) →
+    (are : AreSlots n row first new others) → (ok : IfOk result (Tried n row first old cube new)) → (err : OnErr result (new ≡ old)) → IsState n row window new others
 state_tried n row window first old new cube slots others result is at scanned are ok err =
     let now : Became n row first old cube new = became n row first old cube new result ok err in
     let size : length new ≡ length old = length_became n row first old cube new now in
@@ -158,9 +158,9 @@ state_opened n row window old new cube slots others is scanned solvable begins a
 }
 
 -- the certificate of a cube alone
-pub alone_stated : (n m : ℕ) (chains : List (List InstanceId)) (rows : LoadRows) (cells lent : List (InstanceId × Bool)) (before old new : Elimination) (start : ℕ) (ids : List ℕ) → AreRows chains rows → n ≡ rows.columns → lent ≡ cells → first_unscanned (cell_row chains rows) cells ≡ None →
-    old ≡ record { columns = before.columns; kept = take start before.kept; refused = None } → start ≡ 0 → IsRefused n (equations_of (cell_row chains rows) lent) old new → m ≡ n →
-    IfSome new.refused (λ e. Contradicts m new.kept e ids) → StatesCertificate n (equations_of (cell_row chains rows) cells) ids
+pub alone_stated : (n m : ℕ) (chains : List (List InstanceId)) (rows : LoadRows) (cells lent : List (InstanceId × Bool)) (before old new : Elimination) (start : ℕ) (ids : List ℕ) → (are : AreRows chains rows) → n ≡ rows.columns → (from : lent ≡ cells) → (scanned : first_unscanned (cell_row chains rows) cells ≡ None) →
+    (back : old ≡ record { columns = before.columns; kept = take start before.kept; refused = None }) → (empty : start ≡ 0) → (refused : IsRefused n (equations_of (cell_row chains rows) lent) old new) → (same : m ≡ n) →
+    (contradicts : IfSome new.refused (λ e. Contradicts m new.kept e ids)) → StatesCertificate n (equations_of (cell_row chains rows) cells) ids
 alone_stated n m chains rows cells lent before old new start ids are columns from scanned back empty refused same contradicts =
     let row : CellRows = cell_row chains rows in
     let none : old.kept ≡ [] = ap (λ (s : Elimination). s.kept) back ∙ ap (λ (k : ℕ). take k before.kept) empty in

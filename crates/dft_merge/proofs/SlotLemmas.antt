@@ -218,8 +218,8 @@ opened_case n row window cube cells ports system old mid patterns now new some f
     }
 
 pub opened : (n : ℕ) (row : CellRows) (window : ℕ) (cube : Cube) (cells ports : List (Option Bool)) (system : Elimination) (old mid : List Slot) (patterns : List Merged) (now : Elimination) (new : List Slot) →
-    1 ≤ window → length old ≤ window → AreSlots n row (length patterns - length old) patterns old → HasPlace n window old mid → IsPut cells ports system mid now new → IsSystem n (equations_of row cube.cells) system →
-    IsTable cell_number cube.cells cells → IsTable port_number cube.ports ports → Opened n row window old (patterns ++ begun cube ∷ []) new now
+    (some : 1 ≤ window) → (few : length old ≤ window) → (are : AreSlots n row (length patterns - length old) patterns old) → (place : HasPlace n window old mid) → (put : IsPut cells ports system mid now new) → (is : IsSystem n (equations_of row cube.cells) system) →
+    (cells_are : IsTable cell_number cube.cells cells) → (ports_are : IsTable port_number cube.ports ports) → Opened n row window old (patterns ++ begun cube ∷ []) new now
 opened n row window cube cells ports system old mid patterns now new some few are place put is cells_are ports_are =
     opened_case n row window cube cells ports system old mid patterns now new some few are place put (begun_slot n row cube cells ports system mid now new is cells_are ports_are put) (cases_lt (length old) window)
 
@@ -408,9 +408,9 @@ tells_not : (cube : Cube) (slot : Slot) (told : Bool) (a b : List (Option Bool))
     Tells slot.cells.items slot.ports.items cube ≡ false
 tells_not cube slot told a b cells ports is not = (λ i. opposes_by cell_number (sym cells i) cube.cells || opposes_by port_number (sym ports i) cube.ports) ∙ sym is ∙ not
 
-pub slot_joined : (n : ℕ) (row : CellRows) (pattern next : Merged) (cube : Cube) (slot new : Slot) (lent : List (InstanceId × Bool)) (s : Elimination) (told : Bool) (a b : List (Option Bool)) → IsSlot n row pattern slot →
-    a ≡ slot.cells.items → b ≡ slot.ports.items → told ≡ (opposes_by cell_number a cube.cells || opposes_by port_number b cube.ports) → told ≡ false → lent ≡ cube.cells → s.columns ≡ n → IsRun n slot.system.kept (equations_of row lent) s.kept [] →
-    next ≡ joined pattern cube → new.system ≡ s → IsTable cell_number next.cells new.cells.items → IsTable port_number next.ports new.ports.items → IsSlot n row next new
+pub slot_joined : (n : ℕ) (row : CellRows) (pattern next : Merged) (cube : Cube) (slot new : Slot) (lent : List (InstanceId × Bool)) (s : Elimination) (told : Bool) (a b : List (Option Bool)) → (is : IsSlot n row pattern slot) →
+    (cells : a ≡ slot.cells.items) → (ports : b ≡ slot.ports.items) → (tells : told ≡ (opposes_by cell_number a cube.cells || opposes_by port_number b cube.ports)) → (not : told ≡ false) → (from : lent ≡ cube.cells) → (columns : s.columns ≡ n) → (run : IsRun n slot.system.kept (equations_of row lent) s.kept []) →
+    (joins : next ≡ joined pattern cube) → (system : new.system ≡ s) → (new_cells : IsTable cell_number next.cells new.cells.items) → (new_ports : IsTable port_number next.ports new.ports.items) → IsSlot n row next new
 slot_joined n row pattern next cube slot new lent s told a b is cells ports tells not from columns run joins system new_cells new_ports = record {
   system = subst (λ (m : Merged). IsSystem n (equations_of row m.cells) new.system) (sym joins)
       (subst (IsSystem n (equations_of row (joined pattern cube).cells)) (sym system)
@@ -420,8 +420,8 @@ slot_joined n row pattern next cube slot new lent s told a b is cells ports tell
   ports = new_ports;
 }
 
-pub slot_fits : (n : ℕ) (row : CellRows) (pattern : Merged) (cube : Cube) (slot : Slot) (lent : List (InstanceId × Bool)) (s : Elimination) (told : Bool) (a b : List (Option Bool)) → IsSlot n row pattern slot → pattern.domain ≡ cube.domain →
-    a ≡ slot.cells.items → b ≡ slot.ports.items → told ≡ (opposes_by cell_number a cube.cells || opposes_by port_number b cube.ports) → told ≡ false → lent ≡ cube.cells → s.columns ≡ n → IsRun n slot.system.kept (equations_of row lent) s.kept [] → Fits n row pattern cube
+pub slot_fits : (n : ℕ) (row : CellRows) (pattern : Merged) (cube : Cube) (slot : Slot) (lent : List (InstanceId × Bool)) (s : Elimination) (told : Bool) (a b : List (Option Bool)) → (is : IsSlot n row pattern slot) → (same : pattern.domain ≡ cube.domain) →
+    (cells : a ≡ slot.cells.items) → (ports : b ≡ slot.ports.items) → (tells : told ≡ (opposes_by cell_number a cube.cells || opposes_by port_number b cube.ports)) → (not : told ≡ false) → (from : lent ≡ cube.cells) → (columns : s.columns ≡ n) → (run : IsRun n slot.system.kept (equations_of row lent) s.kept []) → Fits n row pattern cube
 slot_fits n row pattern cube slot lent s told a b is same cells ports tells not from columns run =
     fits_joined n row pattern cube slot.cells.items slot.ports.items s same is.cells is.ports (tells_not cube slot told a b cells ports tells not) (both_system n row pattern cube slot lent s is from columns run)
 
@@ -439,8 +439,8 @@ there_is n row first patterns slots place pattern are less that = let count = ar
 
 -- the same, where the slots are those of a vector that was lent
 pub opened_all : (n : ℕ) (row : CellRows) (window : ℕ) (cube : Cube) (cells ports : List (Option Bool)) (system : Elimination) (old : List Slot) (mid : Vec Slot Global) (lent : List Slot) (patterns before next : List Merged) (pattern : Merged) (now : Elimination) (new : List Slot) →
-    1 ≤ window → length old ≤ window → AreSlots n row (length patterns - length old) patterns old → HasPlace n window old mid.items → lent ≡ mid.items → IsPut cells ports system lent now new → length new ≡ length lent → IsSystem n (equations_of row cube.cells) system →
-    IsTable cell_number cube.cells cells → IsTable port_number cube.ports ports → next ≡ before ++ pattern ∷ [] → before ≡ patterns → pattern ≡ begun cube → Opened n row window old next (with_items mid new).items now
+    (some : 1 ≤ window) → (few : length old ≤ window) → (are : AreSlots n row (length patterns - length old) patterns old) → (place : HasPlace n window old mid.items) → (from : lent ≡ mid.items) → (put : IsPut cells ports system lent now new) → (size : length new ≡ length lent) → (is : IsSystem n (equations_of row cube.cells) system) →
+    (cells_are : IsTable cell_number cube.cells cells) → (ports_are : IsTable port_number cube.ports ports) → (pushed : next ≡ before ++ pattern ∷ []) → (same : before ≡ patterns) → (begins : pattern ≡ begun cube) → Opened n row window old next (with_items mid new).items now
 opened_all n row window cube cells ports system old mid lent patterns before next pattern now new some few are place from put size is cells_are ports_are pushed same begins =
     let items : (with_items mid new).items ≡ new = filled mid new lent size from in
     let here : IsPut cells ports system mid.items now new = subst (λ (l : List Slot). IsPut cells ports system l now new) from put in
@@ -454,8 +454,8 @@ opened_all n row window cube cells ports system old mid lent patterns before nex
 abbrev pub Told : ℕ → CellRows → (was next : Merged) → Cube → Bool → Type 0
 Told n row was next cube fits = MatchBool fits (Fits n row was cube × (next ≡ joined was cube)) ((Fits n row was cube → ⊥) × (next ≡ was))
 
-pub found_joined : (n : ℕ) (row : CellRows) (first : ℕ) (start patterns : List Merged) (slots : List Slot) (place : ℕ) (pattern next : Merged) (cube : Cube) (b : Bool) → AreSlots n row first patterns slots → patterns ≡ start → place < length slots →
-    pattern ≡ get_or patterns (first + place) pattern → b ≡ true → Told n row (get_or patterns (first + place) pattern) next cube b → NoneFrom n row first start cube (first + place) →
+pub found_joined : (n : ℕ) (row : CellRows) (first : ℕ) (start patterns : List Merged) (slots : List Slot) (place : ℕ) (pattern next : Merged) (cube : Cube) (b : Bool) → (are : AreSlots n row first patterns slots) → (same : patterns ≡ start) → (less : place < length slots) →
+    (is : pattern ≡ get_or patterns (first + place) pattern) → (passed : b ≡ true) → (told : Told n row (get_or patterns (first + place) pattern) next cube b) → (before : NoneFrom n row first start cube (first + place)) →
     IsJoined n row first start cube (slice_set patterns (first + place) next) (first + place)
 found_joined n row first start patterns slots place pattern next cube b are same less is passed told before =
     let both : Fits n row (get_or patterns (first + place) pattern) cube × (next ≡ joined (get_or patterns (first + place) pattern) cube) = MatchBool-at_true _ _ passed told in
@@ -468,8 +468,8 @@ found_joined n row first start patterns slots place pattern next cube b are same
       patterns = (λ i. slice_set (same i) (first + place) next) ∙ ap (slice_set start (first + place)) (both.1 ∙ ap (λ (m : Merged). joined m cube) (sym is));
     }
 
-pub found_none : (n : ℕ) (row : CellRows) (first : ℕ) (start patterns : List Merged) (slots : List Slot) (place : ℕ) (pattern next : Merged) (cube : Cube) (b : Bool) → AreSlots n row first patterns slots → patterns ≡ start → place < length slots →
-    pattern ≡ get_or patterns (first + place) pattern → b ≡ false → Told n row (get_or patterns (first + place) pattern) next cube b → NoneFrom n row first start cube (first + place) →
+pub found_none : (n : ℕ) (row : CellRows) (first : ℕ) (start patterns : List Merged) (slots : List Slot) (place : ℕ) (pattern next : Merged) (cube : Cube) (b : Bool) → (are : AreSlots n row first patterns slots) → (same : patterns ≡ start) → (less : place < length slots) →
+    (is : pattern ≡ get_or patterns (first + place) pattern) → (failed : b ≡ false) → (told : Told n row (get_or patterns (first + place) pattern) next cube b) → (before : NoneFrom n row first start cube (first + place)) →
     (slice_set patterns (first + place) next ≡ start) × NoneFrom n row first start cube (first + (place + 1))
 found_none n row first start patterns slots place pattern next cube b are same less is failed told before =
     let both : (Fits n row (get_or patterns (first + place) pattern) cube → ⊥) × (next ≡ get_or patterns (first + place) pattern) = MatchBool-at_false _ _ failed told in (

@@ -70,8 +70,8 @@ pairing_start s nets so_far none = record {
   more = omega arith;
 }
 
-pub pairing_on : (start now t : Making) (nets so_far longer : List NetId) (place : ℕ) (d e net : NetId) → Pairing start now nets so_far place → place + 1 < length nets →
-    outcome (a_driving_gate Xor (slice_index_or nets place d ∷ slice_index_or nets (place + 1) e ∷ [])) now ≡ Ok (net, t) → net.0 < length t.netlist.nets → length now.netlist.nets ≤ length t.netlist.nets → longer ≡ so_far ++ net ∷ [] →
+pub pairing_on : (start now t : Making) (nets so_far longer : List NetId) (place : ℕ) (d e net : NetId) → Pairing start now nets so_far place → (two : place + 1 < length nets) →
+    (made : outcome (a_driving_gate Xor (slice_index_or nets place d ∷ slice_index_or nets (place + 1) e ∷ [])) now ≡ Ok (net, t)) → (there : net.0 < length t.netlist.nets) → (more : length now.netlist.nets ≤ length t.netlist.nets) → (is : longer ≡ so_far ++ net ∷ []) →
     Pairing start t nets longer (place + 2)
 pairing_on start now t nets so_far longer place d e net p two made there more is =
     let a = slice_index_or nets place d in

@@ -74,11 +74,11 @@ settled_exists m ranks =
     (found.0 0, found.1 0)
 
 pub played : (start set after : Machine) (nets : List NetId) (clocks : List ℕ) (pulsed : List Bool) (acts : List Act) (vector : ℕ) (wanted : List NetId) (asked : List Asked) (decision : Option Verdict) →
-    HasRanks start.netlist → Differ (numbers_of nets) → length acts ≡ length nets →
-    AreClocks start nets clocks acts → StandsSince start set → ((net : ℕ) → value_at set.inputs net ≡ set_by (act_on (numbers_of nets) acts net) (value_at start.inputs net)) →
-    numbers_of wanted ≡ map (λ (c : Compared). c.net) (compared_from 0 (numbers_of nets) acts) → asked ≡ map asked_of (compared_from 0 (numbers_of nets) acts) →
-    ((values : ℕ → Tri) → IsStrobe (logic set) (value_at set.inputs) (value_at set.cells) values → decision ≡ decided_seen vector asked (map (λ (net : NetId). values net.0) wanted)) →
-    pulsed ≡ map (λ s. is_pulse (act_at acts s)) clocks → IsPulsed (logic set) set pulsed after → IsPlayed start (row_of (numbers_of nets) (value_at start.inputs) acts) vector decision after
+    (ranks : HasRanks start.netlist) → (differ : Differ (numbers_of nets)) → (same : length acts ≡ length nets) →
+    (are : AreClocks start nets clocks acts) → (stands : StandsSince start set) → (inputs : ((net : ℕ) → value_at set.inputs net ≡ set_by (act_on (numbers_of nets) acts net) (value_at start.inputs net))) →
+    (listed : numbers_of wanted ≡ map (λ (c : Compared). c.net) (compared_from 0 (numbers_of nets) acts)) → (printed : asked ≡ map asked_of (compared_from 0 (numbers_of nets) acts)) →
+    (looks : ((values : ℕ → Tri) → IsStrobe (logic set) (value_at set.inputs) (value_at set.cells) values → decision ≡ decided_seen vector asked (map (λ (net : NetId). values net.0) wanted))) →
+    (marked : pulsed ≡ map (λ s. is_pulse (act_at acts s)) clocks) → (pulse : IsPulsed (logic set) set pulsed after) → IsPlayed start (row_of (numbers_of nets) (value_at start.inputs) acts) vector decision after
 played start set after nets clocks pulsed acts vector wanted asked decision ranks differ same are stands inputs listed printed looks marked pulse =
     let x : Row = row_of (numbers_of nets) (value_at start.inputs) acts in
     let ups : (e : ℕ) → pulses set.clocks pulsed e ≡ x.vector.pulsed e = λ e.

@@ -82,8 +82,8 @@ ends l nets vectors v compared acts m after decision verdict means within here p
     subst (λ (rows : List Row). HasVerdictFrom l old v compared rows verdict) (sym (rows_split nets (value_at m.inputs) vectors v acts within here)) (r, (holds, stops))
 
 -- a vector that decided nothing leaves the verdict to the others
-pub goes_on : (l : Logic) (nets : List ℕ) (vectors : List (List Act)) (v compared count : ℕ) (acts : List Act) (m after : Machine) (decision : Option Verdict) (verdict : Verdict) → logic m ≡ l → v < length vectors → get_or vectors v [] ≡ acts → length acts ≡ length nets → count ≡ count_by is_compared acts →
-    IsPlayed m (row_of nets (value_at m.inputs) acts) v decision after → decision ≡ None → HasVerdictFrom l (value_at after.cells) (v + 1) (compared + count) (rows_from nets (value_at after.inputs) (drop (v + 1) vectors)) verdict →
+pub goes_on : (l : Logic) (nets : List ℕ) (vectors : List (List Act)) (v compared count : ℕ) (acts : List Act) (m after : Machine) (decision : Option Verdict) (verdict : Verdict) → (means : logic m ≡ l) → (within : v < length vectors) → (here : get_or vectors v [] ≡ acts) → (same : length acts ≡ length nets) → (counted : count ≡ count_by is_compared acts) →
+    (played : IsPlayed m (row_of nets (value_at m.inputs) acts) v decision after) → (is : decision ≡ None) → (later : HasVerdictFrom l (value_at after.cells) (v + 1) (compared + count) (rows_from nets (value_at after.inputs) (drop (v + 1) vectors)) verdict) →
     HasVerdictFrom l (value_at m.cells) v compared (rows_from nets (value_at m.inputs) (drop v vectors)) verdict
 goes_on l nets vectors v compared count acts m after decision verdict means within here same counted played is later =
     let x : Row = row_of nets (value_at m.inputs) acts in

@@ -92,8 +92,8 @@ terms_below bound ring channels stages stage next taps injectors s c =
 
 -- ---- lists as they are made
 
-pub terms_made : (ring : RingConfig) (channels stages : List NetId) (stage : ℕ) (next : NetId) (taps : List Tap) (injectors : List Injector) (a b c d : List NetId) → next ≡ net_at stages ((stage + 1) % ring.stages) → taps ≡ ring.taps → injectors ≡ ring.injectors →
-    a ≡ [] → b ≡ a ++ next ∷ [] → c ≡ b ++ tap_nets taps stages stage → d ≡ c ++ injector_nets injectors channels stage → d ≡ stage_terms ring channels stages stage
+pub terms_made : (ring : RingConfig) (channels stages : List NetId) (stage : ℕ) (next : NetId) (taps : List Tap) (injectors : List Injector) (a b c d : List NetId) → (is : next ≡ net_at stages ((stage + 1) % ring.stages)) → (same_taps : taps ≡ ring.taps) → (same_injectors : injectors ≡ ring.injectors) →
+    (none : a ≡ []) → (first : b ≡ a ++ next ∷ []) → (second : c ≡ b ++ tap_nets taps stages stage) → (third : d ≡ c ++ injector_nets injectors channels stage) → d ≡ stage_terms ring channels stages stage
 terms_made ring channels stages stage next taps injectors a b c d is same_taps same_injectors none first second third =
     third
     ∙ (λ i. second i ++ injector_nets (same_injectors i) channels stage)

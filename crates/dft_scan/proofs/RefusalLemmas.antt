@@ -6,15 +6,17 @@ use Rattle.dft_base.specs.Lexing.{Text}
 use Rattle.dft_netlist.specs.Netlist.{Netlist}
 use Rattle.dft_config.specs.Config.{Config}
 use Rattle.dft_rules.specs.declared.error.RuleError.{RuleError}
-use Rattle.dft_rules.specs.declared.error.RuleError.TheVariants as rule
 use Rattle.dft_rules.specs.declared.judged.Judged.{Judged}
 use Rattle.dft_rules.specs.Rules.{judgements}
 use Rattle.dft_rules.specs.Refusals as rules
 use Rattle.dft_stitch.specs.declared.error.StitchError.{StitchError}
-use Rattle.dft_stitch.specs.declared.error.StitchError.TheVariants as stitch_error
+use Rattle.dft_stitch.specs.declared.planned.PrepareError.{PrepareError}
+use Rattle.dft_stitch.specs.declared.planned.PrepareError.TheVariants as prepare_error
 use Rattle.dft_stitch.specs.Chains.{plan_of}
 use Rattle.dft_stitch.specs.Plans.{Plan}
 use Rattle.dft_stitch.specs.Limits as stitch
+use Rattle.dft_stitch.specs.Planning as planning
+use Rattle.dft_stitch.proofs.PlannedLemmas.{by_rules, by_stitch}
 use Rattle.dft_scan_frame.specs.declared.error.InsertError.{InsertError}
 use Rattle.dft_scan_frame.specs.declared.error.InsertError.TheVariants as insert_error
 use Rattle.dft_scan_hardware.specs.declared.style.Style.TheVariants.{Plain}
@@ -28,7 +30,7 @@ use Rattle.dft_report.specs.Refusals as report
 use Rattle.dft_scan.specs.declared.error.ScanError.{ScanError}
 use Rattle.dft_scan.specs.declared.error.ScanError.TheVariants.{Rules, Stitch, Insert, Memory}
 use Rattle.dft_scan.specs.declared.error.ScanError.TheVariants as scan_error
-use Rattle.dft_scan.specs.Errors.{of_rules, of_stitch, of_insert, of_report}
+use Rattle.dft_scan.specs.Errors.{of_planning, of_insert, of_report}
 use Rattle.dft_scan.specs.Refusals.{IsRefusal, first_failing, refusal, too_long}
 use Rattle.dft_scan.specs.Reports.{report_of, report_with}
 use Rattle.dft_scan.specs.Scans.{report_text}
@@ -43,19 +45,6 @@ stitch_first more r e is = ap (λ (o : Option StitchError). first_failing (optio
 
 insert_first : (more : List (Option ScanError)) (r : Option InsertError) (e : InsertError) → r ≡ Some e → first_failing (option_map Insert r ∷ more) ≡ Some (Insert e)
 insert_first more r e is = ap (λ (o : Option InsertError). first_failing (option_map Insert o ∷ more)) is
-
-pub rules_refused : (more : List (Option ScanError)) (r : Option RuleError) (e : RuleError) → rules.IsRefusal r e → IsRefusal (first_failing (option_map Rules r ∷ more)) (of_rules e)
-rules_refused more r (rule.ClockAsData net) is = rules_first more r (rule.ClockAsData net) is
-rules_refused more r (rule.ScanCellPresent instance) is = rules_first more r (rule.ScanCellPresent instance) is
-rules_refused more r (rule.TooFewCells found wanted) is = rules_first more r (rule.TooFewCells found wanted) is
-rules_refused more r (rule.UnknownName name) is = rules_first more r (rule.UnknownName name) is
-rules_refused more r (rule.LockupPresent instance) is = rules_first more r (rule.LockupPresent instance) is
-rules_refused more r (rule.PortName name) is = rules_first more r (rule.PortName name) is
-rules_refused more r (rule.Memory error) is = _
-
-pub stitch_refused : (more : List (Option ScanError)) (r : Option StitchError) (e : StitchError) → stitch.IsRefusal r e → IsRefusal (first_failing (option_map Stitch r ∷ more)) (of_stitch e)
-stitch_refused more r (stitch_error.TooMany what limit) is = stitch_first more r (stitch_error.TooMany what limit) is
-stitch_refused more r (stitch_error.Memory error) is = _
 
 pub insert_refused : (more : List (Option ScanError)) (r : Option InsertError) (e : InsertError) → frame.IsRefusal r e → IsRefusal (first_failing (option_map Insert r ∷ more)) (of_insert e)
 insert_refused more r (insert_error.NameClash name) is = insert_first more r (insert_error.NameClash name) is
@@ -92,13 +81,13 @@ insert_checks n config = option_map Insert (insert.refusal Plain n config (plan_
 abbrev pub stitch_checks : Netlist → Config → List (Option ScanError)
 stitch_checks n config = option_map Stitch (stitch.refusal n config) ∷ insert_checks n config
 
-pub refused_by_rules : (n : Netlist) (config : Config) (e : RuleError) → rules.IsRefusal (rules.refusal n config) e → IsRefusal (refusal n config) (of_rules e)
-refused_by_rules n config e h = rules_refused (stitch_checks n config) (rules.refusal n config) e h
-
-pub refused_by_stitch : (n : Netlist) (config : Config) (e : StitchError) → rules.refusal n config ≡ None → stitch.IsRefusal (stitch.refusal n config) e → IsRefusal (refusal n config) (of_stitch e)
-refused_by_stitch n config e r h =
-    after_rules (stitch_checks n config) (rules.refusal n config) (of_stitch e) r
-    (stitch_refused (insert_checks n config) (stitch.refusal n config) e h)
+pub refused_by_planning : (n : Netlist) (config : Config) (e : PrepareError) → planning.IsRefusal (planning.refusal n config) e → IsRefusal (refusal n config) (of_planning e)
+refused_by_planning n config (prepare_error.Rules e) h =
+    rules_first (stitch_checks n config) (rules.refusal n config) e (by_rules (rules.refusal n config) (stitch.refusal n config) e h)
+refused_by_planning n config (prepare_error.Stitch e) h =
+    let both = by_stitch (rules.refusal n config) (stitch.refusal n config) e h in
+    after_rules (stitch_checks n config) (rules.refusal n config) (scan_error.Stitch e) both.0 (stitch_first (insert_checks n config) (stitch.refusal n config) e both.1)
+refused_by_planning n config (prepare_error.Memory e) h = _
 
 pub refused_by_insert : (n : Netlist) (config : Config) (e : InsertError) → rules.refusal n config ≡ None → stitch.refusal n config ≡ None → frame.IsRefusal (insert.refusal Plain n config (plan_of n config)) e → IsRefusal (refusal n config) (of_insert e)
 refused_by_insert n config e r s h =

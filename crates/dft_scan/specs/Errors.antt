@@ -1,8 +1,6 @@
 -- The errors of the steps, as errors of a scan: want of memory in any step is want of memory.
-use Rattle.dft_rules.specs.declared.error.RuleError.{RuleError}
-use Rattle.dft_rules.specs.declared.error.RuleError.TheVariants as rule
-use Rattle.dft_stitch.specs.declared.error.StitchError.{StitchError}
-use Rattle.dft_stitch.specs.declared.error.StitchError.TheVariants as stitch
+use Rattle.dft_stitch.specs.declared.planned.PrepareError.{PrepareError}
+use Rattle.dft_stitch.specs.declared.planned.PrepareError.TheVariants as planning
 use Rattle.dft_scan_frame.specs.declared.error.InsertError.{InsertError}
 use Rattle.dft_scan_frame.specs.declared.error.InsertError.TheVariants as insert
 use Rattle.dft_report.specs.declared.error.ReportError.{ReportError}
@@ -10,13 +8,10 @@ use Rattle.dft_report.specs.declared.error.ReportError.TheVariants as report
 use Rattle.dft_scan.specs.declared.error.ScanError.{ScanError}
 use Rattle.dft_scan.specs.declared.error.ScanError.TheVariants.{Rules, Stitch, Insert, Report, Memory}
 
-abbrev pub of_rules : RuleError → ScanError
-of_rules (rule.Memory error) = Memory error
-of_rules error = Rules error
-
-abbrev pub of_stitch : StitchError → ScanError
-of_stitch (stitch.Memory error) = Memory error
-of_stitch error = Stitch error
+abbrev pub of_planning : PrepareError → ScanError
+of_planning (planning.Rules error) = Rules error
+of_planning (planning.Stitch error) = Stitch error
+of_planning (planning.Memory error) = Memory error
 
 abbrev pub of_insert : InsertError → ScanError
 of_insert (insert.Memory error) = Memory error

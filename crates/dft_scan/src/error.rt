@@ -1,11 +1,11 @@
 ghost use Rattle.std.specs.Prelude.{◌≡◌, alloc_error};
-ghost use Rattle.dft_scan.specs.Errors.{of_insert, of_report, of_rules, of_stitch};
+ghost use Rattle.dft_scan.specs.Errors.{of_insert, of_planning, of_report};
 ghost use Rattle.dft_scan.specs.declared.error.ScanError.TheVariants.{Memory};
 
 use dft_insert::InsertError;
 use dft_report::ReportError;
 use dft_rules::RuleError;
-use dft_stitch::StitchError;
+use dft_stitch::{PrepareError, StitchError};
 use std::alloc::{AllocError, AllocFailed};
 use thiserror::Error;
 
@@ -44,24 +44,14 @@ impl<T: Drop> From<AllocFailed<T>> for ScanError {
     }
 }
 
-impl From<RuleError> for ScanError {
-    ghost from_gives = { λ error e. e ≡ of_rules error };
+impl From<PrepareError> for ScanError {
+    ghost from_gives = { λ error e. e ≡ of_planning error };
 
-    fn from(error: RuleError) -> ScanError {
+    fn from(error: PrepareError) -> ScanError {
         match error {
-            RuleError::Memory(error) => ScanError::Memory(error),
-            error => ScanError::Rules(error),
-        }
-    }
-}
-
-impl From<StitchError> for ScanError {
-    ghost from_gives = { λ error e. e ≡ of_stitch error };
-
-    fn from(error: StitchError) -> ScanError {
-        match error {
-            StitchError::Memory(error) => ScanError::Memory(error),
-            error => ScanError::Stitch(error),
+            PrepareError::Rules(error) => ScanError::Rules(error),
+            PrepareError::Stitch(error) => ScanError::Stitch(error),
+            PrepareError::Memory(error) => ScanError::Memory(error),
         }
     }
 }

@@ -1,12 +1,9 @@
 //! The scan of a design.
 
 ghost use Rattle.std.specs.Prelude.{◌≡◌, None, IfErr, IfOk};
-ghost use Rattle.dft_config.specs.Range.{IsInRange};
 ghost use Rattle.dft_scan_frame.specs.Statements.{IsReady};
 ghost use Rattle.dft_scan_hardware.specs.Statements.{scanned};
 ghost use Rattle.dft_scan_hardware.specs.declared.style.Style.TheVariants.{Plain};
-ghost use Rattle.dft_config.specs.Config.{Config};
-ghost use Rattle.dft_rules.specs.Refusals as rules;
 ghost use Rattle.dft_netlist_text.specs.NetlistText.{StandsFor};
 ghost use Rattle.dft_scan.specs.Refusals.{IsRefusal, refusal};
 ghost use Rattle.dft_scan.specs.Scans.{IsScanOf};
@@ -19,8 +16,7 @@ use crate::texts::ScanTexts;
 use dft_config::Config;
 use dft_insert::{Style, insert};
 use dft_netlist::Design;
-use dft_rules::judge;
-use dft_stitch::plan;
+use dft_stitch::Planned;
 use std::alloc::Global;
 
 /// Scans a design: its flip-flops are judged by the scan rules, chains are planned and inserted, and the scanned netlist
@@ -34,13 +30,14 @@ pub fn scan(alloc: Global, design: &Design, config: &Config) -> Result<ScanTexts
     ensures accepted { IfOk result (λ s. refusal design.now config.now ≡ None) }
     ensures refused { IfErr result (IsRefusal (refusal design.now config.now)) }
 {
-    ready(design);
-    config.soundness();
-    let verdicts = judge(alloc, design, config)?;
-    let chains = plan(alloc, design, config, &verdicts)?;
-    let scanned = insert(alloc, design, config, &chains, Style::Plain)?;
-    let counts = counts_of(design.instances().len() as u32, &verdicts, &chains);
-    let report = report_of(alloc, design, config, &verdicts, &chains, &counts)?;
+    design.soundness();
+    let planned = Planned::prepare(alloc, design, config)?;
+    planned.soundness();
+    let verdicts = planned.verdicts();
+    let chains = planned.chains();
+    let scanned = insert(alloc, design, config, chains, Style::Plain)?;
+    let counts = counts_of(design.instances().len() as u32, verdicts, chains);
+    let report = report_of(alloc, design, config, verdicts, chains, &counts)?;
     let report = dft_report::write(alloc, &report)?;
     let netlist = dft_verilog_out::write(alloc, &scanned.design)?;
     Ok(ScanTexts {
@@ -48,11 +45,4 @@ pub fn scan(alloc: Global, design: &Design, config: &Config) -> Result<ScanTexts
         report,
         counts,
     })
-}
-
-// What a finished design is, beside what the scan rules ask.
-fn ready(design: &Design)
-    ensures { (config : Config) → IsInRange config → rules.refusal design.now config ≡ None → IsReady design.now config }
-{
-    design.soundness();
 }

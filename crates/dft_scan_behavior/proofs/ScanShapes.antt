@@ -141,9 +141,9 @@ output_first k i ins ScanIn net rest flop is = absurd cc
 output_first k i ins ScanEnable net rest flop is = absurd cc
 output_first k i ins Inverted net rest flop is = absurd cc
 
-lists_by : (k : Kind) (i : ℕ) (ins : List Source) (first : ℕ) (x : Role) (roles : List Role) (t : Signal) (pins : List Signal) (net : NetId) (j : ℕ) (b : Bool) → is_flip_flop k ≡ true → same_role Output x ≡ b →
-    ((m : ℕ) → slice_get pins m ≡ Some (signal.Net net) → number_of (same_role Output) (suc first) roles ≡ Some (suc first + m) → Lists (driven_by_pins k i ins (connections_from (suc first) roles pins)) (net.0, Flop i false)) →
-    slice_get (t ∷ pins) j ≡ Some (signal.Net net) → (if b then Some first else number_of (same_role Output) (suc first) roles) ≡ Some (first + j) →
+lists_by : (k : Kind) (i : ℕ) (ins : List Source) (first : ℕ) (x : Role) (roles : List Role) (t : Signal) (pins : List Signal) (net : NetId) (j : ℕ) (b : Bool) → (flop : is_flip_flop k ≡ true) → (its : same_role Output x ≡ b) →
+    (more : ((m : ℕ) → slice_get pins m ≡ Some (signal.Net net) → number_of (same_role Output) (suc first) roles ≡ Some (suc first + m) → Lists (driven_by_pins k i ins (connections_from (suc first) roles pins)) (net.0, Flop i false))) →
+    (at : slice_get (t ∷ pins) j ≡ Some (signal.Net net)) → (is : (if b then Some first else number_of (same_role Output) (suc first) roles) ≡ Some (first + j)) →
     Lists (at_role x k i ins t ++ driven_by_pins k i ins (connections_from (suc first) roles pins)) (net.0, Flop i false)
 lists_by k i ins first x roles t pins net zero true flop its more at is =
     subst (λ (z : Signal). Lists (at_role x k i ins z ++ driven_by_pins k i ins (connections_from (suc first) roles pins)) (net.0, Flop i false)) (sym (same_Some t (signal.Net net) at))

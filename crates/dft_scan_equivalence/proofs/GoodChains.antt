@@ -158,8 +158,8 @@ crossing_if : (w : Netlist) (rank : ℕ → ℕ) (at : Start) (b : Bool) (r : Re
 crossing_if w rank at true r h = h
 crossing_if w rank at false r h = good_nil w rank at
 
-pub chain_good : (n w : Netlist) (config : Config) (gap : Gap) (rank : ℕ → ℕ) (base : ℕ) (at : Start) (lockups : List LockupPlace) (chain : ℕ) (cells : List InstanceId) (outputs : List NetId) (entry : NetId) → ChainSetting n w config gap rank base → base ≤ at.next →
-    at.library ≡ w.library → AllByRecursion (IsScanCell n w) cells → AreBelow rank at.next outputs → IsGood w rank at (a_chain n config gap lockups chain cells outputs entry at).parts none none
+pub chain_good : (n w : Netlist) (config : Config) (gap : Gap) (rank : ℕ → ℕ) (base : ℕ) (at : Start) (lockups : List LockupPlace) (chain : ℕ) (cells : List InstanceId) (outputs : List NetId) (entry : NetId) → ChainSetting n w config gap rank base → (from : base ≤ at.next) →
+    (same : at.library ≡ w.library) → (are : AllByRecursion (IsScanCell n w) cells) → (below : AreBelow rank at.next outputs) → IsGood w rank at (a_chain n config gap lockups chain cells outputs entry at).parts none none
 unfolding a_chain
 chain_good n w config gap rank base at lockups chain cells outputs entry s from same are below =
     let first = (a_scan_in n (slice_get cells 0) entry at).parts in
@@ -176,7 +176,7 @@ chain_good n w config gap rank base at lockups chain cells outputs entry s from 
     (λ place d _ lib past. scan_in_good n w rank d (slice_get cells (place + 1)) (net_at outputs place) (cell_of n w cells (place + 1) are))))
 
 pub late_chain_good : (n w : Netlist) (config : Config) (gap : Gap) (rank : ℕ → ℕ) (base : ℕ) (at : Start) (lockups : List LockupPlace) (chain : ℕ) (cells : List InstanceId) (outputs : List NetId) (clock phase : NetId) → ChainSetting n w config gap rank base →
-    base ≤ at.next → at.library ≡ w.library → AllByRecursion (IsScanCell n w) cells → AreBelow rank at.next outputs → IsBelow rank at.next clock → IsBelow rank at.next phase → IsGood w rank at (a_late_chain n config gap lockups chain cells outputs clock phase at).parts none none
+    (from : base ≤ at.next) → (same : at.library ≡ w.library) → (are : AllByRecursion (IsScanCell n w) cells) → (below : AreBelow rank at.next outputs) → (clocked : IsBelow rank at.next clock) → (phased : IsBelow rank at.next phase) → IsGood w rank at (a_late_chain n config gap lockups chain cells outputs clock phase at).parts none none
 unfolding a_late_chain
 late_chain_good n w config gap rank base at lockups chain cells outputs clock phase s from same are below clocked phased =
     let entry : NetId = record { 0 = at.next } in

@@ -91,9 +91,9 @@ ports_more rank next later ports le h = record {
   channels = below_more rank next later ports.channels le h.channels;
 }
 
-behind_good : (n w : Netlist) (config : Config) (plan : Plan) (gap : Gap) (ports : EdtPorts) (outputs : List (List NetId)) (rank : ℕ → ℕ) (base limit : ℕ) (at : Start) → ChainSetting n w config gap rank base → base ≤ at.next → at.library ≡ w.library →
-    AllByRecursion (AllByRecursion (IsScanCell n w)) plan.chains → PortsBelow rank at.next ports → AllByRecursion (AreBelow rank at.next) outputs → ((j : ℕ) → j < length config.compactor.groups → rank limit < rank (net_at ports.outputs j).0) →
-    at.next + nets_in (behind_rows n config plan gap ports outputs at).parts ≤ limit → IsGood w rank at (behind_rows n config plan gap ports outputs at).parts none (outputs_of config ports)
+behind_good : (n w : Netlist) (config : Config) (plan : Plan) (gap : Gap) (ports : EdtPorts) (outputs : List (List NetId)) (rank : ℕ → ℕ) (base limit : ℕ) (at : Start) → ChainSetting n w config gap rank base → (from : base ≤ at.next) → (same : at.library ≡ w.library) →
+    (are : AllByRecursion (AllByRecursion (IsScanCell n w)) plan.chains) → (entries : PortsBelow rank at.next ports) → (below : AllByRecursion (AreBelow rank at.next) outputs) → (top : ((j : ℕ) → j < length config.compactor.groups → rank limit < rank (net_at ports.outputs j).0)) →
+    (fits : at.next + nets_in (behind_rows n config plan gap ports outputs at).parts ≤ limit) → IsGood w rank at (behind_rows n config plan gap ports outputs at).parts none (outputs_of config ports)
 unfolding behind_rows
 behind_good n w config plan gap ports outputs rank base limit at s from same are entries below top fits =
     let count = length plan.chains in
@@ -115,9 +115,9 @@ behind_good n w config plan gap ports outputs rank base limit at s from same are
     (lasts_below rank b.next outputs (none_below w.library rank base b.next s.setting (omega (arith, from))) (rows_more rank at.next b.next outputs late below)) top
     (omega (arith, fits, nets_in-append ring.parts (chains ++ compactor), nets_in-append chains compactor))))
 
-pub edt_good : (n w : Netlist) (config : Config) (plan : Plan) (gap : Gap) (ports : EdtPorts) (rank : ℕ → ℕ) (base limit : ℕ) (at : Start) → ChainSetting n w config gap rank base → base ≤ at.next → at.library ≡ w.library →
-    AllByRecursion (AllByRecursion (IsScanCell n w)) plan.chains → PortsBelow rank at.next ports → ((j : ℕ) → j < length config.compactor.groups → rank limit < rank (net_at ports.outputs j).0) →
-    at.next + nets_in (edt_recipe n config plan gap ports at).parts ≤ limit → IsGood w rank at (edt_recipe n config plan gap ports at).parts none (outputs_of config ports)
+pub edt_good : (n w : Netlist) (config : Config) (plan : Plan) (gap : Gap) (ports : EdtPorts) (rank : ℕ → ℕ) (base limit : ℕ) (at : Start) → ChainSetting n w config gap rank base → (from : base ≤ at.next) → (same : at.library ≡ w.library) →
+    (are : AllByRecursion (AllByRecursion (IsScanCell n w)) plan.chains) → (entries : PortsBelow rank at.next ports) → (top : ((j : ℕ) → j < length config.compactor.groups → rank limit < rank (net_at ports.outputs j).0)) →
+    (fits : at.next + nets_in (edt_recipe n config plan gap ports at).parts ≤ limit) → IsGood w rank at (edt_recipe n config plan gap ports at).parts none (outputs_of config ports)
 unfolding edt_recipe
 edt_good n w config plan gap ports rank base limit at s from same are entries top fits =
     let outputs = rows n gap plan.chains at in

@@ -121,8 +121,8 @@ forcing_alike w p q None None e = refl
 -- ---- flip-flops
 
 -- an instance whose pins are joined as before, moved, is kept
-pins_matched : (n w : Netlist) (p q : Ports) (s : Places) (count i : ℕ) (roles : List Role) (pins : List Signal) (new : List Connection) → RootsKept n w s.moved s.size → AreFirst n count → AreAlike p q count → ((r : Role) → IsPinWithin s.size (pin_of r i (connections_from 0 roles pins))) →
-    SamePins s.moved i (connections_from 0 roles pins) new → pin_of ScanEnable i (connections_from 0 roles pins) ≡ None → IsEnabledBy s.enable (scan_of (pin_of ScanEnable i new) (pin_of ScanIn i new)) → AreMatched s (modelled_of n p i (connections_from 0 roles pins)) (modelled_of w q i new)
+pins_matched : (n w : Netlist) (p q : Ports) (s : Places) (count i : ℕ) (roles : List Role) (pins : List Signal) (new : List Connection) → (kept : RootsKept n w s.moved s.size) → (first : AreFirst n count) → (alike : AreAlike p q count) → (inside : ((r : Role) → IsPinWithin s.size (pin_of r i (connections_from 0 roles pins)))) →
+    (same : SamePins s.moved i (connections_from 0 roles pins) new) → (no_scan : pin_of ScanEnable i (connections_from 0 roles pins) ≡ None) → (enabled : IsEnabledBy s.enable (scan_of (pin_of ScanEnable i new) (pin_of ScanIn i new))) → AreMatched s (modelled_of n p i (connections_from 0 roles pins)) (modelled_of w q i new)
 pins_matched n w p q s count i roles pins new kept first alike inside same no_scan enabled =
     let old : List Connection = connections_from 0 roles pins in
     let input : Source = or_loose i (pin_of Din i new) in

@@ -25,3 +25,4 @@ pub mod Tabled
 pub mod Joined
 pub mod Endings
 pub mod OpenLemmas
+pub mod ReadyLemmas

@@ -97,8 +97,8 @@ rows_start f whole rest s so_far none same = record {
   more = omega arith;
 }
 
-pub rows_on : (f : List InstanceId → Recipe (List NetId)) (whole rest after : List (List InstanceId)) (x : List InstanceId) (start now t : Making) (so_far longer : List (List NetId)) (row : List NetId) → Rows f whole rest start now so_far → rest ≡ x ∷ after →
-    outcome (f x) now ≡ Ok (row, t) → AreThere t.netlist row → length now.netlist.nets ≤ length t.netlist.nets → longer ≡ so_far ++ row ∷ [] → Rows f whole after start t longer
+pub rows_on : (f : List InstanceId → Recipe (List NetId)) (whole rest after : List (List InstanceId)) (x : List InstanceId) (start now t : Making) (so_far longer : List (List NetId)) (row : List NetId) → Rows f whole rest start now so_far → (is : rest ≡ x ∷ after) →
+    (made : outcome (f x) now ≡ Ok (row, t)) → (live : AreThere t.netlist row) → (more : length now.netlist.nets ≤ length t.netlist.nets) → (grown : longer ≡ so_far ++ row ∷ []) → Rows f whole after start t longer
 rows_on f whole rest after x start now t so_far longer row g is made live more grown =
     let before = g.more in
     let count = g.count in

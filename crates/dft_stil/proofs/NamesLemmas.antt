@@ -34,8 +34,8 @@ each_more numbers n k each e h (inr far) =
     let at : k ≡ length numbers = omega arith in
     ap (λ j. get_or (numbers ++ n ∷ []) j 0) at ∙ get_or-append_seam numbers n [] 0 ∙ e ∙ sym at
 
-pub numbered_more : (names more : List Text) (signals first others : List StilSignal) (numbers start counts : List ℕ) (word : Text) (s : StilSignal) (n : ℕ) → more ≡ names ++ word ∷ [] → first ≡ signals → others ≡ first ++ s ∷ []
-    → start ≡ numbers → counts ≡ start ++ n ∷ [] → s.name ≡ word → n ≡ length signals → AreNumbered names signals numbers → AreNumbered more others counts
+pub numbered_more : (names more : List Text) (signals first others : List StilSignal) (numbers start counts : List ℕ) (word : Text) (s : StilSignal) (n : ℕ) → more ≡ names ++ word ∷ [] → (f' : first ≡ signals) → others ≡ first ++ s ∷ []
+    → (g' : start ≡ numbers) → counts ≡ start ++ n ∷ [] → (named : s.name ≡ word) → (at : n ≡ length signals) → AreNumbered names signals numbers → AreNumbered more others counts
 numbered_more names more signals first others numbers start counts word s n e f' f g' g named at a =
     let long = length-append start (n ∷ []) in
     let long' = length-append first (s ∷ []) in

@@ -77,7 +77,7 @@ unfolding characters runs_from run_of_characters sees kind_of bytes left next ex
 characters-at t signals acts new k word s l a n ts seen e = rw (seen, e) refl
 
 -- the characters of a group
-group_filled : (t : Option Waveforms) (d : Dir) (from : ℕ) (x : Act) (xs olds done later : List Act) (l a : ℕ) (s : Text) (ts : List Token) → Means t d from (suc (length xs)) → AllActs d (x ∷ xs) → length done ≡ from → length olds ≡ suc (length xs)
+group_filled : (t : Option Waveforms) (d : Dir) (from : ℕ) (x : Act) (xs olds done later : List Act) (l a : ℕ) (s : Text) (ts : List Token) → (means : Means t d from (suc (length xs))) → (acts : AllActs d (x ∷ xs)) → (at : length done ≡ from) → (old : length olds ≡ suc (length xs))
     → characters t (counted from (suc (length xs))) (done ++ (olds ++ later)) (token (run_kind x) (map letter (x ∷ xs)) (suc l) ∷ token kind.Semicolon s a ∷ ts) ≡ Ok (done ++ ((x ∷ xs) ++ later), ts)
 group_filled t d from x xs olds done later l a s ts means acts at old =
     characters-at t (counted from (suc (length xs))) (done ++ (olds ++ later)) (done ++ ((x ∷ xs) ++ later)) (run_kind x) (map letter (x ∷ xs)) s l a (from + suc (length xs)) ts (run_seen x (map letter (x ∷ xs)) (suc l) (token kind.Semicolon s a ∷ ts))
@@ -155,8 +155,8 @@ inputs_read most i ins waveforms x xs olds vectors rest means acts many old room
 
 -- a vector of inputs and outputs
 pub both_read : (most : ℕ) (i : StilSignal) (ins : List StilSignal) (o : StilSignal) (outs : List StilSignal) (waveforms : Waveforms) (x : Act) (xs : List Act) (y : Act) (ys olds others : List Act) (vectors : List (List Act)) (rest : Text)
-    → Means (Some waveforms) Input 0 (suc (length ins)) → Means (Some waveforms) Output (suc (length ins)) (suc (length outs)) → AllActs Input (x ∷ xs) → AllActs Output (y ∷ ys)
-    → length xs ≡ length ins → length ys ≡ length outs → length olds ≡ suc (length ins) → length others ≡ suc (length outs) → length vectors < most
+    → (means : Means (Some waveforms) Input 0 (suc (length ins))) → (means' : Means (Some waveforms) Output (suc (length ins)) (suc (length outs))) → (acts : AllActs Input (x ∷ xs)) → (acts' : AllActs Output (y ∷ ys))
+    → (many : length xs ≡ length ins) → (many' : length ys ≡ length outs) → (old : length olds ≡ suc (length ins)) → (old' : length others ≡ suc (length outs)) → (room : length vectors < most)
     → vector most (grouped (i ∷ ins) (o ∷ outs)) (one_table waveforms) (so_far (olds ++ others) vectors) (cut_up false (codes "V { " ++ (codes "ins = " ++ run_text x xs (codes " outs = " ++ run_text y ys (codes " }\n" ++ rest)))))
     ≡ Ok (so_far ((x ∷ xs) ++ (y ∷ ys)) (vectors ++ ((x ∷ xs) ++ (y ∷ ys)) ∷ []), cut_up false rest)
 both_read most i ins o outs waveforms x xs y ys olds others vectors rest means means' acts acts' many many' old old' room =

@@ -8,3 +8,4 @@ pub mod LengthLemmas
 pub mod OnceLemmas
 mod WorkedPlan
 pub mod CellPlaces
+pub mod PlannedLemmas

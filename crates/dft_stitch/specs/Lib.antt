@@ -4,3 +4,5 @@ pub mod Shown
 pub mod Plans
 pub mod Tables
 pub mod Laws
+pub mod Planning
+pub mod PlannedShown

@@ -9,6 +9,7 @@ mod laws;
 mod limits;
 mod lockups;
 mod places;
+mod planned;
 mod planning;
 mod table;
 
@@ -21,4 +22,5 @@ pub use laws::{
 };
 pub use limits::{MAX_CELLS, MAX_CYCLES, MAX_VARIABLES};
 pub use places::{CellPlace, LockupPlace};
+pub use planned::{Planned, PrepareError};
 pub use planning::plan;

@@ -58,9 +58,9 @@ design_next : (n : Netlist) (c : Config) (next : Prepared → Outcome → Type 0
 design_next n c next o none (inl x) = (x.0, x.1.1)
 design_next n c next o none (inr x) = absurd (accepted_or_refused (first_refusal n c) x.1.0.0 none x.1.0.1.0)
 
-compile_due : (files : CompileFiles) (held : Held) (cells : List Cell) (c : Config) (n : Netlist) (cubes : List Cube) (placing : Placing c (plan_of n c) cubes) (list : List PatternData) (o : Outcome) → LibraryGives files.library held (Ok cells) →
-    ConfigGives files.config held (Ok c) → NetlistGives cells files.netlist held (Ok n) → first_refusal n c ≡ None → CubesGive n c files.cubes held (Ok cubes) →
-    ArePatterns n c (plan_of n c) placing.rows placing.merged list → refusal_of n c cubes placing list ≡ None → Reaches (course_of_compile files) held o → IsCompiled n c cubes placing list o
+compile_due : (files : CompileFiles) (held : Held) (cells : List Cell) (c : Config) (n : Netlist) (cubes : List Cube) (placing : Placing c (plan_of n c) cubes) (list : List PatternData) (o : Outcome) → (library : LibraryGives files.library held (Ok cells)) →
+    (config : ConfigGives files.config held (Ok c)) → (netlist : NetlistGives cells files.netlist held (Ok n)) → (first : first_refusal n c ≡ None) → (given : CubesGive n c files.cubes held (Ok cubes)) →
+    (are : ArePatterns n c (plan_of n c) placing.rows placing.merged list) → (late : refusal_of n c cubes placing list ≡ None) → (is : Reaches (course_of_compile files) held o) → IsCompiled n c cubes placing list o
 compile_due files held cells c n cubes placing list o library config netlist first given are late is =
     let design = design_of cells files.netlist held n netlist in
     let ranked = order_ranks n design.1.order design.1.sound design.1.ordered in
@@ -75,9 +75,9 @@ plan_next : (n : Netlist) (c : Config) (next : Plan → Outcome → Type 0) (o :
 plan_next n c next o none (inl x) = (x.0, x.1.1)
 plan_next n c next o none (inr x) = absurd (accepted_or_refused (plan_refusal n c) x.1.0.0 none x.1.0.1.0)
 
-pub certify_due : (files : CertifyFiles) (held : Held) (cells : List Cell) (c : Config) (n : Netlist) (cubes : List Cube) (report : Report) (rows : LoadRows) (o : Outcome) → LibraryGives files.library held (Ok cells) →
-    ConfigGives files.config held (Ok c) → NetlistGives cells files.netlist held (Ok n) → plan_refusal n c ≡ None → CubesGive n c files.cubes held (Ok cubes) → ReportGives files.report held (Ok report) →
-    AreRows n c rows → Reaches (course_of_certify files) held o → IsOutcomeOfTest report (certify_refusal n c.ring (rows_of n c rows) rows.columns cubes report) o
+pub certify_due : (files : CertifyFiles) (held : Held) (cells : List Cell) (c : Config) (n : Netlist) (cubes : List Cube) (report : Report) (rows : LoadRows) (o : Outcome) → (library : LibraryGives files.library held (Ok cells)) →
+    (config : ConfigGives files.config held (Ok c)) → (netlist : NetlistGives cells files.netlist held (Ok n)) → (none : plan_refusal n c ≡ None) → (given : CubesGive n c files.cubes held (Ok cubes)) → (told : ReportGives files.report held (Ok report)) →
+    (are : AreRows n c rows) → (is : Reaches (course_of_certify files) held o) → IsOutcomeOfTest report (certify_refusal n c.ring (rows_of n c rows) rows.columns cubes report) o
 certify_due files held cells c n cubes report rows o library config netlist none given told are is =
     let over = given_next (LibraryGives files.library held) (CertifyOver files held) o cells (library_gives_one files.library held) library is in
     let on = given_next (ConfigGives files.config held) (CertifyOn files cells held) o c (file_one MAX_CONFIG_BYTES (codes "config") ConfigText config_text_one (file_at files.config held)) config over in

@@ -52,8 +52,8 @@ on_passes n m p q rank compared o ordered netlist patterns passes x =
     let same : x.0 ≡ verdict.Pass compared = verdict_one m rank q x.0 (verdict.Pass compared) ordered x.1.0 has in
     x.1.1 ∙ ap (outcome_of q) same ∙ ap (λ (r : Patterns). Finished (Replayed (Passed (length r.vectors) compared))) patterns
 
-pub replay_passes : (files : ReplayFiles) (held : Held) (cells : List Cell) (n : Netlist) (p : Patterns) (netlist text : List ℕ) (compared : ℕ) (o : Outcome) → IsAccepted o → LibraryGives files.library held (Ok cells) →
-    file_at files.netlist held ≡ Some netlist → file_at files.patterns held ≡ Some text → StandsFor cells netlist n → pattern.StandsFor text p → HasVerdict n p (verdict.Pass compared) →
+pub replay_passes : (files : ReplayFiles) (held : Held) (cells : List Cell) (n : Netlist) (p : Patterns) (netlist text : List ℕ) (compared : ℕ) (o : Outcome) → (accepts : IsAccepted o) → (library : LibraryGives files.library held (Ok cells)) →
+    (at_netlist : file_at files.netlist held ≡ Some netlist) → (at_patterns : file_at files.patterns held ≡ Some text) → (stands : StandsFor cells netlist n) → (reads : pattern.StandsFor text p) → (passes : HasVerdict n p (verdict.Pass compared)) →
     Reaches (course_of_replay files) held o → o ≡ Finished (Replayed (Passed (length p.vectors) compared))
 replay_passes files held cells n p netlist text compared o accepts library at_netlist at_patterns stands reads passes x =
     let over = given_next (LibraryGives files.library held) (ReplayOver files held) o cells (library_gives_one files.library held) library x in

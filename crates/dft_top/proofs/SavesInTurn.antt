@@ -122,8 +122,8 @@ pub none_left : (all : List Saving) (old now : Option Held) (faults faults' : �
 none_left all old now faults faults' left = subst (λ (saved : List Saving). HaveSaved saved old now) (sym (left.in_order ∙ append-nil left.saved)) left.files
 
 -- the next save failed
-pub next_fails : (all rest : List Saving) (s : Saving) (old mid new : Option Held) (failed : List ℕ) (faults between faults' : ℕ) → AreApart all → AreLeft all (s ∷ rest) old mid faults between → ToldChange (base.KeepsOthers s.name) mid new →
-    ToldChange (λ h h'. LeavesPart s.bytes (file_at s.name h) (file_at s.name h')) mid new → failed ≡ s.name → Rose between faults' → SaveFailed all old new failed faults faults'
+pub next_fails : (all rest : List Saving) (s : Saving) (old mid new : Option Held) (failed : List ℕ) (faults between faults' : ℕ) → (apart : AreApart all) → (left : AreLeft all (s ∷ rest) old mid faults between) → (kept : ToldChange (base.KeepsOthers s.name) mid new) →
+    (part : ToldChange (λ h h'. LeavesPart s.bytes (file_at s.name h) (file_at s.name h')) mid new) → (name : failed ≡ s.name) → (rose : Rose between faults') → SaveFailed all old new failed faults faults'
 next_fails all rest s old mid new failed faults between faults' apart left kept part name rose =
     let split = subst AreApart left.in_order apart in record {
       saved = left.saved;

@@ -37,9 +37,9 @@ lists_more l m patterns p h is = subst (λ (k : Listing). Lists k (patterns ++ p
 
 -- the steps of one pattern more
 pub all_steps : (l l1 l2 l3 m : Listing) (patterns : List PatternData) (p : PatternData) (load : Config → Table) (last : Config → Plan → Option PatternData) → Lists l patterns →
-    last l.config l.plan ≡ last_of None patterns → load l.config ≡ load_of l.config p → l1 ≡ record l { vectors = begun_by l } →
-    l2 ≡ record l1 { vectors = l1.vectors ++ load_vectors l1.design l1.config l1.plan (load l1.config) p.masks (last l1.config l1.plan) } →
-    l3 ≡ record l2 { vectors = l2.vectors ++ capture_with l2.design l2.config p.merged p.response.outputs ∷ [] } → m ≡ record l3 { count = l3.count + 1 } → Lists m (patterns ++ p ∷ [])
+    (before : last l.config l.plan ≡ last_of None patterns) → (bits : load l.config ≡ load_of l.config p) → (e1 : l1 ≡ record l { vectors = begun_by l }) →
+    (e2 : l2 ≡ record l1 { vectors = l1.vectors ++ load_vectors l1.design l1.config l1.plan (load l1.config) p.masks (last l1.config l1.plan) }) →
+    (e3 : l3 ≡ record l2 { vectors = l2.vectors ++ capture_with l2.design l2.config p.merged p.response.outputs ∷ [] }) → (e4 : m ≡ record l3 { count = l3.count + 1 }) → Lists m (patterns ++ p ∷ [])
 all_steps l l1 l2 l3 m patterns p load last h before bits e1 e2 e3 e4 =
     let second = λ (k : Listing). record k { vectors = k.vectors ++ load_vectors k.design k.config k.plan (load k.config) p.masks (last k.config k.plan) } in
     let third = λ (k : Listing). record k { vectors = k.vectors ++ capture_with k.design k.config p.merged p.response.outputs ∷ [] } in

@@ -110,8 +110,8 @@ module_line-is n old new name ports o m p e = e ∙ rw (o, m, p) refl
 
 -- the parts, one behind the other
 pub assembled : (n : Netlist) (all wires : List Text) (a b c d e f : Text) → all ≡ net_texts n → wires ≡ map name_text (wire_names n)
-    → a ≡ module_line n.name n.ports → b ≡ a ++ flat_map port_line n.ports → c ≡ b ++ flat_map wire_line wires → d ≡ c ++ flat_map (join_line all) n.joins → e ≡ d ++ flat_map (instance_line n.library all) n.instances
-    → f ≡ e ++ codes "endmodule\n" → f ≡ written n
+    → (ha : a ≡ module_line n.name n.ports) → (hb : b ≡ a ++ flat_map port_line n.ports) → (hc : c ≡ b ++ flat_map wire_line wires) → (hd : d ≡ c ++ flat_map (join_line all) n.joins) → (he : e ≡ d ++ flat_map (instance_line n.library all) n.instances)
+    → (hf : f ≡ e ++ codes "endmodule\n") → f ≡ written n
 unfolding written body
 assembled n all wires a b c d e f t w ha hb hc hd he hf =
     let h : Text = module_line n.name n.ports in

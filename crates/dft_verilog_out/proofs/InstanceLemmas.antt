@@ -340,9 +340,9 @@ joined_case d nets cell pin pins to signals ih n place done rest (t ∷ ts) is e
     ∙ ih n (suc place) (done ++ Some to ∷ []) rest t ts e few ps w (omega (arith, length-append done (Some to ∷ [])))
     ∙ ap (λ (js : Joined). Ok ((d, js), cut_up (41 ∷ rest))) (append_assoc done (Some to ∷ []) (map as_joined signals))
 
-either_case : (t : Bool) (d : Draft) (nets : List Text) (cell : Cell) (pin : Pin) (pins : List Pin) (to : Signal) (signals : List Signal) → Conns d nets cell pins signals
-    → (n place : ℕ) (done : Joined) (rest first : Text) (more : List Text) → is_joined to ≡ t → cond t (connection_text nets pin.name to ∷ connection_texts nets pins signals) (connection_texts nets pins signals) ≡ first ∷ more
-    → length (first ∷ more) ≤ n → IsPin d nets cell place pin to → ArePins d nets cell (suc place) pins signals → length signals ≡ length pins → place ≡ length done
+either_case : (t : Bool) (d : Draft) (nets : List Text) (cell : Cell) (pin : Pin) (pins : List Pin) (to : Signal) (signals : List Signal) → (ih : Conns d nets cell pins signals)
+    → (n place : ℕ) (done : Joined) (rest first : Text) (more : List Text) → (is : is_joined to ≡ t) → cond t (connection_text nets pin.name to ∷ connection_texts nets pins signals) (connection_texts nets pins signals) ≡ first ∷ more
+    → (few : length (first ∷ more) ≤ n) → IsPin d nets cell place pin to → (ps : ArePins d nets cell (suc place) pins signals) → length signals ≡ length pins → (at : place ≡ length done)
     → named_connections_from n cell (d, done ++ None ∷ nones pins) (cut_up (list_text (first ∷ more) ++ 41 ∷ rest)) ≡ Ok ((d, done ++ cond t (Some to) None ∷ map as_joined signals), cut_up (41 ∷ rest))
 either_case true d nets cell pin pins to signals ih zero place done rest first more is e few p ps w at = absurd (omega arith)
 either_case true d nets cell pin pins to signals ih (suc n) place done rest first more is e few p ps w at =
