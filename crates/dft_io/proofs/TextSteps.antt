@@ -1,13 +1,13 @@
 -- What a text gives, its file gives.
-use Rattle.std.proofs.Common.{ℕ, ◌≡◌, ◌≤◌, inl, inr, length, List, Option, None, Some, Result, Ok, Err, refl, subst, sym}
+use Rattle.std.proofs.Common.{ℕ, ◌≡◌, inl, inr, List, Option, None, Some, Result, Ok, Err, subst, sym}
 use Rattle.std.specs.Prelude.{Vec}
 use Rattle.std.specs.declared.alloc.Global.{Global}
-use Rattle.dft_files.specs.Outside.{Held, Told, file_at}
+use Rattle.dft_files.specs.Outside.{Held, file_at}
 use Rattle.dft_answers.specs.declared.answer.Refusal.{Refusal}
 use Rattle.dft_io.specs.declared.stop.Stop.{Stop}
 use Rattle.dft_io.specs.declared.stop.Stop.TheVariants.{Refused, ReadFault, OutOfMemory}
 use Rattle.dft_io.specs.Texts.{FileGives, IsText}
-use Rattle.dft_io.specs.Steps.{IsGiven, IsGivenTold, LoadFails, SeenFiles, Takes, seen_files}
+use Rattle.dft_io.specs.Steps.{IsGiven, IsGivenTold, SeenFiles, Takes}
 
 -- ---- loaded
 

@@ -1,6 +1,6 @@
 -- Courses that are followed: what a step, and what a stop, makes of all that comes behind.
 use Rattle.std.proofs.Common.{ℕ, ◌≡◌, ◌∙◌, inl, inr, arith, List, Option, None, Some, Result, Ok, Err, refl, sym, ap, subst}
-use Rattle.dft_files.specs.Outside.{Held, Rose, Told, file_at}
+use Rattle.dft_files.specs.Outside.{Held, Told, file_at}
 use Rattle.dft_answers.specs.declared.answer.Refusal.{Refusal}
 use Rattle.dft_answers.specs.declared.outcome.Outcome.{Outcome}
 use Rattle.dft_answers.specs.declared.outcome.Outcome.TheVariants as outcome
@@ -11,8 +11,8 @@ use Rattle.dft_io.specs.Steps.{IsGiven, IsGivenTold, LoadFails, SeenFiles, Takes
 use Rattle.dft_cells.specs.declared.cell.Cell.{Cell}
 use Rattle.dft_cells.specs.Standard.{standard_cells}
 use Rattle.dft_top.specs.Checks.{LibraryGives}
-use Rattle.dft_top.specs.Courses.{Allows, Course, End, Loads, Reaches, Step, TurnComes}
-use Rattle.dft_top.specs.Follows.{ComesTo, Follows, StopsAtLoad, still}
+use Rattle.dft_top.specs.Courses.{Allows, Course, End, Reaches, Step, TurnComes}
+use Rattle.dft_top.specs.Follows.{ComesTo, Follows, still}
 
 -- ---- what a value makes of what comes behind
 

@@ -1,5 +1,5 @@
 -- How the run of a generated job ends.
-use Rattle.std.proofs.Common.{ℕ, ◌≡◌, ◌⊎◌, ◌∙◌, inl, inr, List, [], refl, sym, ap, subst, Option, Some}
+use Rattle.std.proofs.Common.{ℕ, ◌≡◌, ◌⊎◌, ◌∙◌, inl, inr, List, [], ap, subst, Option, Some}
 use Rattle.dft_files.specs.Outside.{Rose}
 use Rattle.dft_command_line.specs.Words.{AreFor, Command, Generate, JobNumbers}
 use Rattle.dft_command_line.proofs.Understood.{for_once}
@@ -8,7 +8,7 @@ use Rattle.dft_answers.specs.declared.answer.Refusal.{Refusal}
 use Rattle.dft_answers.specs.declared.answer.Status.TheVariants.{Done, OutOfMemory, WriteFault}
 use Rattle.dft_answers.specs.declared.outcome.Outcome.{Outcome}
 use Rattle.dft_answers.specs.declared.outcome.Outcome.TheVariants as outcome
-use Rattle.dft_answers.specs.Answers.{answer_of, status_of}
+use Rattle.dft_answers.specs.Answers.{answer_of}
 use Rattle.dft_top.specs.Outcomes.{IsOutcomeOfJob}
 use Rattle.dft_top.specs.Run.{EndsFor, GeneratesJob, IsDelivered, IsOf, Seen}
 use Rattle.dft_top.proofs.JobReplays.{JobsPass}

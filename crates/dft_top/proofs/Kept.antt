@@ -1,5 +1,5 @@
 -- Where there is nothing to save, no file is changed.
-use Rattle.std.proofs.Common.{ℕ, ◌≡◌, ◌⊎◌, ◌∙◌, inl, inr, List, [], ◌∷◌, ◌++◌, refl, sym, subst, Option, None, Some}
+use Rattle.std.proofs.Common.{ℕ, ◌≡◌, ◌⊎◌, ◌∙◌, inl, inr, List, [], ◌∷◌, ◌++◌, refl, sym, subst, Option, Some}
 use Rattle.dft_files.specs.Outside.{Held}
 use Rattle.dft_command_line.specs.Words.{Command, Scan, Compile, AreFor}
 use Rattle.dft_answers.specs.declared.answer.Answer.{Answer}

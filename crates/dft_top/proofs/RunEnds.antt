@@ -1,5 +1,5 @@
 -- How the run of a command ends that followed its course.
-use Rattle.std.proofs.Common.{ℕ, ◌≡◌, inl, inr, List, Option, None, Some, subst, sym}
+use Rattle.std.proofs.Common.{ℕ, ◌≡◌, inl, inr, List, Option, None, Some, subst}
 use Rattle.dft_files.specs.Outside.{Held, Told}
 use Rattle.dft_command_line.specs.Words.{Command, Replay, Scan, Compile, Certify, Generate}
 use Rattle.dft_answers.specs.declared.answer.Answer.{Answer}

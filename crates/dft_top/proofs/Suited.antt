@@ -1,5 +1,5 @@
 -- A command comes to a refusal, or to work of its own.
-use Rattle.std.proofs.Common.{ℕ, ◌≡◌, List, Option, None, Some, subst, sym}
+use Rattle.std.proofs.Common.{ℕ, List, Option, None, Some, subst, sym}
 use Rattle.dft_netlist.specs.Netlist.{Netlist}
 use Rattle.dft_patterns.specs.Patterns.{Patterns}
 use Rattle.dft_replay.specs.Fits.{first_misfit}

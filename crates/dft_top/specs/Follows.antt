@@ -1,5 +1,5 @@
 -- How a run follows the course of its command, up to the outcome.
-use Rattle.std.specs.Prelude.{ℕ, ◌≡◌, List, [], Option, Some, Result, Ok, Err}
+use Rattle.std.specs.Prelude.{◌≡◌, [], Some, Result, Ok, Err}
 use Rattle.dft_files.specs.Outside.{Held, Told, Rose}
 use Rattle.dft_answers.specs.declared.outcome.Outcome.{Outcome}
 use Rattle.dft_answers.specs.declared.outcome.Outcome.TheVariants as outcome

@@ -18,6 +18,15 @@ pub struct Saving<'a> {
     pub bytes: &'a [u8],
 }
 
+impl<'a> Saving<'a> {
+    // The bytes that are to be saved by this name.
+    fn of(name: &'a str, bytes: &'a [u8]) -> Saving<'a>
+        ensures { saving_of result ≡ record { name = name.now; bytes = bytes.now } }
+    {
+        Saving { name, bytes }
+    }
+}
+
 /// Saves what a command saves of its outcome, in order: of a scan the scanned netlist, and then the report; of a compilation the scanned
 /// netlist, the patterns, and then the report.
 pub fn save_outcome<F: Files>(
@@ -44,20 +53,11 @@ pub fn save_outcome<F: Files>(
                     ..
                 },
             ),
-        ) => save_all(
-            alloc,
-            &[
-                Saving {
-                    name: names.out,
-                    bytes: netlist.as_slice(),
-                },
-                Saving {
-                    name: names.report,
-                    bytes: report.as_slice(),
-                },
-            ],
-            files,
-        ),
+        ) => {
+            let netlist = Saving::of(names.out, netlist.as_slice());
+            let report = Saving::of(names.report, report.as_slice());
+            save_all(alloc, &[netlist, report], files)
+        }
         (
             Some(Command::Compile(names)),
             Outcome::Finished(
@@ -68,24 +68,12 @@ pub fn save_outcome<F: Files>(
                     ..
                 },
             ),
-        ) => save_all(
-            alloc,
-            &[
-                Saving {
-                    name: names.out_netlist,
-                    bytes: netlist.as_slice(),
-                },
-                Saving {
-                    name: names.out_patterns,
-                    bytes: patterns.as_slice(),
-                },
-                Saving {
-                    name: names.out_report,
-                    bytes: report.as_slice(),
-                },
-            ],
-            files,
-        ),
+        ) => {
+            let netlist = Saving::of(names.out_netlist, netlist.as_slice());
+            let patterns = Saving::of(names.out_patterns, patterns.as_slice());
+            let report = Saving::of(names.out_report, report.as_slice());
+            save_all(alloc, &[netlist, patterns, report], files)
+        }
         _ => Ok(()),
     }
 }
