@@ -149,7 +149,7 @@ module _ (size : ℕ) (words : List ℕ) (few : size ≤ 20000) (some : 0 < size
       ∙ ap (λ (o : Option Judged). None ∷ o ∷ map (judged (design size words) configuration) (range_with_len (from + from + 1 + 1) (count + count))) (ap (judged (design size words) configuration) one ∙ judged_flop size words from (omega (arith, last)))
       ∙ ap (λ (js : List (Option Judged)). None ∷ Some (Scanned (from % 2)) ∷ js) (ap (λ (k : ℕ). map (judged (design size words) configuration) (range_with_len k (count + count))) next ∙ judged_from count (from + 1) (omega (arith, last)))
 
-  pub judgements-are : judgements (design size words) configuration ≡ verdicts 0 size
+  judgements-are : judgements (design size words) configuration ≡ verdicts 0 size
   judgements-are =
       let count : length (design size words).instances ≡ size + size = let l = instances-length all size words size 0 in omega (arith, l) in
       ap (λ (k : ℕ). map (judged (design size words) configuration) (range_with_len 0 k)) count ∙ judged_from size 0 (omega arith)
@@ -160,11 +160,14 @@ module _ (size : ℕ) (words : List ℕ) (few : size ≤ 20000) (some : 0 < size
       let i = scanned_count count (from + 1) in
       omega (arith, i, sum_by-cons (λ (v : Option Judged). cond (is_scanned v) 1 0) None (Some (Scanned (from % 2)) ∷ verdicts (from + 1) count), sum_by-cons (λ (v : Option Judged). cond (is_scanned v) 1 0) (Some (Scanned (from % 2))) (verdicts (from + 1) count))
 
+  -- each cell's flip-flop is scanned
+  pub scanned_here : count_by is_scanned (judgements (design size words) configuration) ≡ size
+  scanned_here = ap (count_by is_scanned) judgements-are ∙ scanned_count size 0
+
   many : 16 ≤ size → too_few (judgements (design size words) configuration) configuration.chains ≡ None
   many low =
-      let count : count_by is_scanned (judgements (design size words) configuration) ≡ size = ap (count_by is_scanned) judgements-are ∙ scanned_count size 0 in
       let full : ltb size 16 ≡ false = grind (arith, nat_tests) in
-      rw (count, full) refl
+      rw (scanned_here, full) refl
 
   pub rules_pass : 16 ≤ size → refusal (design size words) configuration ≡ None
   rules_pass low =

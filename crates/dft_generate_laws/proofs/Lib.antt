@@ -13,6 +13,7 @@ pub mod NetNames
 pub mod NetlistLaws
 pub mod Nets
 pub mod Places
+pub mod Plans
 pub mod Said
 pub mod Seeds
 pub mod Sound
