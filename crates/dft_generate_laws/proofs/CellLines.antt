@@ -71,6 +71,20 @@ flop_some cell = omega arith
 
 -- ---- the cells
 
+-- the kinds of the gates
+pub data IsGateKind : Kind → Type 0 where
+  IsNand : IsGateKind primitive.Nand
+  IsNor : IsGateKind primitive.Nor
+  IsXor : IsGateKind primitive.Xor
+  IsAnd : IsGateKind primitive.And
+
+-- what holds of each of them holds of all
+pub each_kind : (P : Kind → Type 0) → P primitive.Nand → P primitive.Nor → P primitive.Xor → P primitive.And → (k : Kind) → IsGateKind k → P k
+each_kind P nand nor xor and _ IsNand = nand
+each_kind P nand nor xor and _ IsNor = nor
+each_kind P nand nor xor and _ IsXor = xor
+each_kind P nand nor xor and _ IsAnd = and
+
 -- the gate of two inputs with this name and this number
 pub record IsGateCell (name : Text) (number : ℕ) : Type 0 where
   pub kind : Kind
@@ -79,13 +93,14 @@ pub record IsGateCell (name : Text) (number : ℕ) : Type 0 where
   pub plain : IsPlain name
   -- its output is driven by the gate of its inputs
   pub acts : (i : ℕ) (inputs : List Source) → driver_of_kind kind i false inputs ≡ drivers.Gate kind inputs
+  pub among : IsGateKind kind
 
 gate_by : (a b c : Bool) → IsGateCell (cond a (codes "NAND2") (cond b (codes "NOR2") (cond c (codes "XOR2") (codes "AND2")))) (cond a 12 (cond b 15 (cond c 27 0)))
 unfolding reserved_words
-gate_by true b c = record { kind = primitive.Nand; found = refl; there = refl; plain = record { word = refl; free = refl; head = 78; tail = codes "AND2"; is = refl; other = λ e. absurd (omega arith) }; acts = λ i inputs. refl }
-gate_by false true c = record { kind = primitive.Nor; found = refl; there = refl; plain = record { word = refl; free = refl; head = 78; tail = codes "OR2"; is = refl; other = λ e. absurd (omega arith) }; acts = λ i inputs. refl }
-gate_by false false true = record { kind = primitive.Xor; found = refl; there = refl; plain = record { word = refl; free = refl; head = 88; tail = codes "OR2"; is = refl; other = λ e. absurd (omega arith) }; acts = λ i inputs. refl }
-gate_by false false false = record { kind = primitive.And; found = refl; there = refl; plain = record { word = refl; free = refl; head = 65; tail = codes "ND2"; is = refl; other = λ e. absurd (omega arith) }; acts = λ i inputs. refl }
+gate_by true b c = record { kind = primitive.Nand; found = refl; there = refl; plain = record { word = refl; free = refl; head = 78; tail = codes "AND2"; is = refl; other = λ e. absurd (omega arith) }; acts = λ i inputs. refl; among = IsNand }
+gate_by false true c = record { kind = primitive.Nor; found = refl; there = refl; plain = record { word = refl; free = refl; head = 78; tail = codes "OR2"; is = refl; other = λ e. absurd (omega arith) }; acts = λ i inputs. refl; among = IsNor }
+gate_by false false true = record { kind = primitive.Xor; found = refl; there = refl; plain = record { word = refl; free = refl; head = 88; tail = codes "OR2"; is = refl; other = λ e. absurd (omega arith) }; acts = λ i inputs. refl; among = IsXor }
+gate_by false false false = record { kind = primitive.And; found = refl; there = refl; plain = record { word = refl; free = refl; head = 65; tail = codes "ND2"; is = refl; other = λ e. absurd (omega arith) }; acts = λ i inputs. refl; among = IsAnd }
 
 pub gate_known : (word : ℕ) → IsGateCell (kind_of word) (gate_cell word)
 gate_known word = gate_by (eqb (word % 4) 0) (eqb (word % 4) 1) (eqb (word % 4) 2)

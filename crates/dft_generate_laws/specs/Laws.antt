@@ -1,12 +1,15 @@
 -- Laws of generated jobs.
-use Rattle.std.specs.Prelude.{ℕ, ◌≡◌, List, Ok}
+use Rattle.std.specs.Prelude.{ℕ, ◌≡◌, List, Ok, None}
 use Rattle.dft_cells.specs.Standard.{standard_cells}
 use Rattle.dft_netlist_text.specs.NetlistText.{StandsFor}
+use Rattle.dft_rules.specs.Refusals as rules
+use Rattle.dft_stitch.specs.Limits as limits
 use Rattle.dft_cubes.specs.Cubes.{cubes_of}
 use Rattle.dft_generate.specs.Configurations.{configuration}
 use Rattle.dft_generate.specs.Cubes.{cubes_text}
 use Rattle.dft_generate.specs.Jobs.{IsSize}
 use Rattle.dft_generate.specs.Netlists.{netlist_text}
+use Rattle.dft_generate.specs.Words.{words_of}
 use Rattle.dft_generate_laws.specs.CubeLists.{cubes_in, AreWords}
 use Rattle.dft_generate_laws.specs.Designs.{design}
 
@@ -17,6 +20,19 @@ NetlistsAreRead = (size : ℕ) (words : List ℕ) → IsSize size → StandsFor 
 -- the cubes of every size, from words that are enough, are read for that design and the stated configuration as the stated cubes
 abbrev pub CubesAreRead : Type 0
 CubesAreRead = (size : ℕ) (words : List ℕ) → IsSize size → AreWords size words → cubes_of (design size words) configuration (cubes_text size words) ≡ Ok (cubes_in size words)
+
+-- a seed gives words that are enough, each of 32 bits
+abbrev pub SeedsGiveWords : Type 0
+SeedsGiveWords = (seed size : ℕ) → AreWords size (words_of seed size)
+
+-- no scan rule and no limit of the plan refuses the design with the stated configuration
+pub record IsAccepted (size : ℕ) (words : List ℕ) : Type 0 where
+  pub rules : rules.refusal (design size words) configuration ≡ None
+  pub plan : limits.refusal (design size words) configuration ≡ None
+
+-- so it is for every size, from whatever words
+abbrev pub DesignsAreAccepted : Type 0
+DesignsAreAccepted = (size : ℕ) (words : List ℕ) → IsSize size → IsAccepted size words
 
 -- for a trial
 abbrev pub Nothing : Type 0
