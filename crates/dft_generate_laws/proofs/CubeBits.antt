@@ -1,27 +1,25 @@
 -- The lines of a generated cube are read one after another.
-use Rattle.std.proofs.Common.{◌≡◌, ◌⊎◌, inl, inr, ℕ, zero, suc, ◌+◌, ◌*◌, ◌/◌, ◌%◌, ◌<◌, ◌≤◌, ◌^◌, Bool, true, false, cond, eqb, List, [], ◌∷◌, ◌++◌, length, get_or, take, Option, Some, None, Ok, codes, decimal, refl, sym, ap, ◌∙◌, subst, arith, append_assoc, append-nil, slice_get, zero-add}
-use Rattle.std.specs.Prelude.{◌||◌, ◌&&◌, ◌==◌}
+use Rattle.std.proofs.Common.{◌≡◌, ℕ, zero, suc, ◌+◌, ◌/◌, ◌%◌, ◌<◌, ◌≤◌, ◌^◌, Bool, true, false, List, [], ◌∷◌, ◌++◌, Option, Some, None, codes, decimal, refl, sym, ap, ◌∙◌, subst, arith, append_assoc, append-nil, slice_get, zero-add}
+use Rattle.std.specs.Prelude.{◌||◌, ◌==◌}
 use Rattle.std.specs.List.{list_all, list_any, range_with_len}
 use Rattle.std.proofs.Math.Nat.{mod-lt}
 use Rattle.std.proofs.lemmas.Bool.Decides.{nat_tests}
 use Rattle.std.proofs.lemmas.Fmt.{decimal_digit}
 use Rattle.std.proofs.lemmas.List.Folds.{list_any-append}
-use Rattle.std.specs.Str.{bytes_eq}
 use Rattle.dft_base.specs.Lexing.{Text}
 use Rattle.dft_base.specs.declared.place.Place.{Place}
 use Rattle.dft_base.proofs.TextLemmas.{bytes_eq-self}
 use Rattle.dft_cells.specs.Standard.{standard_cells}
-use Rattle.dft_netlist.specs.declared.ids.InstanceId.{InstanceId}
 use Rattle.dft_netlist.specs.declared.instance.Instance.{Instance}
 use Rattle.dft_netlist.specs.Drivers.{kind_of, kind_at}
 use Rattle.dft_netlist.specs.Names.{find_instance, find_instance_from}
 use Rattle.dft_rules.specs.Rules.{may_be_scanned, flip_flop_named}
-use Rattle.dft_word_lines.specs.Lines.{lines_of, words_from, words_of, are_printed}
+use Rattle.dft_word_lines.specs.Lines.{lines_of, words_of, are_printed}
 use Rattle.dft_cubes.specs.declared.cube.Cube.{Cube}
-use Rattle.dft_cubes.specs.Cubes.{SetCell, Reading, has_cell, cell_refusal, said_refusal, line_of, line_refusal, with_line, with_cell, or_refused, place_of_line, cubes_from}
+use Rattle.dft_cubes.specs.Cubes.{Reading, has_cell, line_refusal, with_line, or_refused, place_of_line, cubes_from}
 use Rattle.dft_generate.specs.Configurations.{configuration}
 use Rattle.dft_generate.specs.Cubes.{bit_line, is_named, line_unless, new_bit_line}
-use Rattle.dft_generate_laws.specs.Designs.{numbered, nets_of, f_of, gate_in, flop_in, instances_in, design}
+use Rattle.dft_generate_laws.specs.Designs.{nets_of, f_of, flop_in, instances_in, design}
 use Rattle.dft_generate_laws.specs.CubeLists.{Given, flop_of, bit_given, given_unless, new_bit}
 use Rattle.dft_generate_laws.proofs.Ties.{numbers_differ}
 use Rattle.dft_generate_laws.proofs.Places.{flop_at}

@@ -1,5 +1,5 @@
 -- The texts of every generated job are read.
-use Rattle.std.proofs.Common.{◌≡◌, ℕ, List, Ok, sym, ap, subst, ◌∙◌}
+use Rattle.std.proofs.Common.{ℕ, List, sym, ap, subst, ◌∙◌}
 use Rattle.dft_base.specs.Lexing.{Text}
 use Rattle.dft_cells.specs.Standard.{standard_cells}
 use Rattle.dft_config.specs.Refusals.{IsConfig}

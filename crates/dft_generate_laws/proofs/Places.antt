@@ -1,5 +1,5 @@
 -- The instances of a generated netlist by their places, and the nets that they name.
-use Rattle.std.proofs.Common.{◌≡◌, ◌⊎◌, inl, inr, ℕ, zero, suc, ◌+◌, ◌*◌, ◌<◌, ◌≤◌, ◌^◌, Bool, true, false, List, [], ◌∷◌, ◌++◌, length, Option, Some, None, codes, slice_get, refl, sym, ap, ◌∙◌, subst, arith, length-append}
+use Rattle.std.proofs.Common.{◌≡◌, ◌⊎◌, inl, inr, ℕ, zero, suc, ◌+◌, ◌*◌, ◌<◌, ◌≤◌, true, List, [], length, Some, codes, slice_get, refl, sym, ap, ◌∙◌, subst, arith, length-append}
 use Rattle.std.specs.List.{range_with_len}
 use Rattle.std.proofs.Math.Nat.{mod-lt}
 use Rattle.std.proofs.lemmas.List.FromFn.{length-range_with_len}
@@ -8,7 +8,7 @@ use Rattle.dft_cells.specs.WellFormed.{has_name}
 use Rattle.dft_netlist.specs.declared.instance.Instance.{Instance}
 use Rattle.dft_generate.specs.Words.{word_at}
 use Rattle.dft_generate_laws.specs.Designs.{with_net, with_cell, with_cells, port_nets, nets_of, number_in, q_of, d_of, first_of, second_of, gate_in, flop_in, instances_in}
-use Rattle.dft_generate_laws.proofs.Nets.{Grows, grows-on, with-grows, with-has, grown-has, cells-grow, cells-size, number-below, number-at}
+use Rattle.dft_generate_laws.proofs.Nets.{with-grows, with-has, grown-has, cells-grow, cells-size, number-at}
 use Rattle.dft_generate_laws.proofs.Ties.{IsInner, other_inner}
 use Rattle.dft_generate_laws.proofs.Said.{nets-are, nets_grow}
 

@@ -7,6 +7,7 @@ use Rattle.dft_rules.specs.Refusals as rules
 use Rattle.dft_stitch.specs.Limits as limits
 use Rattle.dft_cubes.specs.Cubes.{cubes_of}
 use Rattle.dft_generate.specs.Configurations.{configuration}
+use Rattle.dft_generate.specs.Configurations as stated
 use Rattle.dft_generate.specs.Cubes.{cubes_text}
 use Rattle.dft_generate.specs.declared.job.Job.{Job}
 use Rattle.dft_generate.specs.Jobs.{IsSize, IsJob}
@@ -39,8 +40,8 @@ DesignsAreAccepted = (size : ℕ) (words : List ℕ) → IsSize size → IsAccep
 -- the three texts of a job are read: the netlist as the stated design, the configuration and the cubes as the stated ones
 pub record IsRead (size : ℕ) (words : List ℕ) (job : Job) : Type 0 where
   pub netlist : StandsFor standard_cells job.netlist.items (design size words)
-  pub configuration : IsConfig job.configuration.items configuration
-  pub cubes : cubes_of (design size words) configuration job.cubes.items ≡ Ok (cubes_in size words)
+  pub configuration : IsConfig job.configuration.items stated.configuration
+  pub cubes : cubes_of (design size words) stated.configuration job.cubes.items ≡ Ok (cubes_in size words)
 
 -- so are those of the job of every seed and size
 abbrev pub JobsAreRead : Type 0
