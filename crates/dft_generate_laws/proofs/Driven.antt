@@ -211,8 +211,7 @@ drives_at all size words (suc count) i from (suc k) lt =
     let h = drives_at all size words count (suc (suc i)) (from + 1) k (omega (arith, lt)) in
     let e : suc k + suc k ≡ suc (suc (k + k)) = omega arith in
     let f : from + 1 + k ≡ from + suc k = omega arith in
-    let g : suc (suc (suc i) + (k + k)) ≡ suc (i + (suc k + suc k)) = omega arith in
-    (
+    let g : suc (suc (suc i) + (k + k)) ≡ suc (i + (suc k + suc k)) = omega arith in (
       ap (slice_get (cells_drive all size words i from (suc count))) e ∙ h.0 ∙ ap (λ (c : ℕ). Some (number_in all (d_of c), gate_drives all size words c)) f,
       ap (λ (m : ℕ). slice_get (cells_drive all size words i from (suc count)) (suc m)) e ∙ h.1 ∙ ap (λ (c : ℕ). Some (number_in all (q_of c), Flop (suc (suc (suc i) + (k + k))) false)) f
           ∙ ap (λ (j : ℕ). Some (number_in all (q_of (from + suc k)), Flop j false)) g,
@@ -282,6 +281,11 @@ join_ordered size words few some read (inr h) = absurd h
 pub are_orderable : (size : ℕ) (words : List ℕ) → size ≤ 20000 → 0 < size → (net : ℕ) → IsOrderable (design size words) net
 are_orderable size words few some net =
     Follows (subst (λ (ds : List Driven). ReadsOrdered size words (driver_in ds net)) (sym (all-listed size words))
-    (drive_in (ReadsOrdered size words) (listed size words) net (λ read h. absurd h)
-    (λ read h. absurd h, (λ read h. absurd h, drive_append (ReadsOrdered size words) (cells_drive (nets_of size words) size words 0 0 size) ((2, Joined (Net (number_in (nets_of size words) (q_of 0)))) ∷ [])
-    (cells_ordered size words 0 0 size few some) (join_ordered size words few some, tt)))))
+    (drive_in (ReadsOrdered size words) (listed size words) net (λ read h. absurd h) (
+      λ read h. absurd h,
+      (
+        λ read h. absurd h,
+        drive_append (ReadsOrdered size words) (cells_drive (nets_of size words) size words 0 0 size) ((2, Joined (Net (number_in (nets_of size words) (q_of 0)))) ∷ [])
+            (cells_ordered size words 0 0 size few some) (join_ordered size words few some, tt),
+      ),
+    )))

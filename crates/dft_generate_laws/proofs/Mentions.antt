@@ -25,6 +25,7 @@ use Rattle.dft_verilog_out.proofs.CountLemmas.{look}
 use Rattle.dft_verilog_out.proofs.DraftLemmas.{entry, meaning_some}
 use Rattle.dft_verilog_out.proofs.RuleLemmas.{named, whole-at}
 use Rattle.dft_verilog_out.proofs.ItemLemmas.{named_connection-at}
+use Rattle.dft_verilog_out.proofs.OperandLemmas.{no_close}
 use Rattle.dft_verilog_out.proofs.PhaseLemmas.{declared_ports}
 use Rattle.dft_generate_laws.specs.Designs.{design_ports, with_net, number_in, net_in}
 use Rattle.dft_generate_laws.proofs.Words as words
@@ -134,10 +135,6 @@ close_ends drives behind = ap (λ (ts : List Token). ends (site.Pin drives) (kin
 close_single : (behind : Text) → sees kind.OpenBracket (cut_up (41 ∷ behind)) ≡ false
 unfolding sees kind_of same_kind
 close_single behind = ap (λ (ts : List Token). sees kind.OpenBracket ts) (cut_up-close behind)
-
-no_close : (w : Text) (l : ℕ) (ts : List Token) → sees kind.CloseParen (token kind.Name w l ∷ ts) ≡ false
-unfolding sees kind_of same_kind
-no_close w l ts = refl
 
 opened : (net behind : Text) → IsPlain net → cut_up (40 ∷ (net ++ behind)) ≡ token kind.OpenParen (40 ∷ []) (suc (length (net ++ behind))) ∷ cut_up (net ++ behind)
 opened net behind p = rw p.is (cut_up-open p.head (p.tail ++ behind) p.other)

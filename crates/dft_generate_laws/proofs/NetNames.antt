@@ -246,10 +246,10 @@ all_once nets all size words n few word =
     elim (zero_or (times word nets)) [
       | inl none ↦ omega (arith, none, b, is, times-append word nets owns)
       | inr some ↦ elim (zero_or (times word (own_words 0 size))) [
-          | inl none ↦ omega (arith, none, a, is, times-append word nets owns)
-          | inr own ↦ (
-              let at = times-where nets word some in
-              let o = own_or size 0 word own in
-              absurd (no_own word (n.each at.0 word at.1) o.0 o.1))
-        ]
+        | inl none ↦ omega (arith, none, a, is, times-append word nets owns)
+        | inr own ↦ (
+            let at = times-where nets word some in
+            let o = own_or size 0 word own in
+            absurd (no_own word (n.each at.0 word at.1) o.0 o.1))
+      ]
     ]
