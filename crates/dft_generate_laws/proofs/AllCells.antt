@@ -1,18 +1,17 @@
 -- The lines of all cells are read, one cell after another.
-use Rattle.std.proofs.Common.{◌≡◌, ℕ, zero, suc, ◌+◌, ◌*◌, ◌<◌, ◌≤◌, ◌^◌, List, [], ◌∷◌, ◌++◌, length, flat_map, refl, sym, ap, ◌∙◌, subst, arith, append_assoc, append-nil, length-append}
+use Rattle.std.proofs.Common.{◌≡◌, ℕ, zero, suc, ◌+◌, ◌*◌, ◌<◌, ◌≤◌, List, [], ◌∷◌, ◌++◌, length, flat_map, refl, sym, ap, ◌∙◌, subst, arith, append_assoc, append-nil, length-append}
 use Rattle.std.specs.List.{range_with_len}
 use Rattle.dft_base.specs.Lexing.{Text}
-use Rattle.dft_netlist.specs.declared.limits.TheConstants.{MAX_NETS, MAX_INSTANCES}
 use Rattle.dft_netlist.specs.declared.instance.Instance.{Instance}
 use Rattle.dft_netlist_text.specs.Modules.{TakenName, Draft}
-use Rattle.dft_verilog_out.proofs.LineLemmas.{Line, Lines, no_lines, lines_cons}
+use Rattle.dft_verilog_out.proofs.LineLemmas.{Lines, no_lines, lines_cons}
 use Rattle.dft_generate.specs.Netlists.{gate_line, flop_line, cell_lines}
 use Rattle.dft_generate.specs.Words.{word_at}
 use Rattle.dft_generate_laws.specs.Designs.{with_net, with_cell, with_cells, q_of, d_of, first_of, second_of, gate_in, flop_in, instances_in}
 use Rattle.dft_generate_laws.proofs.Nets.{Grows, grows-on, with-grows, with-has, with-size, cells-grow, cell-size}
 use Rattle.dft_generate_laws.proofs.Ties.{AreTied}
 use Rattle.dft_generate_laws.proofs.Mentions.{draft}
-use Rattle.dft_generate_laws.proofs.CellLines.{Step, gate_nets, gate_step, flop_step}
+use Rattle.dft_generate_laws.proofs.CellLines.{gate_nets, gate_step, flop_step}
 
 -- two for each
 abbrev pub twice : ℕ → ℕ

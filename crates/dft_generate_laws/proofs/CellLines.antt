@@ -1,11 +1,10 @@
 -- The lines of a generated cell are read as its gate and its flip-flop.
-use Rattle.std.proofs.Common.{◌≡◌, ℕ, zero, suc, ◌+◌, ◌*◌, ◌%◌, ◌<◌, ◌≤◌, ◌^◌, Bool, true, false, cond, eqb, List, [], ◌∷◌, ◌++◌, length, Some, None, Ok, codes, decimal, slice_get, slice_set, refl, sym, ap, ◌∙◌, subst, arith, append_assoc, length-append}
+use Rattle.std.proofs.Common.{◌≡◌, ℕ, suc, ◌+◌, ◌*◌, ◌%◌, ◌<◌, ◌≤◌, ◌^◌, Bool, true, false, cond, eqb, List, [], ◌∷◌, ◌++◌, length, Some, None, codes, decimal, slice_get, refl, sym, ap, ◌∙◌, subst, arith, append_assoc, length-append}
 use Rattle.std.proofs.Math.Nat.{mod-lt}
 use Rattle.dft_base.specs.Lexing.{Text}
-use Rattle.dft_base.specs.Words.{is_word, is_reserved, reserved_words}
+use Rattle.dft_base.specs.Words.{is_reserved, reserved_words}
 use Rattle.dft_cells.specs.declared.kind.Kind.{Kind}
 use Rattle.dft_cells.specs.declared.kind.Kind.TheVariants as primitive
-use Rattle.dft_cells.specs.declared.cell.CellId.{CellId}
 use Rattle.dft_cells.specs.declared.cell.Cell.{Cell}
 use Rattle.dft_cells.specs.Cells.{find_cell}
 use Rattle.dft_cells.specs.Standard.{gate, flip_flop, standard_cells}
@@ -17,7 +16,7 @@ use Rattle.dft_netlist.specs.declared.instance.Instance.{Instance}
 use Rattle.dft_netlist.specs.Drivers.{Source, driver_of_kind}
 use Rattle.dft_netlist.specs.Drivers as drivers
 use Rattle.dft_netlist_text.specs.declared.text.Meaning.TheVariants as meaning
-use Rattle.dft_netlist_text.specs.Modules.{TakenName, Draft, name_instance, with_instance}
+use Rattle.dft_netlist_text.specs.Modules.{TakenName}
 use Rattle.dft_netlist_text.specs.Items.{Joined, unjoined, cell_instance}
 use Rattle.dft_verilog_out.proofs.DraftLemmas.{entry, name_instance-is}
 use Rattle.dft_verilog_out.proofs.LineLemmas.{Line}
@@ -26,7 +25,7 @@ use Rattle.dft_generate.specs.Words.{word_at}
 use Rattle.dft_generate_laws.specs.Designs.{numbered, with_net, number_in, net_in, q_of, d_of, g_of, f_of, first_of, second_of, gate_cell, gate_in, flop_in}
 use Rattle.dft_generate_laws.proofs.Words as words
 use Rattle.dft_generate_laws.proofs.Nets.{Grows, grows-on, with-grows, with-has, with-size, grown-number}
-use Rattle.dft_generate_laws.proofs.Ties.{IsInner, AreTied, names_with, q-inner, d-inner, tied-net, tied-gate, tied-flop}
+use Rattle.dft_generate_laws.proofs.Ties.{AreTied, names_with, q-inner, d-inner, tied-net, tied-gate, tied-flop}
 use Rattle.dft_generate_laws.proofs.Mentions.{draft, IsPlain, plain_inner, net_bits, known_bits, clock_bits, plain_clock, connection_read}
 use Rattle.dft_generate_laws.proofs.Cells.{instance_text, IsInstanceLine, instance_read}
 

@@ -1,17 +1,17 @@
 -- The line of an instance with three connections.
-use Rattle.std.proofs.Common.{◌≡◌, ℕ, zero, suc, ◌+◌, ◌-◌, ◌<◌, ◌≤◌, Bool, true, false, List, [], ◌∷◌, ◌++◌, length, Some, Ok, slice_get, refl, sym, ap, ◌∙◌, subst, arith, length-append}
+use Rattle.std.proofs.Common.{◌≡◌, ℕ, suc, ◌-◌, ◌<◌, [], ◌∷◌, ◌++◌, length, Some, Ok, slice_get, refl, sym, ap, ◌∙◌, arith, length-append}
 use Rattle.dft_base.specs.Lexing.{Text}
 use Rattle.dft_cells.specs.declared.cell.CellId.{CellId}
 use Rattle.dft_cells.specs.declared.cell.Cell.{Cell}
 use Rattle.dft_cells.specs.Cells.{find_cell}
 use Rattle.dft_netlist_text.specs.declared.text.TokenKind.TheVariants as kind
-use Rattle.dft_netlist_text.specs.Lexemes.{Token}
-use Rattle.dft_netlist_text.specs.Steps.{kind_of, left, same_kind, sees}
+use Rattle.dft_netlist_text.specs.Steps.{left, sees}
 use Rattle.dft_netlist_text.specs.Modules.{Draft, name_instance, with_instance}
 use Rattle.dft_netlist_text.specs.Items.{item, Joined, Connected, unjoined, named_connection, named_connections_from, connections, cell_instance}
-use Rattle.dft_verilog_out.proofs.CutLemmas.{cut_up, token, cut_up-point, cut_up-open, cut_up-close, cut_up-comma, cut_up-semicolon, cut_up-space, cut_up-line}
+use Rattle.dft_verilog_out.proofs.CutLemmas.{cut_up, token, cut_up-point, cut_up-open, cut_up-close, cut_up-comma, cut_up-space}
 use Rattle.dft_verilog_out.proofs.ItemLemmas.{cell-at, connections-some, named_connections_from-more, named_connections_from-end}
 use Rattle.dft_verilog_out.proofs.OperandLemmas.{left_of}
+use Rattle.dft_verilog_out.proofs.InstanceLemmas.{close_line, no_end_name}
 use Rattle.dft_verilog_out.proofs.LineLemmas.{Line}
 use Rattle.dft_generate_laws.proofs.Mentions.{IsPlain, word_at, connection}
 
@@ -53,13 +53,6 @@ three_read cell a b c e p v q w r x rest one two last =
 
 -- ---- the line
 
-close_line : (rest : Text) → cut_up (41 ∷ 59 ∷ 10 ∷ rest) ≡ token kind.CloseParen (41 ∷ []) (suc (suc (suc (length rest)))) ∷ token kind.Semicolon (59 ∷ []) (suc (suc (length rest))) ∷ cut_up rest
-close_line rest = cut_up-close (59 ∷ 10 ∷ rest) ∙ ap (λ ts. token kind.CloseParen (41 ∷ []) (suc (suc (suc (length rest)))) ∷ ts) (cut_up-semicolon (10 ∷ rest) ∙ ap (λ ts. token kind.Semicolon (59 ∷ []) (suc (suc (length rest))) ∷ ts) (cut_up-line rest))
-
-no_end : (word : Text) (l : ℕ) (ts : List Token) → sees kind.Endmodule (token kind.Name word l ∷ ts) ≡ false
-unfolding sees kind_of same_kind
-no_end word l ts = refl
-
 -- an instance of this cell with this name and these connections, and what stands behind
 abbrev pub instance_text : (word name p v q w r x rest : Text) → Text
 instance_text word name p v q w r x rest = word ++ 32 ∷ (name ++ 32 ∷ 40 ∷ three p v q w r x (41 ∷ 59 ∷ 10 ∷ rest))
@@ -91,7 +84,7 @@ instance_read line d named behind id cell joined word name p v q w r x parts som
       (three_read cell (named, unjoined cell) h.first h.second (behind, joined) p v q w r x (59 ∷ 10 ∷ rest) h.one h.two h.last ∙ ap (λ ts. Ok ((behind, joined), ts)) (close_line rest));
   goes_on = λ rest.
       let m = word_at word 32 (name ++ 32 ∷ 40 ∷ three p v q w r x (41 ∷ 59 ∷ 10 ∷ rest)) h.cell_word.word h.cell_word.free refl in
-      ap (λ t. sees kind.Endmodule (cut_up t)) (parts rest) ∙ ap (sees kind.Endmodule) m.at ∙ no_end word (suc m.left) _;
+      ap (λ t. sees kind.Endmodule (cut_up t)) (parts rest) ∙ ap (sees kind.Endmodule) m.at ∙ no_end_name word (suc m.left) _;
   size = λ rest.
       let m = word_at word 32 (name ++ 32 ∷ 40 ∷ three p v q w r x (41 ∷ 59 ∷ 10 ∷ rest)) h.cell_word.word h.cell_word.free refl in
       ap (λ t. left (cut_up t)) (parts rest) ∙ ap left m.at ∙ left_of kind.Name word (suc m.left) _ ∙ sym m.size ∙ ap length (sym (parts rest));

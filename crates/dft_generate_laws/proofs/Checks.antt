@@ -1,30 +1,25 @@
 -- No scan rule refuses a generated design with its configuration, and no limit of the plan.
-use Rattle.std.proofs.Common.{◌≡◌, ◌⊎◌, inl, inr, ℕ, zero, suc, ◌+◌, ◌-◌, ◌*◌, ◌/◌, ◌%◌, ◌<◌, ◌≤◌, Bool, true, false, cond, eqb, ltb, List, [], ◌∷◌, ◌++◌, length, map, flat_map, Option, Some, None, codes, count_by, slice_get, refl, sym, ap, ◌∙◌, subst, arith, zero-add, length-append}
-use Rattle.std.specs.Prelude.{is_some, is_none, option_map, option_and_then, find, max, ◌||◌, ◌&&◌, ◌==◌}
-use Rattle.std.specs.List.{range_with_len, list_any, filter_map}
+use Rattle.std.proofs.Common.{◌≡◌, ◌⊎◌, inl, inr, ℕ, zero, suc, ◌+◌, ◌*◌, ◌%◌, ◌<◌, ◌≤◌, Bool, true, false, cond, eqb, ltb, List, [], ◌∷◌, ◌++◌, length, map, Option, Some, None, count_by, refl, sym, ap, ◌∙◌, subst, arith}
+use Rattle.std.specs.Prelude.{is_some, option_map, find, ◌||◌, ◌&&◌}
+use Rattle.std.specs.List.{range_with_len, list_any}
 use Rattle.std.proofs.lemmas.Bool.Decides.{nat_tests}
 use Rattle.std.proofs.lemmas.List.Sums.{sum_by-cons}
 use Rattle.dft_base.specs.Lexing.{Text}
 use Rattle.dft_cells.specs.declared.cell.Cell.{Cell}
-use Rattle.dft_cells.specs.declared.kind.Kind.{Kind}
 use Rattle.dft_cells.specs.Standard.{standard_cells}
-use Rattle.dft_netlist.specs.declared.ids.InstanceId.{InstanceId}
-use Rattle.dft_netlist.specs.declared.instance.Instance.{Instance}
-use Rattle.dft_netlist.specs.Netlist.{Netlist}
-use Rattle.dft_netlist.specs.Drivers.{Source, Net, Driver, Input, Gate, Joined, Flop, Free, Driven, driver, driver_in, all_driven, shape_of, shape_of_cell, connections_of, connections_from}
-use Rattle.dft_netlist.specs.Traces.{Root, Port, Constant, Other, Passed, Nothing, passed_by_gate, root_of_passed, root_of_driver, root_within, root_of}
+use Rattle.dft_netlist.specs.Drivers.{Source, Net, Driver, Input, Joined, Driven, driver, driver_in, shape_of_cell, connections_from}
+use Rattle.dft_netlist.specs.Traces.{Other, Passed, Nothing, passed_by_gate, root_of_passed, root_of_driver, root_within}
 use Rattle.dft_rules.specs.declared.error.RuleError.{RuleError}
 use Rattle.dft_rules.specs.declared.judged.Judged.{Judged}
 use Rattle.dft_rules.specs.declared.judged.Judged.TheVariants.{Scanned}
-use Rattle.dft_rules.specs.Refusals.{unknown_port, unknown_cell, first_failing, present_as, present, first_present, takes, uses_data, is_data_of, is_clock_as_data, clock_as_data, quoted_port, is_scanned, too_few, refusal}
+use Rattle.dft_rules.specs.Refusals.{unknown_port, first_failing, present_as, present, first_present, takes, uses_data, is_data_of, is_clock_as_data, clock_as_data, is_scanned, too_few, refusal}
 use Rattle.dft_rules.specs.Rules.{place_of_root, place_of_source, judged, judgements}
 use Rattle.dft_rules.proofs.CheckLemmas.{at_resets, at_keep, at_present, at_clocks, at_ports, at_count, at_end}
 use Rattle.dft_generate.specs.Configurations.{configuration}
-use Rattle.dft_generate.specs.Jobs.{IsSize}
 use Rattle.dft_generate.specs.Words.{word_at}
-use Rattle.dft_generate_laws.specs.Designs.{nets_of, number_in, q_of, d_of, f_of, g_of, first_of, second_of, gate_in, flop_in, instances_in, port_nets, design}
-use Rattle.dft_generate_laws.proofs.CellLines.{IsGateKind, each_kind, gate_known}
-use Rattle.dft_generate_laws.proofs.Driven.{cells_drive, gate_drives, listed, all-listed, q_driver, AllDrive, drive_in, drive_append}
+use Rattle.dft_generate_laws.specs.Designs.{nets_of, number_in, q_of, d_of, g_of, first_of, second_of, gate_in, flop_in, instances_in, design}
+use Rattle.dft_generate_laws.proofs.CellLines.{each_kind, gate_known}
+use Rattle.dft_generate_laws.proofs.Driven.{cells_drive, gate_drives, all-listed, q_driver, AllDrive, drive_in, drive_append}
 use Rattle.dft_generate_laws.proofs.Judged.{clock0_net, clock1_net, judged_gate, judged_flop}
 use Rattle.dft_generate_laws.proofs.Places.{behind_ports, instances-length}
 use Rattle.dft_generate_laws.proofs.Ties.{q-inner, d-inner}

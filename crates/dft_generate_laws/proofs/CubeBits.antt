@@ -1,30 +1,28 @@
 -- The lines of a generated cube are read one after another.
-use Rattle.std.proofs.Common.{◌≡◌, ◌⊎◌, inl, inr, ℕ, zero, suc, ◌+◌, ◌*◌, ◌/◌, ◌%◌, ◌<◌, ◌≤◌, ◌^◌, Bool, true, false, cond, eqb, List, [], ◌∷◌, ◌++◌, length, get_or, take, Option, Some, None, Ok, codes, decimal, refl, sym, ap, ◌∙◌, subst, arith, append_assoc, append-nil, slice_get, zero-add}
-use Rattle.std.specs.Prelude.{◌||◌, ◌&&◌, ◌==◌}
+use Rattle.std.proofs.Common.{◌≡◌, ℕ, zero, suc, ◌+◌, ◌/◌, ◌%◌, ◌<◌, ◌≤◌, ◌^◌, Bool, true, false, List, [], ◌∷◌, ◌++◌, Option, Some, None, codes, decimal, refl, sym, ap, ◌∙◌, subst, arith, append_assoc, append-nil, zero-add}
+use Rattle.std.specs.Prelude.{◌||◌, ◌==◌}
 use Rattle.std.specs.List.{list_all, list_any, range_with_len}
 use Rattle.std.proofs.Math.Nat.{mod-lt}
 use Rattle.std.proofs.lemmas.Bool.Decides.{nat_tests}
 use Rattle.std.proofs.lemmas.Fmt.{decimal_digit}
 use Rattle.std.proofs.lemmas.List.Folds.{list_any-append}
-use Rattle.std.specs.Str.{bytes_eq}
 use Rattle.dft_base.specs.Lexing.{Text}
 use Rattle.dft_base.specs.declared.place.Place.{Place}
 use Rattle.dft_base.proofs.TextLemmas.{bytes_eq-self}
 use Rattle.dft_cells.specs.Standard.{standard_cells}
-use Rattle.dft_netlist.specs.declared.ids.InstanceId.{InstanceId}
 use Rattle.dft_netlist.specs.declared.instance.Instance.{Instance}
 use Rattle.dft_netlist.specs.Drivers.{kind_of, kind_at}
 use Rattle.dft_netlist.specs.Names.{find_instance, find_instance_from}
 use Rattle.dft_rules.specs.Rules.{may_be_scanned, flip_flop_named}
-use Rattle.dft_word_lines.specs.Lines.{lines_of, words_from, words_of, are_printed}
+use Rattle.dft_word_lines.specs.Lines.{lines_of, words_of, are_printed}
 use Rattle.dft_cubes.specs.declared.cube.Cube.{Cube}
-use Rattle.dft_cubes.specs.Cubes.{SetCell, Reading, has_cell, cell_refusal, said_refusal, line_of, line_refusal, with_line, with_cell, or_refused, place_of_line, cubes_from}
+use Rattle.dft_cubes.specs.Cubes.{Reading, has_cell, line_refusal, with_line, or_refused, place_of_line, cubes_from}
 use Rattle.dft_generate.specs.Configurations.{configuration}
 use Rattle.dft_generate.specs.Cubes.{bit_line, is_named, line_unless, new_bit_line}
-use Rattle.dft_generate_laws.specs.Designs.{numbered, nets_of, f_of, gate_in, flop_in, instances_in, design}
+use Rattle.dft_generate_laws.specs.Designs.{nets_of, f_of, instances_in, design}
 use Rattle.dft_generate_laws.specs.CubeLists.{Given, flop_of, bit_given, given_unless, new_bit}
 use Rattle.dft_generate_laws.proofs.Ties.{numbers_differ}
-use Rattle.dft_generate_laws.proofs.Places.{flop_at}
+use Rattle.dft_generate_laws.proofs.Places.{flop_there}
 use Rattle.dft_generate_laws.proofs.CubeWords.{is_inside, is_of_line, digits_inside, printed_word, three_words, three_line, line_first}
 
 -- ---- flip-flops by their names
@@ -45,9 +43,6 @@ flop_found all size words (suc count) i from (suc k) lt few =
 found_as : (size : ℕ) (words : List ℕ) (k : ℕ) → k < size → size ≤ 20000 → find_instance (design size words) (f_of k) ≡ Some (flop_of k)
 found_as size words k lt few =
     ap (λ (c : ℕ). find_instance (design size words) (f_of c)) (sym (zero-add k)) ∙ flop_found (nets_of size words) size words size 0 0 k lt (omega (arith, few)) ∙ ap (λ (j : ℕ). Some (record { 0 = suc j })) (zero-add (k + k))
-
-pub flop_there : (size : ℕ) (words : List ℕ) (k : ℕ) → k < size → slice_get (design size words).instances (suc (k + k)) ≡ Some (flop_in (nets_of size words) k)
-flop_there size words k lt = flop_at (nets_of size words) size words size 0 k lt ∙ ap (λ (c : ℕ). Some (flop_in (nets_of size words) c)) (zero-add k)
 
 -- the flip-flop of a cell is found
 pub flop_named : (size : ℕ) (words : List ℕ) (k : ℕ) → k < size → size ≤ 20000 → flip_flop_named (design size words) (f_of k) ≡ Some (flop_of k)

@@ -1,28 +1,24 @@
 -- Generated cubes are read as the stated cubes.
-use Rattle.std.proofs.Common.{◌≡◌, ℕ, zero, suc, ◌+◌, ◌-◌, ◌*◌, ◌/◌, ◌%◌, ◌<◌, ◌≤◌, ◌^◌, Bool, true, false, cond, leb, List, [], ◌∷◌, ◌++◌, length, map, flat_map, get_or, take, drop, Option, Some, None, Ok, codes, decimal, refl, sym, ap, ◌∙◌, subst, arith, append_assoc, append-nil, length-append}
-use Rattle.std.specs.Prelude.{slice_range}
+use Rattle.std.proofs.Common.{◌≡◌, ℕ, zero, suc, ◌+◌, ◌-◌, ◌*◌, ◌/◌, ◌%◌, ◌<◌, ◌≤◌, ◌^◌, true, false, leb, List, [], ◌∷◌, ◌++◌, length, map, flat_map, take, drop, Some, None, Ok, codes, decimal, refl, sym, ap, ◌∙◌, subst, arith, append_assoc, append-nil, length-append}
 use Rattle.std.specs.List.{list_all, All, range_with_len}
 use Rattle.std.proofs.Math.Nat.{mod-lt, div-lt_iff_lt-mul}
 use Rattle.std.proofs.lemmas.Bool.Decides.{nat_tests}
 use Rattle.std.proofs.lemmas.Fmt.{decimal_digit}
-use Rattle.std.specs.Str.{bytes_eq}
 use Rattle.dft_base.specs.Lexing.{Text}
-use Rattle.dft_base.specs.declared.place.Place.{Place}
 use Rattle.dft_cells.specs.WellFormed.{has_name}
-use Rattle.dft_word_lines.specs.Lines.{lines_of, words_from, words_of, are_printed}
+use Rattle.dft_word_lines.specs.Lines.{lines_of, words_from, are_printed}
 use Rattle.dft_cubes.specs.declared.cube.Cube.{Cube}
 use Rattle.dft_cubes.specs.declared.limits.TheConstants.{MAX_CUBES}
-use Rattle.dft_cubes.specs.Cubes.{Reading, names_of, domain_named, line_refusal, with_line, ended, cubes_from}
+use Rattle.dft_cubes.specs.Cubes.{Reading, names_of, domain_named, line_refusal, with_line, cubes_from}
 use Rattle.dft_generate.specs.Configurations.{configuration}
 use Rattle.dft_generate.specs.Cubes.{cube_line, cube_lines, bit_lines, new_bit_line, words_in, cubes_text}
-use Rattle.dft_generate.specs.Words.{word_at}
 use Rattle.dft_generate_laws.specs.Designs.{numbered, design}
 use Rattle.dft_generate_laws.specs.CubeLists.{Given, new_bit, bits_given, cube_in, cubes_in, AreWords}
 use Rattle.dft_generate_laws.specs.Laws.{CubesAreRead}
 use Rattle.dft_generate_laws.proofs.Nets.{has-other}
 use Rattle.dft_generate_laws.proofs.Ties.{numbers_differ}
-use Rattle.dft_generate_laws.proofs.CubeWords.{is_inside, digits_inside, printed_word, three_words, word_last, three_line, line_of_word, line_first, no_line}
-use Rattle.dft_generate_laws.proofs.CubeBits.{Takes, takes_more, takes_line, Fits, fits_none, pending, bit_read, bit_fits}
+use Rattle.dft_generate_laws.proofs.CubeWords.{is_inside, digits_inside, printed_word, three_words, word_last, three_line}
+use Rattle.dft_generate_laws.proofs.CubeBits.{Takes, takes_more, takes_line, fits_none, pending, bit_read, bit_fits}
 
 -- ---- words
 
@@ -120,7 +116,7 @@ module _ (size : ℕ) (words : List ℕ) (few : size ≤ 20000) (some : 0 < size
       let f = front (drop at words) (let e = at_drop words at (omega (arith, inside)) in omega (arith, e, inside)) in
       let is : words_in size words cube ≡ f.0 ∷ f.1 ∷ f.2 ∷ f.3 ∷ [] = ap (λ (k : ℕ). take k (drop at words)) four ∙ f.4 in
       let low = lows (drop at words) f.0 f.1 f.2 f.3 f.4 (dropped words at are.small) in
-      subst (λ (ws : List ℕ). Takes size words few some (pending size words few some cubes name domain []) (bit_lines size ws) (pending size words few some cubes name domain (bits_given size ws))) (sym is)
+      subst (λ (ws : List ℕ). Takes size words few some (pending size words few some cubes name domain []) (bit_lines size ws) (pending size words few some cubes name domain (bits_given size ws))) {x = f.0 ∷ f.1 ∷ f.2 ∷ f.3 ∷ []} (sym is)
       (four_read f.0 f.1 f.2 f.3 cubes name domain low.0 low.1 low.2 low.3)
     where
       dropped : (xs : List ℕ) (k : ℕ) → All (λ w. w < 2 ^ 32) xs → All (λ w. w < 2 ^ 32) (drop k xs)

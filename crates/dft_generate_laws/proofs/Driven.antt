@@ -1,5 +1,5 @@
 -- What drives each net of the stated design.
-use Rattle.std.proofs.Common.{◌≡◌, ◌⊎◌, inl, inr, ℕ, zero, suc, ◌+◌, ◌*◌, ◌<◌, ◌≤◌, ◌^◌, ◌%◌, Bool, true, false, cond, eqb, List, [], ◌∷◌, ◌++◌, length, map, Option, Some, None, codes, count_by, decimal, get_or, ◌==◌, slice_get, refl, sym, ap, ◌∙◌, subst, arith, append_assoc, append-nil, zero-add}
+use Rattle.std.proofs.Common.{◌≡◌, inl, inr, ℕ, zero, suc, ◌+◌, ◌*◌, ◌<◌, ◌≤◌, Bool, true, false, cond, eqb, List, [], ◌∷◌, ◌++◌, Option, Some, count_by, decimal, get_or, ◌==◌, slice_get, refl, sym, ap, ◌∙◌, subst, arith, zero-add}
 use Rattle.std.specs.List.{range_with_len}
 use Rattle.std.proofs.Math.Nat.{mod-lt}
 use Rattle.std.proofs.lemmas.Bool.Decides.{nat_tests}
@@ -12,15 +12,14 @@ use Rattle.dft_cells.specs.declared.cell.Cell.{Cell}
 use Rattle.dft_cells.specs.Standard.{standard_cells}
 use Rattle.dft_cells.specs.WellFormed.{has_name}
 use Rattle.dft_netlist.specs.declared.instance.Instance.{Instance}
-use Rattle.dft_netlist.specs.Drivers.{Source, Net, Driver, Input, Gate, Joined, Flop, Free, Driven, Shape, shape_of, shape_of_cell, connections_from, inputs_of, driven_by_pins, driven_by, driven_by_instances, all_driven, driver_in, driver, nets_read}
-use Rattle.dft_netlist.specs.NetDrivers.{times_driven, IsSingle}
+use Rattle.dft_netlist.specs.Drivers.{Net, Driver, Input, Gate, Joined, Flop, Free, Driven, Shape, shape_of_cell, connections_from, inputs_of, driven_by_pins, driven_by, driven_by_instances, all_driven, driver_in, driver, nets_read}
+use Rattle.dft_netlist.specs.NetDrivers.{IsSingle}
 use Rattle.dft_netlist.specs.Orders.{Has, IsOrderable, Follows}
 use Rattle.dft_netlist.proofs.DriverLaws.{listed_drives}
-use Rattle.dft_generate.specs.Jobs.{IsSize}
 use Rattle.dft_generate.specs.Words.{word_at}
-use Rattle.dft_generate_laws.specs.Designs.{numbered, nets_of, number_in, q_of, d_of, first_of, second_of, gate_cell, gate_in, flop_in, instances_in, design_joins, design}
+use Rattle.dft_generate_laws.specs.Designs.{nets_of, number_in, q_of, d_of, first_of, second_of, gate_in, flop_in, instances_in, design}
 use Rattle.dft_generate_laws.proofs.CellLines.{gate_known}
-use Rattle.dft_generate_laws.proofs.Ties.{IsInner, q-inner, d-inner, heads_differ, numbers_differ}
+use Rattle.dft_generate_laws.proofs.Ties.{q-inner, d-inner, heads_differ, numbers_differ}
 use Rattle.dft_generate_laws.proofs.Places.{q_there, d_there, behind_ports, same_number}
 
 -- ---- the drivers of a cell

@@ -1,5 +1,5 @@
 -- The lines before the cells: the heading, the inputs and the output.
-use Rattle.std.proofs.Common.{◌≡◌, ℕ, zero, suc, ◌+◌, ◌<◌, ◌≤◌, Bool, true, false, List, [], ◌∷◌, ◌++◌, length, get_or, Option, Some, None, Ok, codes, decimal, refl, sym, ap, ◌∙◌, subst, arith}
+use Rattle.std.proofs.Common.{◌≡◌, ℕ, suc, ◌+◌, ◌≤◌, Bool, true, false, List, [], ◌∷◌, ◌++◌, length, get_or, Option, None, Ok, codes, refl, sym, ap, ◌∙◌, subst, arith}
 use Rattle.std.specs.Str.{bytes_eq}
 use Rattle.dft_base.specs.Lexing.{Text}
 use Rattle.dft_base.specs.Name.{IsName}
@@ -22,10 +22,10 @@ use Rattle.dft_verilog_out.specs.Written.{port_line, module_line}
 use Rattle.dft_verilog_out.proofs.CutLemmas.{cut_up, token, cut_up-input, cut_up-comma, cut_up-semicolon, cut_up-space, cut_up-line, cut_up-word}
 use Rattle.dft_verilog_out.proofs.CountLemmas.{times, Once, one_if, look}
 use Rattle.dft_verilog_out.proofs.DraftLemmas.{entry, declare_port-is}
-use Rattle.dft_verilog_out.proofs.HeaderLemmas.{header_entries, header_words, heading_read}
+use Rattle.dft_verilog_out.proofs.HeaderLemmas.{header_entries, heading_read}
 use Rattle.dft_verilog_out.proofs.LineLemmas.{Line, port_read}
 use Rattle.dft_verilog_out.proofs.OperandLemmas.{left_of}
-use Rattle.dft_verilog_out.proofs.PhaseLemmas.{stage, undeclared, declared_port, declared_ports}
+use Rattle.dft_verilog_out.proofs.PhaseLemmas.{stage, undeclared, declared_port}
 use Rattle.dft_generate_laws.specs.Designs.{design, design_ports, scalar, port_nets}
 use Rattle.dft_generate_laws.proofs.Ties.{IsInner, AreTied, other_inner}
 use Rattle.dft_generate_laws.proofs.Mentions.{draft}

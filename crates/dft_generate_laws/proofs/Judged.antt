@@ -1,7 +1,6 @@
 -- How the instances of a generated netlist are judged: each flip-flop is scanned, in the domain of its clock.
-use Rattle.std.proofs.Common.{◌≡◌, ◌⊎◌, inl, inr, ℕ, zero, suc, ◌+◌, ◌*◌, ◌%◌, ◌<◌, ◌≤◌, Bool, true, false, cond, List, [], ◌∷◌, ◌++◌, length, map, Option, Some, None, codes, slice_get, refl, sym, ap, ◌∙◌, subst, arith, zero-add}
+use Rattle.std.proofs.Common.{◌≡◌, ℕ, zero, suc, ◌+◌, ◌*◌, ◌%◌, ◌<◌, true, false, List, [], Option, Some, None, codes, refl, ap, ◌∙◌, arith}
 use Rattle.std.specs.Prelude.{is_some, option_and_then}
-use Rattle.std.specs.List.{range_with_len}
 use Rattle.std.proofs.Math.Nat.{mod-lt}
 use Rattle.dft_base.specs.Lexing.{Text}
 use Rattle.dft_cells.specs.declared.kind.Role.TheVariants as role
@@ -9,19 +8,16 @@ use Rattle.dft_cells.specs.declared.cell.Cell.{Cell}
 use Rattle.dft_cells.specs.Standard.{standard_cells}
 use Rattle.dft_netlist.specs.declared.instance.Instance.{Instance}
 use Rattle.dft_netlist.specs.Connections.{input_net}
-use Rattle.dft_netlist.specs.Drivers.{Source, Net, kind_of, kind_at, pins_at, pins_of, driver, shape_of_cell}
-use Rattle.dft_netlist.specs.Drivers as drivers
+use Rattle.dft_netlist.specs.Drivers.{Net, kind_of, kind_at, pins_at, shape_of_cell}
 use Rattle.dft_netlist.specs.Logic.{pin_of}
 use Rattle.dft_netlist.specs.Names.{find_net, find_net_from}
-use Rattle.dft_netlist.specs.Traces.{Root, Port, root_of}
-use Rattle.dft_rules.specs.declared.judged.Judged.{Judged}
 use Rattle.dft_rules.specs.declared.judged.Judged.TheVariants.{Scanned}
-use Rattle.dft_rules.specs.Rules.{may_be_scanned, is_net, place_of_root, place_of_source, domain_of, are_held, are_held_at, scan_cell_of, scan_cell_in, judged_by, judged}
+use Rattle.dft_rules.specs.Rules.{may_be_scanned, place_of_source, domain_of, are_held, are_held_at, scan_cell_of, scan_cell_in, judged}
 use Rattle.dft_generate.specs.Configurations.{configuration}
 use Rattle.dft_generate.specs.Words.{word_at}
-use Rattle.dft_generate_laws.specs.Designs.{nets_of, gate_cell, gate_in, flop_in, instances_in, port_nets, design}
+use Rattle.dft_generate_laws.specs.Designs.{design}
 use Rattle.dft_generate_laws.proofs.CellLines.{each_kind, gate_known}
-use Rattle.dft_generate_laws.proofs.Places.{gate_at, flop_at}
+use Rattle.dft_generate_laws.proofs.Places.{gate_there, flop_there}
 use Rattle.dft_generate_laws.proofs.Said.{nets_grow}
 
 -- ---- clocks
@@ -42,12 +38,6 @@ clock_place size words (suc zero) lt = rw (clock0_net size words, clock1_net siz
 clock_place size words (suc (suc clock)) lt = absurd (omega (arith, lt))
 
 -- ---- instances
-
-gate_there : (size : ℕ) (words : List ℕ) (k : ℕ) → k < size → slice_get (design size words).instances (k + k) ≡ Some (gate_in (nets_of size words) size words k)
-gate_there size words k lt = gate_at (nets_of size words) size words size 0 k lt ∙ ap (λ (c : ℕ). Some (gate_in (nets_of size words) size words c)) (zero-add k)
-
-flop_there : (size : ℕ) (words : List ℕ) (k : ℕ) → k < size → slice_get (design size words).instances (suc (k + k)) ≡ Some (flop_in (nets_of size words) k)
-flop_there size words k lt = flop_at (nets_of size words) size words size 0 k lt ∙ ap (λ (c : ℕ). Some (flop_in (nets_of size words) c)) (zero-add k)
 
 -- a gate is not judged
 pub judged_gate : (size : ℕ) (words : List ℕ) (k : ℕ) → k < size → judged (design size words) configuration (k + k) ≡ None

@@ -7,6 +7,7 @@ pub mod CubeTexts
 pub mod CubeWords
 pub mod Driven
 pub mod Front
+pub mod JobLaws
 pub mod Judged
 pub mod Mentions
 pub mod NetNames

@@ -1,5 +1,5 @@
 -- A net that is named at a pin of a generated cell.
-use Rattle.std.proofs.Common.{◌≡◌, ℕ, zero, suc, ◌+◌, ◌-◌, ◌<◌, ◌≤◌, ◌^◌, Bool, true, false, cond, ltb, List, [], ◌∷◌, ◌++◌, length, Option, Some, None, is_some, option_map, Ok, codes, decimal, slice_get, slice_set, refl, sym, ap, ◌∙◌, subst, arith, length-append, inl, inr}
+use Rattle.std.proofs.Common.{◌≡◌, ℕ, zero, suc, ◌+◌, ◌-◌, ◌<◌, ◌≤◌, Bool, true, false, cond, ltb, List, [], ◌∷◌, ◌++◌, length, Some, None, option_map, Ok, codes, decimal, slice_get, slice_set, refl, sym, ap, ◌∙◌, subst, arith, length-append, inl, inr}
 use Rattle.std.proofs.lemmas.Bool.Decides.{nat_tests}
 use Rattle.std.proofs.lemmas.Fmt.{decimal_digit}
 use Rattle.dft_base.specs.Lexing.{Text}
@@ -12,25 +12,25 @@ use Rattle.dft_netlist.specs.declared.instance.Signal.TheVariants as signal
 use Rattle.dft_netlist.specs.declared.instance.Instance.{Instance}
 use Rattle.dft_netlist.specs.declared.instance.Join.{Join}
 use Rattle.dft_netlist.specs.declared.limits.TheConstants.{MAX_NETS}
-use Rattle.dft_netlist_text.specs.declared.text.Meaning.{Meaning}
 use Rattle.dft_netlist_text.specs.declared.text.Meaning.TheVariants as meaning
 use Rattle.dft_netlist_text.specs.declared.text.TokenKind.TheVariants as kind
 use Rattle.dft_netlist_text.specs.declared.text.Site.TheVariants as site
 use Rattle.dft_netlist_text.specs.Lexemes.{Token}
-use Rattle.dft_netlist_text.specs.Steps.{kind_of, left, same_kind, sees}
+use Rattle.dft_netlist_text.specs.Steps.{kind_of, same_kind, sees}
 use Rattle.dft_netlist_text.specs.Modules.{TakenName, Draft, meaning_of}
 use Rattle.dft_netlist_text.specs.Expressions.{bits_of_name, ends, expression}
-use Rattle.dft_netlist_text.specs.Items.{Joined, Connected, pin_place, pin_drives, was_joined, named_connection}
+use Rattle.dft_netlist_text.specs.Items.{Joined, pin_place, pin_drives, was_joined, named_connection}
 use Rattle.dft_verilog_out.proofs.CutLemmas.{cut_up, token, cut_up-word, cut_up-point, cut_up-open, cut_up-close}
 use Rattle.dft_verilog_out.proofs.CountLemmas.{look}
 use Rattle.dft_verilog_out.proofs.DraftLemmas.{entry, meaning_some}
 use Rattle.dft_verilog_out.proofs.RuleLemmas.{named, whole-at}
 use Rattle.dft_verilog_out.proofs.ItemLemmas.{named_connection-at}
+use Rattle.dft_verilog_out.proofs.OperandLemmas.{no_close}
 use Rattle.dft_verilog_out.proofs.PhaseLemmas.{declared_ports}
-use Rattle.dft_generate_laws.specs.Designs.{design_ports, numbered, with_net, number_in, net_in}
+use Rattle.dft_generate_laws.specs.Designs.{design_ports, with_net, number_in, net_in}
 use Rattle.dft_generate_laws.proofs.Words as words
 use Rattle.dft_generate_laws.proofs.Nets.{number-new}
-use Rattle.dft_generate_laws.proofs.Ties.{IsInner, AreTied, IsPortName, names_with, net_meaning}
+use Rattle.dft_generate_laws.proofs.Ties.{IsInner, AreTied, names_with, net_meaning}
 
 -- what the module has said while its cells are read
 abbrev pub draft : List TakenName → List Text → List Instance → List Join → Draft
@@ -135,10 +135,6 @@ close_ends drives behind = ap (λ (ts : List Token). ends (site.Pin drives) (kin
 close_single : (behind : Text) → sees kind.OpenBracket (cut_up (41 ∷ behind)) ≡ false
 unfolding sees kind_of same_kind
 close_single behind = ap (λ (ts : List Token). sees kind.OpenBracket ts) (cut_up-close behind)
-
-no_close : (w : Text) (l : ℕ) (ts : List Token) → sees kind.CloseParen (token kind.Name w l ∷ ts) ≡ false
-unfolding sees kind_of same_kind
-no_close w l ts = refl
 
 opened : (net behind : Text) → IsPlain net → cut_up (40 ∷ (net ++ behind)) ≡ token kind.OpenParen (40 ∷ []) (suc (length (net ++ behind))) ∷ cut_up (net ++ behind)
 opened net behind p = rw p.is (cut_up-open p.head (p.tail ++ behind) p.other)

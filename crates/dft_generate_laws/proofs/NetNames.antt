@@ -1,5 +1,5 @@
 -- The names of the nets and instances of a generated netlist differ.
-use Rattle.std.proofs.Common.{◌≡◌, ◌⊎◌, inl, inr, ℕ, zero, suc, ◌+◌, ◌*◌, ◌<◌, ◌≤◌, ◌^◌, Bool, true, false, cond, List, [], ◌∷◌, ◌++◌, length, get_or, Option, Some, None, codes, decimal, slice_get, refl, sym, ap, ◌∙◌, subst, arith, length-append}
+use Rattle.std.proofs.Common.{◌≡◌, ◌⊎◌, inl, inr, ℕ, zero, suc, ◌+◌, ◌*◌, ◌<◌, ◌≤◌, Bool, true, false, cond, List, [], ◌∷◌, ◌++◌, get_or, Option, Some, None, codes, decimal, slice_get, refl, sym, ap, ◌∙◌, subst, arith}
 use Rattle.std.specs.Prelude.{◌||◌}
 use Rattle.std.specs.List.{range_with_len, filter_map, cons_option}
 use Rattle.std.specs.Option.{option_and_then}
@@ -7,16 +7,15 @@ use Rattle.std.specs.Str.{bytes_eq}
 use Rattle.std.proofs.Math.Nat.{mod-lt}
 use Rattle.dft_base.specs.Lexing.{Text}
 use Rattle.dft_base.specs.Name.{IsName}
-use Rattle.dft_base.proofs.TextLemmas.{same_text, bytes_eq-self}
+use Rattle.dft_base.proofs.TextLemmas.{same_text}
 use Rattle.dft_cells.specs.WellFormed.{has_name}
-use Rattle.dft_netlist.specs.declared.instance.Instance.{Instance}
 use Rattle.dft_netlist.specs.declared.named.Named.{Named}
 use Rattle.dft_netlist.specs.declared.named.Named.TheVariants as named
 use Rattle.dft_netlist.specs.Netlist.{Netlist}
 use Rattle.dft_netlist.specs.Names.{Names, NamesDiffer, names_taken, vector_name, instance_name}
 use Rattle.dft_verilog_out.proofs.CountLemmas.{one_if, times, Once, times-append, times-head, times-where}
 use Rattle.dft_generate.specs.Words.{word_at}
-use Rattle.dft_generate_laws.specs.Designs.{numbered, with_net, with_cell, with_cells, port_nets, nets_of, q_of, d_of, g_of, f_of, first_of, second_of, instances_in}
+use Rattle.dft_generate_laws.specs.Designs.{with_net, with_cell, with_cells, port_nets, nets_of, q_of, d_of, g_of, f_of, first_of, second_of, instances_in}
 use Rattle.dft_generate_laws.proofs.Words as letters
 use Rattle.dft_generate_laws.proofs.Ties.{IsInner, q-inner, d-inner, heads_differ, numbers_differ}
 use Rattle.dft_generate_laws.proofs.Front.{ports_once, clock0_name, clock1_name, output_name}

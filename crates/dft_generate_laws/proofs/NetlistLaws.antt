@@ -1,5 +1,5 @@
 -- A generated netlist stands for the stated design.
-use Rattle.std.proofs.Common.{ℕ, ◌<◌, List, refl, arith}
+use Rattle.std.proofs.Common.{◌<◌, List, refl, arith}
 use Rattle.dft_verilog_out.proofs.BuiltLemmas.{draft_built}
 use Rattle.dft_generate_laws.specs.Designs.{design, nets_of}
 use Rattle.dft_generate_laws.specs.Laws.{NetlistsAreRead}
@@ -7,11 +7,11 @@ use Rattle.dft_generate_laws.proofs.Said.{nets_grow, reads}
 use Rattle.dft_generate_laws.proofs.Sound.{names-once, design_sound}
 use Rattle.dft_generate_laws.proofs.Driven.{is_single, are_orderable}
 use Rattle.dft_verilog_out.proofs.PhaseLemmas.{stage, declared_ports}
-use Rattle.std.proofs.Common.{◌≡◌, ◌++◌, Ok, ap, subst, ◌∙◌, sym}
+use Rattle.std.proofs.Common.{ap, ◌∙◌}
 use Rattle.std.specs.List.{range_with_len}
 use Rattle.dft_base.specs.Lexing.{Text}
 use Rattle.dft_netlist_text.specs.NetlistText.{built}
-use Rattle.dft_generate_laws.specs.Designs.{design_ports, design_joins, instances_in, port_nets}
+use Rattle.dft_generate_laws.specs.Designs.{design_ports, design_joins, instances_in}
 
 pub netlists_are_read : NetlistsAreRead
 netlists_are_read size words is =

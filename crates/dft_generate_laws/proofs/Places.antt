@@ -1,5 +1,5 @@
 -- The instances of a generated netlist by their places, and the nets that they name.
-use Rattle.std.proofs.Common.{◌≡◌, ◌⊎◌, inl, inr, ℕ, zero, suc, ◌+◌, ◌*◌, ◌<◌, ◌≤◌, ◌^◌, Bool, true, false, List, [], ◌∷◌, ◌++◌, length, Option, Some, None, codes, slice_get, refl, sym, ap, ◌∙◌, subst, arith, length-append}
+use Rattle.std.proofs.Common.{◌≡◌, ◌⊎◌, inl, inr, ℕ, zero, suc, ◌+◌, ◌*◌, ◌<◌, ◌≤◌, true, List, [], length, Some, codes, slice_get, refl, sym, ap, ◌∙◌, subst, arith, length-append, zero-add}
 use Rattle.std.specs.List.{range_with_len}
 use Rattle.std.proofs.Math.Nat.{mod-lt}
 use Rattle.std.proofs.lemmas.List.FromFn.{length-range_with_len}
@@ -7,8 +7,8 @@ use Rattle.dft_base.specs.Lexing.{Text}
 use Rattle.dft_cells.specs.WellFormed.{has_name}
 use Rattle.dft_netlist.specs.declared.instance.Instance.{Instance}
 use Rattle.dft_generate.specs.Words.{word_at}
-use Rattle.dft_generate_laws.specs.Designs.{with_net, with_cell, with_cells, port_nets, nets_of, number_in, q_of, d_of, first_of, second_of, gate_in, flop_in, instances_in}
-use Rattle.dft_generate_laws.proofs.Nets.{Grows, grows-on, with-grows, with-has, grown-has, cells-grow, cells-size, number-below, number-at}
+use Rattle.dft_generate_laws.specs.Designs.{with_net, with_cell, with_cells, port_nets, nets_of, number_in, q_of, d_of, first_of, second_of, gate_in, flop_in, instances_in, design}
+use Rattle.dft_generate_laws.proofs.Nets.{with-grows, with-has, grown-has, cells-grow, cells-size, number-at}
 use Rattle.dft_generate_laws.proofs.Ties.{IsInner, other_inner}
 use Rattle.dft_generate_laws.proofs.Said.{nets-are, nets_grow}
 
@@ -40,7 +40,7 @@ instance_of all size words (suc count) from (suc zero) i at = record { cell = fr
 instance_of all size words (suc count) from (suc (suc place)) i at = later all size words from count place i (instance_of all size words count (from + 1) place i at)
 
 -- where a cell's gate and its flip-flop stand
-pub gate_at : (all : List Text) (size : ℕ) (words : List ℕ) (count from k : ℕ) → k < count → slice_get (instances_in all size words (range_with_len from count)) (k + k) ≡ Some (gate_in all size words (from + k))
+gate_at : (all : List Text) (size : ℕ) (words : List ℕ) (count from k : ℕ) → k < count → slice_get (instances_in all size words (range_with_len from count)) (k + k) ≡ Some (gate_in all size words (from + k))
 gate_at all size words zero from k lt = absurd (omega (arith, lt))
 gate_at all size words (suc count) from zero lt = let e : from ≡ from + 0 = omega arith in ap (λ (c : ℕ). Some (gate_in all size words c)) e
 gate_at all size words (suc count) from (suc k) lt =
@@ -48,13 +48,20 @@ gate_at all size words (suc count) from (suc k) lt =
     let f : from + 1 + k ≡ from + suc k = omega arith in
     ap (slice_get (instances_in all size words (range_with_len from (suc count)))) e ∙ gate_at all size words count (from + 1) k (omega (arith, lt)) ∙ ap (λ (c : ℕ). Some (gate_in all size words c)) f
 
-pub flop_at : (all : List Text) (size : ℕ) (words : List ℕ) (count from k : ℕ) → k < count → slice_get (instances_in all size words (range_with_len from count)) (suc (k + k)) ≡ Some (flop_in all (from + k))
+flop_at : (all : List Text) (size : ℕ) (words : List ℕ) (count from k : ℕ) → k < count → slice_get (instances_in all size words (range_with_len from count)) (suc (k + k)) ≡ Some (flop_in all (from + k))
 flop_at all size words zero from k lt = absurd (omega (arith, lt))
 flop_at all size words (suc count) from zero lt = let e : from ≡ from + 0 = omega arith in ap (λ (c : ℕ). Some (flop_in all c)) e
 flop_at all size words (suc count) from (suc k) lt =
     let e : suc (suc k + suc k) ≡ suc (suc (suc (k + k))) = omega arith in
     let f : from + 1 + k ≡ from + suc k = omega arith in
     ap (slice_get (instances_in all size words (range_with_len from (suc count)))) e ∙ flop_at all size words count (from + 1) k (omega (arith, lt)) ∙ ap (λ (c : ℕ). Some (flop_in all c)) f
+
+-- where they stand in the design
+pub gate_there : (size : ℕ) (words : List ℕ) (k : ℕ) → k < size → slice_get (design size words).instances (k + k) ≡ Some (gate_in (nets_of size words) size words k)
+gate_there size words k lt = gate_at (nets_of size words) size words size 0 k lt ∙ ap (λ (c : ℕ). Some (gate_in (nets_of size words) size words c)) (zero-add k)
+
+pub flop_there : (size : ℕ) (words : List ℕ) (k : ℕ) → k < size → slice_get (design size words).instances (suc (k + k)) ≡ Some (flop_in (nets_of size words) k)
+flop_there size words k lt = flop_at (nets_of size words) size words size 0 k lt ∙ ap (λ (c : ℕ). Some (flop_in (nets_of size words) c)) (zero-add k)
 
 -- ---- nets that are there
 

@@ -1,8 +1,7 @@
 -- What the module of a generated netlist says.
-use Rattle.std.proofs.Common.{◌≡◌, ℕ, zero, suc, ◌+◌, ◌*◌, ◌<◌, ◌≤◌, ◌^◌, Bool, true, false, List, [], ◌∷◌, ◌++◌, length, get_or, flat_map, Some, None, Ok, codes, decimal, refl, sym, ap, ◌∙◌, subst, arith, append_assoc, length-append, slice_get}
+use Rattle.std.proofs.Common.{◌≡◌, ℕ, zero, suc, ◌+◌, ◌<◌, true, false, List, [], ◌∷◌, ◌++◌, get_or, flat_map, Some, None, Ok, codes, refl, sym, ap, ◌∙◌, subst, arith, append_assoc, slice_get}
 use Rattle.std.specs.List.{range_with_len}
 use Rattle.std.proofs.lemmas.Fmt.{decimal_digit}
-use Rattle.std.proofs.lemmas.List.FromFn.{length-range_with_len}
 use Rattle.dft_base.specs.Lexing.{Text}
 use Rattle.dft_base.specs.Parser.{value_of}
 use Rattle.dft_base.specs.Words.{reserved_words, later_reserved_words}
@@ -11,28 +10,23 @@ use Rattle.dft_cells.specs.Standard.{standard_cells}
 use Rattle.dft_cells.specs.WellFormed.{has_name}
 use Rattle.dft_netlist.specs.declared.instance.Signal.TheVariants as signal
 use Rattle.dft_netlist.specs.declared.instance.Join.{Join}
-use Rattle.dft_netlist_text.specs.declared.text.TokenKind.TheVariants as kind
-use Rattle.dft_netlist_text.specs.declared.text.Meaning.TheVariants as meaning
 use Rattle.dft_netlist_text.specs.declared.text.Site.TheVariants as site
-use Rattle.dft_netlist_text.specs.Steps.{left}
 use Rattle.dft_netlist_text.specs.Modules.{TakenName, Draft}
-use Rattle.dft_netlist_text.specs.Items.{items_from}
 use Rattle.dft_netlist_text.specs.NetlistText.{module_text, module_of}
 use Rattle.dft_verilog_out.specs.Written.{name_text, signal_text, join_line}
-use Rattle.dft_verilog_out.proofs.CutLemmas.{cut_up, cut_up-is, cut_up-endmodule, token}
-use Rattle.dft_verilog_out.proofs.DraftLemmas.{entry}
+use Rattle.dft_verilog_out.proofs.CutLemmas.{cut_up, cut_up-is}
 use Rattle.dft_verilog_out.proofs.HeaderLemmas.{header_entries}
 use Rattle.dft_verilog_out.proofs.ItemLemmas.{module-at}
 use Rattle.dft_verilog_out.proofs.LineLemmas.{Line, Lines, one_line, lines_more, lines_cons, join_read}
-use Rattle.dft_verilog_out.proofs.OperandLemmas.{Known, AsNets, AsPort, NetAt, Whole, Operand, net_operand}
-use Rattle.dft_verilog_out.proofs.PhaseLemmas.{stage, declared_port, declared_ports}
+use Rattle.dft_verilog_out.proofs.OperandLemmas.{Known, AsNets, AsPort, Whole, Operand, net_operand}
+use Rattle.dft_verilog_out.proofs.PhaseLemmas.{stage, declared_ports}
 use Rattle.dft_verilog_out.proofs.RoundTrip.{items_read}
 use Rattle.dft_generate.specs.Jobs.{IsSize}
 use Rattle.dft_generate.specs.Netlists.{cell_lines, netlist_text}
-use Rattle.dft_generate_laws.specs.Designs.{with_net, with_cell, with_cells, port_nets, nets_of, number_in, net_in, q_of, d_of, first_of, second_of, scalar, design_ports, design_joins, instances_in, design}
+use Rattle.dft_generate_laws.specs.Designs.{with_net, with_cell, with_cells, port_nets, nets_of, number_in, net_in, q_of, d_of, first_of, second_of, design_ports, design_joins, instances_in, design}
 use Rattle.dft_generate_laws.proofs.Words as letters
 use Rattle.dft_generate_laws.proofs.Nets.{Grows, grows-same, grown-has, cells-grow, with-has, number-at}
-use Rattle.dft_generate_laws.proofs.Ties.{AreTied, q-inner, net_meaning}
+use Rattle.dft_generate_laws.proofs.Ties.{q-inner}
 use Rattle.dft_generate_laws.proofs.Mentions.{draft}
 use Rattle.dft_generate_laws.proofs.AllCells.{twice, Steps, cells_read}
 use Rattle.dft_generate_laws.proofs.Front.{start, second_port, front_read, inputs_read, output_read, output_name, tied_ports}

@@ -1,6 +1,6 @@
 -- A seed gives words of 32 bits, as many as are wanted.
-use Rattle.std.proofs.Common.{◌≡◌, ℕ, zero, suc, ◌+◌, ◌-◌, ◌*◌, ◌/◌, ◌%◌, ◌<◌, ◌≤◌, ◌^◌, List, [], ◌∷◌, length, refl, sym, ap, ◌∙◌, subst, arith}
-use Rattle.std.specs.Prelude.{bit_or, bit_xor}
+use Rattle.std.proofs.Common.{ℕ, zero, suc, ◌+◌, ◌-◌, ◌*◌, ◌/◌, ◌%◌, ◌<◌, ◌^◌, arith}
+use Rattle.std.specs.Prelude.{bit_xor}
 use Rattle.std.specs.Int.{w32, rotate_right}
 use Rattle.std.specs.List.{All}
 use Rattle.std.proofs.Math.Nat.{mod-lt, div-le_self}
@@ -8,7 +8,7 @@ use Rattle.std.proofs.lemmas.Nat.{or_of_32}
 use Rattle.rand_core.specs.Steps.{first_words}
 use Rattle.rand_pcg.specs.Lcg.{Lcg}
 use Rattle.rand_pcg.specs.Pcg.{output_xsh_rr, pcg32}
-use Rattle.dft_generate.specs.Words.{generator, words_of}
+use Rattle.dft_generate.specs.Words.{generator}
 use Rattle.dft_generate.proofs.WordLemmas.{words_count}
 use Rattle.dft_generate_laws.specs.Laws.{SeedsGiveWords}
 

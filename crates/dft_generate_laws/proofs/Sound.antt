@@ -1,8 +1,7 @@
 -- The stated design keeps what every netlist keeps.
-use Rattle.std.proofs.Common.{◌≡◌, ◌⊎◌, inl, inr, ℕ, zero, suc, ◌+◌, ◌*◌, ◌<◌, ◌≤◌, ◌^◌, ◌%◌, Bool, true, false, List, [], ◌∷◌, ◌++◌, length, map, Option, Some, None, codes, slice_get, refl, sym, ap, ◌∙◌, subst, arith}
+use Rattle.std.proofs.Common.{◌≡◌, inl, inr, ℕ, zero, suc, ◌*◌, ◌<◌, ◌≤◌, ◌%◌, Bool, List, [], ◌∷◌, length, Option, Some, codes, slice_get, refl, sym, ap, subst, arith}
 use Rattle.std.specs.List.{range_with_len}
 use Rattle.std.proofs.Math.Nat.{mod-lt}
-use Rattle.dft_base.specs.Lexing.{Text}
 use Rattle.dft_base.specs.Name.{IsName}
 use Rattle.dft_base.specs.declared.dir.Dir.TheVariants.{Input, Output}
 use Rattle.dft_cells.specs.declared.kind.Role.{Role}
@@ -14,22 +13,21 @@ use Rattle.dft_netlist.specs.declared.instance.Signal.TheVariants as signal
 use Rattle.dft_netlist.specs.declared.instance.CellRef.TheVariants as cell_ref
 use Rattle.dft_netlist.specs.declared.instance.Instance.{Instance}
 use Rattle.dft_netlist.specs.declared.instance.Join.{Join}
-use Rattle.dft_netlist.specs.Netlist.{Netlist}
 use Rattle.dft_netlist.specs.Drivers.{shape_of, shape_of_cell}
-use Rattle.dft_netlist.specs.Names.{IsNameIfAny, IsShortRange, HasNames, names_taken, bit_names}
-use Rattle.dft_netlist.specs.Sound.{IsLive, AreLive, IsInstance, IsAJoin, IsNetlist, NoConstantOutput, is_output}
+use Rattle.dft_netlist.specs.Names.{IsNameIfAny, IsShortRange, names_taken, bit_names}
+use Rattle.dft_netlist.specs.Sound.{IsLive, AreLive, IsInstance, IsAJoin, IsNetlist, NoConstantOutput}
 use Rattle.dft_verilog_out.proofs.CountLemmas.{Once}
 use Rattle.dft_generate.specs.Jobs.{IsSize}
 use Rattle.dft_generate.specs.Netlists.{kind_of}
 use Rattle.dft_generate.specs.Words.{word_at}
-use Rattle.dft_generate_laws.specs.Designs.{nets_of, number_in, net_in, q_of, d_of, first_of, second_of, gate_cell, gate_in, flop_in, instances_in, scalar, design_ports, design_joins, design}
+use Rattle.dft_generate_laws.specs.Designs.{nets_of, net_in, q_of, d_of, first_of, second_of, gate_cell, gate_in, flop_in, instances_in, scalar, design_ports, design_joins, design}
 use Rattle.dft_generate_laws.proofs.Words as letters
 use Rattle.dft_generate_laws.proofs.Nets.{number-below}
 use Rattle.dft_generate_laws.proofs.Said.{nets_grow}
 use Rattle.dft_generate_laws.proofs.CellLines.{gate_known}
 use Rattle.dft_generate_laws.proofs.Front.{module_name, clock0_name, clock1_name, output_name}
-use Rattle.dft_generate_laws.proofs.NetNames.{AreNets, are_nets, net_named, all_once, once_differ}
-use Rattle.dft_generate_laws.proofs.Places.{IsOfCell, instance_of, instances-length, q_there, d_there, first_there, second_there, nets-few, nets-some}
+use Rattle.dft_generate_laws.proofs.NetNames.{are_nets, net_named, all_once, once_differ}
+use Rattle.dft_generate_laws.proofs.Places.{instance_of, instances-length, q_there, d_there, first_there, second_there, nets-few, nets-some}
 
 -- ---- instances
 

@@ -1,5 +1,5 @@
 -- What the names of a draft stand for while a generated netlist is read: `q` and `d` words are nets by their numbers, or free.
-use Rattle.std.proofs.Common.{◌≡◌, ◌⊎◌, inl, inr, ℕ, zero, suc, ◌+◌, ◌<◌, ◌≤◌, ◌^◌, Bool, true, false, cond, List, [], ◌∷◌, ◌++◌, length, Option, Some, None, codes, decimal, refl, sym, ap, ◌∙◌, subst, arith}
+use Rattle.std.proofs.Common.{◌≡◌, ◌⊎◌, inl, inr, ℕ, suc, ◌<◌, ◌≤◌, ◌^◌, Bool, true, false, cond, List, [], ◌∷◌, ◌++◌, length, Option, Some, None, codes, decimal, refl, sym, ap, ◌∙◌, subst, arith}
 use Rattle.std.specs.Str.{bytes_eq}
 use Rattle.std.proofs.lemmas.Fmt.{decimal_injective}
 use Rattle.dft_base.specs.Lexing.{Text}
@@ -7,7 +7,6 @@ use Rattle.dft_base.proofs.TextLemmas.{same_text, bytes_eq-self, bytes_eq-comm, 
 use Rattle.dft_cells.specs.WellFormed.{has_name}
 use Rattle.dft_netlist_text.specs.declared.text.Meaning.{Meaning}
 use Rattle.dft_netlist_text.specs.declared.text.Meaning.TheVariants as meaning
-use Rattle.dft_netlist_text.specs.declared.text.Shape.{Shape}
 use Rattle.dft_netlist_text.specs.Modules.{TakenName}
 use Rattle.dft_verilog_out.proofs.CountLemmas.{look, look-kept}
 use Rattle.dft_verilog_out.proofs.DraftLemmas.{entry}

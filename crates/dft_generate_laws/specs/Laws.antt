@@ -2,12 +2,15 @@
 use Rattle.std.specs.Prelude.{ℕ, ◌≡◌, List, Ok, None}
 use Rattle.dft_cells.specs.Standard.{standard_cells}
 use Rattle.dft_netlist_text.specs.NetlistText.{StandsFor}
+use Rattle.dft_config.specs.Refusals.{IsConfig}
 use Rattle.dft_rules.specs.Refusals as rules
 use Rattle.dft_stitch.specs.Limits as limits
 use Rattle.dft_cubes.specs.Cubes.{cubes_of}
 use Rattle.dft_generate.specs.Configurations.{configuration}
+use Rattle.dft_generate.specs.Configurations as stated
 use Rattle.dft_generate.specs.Cubes.{cubes_text}
-use Rattle.dft_generate.specs.Jobs.{IsSize}
+use Rattle.dft_generate.specs.declared.job.Job.{Job}
+use Rattle.dft_generate.specs.Jobs.{IsSize, IsJob}
 use Rattle.dft_generate.specs.Netlists.{netlist_text}
 use Rattle.dft_generate.specs.Words.{words_of}
 use Rattle.dft_generate_laws.specs.CubeLists.{cubes_in, AreWords}
@@ -34,6 +37,12 @@ pub record IsAccepted (size : ℕ) (words : List ℕ) : Type 0 where
 abbrev pub DesignsAreAccepted : Type 0
 DesignsAreAccepted = (size : ℕ) (words : List ℕ) → IsSize size → IsAccepted size words
 
--- for a trial
-abbrev pub Nothing : Type 0
-Nothing = Unit {0}
+-- the three texts of a job are read: the netlist as the stated design, the configuration and the cubes as the stated ones
+pub record IsRead (size : ℕ) (words : List ℕ) (job : Job) : Type 0 where
+  pub netlist : StandsFor standard_cells job.netlist.items (design size words)
+  pub configuration : IsConfig job.configuration.items stated.configuration
+  pub cubes : cubes_of (design size words) stated.configuration job.cubes.items ≡ Ok (cubes_in size words)
+
+-- so are those of the job of every seed and size
+abbrev pub JobsAreRead : Type 0
+JobsAreRead = (seed size : ℕ) (job : Job) → IsSize size → IsJob size (words_of seed size) job → IsRead size (words_of seed size) job

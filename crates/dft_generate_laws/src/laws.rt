@@ -1,18 +1,27 @@
 //! Laws of generated jobs, as contracts of functions that do nothing.
 
-ghost use Rattle.dft_generate_laws.specs.Laws.{CubesAreRead, NetlistsAreRead, Nothing};
+ghost use Rattle.dft_generate_laws.specs.Laws.{CubesAreRead, DesignsAreAccepted, JobsAreRead, NetlistsAreRead, SeedsGiveWords};
 
-/// The netlist text of every size from 16 to 20,000, from whatever words, stands for the stated design over the standard library.
+/// The law that the netlist text of every size from 16 to 20,000, from whatever words, stands for the stated design over the standard
+/// library: so it is read, and as this design.
 pub fn netlists_are_read()
     ensures { NetlistsAreRead }
 {}
 
-/// The cubes text of every size, from words that are enough for it, is read for that design and the stated configuration, as the stated cubes.
-pub fn cubes_are_read()
-    ensures { CubesAreRead }
+/// The law that no scan rule refuses that design with the stated configuration, and no limit of the plan.
+pub fn designs_are_accepted()
+    ensures { DesignsAreAccepted }
 {}
 
-/// A trial.
-pub fn probe()
-    ensures { Nothing }
+/// The law that the cubes text of every size, from words that are enough for it, is read for that design and the stated
+/// configuration as the stated cubes; and that the words of every seed are enough.
+pub fn cubes_are_read()
+    ensures cubes { CubesAreRead }
+    ensures words { SeedsGiveWords }
+{}
+
+/// The law that the three texts of the job of every seed and size are read: the netlist as the stated design, the configuration and
+/// the cubes as the stated ones.
+pub fn jobs_are_read()
+    ensures { JobsAreRead }
 {}

@@ -3,4 +3,4 @@
 
 mod laws;
 
-pub use laws::{cubes_are_read, netlists_are_read, probe};
+pub use laws::{cubes_are_read, designs_are_accepted, jobs_are_read, netlists_are_read};

@@ -160,7 +160,7 @@ form_parts word own inside rest =
     append_assoc word (own_name_text own ++ (codes " (" ++ (inside ++ codes ");\n"))) rest
     ∙ ap (λ t. word ++ t) (append_assoc (own_name_text own) (codes " (" ++ (inside ++ codes ");\n")) rest ∙ ap (λ t. own_name_text own ++ (32 ∷ 40 ∷ t)) (append_assoc inside (codes ");\n") rest))
 
-close_line : (rest : Text) → cut_up (41 ∷ 59 ∷ 10 ∷ rest) ≡ token kind.CloseParen (41 ∷ []) (suc (suc (suc (length rest)))) ∷ token kind.Semicolon (59 ∷ []) (suc (suc (length rest))) ∷ cut_up rest
+pub close_line : (rest : Text) → cut_up (41 ∷ 59 ∷ 10 ∷ rest) ≡ token kind.CloseParen (41 ∷ []) (suc (suc (suc (length rest)))) ∷ token kind.Semicolon (59 ∷ []) (suc (suc (length rest))) ∷ cut_up rest
 close_line rest = cut_up-close (59 ∷ 10 ∷ rest) ∙ ap (λ ts. token kind.CloseParen (41 ∷ []) (suc (suc (suc (length rest)))) ∷ ts) (cut_up-semicolon (10 ∷ rest) ∙ ap (λ ts. token kind.Semicolon (59 ∷ []) (suc (suc (length rest))) ∷ ts) (cut_up-line rest))
 
 semicolon_line : (rest : Text) → cut_up (59 ∷ 10 ∷ rest) ≡ token kind.Semicolon (59 ∷ []) (suc (suc (length rest))) ∷ cut_up rest
@@ -411,7 +411,7 @@ conns_open (first ∷ more) nets pins signals rest e =
     let x = begins_point nets pins signals first more e in
     record { first = 46; others = (x.0 ++ list_text_behind (codes ", ") more) ++ 41 ∷ 59 ∷ 10 ∷ rest; is = ap (λ f. bracketed (list_text (f ∷ more)) rest) x.1; other = λ h. absurd (omega arith) }
 
-no_end_name : (word : Text) (l : ℕ) (ts : List Token) → sees kind.Endmodule (token kind.Name word l ∷ ts) ≡ false
+pub no_end_name : (word : Text) (l : ℕ) (ts : List Token) → sees kind.Endmodule (token kind.Name word l ∷ ts) ≡ false
 unfolding sees kind_of same_kind
 no_end_name word l ts = refl
 

@@ -163,7 +163,7 @@ opens_by false name rest e =
 pub name_opens : (name rest : Text) → Opens (name_text name ++ rest)
 name_opens name rest = opens_by (needs_escape name) name rest refl
 
-no_close : (word : Text) (l : ℕ) (ts : List Token) → sees kind.CloseParen (token kind.Name word l ∷ ts) ≡ false
+pub no_close : (word : Text) (l : ℕ) (ts : List Token) → sees kind.CloseParen (token kind.Name word l ∷ ts) ≡ false
 unfolding sees kind_of same_kind
 no_close word l ts = refl
 
