@@ -9,6 +9,7 @@ use Rattle.dft_rules.specs.Rules.{judgements}
 use Rattle.dft_stitch.specs.Chains.{plan_of}
 use Rattle.dft_stitch.specs.Plans.{Plan}
 use Rattle.dft_scan_hardware.specs.declared.style.Style.TheVariants.{Plain}
+use Rattle.dft_scan_frame.specs.Refusals as frame
 use Rattle.dft_scan_hardware.specs.Refusals as insert
 use Rattle.dft_scan_hardware.specs.Scanned.{framed, parts_of, scanned_netlist}
 use Rattle.dft_scan_hardware.specs.Statements.{scanned}
@@ -25,7 +26,7 @@ use Rattle.dft_scan.specs.Scans.{counts_with}
 use Rattle.dft_scan.proofs.ShapeLemmas.{few_chains, few_lockups, judgement_count, short_chains}
 use Rattle.dft_scan.proofs.JoinedLemmas.{scanned_joined}
 use Rattle.dft_scan_frame.proofs.ReadyLemmas.{ready_of}
-use Rattle.dft_scan.proofs.RefusalLemmas.{err_refused, passed, refused_by_planning, refused_by_report, report_is}
+use Rattle.dft_scan.proofs.RefusalLemmas.{err_refused, passed, refused_by_insert, refused_by_planning, refused_by_report, report_is}
 use Rattle.dft_scan.proofs.scanning.scan.Goals as goal
 
 pub returns-in_err-planned-clause-refused : goal.returns-in_err-planned-clause-refused
@@ -35,6 +36,23 @@ returns-in_err-planned-clause-refused c =
     let error = c.in_err-planned.field-0.0 in
     let p = err_from_is_err_and c.from_residual.result c.from_residual.ensures.1 in
     err_refused (refusal n config) c.from_residual.result p.0 _ p.1 p.2 (refused_by_planning n config error c.in_err-planned.ensures.refused)
+
+pub returns-in_err-scanned-clause-refused : goal.returns-in_err-scanned-clause-refused
+returns-in_err-scanned-clause-refused c =
+    let n = c.args.design.now in
+    let config = c.args.config.now in
+    let error = c.in_err-scanned.field-0.0 in
+    let p = err_from_is_err_and c.from_residual-in_err-scanned.result c.from_residual-in_err-scanned.ensures.1 in
+    let known = rw c.in_ok-planned.ensures.planned at c.soundness-2.ensures in
+    let planned = rw c.in_ok-planned.ensures.planned at c.chains-chains.ensures in
+    let P : Plan → Type 0 = λ q. frame.IsRefusal (insert.refusal Plain n config q) error in
+    err_refused (refusal n config) c.from_residual-in_err-scanned.result p.0 _ p.1 p.2
+    (refused_by_insert n config error known.passed known.fits (subst P planned c.in_err-scanned.ensures.refused))
+
+pub returns-in_err-report-clause-refused : goal.returns-in_err-report-clause-refused
+returns-in_err-report-clause-refused c =
+    let p = err_from_is_err_and c.from_residual-in_err-report.result c.from_residual-in_err-report.ensures.1 in
+    err_refused (refusal c.args.design.now c.args.config.now) c.from_residual-in_err-report.result p.0 _ p.1 p.2 _
 
 pub insert-requires-clause-passed : goal.insert-requires-clause-passed
 insert-requires-clause-passed c = rw c.in_ok-planned.ensures.planned at c.soundness-2.ensures.passed
