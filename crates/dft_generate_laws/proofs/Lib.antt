@@ -19,4 +19,5 @@ pub mod Said
 pub mod Seeds
 pub mod Sound
 pub mod Ties
+pub mod Vectors
 pub mod Words

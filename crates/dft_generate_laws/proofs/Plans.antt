@@ -61,7 +61,7 @@ few_from (x ∷ rest) front =
     let e = ap (λ (w : Option Judged). length (cons_option (if_domain 1 (domain_in w) cell) first)) (here front rest x) in
     omega (arith, h, d, e, sum_by-cons (λ (w : Option Judged). cond (is_scanned w) 1 0) x rest)
 
-few_cells : (v : List (Option Judged)) → length (scanned_cells v 2) ≤ count_by is_scanned v
+pub few_cells : (v : List (Option Judged)) → length (scanned_cells v 2) ≤ count_by is_scanned v
 few_cells v =
     let a = few_from v [] in
     omega (arith, a, length-append (cells_in v 0) (cells_in v 1 ++ []), length-append (cells_in v 1) [])

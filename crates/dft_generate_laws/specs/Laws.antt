@@ -1,10 +1,14 @@
 -- Laws of generated jobs.
-use Rattle.std.specs.Prelude.{ℕ, ◌≡◌, List, Ok, None}
+use Rattle.std.specs.Prelude.{ℕ, ◌≡◌, ◌≤◌, List, length, Ok, None}
 use Rattle.dft_cells.specs.Standard.{standard_cells}
 use Rattle.dft_netlist_text.specs.NetlistText.{StandsFor}
 use Rattle.dft_config.specs.Refusals.{IsConfig}
 use Rattle.dft_rules.specs.Refusals as rules
+use Rattle.dft_stil_text.specs.declared.limits.TheConstants.{MAX_VECTORS}
+use Rattle.dft_stitch.specs.Chains.{plan_of}
 use Rattle.dft_stitch.specs.Limits as limits
+use Rattle.dft_encode.specs.Compiled.{Placing}
+use Rattle.dft_encode.specs.Laws.{vectors_in}
 use Rattle.dft_cubes.specs.Cubes.{cubes_of}
 use Rattle.dft_generate.specs.Configurations.{configuration}
 use Rattle.dft_generate.specs.Configurations as stated
@@ -46,3 +50,9 @@ pub record IsRead (size : ℕ) (words : List ℕ) (job : Job) : Type 0 where
 -- so are those of the job of every seed and size
 abbrev pub JobsAreRead : Type 0
 JobsAreRead = (seed size : ℕ) (job : Job) → IsSize size → IsJob size (words_of seed size) job → IsRead size (words_of seed size) job
+
+-- up to a size of 16,240, however the cubes are placed, their patterns take no more vectors than a reader of pattern texts takes
+abbrev pub PatternsFit : Type 0
+PatternsFit =
+    (size : ℕ) (words : List ℕ) → IsSize size → size ≤ 16240 → (placing : Placing configuration (plan_of (design size words) configuration) (cubes_in size words)) →
+    vectors_in (plan_of (design size words) configuration).cycles (length placing.merged) ≤ MAX_VECTORS

@@ -1,6 +1,6 @@
 //! Laws of generated jobs, as contracts of functions that do nothing.
 
-ghost use Rattle.dft_generate_laws.specs.Laws.{CubesAreRead, DesignsAreAccepted, JobsAreRead, NetlistsAreRead, SeedsGiveWords};
+ghost use Rattle.dft_generate_laws.specs.Laws.{CubesAreRead, DesignsAreAccepted, JobsAreRead, NetlistsAreRead, PatternsFit, SeedsGiveWords};
 
 /// The law that the netlist text of every size from 16 to 20,000, from whatever words, stands for the stated design over the standard
 /// library: so it is read, and as this design.
@@ -24,4 +24,10 @@ pub fn cubes_are_read()
 /// the cubes as the stated ones.
 pub fn jobs_are_read()
     ensures { JobsAreRead }
+{}
+
+/// The law that up to a size of 16,240 the patterns of these cubes, however the cubes are placed, take no more vectors than a reader of
+/// pattern texts takes.
+pub fn patterns_fit()
+    ensures { PatternsFit }
 {}

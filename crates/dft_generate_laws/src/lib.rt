@@ -3,4 +3,6 @@
 
 mod laws;
 
-pub use laws::{cubes_are_read, designs_are_accepted, jobs_are_read, netlists_are_read};
+pub use laws::{
+    cubes_are_read, designs_are_accepted, jobs_are_read, netlists_are_read, patterns_fit,
+};

@@ -1,0 +1,59 @@
+-- The patterns of generated cubes keep the limit of vectors.
+use Rattle.std.proofs.Common.{◌≡◌, ℕ, zero, suc, ◌+◌, ◌*◌, ◌/◌, ◌%◌, ◌<◌, ◌≤◌, Bool, true, false, cond, ltb, List, [], ◌∷◌, length, refl, sym, ap, ◌∙◌, subst, arith}
+use Rattle.std.specs.List.{range_with_len}
+use Rattle.std.proofs.Math.Nat.{max-le}
+use Rattle.std.proofs.lemmas.Bool.Decides.{nat_tests}
+use Rattle.std.proofs.lemmas.List.FromFn.{length-map-range_with_len}
+use Rattle.std.proofs.lemmas.Nat.{mul-le}
+use Rattle.dft_config.specs.Cycles.{part_length}
+use Rattle.dft_rules.specs.Rules.{judgements}
+use Rattle.dft_stil_text.specs.declared.limits.TheConstants.{MAX_VECTORS}
+use Rattle.dft_stitch.specs.Chains.{cells_of, cycles_of, plan_of}
+use Rattle.dft_cubes.specs.declared.cube.Cube.{Cube}
+use Rattle.dft_cubes.specs.declared.cube.Merged.{Merged}
+use Rattle.dft_merge.specs.declared.placed.Placed.{Placed}
+use Rattle.dft_merge.specs.Placement.{PlacesAll}
+use Rattle.dft_merge.specs.Rows.{CellRows}
+use Rattle.dft_encode.specs.Laws.{vectors_in}
+use Rattle.dft_encode.proofs.PlacingLemmas.{place_count}
+use Rattle.dft_generate.specs.Configurations.{configuration}
+use Rattle.dft_generate_laws.specs.CubeLists.{cube_in, cubes_in}
+use Rattle.dft_generate_laws.specs.Designs.{design}
+use Rattle.dft_generate_laws.specs.Laws.{PatternsFit}
+use Rattle.dft_generate_laws.proofs.Checks.{scanned_here}
+use Rattle.dft_generate_laws.proofs.Plans.{few_cells}
+
+-- no more patterns than cubes
+all_count : (n : ℕ) (row : CellRows) (window : ℕ) (old new : List Merged) (cubes : List Cube) (placed : List Placed) → PlacesAll n row window old cubes placed new → length new ≤ length old + length cubes
+all_count n row window old new [] [] is = let same = ap length is in omega (arith, same)
+all_count n row window old new [] (p ∷ placed) is = absurd is
+all_count n row window old new (c ∷ cubes) [] is = absurd is
+all_count n row window old new (c ∷ cubes) (p ∷ placed) is =
+    let one = place_count n row window old is.0 c p is.1.0 in
+    let rest = all_count n row window is.0 new cubes placed is.1.1 in
+    omega (arith, one, rest)
+
+-- the cycles of a load
+part_few : (cells : ℕ) → cells ≤ 16240 → part_length cells 16 0 ≤ 1015
+part_few cells few = by (ltb 0 (cells % 16)) refl
+  where
+    by : (t : Bool) → ltb 0 (cells % 16) ≡ t → cells / 16 + cond t 1 0 ≤ 1015
+    by true is = let some : 0 < cells % 16 = grind (arith, nat_tests) in omega (arith, few, some)
+    by false is = omega (arith, few)
+
+cycles_few : (cells : ℕ) → cells ≤ 16240 → cycles_of configuration cells ≤ 1031
+cycles_few cells few = max-le {a = 16 + part_length cells 16 0} {b = 8} {k = 1031} (let p = part_few cells few in omega (arith, p)) (omega arith)
+
+-- the vectors of so many patterns
+vectors_few : (cycles patterns : ℕ) → cycles ≤ 1031 → patterns ≤ 4060 → vectors_in cycles patterns ≤ MAX_VECTORS
+vectors_few cycles zero low few = omega arith
+vectors_few cycles (suc patterns) low few = let product = mul-le (suc patterns) (suc cycles) 4060 1032 few (omega (arith, low)) in omega (arith, product, low)
+
+pub patterns_fit : PatternsFit
+patterns_fit size words is few placing =
+    let low = is.low in
+    let cells = few_cells (judgements (design size words) configuration) in
+    let scanned = scanned_here size words is.high (omega (arith, low)) in
+    let count = all_count placing.rows.columns _ configuration.window [] placing.merged (cubes_in size words) placing.placed placing.is in
+    let cubes = length-map-range_with_len (cube_in size words) 0 (size / 4) in
+    vectors_few (plan_of (design size words) configuration).cycles (length placing.merged) (cycles_few (length (cells_of (design size words) configuration)) (omega (arith, cells, scanned, few))) (omega (arith, count, cubes, few))
