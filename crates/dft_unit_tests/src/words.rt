@@ -168,41 +168,44 @@ fn is_told_rightly(alloc: Global, words: &[String]) -> Result<bool, AllocError> 
     Ok(lines == if is_command { 1 } else { 2 })
 }
 
-// Of a command's words bent at one place in each way, and then at another, how many there are; none counts after the first that is told
-// wrongly.
-fn told_rightly(alloc: Global, words: &[String], at: usize) -> Result<usize, AllocError> {
-    let mut count = 0;
-    for how in 0..16 {
-        let once = bent(alloc, words, at, how)?;
-        if !is_told_rightly(alloc, &once)? {
-            return Ok(0);
+// The place of the second word that is bent.
+fn other_place(at: usize, how: usize, second: usize, len: usize) -> usize {
+    let place = at.wrapping_mul(7).wrapping_add(how).wrapping_add(second);
+    if len == 0 { 0 } else { place % len }
+}
+
+// Whether of words bent so at a place, and then at another in three ways, a fault is told rightly.
+fn are_told_rightly(
+    alloc: Global,
+    words: &[String],
+    at: usize,
+    how: usize,
+) -> Result<bool, AllocError> {
+    let once = bent(alloc, words, at, how)?;
+    for second in 0..3usize {
+        let place = other_place(at, how, second, once.len());
+        let twice = bent(alloc, &once, place, how.wrapping_add(second))?;
+        if !is_told_rightly(alloc, &twice)? {
+            return Ok(false);
         }
-        for second in 0..3 {
-            let twice = bent(
-                alloc,
-                &once,
-                (7 * at + 3 * how + second) % words.len(),
-                how + second,
-            )?;
-            if !is_told_rightly(alloc, &twice)? {
-                return Ok(0);
-            }
-        }
-        count += 4;
     }
-    Ok(count)
+    is_told_rightly(alloc, &once)
 }
 
 #[test]
 fn a_fault_is_told_where_words_are_no_command(rt: HostRuntime) -> Result<(), Fail> {
-    let mut count = 0;
+    let mut count = 0usize;
     for line in &COMMANDS {
         let words = words_of(rt.alloc(), *line)?;
         assert!(rt; is_told_rightly(rt.alloc(), &words)?, "{line}");
         for at in 0..words.len() {
-            let right = told_rightly(rt.alloc(), &words, at)?;
-            assert_eq!(rt; right, 64usize, "{line}: {at}");
-            count += right;
+            for how in 0..16usize {
+                assert!(rt;
+                    are_told_rightly(rt.alloc(), &words, at, how)?,
+                    "{line}: {at} {how}"
+                );
+                count = count.wrapping_add(4);
+            }
         }
     }
     assert!(rt; count > 2000, "{count}");
