@@ -9,6 +9,7 @@ pub mod Driven
 pub mod Front
 pub mod JobLaws
 pub mod Judged
+pub mod Lengths
 pub mod Mentions
 pub mod NetNames
 pub mod NetlistLaws

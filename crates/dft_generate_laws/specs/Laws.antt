@@ -1,5 +1,5 @@
 -- Laws of generated jobs.
-use Rattle.std.specs.Prelude.{ℕ, ◌≡◌, ◌≤◌, List, length, Ok, None}
+use Rattle.std.specs.Prelude.{ℕ, ◌+◌, ◌*◌, ◌/◌, ◌≡◌, ◌≤◌, List, length, Ok, None}
 use Rattle.dft_cells.specs.Standard.{standard_cells}
 use Rattle.dft_netlist_text.specs.NetlistText.{StandsFor}
 use Rattle.dft_config.specs.Refusals.{IsConfig}
@@ -10,7 +10,7 @@ use Rattle.dft_stitch.specs.Limits as limits
 use Rattle.dft_encode.specs.Compiled.{Placing}
 use Rattle.dft_encode.specs.Laws.{vectors_in}
 use Rattle.dft_cubes.specs.Cubes.{cubes_of}
-use Rattle.dft_generate.specs.Configurations.{configuration}
+use Rattle.dft_generate.specs.Configurations.{configuration, configuration_text}
 use Rattle.dft_generate.specs.Configurations as stated
 use Rattle.dft_generate.specs.Cubes.{cubes_text}
 use Rattle.dft_generate.specs.declared.job.Job.{Job}
@@ -56,3 +56,13 @@ abbrev pub PatternsFit : Type 0
 PatternsFit =
     (size : ℕ) (words : List ℕ) → IsSize size → size ≤ 16240 → (placing : Placing configuration (plan_of (design size words) configuration) (cubes_in size words)) →
     vectors_in (plan_of (design size words) configuration).cycles (length placing.merged) ≤ MAX_VECTORS
+
+-- the texts are short: at most 100 bytes for each cell and 81 more, 1,024, and 80 for each cube
+pub record AreShort (size : ℕ) (words : List ℕ) : Type 0 where
+  pub netlist : length (netlist_text size words) ≤ 100 * size + 81
+  pub configuration : length configuration_text ≤ 1024
+  pub cubes : length (cubes_text size words) ≤ 80 * (size / 4)
+
+-- so are those of every seed and size
+abbrev pub TextsAreShort : Type 0
+TextsAreShort = (seed size : ℕ) → IsSize size → AreShort size (words_of seed size)
