@@ -1,3 +1,4 @@
+pub mod Added
 pub mod AllCells
 pub mod CellLines
 pub mod Cells
@@ -6,6 +7,8 @@ pub mod CubeBits
 pub mod CubeTexts
 pub mod CubeWords
 pub mod Driven
+pub mod Framed
+pub mod Fresh
 pub mod Front
 pub mod JobLaws
 pub mod Judged
@@ -18,6 +21,7 @@ pub mod Places
 pub mod Plans
 pub mod Said
 pub mod Seeds
+pub mod Sizes
 pub mod Sound
 pub mod Ties
 pub mod Vectors

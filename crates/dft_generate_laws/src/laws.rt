@@ -1,6 +1,6 @@
 //! Laws of generated jobs, as contracts of functions that do nothing.
 
-ghost use Rattle.dft_generate_laws.specs.Laws.{CubesAreRead, DesignsAreAccepted, JobsAreRead, NetlistsAreRead, PatternsFit, SeedsGiveWords, TextsAreShort};
+ghost use Rattle.dft_generate_laws.specs.Laws.{CubesAreRead, DesignsAreAccepted, JobsAreRead, NetlistsAreRead, Nothing, PatternsFit, SeedsGiveWords, TextsAreShort};
 
 /// The law that the netlist text of every size from 16 to 20,000, from whatever words, stands for the stated design over the standard
 /// library: so it is read, and as this design.
@@ -35,4 +35,9 @@ pub fn patterns_fit()
 /// The law that the texts of the job of every seed and size are short, each far below the limit of its file.
 pub fn texts_are_short()
     ensures { TextsAreShort }
+{}
+
+/// A trial.
+pub fn probe()
+    ensures { Nothing }
 {}
