@@ -1,6 +1,6 @@
 -- How much insertion makes at most for a generated design.
-use Rattle.std.proofs.Common.{◌≡◌, ℕ, zero, suc, ◌+◌, ◌*◌, ◌/◌, ◌%◌, ◌<◌, ◌≤◌, Bool, true, false, cond, leb, ltb, List, [], ◌∷◌, ◌++◌, length, map, get_or, Option, None, Some, slice_get, refl, sym, ap, ◌∙◌, subst, arith, length-append}
-use Rattle.std.specs.Prelude.{◌==◌, ◌&&◌, nat_le, if◌then◌else◌}
+use Rattle.std.proofs.Common.{◌≡◌, ℕ, zero, suc, ◌+◌, ◌*◌, ◌≤◌, Bool, true, false, cond, ltb, List, [], ◌∷◌, ◌++◌, length, map, get_or, Option, None, Some, slice_get, refl, ap, arith, length-append}
+use Rattle.std.specs.Prelude.{◌==◌, nat_le, if◌then◌else◌}
 use Rattle.std.specs.List.{list_all, range_with_len}
 use Rattle.std.proofs.Math.Nat.{mul-zero}
 use Rattle.std.proofs.lemmas.Bool.Decides.{nat_tests}
@@ -15,13 +15,12 @@ use Rattle.dft_netlist.specs.Netlist.{Netlist}
 use Rattle.dft_config.specs.declared.config.Config.{Config}
 use Rattle.dft_config.specs.declared.config.Tap.{Tap}
 use Rattle.dft_config.specs.declared.config.Injector.{Injector}
-use Rattle.dft_config.specs.Cycles.{part_length}
 use Rattle.dft_config.specs.Ring.{phase_of}
 use Rattle.dft_config.specs.Segments.{segment_length}
 use Rattle.dft_stitch.specs.declared.places.LockupPlace.{LockupPlace}
 use Rattle.dft_stitch.specs.Plans.{Plan}
 use Rattle.dft_parts.specs.declared.edt_ports.EdtPorts.{EdtPorts}
-use Rattle.dft_parts.specs.Recipes.{Recipe, pure, ◌>>=◌, ◌>>◌, each, collect, net_at, nets_made, a_net, a_gate, a_flop, a_lockup, a_pin}
+use Rattle.dft_parts.specs.Recipes.{Recipe, pure, ◌>>=◌, each, collect, net_at, nets_made, a_net, a_gate, a_flop, a_lockup}
 use Rattle.dft_parts.specs.Sums.{a_driving_gate, a_sum}
 use Rattle.dft_edt.specs.Feeds.{Stage, Channel, at_feed, tap_feeds, injector_feeds, feeds}
 use Rattle.dft_edt.specs.Hardware.{group_of}
@@ -29,9 +28,8 @@ use Rattle.dft_ring.specs.declared.ring.Ring.{Ring}
 use Rattle.dft_ring.specs.RingRecipe.{stage_terms, a_stage, a_phase, a_ring}
 use Rattle.dft_compact.specs.declared.mask_nets.MaskNets.{MaskNets}
 use Rattle.dft_compact.specs.CompactorRecipe.{a_next, a_mask, a_segment, segments, masks_at, a_gated, an_output, a_compactor}
-use Rattle.dft_scan_frame.specs.Moves.{Gap, moved}
-use Rattle.dft_scan_frame.specs.Pins.{domain_in, number_of, own_output}
-use Rattle.dft_netlist.specs.Logic.{same_role}
+use Rattle.dft_scan_frame.specs.Moves.{Gap}
+use Rattle.dft_scan_frame.specs.Pins.{domain_in, own_output}
 use Rattle.dft_scan_hardware.specs.Chained.{a_numbered_pin, a_role_pin, scan_roles, a_scan_in, an_open_output, own_or_made, a_row, rows, cells_at, row_at, a_crossing, crossing_in, a_step, a_chain, a_late_chain, last_net}
 use Rattle.dft_scan_hardware.specs.Chained as chained
 use Rattle.dft_scan_hardware.specs.Scanned.{an_edt_chain, behind_rows, edt_recipe}

@@ -1,6 +1,6 @@
--- Insertion refuses nothing of a generated design.
-use Rattle.std.proofs.Common.{◌≡◌, ◌⊎◌, inl, inr, ℕ, zero, suc, ◌+◌, ◌*◌, ◌<◌, ◌≤◌, ◌^◌, Bool, true, false, cond, leb, List, [], ◌∷◌, ◌++◌, length, map, flat_map, get_or, take, drop, Option, None, Some, codes, decimal, slice_get, refl, sym, ap, ◌∙◌, subst, arith, append_assoc, length-append}
-use Rattle.std.specs.Prelude.{◌||◌, slice_index_or, option_map}
+-- Insertion refuses nothing of a generated design, and no check before the cubes does.
+use Rattle.std.proofs.Common.{◌≡◌, ◌⊎◌, inl, inr, ℕ, zero, suc, ◌+◌, ◌*◌, ◌<◌, ◌≤◌, Bool, true, false, leb, List, [], ◌∷◌, ◌++◌, length, map, flat_map, get_or, take, drop, Option, None, Some, codes, decimal, refl, sym, ap, ◌∙◌, subst, arith, append_assoc, length-append}
+use Rattle.std.specs.Prelude.{slice_index_or, option_map}
 use Rattle.std.specs.List.{filter_map, cons_option, range_with_len}
 use Rattle.std.specs.Str.{bytes_eq}
 use Rattle.std.proofs.lemmas.Bool.Decides.{nat_tests}
@@ -14,17 +14,15 @@ use Rattle.dft_cells.specs.declared.cell.Cell.{Cell}
 use Rattle.dft_netlist.specs.declared.ids.InstanceId.{InstanceId}
 use Rattle.dft_netlist.specs.declared.instance.Instance.{Instance}
 use Rattle.dft_netlist.specs.declared.limits.TheConstants.{MAX_NETS}
-use Rattle.dft_netlist.specs.declared.error.NetlistError.{NetlistError}
-use Rattle.dft_netlist.specs.Names.{is_taken, vector_name, instance_name}
+use Rattle.dft_netlist.specs.Names.{is_taken, instance_name}
 use Rattle.dft_netlist.specs.Netlist.{Netlist}
 use Rattle.dft_rules.specs.declared.judged.Judged.{Judged}
 use Rattle.dft_rules.specs.Refusals.{is_scanned}
 use Rattle.dft_rules.specs.Rules.{judged, judgements, scan_cell_in}
 use Rattle.dft_stitch.specs.declared.places.LockupPlace.{LockupPlace}
-use Rattle.dft_stitch.specs.Chains.{blocks, chain_lengths, chains_of, lockup_after, lockups_in, lockups_of, cells_of, plan_of}
+use Rattle.dft_stitch.specs.Chains.{blocks, chain_lengths, chains_of, lockup_after, lockups_in, cells_of, plan_of}
 use Rattle.dft_stitch.specs.Plans.{Plan}
-use Rattle.dft_parts.specs.MadeNames.{made_net, made_instance}
-use Rattle.dft_parts.specs.Parts.{Making, parts_refusal}
+use Rattle.dft_parts.specs.Parts.{parts_refusal}
 use Rattle.dft_parts.specs.Recipes.{start_of}
 use Rattle.dft_scan_frame.specs.declared.error.InsertError.{InsertError}
 use Rattle.dft_scan_frame.specs.Moves.{Gap, map_from}
@@ -35,16 +33,16 @@ use Rattle.dft_scan_hardware.specs.Ports.{added_ports, gap_in, edt_nets}
 use Rattle.dft_scan_hardware.specs.Refusals.{as_told, ports_alone, ports_refusal, room_refusal, frame_refusal, refusal}
 use Rattle.dft_scan_hardware.specs.Scanned.{framed, parts_of}
 use Rattle.dft_generate.specs.Configurations.{configuration}
-use Rattle.dft_generate_laws.specs.Designs.{numbered, nets_of, instances_in, port_nets, design}
-use Rattle.dft_generate_laws.specs.Laws.{DesignsAreInserted}
+use Rattle.dft_generate_laws.specs.Designs.{nets_of, design}
+use Rattle.dft_generate_laws.specs.Laws.{DesignsAreAccepted}
 use Rattle.dft_generate_laws.proofs.Words as letters
 use Rattle.dft_generate_laws.proofs.Ties.{heads_differ}
-use Rattle.dft_generate_laws.proofs.NetNames.{IsNetName, OfClock0, OfClock1, OfOutput, OfCell, AreNets, are_nets, own_words, own-are}
+use Rattle.dft_generate_laws.proofs.NetNames.{IsNetName, OfClock0, OfClock1, OfOutput, OfCell, are_nets, own_words, own-are}
 use Rattle.dft_generate_laws.proofs.Said.{nets_grow}
 use Rattle.dft_generate_laws.proofs.Places.{nets-few, instances-length}
-use Rattle.dft_generate_laws.proofs.Checks.{scanned_here}
-use Rattle.dft_generate_laws.proofs.Plans.{few_cells}
-use Rattle.dft_generate_laws.proofs.Sizes.{sum_of, size_of}
+use Rattle.dft_generate_laws.proofs.Checks.{scanned_here, rules_pass}
+use Rattle.dft_generate_laws.proofs.Plans.{few_cells, plan_passes}
+use Rattle.dft_generate_laws.proofs.Sizes.{sum_of}
 use Rattle.dft_generate_laws.proofs.Added.{edt_most}
 use Rattle.dft_generate_laws.proofs.Fresh.{none_append, none_take, none_drop, none_each, IsFree, IsFresh, parts_pass}
 
@@ -256,5 +254,8 @@ module _ (size : ℕ) (words : List ℕ) (few : size ≤ 20000) (some : 0 < size
       ap (λ (o : Option InsertError). or_else o (option_map as_told (parts_refusal (framed Edt (design size words) configuration) (parts_of Edt (design size words) configuration (plan_of (design size words) configuration))))) frame_none
       ∙ ap (option_map as_told) parts_none
 
-pub designs_are_inserted : DesignsAreInserted
-designs_are_inserted size words is = let low = is.low in insertion_none size words is.high (omega (arith, low))
+pub designs_are_accepted : DesignsAreAccepted
+designs_are_accepted size words is =
+    let low = is.low in
+    let some : 0 < size = omega (arith, low) in
+    record { rules = rules_pass size words is.high some low; plan = plan_passes size words is.high some; insertion = insertion_none size words is.high some }

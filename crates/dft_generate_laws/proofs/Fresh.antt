@@ -1,7 +1,7 @@
 -- Made names are free in the frame of a generated design, and there is room for what is made.
-use Rattle.std.proofs.Common.{◌≡◌, ◌⊎◌, inl, inr, ℕ, zero, suc, ◌+◌, ◌*◌, ◌<◌, ◌≤◌, ◌^◌, Bool, true, false, cond, leb, List, [], ◌∷◌, ◌++◌, length, map, get_or, take, drop, Option, None, Some, codes, decimal, slice_get, refl, sym, ap, ◌∙◌, subst, arith, append_assoc, length-append}
+use Rattle.std.proofs.Common.{◌≡◌, ℕ, zero, suc, ◌+◌, ◌<◌, ◌≤◌, ◌^◌, Bool, true, false, List, [], ◌∷◌, ◌++◌, length, get_or, take, drop, Option, None, Some, decimal, slice_get, refl, ap, ◌∙◌, arith, length-append}
 use Rattle.std.specs.Prelude.{◌||◌}
-use Rattle.std.specs.List.{filter_map, cons_option, range_with_len}
+use Rattle.std.specs.List.{filter_map, cons_option}
 use Rattle.std.specs.Str.{bytes_eq}
 use Rattle.std.proofs.lemmas.List.Elements.{filter_map-append}
 use Rattle.std.proofs.lemmas.Fmt.{decimal_injective}
@@ -19,7 +19,7 @@ use Rattle.dft_netlist.specs.Names.{is_taken, first_taken, vector_name, instance
 use Rattle.dft_netlist.specs.Netlist.{Netlist}
 use Rattle.dft_netlist.proofs.RefusalLemmas.{net_open, instance_open}
 use Rattle.dft_parts.specs.MadeNames.{made_net, made_instance}
-use Rattle.dft_parts.specs.Parts.{Part, ANet, AnInstance, APin, Making, with_net, with_instance, with_pin, with_part, instance_joined, part_refusal, parts_refusal, or_else}
+use Rattle.dft_parts.specs.Parts.{Part, ANet, AnInstance, APin, Making, with_net, with_instance, with_pin, instance_joined, parts_refusal, or_else}
 use Rattle.dft_generate_laws.proofs.Nets.{has-other}
 use Rattle.dft_generate_laws.proofs.Sizes.{size_of}
 

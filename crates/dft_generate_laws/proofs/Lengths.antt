@@ -1,11 +1,11 @@
 -- The texts of generated jobs are short.
-use Rattle.std.proofs.Common.{◌≡◌, ℕ, zero, suc, ◌+◌, ◌-◌, ◌*◌, ◌/◌, ◌%◌, ◌<◌, ◌≤◌, ◌^◌, Bool, true, false, cond, eqb, List, [], ◌∷◌, ◌++◌, length, flat_map, get_or, take, drop, codes, decimal, refl, sym, ap, ◌∙◌, subst, arith, length-append}
+use Rattle.std.proofs.Common.{◌≡◌, ℕ, zero, suc, ◌+◌, ◌-◌, ◌*◌, ◌/◌, ◌%◌, ◌<◌, ◌≤◌, ◌^◌, Bool, true, false, cond, eqb, List, [], ◌∷◌, ◌++◌, length, flat_map, get_or, take, drop, codes, decimal, arith, length-append}
 use Rattle.std.specs.List.{All, range_with_len}
 use Rattle.std.proofs.Math.Nat.{mod-lt, mul-suc, div-lt_iff_lt-mul}
 use Rattle.std.proofs.lemmas.Fmt.{length-decimal-le}
 use Rattle.dft_base.specs.Lexing.{Text}
 use Rattle.dft_generate.specs.Configurations.{configuration_text}
-use Rattle.dft_generate.specs.Cubes.{bit_line, is_named, line_unless, new_bit_line, bit_lines, cube_line, words_in, cube_lines, cubes_text}
+use Rattle.dft_generate.specs.Cubes.{bit_line, is_named, line_unless, new_bit_line, bit_lines, cube_line, words_in, cube_lines}
 use Rattle.dft_generate.specs.Netlists.{kind_of, gate_line, flop_line, cell_lines, netlist_text}
 use Rattle.dft_generate.specs.Words.{word_at, words_of}
 use Rattle.dft_generate_laws.specs.Laws.{TextsAreShort}

@@ -1,13 +1,13 @@
 -- How many nets and instances recipes make at most.
-use Rattle.std.proofs.Common.{◌≡◌, ℕ, zero, suc, ◌+◌, ◌*◌, ◌<◌, ◌≤◌, Bool, true, false, cond, List, [], ◌∷◌, ◌++◌, length, map, refl, sym, ap, ◌∙◌, subst, arith}
+use Rattle.std.proofs.Common.{◌≡◌, ℕ, zero, suc, ◌+◌, ◌*◌, ◌<◌, ◌≤◌, Bool, true, false, List, [], ◌∷◌, ◌++◌, length, refl, sym, ap, ◌∙◌, arith}
 use Rattle.std.specs.Prelude.{◌==◌, if◌then◌else◌}
 use Rattle.std.specs.List.{range_with_len}
 use Rattle.std.proofs.Math.Nat.{suc-mul}
 use Rattle.std.proofs.lemmas.Bool.Decides.{nat_tests}
 use Rattle.std.proofs.lemmas.Nat.{mul-le}
 use Rattle.dft_parts.specs.Parts.{Part, ANet, AnInstance, APin}
-use Rattle.dft_parts.specs.Recipes.{Start, Recipe, pure, ◌>>=◌, ◌>>◌, behind, each, collect, a_net, a_gate, a_flop, a_lockup, nets_made}
-use Rattle.dft_parts.specs.Sums.{a_driving_gate, pairs, levels, first_net, a_sum}
+use Rattle.dft_parts.specs.Recipes.{Start, Recipe, pure, ◌>>=◌, behind, each, collect, a_net, a_gate, a_flop, a_lockup}
+use Rattle.dft_parts.specs.Sums.{a_driving_gate, pairs, levels, a_sum}
 use Rattle.dft_cells.specs.declared.kind.Kind.{Kind}
 use Rattle.dft_cells.specs.declared.kind.Kind.TheVariants.{Xor}
 use Rattle.dft_netlist.specs.declared.ids.NetId.{NetId}

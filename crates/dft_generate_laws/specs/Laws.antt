@@ -8,7 +8,7 @@ use Rattle.dft_stil_text.specs.declared.limits.TheConstants.{MAX_VECTORS}
 use Rattle.dft_stitch.specs.Chains.{plan_of}
 use Rattle.dft_stitch.specs.Limits as limits
 use Rattle.dft_scan_hardware.specs.declared.style.Style.TheVariants.{Edt}
-use Rattle.dft_scan_hardware.specs.Refusals as insertion
+use Rattle.dft_scan_hardware.specs.Refusals as insert
 use Rattle.dft_encode.specs.Compiled.{Placing}
 use Rattle.dft_encode.specs.Laws.{vectors_in}
 use Rattle.dft_cubes.specs.Cubes.{cubes_of}
@@ -34,10 +34,11 @@ CubesAreRead = (size : ℕ) (words : List ℕ) → IsSize size → AreWords size
 abbrev pub SeedsGiveWords : Type 0
 SeedsGiveWords = (seed size : ℕ) → AreWords size (words_of seed size)
 
--- no scan rule and no limit of the plan refuses the design with the stated configuration
+-- no check before the cubes refuses the design with the stated configuration: no scan rule, no limit of the plan, and nothing that insertion adds
 pub record IsAccepted (size : ℕ) (words : List ℕ) : Type 0 where
   pub rules : rules.refusal (design size words) configuration ≡ None
   pub plan : limits.refusal (design size words) configuration ≡ None
+  pub insertion : insert.refusal Edt (design size words) configuration (plan_of (design size words) configuration) ≡ None
 
 -- so it is for every size, from whatever words
 abbrev pub DesignsAreAccepted : Type 0
@@ -68,11 +69,3 @@ pub record AreShort (size : ℕ) (words : List ℕ) : Type 0 where
 -- so are those of every seed and size
 abbrev pub TextsAreShort : Type 0
 TextsAreShort = (seed size : ℕ) → IsSize size → AreShort size (words_of seed size)
-
--- insertion refuses no name and no limit of it
-abbrev pub DesignsAreInserted : Type 0
-DesignsAreInserted = (size : ℕ) (words : List ℕ) → IsSize size → insertion.refusal Edt (design size words) configuration (plan_of (design size words) configuration) ≡ None
-
--- for a trial
-abbrev pub Nothing : Type 0
-Nothing = Unit {0}

@@ -1,6 +1,6 @@
 //! Laws of generated jobs, as contracts of functions that do nothing.
 
-ghost use Rattle.dft_generate_laws.specs.Laws.{CubesAreRead, DesignsAreAccepted, JobsAreRead, NetlistsAreRead, Nothing, PatternsFit, SeedsGiveWords, TextsAreShort};
+ghost use Rattle.dft_generate_laws.specs.Laws.{CubesAreRead, DesignsAreAccepted, JobsAreRead, NetlistsAreRead, PatternsFit, SeedsGiveWords, TextsAreShort};
 
 /// The law that the netlist text of every size from 16 to 20,000, from whatever words, stands for the stated design over the standard
 /// library: so it is read, and as this design.
@@ -8,7 +8,8 @@ pub fn netlists_are_read()
     ensures { NetlistsAreRead }
 {}
 
-/// The law that no scan rule refuses that design with the stated configuration, and no limit of the plan.
+/// The law that no check before the cubes refuses that design with the stated configuration: no scan rule, no limit of the plan, and
+/// nothing that insertion adds.
 pub fn designs_are_accepted()
     ensures { DesignsAreAccepted }
 {}
@@ -35,9 +36,4 @@ pub fn patterns_fit()
 /// The law that the texts of the job of every seed and size are short, each far below the limit of its file.
 pub fn texts_are_short()
     ensures { TextsAreShort }
-{}
-
-/// A trial.
-pub fn probe()
-    ensures { Nothing }
 {}

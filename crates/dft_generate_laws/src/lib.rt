@@ -5,5 +5,5 @@ mod laws;
 
 pub use laws::{
     cubes_are_read, designs_are_accepted, jobs_are_read, netlists_are_read, patterns_fit,
-    probe, texts_are_short,
+    texts_are_short,
 };
