@@ -1,5 +1,6 @@
 pub mod Added
 pub mod AllCells
+pub mod Bytes
 pub mod CellLines
 pub mod Cells
 pub mod Checks

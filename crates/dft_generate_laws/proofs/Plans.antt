@@ -77,7 +77,7 @@ part_few cells few = by (ltb 0 (cells % 16))
     by true = omega (arith, quotient)
     by false = omega (arith, quotient)
 
-cycles_few : (cells : ℕ) → cells ≤ 20000 → cycles_of configuration cells ≤ 1267
+pub cycles_few : (cells : ℕ) → cells ≤ 20000 → cycles_of configuration cells ≤ 1267
 cycles_few cells few = max-le {a = 16 + part_length cells 16 0} {b = 8} {k = 1267} (let p = part_few cells few in omega (arith, p)) (omega arith)
 
 no_limit : (cells : ℕ) → cells ≤ 20000 → refusal_of configuration cells ≡ None

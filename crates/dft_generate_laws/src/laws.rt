@@ -1,6 +1,6 @@
 //! Laws of generated jobs, as contracts of functions that do nothing.
 
-ghost use Rattle.dft_generate_laws.specs.Laws.{CubesAreRead, DesignsAreAccepted, JobsAreRead, NetlistsAreRead, PatternsFit, SeedsGiveWords, TextsAreShort};
+ghost use Rattle.dft_generate_laws.specs.Laws.{CubesAreRead, DesignsAreAccepted, JobsAreRead, NetlistsAreRead, PatternTextsFit, PatternsFit, SeedsGiveWords, TextsAreShort};
 
 /// The law that the netlist text of every size from 16 to 20,000, from whatever words, stands for the stated design over the standard
 /// library: so it is read, and as this design.
@@ -31,6 +31,11 @@ pub fn jobs_are_read()
 /// pattern texts takes.
 pub fn patterns_fit()
     ensures { PatternsFit }
+{}
+
+/// The law that of every size, and however the cubes are placed, the text of their patterns is no longer than a pattern text may be.
+pub fn pattern_texts_fit()
+    ensures { PatternTextsFit }
 {}
 
 /// The law that the texts of the job of every seed and size are short, each far below the limit of its file.
