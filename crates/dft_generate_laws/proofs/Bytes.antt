@@ -1,8 +1,7 @@
 -- The texts of the patterns of generated cubes are no longer than pattern texts may be.
-use Rattle.std.proofs.Common.{◌≡◌, ℕ, zero, suc, ◌+◌, ◌*◌, ◌/◌, ◌<◌, ◌≤◌, ◌^◌, Bool, true, List, [], ◌∷◌, ◌++◌, length, map, take, drop, codes, decimal, refl, sym, ap, ◌∙◌, subst, arith, length-append}
-use Rattle.std.specs.Prelude.{slice_index_or, nat_le}
-use Rattle.std.specs.List.{sum_by, range_with_len}
-use Rattle.std.proofs.Math.Nat.{suc-mul}
+use Rattle.std.proofs.Common.{◌≡◌, ℕ, zero, suc, ◌+◌, ◌*◌, ◌/◌, ◌<◌, ◌≤◌, List, [], ◌∷◌, ◌++◌, length, map, take, drop, codes, decimal, refl, ap, ◌∙◌, arith, length-append}
+use Rattle.std.specs.Prelude.{slice_index_or}
+use Rattle.std.specs.List.{range_with_len}
 use Rattle.std.proofs.lemmas.Bool.{leb-true}
 use Rattle.std.proofs.lemmas.Fmt.{decimal_digit, length-decimal-le}
 use Rattle.std.proofs.lemmas.List.FromFn.{length-map-range_with_len}
@@ -35,7 +34,7 @@ use Rattle.dft_vectors.specs.VectorList.{pattern_note, notes_of}
 use Rattle.dft_encode.specs.Laws.{vectors_in}
 use Rattle.dft_generate.specs.Configurations.{configuration}
 use Rattle.dft_generate_laws.specs.CubeLists.{cube_in, cubes_in}
-use Rattle.dft_generate_laws.specs.Designs.{nets_of, design_ports, design}
+use Rattle.dft_generate_laws.specs.Designs.{design_ports, design}
 use Rattle.dft_generate_laws.specs.Laws.{PatternTextsFit}
 use Rattle.dft_generate_laws.proofs.Checks.{scanned_here}
 use Rattle.dft_generate_laws.proofs.Plans.{few_cells, cycles_few}
