@@ -114,7 +114,7 @@ module _ (size : ℕ) (words : List ℕ) (few : size ≤ 20000) (some : 0 < size
       let inside : at + 4 ≤ length words = omega (arith, enough, lt) in
       let four : at + 4 - at ≡ 4 = omega arith in
       let f = front (drop at words) (let e = at_drop words at (omega (arith, inside)) in omega (arith, e, inside)) in
-      let is : words_in size words cube ≡ f.0 ∷ f.1 ∷ f.2 ∷ f.3 ∷ [] = ap (λ (k : ℕ). take k (drop at words)) four ∙ f.4 in
+      let is : words_in size words cube ≡ f.0 ∷ f.1 ∷ f.2 ∷ f.3 ∷ [] = subst (λ (k : ℕ). take k (drop at words) ≡ f.0 ∷ f.1 ∷ f.2 ∷ f.3 ∷ []) {x = 4} (sym four) f.4 in
       let low = lows (drop at words) f.0 f.1 f.2 f.3 f.4 (dropped words at are.small) in
       subst (λ (ws : List ℕ). Takes size words few some (pending size words few some cubes name domain []) (bit_lines size ws) (pending size words few some cubes name domain (bits_given size ws))) {x = f.0 ∷ f.1 ∷ f.2 ∷ f.3 ∷ []} (sym is)
       (four_read f.0 f.1 f.2 f.3 cubes name domain low.0 low.1 low.2 low.3)

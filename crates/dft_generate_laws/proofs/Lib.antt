@@ -1,4 +1,6 @@
+pub mod Added
 pub mod AllCells
+pub mod Bytes
 pub mod CellLines
 pub mod Cells
 pub mod Checks
@@ -6,9 +8,12 @@ pub mod CubeBits
 pub mod CubeTexts
 pub mod CubeWords
 pub mod Driven
+pub mod Framed
+pub mod Fresh
 pub mod Front
 pub mod JobLaws
 pub mod Judged
+pub mod Lengths
 pub mod Mentions
 pub mod NetNames
 pub mod NetlistLaws
@@ -17,6 +22,7 @@ pub mod Places
 pub mod Plans
 pub mod Said
 pub mod Seeds
+pub mod Sizes
 pub mod Sound
 pub mod Ties
 pub mod Vectors

@@ -171,11 +171,11 @@ net_named w (OfCell i) =
 -- ---- the instances
 
 -- the names of these cells' instances
-abbrev own_words : (from count : ℕ) → List Text
+abbrev pub own_words : (from count : ℕ) → List Text
 own_words from zero = []
 own_words from (suc count) = g_of from ∷ f_of from ∷ own_words (from + 1) count
 
-own-are : (all : List Text) (size : ℕ) (words : List ℕ) (count from : ℕ) → filter_map instance_name (instances_in all size words (range_with_len from count)) ≡ own_words from count
+pub own-are : (all : List Text) (size : ℕ) (words : List ℕ) (count from : ℕ) → filter_map instance_name (instances_in all size words (range_with_len from count)) ≡ own_words from count
 own-are all size words zero from = refl
 own-are all size words (suc count) from = ap (λ (ws : List Text). g_of from ∷ f_of from ∷ ws) (own-are all size words count (from + 1))
 

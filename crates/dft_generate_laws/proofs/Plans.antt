@@ -17,8 +17,7 @@ use Rattle.dft_stitch.specs.Limits.{refusal_of}
 use Rattle.dft_stitch.specs.Limits as limits
 use Rattle.dft_generate.specs.Configurations.{configuration}
 use Rattle.dft_generate_laws.specs.Designs.{design}
-use Rattle.dft_generate_laws.specs.Laws.{DesignsAreAccepted}
-use Rattle.dft_generate_laws.proofs.Checks.{scanned_here, rules_pass}
+use Rattle.dft_generate_laws.proofs.Checks.{scanned_here}
 
 -- ---- scanned cells
 
@@ -78,7 +77,7 @@ part_few cells few = by (ltb 0 (cells % 16))
     by true = omega (arith, quotient)
     by false = omega (arith, quotient)
 
-cycles_few : (cells : ℕ) → cells ≤ 20000 → cycles_of configuration cells ≤ 1267
+pub cycles_few : (cells : ℕ) → cells ≤ 20000 → cycles_of configuration cells ≤ 1267
 cycles_few cells few = max-le {a = 16 + part_length cells 16 0} {b = 8} {k = 1267} (let p = part_few cells few in omega (arith, p)) (omega arith)
 
 no_limit : (cells : ℕ) → cells ≤ 20000 → refusal_of configuration cells ≡ None
@@ -89,14 +88,8 @@ no_limit cells few =
     let d : ltb MAX_VARIABLES (cycles_of configuration cells * 2) ≡ false = grind (arith, nat_tests) in
     rw (a, b, d) refl
 
-plan_passes : (size : ℕ) (words : List ℕ) (few : size ≤ 20000) (some : 0 < size) → limits.refusal (design size words) configuration ≡ None
+pub plan_passes : (size : ℕ) (words : List ℕ) (few : size ≤ 20000) (some : 0 < size) → limits.refusal (design size words) configuration ≡ None
 plan_passes size words few some =
     let h = few_cells (judgements (design size words) configuration) in
     let n = scanned_here size words few some in
     no_limit (length (cells_of (design size words) configuration)) (omega (arith, h, n, few))
-
-pub designs_are_accepted : DesignsAreAccepted
-designs_are_accepted size words is =
-    let low = is.low in
-    let some : 0 < size = omega (arith, low) in
-    record { rules = rules_pass size words is.high some low; plan = plan_passes size words is.high some }

@@ -1,6 +1,5 @@
 -- The patterns of generated cubes keep the limit of vectors.
-use Rattle.std.proofs.Common.{◌≡◌, ℕ, zero, suc, ◌+◌, ◌*◌, ◌/◌, ◌%◌, ◌<◌, ◌≤◌, Bool, true, false, cond, ltb, List, [], ◌∷◌, length, refl, sym, ap, ◌∙◌, subst, arith}
-use Rattle.std.specs.List.{range_with_len}
+use Rattle.std.proofs.Common.{◌≡◌, ℕ, zero, suc, ◌+◌, ◌/◌, ◌%◌, ◌<◌, ◌≤◌, Bool, true, false, cond, ltb, List, [], ◌∷◌, length, refl, ap, arith}
 use Rattle.std.proofs.Math.Nat.{max-le}
 use Rattle.std.proofs.lemmas.Bool.Decides.{nat_tests}
 use Rattle.std.proofs.lemmas.List.FromFn.{length-map-range_with_len}
@@ -24,7 +23,7 @@ use Rattle.dft_generate_laws.proofs.Checks.{scanned_here}
 use Rattle.dft_generate_laws.proofs.Plans.{few_cells}
 
 -- no more patterns than cubes
-all_count : (n : ℕ) (row : CellRows) (window : ℕ) (old new : List Merged) (cubes : List Cube) (placed : List Placed) → PlacesAll n row window old cubes placed new → length new ≤ length old + length cubes
+pub all_count : (n : ℕ) (row : CellRows) (window : ℕ) (old new : List Merged) (cubes : List Cube) (placed : List Placed) → PlacesAll n row window old cubes placed new → length new ≤ length old + length cubes
 all_count n row window old new [] [] is = let same = ap length is in omega (arith, same)
 all_count n row window old new [] (p ∷ placed) is = absurd is
 all_count n row window old new (c ∷ cubes) [] is = absurd is

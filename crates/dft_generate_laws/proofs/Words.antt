@@ -1,5 +1,5 @@
 -- A letter and a number are a word that is not reserved.
-use Rattle.std.proofs.Common.{◌≡◌, ℕ, zero, suc, ◌<◌, ◌≤◌, ◌^◌, Bool, true, false, List, [], ◌∷◌, length, get_or, decimal, refl, sym, ap, ◌∙◌, arith}
+use Rattle.std.proofs.Common.{◌≡◌, ℕ, zero, suc, ◌<◌, ◌≤◌, ◌^◌, Bool, true, false, List, [], ◌∷◌, length, get_or, decimal, refl, sym, ap, subst, ◌∙◌, arith}
 use Rattle.std.specs.Prelude.{nat_lt}
 use Rattle.std.specs.List.{list_all, list_any, All}
 use Rattle.std.specs.Str.{bytes_eq}
@@ -78,3 +78,10 @@ numbered c n low high small =
       free = not_reserved c n small;
       name = record { some = omega arith; each = printed_all c (decimal n) (omega arith) (omega arith) (digits_in n small) };
     }
+
+-- its second byte is a digit
+pub first_digit : (n : ℕ) → n < 2 ^ 64 → get_or (decimal n) 0 0 ≤ 57
+first_digit n small =
+    let f = first_of (decimal n) (decimal_nonempty n small) (digits_in n small) in
+    let high = f.3.1 in
+    subst (λ (ds : Text). get_or ds 0 0 ≤ 57) (sym f.2) high

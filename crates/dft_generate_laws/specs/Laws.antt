@@ -1,5 +1,5 @@
 -- Laws of generated jobs.
-use Rattle.std.specs.Prelude.{ℕ, ◌≡◌, ◌≤◌, List, length, Ok, None}
+use Rattle.std.specs.Prelude.{ℕ, ◌+◌, ◌*◌, ◌/◌, ◌≡◌, ◌≤◌, List, length, Ok, None}
 use Rattle.dft_cells.specs.Standard.{standard_cells}
 use Rattle.dft_netlist_text.specs.NetlistText.{StandsFor}
 use Rattle.dft_config.specs.Refusals.{IsConfig}
@@ -7,10 +7,17 @@ use Rattle.dft_rules.specs.Refusals as rules
 use Rattle.dft_stil_text.specs.declared.limits.TheConstants.{MAX_VECTORS}
 use Rattle.dft_stitch.specs.Chains.{plan_of}
 use Rattle.dft_stitch.specs.Limits as limits
+use Rattle.dft_scan_hardware.specs.declared.style.Style.TheVariants.{Edt}
+use Rattle.dft_scan_hardware.specs.Refusals as insert
+use Rattle.dft_scan_hardware.specs.Statements.{scanned}
+use Rattle.dft_stil_tokens.specs.declared.blanks.TheConstants.{MAX_TEXT}
+use Rattle.dft_stil_out.specs.WrittenLength.{written_length}
+use Rattle.dft_vectors.specs.Signals.{signals_of}
+use Rattle.dft_vectors.specs.VectorList.{notes_of}
 use Rattle.dft_encode.specs.Compiled.{Placing}
 use Rattle.dft_encode.specs.Laws.{vectors_in}
 use Rattle.dft_cubes.specs.Cubes.{cubes_of}
-use Rattle.dft_generate.specs.Configurations.{configuration}
+use Rattle.dft_generate.specs.Configurations.{configuration, configuration_text}
 use Rattle.dft_generate.specs.Configurations as stated
 use Rattle.dft_generate.specs.Cubes.{cubes_text}
 use Rattle.dft_generate.specs.declared.job.Job.{Job}
@@ -32,10 +39,11 @@ CubesAreRead = (size : ℕ) (words : List ℕ) → IsSize size → AreWords size
 abbrev pub SeedsGiveWords : Type 0
 SeedsGiveWords = (seed size : ℕ) → AreWords size (words_of seed size)
 
--- no scan rule and no limit of the plan refuses the design with the stated configuration
+-- no check before the cubes refuses the design with the stated configuration: no scan rule, no limit of the plan, and nothing that insertion adds
 pub record IsAccepted (size : ℕ) (words : List ℕ) : Type 0 where
   pub rules : rules.refusal (design size words) configuration ≡ None
   pub plan : limits.refusal (design size words) configuration ≡ None
+  pub insertion : insert.refusal Edt (design size words) configuration (plan_of (design size words) configuration) ≡ None
 
 -- so it is for every size, from whatever words
 abbrev pub DesignsAreAccepted : Type 0
@@ -56,3 +64,20 @@ abbrev pub PatternsFit : Type 0
 PatternsFit =
     (size : ℕ) (words : List ℕ) → IsSize size → size ≤ 16240 → (placing : Placing configuration (plan_of (design size words) configuration) (cubes_in size words)) →
     vectors_in (plan_of (design size words) configuration).cycles (length placing.merged) ≤ MAX_VECTORS
+
+-- of every size, and however the cubes are placed, the text of their patterns is no longer than a pattern text may be
+abbrev pub PatternTextsFit : Type 0
+PatternTextsFit =
+    (size : ℕ) (words : List ℕ) → IsSize size → (placing : Placing configuration (plan_of (design size words) configuration) (cubes_in size words)) →
+    let cycles = (plan_of (design size words) configuration).cycles in
+    let patterns = length placing.merged in written_length (signals_of (scanned Edt (design size words) configuration)) (vectors_in cycles patterns) (notes_of cycles patterns) ≤ MAX_TEXT
+
+-- the texts are short: at most 100 bytes for each cell and 81 more, 1,024, and 80 for each cube
+pub record AreShort (size : ℕ) (words : List ℕ) : Type 0 where
+  pub netlist : length (netlist_text size words) ≤ 100 * size + 81
+  pub configuration : length configuration_text ≤ 1024
+  pub cubes : length (cubes_text size words) ≤ 80 * (size / 4)
+
+-- so are those of every seed and size
+abbrev pub TextsAreShort : Type 0
+TextsAreShort = (seed size : ℕ) → IsSize size → AreShort size (words_of seed size)

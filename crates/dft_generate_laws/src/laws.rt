@@ -1,6 +1,6 @@
 //! Laws of generated jobs, as contracts of functions that do nothing.
 
-ghost use Rattle.dft_generate_laws.specs.Laws.{CubesAreRead, DesignsAreAccepted, JobsAreRead, NetlistsAreRead, PatternsFit, SeedsGiveWords};
+ghost use Rattle.dft_generate_laws.specs.Laws.{CubesAreRead, DesignsAreAccepted, JobsAreRead, NetlistsAreRead, PatternTextsFit, PatternsFit, SeedsGiveWords, TextsAreShort};
 
 /// The law that the netlist text of every size from 16 to 20,000, from whatever words, stands for the stated design over the standard
 /// library: so it is read, and as this design.
@@ -8,7 +8,8 @@ pub fn netlists_are_read()
     ensures { NetlistsAreRead }
 {}
 
-/// The law that no scan rule refuses that design with the stated configuration, and no limit of the plan.
+/// The law that no check before the cubes refuses that design with the stated configuration: no scan rule, no limit of the plan, and
+/// nothing that insertion adds.
 pub fn designs_are_accepted()
     ensures { DesignsAreAccepted }
 {}
@@ -30,4 +31,14 @@ pub fn jobs_are_read()
 /// pattern texts takes.
 pub fn patterns_fit()
     ensures { PatternsFit }
+{}
+
+/// The law that of every size, and however the cubes are placed, the text of their patterns is no longer than a pattern text may be.
+pub fn pattern_texts_fit()
+    ensures { PatternTextsFit }
+{}
+
+/// The law that the texts of the job of every seed and size are short, each far below the limit of its file.
+pub fn texts_are_short()
+    ensures { TextsAreShort }
 {}

@@ -4,5 +4,6 @@
 mod laws;
 
 pub use laws::{
-    cubes_are_read, designs_are_accepted, jobs_are_read, netlists_are_read, patterns_fit,
+    cubes_are_read, designs_are_accepted, jobs_are_read, netlists_are_read, pattern_texts_fit,
+    patterns_fit, texts_are_short,
 };
