@@ -10,7 +10,7 @@ use Rattle.dft_netlist.specs.Logic.{Logic, Force, Scan, IsRanked}
 use Rattle.dft_netlist.specs.Settled.{TriSources, value_from, IsTriSettled}
 use Rattle.dft_netlist.specs.Runs.{Vector}
 use Rattle.dft_netlist.proofs.Meanings.{source_monotone, source_over, meaning_monotone, at_nets}
-use Rattle.dft_abstract.specs.Cycle.{Pulse, tri_forced_by, tri_taken_by, view_sources, AreViews, next_value, IsLeast, after_pulse, pulse_of, strobe_sources, Round, IsRound}
+use Rattle.dft_abstract.specs.Cycle.{Pulse, tri_forced_by, tri_taken_by, view_sources, AreViews, next_value, IsLeast, after_pulse, pulse_of, strobe_sources, Halves, AreLeast, after_halves, Round, IsRound}
 use Rattle.dft_abstract.specs.Laws.{StepIsBelow, RoundIsOne}
 
 pub both_above : (t u : Tri) → AboveTri t u → AboveTri u t → t ≡ u
@@ -76,8 +76,11 @@ after_over l rank p poss other view its ranked this that c =
     (next_monotone l rank p poss other view its ranked this.closed.views that.closed.views (that.least poss view this.closed) c)
     (above_self (p.old c))
 
+halves_over : (l : Logic) (rank : ℕ → ℕ) (x : Vector) (old : ℕ → Tri) (h k : Halves) → IsRanked l rank → AreLeast l x old h → AreLeast l x old k → (c : ℕ) → AboveTri (after_halves l x old h c) (after_halves l x old k c)
+halves_over l rank x old h k ranked hh kk c = after_over l rank (pulse_of l x old) h.rise.poss k.rise.poss h.rise.view k.rise.view ranked hh.rise kk.rise c
+
 pub round_one : RoundIsOne
 round_one l rank x old r q ranked rr qq = (
   (λ net. both_above _ _ (strobe_over l rank x old r q ranked rr qq net) (strobe_over l rank x old q r ranked qq rr net)),
-  (λ c. both_above _ _ (after_over l rank (pulse_of l x old) r.poss q.poss r.view q.view ranked rr.least qq.least c) (after_over l rank (pulse_of l x old) q.poss r.poss q.view r.view ranked qq.least rr.least c)),
+  (λ c. both_above _ _ (halves_over l rank x old r.halves q.halves ranked rr.least qq.least c) (halves_over l rank x old q.halves r.halves ranked qq.least rr.least c)),
 )

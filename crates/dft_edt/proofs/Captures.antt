@@ -162,9 +162,9 @@ stays original written p d y x its old view has capture over cell is other =
     subst (λ t. AboveTri ((pulse_of original y its).old cell) t) (sym (pick_false (x.pulsed (written.cell cell).domain) (next_value written q view cell) (q.old cell) low)) (old_over original written p y x its old has over cell is)
 
 pub capture_law : CaptureLaw
-capture_law original written rank p d y x its old poss view values ranked has capture over settled views cell is = (
-  λ own. captured original written rank p d y x its old poss view values ranked has capture over settled views cell is own,
-  λ other. stays original written p d y x its old view has capture over cell is other,
+capture_law original written rank p d y x its old h values ranked has capture over settled halves cell is = (
+  λ own. captured original written rank p d y x its old h.rise.poss h.rise.view values ranked has capture over settled halves.rise cell is own,
+  λ other. stays original written p d y x its old h.rise.view has capture over cell is other,
 )
 
 pub containing_covers : ContainingCovers

@@ -314,21 +314,20 @@ plain_round l s x old =
     let p : Pulse = pulse_of l x.vector (value_at old) in
     record {
       strobe = strobe_values l x.vector (value_at old) s.levels;
-      poss = value_at (plain_map l p s);
-      view = view_values l p (value_at (plain_map l p s)) s.levels;
+      halves = record { rise = record { poss = value_at (plain_map l p s); view = view_values l p (value_at (plain_map l p s)) s.levels } };
     }
 
 round_is : (l : Logic) (rank : ℕ → ℕ) (s : Size) (x : Row) (old : List Tri) → Fits l rank s → IsPast s.cells old → IsRound l x.vector (value_at old) (plain_round l s x old)
 round_is l rank s x old fits past = record {
   strobe = strobe_settled l rank s x.vector (value_at old) fits;
-  least = least_from l rank s (pulse_of l x.vector (value_at old)) fits (old_past l rank s x.vector old fits past);
+  least = record { rise = least_from l rank s (pulse_of l x.vector (value_at old)) fits (old_past l rank s x.vector old fits past) };
 }
 
 after_is : (l : Logic) (rank : ℕ → ℕ) (s : Size) (x : Row) (old : List Tri) → Fits l rank s → IsPast s.cells old →
     value_at (table s.cells (after_round l x.vector (value_at old) (plain_round l s x old))) ≡ after_round l x.vector (value_at old) (plain_round l s x old)
 after_is l rank s x old fits past =
     let after : ℕ → Tri = after_round l x.vector (value_at old) (plain_round l s x old) in
-    same_map _ _ (λ c. table_cases (λ t. t ≡ after c) s.cells c after (λ h. refl) (λ h. sym (after_past l rank s x.vector old (plain_round l s x old).view fits past c h)))
+    same_map _ _ (λ c. table_cases (λ t. t ≡ after c) s.cells c after (λ h. refl) (λ h. sym (after_past l rank s x.vector old (plain_round l s x old).halves.rise.view fits past c h)))
 
 stops_from : (d : Option Verdict) (later : Verdict) (Later : Verdict → Type 0) → Later later → Stops d (or_later d later) (Later (or_later d later))
 stops_from None later Later h = h
