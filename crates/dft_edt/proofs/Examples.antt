@@ -1,20 +1,21 @@
 -- The small design has the hardware.
-use Rattle.std.proofs.Common.{ℕ, zero, suc, ◌≡◌, ◌<◌, Some, [], ◌∷◌, refl, subst, arith}
+use Rattle.std.proofs.Common.{ℕ, zero, suc, ◌≡◌, ◌<◌, Some, [], ◌∷◌, refl, subst, arith, sym, ap, ◌∙◌, get_or}
 use Rattle.std.proofs.lemmas.Option.{none-some, same_Some}
 use Rattle.dft_netlist.specs.declared.ids.InstanceId.{InstanceId}
 use Rattle.std.specs.Prelude.{◌&&◌, not, IsTrue, List}
-use Rattle.std.specs.List.{All, list_any}
+use Rattle.std.specs.List.{All, list_any, AllByRecursion}
 use Rattle.dft_base.specs.Words.{is_simple_name, is_later_reserved, reserved_words, later_reserved_words}
 use Rattle.dft_config.specs.declared.config.Injector.{Injector}
 use Rattle.dft_config.specs.Range.{has, same_number, names_of, IsSet, IsInRange}
-use Rattle.dft_netlist.specs.Logic.{IsRanked}
+use Rattle.dft_netlist.specs.Logic.{IsRanked, Meaning, Lockup, Free, lockup_cell, reads}
+use Rattle.dft_netlist.specs.Drivers.{Source, Net, AreBelow}
 use Rattle.dft_stitch.specs.Plans.{cell_at}
 use Rattle.dft_chains.specs.Hardware.{IsScanCell, Leads, ByLockup}
 use Rattle.dft_edt.specs.Hardware.{HasStage, HasPhase, HasRing, HasEnd, HasOutput, HasCompactor, before_in}
 use Rattle.dft_config.specs.Segments.{segment_length}
 use Rattle.dft_parts.specs.SumTrees.{Term, Joined}
 use Rattle.dft_parts.specs.Standing.{IsFlop}
-use Rattle.dft_edt.specs.Examples.{small, small_ports, small_config, small_chains, small_scan, small_edt, SmallHas}
+use Rattle.dft_edt.specs.Examples.{small, small_ports, small_config, small_chains, small_scan, small_edt, SmallHas, small_nets}
 
 one : (P : ℕ → Type 0) → P 0 → (i : ℕ) → i < 1 → P i
 one P a zero h = a
@@ -26,34 +27,125 @@ two P a b (suc zero) h = b
 two P a b (suc (suc i)) h = absurd (omega arith)
 
 -- each net reads nets before it
+order : (net : ℕ) → AreBelow (λ k. k) net (reads (small.net net))
+order zero = tt
+order (suc zero) = tt
+order (suc (suc zero)) = tt
+order (suc (suc (suc zero))) = tt
+order (suc (suc (suc (suc zero)))) = tt
+order (suc (suc (suc (suc (suc zero))))) = tt
+order (suc (suc (suc (suc (suc (suc zero)))))) = tt
+order (suc (suc (suc (suc (suc (suc (suc zero))))))) = (omega arith, tt)
+order (suc (suc (suc (suc (suc (suc (suc (suc zero)))))))) = tt
+order (suc (suc (suc (suc (suc (suc (suc (suc (suc zero))))))))) = tt
+order (suc (suc (suc (suc (suc (suc (suc (suc (suc (suc zero)))))))))) = (omega arith, (omega arith, tt))
+order (suc (suc (suc (suc (suc (suc (suc (suc (suc (suc (suc zero))))))))))) = (omega arith, (omega arith, tt))
+order (suc (suc (suc (suc (suc (suc (suc (suc (suc (suc (suc (suc zero)))))))))))) = (omega arith, (omega arith, tt))
+order (suc (suc (suc (suc (suc (suc (suc (suc (suc (suc (suc (suc (suc zero))))))))))))) = (omega arith, (omega arith, tt))
+order (suc (suc (suc (suc (suc (suc (suc (suc (suc (suc (suc (suc (suc (suc zero)))))))))))))) = (omega arith, tt)
+order (suc (suc (suc (suc (suc (suc (suc (suc (suc (suc (suc (suc (suc (suc (suc zero))))))))))))))) = tt
+order (suc (suc (suc (suc (suc (suc (suc (suc (suc (suc (suc (suc (suc (suc (suc (suc zero)))))))))))))))) = (omega arith, tt)
+order (suc (suc (suc (suc (suc (suc (suc (suc (suc (suc (suc (suc (suc (suc (suc (suc (suc zero))))))))))))))))) = tt
+order (suc (suc (suc (suc (suc (suc (suc (suc (suc (suc (suc (suc (suc (suc (suc (suc (suc (suc zero)))))))))))))))))) = tt
+order (suc (suc (suc (suc (suc (suc (suc (suc (suc (suc (suc (suc (suc (suc (suc (suc (suc (suc (suc zero))))))))))))))))))) = tt
+order (suc (suc (suc (suc (suc (suc (suc (suc (suc (suc (suc (suc (suc (suc (suc (suc (suc (suc (suc (suc zero)))))))))))))))))))) = (omega arith, (omega arith, tt))
+order (suc (suc (suc (suc (suc (suc (suc (suc (suc (suc (suc (suc (suc (suc (suc (suc (suc (suc (suc (suc (suc zero))))))))))))))))))))) = (omega arith, (omega arith, tt))
+order (suc (suc (suc (suc (suc (suc (suc (suc (suc (suc (suc (suc (suc (suc (suc (suc (suc (suc (suc (suc (suc (suc zero)))))))))))))))))))))) = (omega arith, (omega arith, tt))
+order (suc (suc (suc (suc (suc (suc (suc (suc (suc (suc (suc (suc (suc (suc (suc (suc (suc (suc (suc (suc (suc (suc (suc zero))))))))))))))))))))))) = (omega arith, tt)
+order (suc (suc (suc (suc (suc (suc (suc (suc (suc (suc (suc (suc (suc (suc (suc (suc (suc (suc (suc (suc (suc (suc (suc (suc zero)))))))))))))))))))))))) = (omega arith, (omega arith, tt))
+order (suc (suc (suc (suc (suc (suc (suc (suc (suc (suc (suc (suc (suc (suc (suc (suc (suc (suc (suc (suc (suc (suc (suc (suc (suc zero))))))))))))))))))))))))) = (omega arith, tt)
+order (suc (suc (suc (suc (suc (suc (suc (suc (suc (suc (suc (suc (suc (suc (suc (suc (suc (suc (suc (suc (suc (suc (suc (suc (suc (suc k)))))))))))))))))))))))))) = tt
+
+-- what a net that is a lock-up shows is the cell of its instance
+abbrev IsStored : Meaning → Type 0
+IsStored m = (c e : ℕ) (source : Source) → m ≡ Lockup c e source → small.cell c ≡ lockup_cell e source
+
+get_stored : (ms : List Meaning) → AllByRecursion IsStored ms → (net : ℕ) → IsStored (get_or ms net Free)
+get_stored [] all net c e source h = absurd cc
+get_stored (m ∷ ms) all zero c e source h = all.0 c e source h
+get_stored (m ∷ ms) all (suc net) c e source h = get_stored ms all.1 net c e source h
+
+locked_in : (i d : ℕ) (from : Source) → small.cell i ≡ lockup_cell d from → IsStored (Lockup i d from)
+locked_in i d from is c e source h =
+    (let p : i ≡ c = cc in let q : d ≡ e = cc in let r : from ≡ source = cc in sym (ap small.cell p) ∙ is ∙ (λ t. lockup_cell (q t) (r t)))
+
+all_stored : AllByRecursion IsStored small_nets
+all_stored = (
+  (λ c e source h. absurd cc),
+  (
+    (λ c e source h. absurd cc),
+    (
+      (λ c e source h. absurd cc),
+      (
+        (λ c e source h. absurd cc),
+        (
+          (λ c e source h. absurd cc),
+          (
+            (λ c e source h. absurd cc),
+            (
+              (λ c e source h. absurd cc),
+              (
+                (λ c e source h. absurd cc),
+                (
+                  (λ c e source h. absurd cc),
+                  (
+                    (λ c e source h. absurd cc),
+                    (
+                      (λ c e source h. absurd cc),
+                      (
+                        (λ c e source h. absurd cc),
+                        (
+                          (λ c e source h. absurd cc),
+                          (
+                            (λ c e source h. absurd cc),
+                            (
+                              locked_in 2 3 (Net 13) refl,
+                              (
+                                (λ c e source h. absurd cc),
+                                (
+                                  locked_in 4 4 (Net 15) refl,
+                                  (
+                                    (λ c e source h. absurd cc),
+                                    (
+                                      (λ c e source h. absurd cc),
+                                      (
+                                        (λ c e source h. absurd cc),
+                                        (
+                                          (λ c e source h. absurd cc),
+                                          (
+                                            (λ c e source h. absurd cc),
+                                            (
+                                              (λ c e source h. absurd cc),
+                                              (
+                                                (λ c e source h. absurd cc),
+                                                ((λ c e source h. absurd cc), ((λ c e source h. absurd cc), tt)),
+                                              ),
+                                            ),
+                                          ),
+                                        ),
+                                      ),
+                                    ),
+                                  ),
+                                ),
+                              ),
+                            ),
+                          ),
+                        ),
+                      ),
+                    ),
+                  ),
+                ),
+              ),
+            ),
+          ),
+        ),
+      ),
+    ),
+  ),
+)
+
 ranked : IsRanked small (λ net. net)
-ranked zero = tt
-ranked (suc zero) = tt
-ranked (suc (suc zero)) = tt
-ranked (suc (suc (suc zero))) = tt
-ranked (suc (suc (suc (suc zero)))) = tt
-ranked (suc (suc (suc (suc (suc zero))))) = tt
-ranked (suc (suc (suc (suc (suc (suc zero)))))) = tt
-ranked (suc (suc (suc (suc (suc (suc (suc zero))))))) = (omega arith, tt)
-ranked (suc (suc (suc (suc (suc (suc (suc (suc zero)))))))) = tt
-ranked (suc (suc (suc (suc (suc (suc (suc (suc (suc zero))))))))) = tt
-ranked (suc (suc (suc (suc (suc (suc (suc (suc (suc (suc zero)))))))))) = (omega arith, (omega arith, tt))
-ranked (suc (suc (suc (suc (suc (suc (suc (suc (suc (suc (suc zero))))))))))) = (omega arith, (omega arith, tt))
-ranked (suc (suc (suc (suc (suc (suc (suc (suc (suc (suc (suc (suc zero)))))))))))) = (omega arith, (omega arith, tt))
-ranked (suc (suc (suc (suc (suc (suc (suc (suc (suc (suc (suc (suc (suc zero))))))))))))) = (omega arith, (omega arith, tt))
-ranked (suc (suc (suc (suc (suc (suc (suc (suc (suc (suc (suc (suc (suc (suc zero)))))))))))))) = (omega arith, tt)
-ranked (suc (suc (suc (suc (suc (suc (suc (suc (suc (suc (suc (suc (suc (suc (suc zero))))))))))))))) = tt
-ranked (suc (suc (suc (suc (suc (suc (suc (suc (suc (suc (suc (suc (suc (suc (suc (suc zero)))))))))))))))) = (omega arith, tt)
-ranked (suc (suc (suc (suc (suc (suc (suc (suc (suc (suc (suc (suc (suc (suc (suc (suc (suc zero))))))))))))))))) = tt
-ranked (suc (suc (suc (suc (suc (suc (suc (suc (suc (suc (suc (suc (suc (suc (suc (suc (suc (suc zero)))))))))))))))))) = tt
-ranked (suc (suc (suc (suc (suc (suc (suc (suc (suc (suc (suc (suc (suc (suc (suc (suc (suc (suc (suc zero))))))))))))))))))) = tt
-ranked (suc (suc (suc (suc (suc (suc (suc (suc (suc (suc (suc (suc (suc (suc (suc (suc (suc (suc (suc (suc zero)))))))))))))))))))) = (omega arith, (omega arith, tt))
-ranked (suc (suc (suc (suc (suc (suc (suc (suc (suc (suc (suc (suc (suc (suc (suc (suc (suc (suc (suc (suc (suc zero))))))))))))))))))))) = (omega arith, (omega arith, tt))
-ranked (suc (suc (suc (suc (suc (suc (suc (suc (suc (suc (suc (suc (suc (suc (suc (suc (suc (suc (suc (suc (suc (suc zero)))))))))))))))))))))) = (omega arith, (omega arith, tt))
-ranked (suc (suc (suc (suc (suc (suc (suc (suc (suc (suc (suc (suc (suc (suc (suc (suc (suc (suc (suc (suc (suc (suc (suc zero))))))))))))))))))))))) = (omega arith, tt)
-ranked (suc (suc (suc (suc (suc (suc (suc (suc (suc (suc (suc (suc (suc (suc (suc (suc (suc (suc (suc (suc (suc (suc (suc (suc zero)))))))))))))))))))))))) = (omega arith, (omega arith, tt))
-ranked (suc (suc (suc (suc (suc (suc (suc (suc (suc (suc (suc (suc (suc (suc (suc (suc (suc (suc (suc (suc (suc (suc (suc (suc (suc zero))))))))))))))))))))))))) = (omega arith, tt)
-ranked (suc (suc (suc (suc (suc (suc (suc (suc (suc (suc (suc (suc (suc (suc (suc (suc (suc (suc (suc (suc (suc (suc (suc (suc (suc (suc k)))))))))))))))))))))))))) = tt
+ranked = record { order = order; lockups = get_stored small_nets all_stored }
 
 scan_cell : (chain place : ℕ) (cell : InstanceId) → cell_at small_chains chain place ≡ Some cell → IsScanCell small small_ports 0 (small_scan.into chain place) cell.0
 scan_cell zero zero cell is = subst (λ (c : InstanceId). IsScanCell small small_ports 0 (small_scan.into 0 0) c.0) (same_Some (record { 0 = 3 }) cell is) (record { scan = refl; domain = refl; force = tt })
