@@ -32,7 +32,7 @@ settled_monotone : (l : Logic) (rank : ℕ → ℕ) (t s : ℕ → TriSources) (
 settled_monotone l rank t s w u ranked tw su ports clocks flops lockups zero net less d = absurd (omega arith)
 settled_monotone l rank t s w u ranked tw su ports clocks flops lockups (suc fuel) net less d =
     let ih : (k : ℕ) → rank k < rank net → (e : ℕ) → AboveTri (w e k) (u e k) = λ k below. settled_monotone l rank t s w u ranked tw su ports clocks flops lockups fuel k (omega arith) in
-    at_nets _ _ _ _ (tw d net) (su d net) (meaning_monotone rank (t d) (s d) (w d) (u d) net (ports d) (clocks d) (flops d) (l.net net) (ranked net) (λ k below. ih k below d) (lockups (rank net) ih d))
+    at_nets _ _ _ _ (tw d net) (su d net) (meaning_monotone rank (t d) (s d) (w d) (u d) net (ports d) (clocks d) (flops d) (l.net net) (ranked.order net) (λ k below. ih k below d) (lockups (rank net) ih d))
 
 choices : (b : Bool) (x y a c : Tri) → AboveTri x a → AboveTri y c → AboveTri (if b then x else y) (if b then a else c)
 choices true x y a c p q = p

@@ -26,6 +26,7 @@ use Rattle.dft_netlist.specs.Settled.{IsTriSettled, inverse, value_given}
 use Rattle.dft_netlist.specs.Sound.{bits_of}
 use Rattle.dft_netlist.specs.Traces.{Root, Port, Constant, Other, root_of}
 use Rattle.dft_netlist.proofs.LiveDriven.{AreBefore, before_front, before_back}
+use Rattle.dft_netlist.proofs.StoredLemmas.{stored_force}
 use Rattle.dft_abstract.specs.Cycle.{tri_forced_by, pulse_of, strobe_sources, AreHalves, Round, IsRound, after_round}
 use Rattle.dft_abstract.specs.Laws.{next_from}
 use Rattle.dft_abstract.proofs.Halves.{closed_views, least_closed}
@@ -220,7 +221,7 @@ module _ (n : Netlist) (config : Config) (ports : Ports) (p : Pattern) (clear : 
   y = record { ports = λ net. capture.ports (s.moved net); pulsed = cv.pulsed }
 
   resets : (cell : ℕ) (f : Force) → (original.cell cell).force ≡ Some f → (config_ports n config).is_reset f.port ≡ true
-  resets cell f e = flop_reset n (config_ports n config) cell (is_flip_flop (kind_at n cell)) f e
+  resets cell f e = flop_reset n (config_ports n config) cell (is_flip_flop (kind_at n cell)) f (sym (stored_force n (config_ports n config) cell) ∙ e)
 
   force_input : (cell : ℕ) (f : Force) → (original.cell cell).force ≡ Some f → IsData n (config_ports n config) f.port
   force_input cell f e = (named_input n f.port config.resets (resets cell f e), reset_rests n config f.port ready.range (resets cell f e))

@@ -78,7 +78,7 @@ strobe_stable l rank x old ranked (suc f) (suc g) net hf hg =
     let a : ℕ → Tri = strobe_values l x old f in
     let b : ℕ → Tri = strobe_values l x old g in
     let same : (k : ℕ) → rank k < rank net → a k ≡ b k = λ k less. strobe_stable l rank x old ranked f g k (omega arith) (omega arith) in
-    given_same rank (strobe_sources l x old a) (strobe_sources l x old b) a b net (l.net net) (λ k. refl) (λ e. refl) (λ c. refl) (ranked net) same
+    given_same rank (strobe_sources l x old a) (strobe_sources l x old b) a b net (l.net net) (λ k. refl) (λ e. refl) (λ c. refl) (ranked.order net) same
     (λ c e source is below. source_same rank (rank net) a b source below same)
 
 view_stable : (l : Logic) (rank : ℕ → ℕ) (p : Pulse) (poss : ℕ → Tri) → IsRanked l rank → (f g net : ℕ) → rank net < f → rank net < g → (d : ℕ) → view_values l p poss f d net ≡ view_values l p poss g d net
@@ -88,7 +88,7 @@ view_stable l rank p poss ranked (suc f) (suc g) net hf hg d =
     let a : ℕ → ℕ → Tri = view_values l p poss f in
     let b : ℕ → ℕ → Tri = view_values l p poss g in
     let same : (k : ℕ) → rank k < rank net → (e : ℕ) → a e k ≡ b e k = λ k less e. view_stable l rank p poss ranked f g k (omega arith) (omega arith) e in
-    given_same rank (view_sources l p poss a d) (view_sources l p poss b d) (a d) (b d) net (l.net net) (λ k. refl) (λ e. refl) (λ c. refl) (ranked net) (λ k less. same k less d)
+    given_same rank (view_sources l p poss a d) (view_sources l p poss b d) (a d) (b d) net (l.net net) (λ k. refl) (λ e. refl) (λ c. refl) (ranked.order net) (λ k less. same k less d)
     (λ c e source is below. source_same rank (rank net) (a e) (b e) source below (λ k less. same k less e))
 
 -- ---- rounds
