@@ -1,13 +1,13 @@
 -- The small design has the hardware.
-use Rattle.std.proofs.Common.{ℕ, zero, suc, ◌≡◌, ◌<◌, Some, [], ◌∷◌, refl, subst, arith, sym, ap, ◌∙◌, get_or}
+use Rattle.std.proofs.Common.{ℕ, zero, suc, ◌≡◌, ◌<◌, Some, [], ◌∷◌, refl, subst, arith, sym, ap, ◌∙◌}
 use Rattle.std.proofs.lemmas.Option.{none-some, same_Some}
 use Rattle.dft_netlist.specs.declared.ids.InstanceId.{InstanceId}
 use Rattle.std.specs.Prelude.{◌&&◌, not, IsTrue, List}
-use Rattle.std.specs.List.{All, list_any, AllByRecursion}
+use Rattle.std.specs.List.{All, list_any}
 use Rattle.dft_base.specs.Words.{is_simple_name, is_later_reserved, reserved_words, later_reserved_words}
 use Rattle.dft_config.specs.declared.config.Injector.{Injector}
 use Rattle.dft_config.specs.Range.{has, same_number, names_of, IsSet, IsInRange}
-use Rattle.dft_netlist.specs.Logic.{IsRanked, Meaning, Lockup, Free, lockup_cell, reads}
+use Rattle.dft_netlist.specs.Logic.{IsRanked, Meaning, Lockup, lockup_cell, reads}
 use Rattle.dft_netlist.specs.Drivers.{Source, Net, AreBelow}
 use Rattle.dft_stitch.specs.Plans.{cell_at}
 use Rattle.dft_chains.specs.Hardware.{IsScanCell, Leads, ByLockup}
@@ -15,7 +15,7 @@ use Rattle.dft_edt.specs.Hardware.{HasStage, HasPhase, HasRing, HasEnd, HasOutpu
 use Rattle.dft_config.specs.Segments.{segment_length}
 use Rattle.dft_parts.specs.SumTrees.{Term, Joined}
 use Rattle.dft_parts.specs.Standing.{IsFlop}
-use Rattle.dft_edt.specs.Examples.{small, small_ports, small_config, small_chains, small_scan, small_edt, SmallHas, small_nets}
+use Rattle.dft_edt.specs.Examples.{small, small_ports, small_config, small_chains, small_scan, small_edt, SmallHas}
 
 one : (P : ℕ → Type 0) → P 0 → (i : ℕ) → i < 1 → P i
 one P a zero h = a
@@ -60,92 +60,41 @@ order (suc (suc (suc (suc (suc (suc (suc (suc (suc (suc (suc (suc (suc (suc (suc
 abbrev IsStored : Meaning → Type 0
 IsStored m = (c e : ℕ) (source : Source) → m ≡ Lockup c e source → small.cell c ≡ lockup_cell e source
 
-get_stored : (ms : List Meaning) → AllByRecursion IsStored ms → (net : ℕ) → IsStored (get_or ms net Free)
-get_stored [] all net c e source h = absurd cc
-get_stored (m ∷ ms) all zero c e source h = all.0 c e source h
-get_stored (m ∷ ms) all (suc net) c e source h = get_stored ms all.1 net c e source h
-
 locked_in : (i d : ℕ) (from : Source) → small.cell i ≡ lockup_cell d from → IsStored (Lockup i d from)
 locked_in i d from is c e source h =
     (let p : i ≡ c = cc in let q : d ≡ e = cc in let r : from ≡ source = cc in sym (ap small.cell p) ∙ is ∙ (λ t. lockup_cell (q t) (r t)))
 
-all_stored : AllByRecursion IsStored small_nets
-all_stored = (
-  (λ c e source h. absurd cc),
-  (
-    (λ c e source h. absurd cc),
-    (
-      (λ c e source h. absurd cc),
-      (
-        (λ c e source h. absurd cc),
-        (
-          (λ c e source h. absurd cc),
-          (
-            (λ c e source h. absurd cc),
-            (
-              (λ c e source h. absurd cc),
-              (
-                (λ c e source h. absurd cc),
-                (
-                  (λ c e source h. absurd cc),
-                  (
-                    (λ c e source h. absurd cc),
-                    (
-                      (λ c e source h. absurd cc),
-                      (
-                        (λ c e source h. absurd cc),
-                        (
-                          (λ c e source h. absurd cc),
-                          (
-                            (λ c e source h. absurd cc),
-                            (
-                              locked_in 2 3 (Net 13) refl,
-                              (
-                                (λ c e source h. absurd cc),
-                                (
-                                  locked_in 4 4 (Net 15) refl,
-                                  (
-                                    (λ c e source h. absurd cc),
-                                    (
-                                      (λ c e source h. absurd cc),
-                                      (
-                                        (λ c e source h. absurd cc),
-                                        (
-                                          (λ c e source h. absurd cc),
-                                          (
-                                            (λ c e source h. absurd cc),
-                                            (
-                                              (λ c e source h. absurd cc),
-                                              (
-                                                (λ c e source h. absurd cc),
-                                                ((λ c e source h. absurd cc), ((λ c e source h. absurd cc), tt)),
-                                              ),
-                                            ),
-                                          ),
-                                        ),
-                                      ),
-                                    ),
-                                  ),
-                                ),
-                              ),
-                            ),
-                          ),
-                        ),
-                      ),
-                    ),
-                  ),
-                ),
-              ),
-            ),
-          ),
-        ),
-      ),
-    ),
-  ),
-)
+stored_at : (net : ℕ) → IsStored (small.net net)
+stored_at zero c e source is = absurd cc
+stored_at (suc zero) c e source is = absurd cc
+stored_at (suc (suc zero)) c e source is = absurd cc
+stored_at (suc (suc (suc zero))) c e source is = absurd cc
+stored_at (suc (suc (suc (suc zero)))) c e source is = absurd cc
+stored_at (suc (suc (suc (suc (suc zero))))) c e source is = absurd cc
+stored_at (suc (suc (suc (suc (suc (suc zero)))))) c e source is = absurd cc
+stored_at (suc (suc (suc (suc (suc (suc (suc zero))))))) c e source is = absurd cc
+stored_at (suc (suc (suc (suc (suc (suc (suc (suc zero)))))))) c e source is = absurd cc
+stored_at (suc (suc (suc (suc (suc (suc (suc (suc (suc zero))))))))) c e source is = absurd cc
+stored_at (suc (suc (suc (suc (suc (suc (suc (suc (suc (suc zero)))))))))) c e source is = absurd cc
+stored_at (suc (suc (suc (suc (suc (suc (suc (suc (suc (suc (suc zero))))))))))) c e source is = absurd cc
+stored_at (suc (suc (suc (suc (suc (suc (suc (suc (suc (suc (suc (suc zero)))))))))))) c e source is = absurd cc
+stored_at (suc (suc (suc (suc (suc (suc (suc (suc (suc (suc (suc (suc (suc zero))))))))))))) c e source is = absurd cc
+stored_at (suc (suc (suc (suc (suc (suc (suc (suc (suc (suc (suc (suc (suc (suc zero)))))))))))))) c e source is = locked_in 2 3 (Net 13) refl c e source is
+stored_at (suc (suc (suc (suc (suc (suc (suc (suc (suc (suc (suc (suc (suc (suc (suc zero))))))))))))))) c e source is = absurd cc
+stored_at (suc (suc (suc (suc (suc (suc (suc (suc (suc (suc (suc (suc (suc (suc (suc (suc zero)))))))))))))))) c e source is = locked_in 4 4 (Net 15) refl c e source is
+stored_at (suc (suc (suc (suc (suc (suc (suc (suc (suc (suc (suc (suc (suc (suc (suc (suc (suc zero))))))))))))))))) c e source is = absurd cc
+stored_at (suc (suc (suc (suc (suc (suc (suc (suc (suc (suc (suc (suc (suc (suc (suc (suc (suc (suc zero)))))))))))))))))) c e source is = absurd cc
+stored_at (suc (suc (suc (suc (suc (suc (suc (suc (suc (suc (suc (suc (suc (suc (suc (suc (suc (suc (suc zero))))))))))))))))))) c e source is = absurd cc
+stored_at (suc (suc (suc (suc (suc (suc (suc (suc (suc (suc (suc (suc (suc (suc (suc (suc (suc (suc (suc (suc zero)))))))))))))))))))) c e source is = absurd cc
+stored_at (suc (suc (suc (suc (suc (suc (suc (suc (suc (suc (suc (suc (suc (suc (suc (suc (suc (suc (suc (suc (suc zero))))))))))))))))))))) c e source is = absurd cc
+stored_at (suc (suc (suc (suc (suc (suc (suc (suc (suc (suc (suc (suc (suc (suc (suc (suc (suc (suc (suc (suc (suc (suc zero)))))))))))))))))))))) c e source is = absurd cc
+stored_at (suc (suc (suc (suc (suc (suc (suc (suc (suc (suc (suc (suc (suc (suc (suc (suc (suc (suc (suc (suc (suc (suc (suc zero))))))))))))))))))))))) c e source is = absurd cc
+stored_at (suc (suc (suc (suc (suc (suc (suc (suc (suc (suc (suc (suc (suc (suc (suc (suc (suc (suc (suc (suc (suc (suc (suc (suc zero)))))))))))))))))))))))) c e source is = absurd cc
+stored_at (suc (suc (suc (suc (suc (suc (suc (suc (suc (suc (suc (suc (suc (suc (suc (suc (suc (suc (suc (suc (suc (suc (suc (suc (suc zero))))))))))))))))))))))))) c e source is = absurd cc
+stored_at (suc (suc (suc (suc (suc (suc (suc (suc (suc (suc (suc (suc (suc (suc (suc (suc (suc (suc (suc (suc (suc (suc (suc (suc (suc (suc k)))))))))))))))))))))))))) c e source is = absurd cc
 
 ranked : IsRanked small (λ net. net)
-ranked = record { order = order; lockups = get_stored small_nets all_stored }
+ranked = record { order = order; lockups = stored_at }
 
 scan_cell : (chain place : ℕ) (cell : InstanceId) → cell_at small_chains chain place ≡ Some cell → IsScanCell small small_ports 0 (small_scan.into chain place) cell.0
 scan_cell zero zero cell is = subst (λ (c : InstanceId). IsScanCell small small_ports 0 (small_scan.into 0 0) c.0) (same_Some (record { 0 = 3 }) cell is) (record { scan = refl; domain = refl; force = tt })
