@@ -94,7 +94,7 @@ pub record IsSmall (size : ℕ) (plan : Plan) : Type 0 where
   pub lockups : length plan.lockups ≤ size
   pub chains : length plan.chains ≡ 16
 
-plan_small : (size : ℕ) (words : List ℕ) → size ≤ 20000 → 0 < size → IsSmall size (plan_of (design size words) configuration)
+pub plan_small : (size : ℕ) (words : List ℕ) → size ≤ 20000 → 0 < size → IsSmall size (plan_of (design size words) configuration)
 plan_small size words few some =
     let verdicts : List (Option Judged) = judgements (design size words) configuration in
     let cells : List InstanceId = cells_of (design size words) configuration in

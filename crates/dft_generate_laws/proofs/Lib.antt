@@ -19,6 +19,7 @@ pub mod NetNames
 pub mod NetlistLaws
 pub mod Nets
 pub mod Places
+pub mod Reported
 pub mod Plans
 pub mod Said
 pub mod Seeds
