@@ -151,10 +151,13 @@ option_pieces option reason = mark (codes " (--") option ∷ or_empty option ∷
 unfoldable pub fault_line : (what : List ℕ) → (option : Option (List ℕ)) → (file reason : List ℕ) → List (List ℕ)
 fault_line what option file reason = what ∷ file_text option file ∷ file_dots option file ∷ option_pieces option reason
 
+unfoldable pub saved_line : (file : List ℕ) → (files : List (List ℕ)) → List (List ℕ)
+saved_line file files = codes "dft: saved before it:" ∷ file ∷ files
+
 -- the saves before it, where there are some
 abbrev pub before_line : (files : List (List ℕ)) → List (List (List ℕ))
 before_line [] = []
-before_line (f ∷ fs) = (codes "dft: saved before it:" ∷ f ∷ fs) ∷ []
+before_line (f ∷ fs) = saved_line f fs ∷ []
 
 abbrev pub saved_before : (option : Option (List ℕ)) → (file : List ℕ) → (words : List (List ℕ)) → List (List (List ℕ))
 saved_before None file words = []

@@ -327,11 +327,17 @@ fn put_files(page: &mut Page, files: &[&[u8]]) -> Result<(), AllocError>
 {
     match files {
         [] => Ok(()),
-        [_, ..] => {
-            page.put_text("dft: saved before it:")?;
-            page.put_line(files)
-        }
+        [file, more @ ..] => put_saved_line(page, file, more),
     }
+}
+
+#[tactic(auto, unfolding(crate::specs::Explained::saved_line))]
+fn put_saved_line(page: &mut Page, file: &[u8], files: &[&[u8]]) -> Result<(), AllocError>
+    ensures { OnOk result (page.new ≡ page.old ++ told_line (spec.saved_line file.now (map (λ file. file.now) files.now))) }
+{
+    page.put_text("dft: saved before it:")?;
+    page.put(file)?;
+    page.put_line(files)
 }
 
 #[tactic(auto, unfolding(crate::specs::Explained::reason_line))]

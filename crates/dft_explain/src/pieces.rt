@@ -124,8 +124,15 @@ pub(crate) fn blanks(alloc: Global, text: &[u8]) -> Result<Vec<u8>, AllocError>
     ensures { IfOk result (λ bytes. bytes.items ≡ map (λ b. 32) text.now) }
 {
     let mut bytes = Vec::new(alloc);
-    for _byte in text {
-        bytes.push(b' ')?;
+    for byte in text {
+        bytes.push(blank(*byte))?;
     }
     Ok(bytes)
+}
+
+// A blank, whatever the byte is.
+fn blank(_byte: u8) -> u8
+    ensures { result ≡ 32 }
+{
+    b' '
 }

@@ -328,13 +328,16 @@ static SENTENCES: [Said; 63] = [
 
 /// What a code says, where it is known. N4 has a row for what a netlist counts, and one for what a plan counts.
 pub fn said_of(code: &str, name: Option<&[u8]>) -> Option<&'static Said> {
-    let key = if code == "N4" && !is_of_netlist(name) {
-        "N4 of a plan"
+    if code == "N4" && !is_of_netlist(name) {
+        said_at("N4 of a plan")
     } else {
-        code
-    };
+        said_at(code)
+    }
+}
+
+fn said_at(code: &str) -> Option<&'static Said> {
     for said in &SENTENCES {
-        if said.code == key {
+        if said.code == code {
             return Some(said);
         }
     }

@@ -39,6 +39,7 @@ fn behind_line(text: &[u8]) -> Option<&[u8]>
     None
 }
 
+#[tactic(auto, using(crate::proofs::TextLemmas::one_less))]
 // What stands behind so many lines.
 fn behind_lines(text: &[u8], count: u32) -> Option<&[u8]>
     ensures { option_map (λ rest. rest.now) result ≡ spec.behind_lines count text.entry.now }
