@@ -1,5 +1,5 @@
 -- What a person is told of how a run ended: lines, each of pieces that are shown one behind the other.
-use Rattle.std.specs.Prelude.{ℕ, ℤ, Bool, ◌+◌, ◌-◌, ◌==◌, List, [], ◌∷◌, ◌++◌, codes, drop, flat_map, length, map, nat_le, nat_lt, take, Option, None, Some, option_map, if◌then◌else◌}
+use Rattle.std.specs.Prelude.{ℕ, ℤ, ◌-◌, ◌==◌, List, [], ◌∷◌, ◌++◌, codes, drop, flat_map, length, map, nat_lt, take, Option, None, Some, option_map, if◌then◌else◌}
 use Rattle.std.specs.Fmt.{decimal, signed_decimal}
 use Rattle.dft_base.specs.declared.place.Place.{Place}
 use Rattle.dft_explain.specs.declared.ending.Ending.{Ending}

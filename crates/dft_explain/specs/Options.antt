@@ -1,5 +1,5 @@
 -- Which file an option names, in words that are a command.
-use Rattle.std.specs.Prelude.{ℕ, Bool, true, false, ◌==◌, List, [], ◌∷◌, codes, Option, None, Some, option_and_then, if◌then◌else◌}
+use Rattle.std.specs.Prelude.{ℕ, Bool, false, ◌==◌, List, [], ◌∷◌, codes, Option, None, Some, option_and_then, if◌then◌else◌}
 use Rattle.std.specs.Str.{bytes_eq}
 
 -- what stands behind these first bytes, where a text begins with them

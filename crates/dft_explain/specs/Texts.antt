@@ -1,5 +1,5 @@
 -- Lines of texts.
-use Rattle.std.specs.Prelude.{ℕ, Bool, ◌==◌, ◌+◌, not, List, [], ◌∷◌, Option, None, Some, option_and_then, suc, take, zero, if◌then◌else◌}
+use Rattle.std.specs.Prelude.{ℕ, Bool, ◌==◌, not, List, [], ◌∷◌, Option, None, Some, option_and_then, suc, take, zero, if◌then◌else◌}
 use Rattle.std.specs.List.{prefix_len}
 
 -- a byte that ends no line

@@ -102,7 +102,7 @@ static SENTENCES: [Said; 63] = [
     Said {
         code: "L1",
         sentence: "a kind that is not known",
-        advice: "take a kind of the list; what has none of them is opaque",
+        advice: "take a known kind; a cell that has none of them is opaque",
     },
     Said {
         code: "L7",
@@ -182,7 +182,7 @@ static SENTENCES: [Said; 63] = [
     Said {
         code: "C2",
         sentence: "a key is missing, holds another kind of value or a list of another form, or is unknown",
-        advice: "give the key as the table above says",
+        advice: "give the key, in the form that docs/FORMATS.md has for it",
     },
     Said {
         code: "C3",
