@@ -133,7 +133,7 @@ reached netlist config cubes n c given o r x =
     let over = only_next (LibraryGives None held) (CompileOver job_files held) o standard_cells (λ other is. is, λ refusal never. never) x in
     let on = only_next (ConfigGives (codes "config") held) (CompileOn job_files standard_cells held) o c (file_only MAX_CONFIG_BYTES (codes "config") ConfigText config c r.config_short (config_only config c r.settings)) over.1 in
     let of = only_next (NetlistGives standard_cells (codes "netlist") held) (CompileOf job_files c held) o n
-        (file_only MAX_NETLIST_BYTES (codes "netlist") (NetlistText standard_cells) netlist n r.netlist_short (netlist_only standard_cells netlist n r.stands)) on.1 in
+    (file_only MAX_NETLIST_BYTES (codes "netlist") (NetlistText standard_cells) netlist n r.netlist_short (netlist_only standard_cells netlist n r.stands)) on.1 in
     let with = design_given n c (CompileWith n c (codes "cubes") held) o r.accepted of.1 in
     let end = only_next (CubesGive n c (codes "cubes") held) (λ given. IsOutcomeOfCubes n c given) o given (file_only MAX_CUBE_BYTES (codes "cubes") (CubeText n c) cubes given r.cubes_short (cubes_only n c cubes given r.read)) with.1.1 in
     let readied = with.1.0 in
