@@ -22,6 +22,7 @@ pub mod Places
 pub mod Reported
 pub mod Plans
 pub mod Said
+pub mod ScannedTexts
 pub mod Seeds
 pub mod Sizes
 pub mod Sound
