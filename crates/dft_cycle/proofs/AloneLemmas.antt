@@ -13,11 +13,13 @@ use Rattle.dft_netlist.specs.declared.ids.NetId.{NetId}
 use Rattle.dft_netlist.specs.Logic.{Logic, IsRanked}
 use Rattle.dft_netlist.specs.Settled.{value_from}
 use Rattle.dft_logic.specs.declared.circuit.Circuit.{Circuit}
-use Rattle.dft_abstract.specs.Cycle.{Pulse, tri_forced_by, tri_taken_by, view_sources, AreViews, next_value}
+use Rattle.dft_abstract.specs.Cycle.{Pulse, tri_forced_by, tri_taken_by, next_value}
+use Rattle.dft_abstract.specs.Rises.{view_sources, AreViews}
 use Rattle.dft_cycle.specs.Machine.{value_at}
 use Rattle.dft_logic.specs.Circuit.{logic_at, flag_at, IsCircuit}
 use Rattle.dft_cycle.specs.Views.{raised_by, rank_of, Among, PulsesAmong, HasNext, AreNext, IsAlone}
-use Rattle.dft_abstract.proofs.Views.{views_exist, settled_same}
+use Rattle.dft_abstract.proofs.Views.{settled_same}
+use Rattle.dft_abstract.proofs.Rises.{views_exist}
 use Rattle.dft_logic.proofs.CircuitRanks.{circuit_ranked}
 use Rattle.dft_cycle.proofs.RoundLemmas.{no_latch}
 use Rattle.dft_cycle.proofs.Risings.{IsRaised, past_next}
@@ -33,7 +35,7 @@ own_view : (l : Logic) (rank : ℕ → ℕ) (p : Pulse) (d : ℕ) (poss other : 
 own_view l rank p d poss other view its ranked alone up views others net =
     settled_same l rank (view_sources l p poss view d) (view_sources l p other its d) (view d) (its d) ranked (views d) (others d) (λ k. refl) (λ e. refl)
     (λ c. same_flop (p.pulsed (l.cell c).domain) ((l.cell c).domain == d) (p.old c) (poss c) (other c) (λ h. eq-eqb (l.cell c).domain d (alone.one (l.cell c).domain d h up)))
-    (λ k c e source is same below. absurd (alone.none k c e source is)) net
+    (λ k c e high source is same below. absurd (alone.none k c e high source is)) net
 
 own_next : (l : Logic) (rank : ℕ → ℕ) (p : Pulse) (poss other : ℕ → Tri) (view its : ℕ → ℕ → Tri) → IsRanked l rank → IsAlone l p.pulsed → AreViews l p poss view → AreViews l p other its → (c : ℕ) → p.pulsed (l.cell c).domain ≡ true → next_value l p view c ≡ next_value l p its c
 own_next l rank p poss other view its ranked alone views others c up =
@@ -91,7 +93,7 @@ module _ {X : Type 0} (test : X → Bool) where
 
 pub alone_of : (x : Circuit) (pulsed : List Bool) (clocks : List NetId) → IsCircuit x → list_any (λ latch. is_some latch) x.latches.items ≡ false → PulsesAmong pulsed clocks → count_by (λ clock. flag_at pulsed clock.0) clocks < 2 → IsAlone (logic_at x) (flag_at pulsed)
 alone_of x pulsed clocks is none among few = record {
-  none = λ net c e source here. no_latch x is none net c e source here;
+  none = λ net c e high source here. no_latch x is none net c e high source here;
   one = λ e f up also.
       (let d : NetId = record { 0 = 0 } in
       let a = among e up in

@@ -184,7 +184,7 @@ shown_same cells p poss held d e k values (Flop c inverted) =
         | inr r ↦ inr (inr (sources_same (λ b. let bit = (if p.pulsed a then (if b then p.old c else value_at poss c) else p.old c) in if inverted then inverse bit else bit) a d e q.1 r.1))
       ]
     ]
-shown_same cells p poss held d e k values (Lockup c f source) = inr (inr refl)
+shown_same cells p poss held d e k values (Lockup c f high source) = inr (inr refl)
 shown_same cells p poss held d e k values Free = inr (inr refl)
 
 pub moved : (x : Circuit) (p : Pulse) (poss held values : List Tri) (d e k : ℕ) → IsCircuit x → d < length x.ops.items → e < length x.ops.items → Has (list_at x.leaves.items d) k ⊎ GivenIn x p poss held d values k →
@@ -197,16 +197,16 @@ moved x p poss held values d e k is here there before = elim before [
   ]
 ]
 
-held_same : (cells : List Cell) (p : Pulse) (poss held new : List Tri) (d k : ℕ) (values : ℕ → Tri) (m : Meaning) → ((c e : ℕ) (source : Source) → m ≡ Lockup c e source → (e ≡ d → ⊥) → value_at held c ≡ value_at new c) →
+held_same : (cells : List Cell) (p : Pulse) (poss held new : List Tri) (d k : ℕ) (values : ℕ → Tri) (m : Meaning) → ((c e : ℕ) (high : Bool) (source : Source) → m ≡ Lockup c e high source → (e ≡ d → ⊥) → value_at held c ≡ value_at new c) →
     Has (leaf_domains cells k m) d ⊎ (value_given (leaves_from (base_of cells p poss d) (Some held) values) values k m ≡ value_given (leaves_from (base_of cells p poss d) (Some new) values) values k m)
 held_same cells p poss held new d k values Input same = inr refl
 held_same cells p poss held new d k values Clock same = inr refl
 held_same cells p poss held new d k values (Gate kind inputs) same = inr refl
 held_same cells p poss held new d k values (Joined source) same = inr refl
 held_same cells p poss held new d k values (Flop c inverted) same = inr refl
-held_same cells p poss held new d k values (Lockup c e source) same = elim (eqb_tells e d) [
+held_same cells p poss held new d k values (Lockup c e high source) same = elim (eqb_tells e d) [
   | inl q ↦ inl (inl (sym q.1))
-  | inr q ↦ inr (same c e source refl q.1)
+  | inr q ↦ inr (same c e high source refl q.1)
 ]
 held_same cells p poss held new d k values Free same = inr refl
 
@@ -215,8 +215,8 @@ pub held_near : (x : Circuit) (p : Pulse) (poss held new values : List Tri) (d k
     ((c : ℕ) → c < length x.latches.items → value_at new c ≡ held_by (latch_at x.latches.items c) d (value_at values) (value_at held c)) → GivenIn x p poss held d values k →
     Has (list_at x.leaves.items d) k ⊎ GivenIn x p poss new d values k
 held_near x p poss held new values d k is live each given =
-    let other : (c e : ℕ) (source : Source) → meaning (op_at x.ops.items k) ≡ Lockup c e source → (e ≡ d → ⊥) → value_at held c ≡ value_at new c = λ c e source h ne.
-    (let latch = is.latched k c e source h in
+    let other : (c e : ℕ) (high : Bool) (source : Source) → meaning (op_at x.ops.items k) ≡ Lockup c e high source → (e ≡ d → ⊥) → value_at held c ≡ value_at new c = λ c e high source h ne.
+    (let latch = is.latched k c e high source h in
     elim (eqb_tells e d) [
       | inl q ↦ absurd (ne q.1)
       | inr q ↦ sym (each c (latch_live x.latches.items c (e, source) latch) ∙ latch_misses (latch_at x.latches.items c) d e source (value_at values) (value_at held c) latch q.0)
@@ -235,7 +235,7 @@ given_any base other held hold k values Clock = inl (inl refl)
 given_any base other held hold k values (Gate kind inputs) = inr refl
 given_any base other held hold k values (Joined source) = inr refl
 given_any base other held hold k values (Flop c inverted) = inl (inl refl)
-given_any base other held hold k values (Lockup c e source) = inl (inl refl)
+given_any base other held hold k values (Lockup c e high source) = inl (inl refl)
 given_any base other held hold k values Free = inr refl
 
 source : (x : Circuit) (k : ℕ) → IsCircuit x → Has (source_places (meaning (op_at x.ops.items k))) 0 → Has (list_at x.sources.items 0) k

@@ -14,17 +14,21 @@ use Rattle.dft_netlist.specs.Logic.{Logic, Cell, Force}
 use Rattle.dft_netlist.specs.Settled.{TriSources, value_from, IsTriSettled}
 use Rattle.dft_logic.specs.declared.circuit.FlipFlop.{FlipFlop}
 use Rattle.dft_logic.specs.declared.circuit.Circuit.{Circuit}
-use Rattle.dft_abstract.specs.Cycle.{Pulse, tri_forced_by, tri_taken_by, AreViews, next_value, after_pulse, IsLeast}
+use Rattle.dft_abstract.specs.Cycle.{Pulse, tri_forced_by, tri_taken_by, next_value, falls_after, Halves}
+use Rattle.dft_abstract.specs.Rises.{AreViews, after_pulse, IsLeast}
 use Rattle.dft_cycle.specs.Machine.{Machine, value_at, is_one_of, ports_of, logic, acted, IsSet, at_strobe, IsStrobed, pulses, pulse_from, IsPulsed}
 use Rattle.dft_logic.specs.Circuit.{IsReady, logic_at, cell_of, cell_at, flag_at, IsCircuit}
 use Rattle.dft_cycle.specs.Views.{rank_of, Among, AreNext}
 use Rattle.dft_cycle.specs.Plans.{IsPassed, LooseAreUnknown}
 use Rattle.dft_logic.specs.Compiling.{ports_by}
-use Rattle.dft_logic.specs.Needs.{AreSeen}
+use Rattle.dft_logic.specs.Needs.{AreSeen, strobe_from}
 use Rattle.dft_logic.specs.Takings.{is_loose_input, is_loose}
 use Rattle.dft_logic.proofs.LookLemmas.{look_of_all}
-use Rattle.dft_abstract.proofs.Views.{views_exist}
-use Rattle.dft_logic.proofs.CircuitRanks.{circuit_ranked}
+use Rattle.dft_abstract.specs.Cycle as cycle
+use Rattle.dft_abstract.proofs.Halves.{falls_rest}
+use Rattle.dft_abstract.proofs.Least.{none_changes}
+use Rattle.dft_abstract.proofs.Rises.{IsRise, least_is, after_is, views_exist, low_settled}
+use Rattle.dft_logic.proofs.CircuitRanks.{circuit_ranked, circuit_rises, circuit_rise}
 use Rattle.dft_logic.proofs.Writings.{cell_past}
 use Rattle.dft_logic.proofs.TakingLemmas.{next_loose}
 
@@ -44,21 +48,27 @@ ready_kept x v ws rs a e ready = subst (IsReady x) (sym (filled v ws rs a e)) re
 
 -- ---- a strobe
 
-pub strobed : (m after : Machine) (x : Circuit) (t : TriSources) (values : List Tri) → (compiled : logic m ≡ logic_at x) → after.netlist ≡ m.netlist → after.clocks ≡ m.clocks → after.inputs ≡ m.inputs → after.cells ≡ m.cells →
+pub strobed : (m after : Machine) (x : Circuit) (t : TriSources) (values : List Tri) → (is : IsCircuit x) → (compiled : logic m ≡ logic_at x) → after.netlist ≡ m.netlist → after.clocks ≡ m.clocks → after.inputs ≡ m.inputs → after.cells ≡ m.cells →
     (ports : ((k : ℕ) → t.ports k ≡ value_at m.inputs k)) → (clocks : ((e : ℕ) → t.clocks e ≡ Zero)) → (flops : ((c : ℕ) → t.flops c ≡ value_at m.cells c)) →
-    (lockups : ((c e : ℕ) (source : Source) → t.lockups c e source ≡ value_from (value_at values) source)) → (settled : IsTriSettled (logic_at x) t (value_at values)) → (shown : after.shown ≡ values) → IsStrobed (logic m) m after
-strobed m after x t values compiled n k i c ports clocks flops lockups settled shown =
-    let same : t ≡ at_strobe m (value_at values) = λ s. record { ports = λ p. ports p s; clocks = λ e. clocks e s; flops = λ f. flops f s; lockups = λ a b source. lockups a b source s } in
-    let P : TriSources → Type 0 = λ u. IsTriSettled (logic_at x) u (value_at values) in
+    (lockups : ((c e : ℕ) (high : Bool) (source : Source) → t.lockups c e high source ≡ value_from (value_at values) source)) → (settled : IsTriSettled (logic_at x) t (value_at values)) → (shown : after.shown ≡ values) → IsStrobed (logic m) m after
+strobed m after x t values is compiled n k i c ports clocks flops lockups settled shown =
     let Q : Logic → Type 0 = λ l. IsTriSettled l (at_strobe m (value_at values)) (value_at values) in
     let R : List Tri → Type 0 = λ v. IsTriSettled (logic m) (at_strobe m (value_at v)) (value_at v) in
-    record { netlist = n; clocks = k; inputs = i; cells = c; settled = subst R (sym shown) (subst Q (sym compiled) (subst P same settled)) }
+    record {
+      netlist = n;
+      clocks = k;
+      inputs = i;
+      cells = c;
+      settled = subst R (sym shown) (subst Q (sym compiled)
+          (low_settled (logic_at x) (rank_of x) t (at_strobe m (value_at values)) (value_at values) (circuit_ranked x is) (circuit_rises x) ports clocks flops (λ a b source. lockups a b false source) settled));
+    }
 
 pub looked : (m : Machine) (x : Circuit) (t : TriSources) (values row : List Tri) (nets : List NetId) → IsCircuit x → logic m ≡ logic_at x →
-    ((k : ℕ) → t.ports k ≡ value_at m.inputs k) → ((e : ℕ) → t.clocks e ≡ Zero) → ((c : ℕ) → t.flops c ≡ value_at m.cells c) → ((c e : ℕ) (source : Source) → t.lockups c e source ≡ value_from (value_at values) source) →
+    ((k : ℕ) → t.ports k ≡ value_at m.inputs k) → ((e : ℕ) → t.clocks e ≡ Zero) → ((c : ℕ) → t.flops c ≡ value_at m.cells c) → ((c e : ℕ) (high : Bool) (source : Source) → t.lockups c e high source ≡ value_from (value_at values) source) →
     IsTriSettled (logic_at x) t (value_at values) → row ≡ map (λ net. value_at values net.0) nets → AreSeen (logic m) (value_at m.inputs) (value_at m.cells) nets row
 looked m x t values row nets is compiled ports clocks flops lockups settled read =
-    let same : t ≡ at_strobe m (value_at values) = λ s. record { ports = λ p. ports p s; clocks = λ e. clocks e s; flops = λ f. flops f s; lockups = λ a b source. lockups a b source s } in
+    let same : t ≡ strobe_from (value_at m.inputs) (value_at m.cells) (value_at values) =
+    λ s. record { ports = λ p. ports p s; clocks = λ e. clocks e s; flops = λ f. flops f s; lockups = λ a b high source. lockups a b high source s } in
     let P : TriSources → Type 0 = λ u. IsTriSettled (logic_at x) u (value_at values) in
     let Q : Logic → Type 0 = λ l. AreSeen l (value_at m.inputs) (value_at m.cells) nets row in
     let R : List Tri → Type 0 = λ r. AreSeen (logic_at x) (value_at m.inputs) (value_at m.cells) nets r in
@@ -113,35 +123,60 @@ after_case : (l : Logic) (p : Pulse) (view : ℕ → ℕ → Tri) (c : ℕ) (nex
 after_case l p view c next cell true e is old = is e
 after_case l p view c next cell false e is old = sym old
 
+-- what a pulse leaves, by its halves
+record HasHalves (l : Logic) (p : Pulse) (new : ℕ → Tri) : Type 0 where
+  halves : Halves
+  rise : cycle.IsLeast l p halves.rise.poss halves.rise.view
+  fall : cycle.IsLeast l (falls_after l p halves.rise.view) halves.fall.poss halves.fall.view
+  cells : (c : ℕ) → new c ≡ cycle.after_pulse l (falls_after l p halves.rise.view) halves.fall.view c
+
+-- where every cell takes its bit at a rise nothing changes in the falls
+pulsed_by : (x : Circuit) (p : Pulse) (poss : ℕ → Tri) (view : ℕ → ℕ → Tri) (new : ℕ → Tri) → IsCircuit x → p.rising ≡ true → IsLeast (logic_at x) p poss view → ((c : ℕ) → new c ≡ after_pulse (logic_at x) p view c) → HasHalves (logic_at x) p new
+pulsed_by x p poss view new is up least each =
+    let l : Logic = logic_at x in
+    let rise : IsRise l (rank_of x) p = circuit_rise x p is up in
+    let q : Pulse = falls_after l p view in
+    let fall = none_changes l (rank_of x) q (circuit_ranked x is) (λ c. falls_rest l q c (circuit_rises x c) refl) in
+    record {
+      halves = record { rise = record { poss = poss; view = view }; fall = record { poss = q.old; view = fall.0 } };
+      rise = least_is l (rank_of x) p poss view rise least;
+      fall = fall.1.0;
+      cells = λ c. each c ∙ after_is l (rank_of x) p view rise c ∙ sym (fall.1.1 c);
+    }
+
+-- the same of the machine
+halves_of : (m : Machine) (x : Circuit) (pulsed : List Bool) (p : Pulse) (new : ℕ → Tri) → logic m ≡ logic_at x → p ≡ pulse_from m pulsed → HasHalves (logic_at x) p new → HasHalves (logic m) (pulse_from m pulsed) new
+halves_of m x pulsed p new compiled same has =
+    subst (λ (l : Logic). HasHalves l (pulse_from m pulsed) new) (sym compiled) (subst (λ (q : Pulse). HasHalves (logic_at x) q new) same has)
+
 pub pulse_done : (m after : Machine) (x : Circuit) (pulsed : List Bool) (p : Pulse) (poss next : List Tri) → (is : IsCircuit x) → (compiled : logic m ≡ logic_at x) → after.netlist ≡ m.netlist → after.clocks ≡ m.clocks → after.inputs ≡ m.inputs → after.shown ≡ m.shown →
-    (ports : ((k : ℕ) → p.ports k ≡ value_at m.inputs k)) → (ups : ((e : ℕ) → p.pulsed e ≡ pulses m.clocks pulsed e)) → (old : ((c : ℕ) → p.old c ≡ value_at m.cells c)) →
+    (up : p.rising ≡ true) → (ports : ((k : ℕ) → p.ports k ≡ value_at m.inputs k)) → (ups : ((e : ℕ) → p.pulsed e ≡ pulses m.clocks pulsed e)) → (old : ((c : ℕ) → p.old c ≡ value_at m.cells c)) →
     length m.cells ≡ length x.flops.items → length after.cells ≡ length m.cells → length next ≡ length x.flops.items →
     (least : ((view : ℕ → ℕ → Tri) → AreViews (logic_at x) p (value_at poss) view → IsLeast (logic_at x) p (value_at poss) view)) →
     (nexts : ((view : ℕ → ℕ → Tri) → AreViews (logic_at x) p (value_at poss) view → AreNext (logic_at x) p view poss next)) →
     (each : ((c : ℕ) → c < length x.flops.items → value_at after.cells c ≡ (if p.pulsed ((logic_at x).cell c).domain then value_at next c else value_at m.cells c))) → IsPulsed (logic m) m pulsed after
-pulse_done m after x pulsed p poss next is compiled n k i s ports ups old a b d least nexts each =
+pulse_done m after x pulsed p poss next is compiled n k i s up ports ups old a b d least nexts each =
     let found = views_exist (logic_at x) (rank_of x) p (value_at poss) (circuit_ranked x is) in
-    let same : p ≡ pulse_from m pulsed = λ t. record { ports = λ q. ports q t; pulsed = λ e. ups e t; old = λ c. old c t } in
-    let P : Pulse → Type 0 = λ q. IsLeast (logic_at x) q (value_at poss) found.0 in
-    let Q : Logic → Type 0 = λ l. IsLeast l (pulse_from m pulsed) (value_at poss) found.0 in
+    let same : p ≡ pulse_from m pulsed = λ t. record { rising = up t; ports = λ q. ports q t; pulsed = λ e. ups e t; old = λ c. old c t } in
+    let cells : (c : ℕ) → value_at after.cells c ≡ after_pulse (logic_at x) p found.0 c = λ c.
+    (let taken : value_at after.cells c ≡ (if p.pulsed ((logic_at x).cell c).domain then value_at next c else value_at m.cells c) =
+    elim (leb_tells (length x.flops.items) c) [
+      | inl out ↦ (let f : length after.cells ≤ c = omega (arith, out.1) in let g : length m.cells ≤ c = omega (arith, out.1) in let h : length next ≤ c = omega (arith, out.1) in
+          past (value_at after.cells c) (value_at next c) (value_at m.cells c) (p.pulsed ((logic_at x).cell c).domain) (get_or_past after.cells c Unknown f) (get_or_past next c Unknown h) (get_or_past m.cells c Unknown g))
+      | inr live ↦ each c live.1
+    ] in
+    taken ∙ after_case (logic_at x) p found.0 c (value_at next c) (value_at m.cells c) (p.pulsed ((logic_at x).cell c).domain) refl (λ up. (nexts found.0 found.1 c up).0) (old c)) in
+    let r : HasHalves (logic m) (pulse_from m pulsed) (value_at after.cells) =
+    halves_of m x pulsed p (value_at after.cells) compiled same (pulsed_by x p (value_at poss) found.0 (value_at after.cells) is up (least found.0 found.1) cells) in
     record {
       netlist = n;
       clocks = k;
       inputs = i;
       shown = s;
-      poss = value_at poss;
-      view = found.0;
-      least = subst Q (sym compiled) (subst P same (least found.0 found.1));
-      cells = λ c.
-          (let R : Pulse → Type 0 = λ q. value_at after.cells c ≡ after_pulse (logic_at x) q found.0 c in
-          let S : Logic → Type 0 = λ l. value_at after.cells c ≡ after_pulse l (pulse_from m pulsed) found.0 c in
-          let taken : value_at after.cells c ≡ (if p.pulsed ((logic_at x).cell c).domain then value_at next c else value_at m.cells c) =
-          elim (leb_tells (length x.flops.items) c) [
-            | inl out ↦ (let f : length after.cells ≤ c = omega (arith, out.1) in let g : length m.cells ≤ c = omega (arith, out.1) in let h : length next ≤ c = omega (arith, out.1) in
-                past (value_at after.cells c) (value_at next c) (value_at m.cells c) (p.pulsed ((logic_at x).cell c).domain) (get_or_past after.cells c Unknown f) (get_or_past next c Unknown h) (get_or_past m.cells c Unknown g))
-            | inr live ↦ each c live.1
-          ] in
-          subst S (sym compiled) (subst R same (taken ∙ after_case (logic_at x) p found.0 c (value_at next c) (value_at m.cells c) (p.pulsed ((logic_at x).cell c).domain) refl (λ up. (nexts found.0 found.1 c up).0) (old c))));
+      halves = r.halves;
+      rise = r.rise;
+      fall = r.fall;
+      cells = r.cells;
     } where
       past : (u v w : Tri) (up : Bool) → u ≡ Unknown → v ≡ Unknown → w ≡ Unknown → u ≡ (if up then v else w)
       past u v w true e f g = e ∙ sym f
@@ -309,31 +344,21 @@ after_past x p view c out old =
       go true = refl
       go false = old
 
-pub pulse_passed : (m after : Machine) (x : Circuit) (pulsed : List Bool) (p : Pulse) (new : List Tri) → (compiled : logic m ≡ logic_at x) → after.netlist ≡ m.netlist → after.clocks ≡ m.clocks → after.inputs ≡ m.inputs → after.shown ≡ m.shown →
-    (cells : after.cells ≡ new) → (ports : ((k : ℕ) → p.ports k ≡ value_at m.inputs k)) → (ups : ((e : ℕ) → p.pulsed e ≡ pulses m.clocks pulsed e)) → (old : ((c : ℕ) → p.old c ≡ value_at m.cells c)) →
+pub pulse_passed : (m after : Machine) (x : Circuit) (pulsed : List Bool) (p : Pulse) (new : List Tri) → (is : IsCircuit x) → (compiled : logic m ≡ logic_at x) → after.netlist ≡ m.netlist → after.clocks ≡ m.clocks → after.inputs ≡ m.inputs → after.shown ≡ m.shown →
+    (cells : after.cells ≡ new) → (up : p.rising ≡ true) → (ports : ((k : ℕ) → p.ports k ≡ value_at m.inputs k)) → (ups : ((e : ℕ) → p.pulsed e ≡ pulses m.clocks pulsed e)) → (old : ((c : ℕ) → p.old c ≡ value_at m.cells c)) →
     length m.cells ≡ length x.flops.items → length new ≡ length m.cells → (passed : IsPassed x p new) → IsPulsed (logic m) m pulsed after
-pulse_passed m after x pulsed p new compiled n k i s cells ports ups old a b passed =
-    let same : p ≡ pulse_from m pulsed = λ t. record { ports = λ q. ports q t; pulsed = λ e. ups e t; old = λ c. old c t } in
-    let P : Pulse → Type 0 = λ q. IsLeast (logic_at x) q passed.poss passed.view in
-    let Q : Logic → Type 0 = λ l. IsLeast l (pulse_from m pulsed) passed.poss passed.view in
-    record {
-      netlist = n;
-      clocks = k;
-      inputs = i;
-      shown = s;
-      poss = passed.poss;
-      view = passed.view;
-      least = subst Q (sym compiled) (subst P same passed.least);
-      cells = λ c.
-          (let R : Pulse → Type 0 = λ q. value_at new c ≡ after_pulse (logic_at x) q passed.view c in
-          let S : Logic → Type 0 = λ l. value_at new c ≡ after_pulse l (pulse_from m pulsed) passed.view c in
-          let taken : value_at new c ≡ after_pulse (logic_at x) p passed.view c = elim (leb_tells (length x.flops.items) c) [
-            | inl out ↦ (let f : length new ≤ c = omega (arith, out.1) in let g : length m.cells ≤ c = omega (arith, out.1) in
-                get_or_past new c Unknown f ∙ sym (after_past x p passed.view c out.1 (old c ∙ get_or_past m.cells c Unknown g)))
-            | inr live ↦ passed.each c live.1
-          ] in
-          ap (λ (l : List Tri). value_at l c) cells ∙ subst S (sym compiled) (subst R same taken));
-    }
+pulse_passed m after x pulsed p new is compiled n k i s cells up ports ups old a b passed =
+    let same : p ≡ pulse_from m pulsed = λ t. record { rising = up t; ports = λ q. ports q t; pulsed = λ e. ups e t; old = λ c. old c t } in
+    let each : (c : ℕ) → value_at after.cells c ≡ after_pulse (logic_at x) p passed.view c = λ c.
+    ap (λ (l : List Tri). value_at l c) cells
+    ∙ elim (leb_tells (length x.flops.items) c) [
+      | inl out ↦ (let f : length new ≤ c = omega (arith, out.1) in let g : length m.cells ≤ c = omega (arith, out.1) in
+          get_or_past new c Unknown f ∙ sym (after_past x p passed.view c out.1 (old c ∙ get_or_past m.cells c Unknown g)))
+      | inr live ↦ passed.each c live.1
+    ] in
+    let r : HasHalves (logic m) (pulse_from m pulsed) (value_at after.cells) =
+    halves_of m x pulsed p (value_at after.cells) compiled same (pulsed_by x p passed.poss passed.view (value_at after.cells) is up passed.least each) in
+    record { netlist = n; clocks = k; inputs = i; shown = s; halves = r.halves; rise = r.rise; fall = r.fall; cells = r.cells }
 
 -- ---- loose flip-flops stay Unknown
 

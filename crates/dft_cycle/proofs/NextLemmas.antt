@@ -10,7 +10,8 @@ use Rattle.dft_netlist.specs.Settled.{TriSources, value_given, IsTriSettled}
 use Rattle.dft_logic.specs.declared.circuit.Op.{Op}
 use Rattle.dft_logic.specs.declared.circuit.Op.TheVariants.{Free}
 use Rattle.dft_logic.specs.declared.circuit.Circuit.{Circuit}
-use Rattle.dft_abstract.specs.Cycle.{Pulse, view_sources, AreViews}
+use Rattle.dft_abstract.specs.Cycle.{Pulse}
+use Rattle.dft_abstract.specs.Rises.{view_sources, AreViews}
 use Rattle.dft_cycle.specs.Machine.{value_at}
 use Rattle.dft_logic.specs.Circuit.{logic_at, meaning, IsCircuit}
 use Rattle.dft_cycle.specs.Views.{next_at, next_by, rank_of, IsHeld, HasNext}

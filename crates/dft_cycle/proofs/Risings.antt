@@ -10,13 +10,13 @@ use Rattle.dft_cells.proofs.Completions.{above_self, trans}
 use Rattle.dft_netlist.specs.declared.ids.NetId.{NetId}
 use Rattle.dft_netlist.specs.Logic.{Logic, Cell}
 use Rattle.dft_logic.specs.declared.circuit.Circuit.{Circuit}
-use Rattle.dft_abstract.specs.Cycle.{Pulse, AreViews, next_value, IsClosed, IsLeast}
+use Rattle.dft_abstract.specs.Cycle.{Pulse, next_value}
+use Rattle.dft_abstract.specs.Rises.{AreViews, IsClosed, IsLeast}
 use Rattle.dft_cycle.specs.Machine.{value_at}
 use Rattle.dft_logic.specs.Circuit.{logic_at, IsCircuit}
 use Rattle.dft_cycle.specs.Views.{is_known, raised_by, rank_of, Among, HasNext, StaysBelow, AreNext}
-use Rattle.dft_abstract.proofs.Views.{views_exist}
-use Rattle.dft_abstract.proofs.Least.{step_below}
-use Rattle.dft_logic.proofs.CircuitRanks.{circuit_ranked}
+use Rattle.dft_abstract.proofs.Rises.{views_exist, step_below}
+use Rattle.dft_logic.proofs.CircuitRanks.{circuit_ranked, circuit_rise}
 use Rattle.dft_logic.proofs.Writings.{write_same, cell_past}
 
 -- ---- known values are lost
@@ -116,10 +116,10 @@ below_case : (l : Logic) (rank : ℕ → ℕ) (p : Pulse) (poss other : ℕ → 
 below_case l rank p poss other view its c next true e is joined over = let P : Tri → Type 0 = λ t. AboveTri (other c) (join (poss c) t) in subst P (sym (is refl)) (joined e)
 below_case l rank p poss other view its c next false e is joined over = over
 
-pub turn_below : (x : Circuit) (p : Pulse) (clocks : List NetId) (next old new : List Tri) → IsCircuit x → length old ≡ length x.flops.items → length new ≡ length old → IsRaised x p next old new →
+pub turn_below : (x : Circuit) (p : Pulse) (clocks : List NetId) (next old new : List Tri) → IsCircuit x → p.rising ≡ true → length old ≡ length x.flops.items → length new ≡ length old → IsRaised x p next old new →
     ((e : ℕ) → p.pulsed e ≡ true → Among clocks (length clocks) e) →
     ((view : ℕ → ℕ → Tri) → AreViews (logic_at x) p (value_at old) view → HasNext x p view clocks (length clocks) next) → StaysBelow (logic_at x) p old new
-turn_below x p clocks next old new is a b each among has other its closed over c =
+turn_below x p clocks next old new is rises a b each among has other its closed over c =
     let found = views_exist (logic_at x) (rank_of x) p (value_at old) (circuit_ranked x is) in
     let P : Tri → Type 0 = λ t. AboveTri (other c) t in
     elim (leb_tells (length x.flops.items) c) [
@@ -128,7 +128,7 @@ turn_below x p clocks next old new is a b each among has other its closed over c
       | inr live ↦ subst P (sym (each c live.1))
           (below_case (logic_at x) (rank_of x) p (value_at old) other found.0 its c (value_at next c) (p.pulsed ((logic_at x).cell c).domain) refl
           (λ up. has found.0 found.1 c live.1 up (among ((logic_at x).cell c).domain up))
-          (step_below (logic_at x) (rank_of x) p (value_at old) other found.0 its (circuit_ranked x is) found.1 closed over c) (over c))
+          (step_below (logic_at x) (rank_of x) p (value_at old) other found.0 its (circuit_rise x p is rises) found.1 closed over c) (over c))
     ]
 
 -- past the end no flip-flop takes anything

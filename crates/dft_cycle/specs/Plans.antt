@@ -5,7 +5,8 @@ use Rattle.dft_base.specs.declared.tri.Tri.{Tri}
 use Rattle.dft_base.specs.declared.tri.Tri.TheVariants.{Unknown}
 use Rattle.dft_netlist.specs.declared.ids.NetId.{NetId}
 use Rattle.dft_netlist.specs.Orders.{Has, numbers_of}
-use Rattle.dft_abstract.specs.Cycle.{Pulse, IsLeast, after_pulse}
+use Rattle.dft_abstract.specs.Cycle.{Pulse}
+use Rattle.dft_abstract.specs.Rises.{IsLeast, after_pulse}
 use Rattle.dft_logic.specs.declared.circuit.Circuit.{Circuit}
 use Rattle.dft_logic.specs.Needs.{IsStrobeClosed}
 use Rattle.dft_logic.specs.Shows.{Shown, IsShownOn}

@@ -8,7 +8,8 @@ use Rattle.dft_netlist.specs.Drivers.{Source}
 use Rattle.dft_netlist.specs.Logic.{Logic, Lockup, Cell}
 use Rattle.dft_netlist.specs.Settled.{value_from}
 use Rattle.dft_logic.specs.declared.circuit.Circuit.{Circuit}
-use Rattle.dft_abstract.specs.Cycle.{next_value, IsClosed}
+use Rattle.dft_abstract.specs.Cycle.{next_value}
+use Rattle.dft_abstract.specs.Rises.{IsClosed}
 use Rattle.dft_abstract.specs.Cycle as Cycle
 use Rattle.dft_logic.specs.Values.{value_at}
 pub use Rattle.dft_logic.specs.Ranks.{rank_from, rank_of}
@@ -36,11 +37,11 @@ pub record Among (clocks : List NetId) (count net : ℕ) : Type 0 where
 
 -- lock-ups whose nets have lower ranks are held at their inputs in the views of their domains
 abbrev pub IsHeld : Circuit → (view : ℕ → ℕ → Tri) → (held : List Tri) → (rank : ℕ) → Type 0
-IsHeld x view held r = (net c e : ℕ) (source : Source) → (logic_at x).net net ≡ Lockup c e source → rank_of x net < r → value_at held c ≡ value_from (view e) source
+IsHeld x view held r = (net c e : ℕ) (high : Bool) (source : Source) → (logic_at x).net net ≡ Lockup c e high source → rank_of x net < r → value_at held c ≡ value_from (view e) source
 
 -- each lock-up's domain is one of these clocks
 abbrev pub OwnsLatches : Circuit → List NetId → Type 0
-OwnsLatches x clocks = (c e : ℕ) (source : Source) → latch_at x.latches.items c ≡ Some (e, source) → Among clocks (length clocks) e
+OwnsLatches x clocks = (c e : ℕ) (high : Bool) (source : Source) → latch_at x.latches.items c ≡ Some (e, source) → Among clocks (length clocks) e
 
 -- each flip-flop whose domain is pulsed and one of the first clocks has its next value
 abbrev pub HasNext : Circuit → Cycle.Pulse → (view : ℕ → ℕ → Tri) → List NetId → (count : ℕ) → (next : List Tri) → Type 0
@@ -74,5 +75,5 @@ AreNext l p view poss next =
 
 -- one domain pulses at most, and there is no lock-up
 pub record IsAlone (l : Logic) (pulsed : ℕ → Bool) : Type 0 where
-  pub none : (net c e : ℕ) (source : Source) → l.net net ≡ Lockup c e source → ⊥
+  pub none : (net c e : ℕ) (high : Bool) (source : Source) → l.net net ≡ Lockup c e high source → ⊥
   pub one : (e f : ℕ) → pulsed e ≡ true → pulsed f ≡ true → e ≡ f

@@ -171,7 +171,7 @@ impl Plans {
         requires loose { LooseAreUnknown circuit.now (spec.value_at cells.old) }
         ensures plans { ArePlans circuit.now clocks.now self.new }
         ensures clear { (k : ℕ) → is_up marked.new k ≡ false }
-        ensures passed { result ≡ true → IsPassed circuit.now (record { ports = spec.value_at ports.now; pulsed = is_up pulsed.now; old = spec.value_at cells.old }) cells.new }
+        ensures passed { result ≡ true → IsPassed circuit.now (record { rising = true; ports = spec.value_at ports.now; pulsed = is_up pulsed.now; old = spec.value_at cells.old }) cells.new }
         ensures same { result ≡ false → cells.new ≡ cells.old }
     {
         let pulse = Pulse {

@@ -255,7 +255,7 @@ impl Plan {
         requires next { length next.old ≡ length circuit.now.flops.items }
         requires cells { length cells.old ≡ length circuit.now.flops.items }
         requires loose { LooseAreUnknown circuit.now (spec.value_at cells.old) }
-        ensures passed { result ≡ true → IsPassed circuit.now (record { ports = spec.value_at ports.now; pulsed = is_up pulsed.now; old = spec.value_at cells.old }) cells.new }
+        ensures passed { result ≡ true → IsPassed circuit.now (record { rising = true; ports = spec.value_at ports.now; pulsed = is_up pulsed.now; old = spec.value_at cells.old }) cells.new }
         ensures same { result ≡ false → cells.new ≡ cells.old }
     {
         if !self.is_made() {

@@ -3,7 +3,7 @@
 ghost use Rattle.std.specs.Prelude.{◌≡◌, ◌⊎◌, ℕ, suc, ◌<◌, length, map, count_by, is_some, true, false};
 ghost use Rattle.std.specs.List.{list_any};
 ghost use Rattle.dft_base.specs.Tri.{AboveTri};
-ghost use Rattle.dft_abstract.specs.Cycle.{AreViews, IsLeast};
+ghost use Rattle.dft_abstract.specs.Rises.{AreViews, IsLeast};
 ghost use Rattle.dft_cycle.specs.Machine.{AreNets};
 ghost use Rattle.dft_cycle.specs.Machine as spec;
 ghost use Rattle.dft_logic.specs.Circuit.{IsCircuit, IsReady, logic_at, cell_of, cell_at, flag_at as is_up, pulse_at};

@@ -30,7 +30,7 @@ closed_more l before net closed read k is = elim (or_cases (net == k) (is_listed
 -- a net settles to the same value in assignments that agree on what it reads
 strobe_agrees : (ports flops v w : ℕ → Tri) (net : ℕ) (m : Meaning) → Agree v w (reads m) → value_given (strobe_from ports flops v) v net m ≡ value_given (strobe_from ports flops w) w net m
 strobe_agrees ports flops v w net m same =
-    given_agrees (strobe_from ports flops v) (strobe_from ports flops w) (λ d. v) (λ d. w) 0 net m (λ k. refl) (λ is. refl) (λ c inverted is. refl) (λ c e source h. h) same
+    given_agrees (strobe_from ports flops v) (strobe_from ports flops w) (λ d. v) (λ d. w) 0 net m (λ k. refl) (λ is. refl) (λ c inverted is. refl) (λ c e high source h. h) same
 
 stays : (l : Logic) (ports flops : ℕ → Tri) (net : ℕ) (values : ℕ → Tri) (before : List ℕ) → is_listed before net ≡ false → (k : ℕ) → is_listed before k ≡ true → values k ≡ settled_at l ports flops net values k
 stays l ports flops net values before new k old = elim (cases_Bool (net == k)) [

@@ -5,7 +5,7 @@ use Rattle.dft_netlist.specs.declared.ids.NetId.{NetId}
 use Rattle.dft_netlist.specs.Drivers.{nets_of}
 use Rattle.dft_netlist.specs.Settled.{value_from}
 use Rattle.dft_netlist.specs.Orders.{numbers_of}
-use Rattle.dft_abstract.specs.Cycle.{view_sources}
+use Rattle.dft_abstract.specs.Rises.{view_sources}
 use Rattle.dft_logic.specs.Needs.{HasAll, strobe_from, next_reads}
 use Rattle.dft_logic.specs.Laws.{NeededIsView, NextOfNeeded, NeededIsStrobe, LookOfNeeded}
 use Rattle.dft_logic.proofs.ReadLemmas.{needed_agrees, next_agrees, set_agrees}
@@ -13,7 +13,7 @@ use Rattle.dft_logic.proofs.ReadLemmas.{needed_agrees, next_agrees, set_agrees}
 pub needed_is_view : NeededIsView
 needed_is_view l rank p poss needs values view ranked closed given views =
     needed_agrees l rank (view_sources l p poss values) (view_sources l p poss view) needs values view ranked closed given (λ d net need. views d net)
-    (λ d k. refl) (λ d net need is. refl) (λ d net need c inverted is. refl) (λ d c e source same. same)
+    (λ d k. refl) (λ d net need is. refl) (λ d net need c inverted is. refl) (λ d c e high source same. same)
 
 pub next_of_needed : NextOfNeeded
 next_of_needed l rank p poss needs values view ranked closed given views c has =
@@ -24,7 +24,7 @@ next_of_needed l rank p poss needs values view ranked closed given views c has =
 pub needed_is_strobe : NeededIsStrobe
 needed_is_strobe l rank ports flops needs values settled ranked closed given strobe net need =
     needed_agrees l rank (λ d. strobe_from ports flops values) (λ d. strobe_from ports flops settled) (λ d. needs) (λ d. values) (λ d. settled) ranked (λ d net need. closed net need)
-    (λ d net need. given net need) (λ d net need. strobe net) (λ d k. refl) (λ d net need is. refl) (λ d net need c inverted is. refl) (λ d c e source same. same) 0 net need
+    (λ d net need. given net need) (λ d net need. strobe net) (λ d k. refl) (λ d net need is. refl) (λ d net need c inverted is. refl) (λ d c e high source same. same) 0 net need
 
 seen_agree : (needs : ℕ → Bool) (v w : ℕ → Tri) (nets : List NetId) → ((k : ℕ) → needs k ≡ true → v k ≡ w k) → HasAll needs (numbers_of nets) → map (λ net. v net.0) nets ≡ map (λ net. w net.0) nets
 seen_agree needs v w [] same all = refl

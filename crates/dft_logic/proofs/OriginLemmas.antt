@@ -28,7 +28,7 @@ origin_depends P v w net Clock all same = refl
 origin_depends P v w net (Gate kind inputs) all same = refl
 origin_depends P v w net (Joined source) all same = source_depends P v w source all same
 origin_depends P v w net (Flop c inverted) all same = refl
-origin_depends P v w net (Lockup c e source) all same = source_depends P v w source all same
+origin_depends P v w net (Lockup c e high source) all same = source_depends P v w source all same
 origin_depends P v w net Free all same = refl
 
 pub all_origins : (x : Circuit) (origins : List (Option InstanceId)) (j : ℕ) → IsCircuit x → length origins ≡ length x.ops.items → length x.order.items ≤ j →

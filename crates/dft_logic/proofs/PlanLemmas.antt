@@ -11,7 +11,8 @@ use Rattle.dft_netlist.specs.Drivers.{Source, Net, Tied, Loose, nets_of}
 use Rattle.dft_netlist.specs.Logic.{Cell, Force, Scan, reads}
 use Rattle.dft_netlist.specs.Settled.{value_from, value_given}
 use Rattle.dft_netlist.specs.Orders.{Has}
-use Rattle.dft_abstract.specs.Cycle.{Pulse, IsLeast, after_pulse}
+use Rattle.dft_abstract.specs.Cycle.{Pulse}
+use Rattle.dft_abstract.specs.Rises.{IsLeast, after_pulse}
 use Rattle.dft_logic.specs.Needs.{HasAll, IsStrobeClosed, IsStrobeOn, strobe_from, chosen_reads, taken_reads, reads_at, forced_reads, next_reads}
 use Rattle.dft_logic.specs.Takes.{AreOrigins}
 use Rattle.dft_logic.specs.Shows.{Shown, IsShownOn}

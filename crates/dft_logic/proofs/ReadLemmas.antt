@@ -45,14 +45,14 @@ rest_agree v w (Loose i pin) sources same = same
 -- a net's driver gives it the same value from sources that agree for it, in assignments that agree on what it reads
 pub given_agrees : (t s : TriSources) (v w : ℕ → ℕ → Tri) (d net : ℕ) (m : Meaning) →
     ((k : ℕ) → t.ports k ≡ s.ports k) → (m ≡ Clock → t.clocks net ≡ s.clocks net) → ((c : ℕ) (inverted : Bool) → m ≡ Flop c inverted → t.flops c ≡ s.flops c) →
-    ((c e : ℕ) (source : Source) → value_from (v e) source ≡ value_from (w e) source → t.lockups c e source ≡ s.lockups c e source) →
+    ((c e : ℕ) (high : Bool) (source : Source) → value_from (v e) source ≡ value_from (w e) source → t.lockups c e high source ≡ s.lockups c e high source) →
     Agree (v (read_in d m)) (w (read_in d m)) (reads m) → value_given t (v d) net m ≡ value_given s (w d) net m
 given_agrees t s v w d net Input ports clocks flops lockups same = ports net
 given_agrees t s v w d net Clock ports clocks flops lockups same = clocks refl
 given_agrees t s v w d net (Gate kind inputs) ports clocks flops lockups same = ap (tri_of kind) (inputs_agree (v d) (w d) inputs same)
 given_agrees t s v w d net (Joined source) ports clocks flops lockups same = source_agrees (v d) (w d) source same
 given_agrees t s v w d net (Flop c inverted) ports clocks flops lockups same = rw (flops c inverted refl) refl
-given_agrees t s v w d net (Lockup c e source) ports clocks flops lockups same = lockups c e source (source_agrees (v e) (w e) source same)
+given_agrees t s v w d net (Lockup c e high source) ports clocks flops lockups same = lockups c e high source (source_agrees (v e) (w e) source same)
 given_agrees t s v w d net Free ports clocks flops lockups same = refl
 
 -- what nets of lower ranks in the set have in common, those that are read have
@@ -64,7 +64,7 @@ needed_within : (l : Logic) (rank : ℕ → ℕ) (t s : ℕ → TriSources) (nee
     (tv : ((d net : ℕ) → needs d net ≡ true → v d net ≡ value_given (t d) (v d) net (l.net net))) → (sw : ((d net : ℕ) → needs d net ≡ true → w d net ≡ value_given (s d) (w d) net (l.net net))) →
     (ports : ((d k : ℕ) → (t d).ports k ≡ (s d).ports k)) → (clocks : ((d net : ℕ) → needs d net ≡ true → l.net net ≡ Clock → (t d).clocks net ≡ (s d).clocks net)) →
     (flops : ((d net : ℕ) → needs d net ≡ true → (c : ℕ) (inverted : Bool) → l.net net ≡ Flop c inverted → (t d).flops c ≡ (s d).flops c)) →
-    (lockups : ((d c e : ℕ) (source : Source) → value_from (v e) source ≡ value_from (w e) source → (t d).lockups c e source ≡ (s d).lockups c e source)) →
+    (lockups : ((d c e : ℕ) (high : Bool) (source : Source) → value_from (v e) source ≡ value_from (w e) source → (t d).lockups c e high source ≡ (s d).lockups c e high source)) →
     (fuel d net : ℕ) → (less : rank net < fuel) → (need : needs d net ≡ true) → v d net ≡ w d net
 needed_within l rank t s needs v w ranked closed tv sw ports clocks flops lockups zero d net less need = absurd (omega arith)
 needed_within l rank t s needs v w ranked closed tv sw ports clocks flops lockups (suc fuel) d net less need =
@@ -78,7 +78,7 @@ pub needed_agrees : (l : Logic) (rank : ℕ → ℕ) (t s : ℕ → TriSources) 
     (tv : ((d net : ℕ) → needs d net ≡ true → v d net ≡ value_given (t d) (v d) net (l.net net))) → (sw : ((d net : ℕ) → needs d net ≡ true → w d net ≡ value_given (s d) (w d) net (l.net net))) →
     (ports : ((d k : ℕ) → (t d).ports k ≡ (s d).ports k)) → (clocks : ((d net : ℕ) → needs d net ≡ true → l.net net ≡ Clock → (t d).clocks net ≡ (s d).clocks net)) →
     (flops : ((d net : ℕ) → needs d net ≡ true → (c : ℕ) (inverted : Bool) → l.net net ≡ Flop c inverted → (t d).flops c ≡ (s d).flops c)) →
-    (lockups : ((d c e : ℕ) (source : Source) → value_from (v e) source ≡ value_from (w e) source → (t d).lockups c e source ≡ (s d).lockups c e source)) →
+    (lockups : ((d c e : ℕ) (high : Bool) (source : Source) → value_from (v e) source ≡ value_from (w e) source → (t d).lockups c e high source ≡ (s d).lockups c e high source)) →
     (d net : ℕ) → (need : needs d net ≡ true) → v d net ≡ w d net
 needed_agrees l rank t s needs v w ranked closed tv sw ports clocks flops lockups d net need = needed_within l rank t s needs v w ranked closed tv sw ports clocks flops lockups (suc (rank net)) d net (omega arith) need
 

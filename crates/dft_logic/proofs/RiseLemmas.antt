@@ -9,9 +9,9 @@ use Rattle.dft_netlist.specs.Drivers.{Source, Net, Tied, Loose, nets_of}
 use Rattle.dft_netlist.specs.Logic.{Logic, Force, Scan, IsRanked}
 use Rattle.dft_netlist.specs.Settled.{value_from}
 use Rattle.dft_netlist.proofs.Meanings.{source_over, source_monotone, meaning_monotone, at_nets}
-use Rattle.dft_abstract.specs.Cycle.{Pulse, view_sources, AreViews}
-use Rattle.dft_abstract.proofs.Views.{family}
-use Rattle.dft_abstract.proofs.Least.{views_monotone}
+use Rattle.dft_abstract.specs.Cycle.{Pulse}
+use Rattle.dft_abstract.specs.Rises.{view_sources, AreViews}
+use Rattle.dft_abstract.proofs.Rises.{wires_settle, views_monotone}
 use Rattle.dft_logic.specs.Needs.{HasAll, strobe_from, IsStrobe, chosen_reads, taken_reads, reads_at, forced_reads}
 use Rattle.dft_logic.specs.Laws.{ViewIsAboveStrobe, NoTwoBits, ViewsRise, ReadsRise}
 
@@ -33,7 +33,7 @@ above_within l rank p poss view settled ranked over views strobe (suc fuel) d ne
     at_nets _ _ _ _ (views d net) (strobe net)
     (meaning_monotone rank (view_sources l p poss view d) (strobe_from p.ports p.old settled) (view d) settled net
     (λ k. above_self (p.ports k)) (λ e. over_low (p.pulsed e) (e == d)) (λ c. over_old (p.pulsed (l.cell c).domain) ((l.cell c).domain == d) (p.old c) (poss c) (over c))
-    (l.net net) (ranked.order net) (ih d) (λ c e source below. source_monotone rank (rank net) (view e) settled source below (ih e)))
+    (l.net net) (ranked.order net) (ih d) (λ c e high source below. source_monotone rank (rank net) (view e) settled source below (ih e)))
 
 pub view_is_above_strobe : ViewIsAboveStrobe
 view_is_above_strobe l rank p poss view settled ranked over views strobe d net = above_within l rank p poss view settled ranked over views strobe (suc (rank net)) d net (omega arith)
@@ -54,7 +54,7 @@ known_over t u a is h = rw is at h
 
 pub no_two_bits : NoTwoBits
 no_two_bits l rank p poss other view its ranked over above views others d e net a b is was =
-    let found = family l rank (λ d. strobe_from p.ports p.old (λ k. Unknown)) (λ d e. d) ranked in
+    let found = wires_settle l rank (λ d. strobe_from p.ports p.old (λ k. Unknown)) (λ d e. d) ranked in
     one_bit a b (found.0 0 net)
     (known_over (view d net) (found.0 0 net) a is (view_is_above_strobe l rank p poss view (found.0 0) ranked over views (found.1 0) d net))
     (known_over (its e net) (found.0 0 net) b was (view_is_above_strobe l rank p other its (found.0 0) ranked above others (found.1 0) e net))

@@ -1,5 +1,5 @@
 -- Nets are settled one after another: each keeps its driver's value while later ones are written.
-use Rattle.std.proofs.Common.{ℕ, suc, List, [], ◌∷◌, ◌≡◌, ◌<◌, ◌≤◌, ◌+◌, ◌≢◌, ◌⊎◌, inl, inr, Option, None, Some, length, map, drop, drop-cons, add-one, refl, sym, ap, ◌∙◌, subst, get_or, slice_set, get_or-set_same, get_or-set_other, arith}
+use Rattle.std.proofs.Common.{ℕ, suc, List, [], ◌∷◌, ◌≡◌, ◌<◌, ◌≤◌, ◌+◌, ◌≢◌, ◌⊎◌, inl, inr, Option, None, Some, length, map, drop, drop-cons, add-one, refl, sym, ap, ◌∙◌, subst, get_or, slice_set, get_or-set_same, get_or-set_other, arith, Bool}
 use Rattle.std.specs.List.{AllByRecursion}
 use Rattle.std.proofs.lemmas.List.{get_or_past, get_or_read, get_or_default, drop_all}
 use Rattle.std.proofs.lemmas.Bool.Decides.{leb_tells}
@@ -33,9 +33,9 @@ inputs_agree P v w (Net net ∷ inputs) all same = λ t. same net all.0 t ∷ in
 inputs_agree P v w (Tied bit ∷ inputs) all same = ap (λ (us : List Tri). known bit ∷ us) (inputs_agree P v w inputs all same)
 inputs_agree P v w (Loose i pin ∷ inputs) all same = ap (λ (us : List Tri). Unknown ∷ us) (inputs_agree P v w inputs all same)
 
-lockup_agree : (P : ℕ → Type 0) (held : Option (List Tri)) (v w : ℕ → Tri) (c e : ℕ) (source : Source) → AllByRecursion P (nets_of (source ∷ [])) → ((k : ℕ) → P k → v k ≡ w k) → lockup_from held v c e source ≡ lockup_from held w c e source
-lockup_agree P None v w c e source all same = source_agree P v w source all same
-lockup_agree P (Some held) v w c e source all same = refl
+lockup_agree : (P : ℕ → Type 0) (held : Option (List Tri)) (v w : ℕ → Tri) (c e : ℕ) (high : Bool) (source : Source) → AllByRecursion P (nets_of (source ∷ [])) → ((k : ℕ) → P k → v k ≡ w k) → lockup_from held v c e high source ≡ lockup_from held w c e high source
+lockup_agree P None v w c e high source all same = source_agree P v w source all same
+lockup_agree P (Some held) v w c e high source all same = refl
 
 pub given_agree : (P : ℕ → Type 0) (base : TriSources) (held : Option (List Tri)) (v w : ℕ → Tri) (net : ℕ) (m : Meaning) → AllByRecursion P (reads m) → ((k : ℕ) → P k → v k ≡ w k) →
     value_given (leaves_from base held v) v net m ≡ value_given (leaves_from base held w) w net m
@@ -44,7 +44,7 @@ given_agree P base held v w net Clock all same = refl
 given_agree P base held v w net (Gate kind inputs) all same = ap (tri_of kind) (inputs_agree P v w inputs all same)
 given_agree P base held v w net (Joined source) all same = source_agree P v w source all same
 given_agree P base held v w net (Flop c inverted) all same = refl
-given_agree P base held v w net (Lockup c e source) all same = lockup_agree P held v w c e source all same
+given_agree P base held v w net (Lockup c e high source) all same = lockup_agree P held v w c e high source all same
 given_agree P base held v w net Free all same = refl
 
 -- ---- one net after another

@@ -6,7 +6,7 @@ use Rattle.dft_base.specs.declared.tri.Tri.{Tri}
 use Rattle.dft_netlist.specs.Drivers.{nets_of}
 use Rattle.dft_netlist.specs.Logic.{Logic, Meaning, Input, Clock, Gate, Joined, Flop, Lockup, Free, reads, IsRanked}
 use Rattle.dft_netlist.specs.Settled.{value_from}
-use Rattle.dft_abstract.proofs.Views.{family}
+use Rattle.dft_abstract.proofs.Rises.{wires_settle}
 use Rattle.dft_logic.specs.Needs.{HasAll, read_in, IsReadClosed, IsStrobeClosed, IsStrobe, strobe_from, next_reads}
 use Rattle.dft_logic.specs.Moves.{moves, is_other_clock, IsStill, IsUnclocked}
 use Rattle.dft_logic.specs.Shows.{Shown, Nothing, Domain, Several, is_still, with_shown, shown_by, shown_given, IsShownOn, still_needs}
@@ -45,7 +45,7 @@ reads_still l pulsed needs shown d net Clock all still = tt
 reads_still l pulsed needs shown d net (Gate kind inputs) all still = all_still needs shown d (nets_of inputs) all still
 reads_still l pulsed needs shown d net (Joined source) all still = all_still needs shown d (nets_of (source ∷ [])) all still
 reads_still l pulsed needs shown d net (Flop c inverted) all still = tt
-reads_still l pulsed needs shown d net (Lockup c e source) all still =
+reads_still l pulsed needs shown d net (Lockup c e high source) all still =
     all_still needs shown e (nets_of (source ∷ [])) all (held_still (is_still e (shown_by shown (nets_of (source ∷ [])))) d still)
 reads_still l pulsed needs shown d net Free all still = tt
 
@@ -61,7 +61,7 @@ never_moves l pulsed shown d net Clock still = refl
 never_moves l pulsed shown d net (Gate kind inputs) still = refl
 never_moves l pulsed shown d net (Joined source) still = refl
 never_moves l pulsed shown d net (Flop c inverted) still = not_other (pulsed (l.cell c).domain) ((l.cell c).domain == d) d (l.cell c).domain refl still
-never_moves l pulsed shown d net (Lockup c e source) still = refl
+never_moves l pulsed shown d net (Lockup c e high source) still = refl
 never_moves l pulsed shown d net Free still = refl
 
 no_clock : (l : Logic) (pulsed : ℕ → Bool) (shown : ℕ → Shown) (d net : ℕ) (m : Meaning) → is_still d (shown_given l pulsed shown net m) ≡ true → is_other_clock pulsed d net m ≡ false
@@ -70,7 +70,7 @@ no_clock l pulsed shown d net Clock still = not_other (pulsed net) (net == d) d 
 no_clock l pulsed shown d net (Gate kind inputs) still = refl
 no_clock l pulsed shown d net (Joined source) still = refl
 no_clock l pulsed shown d net (Flop c inverted) still = refl
-no_clock l pulsed shown d net (Lockup c e source) still = refl
+no_clock l pulsed shown d net (Lockup c e high source) still = refl
 no_clock l pulsed shown d net Free still = refl
 
 -- ---- the set of still nets, by view
@@ -95,7 +95,7 @@ unclocked_views l pulsed needs shown on d net is = no_clock l pulsed shown d net
 -- a pulse has a strobe before it
 pub strobe_there : (l : Logic) (rank : ℕ → ℕ) (ports flops : ℕ → Tri) → IsRanked l rank → (settled : ℕ → Tri) × IsStrobe l ports flops settled
 strobe_there l rank ports flops ranked =
-    let found = family l rank (λ d. strobe_from ports flops flops) (λ d e. d) ranked in
+    let found = wires_settle l rank (λ d. strobe_from ports flops flops) (λ d e. d) ranked in
     (found.0 0, found.1 0)
 
 pub shown_is_strobe : ShownIsStrobe

@@ -53,7 +53,7 @@ shown_depends cells pulsed P v w net Clock all same = refl
 shown_depends cells pulsed P v w net (Gate kind inputs) all same = nets_agree P v w (nets_of inputs) all same
 shown_depends cells pulsed P v w net (Joined source) all same = nets_agree P v w (nets_of (source ∷ [])) all same
 shown_depends cells pulsed P v w net (Flop c inverted) all same = refl
-shown_depends cells pulsed P v w net (Lockup c e source) all same = ap (lockup_shown e) (nets_agree P v w (nets_of (source ∷ [])) all same)
+shown_depends cells pulsed P v w net (Lockup c e high source) all same = ap (lockup_shown e) (nets_agree P v w (nets_of (source ∷ [])) all same)
 shown_depends cells pulsed P v w net Free all same = refl
 
 -- ---- the whole table

@@ -8,8 +8,9 @@ use Rattle.dft_cells.proofs.Completions.{above_self, join_least, join_over_right
 use Rattle.dft_netlist.specs.Drivers.{nets_of}
 use Rattle.dft_netlist.specs.Logic.{Logic, Meaning, Clock, Flop}
 use Rattle.dft_netlist.specs.Settled.{value_from}
-use Rattle.dft_abstract.specs.Cycle.{Pulse, view_sources, AreViews, next_value, IsClosed, IsLeast}
-use Rattle.dft_abstract.proofs.Views.{views_exist}
+use Rattle.dft_abstract.specs.Cycle.{Pulse, next_value}
+use Rattle.dft_abstract.specs.Rises.{view_sources, AreViews, IsClosed, IsLeast}
+use Rattle.dft_abstract.proofs.Rises.{views_exist}
 use Rattle.dft_abstract.proofs.OneDomain.{raised, raised_old, above_equal}
 use Rattle.dft_logic.specs.Needs.{strobe_from, next_reads}
 use Rattle.dft_logic.specs.Moves.{moves, is_other_clock}
@@ -42,7 +43,7 @@ still_is_one l rank p poss other needs view its ranked closed still views others
     needed_agrees l rank (view_sources l p poss view) (view_sources l p other its) needs view its ranked closed (λ d net need. views d net) (λ d net need. others d net)
     (λ d k. refl) (λ d net need is. refl)
     (λ d net need c inverted is. still_flop l p poss view d c inverted (l.net net) (still d net need) is ∙ sym (still_flop l p other its d c inverted (l.net net) (still d net need) is))
-    (λ d c e source same. same)
+    (λ d c e high source same. same)
 
 pub still_has_one_next : StillHasOneNext
 still_has_one_next l rank p poss other needs view its ranked closed still views others c has =
@@ -54,7 +55,7 @@ pub still_is_strobe : StillIsStrobe
 still_is_strobe l rank p poss needs view settled ranked closed still unclocked views strobe =
     needed_agrees l rank (view_sources l p poss view) (λ d. strobe_from p.ports p.old settled) needs view (λ d. settled) ranked closed (λ d net need. views d net) (λ d net need. strobe net)
     (λ d k. refl) (λ d net need is. still_clock l p poss view d net (l.net net) (unclocked d net need) is)
-    (λ d net need c inverted is. still_flop l p poss view d c inverted (l.net net) (still d net need) is) (λ d c e source same. same)
+    (λ d net need c inverted is. still_flop l p poss view d c inverted (l.net net) (still d net need) is) (λ d c e high source same. same)
 
 pub still_next_is_strobe : StillNextIsStrobe
 still_next_is_strobe l rank p poss needs view settled ranked closed still unclocked views strobe c has =

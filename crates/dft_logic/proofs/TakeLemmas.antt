@@ -78,7 +78,7 @@ origin_step rank r origin ports flops settled net c (Gate kind inputs) below sam
 origin_step rank r origin ports flops settled net c (Joined source) below same is = source_origin rank r origin flops settled c source below same is
 origin_step rank r origin ports flops settled net c (Flop cell true) below same is = absurd cc
 origin_step rank r origin ports flops settled net c (Flop cell false) below same is = let e : cell ≡ c = cc in ap flops e
-origin_step rank r origin ports flops settled net c (Lockup cell e source) below same is = source_origin rank r origin flops settled c source below same is
+origin_step rank r origin ports flops settled net c (Lockup cell e high source) below same is = source_origin rank r origin flops settled c source below same is
 origin_step rank r origin ports flops settled net c Free below same is = absurd cc
 
 origin_within : (l : Logic) (rank : ℕ → ℕ) (origin : ℕ → Option ℕ) (ports flops settled : ℕ → Tri) → IsRanked l rank → AreOrigins l origin → IsStrobe l ports flops settled →

@@ -1,5 +1,5 @@
 -- A design made ready for settling: what each net takes its value from, and the flip-flop or lock-up of each instance.
-use Rattle.std.specs.Prelude.{ℕ, Bool, false, ◌≡◌, ◌<◌, List, [], ◌∷◌, map, length, Option, None, Some, slice_index_or, option_map}
+use Rattle.std.specs.Prelude.{ℕ, Bool, true, false, ◌≡◌, ◌<◌, List, [], ◌∷◌, map, length, Option, None, Some, slice_index_or, option_map}
 use Rattle.std.specs.List.{AllByRecursion}
 use Rattle.dft_base.specs.declared.tri.Tri.{Tri}
 use Rattle.dft_base.specs.declared.tri.Tri.TheVariants.{Unknown}
@@ -21,7 +21,8 @@ use Rattle.dft_logic.specs.declared.circuit.Circuit.{Circuit}
 use Rattle.dft_logic.specs.declared.circuit.Latch.{Latch}
 use Rattle.dft_logic.specs.declared.settling.Pulse.{Pulse}
 use Rattle.dft_logic.specs.declared.settling.View.{View}
-use Rattle.dft_abstract.specs.Cycle.{view_sources, tri_forced_by, tri_taken_by}
+use Rattle.dft_abstract.specs.Cycle.{tri_forced_by, tri_taken_by}
+use Rattle.dft_abstract.specs.Rises.{view_sources}
 use Rattle.dft_abstract.specs.Cycle as Cycle
 use Rattle.dft_logic.specs.Values.{value_at}
 use Rattle.dft_logic.specs.Tables.{IsTable}
@@ -39,7 +40,7 @@ meaning Clock = meanings.Clock
 meaning (Gate kind inputs) = meanings.Gate kind (map source_at inputs)
 meaning (Joined source) = meanings.Joined (source_at source)
 meaning (Flop instance inverted) = meanings.Flop instance.0 inverted
-meaning (Lockup instance domain source) = meanings.Lockup instance.0 domain.0 (source_at source)
+meaning (Lockup instance domain source) = meanings.Lockup instance.0 domain.0 false (source_at source)
 meaning Free = meanings.Free
 
 abbrev pub scan_at : Option ScanPins → Option Scan
@@ -51,7 +52,7 @@ force_at None = None
 force_at (Some acting) = Some (record { port = acting.port.0; value = acting.value })
 
 abbrev pub cell_of : FlipFlop → Cell
-cell_of f = record { domain = f.domain.0; input = source_at f.input; scan = scan_at f.scan; force = force_at f.force }
+cell_of f = record { domain = f.domain.0; falling = false; input = source_at f.input; scan = scan_at f.scan; force = force_at f.force }
 
 -- ---- the circuit's logic
 
@@ -99,7 +100,7 @@ source_places meanings.Clock = 0 ∷ []
 source_places (meanings.Gate kind inputs) = []
 source_places (meanings.Joined source) = []
 source_places (meanings.Flop c inverted) = 0 ∷ []
-source_places (meanings.Lockup c e source) = 0 ∷ []
+source_places (meanings.Lockup c e high source) = 0 ∷ []
 source_places meanings.Free = []
 
 -- the domain whose clock, flip-flop or lock-up a net shows
@@ -109,7 +110,7 @@ leaf_domains cells net meanings.Clock = net ∷ []
 leaf_domains cells net (meanings.Gate kind inputs) = []
 leaf_domains cells net (meanings.Joined source) = []
 leaf_domains cells net (meanings.Flop c inverted) = (cell_at cells c).domain ∷ []
-leaf_domains cells net (meanings.Lockup c e source) = e ∷ []
+leaf_domains cells net (meanings.Lockup c e high source) = e ∷ []
 leaf_domains cells net meanings.Free = []
 
 abbrev pub latch_domains : Option (ℕ × Source) → List ℕ
@@ -135,18 +136,18 @@ pub record IsCircuit (x : Circuit) : Type 0 where
   pub after : AreOrdered x.ops.items [] (numbers_of x.order.items)
   pub count : length x.order.items ≡ length x.ops.items
   -- a lock-up's instance tells its domain and its input
-  pub latched : (net c e : ℕ) (source : Source) → meaning (op_at x.ops.items net) ≡ meanings.Lockup c e source → latch_at x.latches.items c ≡ Some (e, source)
+  pub latched : (net c e : ℕ) (high : Bool) (source : Source) → meaning (op_at x.ops.items net) ≡ meanings.Lockup c e high source → latch_at x.latches.items c ≡ Some (e, source)
   -- and stores its bit as its cell says
-  pub stored : (net c e : ℕ) (source : Source) → meaning (op_at x.ops.items net) ≡ meanings.Lockup c e source → cell_at (map cell_of x.flops.items) c ≡ lockup_cell e source
+  pub stored : (net c e : ℕ) (high : Bool) (source : Source) → meaning (op_at x.ops.items net) ≡ meanings.Lockup c e high source → cell_at (map cell_of x.flops.items) c ≡ lockup_cell e high source
   pub instances : length x.latches.items ≡ length x.flops.items
   pub tables : AreTables x
 
 -- ---- settling
 
 -- what lock-ups show: what they are held at, by instance, or their input where they are wires
-abbrev pub lockup_from : Option (List Tri) → (values : ℕ → Tri) → (cell domain : ℕ) → Source → Tri
-lockup_from None values c e source = value_from values source
-lockup_from (Some held) values c e source = value_at held c
+abbrev pub lockup_from : Option (List Tri) → (values : ℕ → Tri) → (cell domain : ℕ) → (high : Bool) → Source → Tri
+lockup_from None values c e high source = value_from values source
+lockup_from (Some held) values c e high source = value_at held c
 
 -- the given sources, with these lock-ups
 abbrev pub leaves_from : TriSources → Option (List Tri) → (values : ℕ → Tri) → TriSources
@@ -156,9 +157,9 @@ leaves_from base held values = record { ports = base.ports; clocks = base.clocks
 abbrev pub flag_at : List Bool → ℕ → Bool
 flag_at flags place = slice_index_or flags place false
 
--- a pulse, from values by net and by instance
+-- the rises of a pulse, from values by net and by instance
 abbrev pub pulse_at : Pulse → Cycle.Pulse
-pulse_at p = record { ports = value_at p.ports.now; pulsed = flag_at p.pulsed.now; old = value_at p.old.now }
+pulse_at p = record { rising = true; ports = value_at p.ports.now; pulsed = flag_at p.pulsed.now; old = value_at p.old.now }
 
 -- what the view of a domain is settled from, but for its lock-ups
 abbrev pub view_base : (cells : List Cell) → View → TriSources

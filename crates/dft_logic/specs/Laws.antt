@@ -8,7 +8,8 @@ use Rattle.dft_netlist.specs.Drivers.{Source, nets_of}
 use Rattle.dft_netlist.specs.Logic.{Logic, Lockup, Force, Scan, IsRanked}
 use Rattle.dft_netlist.specs.Settled.{value_from}
 use Rattle.dft_netlist.specs.Orders.{numbers_of}
-use Rattle.dft_abstract.specs.Cycle.{Pulse, AreViews, next_value, IsLeast, after_pulse}
+use Rattle.dft_abstract.specs.Cycle.{Pulse, next_value}
+use Rattle.dft_abstract.specs.Rises.{AreViews, IsLeast, after_pulse}
 use Rattle.dft_logic.specs.Needs.{HasAll, IsReadClosed, AreViewsOn, IsStrobe, IsStrobeClosed, IsStrobeOn, AreSeen, next_reads, HasNextReads}
 use Rattle.dft_logic.specs.Moves.{IsStill, IsUnclocked}
 use Rattle.dft_logic.specs.Takes.{next_source, AreOrigins}
@@ -21,13 +22,13 @@ use Rattle.dft_logic.specs.Entries.{Entry, Reads, Computes, entry_value, entry_g
 -- In every view a lock-up's value is its input's value in the view of its own clock, also of one that does not pulse.
 abbrev pub LockupIsInput : Type 0
 LockupIsInput =
-    (l : Logic) (p : Pulse) (poss : ℕ → Tri) (view : ℕ → ℕ → Tri) → AreViews l p poss view → (d net c e : ℕ) (source : Source) → l.net net ≡ Lockup c e source →
+    (l : Logic) (p : Pulse) (poss : ℕ → Tri) (view : ℕ → ℕ → Tri) → AreViews l p poss view → (d net c e : ℕ) (high : Bool) (source : Source) → l.net net ≡ Lockup c e high source →
     view d net ≡ value_from (view e) source
 
 -- At a strobe it is a wire.
 abbrev pub LockupIsWire : Type 0
 LockupIsWire =
-    (l : Logic) (ports flops values : ℕ → Tri) → IsStrobe l ports flops values → (net c e : ℕ) (source : Source) → l.net net ≡ Lockup c e source →
+    (l : Logic) (ports flops values : ℕ → Tri) → IsStrobe l ports flops values → (net c e : ℕ) (high : Bool) (source : Source) → l.net net ≡ Lockup c e high source →
     values net ≡ value_from values source
 
 -- ---- what is not read need not be settled

@@ -13,7 +13,7 @@ moves l pulsed d Clock = false
 moves l pulsed d (Gate kind inputs) = false
 moves l pulsed d (Joined source) = false
 moves l pulsed d (Flop cell inverted) = is_other pulsed d (l.cell cell).domain
-moves l pulsed d (Lockup cell domain source) = false
+moves l pulsed d (Lockup cell domain high source) = false
 moves l pulsed d Free = false
 
 -- a net is the clock of another pulsed domain
@@ -23,7 +23,7 @@ is_other_clock pulsed d net Clock = is_other pulsed d net
 is_other_clock pulsed d net (Gate kind inputs) = false
 is_other_clock pulsed d net (Joined source) = false
 is_other_clock pulsed d net (Flop cell inverted) = false
-is_other_clock pulsed d net (Lockup cell domain source) = false
+is_other_clock pulsed d net (Lockup cell domain high source) = false
 is_other_clock pulsed d net Free = false
 
 -- no net of the set moves

@@ -7,7 +7,8 @@ use Rattle.dft_netlist.specs.declared.ids.NetId.{NetId}
 use Rattle.dft_netlist.specs.Drivers.{Source, nets_of}
 use Rattle.dft_netlist.specs.Logic.{Logic, Cell, Force, Scan, Meaning, Input, Clock, Gate, Joined, Flop, Lockup, Free, reads}
 use Rattle.dft_netlist.specs.Settled.{TriSources, value_from, value_given, IsTriSettled}
-use Rattle.dft_abstract.specs.Cycle.{Pulse, view_sources}
+use Rattle.dft_abstract.specs.Cycle.{Pulse}
+use Rattle.dft_abstract.specs.Rises.{view_sources}
 
 -- these nets are in the set
 abbrev pub HasAll : (needs : ℕ → Bool) → List ℕ → Type 0
@@ -22,7 +23,7 @@ read_in d Clock = d
 read_in d (Gate kind inputs) = d
 read_in d (Joined source) = d
 read_in d (Flop cell inverted) = d
-read_in d (Lockup cell domain source) = domain
+read_in d (Lockup cell domain high source) = domain
 read_in d Free = d
 
 -- A set of pairs of a view and a net is closed under reading: with each net of a view it has the nets that this one is settled from, in the view where they are read.
@@ -37,7 +38,7 @@ AreViewsOn l p poss needs values = (d net : ℕ) → needs d net ≡ true → va
 
 -- what a strobe is settled from: the values of ports and of flip-flops. Clocks are 0, and lock-ups are wires.
 abbrev pub strobe_from : (ports flops values : ℕ → Tri) → TriSources
-strobe_from ports flops values = record { ports = ports; clocks = λ e. Zero; flops = flops; lockups = λ c e source. value_from values source }
+strobe_from ports flops values = record { ports = ports; clocks = λ e. Zero; flops = flops; lockups = λ c e high source. value_from values source }
 
 abbrev pub IsStrobe : Logic → (ports flops values : ℕ → Tri) → Type 0
 IsStrobe l ports flops values = IsTriSettled l (strobe_from ports flops values) values

@@ -45,7 +45,7 @@ shown_given l pulsed shown net Clock = domain_shown pulsed net
 shown_given l pulsed shown net (Gate kind inputs) = shown_by shown (nets_of inputs)
 shown_given l pulsed shown net (Joined source) = shown_by shown (nets_of (source ∷ []))
 shown_given l pulsed shown net (Flop cell inverted) = domain_shown pulsed (l.cell cell).domain
-shown_given l pulsed shown net (Lockup cell domain source) = lockup_shown domain (shown_by shown (nets_of (source ∷ [])))
+shown_given l pulsed shown net (Lockup cell domain high source) = lockup_shown domain (shown_by shown (nets_of (source ∷ [])))
 shown_given l pulsed shown net Free = Nothing
 
 -- each net of the set shows what its driver gives it

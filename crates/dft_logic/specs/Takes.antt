@@ -43,7 +43,7 @@ origin_given origin Clock = None
 origin_given origin (Gate kind inputs) = None
 origin_given origin (Joined source) = origin_of origin source
 origin_given origin (Flop cell inverted) = if inverted then None else Some cell
-origin_given origin (Lockup cell domain source) = origin_of origin source
+origin_given origin (Lockup cell domain high source) = origin_of origin source
 origin_given origin Free = None
 
 -- of each net the flip-flop that it shows at a strobe through joins and lock-ups, where it shows one

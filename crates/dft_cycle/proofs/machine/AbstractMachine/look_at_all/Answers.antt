@@ -50,5 +50,5 @@ returns-clause-seen c =
     let read : c.deref-3.result.now ≡ c.settle_again.new.values = c.deref-3.ensures.value ∙ filled d.values c.settle_again.new.values c.deref_mut.result.now c.settle_again.auto.values c.deref_mut.ensures.value in
     subst P c.self.view_is
     (looked (machine_of d) d.circuit _ c.settle_again.new.values c.read_list.new.row c.args.nets.now c.self.invariant.circuit c.self.invariant.compiled
-    (λ k. ap (λ (l : List Tri). value_at l k) c.deref.ensures.value) (λ e. refl) (λ k. ap (λ (l : List Tri). value_at l k) c.deref-2.ensures.value) (λ a b source. refl) (subst V c.strobe_view.ensures c.settle_again.ensures.given)
+    (λ k. ap (λ (l : List Tri). value_at l k) c.deref.ensures.value) (λ e. refl) (λ k. ap (λ (l : List Tri). value_at l k) c.deref-2.ensures.value) (λ a b high source. refl) (subst V c.strobe_view.ensures c.settle_again.ensures.given)
     (c.read_list.ensures ∙ ap (λ (l : List Tri). map (λ (net : NetId). value_at l net.0) c.args.nets.now) read))

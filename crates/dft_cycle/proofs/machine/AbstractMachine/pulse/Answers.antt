@@ -39,7 +39,7 @@ invariant_of-self c =
     let i = c.self.invariant in
     let d = c.self.inside in
     let old : c.deref_mut-5.result.now ≡ d.cells.items = c.deref_mut-5.ensures.value in
-    let p : Pulse = record { ports = value_at c.deref-3.result.now; pulsed = flag_at c.deref-4.result.now; old = value_at c.deref_mut-5.result.now } in
+    let p : Pulse = record { rising = true; ports = value_at c.deref-3.result.now; pulsed = flag_at c.deref-4.result.now; old = value_at c.deref_mut-5.result.now } in
     record {
       circuit = i.circuit;
       compiled = i.compiled;
@@ -72,7 +72,7 @@ invariant_of-self-else-not-taken c =
     let i = c.self.invariant in
     let d = c.self.inside in
     let old : c.deref_mut-5.result.now ≡ d.cells.items = c.deref_mut-5.ensures.value in
-    let p : Pulse = record { ports = value_at c.deref-3.result.now; pulsed = flag_at c.deref-4.result.now; old = value_at c.deref_mut-5.result.now } in
+    let p : Pulse = record { rising = true; ports = value_at c.deref-3.result.now; pulsed = flag_at c.deref-4.result.now; old = value_at c.deref_mut-5.result.now } in
     record {
       circuit = i.circuit;
       compiled = i.compiled;
@@ -121,10 +121,10 @@ returns-else-not-taken c =
     let marked : c.deref-4.result.now ≡ c.mark.new.flags = read ∙ filled d.pulsed c.mark.new.flags c.deref_mut.result.now c.mark.auto.flags flags in
     let ports : c.deref-3.result.now ≡ d.inputs.items = c.deref-3.ensures.value in
     let old : c.deref_mut-5.result.now ≡ d.cells.items = c.deref_mut-5.ensures.value in
-    let p : Pulse = record { ports = value_at c.deref-3.result.now; pulsed = flag_at c.deref-4.result.now; old = value_at c.deref_mut-5.result.now } in
+    let p : Pulse = record { rising = true; ports = value_at c.deref-3.result.now; pulsed = flag_at c.deref-4.result.now; old = value_at c.deref_mut-5.result.now } in
     subst P c.self.view_is
-    (pulse_passed (machine_of d) after d.circuit c.args.pulsed.now p c.take-taken.new.cells i.compiled refl refl refl refl
-    (filled d.cells c.take-taken.new.cells c.deref_mut-5.result.now c.take-taken.auto.cells old)
+    (pulse_passed (machine_of d) after d.circuit c.args.pulsed.now p c.take-taken.new.cells i.circuit i.compiled refl refl refl refl
+    (filled d.cells c.take-taken.new.cells c.deref_mut-5.result.now c.take-taken.auto.cells old) refl
     (λ k. ap (λ (l : List Tri). value_at l k) ports)
     (λ e. ap (λ (l : List Bool). flag_at l e) marked ∙ c.mark.ensures e ∙ ap (λ (l : List NetId). pulses l c.args.pulsed.now e) clocks)
     (λ k. ap (λ (l : List Tri). value_at l k) old)

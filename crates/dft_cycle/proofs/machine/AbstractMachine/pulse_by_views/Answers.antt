@@ -49,7 +49,7 @@ invariant_of-self c =
     let cells = with_items d.cells c.take.new.cells in
     let nexts : c.deref_mut-6.result.now ≡ d.next.items = c.deref_mut-6.ensures.value in
     let before : c.deref_mut-7.result.now ≡ d.cells.items = c.deref_mut-7.ensures.value in
-    let p : Pulse = record { ports = value_at c.deref-3.result.now; pulsed = flag_at c.deref-4.result.now; old = value_at c.deref-5.result.now } in
+    let p : Pulse = record { rising = true; ports = value_at c.deref-3.result.now; pulsed = flag_at c.deref-4.result.now; old = value_at c.deref-5.result.now } in
     record {
       circuit = i.circuit;
       compiled = i.compiled;
@@ -96,9 +96,9 @@ returns c =
     let next : c.deref-9.result.now ≡ (with_items d.next c.find_least.new.next).items = c.deref-9.ensures.value in
     let flops : c.deref-7.result.now ≡ d.circuit.flops.items = c.deref-7.ensures.value in
     let before : c.deref_mut-7.result.now ≡ d.cells.items = c.deref_mut-7.ensures.value in
-    let p : Pulse = record { ports = value_at c.deref-3.result.now; pulsed = flag_at c.deref-4.result.now; old = value_at c.deref-5.result.now } in
+    let p : Pulse = record { rising = true; ports = value_at c.deref-3.result.now; pulsed = flag_at c.deref-4.result.now; old = value_at c.deref-5.result.now } in
     subst P c.self.view_is
-    (pulse_done (machine_of d) after d.circuit c.args.pulsed.now p c.find_least.new.poss c.find_least.new.next i.circuit i.compiled refl refl refl refl
+    (pulse_done (machine_of d) after d.circuit c.args.pulsed.now p c.find_least.new.poss c.find_least.new.next i.circuit i.compiled refl refl refl refl refl
     (λ k. ap (λ (l : List Tri). value_at l k) ports)
     (λ e. ap (λ (l : List Bool). flag_at l e) marked ∙ c.mark.ensures e ∙ ap (λ (l : List NetId). pulses l c.args.pulsed.now e) clocks)
     (λ k. ap (λ (l : List Tri). value_at l k) old)

@@ -51,6 +51,6 @@ returns c =
     let copied : c.copy_from_slice.new.self ≡ c.settle_again.new.values =
     c.copy_from_slice.ensures.after ∙ c.deref-3.ensures.value ∙ filled d.values c.settle_again.new.values c.deref_mut.result.now c.settle_again.auto.values c.deref_mut.ensures.value in
     subst P c.self.view_is
-    (strobed (machine_of d) after d.circuit _ c.settle_again.new.values c.self.invariant.compiled refl refl refl refl
-    (λ k. ap (λ (l : List Tri). value_at l k) c.deref.ensures.value) (λ e. refl) (λ k. ap (λ (l : List Tri). value_at l k) c.deref-2.ensures.value) (λ a b source. refl) (subst V c.strobe_view.ensures c.settle_again.ensures.given)
+    (strobed (machine_of d) after d.circuit _ c.settle_again.new.values c.self.invariant.circuit c.self.invariant.compiled refl refl refl refl
+    (λ k. ap (λ (l : List Tri). value_at l k) c.deref.ensures.value) (λ e. refl) (λ k. ap (λ (l : List Tri). value_at l k) c.deref-2.ensures.value) (λ a b high source. refl) (subst V c.strobe_view.ensures c.settle_again.ensures.given)
     (filled d.shown c.copy_from_slice.new.self c.as_mut_slice.result.now c.copy_from_slice.ensures.len c.as_mut_slice.ensures.value ∙ copied))
