@@ -1,5 +1,5 @@
 -- A turn stays below all closed maps, and one that changes nothing has the next values.
-use Rattle.std.proofs.Common.{List, ◌≡◌, ◌∙◌, inl, inr, subst}
+use Rattle.std.proofs.Common.{List, ◌≡◌, ◌∙◌, inl, inr, subst, refl}
 use Rattle.dft_base.specs.declared.tri.Tri.{Tri}
 use Rattle.dft_abstract.specs.Rises.{AreViews}
 use Rattle.dft_cycle.specs.Machine.{value_at}

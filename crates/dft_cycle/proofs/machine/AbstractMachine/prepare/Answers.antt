@@ -35,7 +35,7 @@ invariant_of-result c =
     record {
       circuit = is.circuit;
       compiled = ap L (sym (same_ports c.deref.result.now clocks same)) ∙ is.compiled;
-      owned = λ k e source h. one_among clocks e (sym (same e) ∙ is.clocked k e source h);
+      owned = λ k e high source h. one_among clocks e (sym (same e) ∙ is.clocked k e high source h);
       live = λ place clock at.
           (let S : List NetId → Type 0 = λ l. slice_get l place ≡ Some clock in
           let less = c.requires place clock (subst S named at) in

@@ -1,5 +1,5 @@
 -- The pulse is taken by a plan, or by the views.
-use Rattle.std.proofs.Common.{Bool, Some, slice_get, ◌≡◌, ◌∙◌, refl, ap, sym, subst, length, List, arith}
+use Rattle.std.proofs.Common.{Bool, true, Some, slice_get, ◌≡◌, ◌∙◌, refl, ap, sym, subst, length, List, arith}
 use Rattle.std.specs.Vec.{with_items}
 use Rattle.dft_base.specs.declared.tri.Tri.{Tri}
 use Rattle.dft_netlist.specs.declared.ids.NetId.{NetId}

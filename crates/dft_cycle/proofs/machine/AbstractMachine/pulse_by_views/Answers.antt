@@ -1,5 +1,5 @@
 -- The flip-flops of the pulsed domains have their next values at the least map.
-use Rattle.std.proofs.Common.{Bool, Some, slice_get, ◌≡◌, ◌∙◌, refl, ap, sym, subst, length, List, arith}
+use Rattle.std.proofs.Common.{Bool, true, Some, slice_get, ◌≡◌, ◌∙◌, refl, ap, sym, subst, length, List, arith}
 use Rattle.std.specs.Vec.{with_items}
 use Rattle.dft_base.specs.declared.tri.Tri.{Tri}
 use Rattle.dft_netlist.specs.declared.ids.NetId.{NetId}
@@ -18,9 +18,9 @@ mark-requires-clause-live c = λ place clock at.
     omega (arith, ap length c.deref_mut.ensures.value, less))
 
 pub find_least-requires-clause-owned : goal.find_least-requires-clause-owned
-find_least-requires-clause-owned c = λ k e source at.
+find_least-requires-clause-owned c = λ k e high source at.
     (let Q : List NetId → Type 0 = λ l. Among l (length l) e in
-    subst Q (sym c.deref-6.ensures.value) (c.self.invariant.owned k e source at))
+    subst Q (sym c.deref-6.ensures.value) (c.self.invariant.owned k e high source at))
 
 pub find_least-requires-clause-live : goal.find_least-requires-clause-live
 find_least-requires-clause-live c = λ place net at.
