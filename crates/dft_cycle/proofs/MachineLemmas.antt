@@ -12,9 +12,10 @@ use Rattle.dft_netlist.specs.declared.ids.NetId.{NetId}
 use Rattle.dft_netlist.specs.Drivers.{Source}
 use Rattle.dft_netlist.specs.Logic.{Logic, Cell, Force}
 use Rattle.dft_netlist.specs.Settled.{TriSources, value_from, IsTriSettled}
+use Rattle.dft_netlist.specs.Runs.{takes}
 use Rattle.dft_logic.specs.declared.circuit.FlipFlop.{FlipFlop}
 use Rattle.dft_logic.specs.declared.circuit.Circuit.{Circuit}
-use Rattle.dft_abstract.specs.Cycle.{Pulse, tri_forced_by, tri_taken_by, next_value, falls_after, Halves}
+use Rattle.dft_abstract.specs.Cycle.{Pulse, tri_forced_by, tri_taken_by, next_value, falls_after, Halves, changes}
 use Rattle.dft_abstract.specs.Rises.{AreViews, after_pulse, IsLeast}
 use Rattle.dft_cycle.specs.Machine.{Machine, value_at, is_one_of, ports_of, logic, acted, IsSet, at_strobe, IsStrobed, pulses, pulse_from, IsPulsed}
 use Rattle.dft_logic.specs.Circuit.{IsReady, logic_at, cell_of, cell_at, flag_at, IsCircuit}
@@ -67,12 +68,11 @@ pub looked : (m : Machine) (x : Circuit) (t : TriSources) (values row : List Tri
     ((k : ℕ) → t.ports k ≡ value_at m.inputs k) → ((e : ℕ) → t.clocks e ≡ Zero) → ((c : ℕ) → t.flops c ≡ value_at m.cells c) → ((c e : ℕ) (high : Bool) (source : Source) → t.lockups c e high source ≡ value_from (value_at values) source) →
     IsTriSettled (logic_at x) t (value_at values) → row ≡ map (λ net. value_at values net.0) nets → AreSeen (logic m) (value_at m.inputs) (value_at m.cells) nets row
 looked m x t values row nets is compiled ports clocks flops lockups settled read =
-    let same : t ≡ strobe_from (value_at m.inputs) (value_at m.cells) (value_at values) =
-    λ s. record { ports = λ p. ports p s; clocks = λ e. clocks e s; flops = λ f. flops f s; lockups = λ a b high source. lockups a b high source s } in
-    let P : TriSources → Type 0 = λ u. IsTriSettled (logic_at x) u (value_at values) in
+    let strobe : TriSources = strobe_from (value_at m.inputs) (value_at m.cells) (value_at values) in
     let Q : Logic → Type 0 = λ l. AreSeen l (value_at m.inputs) (value_at m.cells) nets row in
     let R : List Tri → Type 0 = λ r. AreSeen (logic_at x) (value_at m.inputs) (value_at m.cells) nets r in
-    subst Q (sym compiled) (subst R (sym read) (look_of_all x (value_at m.inputs) (value_at m.cells) values nets is (subst P same settled)))
+    subst Q (sym compiled) (subst R (sym read) (look_of_all x (value_at m.inputs) (value_at m.cells) values nets is
+    (low_settled (logic_at x) (rank_of x) t strobe (value_at values) (circuit_ranked x is) (circuit_rises x) ports clocks flops (λ a b source. lockups a b false source) settled)))
 
 -- ---- an input
 
@@ -131,18 +131,22 @@ record HasHalves (l : Logic) (p : Pulse) (new : ℕ → Tri) : Type 0 where
   cells : (c : ℕ) → new c ≡ cycle.after_pulse l (falls_after l p halves.rise.view) halves.fall.view c
 
 -- where every cell takes its bit at a rise nothing changes in the falls
-pulsed_by : (x : Circuit) (p : Pulse) (poss : ℕ → Tri) (view : ℕ → ℕ → Tri) (new : ℕ → Tri) → IsCircuit x → p.rising ≡ true → IsLeast (logic_at x) p poss view → ((c : ℕ) → new c ≡ after_pulse (logic_at x) p view c) → HasHalves (logic_at x) p new
-pulsed_by x p poss view new is up least each =
+risen_by : (x : Circuit) (p : Pulse) (poss : ℕ → Tri) (view : ℕ → ℕ → Tri) (new : ℕ → Tri) → IsCircuit x → cycle.IsLeast (logic_at x) p poss view → ((c : ℕ) → new c ≡ cycle.after_pulse (logic_at x) p view c) → HasHalves (logic_at x) p new
+risen_by x p poss view new is least each =
     let l : Logic = logic_at x in
-    let rise : IsRise l (rank_of x) p = circuit_rise x p is up in
     let q : Pulse = falls_after l p view in
     let fall = none_changes l (rank_of x) q (circuit_ranked x is) (λ c. falls_rest l q c (circuit_rises x c) refl) in
     record {
       halves = record { rise = record { poss = poss; view = view }; fall = record { poss = q.old; view = fall.0 } };
-      rise = least_is l (rank_of x) p poss view rise least;
+      rise = least;
       fall = fall.1.0;
-      cells = λ c. each c ∙ after_is l (rank_of x) p view rise c ∙ sym (fall.1.1 c);
+      cells = λ c. each c ∙ sym (fall.1.1 c);
     }
+
+pulsed_by : (x : Circuit) (p : Pulse) (poss : ℕ → Tri) (view : ℕ → ℕ → Tri) (new : ℕ → Tri) → IsCircuit x → p.rising ≡ true → IsLeast (logic_at x) p poss view → ((c : ℕ) → new c ≡ after_pulse (logic_at x) p view c) → HasHalves (logic_at x) p new
+pulsed_by x p poss view new is up least each =
+    let rise : IsRise (logic_at x) (rank_of x) p = circuit_rise x p is up in
+    risen_by x p poss view new is (least_is (logic_at x) (rank_of x) p poss view rise least) (λ c. each c ∙ after_is (logic_at x) (rank_of x) p view rise c)
 
 -- the same of the machine
 halves_of : (m : Machine) (x : Circuit) (pulsed : List Bool) (p : Pulse) (new : ℕ → Tri) → logic m ≡ logic_at x → p ≡ pulse_from m pulsed → HasHalves (logic_at x) p new → HasHalves (logic m) (pulse_from m pulsed) new
@@ -335,11 +339,11 @@ lower_all nets flags j e past old = go (flag_at flags e) (λ up. sym (ap (λ (l 
 
 -- ---- a pulse by a plan
 
-after_past : (x : Circuit) (p : Pulse) (view : ℕ → ℕ → Tri) (c : ℕ) → length x.flops.items ≤ c → p.old c ≡ Unknown → after_pulse (logic_at x) p view c ≡ Unknown
+after_past : (x : Circuit) (p : Pulse) (view : ℕ → ℕ → Tri) (c : ℕ) → length x.flops.items ≤ c → p.old c ≡ Unknown → cycle.after_pulse (logic_at x) p view c ≡ Unknown
 unfolding logic_at
 after_past x p view c out old =
-    let F : Cell → Tri = λ cell. if p.pulsed cell.domain then tri_forced_by cell.force p.ports (tri_taken_by cell.scan (value_from (view cell.domain)) (value_from (view cell.domain) cell.input)) else p.old c in
-    ap F (cell_past x.flops.items c out) ∙ go (p.pulsed 0) where
+    let F : Cell → Tri = λ cell. if p.pulsed cell.domain && takes p.rising cell.falling then tri_forced_by cell.force p.ports (tri_taken_by cell.scan (value_from (view cell.domain)) (value_from (view cell.domain) cell.input)) else p.old c in
+    ap F (cell_past x.flops.items c out) ∙ go (p.pulsed 0 && takes p.rising false) where
       go : (up : Bool) → (if up then Unknown else p.old c) ≡ Unknown
       go true = refl
       go false = old
@@ -349,7 +353,7 @@ pub pulse_passed : (m after : Machine) (x : Circuit) (pulsed : List Bool) (p : P
     length m.cells ≡ length x.flops.items → length new ≡ length m.cells → (passed : IsPassed x p new) → IsPulsed (logic m) m pulsed after
 pulse_passed m after x pulsed p new is compiled n k i s cells up ports ups old a b passed =
     let same : p ≡ pulse_from m pulsed = λ t. record { rising = up t; ports = λ q. ports q t; pulsed = λ e. ups e t; old = λ c. old c t } in
-    let each : (c : ℕ) → value_at after.cells c ≡ after_pulse (logic_at x) p passed.view c = λ c.
+    let each : (c : ℕ) → value_at after.cells c ≡ cycle.after_pulse (logic_at x) p passed.view c = λ c.
     ap (λ (l : List Tri). value_at l c) cells
     ∙ elim (leb_tells (length x.flops.items) c) [
       | inl out ↦ (let f : length new ≤ c = omega (arith, out.1) in let g : length m.cells ≤ c = omega (arith, out.1) in
@@ -357,7 +361,7 @@ pulse_passed m after x pulsed p new is compiled n k i s cells up ports ups old a
       | inr live ↦ passed.each c live.1
     ] in
     let r : HasHalves (logic m) (pulse_from m pulsed) (value_at after.cells) =
-    halves_of m x pulsed p (value_at after.cells) compiled same (pulsed_by x p passed.poss passed.view (value_at after.cells) is up passed.least each) in
+    halves_of m x pulsed p (value_at after.cells) compiled same (risen_by x p passed.poss passed.view (value_at after.cells) is passed.least each) in
     record { netlist = n; clocks = k; inputs = i; shown = s; halves = r.halves; rise = r.rise; fall = r.fall; cells = r.cells }
 
 -- ---- loose flip-flops stay Unknown
@@ -400,7 +404,7 @@ passed_loose x p old new true size olds loose passed same =
     let r = passed refl in
     let cells : ℕ → Cell = cell_at (map cell_of x.flops.items) in
     loose_within x new size
-    (λ c live is. r.each c live ∙ either_unknown (p.pulsed (cells c).domain) _ (p.old c) (λ up. next_loose (cells c) p.ports (r.view (cells c).domain) is) (olds c ∙ loose c is))
+    (λ c live is. r.each c live ∙ either_unknown (changes (logic_at x) p c) _ (p.old c) (λ up. next_loose (cells c) p.ports (r.view (cells c).domain) is) (olds c ∙ loose c is))
 
 -- a pulse by the views
 pub pulsed_loose : (x : Circuit) (p : Pulse) (poss next old new : List Tri) → IsCircuit x → length new ≡ length x.flops.items → LooseAreUnknown x (value_at old) →

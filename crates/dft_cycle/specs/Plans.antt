@@ -1,12 +1,11 @@
 -- Plans: pulses that are found in one pass, by the nets to settle and by what flip-flops take.
-use Rattle.std.specs.Prelude.{ℕ, Bool, true, ◌≡◌, ◌<◌, ◌≤◌, List, [], All, Option, Some, map, length, take}
+use Rattle.std.specs.Prelude.{ℕ, Bool, true, false, ◌≡◌, ◌<◌, ◌≤◌, List, [], All, Option, Some, map, length, take}
 use Rattle.std.specs.Vec.{vec_capacity}
 use Rattle.dft_base.specs.declared.tri.Tri.{Tri}
 use Rattle.dft_base.specs.declared.tri.Tri.TheVariants.{Unknown}
 use Rattle.dft_netlist.specs.declared.ids.NetId.{NetId}
 use Rattle.dft_netlist.specs.Orders.{Has, numbers_of}
-use Rattle.dft_abstract.specs.Cycle.{Pulse}
-use Rattle.dft_abstract.specs.Rises.{IsLeast, after_pulse}
+use Rattle.dft_abstract.specs.Cycle.{Pulse, IsLeast, after_pulse}
 use Rattle.dft_logic.specs.declared.circuit.Circuit.{Circuit}
 use Rattle.dft_logic.specs.Needs.{IsStrobeClosed}
 use Rattle.dft_logic.specs.Shows.{Shown, IsShownOn}
@@ -16,6 +15,7 @@ use Rattle.dft_logic.specs.Values.{value_at}
 use Rattle.dft_logic.specs.Circuit.{logic_at, cell_of, cell_at, flag_at, force_nets, AreOrdered}
 use Rattle.dft_logic.specs.EntryTables.{origin_at, scan_needs, entry_for, entry_needs}
 use Rattle.dft_logic.specs.Takings.{AreTakings, is_loose}
+use Rattle.dft_logic.specs.ShownTables.{ups}
 use Rattle.dft_cycle.specs.declared.plans.Pins.{Pins}
 use Rattle.dft_cycle.specs.declared.plans.Plan.{Plan}
 use Rattle.dft_cycle.specs.declared.plans.Stage.{Stage}
@@ -54,6 +54,7 @@ pub record IsKey (clocks : List NetId) (pins : Pins) (p : Pulse) (values : ℕ �
 -- A plan that is made was right for some pulse that has its key: each flip-flop has an entry there, what it needs is listed, and what it takes.
 pub record IsMade (x : Circuit) (clocks : List NetId) (pins : Pins) (plan : Plan) : Type 0 where
   pub pulse : Pulse
+  pub up : pulse.rising ≡ true
   pub values : List Tri
   pub origin : ℕ → Option ℕ
   pub shown : ℕ → Shown
@@ -62,8 +63,8 @@ pub record IsMade (x : Circuit) (clocks : List NetId) (pins : Pins) (plan : Plan
   pub size : length values ≡ length x.ops.items
   pub past : (k : ℕ) → length x.ops.items ≤ k → pulse.ports k ≡ Unknown
   pub key : IsKey clocks pins pulse (value_at values) plan.pulsed.items plan.ports.items plan.enables.items
-  pub origins : AreOrigins (logic_at x) origin
-  pub shows : IsShownOn (logic_at x) pulse.pulsed (λ net. true) shown
+  pub origins : AreOrigins (logic_at x) (λ e. false) origin
+  pub shows : IsShownOn (logic_at x) (ups pulse.pulsed) (λ net. true) shown
   pub entries : (c : ℕ) → c < length x.flops.items → entry_for (cell_at (map cell_of x.flops.items) c) pulse origin shown (value_at values) ≡ Some (table c)
   pub needed : (c : ℕ) → c < length x.flops.items → (k : ℕ) → k < length x.ops.items → Has (entry_needs (cell_at (map cell_of x.flops.items) c) (table c)) k → flag_at marked k ≡ true
   pub list : IsNeedList x marked (take plan.count plan.list.items)
@@ -115,13 +116,13 @@ LooseAreUnknown x values = (c : ℕ) → is_loose (cell_at (map cell_of x.flops.
 -- the plans of a circuit with these clocks, and what they are made from
 pub record ArePlans (x : Circuit) (clocks : List NetId) (p : Plans) : Type 0 where
   pub pins : IsPins x p.pins
-  pub origins : AreOrigins (logic_at x) (origin_at p.origins.items)
+  pub origins : AreOrigins (logic_at x) (λ e. false) (origin_at p.origins.items)
   pub plans : All (IsPlan x clocks p.pins) p.plans.items
   pub some : 0 < length p.plans.items
   pub shown : length p.shown.items ≡ length x.ops.items
   pub entries : length p.entries.items ≡ length x.flops.items
 
--- a pulse was found by one pass: these are the values of flip-flops after it, at a least map that is there
+-- the rises of a pulse were found by one pass: these are the values of flip-flops after it, at a least map that is there
 pub record IsPassed (x : Circuit) (p : Pulse) (new : List Tri) : Type 0 where
   pub poss : ℕ → Tri
   pub view : ℕ → ℕ → Tri

@@ -1,6 +1,6 @@
 //! Which flip-flop a net shows at a strobe through joins and lock-ups.
 
-ghost use Rattle.std.specs.Prelude.{◌≡◌, length};
+ghost use Rattle.std.specs.Prelude.{◌≡◌, false, length};
 ghost use Rattle.dft_logic.specs.Takes.{origin_of, origin_given, AreOrigins};
 ghost use Rattle.dft_logic.specs.Circuit.{meaning, source_at, logic_at, IsCircuit};
 ghost use Rattle.dft_logic.specs.EntryTables as tables;
@@ -32,7 +32,7 @@ fn operand_origin(operand: &Operand, origins: &[Option<InstanceId>]) -> Option<I
 
 // The flip-flop that a net shows by its driver.
 fn op_origin(op: &Op, origins: &[Option<InstanceId>]) -> Option<InstanceId>
-    ensures { number_of result ≡ origin_given (tables.origin_at origins.now) (meaning op.now) }
+    ensures { number_of result ≡ origin_given (λ e. false) (tables.origin_at origins.now) (meaning op.now) }
 {
     match op {
         Op::Joined(source) => operand_origin(source, origins),
@@ -49,7 +49,7 @@ fn op_origin(op: &Op, origins: &[Option<InstanceId>]) -> Option<InstanceId>
 pub fn find_origins(circuit: &Circuit, origins: &mut [Option<InstanceId>])
     requires circuit { IsCircuit circuit.now }
     requires origins { length origins.old ≡ length circuit.now.ops.items }
-    ensures { AreOrigins (logic_at circuit.now) (tables.origin_at origins.new) }
+    ensures { AreOrigins (logic_at circuit.now) (λ e. false) (tables.origin_at origins.new) }
 {
     for net in &circuit.order {
         let origin = op_origin(&circuit.ops[net.0 as usize], origins);

@@ -5,7 +5,7 @@ ghost use Rattle.dft_netlist.specs.Drivers.{nets_of};
 ghost use Rattle.dft_logic.specs.Shows as shows;
 ghost use Rattle.dft_logic.specs.Shows.{IsShownOn};
 ghost use Rattle.dft_logic.specs.Circuit.{meaning, source_at, logic_at, cell_of, cell_at, IsCircuit, flag_at as is_up};
-ghost use Rattle.dft_logic.specs.ShownTables.{shown_of, shown_at, shown_in};
+ghost use Rattle.dft_logic.specs.ShownTables.{shown_of, shown_at, shown_in, ups};
 
 use crate::circuit::{Circuit, FlipFlop, Op, Operand};
 use crate::settling::{domain_at, flag_at};
@@ -73,7 +73,7 @@ fn operand_shown(operand: &Operand, shown: &[Shown]) -> Shown
 
 // What a flip-flop or the clock of a domain shows.
 fn domain_shown(pulsed: &[bool], domain: NetId) -> Shown
-    ensures { shown_of result ≡ shows.domain_shown (is_up pulsed.now) domain.0 }
+    ensures { shown_of result ≡ shows.domain_shown (is_up pulsed.now domain.0) domain.0 }
 {
     if flag_at(pulsed, domain.0) {
         Shown::Domain(domain)
@@ -84,7 +84,7 @@ fn domain_shown(pulsed: &[bool], domain: NetId) -> Shown
 
 // What a lock-up of a domain shows.
 fn lockup_shown(domain: NetId, input: Shown) -> Shown
-    ensures { shown_of result ≡ shows.lockup_shown domain.0 (shown_of input) }
+    ensures { shown_of result ≡ shows.held_shown domain.0 (shown_of input) }
 {
     if input.is_still(domain) {
         Shown::Nothing
@@ -123,7 +123,7 @@ fn op_shown(op: &Op, net: NetId, flops: &[FlipFlop], pulsed: &[bool], shown: &[S
 pub fn show_all(circuit: &Circuit, pulsed: &[bool], shown: &mut [Shown])
     requires circuit { IsCircuit circuit.now }
     requires shown { length shown.old ≡ length circuit.now.ops.items }
-    ensures { IsShownOn (logic_at circuit.now) (is_up pulsed.now) (λ net. true) (shown_at shown.new) }
+    ensures { IsShownOn (logic_at circuit.now) (ups (is_up pulsed.now)) (λ net. true) (shown_at shown.new) }
 {
     for net in &circuit.order {
         let given = op_shown(

@@ -1,19 +1,17 @@
 -- The calls for a vector come to its round: inputs are set, nets are looked at, clocks pulse.
-use Rattle.std.proofs.Common.{ℕ, Bool, List, ◌≡◌, Option, length, map, refl, sym, ap, ◌∙◌, subst, true}
+use Rattle.std.proofs.Common.{ℕ, Bool, List, ◌≡◌, Option, length, map, refl, sym, ap, ◌∙◌, subst, true, false}
 use Rattle.dft_base.specs.declared.tri.Tri.{Tri}
-use Rattle.dft_base.specs.declared.tri.Tri.TheVariants.{Unknown}
 use Rattle.dft_netlist.specs.declared.ids.NetId.{NetId}
 use Rattle.dft_netlist.specs.Logic.{Logic}
 use Rattle.dft_netlist.specs.Orders.{numbers_of}
 use Rattle.dft_netlist.specs.Runs.{Vector}
-use Rattle.dft_netlist.specs.Settled.{TriSources, value_from, IsTriSettled}
-use Rattle.dft_netlist.proofs.Meanings.{source_same}
+use Rattle.dft_netlist.specs.Settled.{TriSources, IsTriSettled}
 use Rattle.dft_netlist.proofs.StoredLemmas.{logic_rises}
 use Rattle.dft_netlist.proofs.Ranks.{order_is_rank}
 use Rattle.dft_abstract.specs.Cycle.{Pulse, tri_forced_by, after_pulse, IsLeast, rise_of, falls_after, strobe_sources, after_halves, Round, IsRound, after_round}
-use Rattle.dft_abstract.proofs.Views.{LockedBy, LooksBelow, family}
 use Rattle.dft_abstract.proofs.Rises.{low_settled}
 use Rattle.dft_logic.specs.Needs.{IsStrobe, strobe_from}
+use Rattle.dft_logic.proofs.ShownLemmas.{still_there}
 use Rattle.dft_cycle.specs.Machine.{Machine, value_at, logic, pulses, pulse_from, ports_of, IsPulsed}
 use Rattle.dft_cycle.specs.MachineLaws.{IsForced, StandsSince}
 use Rattle.dft_cycle.proofs.MachineRounds.{same_logic, halves_forced}
@@ -72,11 +70,7 @@ looked_round start set after x pulsed shown ranks stands ports ups settled pulse
 -- a strobe has a settled assignment, whatever the values of inputs and flip-flops
 settled_exists : (m : Machine) → HasRanks m.netlist → (values : ℕ → Tri) × IsStrobe (logic m) (value_at m.inputs) (value_at m.cells) values
 unfolding logic
-settled_exists m ranks =
-    let lock : LockedBy = λ w d c e high source. value_from (w d) source in
-    let looks : LooksBelow ranks.0 lock = λ r a b same d c e high source below. source_same ranks.0 r (a d) (b d) source below (λ k less. same k less d) in
-    let found = family (logic m) ranks.0 (λ d. strobe_from (value_at m.inputs) (value_at m.cells) (λ k. Unknown)) lock (order_is_rank m.netlist (ports_of m.clocks) ranks.0 ranks.1) looks in
-    (found.0 0, found.1 0)
+settled_exists m ranks = still_there (logic m) ranks.0 (λ e. false) (value_at m.inputs) (value_at m.cells) (order_is_rank m.netlist (ports_of m.clocks) ranks.0 ranks.1)
 
 pub played : (start set after : Machine) (nets : List NetId) (clocks : List ℕ) (pulsed : List Bool) (acts : List Act) (vector : ℕ) (wanted : List NetId) (asked : List Asked) (decision : Option Verdict) →
     (ranks : HasRanks start.netlist) → (differ : Differ (numbers_of nets)) → (same : length acts ≡ length nets) →
