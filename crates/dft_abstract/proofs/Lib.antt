@@ -4,6 +4,5 @@ pub mod Turns
 pub mod Views
 pub mod Least
 pub mod Halves
-pub mod Rises
 pub mod OneDomain
 pub mod Lifts

@@ -1,3 +1,2 @@
 pub mod Cycle
 pub mod Laws
-pub mod Rises

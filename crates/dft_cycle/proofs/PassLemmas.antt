@@ -33,7 +33,7 @@ use Rattle.dft_cycle.specs.declared.looks.Look.{Look}
 use Rattle.dft_cycle.specs.Views.{Among}
 use Rattle.dft_cycle.specs.Looks.{IsListed}
 use Rattle.dft_logic.proofs.LookLemmas.{look_of_marked}
-use Rattle.dft_logic.specs.ShownTables.{ups}
+use Rattle.dft_logic.specs.ShownTables.{edges_of}
 use Rattle.dft_cycle.specs.Plans.{row_of, flags_of, IsNeedList, IsPins, IsMade, IsPlan, IsNoted, IsFilled, LooseAreUnknown, IsPassed}
 
 -- ---- the same key is the same at each pin
@@ -111,7 +111,8 @@ passed x clocks pins plan q values old new is pinned m up among past olds loose 
     let cells : ℕ → Cell = cell_at (map cell_of x.flops.items) in
     let same : (e : ℕ) → m.pulse.pulsed e ≡ q.pulsed e = pulsed_same clocks m.pulse.pulsed q.pulsed m.key.among among (sym m.key.pulsed ∙ flagged) in
     let whole : m.pulse.pulsed ≡ q.pulsed = λ t e. same e t in
-    let S : (ℕ → Bool) → Type 0 = λ f. IsShownOn (logic_at x) (ups f) (λ net. true) m.shown in
+    let S : (ℕ → Bool) → Type 0 = λ f. IsShownOn (logic_at x) (edges_of m.pulse.rising f) (λ net. true) m.shown in
+    let R : Bool → Type 0 = λ b. IsShownOn (logic_at x) (edges_of b q.pulsed) (λ net. true) m.shown in
     let beyond : (l : List Tri) → length l ≡ count → (k : ℕ) → count ≤ k → value_at l k ≡ Unknown = λ l e k far. get_or_past l k Unknown (omega arith) in
     let port : (c : ℕ) (force : Force) → c < length x.flops.items → (cells c).force ≡ Some force → m.pulse.ports force.port ≡ q.ports force.port =
     λ c force live at. at_nets m.pulse.ports q.ports pins.ports.items count force.port (sym m.key.ports ∙ ports) m.past past (λ less. pinned.ports c force.port live less (force_here (cells c).force force at)) in
@@ -120,7 +121,7 @@ passed x clocks pins plan q values old new is pinned m up among past olds loose 
     (λ k net. at_nets w v pins.enables.items count k (sym m.key.enables ∙ enables) (beyond m.values m.size) (beyond values len) (λ less. pinned.enables c k live less (scan_here (cells c).scan scan k at net))) in
     let entries : (c : ℕ) → c < length x.flops.items → entry_for (cells c) q m.origin m.shown v ≡ Some (m.table c) =
     λ c live. sym (entry_stays (record { net = λ net. Free; cell = λ k. cells c }) m.pulse q m.origin m.shown w v 0 (λ t. same (cells c).domain t && takes ((m.up ∙ sym up) t) (cells c).falling) (λ force at. port c force live at) (λ scan at. enable c scan live at)) ∙ m.entries c live in
-    let pass = planned x q m.origin m.shown m.table m.marked values new is up len m.origins (subst S whole m.shows) m.list.closed (λ k up. settled k (m.list.listed k up)) entries m.needed
+    let pass = planned x q m.origin m.shown m.table m.marked values new is up len m.origins (subst R (m.up ∙ sym up) (subst S whole m.shows)) m.list.closed (λ k up. settled k (m.list.listed k up)) entries m.needed
     (by_takings cells q v m.table (length x.flops.items) plan.takings.items old new m.takings olds loose put) in
     record { poss = pass.0; view = pass.1.0; least = pass.1.1.0; each = pass.1.1.1 }
 
@@ -128,7 +129,7 @@ passed x clocks pins plan q values old new is pinned m up among past olds loose 
 
 pub plan_made : (x : Circuit) (clocks : List NetId) (pins : Pins) (p : Pulse) (values : List Tri) (origin : ℕ → Option ℕ) (shown : ℕ → Shown) (table : ℕ → Entry) (old mid new : Plan) →
     (up : p.rising ≡ true) → (was : IsPlan x clocks pins old) → IsFilled x table old mid → IsNoted clocks pins p (value_at values) Made mid new → (size : length values ≡ length x.ops.items) → (past : ((k : ℕ) → length x.ops.items ≤ k → p.ports k ≡ Unknown)) →
-    (among : ((e : ℕ) → p.pulsed e ≡ true → Among clocks (length clocks) e)) → (origins : AreOrigins (logic_at x) (λ e. false) origin) → (shows : IsShownOn (logic_at x) (ups p.pulsed) (λ net. true) shown) →
+    (among : ((e : ℕ) → p.pulsed e ≡ true → Among clocks (length clocks) e)) → (origins : AreOrigins (logic_at x) (λ e. false) origin) → (shows : IsShownOn (logic_at x) (edges_of p.rising p.pulsed) (λ net. true) shown) →
     (entries : ((c : ℕ) → c < length x.flops.items → entry_for (cell_at (map cell_of x.flops.items) c) p origin shown (value_at values) ≡ Some (table c))) → IsPlan x clocks pins new
 plan_made x clocks pins p values origin shown table old mid new up was f n size past among origins shows entries =
     let lists : length new.list.items ≡ length mid.list.items = ap (λ (v : Vec NetId). length v.items) n.list in

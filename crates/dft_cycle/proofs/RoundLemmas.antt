@@ -11,8 +11,7 @@ use Rattle.dft_netlist.specs.Settled.{TriSources, value_from, IsTriSettled}
 use Rattle.dft_netlist.proofs.Meanings.{source_same}
 use Rattle.dft_logic.specs.declared.circuit.Latch.{Latch}
 use Rattle.dft_logic.specs.declared.circuit.Circuit.{Circuit}
-use Rattle.dft_abstract.specs.Cycle.{Pulse}
-use Rattle.dft_abstract.specs.Rises.{view_sources, AreViews}
+use Rattle.dft_abstract.specs.Cycle.{Pulse, lockup_shown, view_sources, AreViews}
 use Rattle.dft_cycle.specs.Machine.{value_at}
 use Rattle.dft_logic.specs.Circuit.{logic_at, latch_at, IsCircuit}
 use Rattle.dft_cycle.specs.Views.{held_by, Among, rank_of, IsHeld, OwnsLatches}
@@ -21,21 +20,24 @@ use Rattle.dft_logic.proofs.CircuitRanks.{circuit_ranked}
 use Rattle.dft_logic.proofs.Compiled.{latch_live}
 
 -- sources of a view whose lock-ups show held values
-pub record IsHeldView (x : Circuit) (p : Pulse) (poss : ℕ → Tri) (view : ℕ → ℕ → Tri) (d : ℕ) (held : List Tri) (t : TriSources) : Type 0 where
+pub record IsHeldView (x : Circuit) (p : Pulse) (poss : ℕ → Tri) (view : ℕ → ℕ → Tri) (d : ℕ) (held : List Tri) (t : TriSources) (values : ℕ → Tri) : Type 0 where
   pub ports : (k : ℕ) → t.ports k ≡ p.ports k
   pub clocks : (e : ℕ) → t.clocks e ≡ (view_sources (logic_at x) p poss view d).clocks e
   pub flops : (c : ℕ) → t.flops c ≡ (view_sources (logic_at x) p poss view d).flops c
-  pub lockups : (c e : ℕ) (high : Bool) (source : Source) → t.lockups c e high source ≡ value_at held c
+  pub lockups : (c e : ℕ) (high : Bool) (source : Source) → t.lockups c e high source ≡ lockup_shown p.rising (p.pulsed e) (e == d) high (p.old c) (value_from values source) (value_at held c)
 
 -- nets of lower ranks have the view's values
 pub agree : (x : Circuit) (p : Pulse) (poss : ℕ → Tri) (view : ℕ → ℕ → Tri) (d : ℕ) (held : List Tri) (t : TriSources) (values : ℕ → Tri) (r : ℕ) → (is : IsCircuit x) → (views : AreViews (logic_at x) p poss view) →
-    (same : IsHeldView x p poss view d held t) → (settled : IsTriSettled (logic_at x) t values) → (right : IsHeld x view held r) → (fuel k : ℕ) → (less : rank_of x k < fuel) → (low : rank_of x k < r) → values k ≡ view d k
+    (same : IsHeldView x p poss view d held t values) → (settled : IsTriSettled (logic_at x) t values) → (right : IsHeld x view held r) → (fuel k : ℕ) → (less : rank_of x k < fuel) → (low : rank_of x k < r) → values k ≡ view d k
 agree x p poss view d held t values r is views same settled right zero k less low = absurd (omega arith)
 agree x p poss view d held t values r is views same settled right (suc fuel) k less low =
     settled k
     ∙ given_same (rank_of x) t (view_sources (logic_at x) p poss view d) values (view d) k ((logic_at x).net k) same.ports same.clocks same.flops ((circuit_ranked x is).order k)
     (λ n below. agree x p poss view d held t values r is views same settled right fuel n (omega arith) (omega arith))
-    (λ c e high source h below. same.lockups c e high source ∙ right k c e high source h low)
+    (λ c e high source h below.
+    (let here = source_same (rank_of x) (rank_of x k) values (view d) source below (λ n lower. agree x p poss view d held t values r is views same settled right fuel n (omega arith) (omega arith)) in
+    let there = right k c e high source h low in
+    same.lockups c e high source ∙ λ i. lockup_shown p.rising (p.pulsed e) (e == d) high (p.old c) (here i) (there i)))
     ∙ sym (views d k)
 
 -- ---- one lock-up
@@ -88,7 +90,7 @@ pub rises_start : (x : Circuit) (p : Pulse) (poss : ℕ → Tri) (clocks : List 
 rises_start x p poss clocks start = record { at = λ view r views right. (right, λ net c e high source here low among. (let less = among.before in absurd (omega arith))) }
 
 pub rises_more : (x : Circuit) (p : Pulse) (poss : ℕ → Tri) (clocks : List NetId) (start held new values : List Tri) (j d : ℕ) (t : TriSources) → (is : IsCircuit x) →
-    (same : ((view : ℕ → ℕ → Tri) → IsHeldView x p poss view d held t)) → (settled : IsTriSettled (logic_at x) t (value_at values)) →
+    (same : ((view : ℕ → ℕ → Tri) → IsHeldView x p poss view d held t (value_at values))) → (settled : IsTriSettled (logic_at x) t (value_at values)) →
     (each : ((c : ℕ) → c < length x.latches.items → value_at new c ≡ held_by (latch_at x.latches.items c) d (value_at values) (value_at held c))) →
     (here : (get_or clocks j (record { 0 = 0 })).0 ≡ d) → Rises x p poss clocks start held j → Rises x p poss clocks start new (j + 1)
 unfolding logic_at

@@ -7,7 +7,7 @@ use Rattle.dft_netlist.specs.declared.ids.NetId.{NetId}
 use Rattle.dft_netlist.specs.Netlist.{Netlist}
 use Rattle.dft_netlist.specs.Logic.{Ports, Logic, Force, logic_of}
 use Rattle.dft_netlist.specs.Settled.{TriSources, value_from, IsTriSettled}
-use Rattle.dft_abstract.specs.Cycle.{Pulse, IsLeast, after_pulse, falls_after, Halves}
+use Rattle.dft_abstract.specs.Cycle.{Pulse, IsLeast, after_pulse, falls_after, Half, Halves}
 pub use Rattle.dft_logic.specs.Values.{value_at}
 
 pub record Machine : Type 0 where
@@ -80,9 +80,22 @@ pulses [] pulsed e = false
 pulses (clock ∷ clocks) [] e = false
 pulses (clock ∷ clocks) (up ∷ pulsed) e = (up && (clock.0 == e)) || pulses clocks pulsed e
 
--- the rises from the machine's values
+-- a phase of a pulse from the machine's values, and its rises
+abbrev pub phase_from : Machine → (rising : Bool) → (pulsed : List Bool) → Pulse
+phase_from m rising pulsed = record { rising = rising; ports = value_at m.inputs; pulsed = pulses m.clocks pulsed; old = value_at m.cells }
+
 abbrev pub pulse_from : Machine → (pulsed : List Bool) → Pulse
-pulse_from m pulsed = record { rising = true; ports = value_at m.inputs; pulsed = pulses m.clocks pulsed; old = value_at m.cells }
+pulse_from m pulsed = phase_from m true pulsed
+
+-- in the phase the cells that take a value have their next values at the least map
+pub record IsPhase (l : Logic) (m : Machine) (rising : Bool) (pulsed : List Bool) (after : Machine) : Type 0 where
+  pub netlist : after.netlist ≡ m.netlist
+  pub clocks : after.clocks ≡ m.clocks
+  pub inputs : after.inputs ≡ m.inputs
+  pub shown : after.shown ≡ m.shown
+  pub half : Half
+  pub least : IsLeast l (phase_from m rising pulsed) half.poss half.view
+  pub cells : (c : ℕ) → value_at after.cells c ≡ after_pulse l (phase_from m rising pulsed) half.view c
 
 -- in each half the cells that take a value have their next values at the least map
 pub record IsPulsed (l : Logic) (m : Machine) (pulsed : List Bool) (after : Machine) : Type 0 where

@@ -15,7 +15,7 @@ use Rattle.dft_logic.specs.Values.{value_at}
 use Rattle.dft_logic.specs.Circuit.{logic_at, cell_of, cell_at, flag_at, force_nets, AreOrdered}
 use Rattle.dft_logic.specs.EntryTables.{origin_at, scan_needs, entry_for, entry_needs}
 use Rattle.dft_logic.specs.Takings.{AreTakings, is_loose}
-use Rattle.dft_logic.specs.ShownTables.{ups}
+use Rattle.dft_logic.specs.ShownTables.{edges_of}
 use Rattle.dft_cycle.specs.declared.plans.Pins.{Pins}
 use Rattle.dft_cycle.specs.declared.plans.Plan.{Plan}
 use Rattle.dft_cycle.specs.declared.plans.Stage.{Stage}
@@ -64,7 +64,7 @@ pub record IsMade (x : Circuit) (clocks : List NetId) (pins : Pins) (plan : Plan
   pub past : (k : ℕ) → length x.ops.items ≤ k → pulse.ports k ≡ Unknown
   pub key : IsKey clocks pins pulse (value_at values) plan.pulsed.items plan.ports.items plan.enables.items
   pub origins : AreOrigins (logic_at x) (λ e. false) origin
-  pub shows : IsShownOn (logic_at x) (ups pulse.pulsed) (λ net. true) shown
+  pub shows : IsShownOn (logic_at x) (edges_of pulse.rising pulse.pulsed) (λ net. true) shown
   pub entries : (c : ℕ) → c < length x.flops.items → entry_for (cell_at (map cell_of x.flops.items) c) pulse origin shown (value_at values) ≡ Some (table c)
   pub needed : (c : ℕ) → c < length x.flops.items → (k : ℕ) → k < length x.ops.items → Has (entry_needs (cell_at (map cell_of x.flops.items) c) (table c)) k → flag_at marked k ≡ true
   pub list : IsNeedList x marked (take plan.count plan.list.items)

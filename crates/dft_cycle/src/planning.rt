@@ -88,6 +88,7 @@ impl Plans {
         requires circuit { IsCircuit circuit.now }
         requires plans { ArePlans circuit.now clocks.now self.old }
         requires live { place < length self.old.plans.items }
+        requires up { pulse.entry.rising ≡ true }
         requires among { PulsesAmong pulse.pulsed.now clocks.now }
         requires ports { length pulse.ports.now ≡ length circuit.now.ops.items }
         requires values { length values.old ≡ length circuit.now.ops.items }
@@ -121,6 +122,7 @@ impl Plans {
     ) -> Option<usize>
         requires circuit { IsCircuit circuit.now }
         requires plans { ArePlans circuit.now clocks.now self.old }
+        requires up { pulse.entry.rising ≡ true }
         requires among { PulsesAmong pulse.pulsed.now clocks.now }
         requires ports { length pulse.ports.now ≡ length circuit.now.ops.items }
         requires values { length values.old ≡ length circuit.now.ops.items }
@@ -175,6 +177,7 @@ impl Plans {
         ensures same { result ≡ false → cells.new ≡ cells.old }
     {
         let pulse = Pulse {
+            rising: true,
             ports,
             pulsed,
             old: cells,

@@ -7,7 +7,7 @@ ghost use Rattle.dft_logic.specs.Values as spec;
 ghost use Rattle.dft_logic.specs.Circuit.{IsCircuit, logic_at, cell_of, cell_at, flag_at as is_up, pulse_at};
 ghost use Rattle.dft_logic.specs.Shows.{IsShownOn};
 ghost use Rattle.dft_logic.specs.Takes.{AreOrigins};
-ghost use Rattle.dft_logic.specs.ShownTables.{shown_at, ups};
+ghost use Rattle.dft_logic.specs.ShownTables.{shown_at, edges_of};
 ghost use Rattle.dft_logic.specs.EntryTables.{origin_at, entry_for, entry_needs, entry_at};
 ghost use Rattle.dft_cycle.specs.declared.plans.Stage.TheVariants.{Noted, Made};
 ghost use Rattle.dft_cycle.specs.Views.{PulsesAmong};
@@ -135,11 +135,17 @@ fn draw(
     requires values { length values.old ≡ length circuit.now.ops.items }
     requires shown { length shown.old ≡ length circuit.now.ops.items }
     requires entries { length entries.old ≡ length circuit.now.flops.items }
-    ensures shows { IsShownOn (logic_at circuit.now) (ups (is_up pulse.entry.pulsed.now)) (λ net. true) (shown_at shown.new) }
+    ensures shows { IsShownOn (logic_at circuit.now) (edges_of pulse.entry.rising (is_up pulse.entry.pulsed.now)) (λ net. true) (shown_at shown.new) }
     ensures entries { result ≡ true → (c : ℕ) → c < length circuit.now.flops.items → entry_for (cell_at (map cell_of circuit.now.flops.items) c) (pulse_at pulse.entry) (origin_at origins.now) (shown_at shown.new) (spec.value_at values.new) ≡ Some (entry_at entries.new c) }
 {
-    settle(circuit, &strobe_view(pulse), values);
-    show_all(circuit, pulse.pulsed, shown);
+    let strobe = Pulse {
+        rising: false,
+        ports: pulse.ports,
+        pulsed: &[],
+        old: pulse.old,
+    };
+    settle(circuit, &strobe_view(strobe), values);
+    show_all(circuit, pulse.rising, pulse.pulsed, shown);
     let sights = Sights { origins, shown };
     find_entries(&circuit.flops, pulse, &sights, values, entries)
 }
@@ -214,6 +220,7 @@ impl Plan {
         marked: &mut [bool],
     )
         requires circuit { IsCircuit circuit.now }
+        requires up { pulse.entry.rising ≡ true }
         requires among { PulsesAmong pulse.pulsed.now clocks.now }
         requires ports { length pulse.ports.now ≡ length circuit.now.ops.items }
         requires origins { AreOrigins (logic_at circuit.now) (λ e. false) (origin_at origins.now) }
@@ -263,6 +270,7 @@ impl Plan {
         }
         settle_strobe(circuit, ports, cells, &self.list[..self.count], values);
         let pulse = Pulse {
+            rising: true,
             ports,
             pulsed,
             old: cells,

@@ -1,22 +1,19 @@
 -- The place of a net in a circuit's order is above the places of the nets that its value is settled from.
-use Rattle.std.proofs.Common.{ℕ, suc, Bool, true, false, List, [], ◌∷◌, ◌≡◌, ◌<◌, ◌+◌, ◌⊎◌, inl, inr, ◌==◌, length, refl, sym, ap, ◌∙◌, subst, arith, zero, map}
-use Rattle.std.specs.Prelude.{if◌then◌else◌, slice_index_or}
+use Rattle.std.proofs.Common.{ℕ, suc, Bool, true, false, List, [], ◌∷◌, ◌≡◌, ◌<◌, ◌+◌, ◌⊎◌, inl, inr, ◌==◌, length, refl, sym, ap, ◌∙◌, subst, arith}
+use Rattle.std.specs.Prelude.{if◌then◌else◌}
 use Rattle.std.specs.List.{AllByRecursion}
 use Rattle.std.proofs.lemmas.Bool.Decides.{eqb_tells, leb_tells}
 use Rattle.std.proofs.lemmas.List.{get_or_past, length-map}
 use Rattle.dft_netlist.specs.declared.ids.NetId.{NetId}
 use Rattle.dft_netlist.specs.Drivers.{AreBelow}
-use Rattle.dft_netlist.specs.Logic.{reads, IsRanked, no_cell, IsRising}
+use Rattle.dft_netlist.specs.Logic.{reads, IsRanked}
 use Rattle.dft_netlist.specs.Orders.{Has, numbers_of}
 use Rattle.dft_logic.specs.declared.circuit.Op.{Op}
 use Rattle.dft_logic.specs.declared.circuit.Op.TheVariants as op
 use Rattle.dft_logic.specs.declared.circuit.Circuit.{Circuit}
-use Rattle.dft_logic.specs.Circuit.{meaning, op_at, logic_at, AreOrdered, IsCircuit, cell_of}
+use Rattle.dft_logic.specs.Circuit.{meaning, op_at, logic_at, AreOrdered, IsCircuit}
 use Rattle.dft_logic.specs.Ranks.{rank_from, rank_of}
 use Rattle.dft_logic.proofs.Settlings.{all_more}
-use Rattle.dft_logic.specs.declared.circuit.FlipFlop.{FlipFlop}
-use Rattle.dft_abstract.specs.Cycle.{Pulse}
-use Rattle.dft_abstract.proofs.Rises.{IsRise}
 
 -- the ranks of the nets so far
 pub record Ranking (ops : List Op) (before : List ℕ) (next : ℕ) (rank : ℕ → ℕ) : Type 0 where
@@ -113,16 +110,3 @@ circuit_order x is k =
 pub circuit_ranked : (x : Circuit) → IsCircuit x → IsRanked (logic_at x) (rank_of x)
 unfolding logic_at
 circuit_ranked x is = record { order = circuit_order x is; lockups = is.stored }
-
--- all its cells take their bits at rises
-rises_in : (flops : List FlipFlop) (c d : ℕ) → (slice_index_or (map cell_of flops) c (no_cell d)).falling ≡ false
-rises_in [] c d = refl
-rises_in (f ∷ flops) zero d = refl
-rises_in (f ∷ flops) (suc c) d = rises_in flops c d
-
-pub circuit_rises : (x : Circuit) → IsRising (logic_at x)
-unfolding logic_at
-circuit_rises x c = rises_in x.flops.items c c
-
-pub circuit_rise : (x : Circuit) (p : Pulse) → IsCircuit x → p.rising ≡ true → IsRise (logic_at x) (rank_of x) p
-circuit_rise x p is up = record { ranked = circuit_ranked x is; cells = circuit_rises x; up = up }

@@ -137,7 +137,7 @@ fits_by op.Input m e f = tt
 fits_by op.Clock m e f = tt
 fits_by (op.Joined source) m e f = tt
 fits_by (op.Flop i inverted) m e f = tt
-fits_by (op.Lockup i d source) m e f = tt
+fits_by (op.Lockup i d high source) m e f = tt
 fits_by op.Free m e f = tt
 
 -- what the roles of a gate are

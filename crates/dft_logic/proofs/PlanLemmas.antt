@@ -28,7 +28,7 @@ use Rattle.dft_logic.proofs.EntryLemmas.{pass_of_needed}
 use Rattle.dft_logic.proofs.CircuitRanks.{circuit_ranked}
 use Rattle.dft_logic.specs.EntryTables.{scan_needs, entry_needs, entry_for}
 use Rattle.dft_logic.proofs.Writings.{cell_past}
-use Rattle.dft_logic.specs.ShownTables.{ups}
+use Rattle.dft_logic.specs.ShownTables.{edges_of}
 
 -- ---- what a flip-flop needs
 
@@ -165,7 +165,7 @@ before_rises up false is = absurd cc
 
 -- What the parts give comes to the rises at a least map.
 pub planned : (x : Circuit) (p : Pulse) (origin : ℕ → Option ℕ) (shown : ℕ → Shown) (table : ℕ → Entry) (marked : List Bool) (values next : List Tri) → (is : IsCircuit x) → (rises : p.rising ≡ true) → (len : length values ≡ length x.ops.items) →
-    (origins : AreOrigins (logic_at x) (λ e. false) origin) → (on : IsShownOn (logic_at x) (ups p.pulsed) (λ net. true) shown) → (closed : IsStrobeClosed (logic_at x) (flag_at marked)) → (settled : IsStrobeOn (logic_at x) p.ports p.old (flag_at marked) (value_at values)) →
+    (origins : AreOrigins (logic_at x) (λ e. false) origin) → (on : IsShownOn (logic_at x) (edges_of p.rising p.pulsed) (λ net. true) shown) → (closed : IsStrobeClosed (logic_at x) (flag_at marked)) → (settled : IsStrobeOn (logic_at x) p.ports p.old (flag_at marked) (value_at values)) →
     (has : ((c : ℕ) → c < length x.flops.items → entry_for (cell_at (map cell_of x.flops.items) c) p origin shown (value_at values) ≡ Some (table c))) →
     (marks : ((c : ℕ) → c < length x.flops.items → (k : ℕ) → k < length x.ops.items → Has (entry_needs (cell_at (map cell_of x.flops.items) c) (table c)) k → flag_at marked k ≡ true)) →
     (gives : ((c : ℕ) → c < length x.flops.items → value_at next c ≡ entry_value p.old (value_at values) (next_at (cell_at (map cell_of x.flops.items) c) p.ports (value_at values)) c (table c))) →
@@ -202,8 +202,7 @@ planned x p origin shown table marked values next is rises len origins on closed
     let low : (λ (e : ℕ). false) ≡ level_before p = λ i e. before_rises (p.pulsed e) p.rising rises i in
     let O : (ℕ → Bool) → Type 0 = λ level. AreOrigins (logic_at x) level origin in
     let S : (ℕ → Bool) → Type 0 = λ level. IsStillOn (logic_at x) level p.ports p.old (needs_of count marked) v in
-    let N : Bool → Type 0 = λ up. IsShownOn (logic_at x) (record { rising = up; ports = λ k. Unknown; pulsed = p.pulsed; old = λ c. Unknown }) (λ net. true) shown in
-    let pass = pass_of_needed (logic_at x) (rank_of x) p origin shown (needs_of count marked) v entries (circuit_ranked x is) (subst O low origins) (subst N (sym rises) on) (needs_closed x marked closed) (subst S low (needs_on x p.ports p.old marked values len settled))
+    let pass = pass_of_needed (logic_at x) (rank_of x) p origin shown (needs_of count marked) v entries (circuit_ranked x is) (subst O low origins) on (needs_closed x marked closed) (subst S low (needs_on x p.ports p.old marked values len settled))
     given enables reading computing in (
       pass.0,
       (

@@ -45,6 +45,7 @@ pub fn settle_strobe(
     ensures { (k : ℕ) → Has (numbers_of nets.now) k → spec.value_at values.new k ≡ value_given (strobe_from (spec.value_at ports.now) (spec.value_at cells.now) (spec.value_at values.new)) (spec.value_at values.new) k (meaning (op_at circuit.now.ops.items k)) }
 {
     let pulse = Pulse {
+        rising: false,
         ports,
         pulsed: &[],
         old: cells,

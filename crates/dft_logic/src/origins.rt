@@ -1,4 +1,4 @@
-//! Which flip-flop a net shows at a strobe through joins and lock-ups.
+//! Which flip-flop or high lock-up a net shows at a strobe through joins and low lock-ups.
 
 ghost use Rattle.std.specs.Prelude.{◌≡◌, false, length};
 ghost use Rattle.dft_logic.specs.Takes.{origin_of, origin_given, AreOrigins};
@@ -37,7 +37,11 @@ fn op_origin(op: &Op, origins: &[Option<InstanceId>]) -> Option<InstanceId>
     match op {
         Op::Joined(source) => operand_origin(source, origins),
         Op::Flop(instance, inverted) => if *inverted { None } else { Some(*instance) },
-        Op::Lockup(_, _, source) => operand_origin(source, origins),
+        Op::Lockup(instance, _, high, source) => if *high {
+            Some(*instance)
+        } else {
+            operand_origin(source, origins)
+        },
         Op::Input => None,
         Op::Clock => None,
         Op::Gate(_, _) => None,

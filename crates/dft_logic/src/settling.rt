@@ -1,10 +1,13 @@
 //! The settled values of all nets, in an order.
 
-ghost use Rattle.std.specs.Prelude.{◌≡◌, ℕ, ◌<◌, ◌≤◌, length, map, take, true, false, None, ◌==◌, if◌then◌else◌};
+ghost use Rattle.std.specs.Prelude.{◌≡◌, ℕ, ◌<◌, ◌≤◌, length, map, take, true, false, ◌==◌, ◌&&◌, if◌then◌else◌};
 ghost use Rattle.dft_netlist.specs.Settled.{value_from, value_given, IsTriSettled};
 ghost use Rattle.dft_netlist.specs.Settled as settled;
+ghost use Rattle.dft_netlist.specs.Runs as runs;
+ghost use Rattle.dft_abstract.specs.Cycle as cycle;
+ghost use Rattle.dft_abstract.specs.Cycle.{clock_value};
 ghost use Rattle.dft_logic.specs.Values as spec;
-ghost use Rattle.dft_logic.specs.Circuit.{source_at, meaning, op_at, logic_at, Fits, IsCircuit, leaves_from, cell_of, cell_at, view_base, held_in};
+ghost use Rattle.dft_logic.specs.Circuit.{source_at, meaning, op_at, logic_at, Fits, IsCircuit, leaves_from, cell_of, cell_at, view_base};
 ghost use Rattle.dft_logic.specs.Circuit as circuits;
 
 use crate::circuit::{Circuit, FlipFlop, Op, Operand};
@@ -46,34 +49,35 @@ pub fn differ(one: Tri, other: Tri) -> bool
     }
 }
 
-/// A pulse of some domains: the values of ports by net, the clocks that pulse by net, and the values of flip-flops
-/// before, by instance.
+/// A phase of a pulse of some domains, its clocks rise or they fall: the values of ports by net, the clocks that pulse by
+/// net, and the values of flip-flops and lock-ups before, by instance.
 #[derive(Clone, Copy)]
 pub struct Pulse<'a> {
+    pub rising: bool,
     pub ports: &'a [Tri],
     pub pulsed: &'a [bool],
     pub old: &'a [Tri],
 }
 
-/// The view of a domain in a pulse: what flip-flops of other pulsed domains may have, and what lock-ups show, by
-/// instance, where they are no wires.
+/// The view of a domain in a phase: what flip-flops of other pulsed domains may have, and what lock-ups show that take
+/// their bits in it, by instance.
 #[derive(Clone, Copy)]
 pub struct View<'p, 'q, 'h> {
     pub pulse: Pulse<'p>,
     pub domain: NetId,
     pub poss: &'q [Tri],
-    pub held: Option<&'h [Tri]>,
+    pub held: &'h [Tri],
 }
 
-/// The view of a strobe: lock-ups are wires.
+/// A view where no clock pulses. That of the falls is a strobe's.
 pub fn strobe_view(pulse: Pulse<'_>) -> View<'_, '_, '_>
-    ensures { result ≡ record { pulse = pulse.entry; domain = record { 0 = 0 }; poss = pulse.entry.old; held = None } }
+    ensures { result ≡ record { pulse = pulse.entry; domain = record { 0 = 0 }; poss = pulse.entry.old; held = pulse.entry.old } }
 {
     View {
         pulse,
         domain: NetId(0),
         poss: pulse.old,
-        held: None,
+        held: pulse.old,
     }
 }
 
@@ -87,15 +91,45 @@ pub(crate) fn domain_at(flops: &[FlipFlop], instance: u32) -> NetId
     }
 }
 
+// Whether a cell takes its bit where clocks rise, or where they fall.
+pub(crate) fn takes(rising: bool, falling: bool) -> bool
+    ensures { result ≡ runs.takes rising falling }
+{
+    if rising { !falling } else { falling }
+}
+
+// Whether the flip-flop of an instance takes a value in a phase.
+pub(crate) fn changes_at(flops: &[FlipFlop], rising: bool, pulsed: &[bool], instance: u32) -> bool
+    ensures { result ≡ circuits.flag_at pulsed.now (cell_at (map cell_of flops.now) instance).domain && runs.takes rising (cell_at (map cell_of flops.now) instance).falling }
+{
+    match flops.get(instance as usize) {
+        Some(flop) => flop.changes(rising, pulsed),
+        None => flag_at(pulsed, 0) && takes(rising, false),
+    }
+}
+
+impl FlipFlop {
+    /// Whether it takes a value in a phase where these clocks pulse.
+    pub fn changes(&self, rising: bool, pulsed: &[bool]) -> bool
+        ensures { result ≡ circuits.flag_at pulsed.now (cell_of self.now).domain && runs.takes rising (cell_of self.now).falling }
+    {
+        flag_at(pulsed, self.domain.0) && takes(rising, self.falling)
+    }
+}
+
 impl View<'_, '_, '_> {
     // The value of a clock.
     fn clock(&self, net: NetId) -> Tri
-        ensures { result ≡ (if circuits.flag_at self.now.pulse.pulsed.now net.0 then (if net.0 == self.now.domain.0 then Tri.Zero else Tri.Unknown) else Tri.Zero) }
+        ensures { result ≡ clock_value (circuits.pulse_at self.now.pulse) self.now.domain.0 net.0 }
     {
-        if flag_at(self.pulse.pulsed, net.0) && net.0 != self.domain.0 {
-            Tri::Unknown
-        } else {
+        if !flag_at(self.pulse.pulsed, net.0) {
             Tri::Zero
+        } else if net.0 != self.domain.0 {
+            Tri::Unknown
+        } else if self.pulse.rising {
+            Tri::Zero
+        } else {
+            Tri::One
         }
     }
 
@@ -103,12 +137,53 @@ impl View<'_, '_, '_> {
     fn flop(&self, flops: &[FlipFlop], instance: u32) -> Tri
         ensures { result ≡ (view_base (map cell_of flops.now) self.now).flops instance }
     {
-        let domain = domain_at(flops, instance);
-        if flag_at(self.pulse.pulsed, domain.0) && domain.0 != self.domain.0 {
+        let moved = changes_at(flops, self.pulse.rising, self.pulse.pulsed, instance);
+        if moved && domain_at(flops, instance).0 != self.domain.0 {
             value_at(self.poss, instance)
         } else {
             value_at(self.pulse.old, instance)
         }
+    }
+
+    // What a lock-up shows that takes its bit in the phase.
+    fn closing(&self, up: bool, instance: u32) -> Tri
+        ensures { result ≡ cycle.closing self.now.pulse.rising up (spec.value_at self.now.pulse.old.now instance) (spec.value_at self.now.held.now instance) }
+    {
+        if self.pulse.rising || up {
+            value_at(self.held, instance)
+        } else {
+            value_at(self.pulse.old, instance)
+        }
+    }
+
+    // What the lock-up of an instance and a clock shows, by the value of its input.
+    fn lockup(&self, instance: u32, clock: NetId, high: bool, input: Tri) -> Tri
+        ensures { result ≡ cycle.lockup_shown self.now.pulse.rising (circuits.flag_at self.now.pulse.pulsed.now clock.0) (clock.0 == self.now.domain.0) high (spec.value_at self.now.pulse.old.now instance) input (spec.value_at self.now.held.now instance) }
+    {
+        let up = flag_at(self.pulse.pulsed, clock.0);
+        if takes(self.pulse.rising, high) {
+            self.closing(up, instance)
+        } else {
+            opening(
+                up,
+                clock.0 == self.domain.0,
+                high,
+                value_at(self.pulse.old, instance),
+                input,
+            )
+        }
+    }
+}
+
+// What another lock-up shows, by what it holds and the value of its input.
+fn opening(up: bool, own: bool, high: bool, held: Tri, input: Tri) -> Tri
+    ensures { result ≡ cycle.opening up own high held input }
+{
+    match (up, own, high) {
+        (true, true, _) => held,
+        (true, false, _) => held.join(input),
+        (false, _, true) => held,
+        (false, _, false) => input,
     }
 }
 
@@ -155,7 +230,7 @@ pub fn op_value(
     values: &[Tri],
 ) -> Tri
     requires { Fits op.now }
-    ensures { result ≡ value_given (leaves_from (view_base (map cell_of flops.now) view.now) (held_in view.now) (spec.value_at values.now)) (spec.value_at values.now) net.0 (meaning op.now) }
+    ensures { result ≡ value_given (leaves_from (view_base (map cell_of flops.now) view.now) (spec.value_at values.now)) (spec.value_at values.now) net.0 (meaning op.now) }
 {
     match op {
         Op::Input => value_at(view.pulse.ports, net.0),
@@ -168,10 +243,9 @@ pub fn op_value(
         }
         Op::Joined(source) => source.value(values),
         Op::Flop(instance, inverse) => inverted(view.flop(flops, instance.0), *inverse),
-        Op::Lockup(instance, _, source) => match view.held {
-            Some(held) => value_at(held, instance.0),
-            None => source.value(values),
-        },
+        Op::Lockup(instance, clock, high, source) => {
+            view.lockup(instance.0, *clock, *high, source.value(values))
+        }
         Op::Free => Tri::Unknown,
     }
 }
@@ -180,7 +254,7 @@ pub fn op_value(
 pub fn settle(circuit: &Circuit, view: &View<'_, '_, '_>, values: &mut [Tri])
     requires circuit { IsCircuit circuit.now }
     requires values { length values.old ≡ length circuit.now.ops.items }
-    ensures { IsTriSettled (logic_at circuit.now) (leaves_from (view_base (map cell_of circuit.now.flops.items) view.now) (held_in view.now) (spec.value_at values.new)) (spec.value_at values.new) }
+    ensures { IsTriSettled (logic_at circuit.now) (leaves_from (view_base (map cell_of circuit.now.flops.items) view.now) (spec.value_at values.new)) (spec.value_at values.new) }
 {
     for net in &circuit.order {
         let value = op_value(

@@ -1,15 +1,15 @@
 -- The calls for a vector come to its round: inputs are set, nets are looked at, clocks pulse.
 use Rattle.std.proofs.Common.{ℕ, Bool, List, ◌≡◌, Option, length, map, refl, sym, ap, ◌∙◌, subst, true, false}
+use Rattle.std.specs.Prelude.{if◌then◌else◌}
 use Rattle.dft_base.specs.declared.tri.Tri.{Tri}
+use Rattle.dft_base.specs.declared.tri.Tri.TheVariants.{Zero}
 use Rattle.dft_netlist.specs.declared.ids.NetId.{NetId}
 use Rattle.dft_netlist.specs.Logic.{Logic}
 use Rattle.dft_netlist.specs.Orders.{numbers_of}
 use Rattle.dft_netlist.specs.Runs.{Vector}
-use Rattle.dft_netlist.specs.Settled.{TriSources, IsTriSettled}
-use Rattle.dft_netlist.proofs.StoredLemmas.{logic_rises}
+use Rattle.dft_netlist.specs.Settled.{TriSources, value_from, is_wire, IsTriSettled}
 use Rattle.dft_netlist.proofs.Ranks.{order_is_rank}
 use Rattle.dft_abstract.specs.Cycle.{Pulse, tri_forced_by, after_pulse, IsLeast, rise_of, falls_after, strobe_sources, after_halves, Round, IsRound, after_round}
-use Rattle.dft_abstract.proofs.Rises.{low_settled}
 use Rattle.dft_logic.specs.Needs.{IsStrobe, strobe_from}
 use Rattle.dft_logic.proofs.ShownLemmas.{still_there}
 use Rattle.dft_cycle.specs.Machine.{Machine, value_at, logic, pulses, pulse_from, ports_of, IsPulsed}
@@ -33,10 +33,14 @@ record IsLooked (start set after : Machine) (x : Vector) (shown : ℕ → Tri) :
   pub cells : (c : ℕ) → value_at after.cells c ≡ after_round (logic start) x (value_at start.cells) round c
   pub forced : IsForced after
 
-looked_round : (start set after : Machine) (x : Vector) (pulsed : List Bool) (shown : ℕ → Tri) → HasRanks start.netlist → StandsSince start set → ((net : ℕ) → value_at set.inputs net ≡ x.ports net) → ((e : ℕ) → pulses set.clocks pulsed e ≡ x.pulsed e) →
+same_lockup : (high : Bool) (held new input : Tri) → held ≡ new → (if is_wire high false then input else held) ≡ (if high then new else input)
+same_lockup true held new input same = same
+same_lockup false held new input same = refl
+
+looked_round : (start set after : Machine) (x : Vector) (pulsed : List Bool) (shown : ℕ → Tri) → StandsSince start set → ((net : ℕ) → value_at set.inputs net ≡ x.ports net) → ((e : ℕ) → pulses set.clocks pulsed e ≡ x.pulsed e) →
     IsStrobe (logic set) (value_at set.inputs) (value_at set.cells) shown → IsPulsed (logic set) set pulsed after → IsLooked start set after x shown
 unfolding logic
-looked_round start set after x pulsed shown ranks stands ports ups settled pulse =
+looked_round start set after x pulsed shown stands ports ups settled pulse =
     let l : Logic = logic start in
     let one = same_logic start set stands.netlist stands.clocks in
     let three = same_logic start after (pulse.netlist ∙ stands.netlist) (pulse.clocks ∙ stands.clocks) in
@@ -44,10 +48,10 @@ looked_round start set after x pulsed shown ranks stands ports ups settled pulse
     let p : Pulse = rise_of l x old in
     let inputs : value_at set.inputs ≡ x.ports = λ i k. ports k i in
     let cell : (c : ℕ) → value_at set.cells c ≡ p.old c = λ c. stands.cells c ∙ ap (λ (f : ℕ → Tri). tri_forced_by (l.cell c).force f (old c)) inputs in
-    let ranked = order_is_rank start.netlist (ports_of start.clocks) ranks.0 ranks.1 in
     let wires : TriSources = strobe_from (value_at set.inputs) (value_at set.cells) shown in
-    let strobe : IsTriSettled l (strobe_sources l x old shown) shown =
-    low_settled l ranks.0 wires (strobe_sources l x old shown) shown ranked (logic_rises start.netlist (ports_of start.clocks)) (λ k. ports k) (λ e. refl) cell (λ c e source. refl) (subst (λ (k : Logic). IsTriSettled k wires shown) one settled) in
+    let from : wires ≡ strobe_sources l x old shown = λ i. record { ports = inputs i; clocks = λ e. Zero; flops = λ c. cell c i; lockups = λ c e high source. same_lockup high (value_at set.cells c) (p.old c) (value_from shown source) (cell c) i } in
+    let S : TriSources → Type 0 = λ t. IsTriSettled l t shown in
+    let strobe : IsTriSettled l (strobe_sources l x old shown) shown = subst S from (subst (λ (k : Logic). IsTriSettled k wires shown) one settled) in
     let q : Pulse = pulse_from set pulsed in
     let qp : q ≡ p = λ i. record { rising = true; ports = inputs i; pulsed = λ e. ups e i; old = λ c. cell c i } in
     let P : Logic → Pulse → Type 0 = λ k u. IsLeast k u pulse.halves.rise.poss pulse.halves.rise.view × (IsLeast k (falls_after k u pulse.halves.rise.view) pulse.halves.fall.poss pulse.halves.fall.view
@@ -83,7 +87,7 @@ played start set after nets clocks pulsed acts vector wanted asked decision rank
     let ups : (e : ℕ) → pulses set.clocks pulsed e ≡ x.vector.pulsed e = λ e.
     (λ t. pulses (stands.clocks t) (marked t) e) ∙ clocks_marked start nets clocks acts e differ same are in
     let settled = settled_exists set (subst HasRanks (sym stands.netlist) ranks) in
-    let r = looked_round start set after x.vector pulsed settled.0 ranks stands inputs ups settled.1 pulse in
+    let r = looked_round start set after x.vector pulsed settled.0 stands inputs ups settled.1 pulse in
     record {
       netlist = pulse.netlist ∙ stands.netlist;
       clocks = pulse.clocks ∙ stands.clocks;

@@ -1,7 +1,7 @@
 -- So many levels of lock-ups are held.
 use Rattle.std.proofs.Common.{ℕ, ◌≡◌, false}
 use Rattle.dft_base.specs.declared.tri.Tri.{Tri}
-use Rattle.dft_abstract.specs.Rises.{AreViews}
+use Rattle.dft_abstract.specs.Cycle.{AreViews}
 use Rattle.dft_cycle.specs.Machine.{value_at}
 use Rattle.dft_logic.specs.Circuit.{IsReady, flag_at, logic_at, pulse_at}
 use Rattle.dft_cycle.specs.Views.{IsHeld}

@@ -1,7 +1,7 @@
 -- The flip-flops of the domains so far have their next values, and all nets are settled in the view of the last.
 use Rattle.std.proofs.Common.{ℕ, ◌≡◌, ◌<◌, false, length}
 use Rattle.dft_base.specs.declared.tri.Tri.{Tri}
-use Rattle.dft_abstract.specs.Rises.{AreViews}
+use Rattle.dft_abstract.specs.Cycle.{AreViews}
 use Rattle.dft_cycle.specs.Machine.{value_at}
 use Rattle.dft_logic.specs.Circuit.{GivenIn, logic_at, pulse_at, flag_at}
 use Rattle.dft_cycle.specs.Views.{IsHeld, HasNext}

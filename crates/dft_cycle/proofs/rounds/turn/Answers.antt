@@ -1,7 +1,7 @@
 -- A turn stays below all closed maps, and one that changes nothing has the next values.
-use Rattle.std.proofs.Common.{List, ◌≡◌, ◌∙◌, inl, inr, subst, refl}
+use Rattle.std.proofs.Common.{List, ◌≡◌, ◌∙◌, inl, inr, subst}
 use Rattle.dft_base.specs.declared.tri.Tri.{Tri}
-use Rattle.dft_abstract.specs.Rises.{AreViews}
+use Rattle.dft_abstract.specs.Cycle.{AreViews}
 use Rattle.dft_cycle.specs.Machine.{value_at}
 use Rattle.dft_logic.specs.Circuit.{logic_at, pulse_at}
 use Rattle.dft_cycle.proofs.AloneLemmas.{turn_alone}
@@ -16,7 +16,7 @@ returns-clause-above c =
 pub returns-clause-below : goal.returns-clause-below
 unfolding logic_at
 returns-clause-below c =
-    turn_below c.args.circuit.now (pulse_at c.args.pulse) c.args.clocks.now c.next_values.new.next c.args.poss.now c.raise-changed.new.poss c.requires.circuit refl c.requires.poss c.raise-changed.auto.poss
+    turn_below c.args.circuit.now (pulse_at c.args.pulse) c.args.clocks.now c.next_values.new.next c.args.poss.now c.raise-changed.new.poss c.requires.circuit c.requires.poss c.raise-changed.auto.poss
     (rw c.deref.ensures.value at c.raise-changed.ensures.each) c.requires.pulsing (λ view views. c.next_values.ensures.next view views (c.hold_lockups.ensures.held view views))
 
 pub returns-clause-done : goal.returns-clause-done
