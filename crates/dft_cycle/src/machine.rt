@@ -201,19 +201,20 @@ impl<'a> AbstractMachine<'a> {
         requires { length pulsed.now ≡ length self.old.clocks }
         ensures { IsPulsed (logic self.old) self.old pulsed.now self.new }
     {
-        self.rise(pulsed);
+        self.phase(true, pulsed);
         self.fall(pulsed);
     }
 
-    // The rises of a pulse.
-    fn rise(&mut self, pulsed: &[bool])
+    // A phase of a pulse, by a plan or by the views.
+    fn phase(&mut self, rising: bool, pulsed: &[bool])
         requires { length pulsed.now ≡ length self.old.clocks }
-        ensures { IsPhase (logic self.old) self.old true pulsed.now self.new }
+        ensures { IsPhase (logic self.old) self.old rising pulsed.now self.new }
     {
         mark(&self.clocks, pulsed, &mut self.pulsed);
         let taken = self.plans.take(
             &self.circuit,
             &self.clocks,
+            rising,
             &self.inputs,
             &self.pulsed,
             &mut self.quick,
@@ -222,11 +223,11 @@ impl<'a> AbstractMachine<'a> {
             &mut self.cells,
         );
         if !taken {
-            self.phase(true, pulsed);
+            self.phase_by_views(rising, pulsed);
         }
     }
 
-    // Its falls. Nothing changes where every flip-flop takes its bit at a rise.
+    // The falls of a pulse. Nothing changes where every flip-flop takes its bit at a rise.
     fn fall(&mut self, pulsed: &[bool])
         requires { length pulsed.now ≡ length self.old.clocks }
         ensures { IsPhase (logic self.old) self.old false pulsed.now self.new }
@@ -237,7 +238,7 @@ impl<'a> AbstractMachine<'a> {
     }
 
     // A phase by the views of all domains and the least map.
-    fn phase(&mut self, rising: bool, pulsed: &[bool])
+    fn phase_by_views(&mut self, rising: bool, pulsed: &[bool])
         requires { length pulsed.now ≡ length self.old.clocks }
         ensures { IsPhase (logic self.old) self.old rising pulsed.now self.new }
     {

@@ -1,5 +1,5 @@
 -- From what the parts of a fast pulse give to the pulse.
-use Rattle.std.proofs.Common.{ℕ, Bool, true, false, List, [], ◌∷◌, ◌≡◌, ◌<◌, ◌≤◌, ◌++◌, ◌⊎◌, inl, inr, length, map, refl, sym, ap, ◌∙◌, subst, Option, None, Some, true≢false, arith, not, ◌&&◌}
+use Rattle.std.proofs.Common.{ℕ, Bool, true, false, List, [], ◌∷◌, ◌≡◌, ◌<◌, ◌≤◌, ◌++◌, ◌⊎◌, inl, inr, length, map, refl, sym, ap, ◌∙◌, subst, Option, None, Some, true≢false, arith, ◌&&◌}
 use Rattle.std.specs.Prelude.{◌||◌, if◌then◌else◌}
 use Rattle.std.proofs.Math.Dec.{leb}
 use Rattle.std.proofs.lemmas.Bool.Decides.{leb_tells}
@@ -13,7 +13,7 @@ use Rattle.dft_netlist.specs.Settled.{value_from, value_given}
 use Rattle.dft_netlist.specs.Orders.{Has}
 use Rattle.dft_netlist.specs.Runs.{takes}
 use Rattle.dft_abstract.specs.Cycle.{Pulse, IsLeast, after_pulse, level_before}
-use Rattle.dft_logic.specs.Needs.{HasAll, IsStrobeClosed, IsStrobeOn, strobe_from, chosen_reads, taken_reads, reads_at, forced_reads, next_reads, IsStillOn}
+use Rattle.dft_logic.specs.Needs.{HasAll, IsStrobeClosed, still_from, chosen_reads, taken_reads, reads_at, forced_reads, next_reads, IsStillOn, IsBeforeOn}
 use Rattle.dft_logic.specs.Takes.{AreOrigins}
 use Rattle.dft_logic.specs.Shows.{Shown, IsShownOn}
 use Rattle.dft_logic.specs.Entries.{Entry, Keeps, Takes, Follows, Reads, Computes, entry_value}
@@ -121,13 +121,13 @@ needs_closed x marked closed k need = elim (leb_tells (length x.ops.items) k) [
   | inr live ↦ all_needs (length x.ops.items) marked (reads (meaning (op_at x.ops.items k))) (closed k (or_only (flag_at marked k) (leb (length x.ops.items) k) live.0 need))
 ]
 
-pub needs_on : (x : Circuit) (ports flops : ℕ → Tri) (marked : List Bool) (values : List Tri) → length values ≡ length x.ops.items → IsStrobeOn (logic_at x) ports flops (flag_at marked) (value_at values) →
-    IsStrobeOn (logic_at x) ports flops (needs_of (length x.ops.items) marked) (value_at values)
+pub needs_on : (x : Circuit) (level : ℕ → Bool) (ports flops : ℕ → Tri) (marked : List Bool) (values : List Tri) → length values ≡ length x.ops.items → IsStillOn (logic_at x) level ports flops (flag_at marked) (value_at values) →
+    IsStillOn (logic_at x) level ports flops (needs_of (length x.ops.items) marked) (value_at values)
 unfolding logic_at
-needs_on x ports flops marked values len on k need = elim (leb_tells (length x.ops.items) k) [
+needs_on x level ports flops marked values len on k need = elim (leb_tells (length x.ops.items) k) [
   | inl out ↦ (let far : length values ≤ k = omega (arith, out.1, len) in
       get_or_past values k Unknown far
-      ∙ sym (ap (λ (o : Op). value_given (strobe_from ports flops (value_at values)) (value_at values) k (meaning o)) (get_or_past x.ops.items k Free out.1)))
+      ∙ sym (ap (λ (o : Op). value_given (still_from level ports flops (value_at values)) (value_at values) k (meaning o)) (get_or_past x.ops.items k Free out.1)))
   | inr live ↦ on k (or_only (flag_at marked k) (leb (length x.ops.items) k) live.0 need)
 ]
 
@@ -157,21 +157,15 @@ past_computes : (up : Bool) → or_keeps (past up) ≡ Computes → ⊥
 past_computes true is = absurd cc
 past_computes false is = absurd cc
 
--- before the rises all clocks are low
-before_rises : (up rising : Bool) → rising ≡ true → false ≡ (up && not rising)
-before_rises true true is = refl
-before_rises false true is = refl
-before_rises up false is = absurd cc
-
--- What the parts give comes to the rises at a least map.
-pub planned : (x : Circuit) (p : Pulse) (origin : ℕ → Option ℕ) (shown : ℕ → Shown) (table : ℕ → Entry) (marked : List Bool) (values next : List Tri) → (is : IsCircuit x) → (rises : p.rising ≡ true) → (len : length values ≡ length x.ops.items) →
-    (origins : AreOrigins (logic_at x) (λ e. false) origin) → (on : IsShownOn (logic_at x) (edges_of p.rising p.pulsed) (λ net. true) shown) → (closed : IsStrobeClosed (logic_at x) (flag_at marked)) → (settled : IsStrobeOn (logic_at x) p.ports p.old (flag_at marked) (value_at values)) →
+-- What the parts give comes to the phase at a least map.
+pub planned : (x : Circuit) (p : Pulse) (origin : ℕ → Option ℕ) (shown : ℕ → Shown) (table : ℕ → Entry) (marked : List Bool) (values next : List Tri) → (is : IsCircuit x) → (len : length values ≡ length x.ops.items) →
+    (origins : AreOrigins (logic_at x) (level_before p) origin) → (on : IsShownOn (logic_at x) (edges_of p.rising p.pulsed) (λ net. true) shown) → (closed : IsStrobeClosed (logic_at x) (flag_at marked)) → (settled : IsBeforeOn (logic_at x) p (flag_at marked) (value_at values)) →
     (has : ((c : ℕ) → c < length x.flops.items → entry_for (cell_at (map cell_of x.flops.items) c) p origin shown (value_at values) ≡ Some (table c))) →
     (marks : ((c : ℕ) → c < length x.flops.items → (k : ℕ) → k < length x.ops.items → Has (entry_needs (cell_at (map cell_of x.flops.items) c) (table c)) k → flag_at marked k ≡ true)) →
     (gives : ((c : ℕ) → c < length x.flops.items → value_at next c ≡ entry_value p.old (value_at values) (next_at (cell_at (map cell_of x.flops.items) c) p.ports (value_at values)) c (table c))) →
     (poss : ℕ → Tri) × ((view : ℕ → ℕ → Tri) × (IsLeast (logic_at x) p poss view × ((c : ℕ) → c < length x.flops.items → value_at next c ≡ after_pulse (logic_at x) p view c)))
 unfolding logic_at
-planned x p origin shown table marked values next is rises len origins on closed settled has marks gives =
+planned x p origin shown table marked values next is len origins on closed settled has marks gives =
     let v : ℕ → Tri = value_at values in
     let count : ℕ = length x.ops.items in
     let cells : ℕ → Cell = cell_at (map cell_of x.flops.items) in
@@ -199,10 +193,7 @@ planned x p origin shown table marked values next is rises len origins on closed
       | inr live ↦ has_needs count marked (nets_of (next_reads (cells c) p.ports (value_from v)))
           (λ k less h. (let N : Entry → Type 0 = λ e. Has (entry_needs (cells c) e) k in marks c live.1 k less (subst N (sym at ∙ same c live.1) (computes_needed k (cells c) p.ports (value_from v) h))))
     ] in
-    let low : (λ (e : ℕ). false) ≡ level_before p = λ i e. before_rises (p.pulsed e) p.rising rises i in
-    let O : (ℕ → Bool) → Type 0 = λ level. AreOrigins (logic_at x) level origin in
-    let S : (ℕ → Bool) → Type 0 = λ level. IsStillOn (logic_at x) level p.ports p.old (needs_of count marked) v in
-    let pass = pass_of_needed (logic_at x) (rank_of x) p origin shown (needs_of count marked) v entries (circuit_ranked x is) (subst O low origins) on (needs_closed x marked closed) (subst S low (needs_on x p.ports p.old marked values len settled))
+    let pass = pass_of_needed (logic_at x) (rank_of x) p origin shown (needs_of count marked) v entries (circuit_ranked x is) origins on (needs_closed x marked closed) (needs_on x (level_before p) p.ports p.old marked values len settled)
     given enables reading computing in (
       pass.0,
       (

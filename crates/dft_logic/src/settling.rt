@@ -3,16 +3,18 @@
 ghost use Rattle.std.specs.Prelude.{◌≡◌, ℕ, ◌<◌, ◌≤◌, length, map, take, true, false, ◌==◌, ◌&&◌, if◌then◌else◌};
 ghost use Rattle.dft_netlist.specs.Settled.{value_from, value_given, IsTriSettled};
 ghost use Rattle.dft_netlist.specs.Settled as settled;
+ghost use Rattle.dft_cells.specs.Gates as gates;
+ghost use Rattle.dft_cells.specs.WellFormed.{TakesInputs};
 ghost use Rattle.dft_netlist.specs.Runs as runs;
 ghost use Rattle.dft_abstract.specs.Cycle as cycle;
 ghost use Rattle.dft_abstract.specs.Cycle.{clock_value};
 ghost use Rattle.dft_logic.specs.Values as spec;
-ghost use Rattle.dft_logic.specs.Circuit.{source_at, meaning, op_at, logic_at, Fits, IsCircuit, leaves_from, cell_of, cell_at, view_base};
+ghost use Rattle.dft_logic.specs.Circuit.{source_at, meaning, op_at, logic_at, Fits, IsCircuit, leaves_from, cell_of, cell_at, before_base, view_base};
 ghost use Rattle.dft_logic.specs.Circuit as circuits;
 
-use crate::circuit::{Circuit, FlipFlop, Op, Operand};
+use crate::circuit::{Circuit, FlipFlop, Op, Operand, Operands};
 use dft_base::Tri;
-use dft_cells::tri_of;
+use dft_cells::{Kind, tri_of};
 use dft_netlist::NetId;
 
 // The most inputs that a gate or a table has.
@@ -69,7 +71,7 @@ pub struct View<'p, 'q, 'h> {
     pub held: &'h [Tri],
 }
 
-/// A view where no clock pulses. That of the falls is a strobe's.
+/// The view of net 0 at the old values. Where no clock falls it is a strobe's.
 pub fn strobe_view(pulse: Pulse<'_>) -> View<'_, '_, '_>
     ensures { result ≡ record { pulse = pulse.entry; domain = record { 0 = 0 }; poss = pulse.entry.old; held = pulse.entry.old } }
 {
@@ -175,6 +177,22 @@ impl View<'_, '_, '_> {
     }
 }
 
+impl Pulse<'_> {
+    // The level of a clock before its edge.
+    pub(crate) fn level(&self, clock: NetId) -> bool
+        ensures { result ≡ cycle.level_before (circuits.pulse_at self.now) clock.0 }
+    {
+        flag_at(self.pulsed, clock.0) && !self.rising
+    }
+}
+
+// Whether a lock-up is a wire while its clock has this level.
+pub(crate) fn is_wire(high: bool, level: bool) -> bool
+    ensures { result ≡ settled.is_wire high level }
+{
+    if high { level } else { !level }
+}
+
 // What another lock-up shows, by what it holds and the value of its input.
 fn opening(up: bool, own: bool, high: bool, held: Tri, input: Tri) -> Tri
     ensures { result ≡ cycle.opening up own high held input }
@@ -221,6 +239,17 @@ fn inverted(value: Tri, inverse: bool) -> Tri
     }
 }
 
+// The value of a gate.
+fn gate_value(kind: Kind, inputs: &Operands, values: &[Tri]) -> Tri
+    requires { TakesInputs kind (length inputs.now) }
+    ensures { result ≡ gates.tri_of kind (map (value_from (spec.value_at values.now)) (map source_at inputs.now)) }
+{
+    let mut row = [Tri::Unknown; MAX_INPUTS];
+    let inputs = inputs.as_slice();
+    gather(inputs, values, &mut row);
+    tri_of(kind, &row[..inputs.len()])
+}
+
 /// The value that a net's driver gives it.
 pub fn op_value(
     op: &Op,
@@ -235,18 +264,37 @@ pub fn op_value(
     match op {
         Op::Input => value_at(view.pulse.ports, net.0),
         Op::Clock => view.clock(net),
-        Op::Gate(kind, inputs) => {
-            let mut row = [Tri::Unknown; MAX_INPUTS];
-            let inputs = inputs.as_slice();
-            gather(inputs, values, &mut row);
-            tri_of(*kind, &row[..inputs.len()])
-        }
+        Op::Gate(kind, inputs) => gate_value(*kind, inputs, values),
         Op::Joined(source) => source.value(values),
         Op::Flop(instance, inverse) => inverted(view.flop(flops, instance.0), *inverse),
         Op::Lockup(instance, clock, high, source) => {
             view.lockup(instance.0, *clock, *high, source.value(values))
         }
         Op::Free => Tri::Unknown,
+    }
+}
+
+// The value that a net's driver gives it before the edges of a phase.
+pub(crate) fn op_before(op: &Op, net: NetId, pulse: Pulse<'_>, values: &[Tri]) -> Tri
+    requires { Fits op.now }
+    ensures { result ≡ value_given (leaves_from (before_base (circuits.pulse_at pulse.entry)) (spec.value_at values.now)) (spec.value_at values.now) net.0 (meaning op.now) }
+{
+    match op {
+        Op::Input => value_at(pulse.ports, net.0),
+        Op::Clock => if pulse.level(net) {
+            Tri::One
+        } else {
+            Tri::Zero
+        },
+        Op::Gate(kind, inputs) => gate_value(*kind, inputs, values),
+        Op::Joined(source) => source.value(values),
+        Op::Flop(instance, inverse) => inverted(value_at(pulse.old, instance.0), *inverse),
+        Op::Lockup(instance, clock, high, source) => if is_wire(*high, pulse.level(*clock)) {
+            source.value(values)
+        } else {
+            value_at(pulse.old, instance.0)
+        },
+        _ => Tri::Unknown,
     }
 }
 
