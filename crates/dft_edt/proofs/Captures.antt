@@ -10,7 +10,7 @@ use Rattle.dft_cells.specs.FlipFlops.{tri_chosen}
 use Rattle.dft_cells.proofs.Completions.{above_self, AllOver, shared_monotone, forced_monotone}
 use Rattle.dft_cells.proofs.TriLemmas.{chosen_zero}
 use Rattle.dft_netlist.specs.Drivers.{Source, Net, Tied, Loose, nets_of, AreBelow}
-use Rattle.dft_netlist.specs.Logic.{Logic, Meaning, Input, Clock, Gate, Joined, Flop, Lockup, Free, Force, Scan, reads, IsRanked, IsRising}
+use Rattle.dft_netlist.specs.Logic.{Logic, Meaning, Input, Clock, Gate, Joined, Flop, Lockup, Free, Force, Scan, reads, IsRanked}
 use Rattle.dft_netlist.specs.Settled.{TriSources, value_from, value_given, IsTriSettled}
 use Rattle.dft_netlist.specs.Runs.{Vector}
 use Rattle.dft_netlist.proofs.SettledLemmas.{value_at}
@@ -124,9 +124,9 @@ within_source p a b over (Tied bit) inside = above_self (known bit)
 within_source p a b over (Loose i pin) inside = tt
 
 captured : (original written : Logic) (rank : ℕ → ℕ) (p : Places) (d : ℕ) (y x : Vector) (its old poss : ℕ → Tri) (view : ℕ → ℕ → Tri) (values : ℕ → Tri) →
-    (ranked : IsRanked original rank) → (rising : IsRising original) → (has : Covers original written p) → (capture : IsCapture p d x) → (over : StandsOver p y x its old) → (settled : IsTriSettled original (strobe_sources original y its values) values) → (views : AreViews written (rise_of written x old) poss view) →
-    (cell : ℕ) → (is : p.is_flop cell ≡ true) → (own : (original.cell cell).domain ≡ d) → AboveTri (next_from original y values cell) (after_pulse written (rise_of written x old) view cell)
-captured original written rank p d y x its old poss view values ranked rising has capture over settled views cell is own =
+    (ranked : IsRanked original rank) → (has : Covers original written p) → (capture : IsCapture p d x) → (over : StandsOver p y x its old) → (settled : IsTriSettled original (strobe_sources original y its values) values) → (views : AreViews written (rise_of written x old) poss view) →
+    (cell : ℕ) → (is : p.is_flop cell ≡ true) → (rises : (original.cell cell).falling ≡ false) → (own : (original.cell cell).domain ≡ d) → AboveTri (next_from original y values cell) (after_pulse written (rise_of written x old) view cell)
+captured original written rank p d y x its old poss view values ranked has capture over settled views cell is rises own =
     let q : Pulse = rise_of written x old in
     let e : ℕ = p.moved d in
     let kept : KeepsFlop p (original.cell cell) (written.cell cell) = has.flops cell is in
@@ -143,7 +143,7 @@ captured original written rank p d y x its old poss view values ranked rising ha
     let low : view e p.enable ≡ Zero = value_at written (view_sources written q poss view e) (view e) p.enable Input (views e) has.enable ∙ capture.off in
     let new : after_pulse written q view cell ≡ tri_forced_by (moved_force p.moved (original.cell cell).force) x.ports (at (moved_source p.moved (original.cell cell).input)) =
     cell_after written q view cell e (kept.domain ∙ ap p.moved own)
-    (rises_change written q cell (kept.falling ∙ rising cell) refl ∙ ap x.pulsed (kept.domain ∙ ap p.moved own) ∙ capture.pulsed)
+    (rises_change written q cell (kept.falling ∙ rises) refl ∙ ap x.pulsed (kept.domain ∙ ap p.moved own) ∙ capture.pulsed)
     ∙ ap (λ (f : Option Force). tri_forced_by f x.ports (tri_taken_by (written.cell cell).scan at (at (written.cell cell).input))) kept.force
     ∙ ap (tri_forced_by (moved_force p.moved (original.cell cell).force) x.ports) (taken_off p.enable (written.cell cell).scan at (at (written.cell cell).input) kept.scan low ∙ ap at kept.input) in
     same_over (next_from original y values cell) (tri_forced_by (original.cell cell).force y.ports (value_from values (original.cell cell).input)) (after_pulse written q view cell)
@@ -165,10 +165,10 @@ stays original written p d y x its old view has capture over cell is other =
     subst (λ t. AboveTri ((rise_of original y its).old cell) t) (sym (pick_false (changes written q cell) (next_value written q view cell) (q.old cell) (λ ch. low (of_both (x.pulsed (written.cell cell).domain) (not (written.cell cell).falling) ch).0))) (old_over original written p y x its old has over cell is)
 
 pub capture_law : CaptureLaw
-capture_law original written rank p d y x its old h values ranked rising has capture over settled halves cell is =
-    let low : (written.cell cell).falling ≡ false = (has.flops cell is).falling ∙ rising cell in
+capture_law original written rank p d y x its old h values ranked has capture over settled halves cell is rises =
+    let low : (written.cell cell).falling ≡ false = (has.flops cell is).falling ∙ rises in
     let after = sym (rising_after written x old h cell low) in (
-      λ own. subst (AboveTri (next_from original y values cell)) after (captured original written rank p d y x its old h.rise.poss h.rise.view values ranked rising has capture over settled halves.rise cell is own),
+      λ own. subst (AboveTri (next_from original y values cell)) after (captured original written rank p d y x its old h.rise.poss h.rise.view values ranked has capture over settled halves.rise cell is rises own),
       λ other. subst (AboveTri ((rise_of original y its).old cell)) after (stays original written p d y x its old h.rise.view has capture over cell is other),
     )
 

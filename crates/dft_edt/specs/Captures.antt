@@ -4,7 +4,7 @@ use Rattle.dft_base.specs.declared.tri.Tri.{Tri}
 use Rattle.dft_base.specs.declared.tri.Tri.TheVariants.{Zero}
 use Rattle.dft_base.specs.Tri.{AboveTri}
 use Rattle.dft_netlist.specs.Drivers.{Source, AreBelow}
-use Rattle.dft_netlist.specs.Logic.{Logic, Input, Flop, Lockup, Free, reads, IsRanked, IsRising}
+use Rattle.dft_netlist.specs.Logic.{Logic, Input, Flop, Lockup, Free, reads, IsRanked}
 use Rattle.dft_netlist.specs.Settled.{IsTriSettled}
 use Rattle.dft_netlist.specs.Runs.{Vector}
 use Rattle.dft_abstract.specs.Cycle.{rise_of, strobe_sources, Halves, AreHalves, after_halves}
@@ -50,12 +50,11 @@ pub record IsCapture (p : Places) (d : ℕ) (x : Vector) : Type 0 where
   pub alone : (e : ℕ) → x.pulsed (p.moved e) ≡ true → e ≡ d
   pub off : x.ports p.enable ≡ Zero
 
--- Where all flip-flops of the original take their bits at rises: one of the capture domain takes no more than the original's next value from the values of its strobe; another one keeps
--- what it had.
+-- A flip-flop of the capture domain that takes its bit at a rise takes no more than the original's next value from the values of its strobe; one of another domain keeps what it had.
 abbrev pub CaptureLaw : Type 0
 CaptureLaw =
     (original written : Logic) (rank : ℕ → ℕ) (p : Places) (d : ℕ) (y x : Vector) (its old : ℕ → Tri) (h : Halves) (values : ℕ → Tri) →
-    IsRanked original rank → IsRising original → Covers original written p → IsCapture p d x → StandsOver p y x its old → IsTriSettled original (strobe_sources original y its values) values →
-    AreHalves written x old h → (cell : ℕ) → p.is_flop cell ≡ true →
+    IsRanked original rank → Covers original written p → IsCapture p d x → StandsOver p y x its old → IsTriSettled original (strobe_sources original y its values) values →
+    AreHalves written x old h → (cell : ℕ) → p.is_flop cell ≡ true → (original.cell cell).falling ≡ false →
     ((original.cell cell).domain ≡ d → AboveTri (next_from original y values cell) (after_halves written x old h cell))
     × (((original.cell cell).domain == d) ≡ false → AboveTri ((rise_of original y its).old cell) (after_halves written x old h cell))
